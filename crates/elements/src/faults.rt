@@ -1,0 +1,85 @@
+ghost use Rattle.std.specs.Prelude.{◌≡◌, ◌+◌, ◌<◌, length, map, option_map, Some, None};
+ghost use Rattle.profile.specs.Elements as meant;
+ghost use Rattle.elements.specs.Rows.{row_of};
+ghost use Rattle.elements.specs.Told.{told_element};
+
+use crate::kinds::{Kind, Row, element_fault};
+use segments::{Delims, Segment};
+
+macro_rules! must {
+    ($kind:expr, $least:literal, $most:literal) => {
+        Row {
+            is_mandatory: true,
+            kind: $kind,
+            least: $least,
+            most: $most,
+        }
+    };
+}
+
+const GS: &[Row] = &[
+    must!(Kind::Alphanumeric, 2, 2),
+    must!(Kind::Data, 2, 15),
+    must!(Kind::Data, 2, 15),
+    must!(Kind::Date, 8, 8),
+    must!(Kind::Time, 4, 8),
+    must!(Kind::Digits, 1, 9),
+    must!(Kind::Data, 1, 2),
+    must!(Kind::Data, 1, 12),
+];
+
+const GE: &[Row] = &[must!(Kind::Digits, 1, 6), must!(Kind::Digits, 1, 9)];
+
+const ST: &[Row] = &[
+    must!(Kind::Alphanumeric, 3, 3),
+    must!(Kind::Alphanumeric, 4, 9),
+];
+
+const SE: &[Row] = &[
+    must!(Kind::Digits, 1, 10),
+    must!(Kind::Alphanumeric, 4, 9),
+];
+
+const IEA: &[Row] = &[must!(Kind::Digits, 1, 5), must!(Kind::Digits, 9, 9)];
+
+/// The least faulty element of a segment by its rows: its place, from 1, and its code (AK401 and AK403). An element
+/// beyond the last row, empty or not, has code 3; None where no element is faulty.
+pub fn faulty_element(delims: &Delims, rows: &[Row], segment: &Segment<'_>) -> Option<(usize, u8)>
+    ensures { option_map told_element result ≡ meant.faulty_element delims.now (map row_of rows.now) segment.now.elements }
+{
+    for (index, row) in rows.iter().enumerate() {
+        if let Some(code) = element_fault(delims, row, segment.element(index + 1)) {
+            return Some((index + 1, code));
+        }
+    }
+    if segment.reaches(rows.len() + 1) {
+        Some((rows.len() + 1, 3))
+    } else {
+        None
+    }
+}
+
+// The rows of a control segment.
+fn control_rows(id: &[u8]) -> Option<&'static [Row]>
+    ensures { option_map (λ r. map row_of r.now) result ≡ meant.rows_in meant.control_rows id.now }
+{
+    match id {
+        b"GS" => Some(GS),
+        b"GE" => Some(GE),
+        b"ST" => Some(ST),
+        b"SE" => Some(SE),
+        b"IEA" => Some(IEA),
+        _ => None,
+    }
+}
+
+/// Whether the segment is well formed where it is one of GS, GE, ST, SE and IEA: it has exactly the elements of its rows,
+/// all mandatory. Any other segment is.
+pub fn is_well_formed(delims: &Delims, segment: &Segment<'_>) -> bool
+    ensures { result ≡ meant.is_well_formed delims.now segment.now.elements }
+{
+    match control_rows(segment.element(0)) {
+        Some(rows) => faulty_element(delims, rows, segment).is_none(),
+        None => true,
+    }
+}

@@ -1,0 +1,5 @@
+pub mod Places
+pub mod ExtendsLemmas
+pub mod ElementsLemma
+pub mod FilledLemmas
+pub mod PartnerLemmas

@@ -1,0 +1,22 @@
+//! Segments of an X12 text, cut from it and written into it, and the small values that their elements hold: delimiters,
+//! moments, identifiers and partners.
+#![tactic(auto)]
+
+mod begin;
+mod cutting;
+mod delims;
+mod idents;
+mod moments;
+mod partners;
+mod writing;
+
+pub use begin::cut;
+pub use cutting::{Cut, Segment};
+pub use delims::Delims;
+pub use idents::Ident;
+pub use moments::Moment;
+pub use partners::Who;
+pub use writing::write_segment;
+
+#[cfg(test)]
+mod tests;

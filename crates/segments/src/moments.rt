@@ -1,0 +1,91 @@
+ghost use Rattle.std.specs.Prelude.{◌≡◌, ◌≤◌, ◌↔◌, IsTrue, true, false, MatchOption};
+ghost use Rattle.profile.specs.Moments.{Moment as Parts, is_moment, days_in};
+
+use jiff::civil::Date;
+use std::marker::Model;
+
+/// A minute of the years 2000 to 2099, in UTC.
+#[derive(Clone, Copy)]
+pub struct Moment {
+    year: u16,
+    month: u8,
+    day: u8,
+    hour: u8,
+    minute: u8,
+}
+
+impl Model for Moment {
+    ghost Value = { Parts };
+
+    ghost view = { λ m. record { year = m.year; month = m.month; day = m.day; hour = m.hour; minute = m.minute } };
+
+    ghost invariant = { λ m. IsTrue (is_moment (record { year = m.year; month = m.month; day = m.day; hour = m.hour; minute = m.minute })) };
+
+    ghost inverse = { λ m. record { year = m.year; month = m.month; day = m.day; hour = m.hour; minute = m.minute } };
+}
+
+// Whether the calendar has the day.
+fn is_day(year: u16, month: u8, day: u8) -> bool
+    requires { year ≤ 9999 }
+    ensures { IsTrue result ↔ ((1 ≤ month) × (month ≤ 12) × (1 ≤ day) × (day ≤ days_in year month)) }
+{
+    if month > 12 || day > 31 {
+        return false;
+    }
+    Date::new(year as i16, month as i8, day as i8).is_ok()
+}
+
+impl Moment {
+    /// The minute with these parts, by the Gregorian calendar; None where the year isn't one of 2000 to 2099, or there
+    /// is no such day, hour or minute.
+    pub fn new(year: u16, month: u8, day: u8, hour: u8, minute: u8) -> Option<Moment>
+        ensures { let m : Parts = record { year = year; month = month; day = day; hour = hour; minute = minute } in
+            MatchOption result (is_moment m ≡ false) (λ r. (is_moment m ≡ true) × (r ≡ m)) }
+    {
+        if year < 2000 || year > 2099 || hour > 23 || minute > 59 || !is_day(year, month, day) {
+            return None;
+        }
+        Some(Moment {
+            year,
+            month,
+            day,
+            hour,
+            minute,
+        })
+    }
+
+    /// The year, 2000 to 2099.
+    pub fn year(&self) -> u16
+        ensures { result ≡ self.now.year }
+    {
+        self.year
+    }
+
+    /// The month, 1 to 12.
+    pub fn month(&self) -> u8
+        ensures { result ≡ self.now.month }
+    {
+        self.month
+    }
+
+    /// The day of the month, from 1.
+    pub fn day(&self) -> u8
+        ensures { result ≡ self.now.day }
+    {
+        self.day
+    }
+
+    /// The hour, 0 to 23.
+    pub fn hour(&self) -> u8
+        ensures { result ≡ self.now.hour }
+    {
+        self.hour
+    }
+
+    /// The minute, 0 to 59.
+    pub fn minute(&self) -> u8
+        ensures { result ≡ self.now.minute }
+    {
+        self.minute
+    }
+}
