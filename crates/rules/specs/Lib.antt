@@ -1,0 +1,4 @@
+pub mod Told
+pub mod Written
+pub mod Asked
+pub mod Decided

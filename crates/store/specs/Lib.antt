@@ -1,0 +1,4 @@
+pub mod Faults
+pub mod Standing
+pub mod Replayed
+pub mod Runs

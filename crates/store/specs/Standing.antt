@@ -1,0 +1,77 @@
+-- How a book stands, whichever way it is kept.
+use Rattle.std.specs.Prelude.{ℕ, ◌-◌, ◌^◌, ◌<◌, ◌≤◌, ◌≡◌, ◌⊎◌, List, Bool, true, false}
+use Rattle.profile.specs.Header.{Who}
+use Rattle.rules.specs.Written.{Written}
+use Rattle.store.specs.declared.fault.Fault.{Fault}
+use Rattle.store.specs.declared.fault.Fault.TheVariants.{OutOfMemory, Store, Reopen, NotThisBook, Device}
+
+-- the warehouse; the registers that the store stands for (one at most, while it is open); those that a crash may
+-- leave, and that it leaves nothing else; how far the disk is in doubt; how many calls the store refused; and
+-- whether the book has to be opened again
+pub record Standing : Type 1 where
+  pub warehouse : Who
+  pub keeps : List Written → Type 0
+  pub left : List Written → Type 0
+  pub all_stand : Type 0
+  pub doubt : ℕ
+  pub refusals : ℕ
+  pub shut : Bool
+
+-- a crash leaves one of the two
+pub record LeavesEither (s : Standing) (first second : List Written) : Type 0 where
+  pub stand : s.all_stand
+  pub each : (M : List Written) → s.left M → (M ≡ first) ⊎ (M ≡ second)
+
+-- a book that serves: its store stands for the register, and a crash leaves what stands for that register alone
+pub record IsUsable (s : Standing) (L : List Written) : Type 0 where
+  pub opened : s.shut ≡ false
+  pub keeps : s.keeps L
+  pub stand : s.all_stand
+  pub only : (M : List Written) → s.left M → M ≡ L
+
+-- no count falls, and the warehouse is the same
+pub record GoesOn (old new : Standing) : Type 0 where
+  pub warehouse : new.warehouse ≡ old.warehouse
+  pub doubt : old.doubt ≤ new.doubt
+  pub refusals : old.refusals ≤ new.refusals
+
+-- all is as it was, but for the count of refused calls
+pub record IsUnchanged (old new : Standing) : Type 0 where
+  pub goes : GoesOn old new
+  pub shut : new.shut ≡ old.shut
+  pub keeps : new.doubt ≡ 0 → (L : List Written) → old.keeps L → new.keeps L
+  pub stand : new.doubt ≡ 0 → (L : List Written) → old.keeps L → old.all_stand → new.all_stand
+  pub no_more : new.doubt ≡ 0 → (L : List Written) → old.keeps L → (M : List Written) → new.left M → old.left M
+
+-- the store refused a call, or its count is at its greatest
+abbrev pub Refused : Standing → Standing → Type 0
+Refused old new = (old.refusals < new.refusals) ⊎ (new.refusals ≡ 2 ^ 64 - 1)
+
+-- why a query failed
+pub record IsQueryFault (fault : Fault) (old new : Standing) : Type 0 where
+  pub store : fault ≡ Store → Refused old new
+  pub reopen : fault ≡ Reopen → old.shut ≡ true
+  pub not_this : fault ≡ NotThisBook → new.doubt ≡ 0 → (L : List Written) → old.keeps L → ⊥
+  pub device : fault ≡ Device → ⊥
+
+-- why a command failed, and what it left: all as it was, or a book that has to be opened again
+pub record IsFault (fault : Fault) (old new : Standing) : Type 0 where
+  pub clean : new.shut ≡ old.shut → IsUnchanged old new
+  pub broken : old.shut ≡ false → new.shut ≡ true → Refused old new
+  pub why : IsQueryFault fault old new
+
+-- the faults of a commit
+abbrev pub IsCommitFault : Fault → Type 0
+IsCommitFault OutOfMemory = Unit {0}
+IsCommitFault Store = Unit {0}
+IsCommitFault Reopen = Unit {0}
+IsCommitFault NotThisBook = ⊥
+IsCommitFault Device = ⊥
+
+-- why a run stopped
+pub record IsRunFault (fault : Fault) (old new : Standing) : Type 0 where
+  pub grew : old.shut ≡ false → new.shut ≡ true → Refused old new
+  pub store : fault ≡ Store → Refused old new
+  pub reopen : fault ≡ Reopen → old.shut ≡ true
+  pub not_this : fault ≡ NotThisBook → new.doubt ≡ 0 → (L : List Written) → IsUsable old L → ⊥
+  pub device : fault ≡ Device → ⊥

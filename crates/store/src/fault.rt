@@ -1,0 +1,57 @@
+ghost use Rattle.std.specs.Prelude.{◌≡◌};
+ghost use Rattle.profile.specs.Refusals.{fault_number, fault_name};
+ghost use Rattle.store.specs.Faults.{fault_of};
+ghost use Rattle.store.specs.declared.fault.Fault.TheVariants.{OutOfMemory};
+
+use std::alloc::AllocError;
+
+/// What keeps a command or a query from being answered.
+#[derive(Clone, Copy, Debug, PartialEq, Eq)]
+pub enum Fault {
+    /// 40: a growth was refused, or the store answered so.
+    OutOfMemory,
+    /// 41: the store refused a call.
+    Store,
+    /// 42: the book has to be opened again.
+    Reopen,
+    /// 43: the tables are no book.
+    NotThisBook,
+    /// 44: a reader, a writer, a file or a socket failed.
+    Device,
+}
+
+impl From<AllocError> for Fault {
+    ghost from_gives = { λ _ fault. fault ≡ OutOfMemory };
+
+    fn from(_error: AllocError) -> Fault {
+        Fault::OutOfMemory
+    }
+}
+
+impl Fault {
+    /// Its number.
+    pub fn number(&self) -> u8
+        ensures { result ≡ fault_number (fault_of self.now) }
+    {
+        match self {
+            Fault::OutOfMemory => 40,
+            Fault::Store => 41,
+            Fault::Reopen => 42,
+            Fault::NotThisBook => 43,
+            Fault::Device => 44,
+        }
+    }
+
+    /// Its name.
+    pub fn name(&self) -> &'static str
+        ensures { result.now ≡ fault_name (fault_of self.now) }
+    {
+        match self {
+            Fault::OutOfMemory => "OutOfMemory",
+            Fault::Store => "Store",
+            Fault::Reopen => "Reopen",
+            Fault::NotThisBook => "NotThisBook",
+            Fault::Device => "Device",
+        }
+    }
+}

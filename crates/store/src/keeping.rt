@@ -1,0 +1,68 @@
+ghost use Rattle.std.specs.Prelude.{◌≡◌, ◌++◌, ◌∷◌, [], List, Bool, true, false, IfOk, OnOk, OnErr, IfErr, IsErrOf, is_some};
+ghost use Rattle.std.specs.List.{list_any};
+ghost use Rattle.profile.specs.Header.{Who as Partner, who_eq};
+ghost use Rattle.rules.specs.Written.{Written, unnumbered};
+ghost use Rattle.store.specs.Standing.{Standing, IsUsable, IsUnchanged, GoesOn, LeavesEither, IsFault, IsQueryFault, IsCommitFault};
+
+use crate::fault::Fault;
+use crate::rows::{OutRow, StockRow};
+use rules::{Change, Entry, Key, Known, Page, Warehouse, Who};
+
+/// A book of a warehouse: the register of what was accepted, and what it comes to. What a book keeps, and what a crash may
+/// leave of it, is told by the ghost member `standing`.
+pub trait Keeper {
+    /// How the book stands: the registers that it stands for, those that a crash may leave, how far the disk is in doubt,
+    /// how many calls the store refused, and whether the book has to be opened again.
+    ghost standing: { Self → Standing };
+
+    /// The warehouse that keeps the book.
+    fn warehouse(&self) -> Warehouse
+        ensures { result ≡ (standing self.now).warehouse };
+
+    /// The page of a depositor; None for a stranger.
+    fn load(&mut self, who: Who) -> Result<Option<Page>, Fault>
+        ensures page { (standing self.new).doubt ≡ 0 → (L : List Written) → (standing self.old).keeps L
+            → IfOk result (λ page. is_some page ≡ list_any (λ e. who_eq e.who who) L) }
+        ensures same { IsUnchanged (standing self.old) (standing self.new) }
+        ensures fault { IfErr result (λ fault. IsQueryFault fault (standing self.old) (standing self.new)) }
+        ensures shut { (standing self.old).shut ≡ true → IsErrOf result Fault.Reopen };
+
+    /// A depositor's entry under a key, with the text that went out for it; None where there is none.
+    fn known(&mut self, who: Who, key: &Key<'_>) -> Result<Option<Known>, Fault>
+        ensures same { IsUnchanged (standing self.old) (standing self.new) }
+        ensures fault { IfErr result (λ fault. IsQueryFault fault (standing self.old) (standing self.new)) }
+        ensures shut { (standing self.old).shut ≡ true → IsErrOf result Fault.Reopen };
+
+    /// Appends an entry, with the rows that it changes and the text that goes out for it, in one transaction.
+    fn commit(&mut self, entry: &Entry, changes: &[Change], outgoing: &[u8]) -> Result<(), Fault>
+        ensures ok { (standing self.new).doubt ≡ 0 → (L : List Written) → IsUsable (standing self.old) L
+            → OnOk result (IsUsable (standing self.new) (L ++ unnumbered entry.now ∷ [])) }
+        ensures left { (standing self.new).doubt ≡ 0 → (L : List Written) → IsUsable (standing self.old) L
+            → OnErr result (LeavesEither (standing self.new) L (L ++ unnumbered entry.now ∷ [])) }
+        ensures opened { OnOk result ((standing self.new).shut ≡ false) }
+        ensures fault { IfErr result (λ fault. IsFault fault (standing self.old) (standing self.new)) }
+        ensures kinds { IfErr result IsCommitFault }
+        ensures store { IsErrOf result Fault.Store → (standing self.new).shut ≡ true }
+        ensures shut { (standing self.old).shut ≡ true → IsErrOf result Fault.Reopen × IsUnchanged (standing self.old) (standing self.new) }
+        ensures goes { GoesOn (standing self.old) (standing self.new) };
+
+    /// The stock rows of a depositor, by item and lot; None for a stranger.
+    fn stock_rows(&mut self, who: Who) -> Result<Option<Vec<StockRow>>, Fault>
+        ensures same { IsUnchanged (standing self.old) (standing self.new) }
+        ensures fault { IfErr result (λ fault. IsQueryFault fault (standing self.old) (standing self.new)) }
+        ensures shut { (standing self.old).shut ≡ true → IsErrOf result Fault.Reopen };
+
+    /// The texts that went out to a depositor, by number; None for a stranger.
+    fn outbox(&mut self, who: Who) -> Result<Option<Vec<OutRow>>, Fault>
+        ensures same { IsUnchanged (standing self.old) (standing self.new) }
+        ensures fault { IfErr result (λ fault. IsQueryFault fault (standing self.old) (standing self.new)) }
+        ensures shut { (standing self.old).shut ≡ true → IsErrOf result Fault.Reopen };
+
+    /// How many calls the store refused.
+    fn refused(&self) -> u64
+        ensures { result ≡ (standing self.now).refusals };
+
+    /// Whether the book has to be opened again.
+    fn must_reopen(&self) -> bool
+        ensures { result ≡ (standing self.now).shut };
+}

@@ -1,0 +1,18 @@
+//! A warehouse's book, whichever way it is kept: commands that are submitted to it, what they leave, and what can be asked.
+#![tactic(auto)]
+
+mod fault;
+mod keeping;
+mod replaying;
+mod rows;
+mod serving;
+
+pub use fault::Fault;
+pub use keeping::Keeper;
+pub use replaying::ReplayBook;
+pub use rows::{DocumentState, OutKind, OutRow, StockRow};
+pub use rules::{
+    Command, Decision, Entry, Ident, Key, Known, Moment, Page, Refusal, Warehouse, Who, decide,
+    subject,
+};
+pub use serving::{Outcome, Reply, outbox, run, stock, submit};

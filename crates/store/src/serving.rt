@@ -1,0 +1,188 @@
+ghost use Rattle.std.specs.Prelude.{◌≡◌, ◌++◌, ◌∷◌, [], List, Bool, true, false, IfOk, OnOk, OnErr, IsErrOf, IfErr, IfSome, IsSome, IsNone, Some, slice_get, length, ◌<◌, ◌≤◌, ◌+◌};
+ghost use Rattle.rules.specs.Written.{Written};
+ghost use Rattle.profile.specs.Accepted.{entry_of};
+ghost use Rattle.rules.specs.Asked.{asked};
+ghost use Rattle.rules.specs.Decided.{Comes};
+ghost use Rattle.rules.specs.declared.commands.Command.{Command as Asking};
+ghost use Rattle.profile.specs.Moments.{Moment as Minute};
+ghost use Rattle.store.specs.Runs.{behind, behind_all, with_entry, UnlessAccepted};
+ghost use Rattle.store.specs.Standing.{Standing, IsUsable, IsUnchanged, GoesOn, IsFault, IsQueryFault, IsRunFault, LeavesEither};
+
+use crate::fault::Fault;
+use crate::keeping::Keeper;
+use crate::rows::{OutRow, StockRow};
+use rules::{Command, Decision, Known, Moment, Page, Refusal, Who, decide, subject};
+use std::alloc::Global;
+
+/// What is answered to a command.
+#[derive(Drop)]
+pub enum Reply {
+    /// It is accepted, with its answer or document.
+    Accepted(Vec<u8>),
+    /// It was accepted before: the text that went out then.
+    Stored(Vec<u8>),
+    /// It is refused, and nothing is changed.
+    Refused {
+        /// Why.
+        refusal: Refusal,
+        /// The answer to send, nothing where none is due.
+        answer: Vec<u8>,
+    },
+}
+
+// The page of the depositor that a command names, and what is known under the command's key. The book is as before.
+#[tactic(auto, using(crate::proofs::Changes::unchanged_trans, crate::proofs::Changes::unchanged_refl))]
+fn recall<K: Keeper>(
+    keeper: &mut K,
+    command: &Command<'_>,
+) -> Result<(Option<Page>, Option<Known>), Fault>
+    ensures same { IsUnchanged (K.standing keeper.old) (K.standing keeper.new) }
+    ensures fault { IfErr result (λ fault. IsQueryFault fault (K.standing keeper.old) (K.standing keeper.new)) }
+{
+    let Some((who, key)) = subject(command) else {
+        return Ok((None, None));
+    };
+    let page = keeper.load(who)?;
+    let known = keeper.known(who, &key)?;
+    Ok((page, known))
+}
+
+// What a command comes to. The book is as before.
+fn judge<K: Keeper>(
+    alloc: Global,
+    keeper: &mut K,
+    command: &Command<'_>,
+    moment: Moment,
+) -> Result<Decision, Fault>
+    ensures decision { IfOk result (Comes command.now moment) }
+    ensures same { IsUnchanged (K.standing keeper.old) (K.standing keeper.new) }
+    ensures fault { IfErr result (λ fault. IsQueryFault fault (K.standing keeper.old) (K.standing keeper.new)) }
+{
+    let warehouse = keeper.warehouse();
+    let (page, known) = recall(keeper, command)?;
+    Ok(decide(
+        alloc,
+        &warehouse,
+        page.as_ref(),
+        known.as_ref(),
+        command,
+        moment,
+    )?)
+}
+
+/// Answers one command: an accepted one is one commit, and the reply is made before it. A refusal leaves the book as it
+/// was, and so does a fault, unless the book must be opened again behind it; then a crash leaves the register as it was, or
+/// with the command's entry.
+pub fn submit<K: Keeper>(
+    alloc: Global,
+    keeper: &mut K,
+    command: &Command<'_>,
+    moment: Moment,
+) -> Result<Reply, Fault>
+    ensures ok { (K.standing keeper.new).doubt ≡ 0 → (L : List Written) → IsUsable (K.standing keeper.old) L
+        → IfOk result (λ reply. IsUsable (K.standing keeper.new) (behind L command.now moment reply)) }
+    ensures left { (K.standing keeper.new).doubt ≡ 0 → (L : List Written) → IsUsable (K.standing keeper.old) L
+        → OnErr result (LeavesEither (K.standing keeper.new) L (with_entry L command.now moment)) }
+    ensures kept { IfOk result (λ reply. UnlessAccepted reply (IsUnchanged (K.standing keeper.old) (K.standing keeper.new))) }
+    ensures opened { OnOk result ((K.standing keeper.new).shut ≡ false) }
+    ensures fault { IfErr result (λ fault. IsFault fault (K.standing keeper.old) (K.standing keeper.new)) }
+    ensures shut { (K.standing keeper.old).shut ≡ true → IsErrOf result Fault.Reopen × IsUnchanged (K.standing keeper.old) (K.standing keeper.new) }
+    ensures goes { GoesOn (K.standing keeper.old) (K.standing keeper.new) }
+{
+    if keeper.must_reopen() {
+        return Err(Fault::Reopen);
+    }
+    match judge(alloc, keeper, command, moment)? {
+        Decision::Stored(text) => Ok(Reply::Stored(text)),
+        Decision::Refused(refusal, answer) => Ok(Reply::Refused { refusal, answer }),
+        Decision::Accepted {
+            entry,
+            changes,
+            outgoing,
+        } => {
+            keeper.commit(&entry, &changes, &outgoing)?;
+            Ok(Reply::Accepted(outgoing))
+        }
+    }
+}
+
+/// What a depositor has, by item and lot; None for a stranger. The book is as before.
+pub fn stock<K: Keeper>(keeper: &mut K, who: Who) -> Result<Option<Vec<StockRow>>, Fault>
+    ensures same { IsUnchanged (K.standing keeper.old) (K.standing keeper.new) }
+    ensures fault { IfErr result (λ fault. IsQueryFault fault (K.standing keeper.old) (K.standing keeper.new)) }
+    ensures shut { (K.standing keeper.old).shut ≡ true → IsErrOf result Fault.Reopen }
+{
+    keeper.stock_rows(who)
+}
+
+/// The texts that went out to a depositor, by number; None for a stranger. The book is as before.
+pub fn outbox<K: Keeper>(keeper: &mut K, who: Who) -> Result<Option<Vec<OutRow>>, Fault>
+    ensures same { IsUnchanged (K.standing keeper.old) (K.standing keeper.new) }
+    ensures fault { IfErr result (λ fault. IsQueryFault fault (K.standing keeper.old) (K.standing keeper.new)) }
+    ensures shut { (K.standing keeper.old).shut ≡ true → IsErrOf result Fault.Reopen }
+{
+    keeper.outbox(who)
+}
+
+/// What a list of commands came to.
+#[derive(Drop)]
+pub struct Outcome {
+    /// The replies, in order.
+    pub replies: Vec<Reply>,
+    /// The fault at which the run stopped.
+    pub fault: Option<Fault>,
+}
+
+// Answers one command more. Room for its reply is made first.
+fn answer_next<K: Keeper>(
+    alloc: Global,
+    keeper: &mut K,
+    command: &Command<'_>,
+    moment: Moment,
+    replies: &mut Vec<Reply>,
+) -> Result<(), Fault>
+    ensures ok { (K.standing keeper.new).doubt ≡ 0 → (L : List Written) → IsUsable (K.standing keeper.old) L
+        → OnOk result ((reply : Reply) × (replies.new.items ≡ replies.old.items ++ reply ∷ []) × IsUsable (K.standing keeper.new) (behind L command.now moment reply)) }
+    ensures more { OnOk result (length replies.new.items ≡ length replies.old.items + 1) }
+    ensures no_more { OnErr result (replies.new.items ≡ replies.old.items) }
+    ensures left { (K.standing keeper.new).doubt ≡ 0 → (L : List Written) → IsUsable (K.standing keeper.old) L
+        → OnErr result (LeavesEither (K.standing keeper.new) L (with_entry L command.now moment)) }
+    ensures opened { OnOk result ((K.standing keeper.old).shut ≡ (K.standing keeper.new).shut) }
+    ensures fault { IfErr result (λ fault. IsFault fault (K.standing keeper.old) (K.standing keeper.new)) }
+    ensures goes { GoesOn (K.standing keeper.old) (K.standing keeper.new) }
+{
+    replies.reserve(1)?;
+    let reply = submit(alloc, keeper, command, moment)?;
+    replies.push(reply).unwrap();
+    Ok(())
+}
+
+/// Answers commands in order, and stops at the first fault. Without one there is a reply to every command, and the register
+/// is the one before with the entries of the accepted commands, in order. At a fault a crash leaves the register of the
+/// commands that were answered, or, only where the book must be opened again, that one with the next command's entry.
+pub fn run<K: Keeper>(alloc: Global, keeper: &mut K, commands: &[(Command<'_>, Moment)]) -> Outcome
+    ensures all { IsNone result.fault → length result.replies.items ≡ length commands.now }
+    ensures stopped { IsSome result.fault → length result.replies.items < length commands.now }
+    ensures left { (K.standing keeper.new).doubt ≡ 0 → (L : List Written) → IsUsable (K.standing keeper.old) L → (K.standing keeper.new).shut ≡ false
+        → IsUsable (K.standing keeper.new) (behind_all L commands.now result.replies.items) }
+    ensures broken { (K.standing keeper.new).doubt ≡ 0 → (L : List Written) → IsUsable (K.standing keeper.old) L → (K.standing keeper.new).shut ≡ true
+        → IsSome result.fault × ((next : Asking × Minute) → slice_get commands.now (length result.replies.items) ≡ Some next
+            → LeavesEither (K.standing keeper.new) (behind_all L commands.now result.replies.items)
+                (with_entry (behind_all L commands.now result.replies.items) next.0 next.1)) }
+    ensures goes { GoesOn (K.standing keeper.old) (K.standing keeper.new) }
+    ensures fault { IfSome result.fault (λ fault. IsRunFault fault (K.standing keeper.old) (K.standing keeper.new)) }
+{
+    let mut replies = Vec::new(alloc);
+    for (command, moment) in commands {
+        if let Err(fault) = answer_next(alloc, keeper, command, *moment, &mut replies) {
+            return Outcome {
+                replies,
+                fault: Some(fault),
+            };
+        }
+    }
+    Outcome {
+        replies,
+        fault: None,
+    }
+}
