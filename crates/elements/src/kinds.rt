@@ -6,7 +6,7 @@ ghost use Rattle.profile.specs.Moments as moments;
 ghost use Rattle.profile.specs.Elements as meant;
 ghost use Rattle.elements.specs.Rows.{kind_of, row_of};
 
-use segments::Delims;
+use segments::{Delims, is_day};
 
 /// The types of elements, as an element row names them.
 pub enum Kind {
@@ -90,28 +90,6 @@ fn number(text: &[u8]) -> u32
         number = number * 10 + u32::from(b.saturating_sub(b'0'));
     }
     number
-}
-
-fn is_leap(year: u32) -> bool
-    ensures { result ≡ moments.is_leap year }
-{
-    (year % 4 == 0 && year % 100 != 0) || year % 400 == 0
-}
-
-fn days_in(year: u32, month: u32) -> u32
-    ensures { result ≡ moments.days_in year month }
-{
-    match month {
-        2 => { if is_leap(year) { 29 } else { 28 } }
-        4 | 6 | 9 | 11 => 30,
-        _ => 31,
-    }
-}
-
-fn is_day(year: u32, month: u32, day: u32) -> bool
-    ensures { result ≡ moments.is_day year month day }
-{
-    matches!(year, 1..=9999) && matches!(month, 1..=12) && day >= 1 && day <= days_in(year, month)
 }
 
 // Whether eight digits are a day.

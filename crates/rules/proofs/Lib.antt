@@ -1,0 +1,2 @@
+pub mod SetsEnd
+pub mod Subjects

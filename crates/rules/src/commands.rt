@@ -1,6 +1,10 @@
-ghost use Rattle.std.specs.Prelude.{◌≡◌, IfOk};
-ghost use Rattle.rules.specs.Asked.{asked, mark_of};
+ghost use Rattle.std.specs.Prelude.{◌≡◌, IfOk, MatchOption, Some, None};
+ghost use Rattle.profile.specs.Accepted as meant;
+ghost use Rattle.profile.specs.Header.{isa as meant_isa};
+ghost use Rattle.profile.specs.Register.{interchange_mark, Interchange as Received};
+ghost use Rattle.rules.specs.Asked.{asked, mark_of, sender_named};
 
+use envelope::{Isa, isa};
 use segments::Who;
 use std::alloc::{AllocError, Global};
 
@@ -38,11 +42,33 @@ impl<'a> Key<'a> {
     }
 }
 
+// The sender of an interchange by its header, if ISA05 and ISA06 name a partner, and the key of its entry.
+fn named<'a>(header: &Isa<'a>) -> Option<(Who, Key<'a>)>
+    ensures { MatchOption result (sender_named header.now ≡ None) (λ p. (sender_named header.now ≡ Some p.0) × (mark_of p.1 ≡ interchange_mark (meant_isa header.now 13))) }
+{
+    match header.sender() {
+        Some(who) => Some((who, Key::Interchange(header.element(13)))),
+        None => None,
+    }
+}
+
+// The sender of an interchange, and the key of its entry.
+fn sender_of(text: &[u8]) -> Option<(Who, Key<'_>)>
+    ensures { MatchOption result (meant.subject (Received text.now) ≡ None) (λ p. meant.subject (Received text.now) ≡ Some (p.0, mark_of p.1)) }
+{
+    match isa(text) {
+        Ok(header) => named(&header),
+        Err(_) => None,
+    }
+}
+
 /// The depositor that a command names, and the key of the entry that it makes; None where an interchange can't be read, or
 /// its ISA05 and ISA06 can be no partner. It takes no memory.
-pub fn subject<'a>(command: &Command<'a>) -> Option<(Who, Key<'a>)> {
+pub fn subject<'a>(command: &Command<'a>) -> Option<(Who, Key<'a>)>
+    ensures { MatchOption result (meant.subject (asked command.now) ≡ None) (λ p. meant.subject (asked command.now) ≡ Some (p.0, mark_of p.1)) }
+{
     match command {
         Command::Enrol(who) => Some((*who, Key::Enrolment)),
-        Command::Interchange(_) => None,
+        Command::Interchange(text) => sender_of(text),
     }
 }

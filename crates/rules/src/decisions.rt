@@ -1,12 +1,18 @@
-ghost use Rattle.std.specs.Prelude.{◌≡◌, IfOk, is_some, unwrap_or, option_map, option_copied};
-ghost use Rattle.rules.specs.Decided.{IsDecided, IsEnrolment, entries_of};
-ghost use Rattle.rules.specs.Written.{written_as};
-ghost use Rattle.profile.specs.Reply.{enrolment_entry, interchange_entry};
+ghost use Rattle.std.specs.Prelude.{◌≡◌, ℕ, Bool, true, List, Option, Some, None, IfOk, IfSome, is_some, option_copied};
+ghost use Rattle.rules.specs.Decided.{IsDecided, IsEnrolment, IsAnswer, entries_of};
+ghost use Rattle.rules.specs.Written.{Recalled, written_as};
+ghost use Rattle.profile.specs.Moments.{Moment as Minute};
+ghost use Rattle.profile.specs.Header.{isa};
+ghost use Rattle.profile.specs.Register.{interchange_mark};
+ghost use Rattle.profile.specs.Reply.{enrolment_entry};
 
 use crate::commands::{Command, Key};
 use crate::entries::{Entry, Known};
 use crate::house::Warehouse;
+use crate::interchanges::{NotTaken, Occasion, take};
 use crate::refusals::Refusal;
+use envelope::{Isa, isa};
+use profile::MOST_ENTRIES;
 use segments::{Moment, Who};
 use std::alloc::{AllocError, Global};
 use stock::{Change, Page};
@@ -61,11 +67,122 @@ fn enrol(
     })
 }
 
+// The entry of an interchange under a number.
+fn received(
+    alloc: Global,
+    header: &Isa<'_>,
+    who: Who,
+    number: u32,
+    moment: Moment,
+    text: &[u8],
+) -> Result<Entry, AllocError>
+    ensures { IfOk result (λ entry. entry ≡ record { who = who; key = interchange_mark (isa header.now 13); n = number; moment = moment; body = text.now }) }
+{
+    Ok(Entry {
+        who,
+        key: Key::Interchange(header.element(13)).text(alloc)?,
+        n: number,
+        moment,
+        body: text.to_vec(alloc)?,
+    })
+}
+
+// The stored answer under a known control number, for the same bytes.
+fn again(
+    alloc: Global,
+    page: &Page,
+    known: &Known,
+    text: &[u8],
+    moment: Moment,
+) -> Result<Option<Decision>, AllocError>
+    ensures { IfOk result (λ o. IfSome o (IsAnswer true page.now.entries (Some known.now) text.now moment)) }
+{
+    let _page = page;
+    let _moment = moment;
+    if known.body() != text {
+        return Ok(None);
+    }
+    Ok(Some(Decision::Stored(known.outgoing().to_vec(alloc)?)))
+}
+
+// The acceptance of an interchange under a new control number, whose header is this.
+fn accepted(
+    alloc: Global,
+    warehouse: &Warehouse,
+    page: &Page,
+    header: &Isa<'_>,
+    moment: Moment,
+    text: &[u8],
+) -> Result<Option<Decision>, AllocError>
+    requires { header.now ≡ text.now }
+    ensures { IfOk result (λ o. IfSome o (IsAnswer true page.now.entries None text.now moment)) }
+{
+    let entries = page.entries();
+    let Some(who) = header.sender() else {
+        return Ok(None);
+    };
+    if entries >= MOST_ENTRIES {
+        return Ok(None);
+    }
+    let occasion = Occasion {
+        warehouse: *warehouse,
+        depositor: who,
+        moment,
+        number: entries + 1,
+    };
+    match take(alloc, &occasion, page, text) {
+        Ok(taken) => Ok(Some(Decision::Accepted {
+            entry: received(alloc, header, who, entries + 1, moment, text)?,
+            changes: taken.changes,
+            outgoing: taken.outgoing,
+        })),
+        Err(NotTaken::NotBuilt) => Ok(None),
+        Err(NotTaken::OutOfMemory) => Err(AllocError),
+    }
+}
+
+// The decision on an interchange of an enrolled depositor, where it is one that is built.
+fn built(
+    alloc: Global,
+    warehouse: &Warehouse,
+    page: &Page,
+    known: Option<&Known>,
+    text: &[u8],
+    moment: Moment,
+) -> Result<Option<Decision>, AllocError>
+    ensures { IfOk result (λ o. IfSome o (IsAnswer true page.now.entries (option_copied known.entry) text.now moment)) }
+{
+    match (known, isa(text)) {
+        (Some(known), _) => again(alloc, page, known, text, moment),
+        (None, Ok(header)) => accepted(alloc, warehouse, page, &header, moment, text),
+        (None, Err(_)) => Ok(None),
+    }
+}
+
+// The decision on an interchange.
+fn interchange(
+    alloc: Global,
+    warehouse: &Warehouse,
+    page: Option<&Page>,
+    known: Option<&Known>,
+    text: &[u8],
+    moment: Moment,
+) -> Result<Decision, AllocError>
+    ensures { IfOk result (IsAnswer (is_some page.entry) (entries_of page.entry) (option_copied known.entry) text.now moment) }
+{
+    if let Some(page) = page {
+        if let Some(decision) = built(alloc, warehouse, page, known, text, moment)? {
+            return Ok(decision);
+        }
+    }
+    Ok(Decision::Refused(Refusal::NotBuilt, Vec::new(alloc)))
+}
+
 /// What a command comes to, by the page of the depositor that it names, if that is enrolled, and what is known under its
 /// key. Only want of memory keeps it from being decided.
 pub fn decide(
     alloc: Global,
-    _warehouse: &Warehouse,
+    warehouse: &Warehouse,
     page: Option<&Page>,
     known: Option<&Known>,
     command: &Command<'_>,
@@ -75,6 +192,6 @@ pub fn decide(
 {
     match command {
         Command::Enrol(who) => enrol(alloc, page.is_some(), *who, moment),
-        Command::Interchange(_text) => Ok(Decision::Refused(Refusal::NotBuilt, Vec::new(alloc))),
+        Command::Interchange(text) => interchange(alloc, warehouse, page, known, text, moment),
     }
 }

@@ -6,6 +6,7 @@ mod commands;
 mod decisions;
 mod entries;
 mod house;
+mod interchanges;
 mod refusals;
 mod replays;
 

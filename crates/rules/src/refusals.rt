@@ -4,6 +4,8 @@ ghost use Rattle.rules.specs.Told.{number_told, name_told};
 /// Why a command is refused. The book is as before.
 #[derive(Clone, Copy, Debug, PartialEq, Eq)]
 pub enum Refusal {
+    /// 32: a text that can't be read.
+    BadText,
     /// 35: the depositor is enrolled already.
     AlreadyEnrolled,
     /// 36: what the command asks for isn't built yet.
@@ -16,6 +18,7 @@ impl Refusal {
         ensures { result ≡ number_told self.now }
     {
         match self {
+            Refusal::BadText => 32,
             Refusal::AlreadyEnrolled => 35,
             Refusal::NotBuilt => 36,
         }
@@ -26,6 +29,7 @@ impl Refusal {
         ensures { result.now ≡ name_told self.now }
     {
         match self {
+            Refusal::BadText => "BadText",
             Refusal::AlreadyEnrolled => "AlreadyEnrolled",
             Refusal::NotBuilt => "NotBuilt",
         }

@@ -9,3 +9,12 @@ pub fn cut(text: &[u8], delims: Delims) -> Cut<'_>
 {
     Cut { text, delims }
 }
+
+impl<'a> Cut<'a> {
+    /// What isn't cut yet; after the last segment the rest, which no terminator ends.
+    pub fn rest(&self) -> &'a [u8]
+        ensures { result.now ≡ self.now.text }
+    {
+        self.text
+    }
+}

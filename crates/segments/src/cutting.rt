@@ -80,15 +80,6 @@ fn first_segment<'a>(text: &'a [u8], delims: &Delims) -> Option<(Segment<'a>, &'
     Some((segment_of(&text[..end], *delims), behind))
 }
 
-impl<'a> Cut<'a> {
-    /// What isn't cut yet; after the last segment the rest, which no terminator ends.
-    pub fn rest(&self) -> &'a [u8]
-        ensures { result.now ≡ self.now.text }
-    {
-        self.text
-    }
-}
-
 impl<'a> Iterator for Cut<'a> {
     type Item = Segment<'a>;
 

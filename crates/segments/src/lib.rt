@@ -14,7 +14,7 @@ pub use begin::cut;
 pub use cutting::{Cut, Segment};
 pub use delims::Delims;
 pub use idents::Ident;
-pub use moments::Moment;
+pub use moments::{Moment, is_day};
 pub use partners::Who;
 pub use writing::write_segment;
 

@@ -1,5 +1,5 @@
-ghost use Rattle.std.specs.Prelude.{◌≡◌, ◌≤◌, ◌↔◌, IsTrue, true, false, MatchOption};
-ghost use Rattle.profile.specs.Moments.{Moment as Parts, is_moment, days_in};
+ghost use Rattle.std.specs.Prelude.{◌≡◌, IsTrue, true, false, MatchOption};
+ghost use Rattle.profile.specs.Moments.{Moment as Parts, is_moment, is_day};
 
 use jiff::civil::Date;
 use std::marker::Model;
@@ -24,12 +24,11 @@ impl Model for Moment {
     ghost inverse = { λ m. record { year = m.year; month = m.month; day = m.day; hour = m.hour; minute = m.minute } };
 }
 
-// Whether the calendar has the day.
-fn is_day(year: u16, month: u8, day: u8) -> bool
-    requires { year ≤ 9999 }
-    ensures { IsTrue result ↔ ((1 ≤ month) × (month ≤ 12) × (1 ≤ day) × (day ≤ days_in year month)) }
+/// Whether the Gregorian calendar has the day, of a year 1 to 9999.
+pub fn is_day(year: u32, month: u32, day: u32) -> bool
+    ensures { result ≡ is_day year month day }
 {
-    if month > 12 || day > 31 {
+    if year == 0 || year > 9999 || month > 12 || day > 31 {
         return false;
     }
     Date::new(year as i16, month as i8, day as i8).is_ok()
@@ -42,7 +41,10 @@ impl Moment {
         ensures { let m : Parts = record { year = year; month = month; day = day; hour = hour; minute = minute } in
             MatchOption result (is_moment m ≡ false) (λ r. (is_moment m ≡ true) × (r ≡ m)) }
     {
-        if year < 2000 || year > 2099 || hour > 23 || minute > 59 || !is_day(year, month, day) {
+        if year < 2000 || year > 2099 || hour > 23 || minute > 59 {
+            return None;
+        }
+        if !is_day(u32::from(year), u32::from(month), u32::from(day)) {
             return None;
         }
         Some(Moment {

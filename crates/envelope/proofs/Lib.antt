@@ -1,0 +1,10 @@
+pub mod Bared
+pub mod Earlier
+pub mod Framing
+pub mod Holding
+pub mod Legibility
+pub mod Moments
+pub mod NoteLemmas
+pub mod PieceLemmas
+pub mod Runs
+pub mod Spaces

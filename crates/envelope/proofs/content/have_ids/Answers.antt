@@ -1,0 +1,8 @@
+use Rattle.std.proofs.Common.{◌∙◌, sym}
+use Rattle.profile.specs.Cut.{id_of}
+use Rattle.profile.specs.Halt.{is_segment_id}
+use Rattle.envelope.proofs.Bared.{all_bare}
+use Rattle.envelope.proofs.content.have_ids.Goals as goal
+
+pub returns : goal.returns
+returns c = c.are_named.ensures ∙ sym (all_bare (λ s. is_segment_id (id_of s)) c.args.segments.now)

@@ -1,0 +1,4 @@
+pub mod Legibility
+pub mod Conditions
+pub mod Parts
+pub mod Halting

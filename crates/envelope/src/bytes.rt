@@ -1,0 +1,91 @@
+ghost use Rattle.std.specs.Prelude.{◌≡◌, ◌≤◌, ◌<◌, ◌^◌, ◌==◌, bytes_eq, length, min};
+ghost use Rattle.std.specs.List.{list_all};
+ghost use Rattle.profile.specs.Bytes as meant;
+
+// Whether the two are the same.
+pub(crate) fn same(a: &[u8], b: &[u8]) -> bool
+    ensures { result ≡ bytes_eq a.now b.now }
+{
+    a == b
+}
+
+// Whether each byte is a digit.
+pub(crate) fn all_digits(text: &[u8]) -> bool
+    ensures { result ≡ list_all meant.is_digit text.now }
+{
+    text.iter().all(|b| matches!(*b, b'0'..=b'9'))
+}
+
+// Whether each byte is a space.
+pub(crate) fn all_spaces(text: &[u8]) -> bool
+    ensures { result ≡ list_all meant.is_space text.now }
+{
+    text.iter().all(|b| *b == b' ')
+}
+
+fn is_alphanumeric(b: u8) -> bool
+    ensures { result ≡ meant.is_alphanumeric b }
+{
+    matches!(b, b'A'..=b'Z' | b'0'..=b'9')
+}
+
+// Whether each byte is one of A to Z and 0 to 9.
+pub(crate) fn all_alphanumeric(text: &[u8]) -> bool
+    ensures { result ≡ list_all meant.is_alphanumeric text.now }
+{
+    text.iter().all(|b| is_alphanumeric(*b))
+}
+
+// The value of digits, as far as ten to the eighteenth: no count of anything in memory comes so far.
+fn value(text: &[u8]) -> u64
+    ensures { result ≡ min (meant.value text.now) (10 ^ 18) }
+{
+    let mut value: u64 = 0;
+    for b in text {
+        value = (value * 10 + u64::from(b.saturating_sub(b'0'))).min(1_000_000_000_000_000_000);
+    }
+    value
+}
+
+// Whether the digits are of this value.
+pub(crate) fn has_value(text: &[u8], n: usize) -> bool
+    requires { n < 10 ^ 18 }
+    ensures { result ≡ (meant.value text.now == n) }
+{
+    value(text) == n as u64
+}
+
+// The text without the spaces at its end.
+#[tactic(auto, using(crate::proofs::Spaces::strip_more, crate::proofs::Spaces::strip_none, crate::proofs::Spaces::strip_done))]
+pub(crate) fn stripped(text: &[u8]) -> &[u8]
+    ensures { result.now ≡ meant.stripped text.now }
+{
+    let mut end = text.len();
+    while end > 0 && text[end - 1] == b' ' {
+        end -= 1;
+    }
+    &text[..end]
+}
+
+// The id, filled up with spaces as ISA06 and ISA08 are.
+#[tactic(auto, using(crate::proofs::Spaces::filled))]
+fn padded(id: &[u8]) -> [u8; 15]
+    requires { length id.now ≤ 15 }
+    ensures { result ≡ meant.padded 15 id.now }
+{
+    let mut padded = [b' '; 15];
+    padded[..id.len()].copy_from_slice(id);
+    padded
+}
+
+// Whether the field, fifteen bytes, is the id filled up with spaces.
+#[tactic(auto, using(crate::proofs::Spaces::too_long))]
+pub(crate) fn is_padded(field: &[u8], id: &[u8]) -> bool
+    requires { length field.now ≡ 15 }
+    ensures { result ≡ bytes_eq field.now (meant.padded 15 id.now) }
+{
+    if id.len() > 15 {
+        return false;
+    }
+    same(field, &padded(id))
+}

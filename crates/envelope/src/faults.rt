@@ -1,0 +1,120 @@
+ghost use Rattle.std.specs.Prelude.{◌≡◌, ℕ, List, ◌<◌, ◌≤◌, ◌^◌, ◌&&◌, ◌==◌, not, length, codes, bytes_eq, is_none, find, option_to_list, IfOk};
+ghost use Rattle.std.specs.List.{list_any};
+ghost use Rattle.profile.specs.Bytes.{is_one_of};
+ghost use Rattle.profile.specs.Cut as cuts;
+ghost use Rattle.profile.specs.Structure as meant;
+ghost use Rattle.profile.specs.Words.{set_kinds, kind_function, kind_number};
+
+use crate::bytes::{has_value, same};
+use crate::looking::last_element;
+use crate::parts::{Group, Set};
+use segments::Segment;
+use std::alloc::{AllocError, Global};
+
+// Whether groups of the functional identifier GS01 are read.
+fn is_read(function: &[u8]) -> bool
+    ensures { result ≡ not (is_none (find (λ k. bytes_eq (kind_function k) function.now) set_kinds)) }
+{
+    matches!(function, b"OW" | b"AR" | b"FA")
+}
+
+// Whether the set number ST01 belongs to the functional identifier GS01.
+fn belongs(function: &[u8], number: &[u8]) -> bool
+    ensures { result ≡ list_any (λ k. bytes_eq (kind_number k) number.now) (option_to_list (find (λ k. bytes_eq (kind_function k) function.now) set_kinds)) }
+{
+    match function {
+        b"OW" => same(b"940", number),
+        b"AR" => same(b"943", number),
+        b"FA" => same(b"997", number),
+        _ => false,
+    }
+}
+
+// Whether GS names the version that is read.
+fn has_version(head: &Segment<'_>) -> bool
+    ensures { result ≡ (bytes_eq (cuts.element head.now.elements 7) (codes "X") && bytes_eq (cuts.element head.now.elements 8) (codes "004010")) }
+{
+    same(head.element(7), b"X") && same(head.element(8), b"004010")
+}
+
+// An element of ST.
+fn head_element<'a>(set: &Set<'a>, n: usize) -> &'a [u8]
+    ensures { result.now ≡ cuts.element (meant.head_of set.now.set) n }
+{
+    match set.segments().first() {
+        Some(first) => first.element(n),
+        None => &[],
+    }
+}
+
+// Whether one of the sets has the control number.
+fn stands_in(sets: &[Set<'_>], number: &[u8]) -> bool
+    ensures { result ≡ list_any (λ s. bytes_eq number.now (meant.control_of s.set)) sets.now }
+{
+    sets.iter().any(|s| same(number, head_element(s, 2)))
+}
+
+impl<'a> Group<'a> {
+    /// The code of its fault (AK905), the first that holds of: 1 GS01 isn't OW, AR or FA; 2 GS07 isn't X or GS08 isn't
+    /// 004010; 3 it has no GE; 4 GE02 isn't GS06; 5 GE01 isn't the number of its sets.
+    pub fn fault(&self) -> Option<u8>
+        ensures { result ≡ meant.group_fault self.now.group }
+    {
+        let head = self.head();
+        if !is_read(head.element(1)) {
+            return Some(1);
+        }
+        if !has_version(head) {
+            return Some(2);
+        }
+        let Some(tail) = self.tail() else {
+            return Some(3);
+        };
+        if !same(tail.element(2), head.element(6)) {
+            return Some(4);
+        }
+        if !has_value(tail.element(1), self.sets().len()) {
+            return Some(5);
+        }
+        None
+    }
+
+    // The code of the fault of a set's envelope; it is told whether the set's number stood before.
+    fn set_fault(&self, set: &Set<'_>, is_repeated: bool) -> Option<u8>
+        ensures { (earlier : List (List ℕ)) → is_repeated ≡ is_one_of earlier (meant.control_of set.now.set)
+            → result ≡ meant.envelope_fault (meant.kind_of self.now.group) earlier set.now.set }
+    {
+        let segments = set.segments();
+        if !set.is_closed() {
+            return Some(2);
+        }
+        if !belongs(self.head().element(1), head_element(set, 1)) {
+            return Some(1);
+        }
+        if is_repeated {
+            return Some(7);
+        }
+        if !same(last_element(segments, 2), head_element(set, 2)) {
+            return Some(3);
+        }
+        if !has_value(last_element(segments, 1), segments.len()) {
+            return Some(4);
+        }
+        None
+    }
+
+    /// The codes of the faults of its sets' envelopes (AK502), in the sets' order, each the first that holds of: 2 the set
+    /// has no SE; 1 ST01 isn't the set that belongs to GS01; 7 ST02 stood before in this group; 3 SE02 isn't ST02; 4 SE01
+    /// isn't the number of its segments.
+    pub fn set_faults(&self, alloc: Global) -> Result<Vec<Option<u8>>, AllocError>
+        ensures { IfOk result (λ v. v.items ≡ meant.envelope_faults self.now.group) }
+    {
+        let sets = self.sets();
+        let mut faults = Vec::new(alloc);
+        for (index, set) in sets.iter().enumerate() {
+            let is_repeated = stands_in(&sets[..index], head_element(set, 2));
+            faults.push(self.set_fault(set, is_repeated))?;
+        }
+        Ok(faults)
+    }
+}

@@ -1,0 +1,90 @@
+ghost use Rattle.std.specs.Prelude.{◌≡◌, ℕ, ◌<◌, ◌≤◌, List, length, if◌then◌else◌, Some, None, true, false};
+ghost use Rattle.profile.specs.Halt.{is_addressed_to as names};
+ghost use Rattle.profile.specs.Header as meant;
+ghost use Rattle.envelope.specs.Legibility.{width};
+
+use crate::bytes::{is_padded, same, stripped};
+use segments::{Delims, Who};
+use std::marker::Model;
+
+/// The text is no interchange that can be read: it has under 106 or over 1,048,576 bytes, doesn't begin with ISA, names
+/// delimiters that it may not, or has a byte where that byte may not stand.
+#[derive(Drop)]
+pub struct Unreadable;
+
+/// The header of a text that can be read: ISA, of 106 bytes, whose elements stand at fixed offsets.
+#[derive(Drop)]
+pub struct Isa<'a> {
+    pub(crate) text: &'a [u8],
+    pub(crate) delims: Delims,
+}
+
+impl<'a> Model for Isa<'a> {
+    ghost Value = { List ℕ };
+
+    ghost view = { λ i. i.text.now };
+
+    ghost invariant = { λ i. (106 ≤ length i.text.now) × (meant.is_unreadable i.text.now ≡ false) × (i.delims ≡ meant.delims_of i.text.now) };
+}
+
+// The element of ISA at a place; 0 is the id.
+pub(crate) fn element(text: &[u8], n: usize) -> &[u8]
+    requires long { 106 ≤ length text.now }
+    requires there { n < 17 }
+    ensures value { result.now ≡ meant.isa text.now n }
+    ensures wide { length result.now ≡ width n }
+{
+    match n {
+        0 => &text[..3],
+        1 => &text[4..6],
+        2 => &text[7..17],
+        3 => &text[18..20],
+        4 => &text[21..31],
+        5 => &text[32..34],
+        6 => &text[35..50],
+        7 => &text[51..53],
+        8 => &text[54..69],
+        9 => &text[70..76],
+        10 => &text[77..81],
+        11 => &text[82..83],
+        12 => &text[84..89],
+        13 => &text[90..99],
+        14 => &text[100..101],
+        15 => &text[102..103],
+        _ => &text[104..105],
+    }
+}
+
+impl<'a> Isa<'a> {
+    /// The element at a place, as received, of ISA01 to ISA16; 0 is the id. ISA05 and ISA06 are the sender's qualifier and
+    /// id, ISA13 is the control number.
+    pub fn element(&self, n: usize) -> &'a [u8]
+        requires { n < 17 }
+        ensures value { result.now ≡ meant.isa self.now n }
+        ensures wide { length result.now ≡ width n }
+    {
+        element(self.text, n)
+    }
+
+    /// The delimiters that the text uses.
+    pub fn delims(&self) -> Delims
+        ensures value { result ≡ meant.delims_of self.now }
+        ensures readable { meant.is_unreadable self.now ≡ false }
+    {
+        self.delims
+    }
+
+    /// The sender, by ISA05 and by ISA06 without the spaces at its end; None where they can't name a partner.
+    pub fn sender(&self) -> Option<Who>
+        ensures { result ≡ (if meant.is_partner (meant.sender self.now) then Some (meant.sender self.now) else None) }
+    {
+        Who::of(self.element(5), stripped(self.element(6)))
+    }
+
+    /// Whether ISA07 and ISA08 are the partner's, byte for byte.
+    pub fn is_addressed_to(&self, who: &Who) -> bool
+        ensures { result ≡ names who.now self.now }
+    {
+        same(self.element(7), who.qualifier()) && is_padded(self.element(8), who.id())
+    }
+}

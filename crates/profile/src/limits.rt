@@ -1,0 +1,22 @@
+//! The numbers of the profile, which the definitions and the program share.
+
+/// The most bytes of an interchange.
+pub const MOST_BYTES: usize = 1_048_576;
+
+/// The most functional groups of an interchange.
+pub const MOST_GROUPS: usize = 100;
+
+/// The most sets of an interchange.
+pub const MOST_SETS: usize = 1_000;
+
+/// The most lines of a set or a sheet.
+pub const MOST_LINES: u8 = 99;
+
+/// The greatest quantity of a line.
+pub const MOST_QUANTITY: u32 = 99_999;
+
+/// The greatest amount that a recount may set.
+pub const MOST_RECOUNTED: u32 = 999_999_999;
+
+/// The most numbered entries of a depositor.
+pub const MOST_ENTRIES: u32 = 999_999;

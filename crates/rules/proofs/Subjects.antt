@@ -1,0 +1,43 @@
+-- Whom a readable interchange names.
+use Rattle.std.proofs.Common.{◌≡◌, ℕ, ◌+◌, Bool, true, false, List, refl, sym, ◌∙◌, ap, Option, Some, None}
+use Rattle.std.specs.Prelude.{option_map, if◌then◌else◌, not, ◌&&◌}
+use Rattle.profile.specs.Header.{Who, is_unreadable, is_partner, sender, isa}
+use Rattle.profile.specs.Moments.{Moment}
+use Rattle.profile.specs.Register.{Command, Interchange, command_mark, interchange_mark}
+use Rattle.profile.specs.Accepted.{subject}
+use Rattle.profile.specs.Reply.{interchange_entry}
+use Rattle.rules.specs.Written.{Written, written_as}
+use Rattle.rules.specs.Asked.{sender_named, mark_of}
+use Rattle.rules.specs.declared.commands.Key.{Key}
+use Rattle.std.specs.Prelude.{MatchOption}
+
+abbrev with_mark : List ℕ → Who → Who × List ℕ
+with_mark text w = (w, command_mark (Interchange text))
+
+pub subject_named : (text : List ℕ) (o : Option Who) → is_unreadable text ≡ false → o ≡ sender_named text → subject (Interchange text) ≡ option_map (with_mark text) o
+subject_named text o readable is = rw (readable, is) refl
+
+-- what is named by the header is the subject
+pub subject_of : (text header : List ℕ) (r : Option (Who × Key)) → is_unreadable text ≡ false → header ≡ text
+    → MatchOption r (sender_named header ≡ None) (λ p. (sender_named header ≡ Some p.0) × (mark_of p.1 ≡ interchange_mark (isa header 13)))
+    → MatchOption r (subject (Interchange text) ≡ None) (λ p. subject (Interchange text) ≡ Some (p.0, mark_of p.1))
+subject_of text header None readable same h = subject_named text None readable (sym h ∙ ap sender_named same)
+subject_of text header (Some p) readable same h =
+    subject_named text (Some p.0) readable (sym h.0 ∙ ap sender_named same)
+    ∙ ap (λ (m : List ℕ). Some (p.0, m)) (sym (h.1 ∙ ap (λ (x : List ℕ). interchange_mark (isa x 13)) same))
+
+-- a partner that is named is the sender
+pub named_is : (text : List ℕ) (w : Who) → Some w ≡ sender_named text → w ≡ sender text
+named_is text w h = by_test (is_partner (sender text)) refl h
+  where
+    by_test : (b : Bool) → is_partner (sender text) ≡ b → Some w ≡ (if b then Some (sender text) else None) → w ≡ sender text
+    by_test true e g = cc
+    by_test false e g = absurd (cc)
+
+-- an entry of these parts is that of the interchange
+pub entry_named : (text header : List ℕ) (w : Who) (n : ℕ) (t : Moment) (e : Written) → header ≡ text → Some w ≡ sender_named header
+    → e ≡ record { who = w; key = interchange_mark (isa header 13); n = n; moment = t; body = text } → e ≡ written_as n (interchange_entry text t)
+entry_named text header w n t e same is made =
+    let whose : w ≡ sender text = named_is text w (is ∙ ap sender_named same) in
+    made ∙ ap (λ (x : List ℕ). record { who = w; key = interchange_mark (isa x 13); n = n; moment = t; body = text }) same
+    ∙ ap (λ (x : Who). record { who = x; key = interchange_mark (isa text 13); n = n; moment = t; body = text }) whose

@@ -1,0 +1,39 @@
+-- What is known of the numbers of a set without a fault.
+use Rattle.std.proofs.Common.{◌≡◌, [], None, sym, ◌∙◌, subst}
+use Rattle.std.specs.Prelude.{codes}
+use Rattle.profile.specs.Bytes.{Delims}
+use Rattle.profile.specs.Cut.{segments_of, segment_with, element}
+use Rattle.profile.specs.Words.{SetKind, ShippingOrder, ShipmentAdvice, FunctionalAcknowledgment, kind_words, words_940, words_943, words_997}
+use Rattle.profile.specs.Faults.{fault_from}
+use Rattle.profile.proofs.FaultsLaws.{set_fault-from}
+use Rattle.tables.specs.Judged.{Whole, IsSound}
+use Rattle.sets_in.specs.Amounts.{IsAmount, IsCounted}
+use Rattle.sets_in.proofs.Sound.{goods_amounts, ordered_amounts, advised_totals, ordered_totals, document_numbers, amount_with}
+use Rattle.sets_in.proofs.Most.{few_goods, few_ordered}
+
+-- a set of the kind has no fault by some delimiters
+pub passes : (w : Whole) (kind : SetKind) → IsSound w → w.kind ≡ kind → (d : Delims) × (fault_from d (kind_words kind) (kind_words kind) [] 1 (segments_of w.pieces) ≡ None)
+passes w kind s k =
+    let d = s.judged.0 in (
+      d,
+      subst (λ (k : SetKind). fault_from d (kind_words k) (kind_words k) [] 1 (segments_of w.pieces) ≡ None) k
+          (sym (set_fault-from d (kind_words w.kind) (segments_of w.pieces)) ∙ s.judged.1),
+    )
+
+pub advice_counted : (w : Whole) → IsSound w → w.kind ≡ ShipmentAdvice → IsCounted (codes "W04") (codes "W03") (segments_of w.pieces)
+advice_counted w s k = let p = passes w ShipmentAdvice s k in record {
+  few = few_goods p.0 (segments_of w.pieces) p.1;
+  quantities = goods_amounts p.0 words_943 (segments_of w.pieces) p.1;
+  sum = amount_with (codes "W03") 1 7 (segments_of w.pieces) (advised_totals p.0 words_943 (segments_of w.pieces) p.1);
+}
+
+pub order_counted : (w : Whole) → IsSound w → w.kind ≡ ShippingOrder → IsCounted (codes "W01") (codes "W76") (segments_of w.pieces)
+order_counted w s k = let p = passes w ShippingOrder s k in record {
+  few = few_ordered p.0 (segments_of w.pieces) p.1;
+  quantities = ordered_amounts p.0 words_940 (segments_of w.pieces) p.1;
+  sum = amount_with (codes "W76") 1 7 (segments_of w.pieces) (ordered_totals p.0 words_940 (segments_of w.pieces) p.1);
+}
+
+pub document_known : (w : Whole) → IsSound w → w.kind ≡ FunctionalAcknowledgment → IsAmount 9 (element (segment_with (codes "AK1") (segments_of w.pieces)) 2)
+document_known w s k = let p = passes w FunctionalAcknowledgment s k in
+    amount_with (codes "AK1") 2 9 (segments_of w.pieces) (document_numbers p.0 words_997 (segments_of w.pieces) p.1)

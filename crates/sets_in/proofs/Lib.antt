@@ -1,0 +1,10 @@
+pub mod Values
+pub mod Sound
+pub mod Most
+pub mod Spaced
+pub mod Places
+pub mod Counted
+pub mod Parse
+pub mod Whole
+pub mod Meaning
+pub mod AckMeaning

@@ -1,0 +1,24 @@
+-- Elements that are numbers, and what is known so of the segments of a set without a fault.
+use Rattle.std.specs.Prelude.{◌≡◌, ◌≤◌, ℕ, List, true, length}
+use Rattle.std.specs.List.{list_all, AllByRecursion}
+use Rattle.profile.specs.Bytes.{is_digit}
+use Rattle.profile.specs.Cut.{Segment, element, has_id, segment_with, places_of}
+use Rattle.profile.specs.Limits.{most_lines}
+
+-- at most some digits, and nothing else
+pub record IsAmount (most : ℕ) (text : List ℕ) : Type 0 where
+  pub short : length text ≤ most
+  pub digits : list_all is_digit text ≡ true
+
+-- where the segment has the id, its element at the place is a number
+abbrev pub HasAmount : List ℕ → ℕ → ℕ → Segment → Type 0
+HasAmount id place most s = has_id id s ≡ true → IsAmount most (element s place)
+
+abbrev pub HaveAmounts : List ℕ → ℕ → ℕ → List Segment → Type 0
+HaveAmounts id place most ss = AllByRecursion (HasAmount id place most) ss
+
+-- lines begin at the segments with an id, whose first element is a quantity; another has their sum
+pub record IsCounted (line total : List ℕ) (ss : List Segment) : Type 0 where
+  pub few : length (places_of line ss) ≤ most_lines
+  pub quantities : HaveAmounts line 1 5 ss
+  pub sum : IsAmount 7 (element (segment_with total ss) 1)

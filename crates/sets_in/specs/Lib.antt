@@ -1,0 +1,6 @@
+pub mod Limits
+pub mod Amounts
+pub mod Spaced
+pub mod Places
+pub mod Said
+pub mod SaidAck

@@ -1,0 +1,13 @@
+-- How much a set may say.
+use Rattle.std.specs.Prelude.{◌≤◌, List, length, All}
+use Rattle.profile.specs.Limits.{most_lines, most_quantity}
+use Rattle.profile.specs.Means.{AdviceLine, OrderLine}
+
+-- few lines, and none of much
+pub record HasFewLines (lines : List AdviceLine) : Type 0 where
+  pub few : length lines ≤ most_lines
+  pub small : All (λ (l : AdviceLine). l.line.quantity ≤ most_quantity) lines
+
+pub record HasFewOrderLines (lines : List OrderLine) : Type 0 where
+  pub few : length lines ≤ most_lines
+  pub small : All (λ (l : OrderLine). l.quantity ≤ most_quantity) lines

@@ -1,0 +1,20 @@
+//! Sets that were judged and have no fault, as values of their own: a shipment advice (943), a shipping order (940) and
+//! a functional acknowledgment (997).
+#![tactic(auto)]
+
+mod acks;
+mod addresses;
+mod advices;
+mod lines;
+mod orders;
+mod reading;
+mod sets;
+
+pub use acks::{AckIn, ack};
+pub use advices::advice;
+pub use lines::{AdviceLine, Line, OrderLine};
+pub use orders::order;
+pub use sets::{Address, Advice, Order};
+
+#[cfg(test)]
+mod tests;

@@ -1,0 +1,96 @@
+ghost use Rattle.std.specs.Prelude.{◌≡◌, ◌≤◌, ◌<◌, ◌^◌, ◌-◌, IfOk, All, codes, map, length, option_map};
+ghost use Rattle.profile.specs.Cut.{segments_of, places_of, element};
+ghost use Rattle.profile.specs.Limits.{most_quantity};
+ghost use Rattle.profile.specs.Means as meant;
+ghost use Rattle.profile.specs.Words as kinds;
+ghost use Rattle.sets_in.specs.Amounts.{IsAmount, IsCounted, HaveAmounts};
+
+use crate::addresses::ship_to;
+use crate::lines::OrderLine;
+use crate::reading::{copied, element_at, element_with, number, place_with};
+use crate::sets::Order;
+use segments::Segment;
+use std::alloc::{AllocError, Global};
+use tables::Checked;
+
+// The segments of an order, with what is known of their numbers.
+fn ordered<'a>(set: &Checked<'a>) -> &'a [Segment<'a>]
+    requires { set.now.kind ≡ kinds.ShippingOrder }
+    ensures same { result.now ≡ set.now.pieces }
+    ensures short { length result.now < 2 ^ 32 - 1 }
+    ensures counted { IsCounted (codes "W01") (codes "W76") (segments_of result.now) }
+{
+    set.segments()
+}
+
+// The lot that the segment at the position pins to, if it is an N9.
+fn pin_at(
+    alloc: Global,
+    segments: &[Segment<'_>],
+    position: usize,
+) -> Result<Option<Vec<u8>>, AllocError>
+    ensures { IfOk result (λ p. option_map (λ v. v.items) p ≡ meant.pin_of (meant.segment_at (segments_of segments.now) position)) }
+{
+    match segments.get(position.saturating_sub(1)) {
+        Some(segment) if segment.has_id(b"N9") => Ok(Some(copied(alloc, segment.element(2))?)),
+        _ => Ok(None),
+    }
+}
+
+// The line whose W01 stands at the position.
+fn order_line(
+    alloc: Global,
+    segments: &[Segment<'_>],
+    position: u32,
+) -> Result<OrderLine, AllocError>
+    requires { IsAmount 5 (element (meant.segment_at (segments_of segments.now) position) 1) }
+    ensures line { IfOk result (λ l. l ≡ meant.order_line (segments_of segments.now) position) }
+    ensures small { IfOk result (λ l. l.quantity ≤ most_quantity) }
+{
+    let at = position as usize;
+    let item = copied(alloc, element_at(segments, at, 5))?;
+    let pin = pin_at(alloc, segments, at + 1)?;
+    let quantity = number(element_at(segments, at, 1));
+    Ok(OrderLine {
+        item,
+        pin,
+        quantity,
+        position,
+    })
+}
+
+// The lines of an order.
+fn order_lines(alloc: Global, segments: &[Segment<'_>]) -> Result<Vec<OrderLine>, AllocError>
+    requires short { length segments.now < 2 ^ 32 - 1 }
+    requires quantities { HaveAmounts (codes "W01") 1 5 (segments_of segments.now) }
+    ensures lines { IfOk result (λ v. v.items ≡ map (meant.order_line (segments_of segments.now)) (places_of (codes "W01") (segments_of segments.now))) }
+    ensures small { IfOk result (λ v. All (λ (l : meant.OrderLine). l.quantity ≤ most_quantity) v.items) }
+{
+    let mut lines = Vec::new(alloc);
+    for (index, segment) in segments.iter().enumerate() {
+        if !segment.has_id(b"W01") {
+            continue;
+        }
+        lines.push(order_line(alloc, segments, index as u32 + 1)?)?;
+    }
+    Ok(lines)
+}
+
+/// What an order that was judged says: its number, where it goes, its lines in order, and its total, with their
+/// positions. The one error is want of memory.
+pub fn order(alloc: Global, set: &Checked<'_>) -> Result<Order, AllocError>
+    requires { set.now.kind ≡ kinds.ShippingOrder }
+    ensures { IfOk result (λ o. o ≡ meant.order_of (segments_of set.now.pieces)) }
+{
+    let segments = ordered(set);
+    let number_text = copied(alloc, element_with(segments, b"W05", 2))?;
+    let address = ship_to(alloc, segments)?;
+    let lines = order_lines(alloc, segments)?;
+    Ok(Order {
+        number: number_text,
+        address,
+        lines,
+        total: number(element_with(segments, b"W76", 1)),
+        total_position: place_with(segments, b"W76"),
+    })
+}

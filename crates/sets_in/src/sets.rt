@@ -1,0 +1,164 @@
+ghost use Rattle.std.specs.Prelude.{◌≡◌, MatchOption, None};
+ghost use Rattle.profile.specs.Means as meant;
+ghost use Rattle.sets_in.specs.Limits.{HasFewLines, HasFewOrderLines};
+
+use crate::lines::{AdviceLine, OrderLine};
+use std::marker::Model;
+
+/// What a shipment advice (943) says.
+#[derive(Debug, Drop)]
+pub struct Advice {
+    pub(crate) shipment: Vec<u8>,
+    pub(crate) order: Vec<u8>,
+    pub(crate) lines: Vec<AdviceLine>,
+    pub(crate) total: u32,
+    pub(crate) total_position: u32,
+}
+
+impl Model for Advice {
+    ghost Value = { meant.Advice };
+
+    ghost view = { λ a. record { shipment = a.shipment.items; order = a.order.items; lines = a.lines.items; total = a.total; total_position = a.total_position } };
+
+    ghost invariant = { λ a. HasFewLines a.lines.items };
+}
+
+impl Advice {
+    /// The shipment number (W06, element 4).
+    pub fn shipment(&self) -> &[u8]
+        ensures { result.now ≡ self.now.shipment }
+    {
+        &self.shipment
+    }
+
+    /// The order number (W06, element 2).
+    pub fn order(&self) -> &[u8]
+        ensures { result.now ≡ self.now.order }
+    {
+        &self.order
+    }
+
+    /// The lines, in the order of their W04: at most 99, each of a quantity of at most 99,999.
+    pub fn lines(&self) -> &[AdviceLine]
+        ensures lines { result.now ≡ self.now.lines }
+        ensures few { HasFewLines self.now.lines }
+    {
+        &self.lines
+    }
+
+    /// The sum of the quantities as the set states it (W03, element 1), right or wrong.
+    pub fn total(&self) -> u32
+        ensures { result ≡ self.now.total }
+    {
+        self.total
+    }
+
+    /// The position of W03 in the set, ST at 1.
+    pub fn total_position(&self) -> u32
+        ensures { result ≡ self.now.total_position }
+    {
+        self.total_position
+    }
+}
+
+/// Where an order goes: the first N1 of its set with code ST, and the N3 and N4 that belong to it. A text that isn't
+/// there is empty.
+#[derive(Debug, Drop)]
+pub struct Address {
+    pub(crate) name: Vec<u8>,
+    pub(crate) one: Vec<u8>,
+    pub(crate) two: Vec<u8>,
+    pub(crate) place: Vec<u8>,
+}
+
+impl Model for Address {
+    ghost Value = { meant.Address };
+
+    ghost view = { λ a. record { name = a.name.items; one = a.one.items; two = a.two.items; place = a.place.items } };
+}
+
+impl Address {
+    /// The name (N102).
+    pub fn name(&self) -> &[u8]
+        ensures { result.now ≡ self.now.name }
+    {
+        &self.name
+    }
+
+    /// The first line of the street (N301).
+    pub fn one(&self) -> &[u8]
+        ensures { result.now ≡ self.now.one }
+    {
+        &self.one
+    }
+
+    /// The second line of the street (N302).
+    pub fn two(&self) -> &[u8]
+        ensures { result.now ≡ self.now.two }
+    {
+        &self.two
+    }
+
+    /// City, state and postal code (N401 to N403): those that aren't empty, with a space between each two.
+    pub fn place(&self) -> &[u8]
+        ensures { result.now ≡ self.now.place }
+    {
+        &self.place
+    }
+}
+
+/// What a shipping order (940) says.
+#[derive(Debug, Drop)]
+pub struct Order {
+    pub(crate) number: Vec<u8>,
+    pub(crate) address: Option<Address>,
+    pub(crate) lines: Vec<OrderLine>,
+    pub(crate) total: u32,
+    pub(crate) total_position: u32,
+}
+
+impl Model for Order {
+    ghost Value = { meant.Order };
+
+    ghost view = { λ o. record { number = o.number.items; address = o.address; lines = o.lines.items; total = o.total; total_position = o.total_position } };
+
+    ghost invariant = { λ o. HasFewOrderLines o.lines.items };
+}
+
+impl Order {
+    /// The order number (W05, element 2).
+    pub fn number(&self) -> &[u8]
+        ensures { result.now ≡ self.now.number }
+    {
+        &self.number
+    }
+
+    /// Where it goes; None where no N1 has the code ST.
+    pub fn address(&self) -> Option<&Address>
+        ensures { MatchOption result (self.now.address ≡ None) (λ a. self.now.address ≡ Some a.now) }
+    {
+        self.address.as_ref()
+    }
+
+    /// The lines, in the order of their W01: at most 99, each of a quantity of at most 99,999.
+    pub fn lines(&self) -> &[OrderLine]
+        ensures lines { result.now ≡ self.now.lines }
+        ensures few { HasFewOrderLines self.now.lines }
+    {
+        &self.lines
+    }
+
+    /// The sum of the quantities as the set states it (W76, element 1), right or wrong.
+    pub fn total(&self) -> u32
+        ensures { result ≡ self.now.total }
+    {
+        self.total
+    }
+
+    /// The position of W76 in the set, ST at 1.
+    pub fn total_position(&self) -> u32
+        ensures { result ≡ self.now.total_position }
+    {
+        self.total_position
+    }
+}

@@ -1,0 +1,7 @@
+pub mod Digits
+pub mod AppendsLaws
+pub mod IsaLaws
+pub mod Numbered
+pub mod InterchangeLaws
+pub mod TextLaws
+pub mod BodyLaws

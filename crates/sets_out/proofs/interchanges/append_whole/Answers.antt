@@ -1,0 +1,12 @@
+use Rattle.profile.specs.Texts.{receiver_of}
+use Rattle.sets_out.specs.Interchanges.{between, groups_for}
+use Rattle.sets_out.proofs.AppendsLaws.{appends_interchange}
+use Rattle.sets_out.proofs.interchanges.append_whole.Goals as goal
+
+pub returns-clause-ok : goal.returns-clause-ok
+returns-clause-ok c =
+    let a = c.args.answer.now in
+    let e = a.envelope in
+    appends_interchange a.delims _ _ _ _ e.warehouse (receiver_of e.depositor) e.moment e.number (groups_for a.told.now)
+    (between e.warehouse e.depositor e.moment e.number a.heading.now a.told.now) _ _ _
+    (rw c.filled.ensures at c.in_ok-append_isa.ensures.ok) c.in_ok-append_between.ensures.ok (rw c.groups.ensures at c.in_ok-append_iea.ensures.ok)

@@ -1,0 +1,5 @@
+pub mod Appends
+pub mod Headings
+pub mod Documents
+pub mod Handed
+pub mod Interchanges

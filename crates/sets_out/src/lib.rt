@@ -1,0 +1,29 @@
+//! Interchanges that go out: answers and documents, written byte for byte.
+#![tactic(auto)]
+
+mod acknowledgment;
+mod adjustments;
+mod documents;
+mod envelopes;
+mod headings;
+mod interchanges;
+pub mod laws;
+mod numbers;
+mod receipts;
+mod sheets;
+mod shipments;
+mod told;
+mod writing;
+
+pub use acknowledgment::write_997;
+pub use adjustments::write_947;
+pub use envelopes::Envelope;
+pub use headings::{Heading, write_ta1};
+pub use interchanges::{Answer, Interchange, Refusal, write_interchange};
+pub use receipts::write_944;
+pub use sheets::{AdjustedLine, Document, Line, PickedLot, Receipt, Shipment, ShippedLine};
+pub use shipments::write_945;
+pub use told::{ElementFault, Rejection, SetFault, Told, ToldSet};
+
+#[cfg(test)]
+mod tests;

@@ -1,0 +1,97 @@
+ghost use Rattle.profile.specs.Elements.{ElementFault as MeantElement};
+ghost use Rattle.profile.specs.Faults.{SetFault as MeantFault};
+ghost use Rattle.profile.specs.History.{Rejection as MeantRejection};
+ghost use Rattle.profile.specs.Texts.{ToldSet as MeantSet, Told as Meant};
+
+use std::marker::Model;
+
+/// The element in error of a segment, as AK4 tells it.
+#[derive(Clone, Copy)]
+pub struct ElementFault {
+    /// Its place in the segment, from 1: AK401.
+    pub place: usize,
+    /// What is wrong with it: AK403.
+    pub code: u8,
+}
+
+/// The segment in error of a set, as AK3 tells it.
+#[derive(Drop)]
+pub struct SetFault<'a> {
+    /// Its id: AK301.
+    pub id: &'a [u8],
+    /// Its position in the set, in which ST has 1: AK302.
+    pub position: usize,
+    /// What is wrong with it: AK304.
+    pub code: u8,
+    /// Its element in error, where it has one.
+    pub element: Option<ElementFault>,
+}
+
+impl Model for ElementFault {
+    ghost Value = { MeantElement };
+
+    ghost view = { λ f. record { place = f.place; code = f.code } };
+
+    ghost inverse = { λ f. record { place = f.place; code = f.code } };
+}
+
+impl<'a> Model for SetFault<'a> {
+    ghost Value = { MeantFault };
+
+    ghost view = { λ f. record { id = f.id.now; position = f.position; code = f.code; element = f.element } };
+}
+
+/// Why a set is rejected.
+#[derive(Drop)]
+pub struct Rejection<'a> {
+    /// AK502.
+    pub code: u8,
+    /// The segment in error, where the code is 5.
+    pub segment: Option<SetFault<'a>>,
+}
+
+impl<'a> Model for Rejection<'a> {
+    ghost Value = { MeantRejection };
+
+    ghost view = { λ r. record { code = r.code; segment = r.segment } };
+}
+
+/// What a 997 tells of a set.
+#[derive(Drop)]
+pub struct ToldSet<'a> {
+    /// Its kind, as its ST01 says it: AK201.
+    pub number: &'a [u8],
+    /// Its control number, ST02: AK202.
+    pub control: &'a [u8],
+    /// Why it is rejected, if it is.
+    pub rejection: Option<Rejection<'a>>,
+}
+
+impl<'a> Model for ToldSet<'a> {
+    ghost Value = { MeantSet };
+
+    ghost view = { λ s. record { number = s.number.now; control = s.control.now; rejection = s.rejection } };
+}
+
+/// What a 997 tells of a group.
+#[derive(Drop)]
+pub struct Told<'a> {
+    /// GS01: AK101.
+    pub function: &'a [u8],
+    /// GS06: AK102.
+    pub number: &'a [u8],
+    /// The sets that GE01 states, or those received where there is no GE: AK902.
+    pub stated: u32,
+    /// The sets that were received: AK903.
+    pub received: usize,
+    /// The group's own fault, if it has one: AK905.
+    pub fault: Option<u8>,
+    /// The sets; none where the group has a fault.
+    pub sets: &'a [ToldSet<'a>],
+}
+
+impl<'a> Model for Told<'a> {
+    ghost Value = { Meant };
+
+    ghost view = { λ t. record { function = t.function.now; number = t.number.now; stated = t.stated; received = t.received; fault = t.fault; sets = t.sets.now } };
+}

@@ -1,0 +1,15 @@
+use Rattle.std.proofs.Common.{[], refl, sym, ◌∙◌, ap}
+use Rattle.profile.specs.Cut.{segments_of}
+use Rattle.profile.specs.Words.{Words, kind_words}
+use Rattle.profile.specs.Faults.{fault_from}
+use Rattle.profile.proofs.FaultsLaws.{set_fault-from}
+use Rattle.tables.specs.Kinds.{kind_of}
+use Rattle.tables.proofs.checked.first_fault.Goals as goal
+
+pub loop-index-init : goal.loop-index-init
+loop-index-init c = (
+  [],
+  refl,
+  set_fault-from c.args.delims.now (kind_words (kind_of c.args.kind)) (segments_of c.args.segments.now)
+      ∙ ap (λ (w : Words). fault_from c.args.delims.now (kind_words (kind_of c.args.kind)) w [] 1 (segments_of c.args.segments.now)) (sym c.begin.ensures),
+)

@@ -1,0 +1,36 @@
+-- Faults as the program tells them, and a set that has none.
+use Rattle.std.specs.Prelude.{◌≡◌, ◌-◌, ◌<◌, ◌^◌, List, codes, length, IsTrue, None, Option, option_map}
+use Rattle.profile.specs.Cut.{Piece, segments_of, last_segment, has_id}
+use Rattle.profile.specs.Faults as meant
+use Rattle.profile.specs.Bytes.{Delims}
+use Rattle.profile.specs.Faults.{IsFaultOf, set_fault}
+use Rattle.profile.specs.Words.{SetKind, kind_words}
+use Rattle.elements.specs.Told.{told_element}
+use Rattle.tables.specs.declared.faults.SetFault.{SetFault}
+
+abbrev pub told : SetFault → meant.SetFault
+told f = record {
+  id = f.segment.now;
+  position = f.position;
+  code = f.code;
+  element = option_map told_element f.element;
+}
+
+-- SE stands last
+abbrev pub IsClosed : List Piece → Type 0
+IsClosed ps = IsTrue (has_id (codes "SE") (last_segment (segments_of ps)))
+
+-- the segments of a set, and its kind
+pub record Whole : Type 0 where
+  pub kind : SetKind
+  pub pieces : List Piece
+
+-- the fault by some delimiters, which are those of the segments where all have the same
+abbrev pub IsJudged : SetKind → List Piece → Option meant.SetFault → Type 0
+IsJudged kind ps f = (d : Delims) × (set_fault d (kind_words kind) (segments_of ps) ≡ f) × IsFaultOf kind ps f
+
+-- a set that ends with SE and has no fault
+pub record IsSound (w : Whole) : Type 0 where
+  pub few : length w.pieces < 2 ^ 32 - 1
+  pub closed : IsClosed w.pieces
+  pub judged : IsJudged w.kind w.pieces None

@@ -1,0 +1,47 @@
+-- What may still come at each stage of a 940.
+use Rattle.std.specs.Prelude.{codes}
+use Rattle.profile.specs.Words.{Words, One, Times, Then, Empty, words_940, times_words, optional}
+use Rattle.profile.specs.Limits.{most_lines}
+use Rattle.tables.specs.Languages.{some_of}
+use Rattle.tables.specs.declared.order.Stage.{Stage}
+use Rattle.tables.specs.declared.order.Stage.TheVariants.{Begin, Head, Parties, Named, Streeted, References, Dates, Numbered, Goods, Pinned, Total, End}
+
+-- the address of a party
+abbrev pub address : Words
+address = Then (optional (One (codes "N3"))) (optional (One (codes "N4")))
+
+abbrev pub party : Words
+party = Then (One (codes "N1")) address
+
+-- the goods of a line, and the lot that it may be pinned to
+abbrev pub goods : Words
+goods = Then (One (codes "W01")) (optional (One (codes "N9")))
+
+abbrev pub line : Words
+line = Then (One (codes "LX")) goods
+
+abbrev pub total : Words
+total = Then (One (codes "W76")) (One (codes "SE"))
+
+abbrev pub lines : Words
+lines = Then (Times 1 most_lines line) total
+
+abbrev pub dates : Words
+dates = Then (Times 0 2 (One (codes "G62"))) lines
+
+abbrev pub references : Words
+references = Then (Times 0 5 (One (codes "N9"))) dates
+
+abbrev pub rest_of : Stage → Words
+rest_of Begin = words_940
+rest_of Head = Then (One (codes "W05")) (Then (Times 0 5 party) references)
+rest_of (Parties left) = some_of left party references
+rest_of (Named left) = Then (Then address (times_words 0 left party)) references
+rest_of (Streeted left) = Then (Then (optional (One (codes "N4"))) (times_words 0 left party)) references
+rest_of (References left) = some_of left (One (codes "N9")) dates
+rest_of (Dates left) = some_of left (One (codes "G62")) lines
+rest_of (Numbered left) = Then (Then goods (times_words 0 left line)) total
+rest_of (Goods left) = Then (Then (optional (One (codes "N9"))) (times_words 0 left line)) total
+rest_of (Pinned left) = some_of left line total
+rest_of Total = One (codes "SE")
+rest_of End = Empty

@@ -1,0 +1,103 @@
+ghost use Rattle.std.specs.Prelude.{◌≡◌, ◌<◌, ◌^◌, ◌-◌, codes, Some, None, MatchResult, length, option_map};
+ghost use Rattle.profile.specs.Cut.{segments_of, last_segment, has_id};
+ghost use Rattle.profile.specs.Words.{kind_words};
+ghost use Rattle.profile.specs.Faults.{IsFaultOf, set_fault};
+ghost use Rattle.tables.specs.Kinds.{kind_of};
+ghost use Rattle.tables.specs.Judged.{told, IsClosed, IsJudged, IsSound, Whole};
+
+use crate::faults::{Progress, SetFault, step};
+use crate::kinds::SetKind;
+use crate::stages::Stage;
+use segments::{Delims, Segment};
+use std::marker::Model;
+
+/// A set without a fault: its kind, and its segments from ST to SE.
+#[derive(Drop)]
+pub struct Checked<'a> {
+    kind: SetKind,
+    segments: &'a [Segment<'a>],
+}
+
+impl<'a> Model for Checked<'a> {
+    ghost Value = { Whole };
+
+    ghost view = { λ c. record { kind = kind_of c.kind; pieces = c.segments.now } };
+
+    ghost invariant = { λ c. IsSound (record { kind = kind_of c.kind; pieces = c.segments.now }) };
+}
+
+impl<'a> Checked<'a> {
+    /// The kind of the set.
+    pub fn kind(&self) -> SetKind
+        ensures { kind_of result ≡ self.now.kind }
+    {
+        self.kind
+    }
+
+    /// The segments of the set, ST first and SE last; none of them has a fault.
+    pub fn segments(&self) -> &'a [Segment<'a>]
+        ensures same { result.now ≡ self.now.pieces }
+        ensures sound { IsSound self.now }
+    {
+        self.segments
+    }
+}
+
+/// Whether SE stands last: what `judge` wants.
+pub fn is_closed(segments: &[Segment<'_>]) -> bool
+    ensures { result ≡ has_id (codes "SE") (last_segment (segments_of segments.now)) }
+{
+    match segments.last() {
+        Some(last) => last.has_id(b"SE"),
+        None => false,
+    }
+}
+
+// The first fault, by these delimiters.
+fn first_fault<'a>(
+    delims: &Delims,
+    kind: SetKind,
+    segments: &'a [Segment<'a>],
+) -> Option<SetFault<'a>>
+    requires { length segments.now < 2 ^ 32 - 1 }
+    ensures { option_map told result ≡ set_fault delims.now (kind_words (kind_of kind)) (segments_of segments.now) }
+{
+    let mut progress = Progress {
+        stage: Stage::begin(kind),
+        behind_goods: false,
+    };
+    for (index, segment) in segments.iter().enumerate() {
+        match step(delims, kind, progress, index as u32 + 1, segment) {
+            Ok(next) => progress = next,
+            Err(fault) => return Some(fault),
+        }
+    }
+    None
+}
+
+// The first fault, by the delimiters that the segments have.
+fn fault_of<'a>(kind: SetKind, segments: &'a [Segment<'a>]) -> Option<SetFault<'a>>
+    requires { length segments.now < 2 ^ 32 - 1 }
+    ensures { IsJudged (kind_of kind) segments.now (option_map told result) }
+{
+    match segments.first() {
+        Some(first) => first_fault(&first.delims(), kind, segments),
+        None => None,
+    }
+}
+
+/// Judges a set, whose segments were cut from one text and of which SE stands last: the set where no segment has a
+/// fault, else the fault of the first segment with one. A segment has a fault where it may not stand behind those before
+/// it, or where an element of it is faulty.
+pub fn judge<'a>(kind: SetKind, segments: &'a [Segment<'a>]) -> Result<Checked<'a>, SetFault<'a>>
+    requires few { length segments.now < 2 ^ 32 - 1 }
+    requires closed { IsClosed segments.now }
+    ensures { MatchResult result
+        (λ c. (c.kind ≡ kind_of kind) × (c.pieces ≡ segments.now) × IsFaultOf (kind_of kind) segments.now None)
+        (λ f. IsFaultOf (kind_of kind) segments.now (Some (told f))) }
+{
+    match fault_of(kind, segments) {
+        Some(fault) => Err(fault),
+        None => Ok(Checked { kind, segments }),
+    }
+}

@@ -1,0 +1,141 @@
+ghost use Rattle.std.specs.Prelude.{◌≡◌, ◌<◌, ℕ, List, true, false, MatchResult, Some, None, length, map, option_map};
+ghost use Rattle.profile.specs.Cut.{id_of};
+ghost use Rattle.profile.specs.Elements as elements_meant;
+ghost use Rattle.profile.specs.Words.{words_after, kind_words};
+ghost use Rattle.profile.specs.Faults as meant;
+ghost use Rattle.elements.specs.Rows.{row_of};
+ghost use Rattle.elements.specs.Told.{told_element};
+ghost use Rattle.tables.specs.Ids.{text_of};
+ghost use Rattle.tables.specs.Kinds.{kind_of};
+ghost use Rattle.tables.specs.Rows.{is_goods};
+ghost use Rattle.tables.specs.Stages.{rest_of};
+ghost use Rattle.tables.specs.Judged.{told};
+
+use crate::ids::Id;
+use crate::kinds::SetKind;
+use crate::rows::rows_of;
+use crate::stages::{Stage, misplaced};
+use elements::{Row, faulty_element};
+use segments::{Delims, Segment};
+
+/// A segment in error of a set, as AK3 and AK4 tell it.
+#[derive(Drop)]
+pub struct SetFault<'a> {
+    /// The id of the segment (AK301); where SE comes too early, of the segment that the set wants in its place.
+    pub segment: &'a [u8],
+    /// Its position in the set, ST at 1 (AK302).
+    pub position: u32,
+    /// What is wrong with it (AK304): 1 its id is in no set that is read, 2 it may not stand here, 3 the set is not
+    /// complete, 6 its id is only in sets of other kinds, 8 an element is faulty.
+    pub code: u8,
+    /// The element in error: its place in the segment, from 1 (AK401), and its code (AK403).
+    pub element: Option<(u32, u8)>,
+}
+
+/// How far a set has come.
+#[derive(Clone, Copy)]
+pub(crate) struct Progress {
+    pub(crate) stage: Stage,
+    // whether the segment before is a W04 or a W01
+    pub(crate) behind_goods: bool,
+}
+
+// The least faulty element of a segment by its rows.
+fn element_in_error(delims: &Delims, rows: &[Row], segment: &Segment<'_>) -> Option<(u32, u8)>
+    requires { length rows.now < 100 }
+    ensures { option_map told_element result ≡ elements_meant.faulty_element delims.now (map row_of rows.now) segment.now.elements }
+{
+    let (place, code) = faulty_element(delims, rows, segment)?;
+    Some((place as u32, code))
+}
+
+// The fault of a segment that stands where it may.
+fn inner_fault<'a>(
+    delims: &Delims,
+    id: Id,
+    behind_goods: bool,
+    position: u32,
+    segment: &Segment<'a>,
+) -> Option<SetFault<'a>>
+    requires { id_of segment.now.elements ≡ text_of id }
+    ensures { (behind : List ℕ) → behind_goods ≡ is_goods behind → option_map told result ≡ meant.inner_fault delims.now behind position segment.now.elements }
+{
+    let rows = rows_of(id, behind_goods)?;
+    let element = element_in_error(delims, rows, segment)?;
+    Some(SetFault {
+        segment: segment.element(0),
+        position,
+        code: 8,
+        element: Some(element),
+    })
+}
+
+// The fault of a segment with this id where it may not stand.
+fn place_fault<'a>(
+    kind: SetKind,
+    stage: Stage,
+    id: Id,
+    position: u32,
+    segment: &Segment<'a>,
+) -> SetFault<'a>
+    requires { id_of segment.now.elements ≡ text_of id }
+    ensures { told result ≡ meant.place_fault (kind_words (kind_of kind)) (rest_of stage) position (id_of segment.now.elements) }
+{
+    let wanted = match id {
+        Id::Se => stage.wanted(),
+        _ => segment.element(0),
+    };
+    SetFault {
+        segment: wanted,
+        position,
+        code: misplaced(kind, id),
+        element: None,
+    }
+}
+
+// The fault of a segment with an id that is in no set.
+fn unknown_fault<'a>(position: u32, segment: &Segment<'a>) -> SetFault<'a>
+    ensures { told result ≡ record { id = id_of segment.now.elements; position = position; code = 1; element = None } }
+{
+    SetFault {
+        segment: segment.element(0),
+        position,
+        code: 1,
+        element: None,
+    }
+}
+
+fn is_goods_id(id: Id) -> bool
+    ensures { result ≡ is_goods (text_of id) }
+{
+    matches!(id, Id::W04 | Id::W01)
+}
+
+/// One segment more, at a position: how far the set has come with it, or its fault.
+pub(crate) fn step<'a>(
+    delims: &Delims,
+    kind: SetKind,
+    progress: Progress,
+    position: u32,
+    segment: &Segment<'a>,
+) -> Result<Progress, SetFault<'a>>
+    ensures { (behind : List ℕ) → progress.behind_goods ≡ is_goods behind → MatchResult result
+        (λ p. (meant.fault_at delims.now (kind_words (kind_of kind)) (rest_of progress.stage) behind position segment.now.elements ≡ None)
+        × (words_after (id_of segment.now.elements) (rest_of progress.stage) ≡ rest_of p.stage)
+        × (p.behind_goods ≡ is_goods (id_of segment.now.elements)))
+        (λ f. meant.fault_at delims.now (kind_words (kind_of kind)) (rest_of progress.stage) behind position segment.now.elements ≡ Some (told f)) }
+{
+    let Some(id) = Id::read(segment.element(0)) else {
+        return Err(unknown_fault(position, segment));
+    };
+    let Some(stage) = progress.stage.next(id) else {
+        return Err(place_fault(kind, progress.stage, id, position, segment));
+    };
+    match inner_fault(delims, id, progress.behind_goods, position, segment) {
+        Some(fault) => Err(fault),
+        None => Ok(Progress {
+            stage,
+            behind_goods: is_goods_id(id),
+        }),
+    }
+}

@@ -1,0 +1,186 @@
+ghost use Rattle.std.specs.Prelude.{◌≡◌, option_map};
+ghost use Rattle.profile.specs.Words.{words_after};
+ghost use Rattle.profile.specs.Faults.{wanted_id};
+ghost use Rattle.tables.specs.Ids.{text_of};
+ghost use Rattle.tables.specs.Languages.{found};
+ghost use Rattle.tables.specs.Order.{rest_of};
+
+use crate::ids::{Id, MOST_LINES};
+
+/// How far a 940 has come.
+#[derive(Clone, Copy)]
+pub(crate) enum Stage {
+    Begin,
+    Head,
+    // with how many more parties, N9, G62 or lines may come
+    Parties(u8),
+    // behind N1, and behind its N3
+    Named(u8),
+    Streeted(u8),
+    References(u8),
+    Dates(u8),
+    // behind LX, behind its W01, and behind the N9 of that
+    Numbered(u8),
+    Goods(u8),
+    Pinned(u8),
+    Total,
+    End,
+}
+
+impl Stage {
+    /// The stage behind one more segment; None where that may not stand there.
+    pub(crate) fn next(self, id: Id) -> Option<Stage>
+        ensures { option_map rest_of result ≡ found (words_after (text_of id) (rest_of self)) }
+    {
+        match self {
+            Stage::Begin => behind_begin(id),
+            Stage::Head => behind_head(id),
+            Stage::Parties(left) => behind_party(left, id),
+            Stage::Named(left) => behind_name(left, id),
+            Stage::Streeted(left) => behind_street(left, id),
+            Stage::References(left) => behind_reference(left, id),
+            Stage::Dates(left) => behind_date(left, id),
+            Stage::Numbered(left) => behind_number(left, id),
+            Stage::Goods(left) => behind_goods(left, id),
+            Stage::Pinned(left) => behind_pin(left, id),
+            Stage::Total => behind_total(id),
+            Stage::End => None,
+        }
+    }
+
+    /// The id that the set wants first, on the shortest way to its end; empty at the end.
+    pub(crate) fn wanted(self) -> &'static [u8]
+        ensures { result.now ≡ wanted_id (rest_of self) }
+    {
+        match self {
+            Stage::Begin => b"ST",
+            Stage::Head => b"W05",
+            Stage::Parties(_)
+            | Stage::Named(_)
+            | Stage::Streeted(_)
+            | Stage::References(_)
+            | Stage::Dates(_) => b"LX",
+            Stage::Numbered(_) => b"W01",
+            Stage::Goods(_) | Stage::Pinned(_) => b"W76",
+            Stage::Total => b"SE",
+            Stage::End => b"",
+        }
+    }
+}
+
+fn behind_begin(id: Id) -> Option<Stage>
+    ensures { option_map rest_of result ≡ found (words_after (text_of id) (rest_of Stage.Begin)) }
+{
+    match id {
+        Id::St => Some(Stage::Head),
+        _ => None,
+    }
+}
+
+fn behind_head(id: Id) -> Option<Stage>
+    ensures { option_map rest_of result ≡ found (words_after (text_of id) (rest_of Stage.Head)) }
+{
+    match id {
+        Id::W05 => Some(Stage::Parties(5)),
+        _ => None,
+    }
+}
+
+fn behind_party(left: u8, id: Id) -> Option<Stage>
+    ensures { option_map rest_of result ≡ found (words_after (text_of id) (rest_of (Stage.Parties left))) }
+{
+    match id {
+        Id::N1 if left > 0 => Some(Stage::Named(left - 1)),
+        Id::N9 => Some(Stage::References(4)),
+        Id::G62 => Some(Stage::Dates(1)),
+        Id::Lx => Some(Stage::Numbered(MOST_LINES - 1)),
+        _ => None,
+    }
+}
+
+fn behind_name(left: u8, id: Id) -> Option<Stage>
+    ensures { option_map rest_of result ≡ found (words_after (text_of id) (rest_of (Stage.Named left))) }
+{
+    match id {
+        Id::N3 => Some(Stage::Streeted(left)),
+        Id::N4 => Some(Stage::Parties(left)),
+        Id::N1 if left > 0 => Some(Stage::Named(left - 1)),
+        Id::N9 => Some(Stage::References(4)),
+        Id::G62 => Some(Stage::Dates(1)),
+        Id::Lx => Some(Stage::Numbered(MOST_LINES - 1)),
+        _ => None,
+    }
+}
+
+fn behind_street(left: u8, id: Id) -> Option<Stage>
+    ensures { option_map rest_of result ≡ found (words_after (text_of id) (rest_of (Stage.Streeted left))) }
+{
+    match id {
+        Id::N4 => Some(Stage::Parties(left)),
+        Id::N1 if left > 0 => Some(Stage::Named(left - 1)),
+        Id::N9 => Some(Stage::References(4)),
+        Id::G62 => Some(Stage::Dates(1)),
+        Id::Lx => Some(Stage::Numbered(MOST_LINES - 1)),
+        _ => None,
+    }
+}
+
+fn behind_reference(left: u8, id: Id) -> Option<Stage>
+    ensures { option_map rest_of result ≡ found (words_after (text_of id) (rest_of (Stage.References left))) }
+{
+    match id {
+        Id::N9 if left > 0 => Some(Stage::References(left - 1)),
+        Id::G62 => Some(Stage::Dates(1)),
+        Id::Lx => Some(Stage::Numbered(MOST_LINES - 1)),
+        _ => None,
+    }
+}
+
+fn behind_date(left: u8, id: Id) -> Option<Stage>
+    ensures { option_map rest_of result ≡ found (words_after (text_of id) (rest_of (Stage.Dates left))) }
+{
+    match id {
+        Id::G62 if left > 0 => Some(Stage::Dates(left - 1)),
+        Id::Lx => Some(Stage::Numbered(MOST_LINES - 1)),
+        _ => None,
+    }
+}
+
+fn behind_number(left: u8, id: Id) -> Option<Stage>
+    ensures { option_map rest_of result ≡ found (words_after (text_of id) (rest_of (Stage.Numbered left))) }
+{
+    match id {
+        Id::W01 => Some(Stage::Goods(left)),
+        _ => None,
+    }
+}
+
+fn behind_goods(left: u8, id: Id) -> Option<Stage>
+    ensures { option_map rest_of result ≡ found (words_after (text_of id) (rest_of (Stage.Goods left))) }
+{
+    match id {
+        Id::N9 => Some(Stage::Pinned(left)),
+        Id::Lx if left > 0 => Some(Stage::Numbered(left - 1)),
+        Id::W76 => Some(Stage::Total),
+        _ => None,
+    }
+}
+
+fn behind_pin(left: u8, id: Id) -> Option<Stage>
+    ensures { option_map rest_of result ≡ found (words_after (text_of id) (rest_of (Stage.Pinned left))) }
+{
+    match id {
+        Id::Lx if left > 0 => Some(Stage::Numbered(left - 1)),
+        Id::W76 => Some(Stage::Total),
+        _ => None,
+    }
+}
+
+fn behind_total(id: Id) -> Option<Stage>
+    ensures { option_map rest_of result ≡ found (words_after (text_of id) (rest_of Stage.Total)) }
+{
+    match id {
+        Id::Se => Some(Stage::End),
+        _ => None,
+    }
+}

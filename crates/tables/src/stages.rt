@@ -1,0 +1,97 @@
+ghost use Rattle.std.specs.Prelude.{◌≡◌, option_map};
+ghost use Rattle.profile.specs.Words.{words_after, kind_words, mentions};
+ghost use Rattle.profile.specs.Faults.{wanted_id, place_code};
+ghost use Rattle.tables.specs.Ids.{text_of};
+ghost use Rattle.tables.specs.Kinds.{kind_of};
+ghost use Rattle.tables.specs.Languages.{found};
+ghost use Rattle.tables.specs.Stages.{rest_of, kind_at};
+
+use crate::ids::Id;
+use crate::kinds::SetKind;
+use crate::{acknowledgment, advice, order};
+
+/// How far a set of one of the kinds has come.
+#[derive(Clone, Copy)]
+pub(crate) enum Stage {
+    Advice(advice::Stage),
+    Order(order::Stage),
+    Acknowledgment(acknowledgment::Stage),
+}
+
+impl Stage {
+    /// The stage before any segment.
+    pub(crate) fn begin(kind: SetKind) -> Stage
+        ensures { rest_of result ≡ kind_words (kind_of kind) }
+    {
+        match kind {
+            SetKind::ShippingOrder => Stage::Order(order::Stage::Begin),
+            SetKind::ShipmentAdvice => Stage::Advice(advice::Stage::Begin),
+            SetKind::FunctionalAcknowledgment => {
+                Stage::Acknowledgment(acknowledgment::Stage::Begin)
+            }
+        }
+    }
+
+    /// The stage behind one more segment; None where that may not stand there.
+    pub(crate) fn next(self, id: Id) -> Option<Stage>
+        ensures { option_map rest_of result ≡ found (words_after (text_of id) (rest_of self)) }
+    {
+        match self {
+            Stage::Advice(stage) => stage.next(id).map(Stage::Advice),
+            Stage::Order(stage) => stage.next(id).map(Stage::Order),
+            Stage::Acknowledgment(stage) => stage.next(id).map(Stage::Acknowledgment),
+        }
+    }
+
+    /// The id that the set wants first, on the shortest way to its end; empty at the end.
+    pub(crate) fn wanted(self) -> &'static [u8]
+        ensures { result.now ≡ wanted_id (rest_of self) }
+    {
+        match self {
+            Stage::Advice(stage) => stage.wanted(),
+            Stage::Order(stage) => stage.wanted(),
+            Stage::Acknowledgment(stage) => stage.wanted(),
+        }
+    }
+}
+
+// Whether sets of the kind have segments with the id.
+fn has(kind: SetKind, id: Id) -> bool
+    ensures { result ≡ mentions (text_of id) (kind_words (kind_of kind)) }
+{
+    match kind {
+        SetKind::ShippingOrder => matches!(
+            id,
+            Id::St
+                | Id::W05
+                | Id::N1
+                | Id::N3
+                | Id::N4
+                | Id::N9
+                | Id::G62
+                | Id::Lx
+                | Id::W01
+                | Id::W76
+                | Id::Se
+        ),
+        SetKind::ShipmentAdvice => matches!(
+            id,
+            Id::St | Id::W06 | Id::N1 | Id::N9 | Id::G62 | Id::W04 | Id::W03 | Id::Se
+        ),
+        SetKind::FunctionalAcknowledgment => matches!(
+            id,
+            Id::St | Id::Ak1 | Id::Ak2 | Id::Ak3 | Id::Ak4 | Id::Ak5 | Id::Ak9 | Id::Se
+        ),
+    }
+}
+
+/// The code of a segment out of place (AK304): 3 where it is SE, 6 where only sets of other kinds have it, else 2.
+pub(crate) fn misplaced(kind: SetKind, id: Id) -> u8
+    ensures { result ≡ place_code (kind_words (kind_of kind)) (text_of id) }
+{
+    match id {
+        Id::Se => 3,
+        _ if has(kind, id) => 2,
+        _ => 6,
+    }
+}

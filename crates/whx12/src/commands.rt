@@ -1,0 +1,33 @@
+use std::io;
+use std::rt::{Clock, Files};
+
+use crate::script::run_script;
+use crate::told::{Status, Stop, tell_stop};
+use crate::words::{Place, Words, line};
+
+// Runs one line of words.
+fn run_line<R: Files + Clock + AllocGlobal, W: io::Write, E: io::Write>(
+    rt: &R,
+    words: &[&str],
+    out: &mut W,
+    err: &mut E,
+) -> Result<Status, Stop> {
+    match line(rt.alloc(), Place::Program, words)? {
+        Words::Script { file } => run_script(rt, file, out, err),
+        _ => Ok(Status::Usage),
+    }
+}
+
+/// Runs one line of words, without the program's name: its output goes to `out`, its refusals and faults to `err`. The exit
+/// status is 0 where all was done, 1 where something was refused, 2 where the words can't be read, 3 at a fault.
+pub fn command<R: Files + Clock + AllocGlobal, W: io::Write, E: io::Write>(
+    rt: &R,
+    words: &[&str],
+    out: &mut W,
+    err: &mut E,
+) -> u8 {
+    match run_line(rt, words, out, err) {
+        Ok(status) => status.code(),
+        Err(stop) => tell_stop(err, &stop).code(),
+    }
+}

@@ -1,0 +1,118 @@
+use std::alloc::AllocError;
+use std::io;
+use store::{Fault, Refusal};
+
+use crate::words::LineFault;
+
+/// How a command, or a whole script, ended.
+#[derive(Clone, Copy, Debug, PartialEq, Eq)]
+pub enum Status {
+    /// All was done.
+    Done,
+    /// Something was refused.
+    Refused,
+    /// The words couldn't be read.
+    Usage,
+    /// A fault stopped it.
+    Fault,
+}
+
+impl Status {
+    /// The exit status.
+    pub fn code(self) -> u8 {
+        match self {
+            Status::Done => 0,
+            Status::Refused => 1,
+            Status::Usage => 2,
+            Status::Fault => 3,
+        }
+    }
+
+    /// The status of what ended so, and then so.
+    pub fn and(self, next: Status) -> Status {
+        if next == Status::Done { self } else { next }
+    }
+}
+
+/// What stops a command, and a script with it.
+#[derive(Drop)]
+pub enum Stop {
+    /// Words that can't be read, with the text to show.
+    Usage(String),
+    /// A fault.
+    Fault(Fault),
+}
+
+impl From<AllocError> for Stop {
+    fn from(_error: AllocError) -> Stop {
+        Stop::Fault(Fault::OutOfMemory)
+    }
+}
+
+impl From<Fault> for Stop {
+    fn from(fault: Fault) -> Stop {
+        Stop::Fault(fault)
+    }
+}
+
+impl From<LineFault> for Stop {
+    fn from(fault: LineFault) -> Stop {
+        match fault {
+            LineFault::Usage(text) => Stop::Usage(text),
+            LineFault::OutOfMemory => Stop::Fault(Fault::OutOfMemory),
+        }
+    }
+}
+
+impl From<io::Error> for Stop {
+    fn from(error: io::Error) -> Stop {
+        if error.kind() == io::ErrorKind::OutOfMemory {
+            Stop::Fault(Fault::OutOfMemory)
+        } else {
+            Stop::Fault(Fault::Device)
+        }
+    }
+}
+
+/// Writes a text that goes out and LF, where there is one.
+pub fn tell_text<W: io::Write>(out: &mut W, text: &[u8]) -> Result<(), Stop> {
+    if !text.is_empty() {
+        out.write_all(text)?;
+        out.write_all(b"\n")?;
+    }
+    Ok(())
+}
+
+/// Tells a refusal on standard error, as `refused 35 AlreadyEnrolled`.
+pub fn tell_refusal<E: io::Write>(err: &mut E, refusal: Refusal) -> Result<Status, Stop> {
+    let (number, name) = (refusal.number(), refusal.name());
+    write!(err, "refused {number} {name}\n")?;
+    Ok(Status::Refused)
+}
+
+// What of a stop can be told.
+fn told<E: io::Write>(err: &mut E, stop: &Stop) -> io::Result<()> {
+    match stop {
+        Stop::Usage(text) => {
+            let text = text.as_str();
+            write!(err, "{text}")
+        }
+        Stop::Fault(fault) => {
+            let (number, name) = (fault.number(), fault.name());
+            write!(err, "fault {number} {name}\n")
+        }
+    }
+}
+
+/// Tells what stopped a command on standard error: a fault as `fault 44 Device`. Where standard error fails too, the status
+/// alone tells it.
+pub fn tell_stop<E: io::Write>(err: &mut E, stop: &Stop) -> Status {
+    let status = match stop {
+        Stop::Usage(_) => Status::Usage,
+        Stop::Fault(_) => Status::Fault,
+    };
+    match told(err, stop) {
+        Ok(()) => status,
+        Err(_) => status,
+    }
+}
