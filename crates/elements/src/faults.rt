@@ -35,10 +35,7 @@ const ST: &[Row] = &[
     must!(Kind::Alphanumeric, 4, 9),
 ];
 
-const SE: &[Row] = &[
-    must!(Kind::Digits, 1, 10),
-    must!(Kind::Alphanumeric, 4, 9),
-];
+const SE: &[Row] = &[must!(Kind::Digits, 1, 10), must!(Kind::Alphanumeric, 4, 9)];
 
 const IEA: &[Row] = &[must!(Kind::Digits, 1, 5), must!(Kind::Digits, 9, 9)];
 

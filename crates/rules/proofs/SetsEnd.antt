@@ -26,7 +26,7 @@ upto_ends h (x ∷ xs) t = by_test (ends x) refl (upto_ends x xs)
     by_test false e more =
         let n : 1 + position_or_len ends xs + 1 ≡ suc (position_or_len ends xs + 1) = omega arith in
         let later : upto h (x ∷ xs) ≡ h ∷ upto x xs =
-            ap (λ (b : Bool). h ∷ take (cond (not b) (1 + position_or_len ends xs) 0 + 1) (x ∷ xs)) e ∙ ap (λ k. h ∷ take k (x ∷ xs)) n in
+        ap (λ (b : Bool). h ∷ take (cond (not b) (1 + position_or_len ends xs) 0 + 1) (x ∷ xs)) e ∙ ap (λ k. h ∷ take k (x ∷ xs)) n in
         let left : list_any ends xs ≡ true = ap (λ (b : Bool). b || list_any ends xs) (sym e) ∙ t in
         ap (λ (ss : List Segment). ends (last_segment ss)) later ∙ ap ends (last_behind h x (take (position_or_len ends xs + 1) xs)) ∙ more left
 

@@ -49,12 +49,7 @@ fn enrolment(alloc: Global, who: Who, moment: Moment) -> Result<Entry, AllocErro
 }
 
 // The decision on an enrolment.
-fn enrol(
-    alloc: Global,
-    is_enrolled: bool,
-    who: Who,
-    moment: Moment,
-) -> Result<Decision, AllocError>
+fn enrol(alloc: Global, is_enrolled: bool, who: Who, moment: Moment) -> Result<Decision, AllocError>
     ensures { IfOk result (IsEnrolment is_enrolled who moment) }
 {
     if is_enrolled {

@@ -5,7 +5,9 @@ use crate::house::Warehouse;
 use envelope::{Group, Halt, Interchange, Isa, Set, header_note, isa, structure};
 use segments::{Moment, Segment, Who};
 use sets_in::{Advice, advice};
-use sets_out::{Answer, Envelope, Heading, Interchange as Outgoing, Told, ToldSet, write_interchange};
+use sets_out::{
+    Answer, Envelope, Heading, Interchange as Outgoing, Told, ToldSet, write_interchange,
+};
 use std::alloc::{AllocError, Global};
 use stock::{Change, Page, Stop, announce};
 use tables::{Checked, SetKind, is_closed, judge};

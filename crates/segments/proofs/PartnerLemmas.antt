@@ -60,6 +60,6 @@ filled_partner q id new two all ident written =
     let f = filled (length id) new short (ap length written) in
     let front : take (length id) (new ++ drop (length id) (replicate 15 32)) ≡ id = rw written (take-append_seam id (drop (length id) (replicate 15 32))) in
     let same : pair_of q id ≡ pair_of (get_or q 0 0 ∷ get_or q 1 0 ∷ []) (take (length id) (new ++ drop (length id) (replicate 15 32))) =
-        partner_eq (sym (two_bytes q two)) (sym front) in
+    partner_eq (sym (two_bytes q two)) (sym front) in
     let whole : is_partner (pair_of q id) ≡ true = rw (two, all) ident in
     (short, f.1, f.2, subst (λ (w : Who). IsTrue (is_partner w)) same whole)

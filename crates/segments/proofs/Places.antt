@@ -42,6 +42,7 @@ spelled_first d text i e = by_parts (cond_some (nat_lt (position_or_len ends tex
   where
     ends : ℕ → Bool
     ends b = b == d.terminator
+
     by_parts : (nat_lt (position_or_len ends text) (length text) ≡ true) × (position_or_len ends text ≡ i)
         → text ≡ spelled d (slice_split (λ b. b == d.separator) (take i text)) ++ drop (i + 1) text
     by_parts h =
@@ -64,9 +65,12 @@ first_some d text behind i t segment et at eb eg =
     let behind_is : behind ≡ skipped m = rw (eb, all) refl in
     let elements_are : segment.elements ≡ slice_split (λ b. b == d.separator) (take i text) = ap (λ (p : Piece). p.elements) eg in
     let first = cut_first d text i at' in
-    let run : text ≡ spelled d segment.elements ++ (take r m ++ behind) = rw (elements_are, behind_is, take-append-drop r m) (spelled_first d text i at') in
-    (ap (λ (p : Piece). p.delims) eg, ap (λ (c : Cut). c.segments) first ∙ rw (elements_are, behind_is) refl, ap (λ (c : Cut). c.rest) first ∙ rw behind_is refl,
-        (take r m, run, run_skipped m, subst StartsClean (sym behind_is) (starts_skipped m)))
+    let run : text ≡ spelled d segment.elements ++ (take r m ++ behind) = rw (elements_are, behind_is, take-append-drop r m) (spelled_first d text i at') in (
+      ap (λ (p : Piece). p.delims) eg,
+      ap (λ (c : Cut). c.segments) first ∙ rw (elements_are, behind_is) refl,
+      ap (λ (c : Cut). c.rest) first ∙ rw behind_is refl,
+      (take r m, run, run_skipped m, subst StartsClean (sym behind_is) (starts_skipped m)),
+    )
 
 pub first_none : (d : Delims) (text : List ℕ) (t : ℕ) → t ≡ d.terminator → position (λ b. b == t) text ≡ None
     → ((cut d text).segments ≡ []) × ((cut d text).rest ≡ text)
@@ -82,5 +86,5 @@ pub gives_first : (s : Uncut) (behind : List ℕ) (p : Piece)
 gives_first s behind p (same, first, rest, (skip, run, ends, clean)) =
     let head : record { delims = s.delims; elements = p.elements } ≡ p = ap (λ (d : Delims). record { delims = d; elements = p.elements }) (sym same) in
     let all : pieces_left s ≡ record { delims = s.delims; elements = p.elements } ∷ pieces_left (record { delims = s.delims; text = behind }) =
-        ap (λ (ss : List Segment). map (λ es. record { delims = s.delims; elements = es }) ss) first in
+    ap (λ (ss : List Segment). map (λ es. record { delims = s.delims; elements = es }) ss) first in
     (all ∙ ap (λ (q : Piece). q ∷ pieces_left (record { delims = s.delims; text = behind })) head, sym rest, tt, (refl, skip, run, ends, clean))

@@ -73,7 +73,7 @@ fn first_segment<'a>(text: &'a [u8], delims: &Delims) -> Option<(Segment<'a>, &'
         × ((meant.cut delims.now text.now).segments ≡ p.0.elements ∷ (meant.cut delims.now p.1.now).segments)
         × ((meant.cut delims.now text.now).rest ≡ (meant.cut delims.now p.1.now).rest)
         × ((skip : List ℕ) × (text.now ≡ meant.spelled delims.now p.0.elements ++ (skip ++ p.1.now))
-            × IsTrue (list_all is_line_end skip) × meant.StartsClean p.1.now)) }
+        × IsTrue (list_all is_line_end skip) × meant.StartsClean p.1.now)) }
 {
     let end = first_of(delims.terminator(), text)?;
     let behind = skip_line_ends(&text[end + 1..]);

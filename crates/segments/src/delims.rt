@@ -95,9 +95,6 @@ impl Delims {
     pub fn leaves(&self, b: u8) -> bool
         ensures { result ≡ is_data self.now b }
     {
-        matches!(b, 32..=126)
-            && b != self.separator
-            && b != self.component
-            && b != self.terminator
+        matches!(b, 32..=126) && b != self.separator && b != self.component && b != self.terminator
     }
 }

@@ -21,11 +21,7 @@ pub struct Page {
 }
 
 // Adds the lines of an advice to what is expected.
-fn expect_all(
-    alloc: Global,
-    rows: &mut Vec<Row>,
-    lines: &[AdviceLine],
-) -> Result<(), AllocError> {
+fn expect_all(alloc: Global, rows: &mut Vec<Row>, lines: &[AdviceLine]) -> Result<(), AllocError> {
     for line in lines {
         expect_line(alloc, rows, line.line())?;
     }

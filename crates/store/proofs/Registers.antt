@@ -37,7 +37,7 @@ usable_push s L cs n answers new item d within count is a grows u =
     let here : get_or cs (length answers) d ≡ item = ap (λ k. get_or cs k d) count ∙ sym is in
     let push = behind_all-push L cs answers a d (omega (arith, within, count)) in
     let next : behind_all L cs new ≡ behind (behind_all L cs answers) item.0 item.1 a =
-        ap (behind_all L cs) grows ∙ push ∙ ap (λ (x : Command × Moment). behind (behind_all L cs answers) x.0 x.1 a) here in
+    ap (behind_all L cs) grows ∙ push ∙ ap (λ (x : Command × Moment). behind (behind_all L cs answers) x.0 x.1 a) here in
     subst (IsUsable s) (sym next) u
 
 pub either_next : (s : Standing) (L : List Written) (cs : List (Command × Moment)) (n : ℕ) (answers new : List Reply) (item d next : Command × Moment) → length answers ≡ n → item ≡ get_or cs n d → new ≡ answers

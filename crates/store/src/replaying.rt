@@ -155,23 +155,12 @@ impl Keeper for ReplayBook {
     }
 
     fn load(&mut self, who: Who) -> Result<Option<Page>, Fault> {
-        Ok(page_behind(
-            self.alloc,
-            &self.warehouse,
-            &self.entries,
-            &who,
-        )?)
+        Ok(page_behind(self.alloc, &self.warehouse, &self.entries, &who)?)
     }
 
     fn known(&mut self, who: Who, key: &Key<'_>) -> Result<Option<Known>, Fault> {
         let key = key.text(self.alloc)?;
-        Ok(recalled(
-            self.alloc,
-            &self.warehouse,
-            &self.entries,
-            &who,
-            &key,
-        )?)
+        Ok(recalled(self.alloc, &self.warehouse, &self.entries, &who, &key)?)
     }
 
     fn commit(
@@ -195,12 +184,7 @@ impl Keeper for ReplayBook {
         if self.load(who)?.is_none() {
             return Ok(None);
         }
-        Ok(Some(sent(
-            self.alloc,
-            &self.warehouse,
-            &self.entries,
-            &who,
-        )?))
+        Ok(Some(sent(self.alloc, &self.warehouse, &self.entries, &who)?))
     }
 
     fn refused(&self) -> u64 {

@@ -167,8 +167,8 @@ pub fn run<K: Keeper>(alloc: Global, keeper: &mut K, commands: &[(Command<'_>, M
         → IsUsable (K.standing keeper.new) (behind_all L commands.now result.replies.items) }
     ensures broken { (K.standing keeper.new).doubt ≡ 0 → (L : List Written) → IsUsable (K.standing keeper.old) L → (K.standing keeper.new).shut ≡ true
         → IsSome result.fault × ((next : Asking × Minute) → slice_get commands.now (length result.replies.items) ≡ Some next
-            → LeavesEither (K.standing keeper.new) (behind_all L commands.now result.replies.items)
-                (with_entry (behind_all L commands.now result.replies.items) next.0 next.1)) }
+        → LeavesEither (K.standing keeper.new) (behind_all L commands.now result.replies.items)
+        (with_entry (behind_all L commands.now result.replies.items) next.0 next.1)) }
     ensures goes { GoesOn (K.standing keeper.old) (K.standing keeper.new) }
     ensures fault { IfSome result.fault (λ fault. IsRunFault fault (K.standing keeper.old) (K.standing keeper.new)) }
 {

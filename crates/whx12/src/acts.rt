@@ -1,10 +1,8 @@
-use std::alloc::Global;
-use std::fs;
-use std::io;
-use std::rt::Files;
-use store::{Command, Moment, Refusal, Reply, ReplayBook, Who, submit};
-
 use crate::told::{Status, Stop, tell_refusal, tell_text};
+use std::alloc::Global;
+use std::rt::Files;
+use std::{fs, io};
+use store::{Command, Moment, Refusal, ReplayBook, Reply, Who, submit};
 
 /// Enrols a depositor.
 pub fn enrol<E: io::Write>(

@@ -1,9 +1,8 @@
-use std::io;
-use std::rt::{Clock, Files};
-
 use crate::script::run_script;
 use crate::told::{Status, Stop, tell_stop};
 use crate::words::{Place, Words, line};
+use std::io;
+use std::rt::{Clock, Files};
 
 // Runs one line of words.
 fn run_line<R: Files + Clock + AllocGlobal, W: io::Write, E: io::Write>(

@@ -20,12 +20,7 @@ fn words_of(rt: &HostRuntime) -> std::io::Result<Vec<String>> {
 fn run(rt: &HostRuntime) -> std::io::Result<u8> {
     let owned = words_of(rt)?;
     let words: Vec<&str> = owned.iter().map(|word| word.as_str()).collect(rt.alloc())?;
-    Ok(command(
-        rt,
-        &words,
-        &mut rt.stdout(),
-        &mut rt.stderr(),
-    ))
+    Ok(command(rt, &words, &mut rt.stdout(), &mut rt.stderr()))
 }
 
 fn main(rt: HostRuntime) -> ExitCode {

@@ -1,12 +1,10 @@
-use std::fs;
-use std::io;
-use std::rt::{Clock, Files};
-use store::{Moment, Refusal, ReplayBook, Warehouse, Who};
-
 use crate::acts;
 use crate::clock::now;
 use crate::told::{Status, Stop, tell_refusal};
 use crate::words::{Place, Words, line};
+use std::rt::{Clock, Files};
+use std::{fs, io};
+use store::{Moment, Refusal, ReplayBook, Warehouse, Who};
 
 // A usage fault of the script itself.
 fn misplaced<R: AllocGlobal>(rt: &R, text: &str) -> Stop {

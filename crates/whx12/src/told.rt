@@ -1,8 +1,7 @@
+use crate::words::LineFault;
 use std::alloc::AllocError;
 use std::io;
 use store::{Fault, Refusal};
-
-use crate::words::LineFault;
 
 /// How a command, or a whole script, ended.
 #[derive(Clone, Copy, Debug, PartialEq, Eq)]

@@ -1,9 +1,8 @@
+use crate::clock::moment_of;
 use clap::error::ErrorKind;
 use clap::{Arg, ArgAction, ArgMatches, Command};
 use std::alloc::{AllocError, Global};
 use store::Moment;
-
-use crate::clock::moment_of;
 
 /// Where a line of words stands.
 #[derive(Clone, Copy, Debug, PartialEq, Eq)]
@@ -78,7 +77,9 @@ fn at<'a>(alloc: Global) -> Arg<'a> {
 fn script<'a>(alloc: Global) -> Result<Command<'a>, AllocError> {
     Command::new(alloc, "script")
         .about("Runs the commands of a file, line by line, over a new book in memory")
-        .after_help("Example: whx12 script morning.txt\n\nThe first line is init; each other line is enrol or send, with single spaces between words.\nA refused command is told on standard error, and the script goes on.")
+        .after_help(
+            "Example: whx12 script morning.txt\n\nThe first line is init; each other line is enrol or send, with single spaces between words.\nA refused command is told on standard error, and the script goes on.",
+        )
         .arg(value(alloc, "file", "FILE", "The file with the commands"))
 }
 
@@ -86,7 +87,12 @@ fn init<'a>(alloc: Global) -> Result<Command<'a>, AllocError> {
     Command::new(alloc, "init")
         .about("Makes the book of a warehouse")
         .after_help("Example: init ZZ-WHSE1")
-        .arg(value(alloc, "who", "WHO", "The warehouse: its qualifier, a hyphen and its id, as its ISA has them"))?
+        .arg(value(
+            alloc,
+            "who",
+            "WHO",
+            "The warehouse: its qualifier, a hyphen and its id, as its ISA has them",
+        ))?
         .arg(at(alloc))
 }
 
@@ -94,7 +100,12 @@ fn enrol<'a>(alloc: Global) -> Result<Command<'a>, AllocError> {
     Command::new(alloc, "enrol")
         .about("Enrols a depositor, whose interchanges are taken from then on")
         .after_help("Example: enrol ZZ-ACME")
-        .arg(value(alloc, "who", "WHO", "The depositor: its qualifier, a hyphen and its id, as its ISA has them"))?
+        .arg(value(
+            alloc,
+            "who",
+            "WHO",
+            "The depositor: its qualifier, a hyphen and its id, as its ISA has them",
+        ))?
         .arg(at(alloc))
 }
 
@@ -149,7 +160,10 @@ fn moment<'a>(alloc: Global, values: &ArgMatches<'a>) -> Result<Option<Moment>, 
     };
     match moment_of(text.as_bytes()) {
         Some(moment) => Ok(Some(moment)),
-        None => Err(usage(alloc, "--at wants a moment as 2025-03-04T09:15, of the years 2000 to 2099\n")),
+        None => Err(usage(
+            alloc,
+            "--at wants a moment as 2025-03-04T09:15, of the years 2000 to 2099\n",
+        )),
     }
 }
 
@@ -182,11 +196,7 @@ fn asked<'a>(alloc: Global, name: &str, values: &ArgMatches<'a>) -> Result<Words
 
 /// Reads one line of words, without a program's name in front. A line that can't be read, or that asks for help, is a usage
 /// fault with the text to show; want of memory is told apart.
-pub fn line<'a>(
-    alloc: Global,
-    place: Place,
-    words: &'a [&'a str],
-) -> Result<Words<'a>, LineFault> {
+pub fn line<'a>(alloc: Global, place: Place, words: &'a [&'a str]) -> Result<Words<'a>, LineFault> {
     let matches = match parser(alloc, place)?.try_get_matches_from(words) {
         Ok(matches) => matches,
         Err(error) => return Err(refused(alloc, &error)),
