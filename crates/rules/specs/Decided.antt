@@ -1,5 +1,5 @@
 -- What a decision may be, as far as it is told today.
-use Rattle.std.specs.Prelude.{ℕ, ◌≡◌, ◌+◌, Bool, true, false, List, [], Option, Some, None, is_none}
+use Rattle.std.specs.Prelude.{ℕ, ◌≡◌, ◌+◌, Bool, true, false, List, [], Option, Some, None, bytes_eq}
 use Rattle.profile.specs.Header.{Who}
 use Rattle.profile.specs.Moments.{Moment}
 use Rattle.profile.specs.Reply.{interchange_entry, enrolment_entry}
@@ -26,13 +26,18 @@ IsEnrolment enrolled w t (Stored text) = ⊥
 IsEnrolment enrolled w t (Refused r text) = (enrolled ≡ true) × (r ≡ AlreadyEnrolled) × (text.items ≡ [])
 IsEnrolment enrolled w t (Accepted e changes text) = (enrolled ≡ false) × (e ≡ written_as 0 (enrolment_entry w t)) × (text.items ≡ [])
 
+-- the bytes are not those of an interchange that is known
+abbrev pub IsNews : Option Recalled → List ℕ → Type 0
+IsNews None bytes = Unit {0}
+IsNews (Some k) bytes = bytes_eq k.entry.body bytes ≡ false
+
 -- The decision on an interchange of a depositor that is enrolled or isn't, with so many numbered entries: stored where its
--- bytes are known; accepted under the next number, and only where its control number is new; refused where what it asks for
--- isn't built.
+-- bytes are known, whatever else is said of them; accepted under the next number, and only where its control number is
+-- new; refused where what it asks for isn't built.
 abbrev pub IsAnswer : Bool → ℕ → Option Recalled → List ℕ → Moment → Decision → Type 0
 IsAnswer enrolled n known bytes t (Stored text) =
-    (k : Recalled) × (known ≡ Some k) × (k.entry.body ≡ bytes) × (text.items ≡ k.outgoing)
-IsAnswer enrolled n known bytes t (Refused r text) = (r ≡ NotBuilt) × (text.items ≡ [])
+    (k : Recalled) × (known ≡ Some k) × (bytes_eq k.entry.body bytes ≡ true) × (text.items ≡ k.outgoing)
+IsAnswer enrolled n known bytes t (Refused r text) = (r ≡ NotBuilt) × (text.items ≡ []) × (enrolled ≡ true → IsNews known bytes)
 IsAnswer enrolled n known bytes t (Accepted e changes text) =
     (enrolled ≡ true) × (known ≡ None) × (e ≡ written_as (n + 1) (interchange_entry bytes t))
 

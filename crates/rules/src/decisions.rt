@@ -82,24 +82,6 @@ fn received(
     })
 }
 
-// The stored answer under a known control number, for the same bytes.
-fn again(
-    alloc: Global,
-    page: &Page,
-    known: &Known,
-    text: &[u8],
-    moment: Moment,
-) -> Result<Option<Decision>, AllocError>
-    ensures { IfOk result (λ o. IfSome o (IsAnswer true page.now.entries (Some known.now) text.now moment)) }
-{
-    let _page = page;
-    let _moment = moment;
-    if known.body() != text {
-        return Ok(None);
-    }
-    Ok(Some(Decision::Stored(known.outgoing().to_vec(alloc)?)))
-}
-
 // The acceptance of an interchange under a new control number, whose header is this.
 fn accepted(
     alloc: Global,
@@ -136,25 +118,25 @@ fn accepted(
     }
 }
 
-// The decision on an interchange of an enrolled depositor, where it is one that is built.
-fn built(
+// The decision on an interchange of an enrolled depositor under a new control number.
+fn fresh(
     alloc: Global,
     warehouse: &Warehouse,
     page: &Page,
-    known: Option<&Known>,
     text: &[u8],
     moment: Moment,
-) -> Result<Option<Decision>, AllocError>
-    ensures { IfOk result (λ o. IfSome o (IsAnswer true page.now.entries (option_copied known.entry) text.now moment)) }
+) -> Result<Decision, AllocError>
+    ensures { IfOk result (IsAnswer true page.now.entries None text.now moment) }
 {
-    match (known, isa(text)) {
-        (Some(known), _) => again(alloc, page, known, text, moment),
-        (None, Ok(header)) => accepted(alloc, warehouse, page, &header, moment, text),
-        (None, Err(_)) => Ok(None),
+    if let Ok(header) = isa(text) {
+        if let Some(decision) = accepted(alloc, warehouse, page, &header, moment, text)? {
+            return Ok(decision);
+        }
     }
+    Ok(Decision::Refused(Refusal::NotBuilt, Vec::new(alloc)))
 }
 
-// The decision on an interchange.
+// The decision on an interchange: a known control number is looked at before anything else is.
 fn interchange(
     alloc: Global,
     warehouse: &Warehouse,
@@ -165,10 +147,14 @@ fn interchange(
 ) -> Result<Decision, AllocError>
     ensures { IfOk result (IsAnswer (is_some page.entry) (entries_of page.entry) (option_copied known.entry) text.now moment) }
 {
-    if let Some(page) = page {
-        if let Some(decision) = built(alloc, warehouse, page, known, text, moment)? {
-            return Ok(decision);
-        }
+    let Some(page) = page else {
+        return Ok(Decision::Refused(Refusal::NotBuilt, Vec::new(alloc)));
+    };
+    let Some(known) = known else {
+        return fresh(alloc, warehouse, page, text, moment);
+    };
+    if known.is_of(text) {
+        return Ok(Decision::Stored(known.outgoing().to_vec(alloc)?));
     }
     Ok(Decision::Refused(Refusal::NotBuilt, Vec::new(alloc)))
 }

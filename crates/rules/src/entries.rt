@@ -103,11 +103,11 @@ impl Model for Known {
 }
 
 impl Known {
-    /// The bytes of the interchange that made the entry.
-    pub fn body(&self) -> &[u8]
-        ensures { result.now ≡ self.now.entry.body }
+    /// Whether these bytes made the entry.
+    pub fn is_of(&self, bytes: &[u8]) -> bool
+        ensures { result ≡ bytes_eq self.now.entry.body bytes.now }
     {
-        self.entry.body()
+        self.entry.body() == bytes
     }
 
     /// The text that went out.

@@ -16,3 +16,6 @@ pub use rules::{
     subject,
 };
 pub use serving::{Outcome, Reply, outbox, run, stock, submit};
+
+#[cfg(test)]
+mod tests;

@@ -1,7 +1,10 @@
 mod cases;
 
 use super::*;
-use cases::{ACKNOWLEDGMENTS, ADVICES, Case, ORDERS};
+use cases::{
+    ACK_AK1, ACK_AK2, ACK_AK3, ACK_SET, ACK_TOTAL, ACKNOWLEDGMENTS, ADVICE_W06, ADVICES, Case,
+    ORDER_LINES, ORDER_TOTAL, ORDER_W05, ORDERS,
+};
 use segments::{Delims, Segment, cut};
 use std::alloc::{AllocError, Global};
 use std::test::Fail;

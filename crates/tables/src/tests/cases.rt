@@ -35,7 +35,7 @@ macro_rules! misplaced {
 
 const ADVICE_ST: &[u8] = b"ST*943*0001~";
 
-const ADVICE_W06: &[u8] = b"ST*943*0001~W06*F*PO77*20250303*SHP1~";
+pub(crate) const ADVICE_W06: &[u8] = b"ST*943*0001~W06*F*PO77*20250303*SHP1~";
 
 const ADVICE_W04: &[u8] = b"ST*943*0001~W06*F*PO77*20250303*SHP1~W04*100*EA**SK*BOLT~";
 
@@ -51,35 +51,35 @@ const ADVICE_END: &[u8] = b"SE*6*0001~";
 
 const ORDER_ST: &[u8] = b"ST*940*0001~";
 
-const ORDER_W05: &[u8] = b"ST*940*0001~W05*N*ORD1~";
+pub(crate) const ORDER_W05: &[u8] = b"ST*940*0001~W05*N*ORD1~";
 
 const ORDER_LX: &[u8] = b"ST*940*0001~W05*N*ORD1~LX*1~";
 
 const ORDER_W01: &[u8] = b"ST*940*0001~W05*N*ORD1~LX*1~W01*120*EA**SK*BOLT~";
 
-const ORDER_LINES: &[u8] = b"LX*1~W01*120*EA**SK*BOLT~W76*120~SE*6*0001~";
+pub(crate) const ORDER_LINES: &[u8] = b"LX*1~W01*120*EA**SK*BOLT~W76*120~SE*6*0001~";
 
 const ORDER_GOODS: &[u8] = b"W01*120*EA**SK*BOLT~W76*120~SE*6*0001~";
 
-const ORDER_TOTAL: &[u8] = b"W76*120~SE*6*0001~";
+pub(crate) const ORDER_TOTAL: &[u8] = b"W76*120~SE*6*0001~";
 
 const ORDER_END: &[u8] = b"SE*6*0001~";
 
 const ACK_ST: &[u8] = b"ST*997*0001~";
 
-const ACK_AK1: &[u8] = b"ST*997*0001~AK1*SW*4~";
+pub(crate) const ACK_AK1: &[u8] = b"ST*997*0001~AK1*SW*4~";
 
-const ACK_AK2: &[u8] = b"ST*997*0001~AK1*SW*4~AK2*945*0001~";
+pub(crate) const ACK_AK2: &[u8] = b"ST*997*0001~AK1*SW*4~AK2*945*0001~";
 
-const ACK_AK3: &[u8] = b"ST*997*0001~AK1*SW*4~AK2*945*0001~AK3*W12*4**8~";
+pub(crate) const ACK_AK3: &[u8] = b"ST*997*0001~AK1*SW*4~AK2*945*0001~AK3*W12*4**8~";
 
 const ACK_AK5: &[u8] = b"ST*997*0001~AK1*SW*4~AK2*945*0001~AK5*A~";
 
 const ACK_SETS: &[u8] = b"AK2*945*0001~AK5*A~AK9*A*1*1*1~SE*6*0001~";
 
-const ACK_SET: &[u8] = b"AK5*A~AK9*A*1*1*1~SE*6*0001~";
+pub(crate) const ACK_SET: &[u8] = b"AK5*A~AK9*A*1*1*1~SE*6*0001~";
 
-const ACK_TOTAL: &[u8] = b"AK9*A*1*1*1~SE*6*0001~";
+pub(crate) const ACK_TOTAL: &[u8] = b"AK9*A*1*1*1~SE*6*0001~";
 
 const ACK_END: &[u8] = b"SE*6*0001~";
 
