@@ -10,12 +10,8 @@ use crate::looking::{count, has};
 use crate::parts::Group;
 use crate::places::are_in_place;
 use elements::is_well_formed;
+use profile::{MOST_GROUPS, MOST_SETS};
 use segments::{Delims, Segment};
-
-// The most groups and sets of an interchange.
-const MOST_GROUPS: usize = 100;
-
-const MOST_SETS: usize = 1000;
 
 // More than there are of anything: sums are cut off here.
 const CEILING: usize = 1_000_000_000_000_000_000;

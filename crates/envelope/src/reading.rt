@@ -6,10 +6,8 @@ ghost use Rattle.envelope.specs.Legibility as parts;
 
 use crate::bytes::{all_digits, same};
 use crate::header::{Isa, Unreadable, element};
+use profile::MOST_BYTES;
 use segments::Delims;
-
-// The most bytes of an interchange.
-const MOST_BYTES: usize = 1_048_576;
 
 // The offsets of the element separator in ISA.
 const SEPARATORS: [usize; 16] = [

@@ -3,6 +3,7 @@ ghost use Rattle.rules.specs.declared.interchanges.NotTaken.TheVariants.{OutOfMe
 
 use crate::house::Warehouse;
 use envelope::{Group, Halt, Interchange, Isa, Set, header_note, isa, structure};
+use profile::MOST_BYTES;
 use segments::{Moment, Segment, Who};
 use sets_in::{Advice, advice};
 use sets_out::{
@@ -107,7 +108,7 @@ fn has_no_header(segments: &[Segment<'_>]) -> bool {
 
 // The advice of a set of lines alone that has no fault.
 fn advised(alloc: Global, segments: &[Segment<'_>]) -> Result<Advice, NotTaken> {
-    if segments.len() > 1_048_576 || !is_closed(segments) || !has_no_header(segments) {
+    if segments.len() > MOST_BYTES || !is_closed(segments) || !has_no_header(segments) {
         return Err(NotTaken::NotBuilt);
     }
     match judge(SetKind::ShipmentAdvice, segments) {

@@ -5,7 +5,8 @@ ghost use Rattle.tables.specs.Ids.{text_of};
 ghost use Rattle.tables.specs.Languages.{found};
 ghost use Rattle.tables.specs.Advice.{rest_of};
 
-use crate::ids::{Id, MOST_LINES};
+use crate::ids::Id;
+use profile::MOST_LINES;
 
 /// How far a 943 has come.
 #[derive(Clone, Copy)]
