@@ -20,3 +20,21 @@ pub const MOST_RECOUNTED: u32 = 999_999_999;
 
 /// The most numbered entries of a depositor.
 pub const MOST_ENTRIES: u32 = 999_999;
+
+/// The most bytes of an item.
+pub const MOST_ITEM: usize = 20;
+
+/// The most bytes of a lot.
+pub const MOST_LOT: usize = 12;
+
+/// The most bytes of an order, advice or shipment number.
+pub const MOST_NUMBER: usize = 22;
+
+/// The most bytes of a clerk's ticket.
+pub const MOST_TICKET: usize = 20;
+
+/// The least bytes of a partner's id.
+pub const LEAST_PARTNER: usize = 2;
+
+/// The most bytes of a partner's id: the width of ISA06 and ISA08, which spaces fill.
+pub const MOST_PARTNER: usize = 15;

@@ -3,6 +3,7 @@ ghost use Rattle.profile.specs.Header.{Who as Partner, is_partner, who_eq, who_o
 ghost use Rattle.segments.specs.Filled.{length_front, filled_front};
 
 use crate::idents::{all_alphanumeric, is_ident};
+use profile::{LEAST_PARTNER, MOST_PARTNER};
 use std::marker::Model;
 
 /// A trading partner, as two elements of ISA name it: a qualifier of two of A to Z and 0 to 9, and an id of 2 to 15
@@ -35,7 +36,7 @@ impl Who {
         if qualifier.len() != 2 || !all_alphanumeric(qualifier) {
             return None;
         }
-        if !is_ident(id, 2, 15) {
+        if !is_ident(id, LEAST_PARTNER, MOST_PARTNER) {
             return None;
         }
         let qualifier = [qualifier[0], qualifier[1]];
