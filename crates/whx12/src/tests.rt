@@ -34,8 +34,8 @@ fn a_resend_prints_the_stored_answer(rt: HostRuntime) -> Result<(), Fail> {
     )?;
     assert_eq!(rt; status, 0);
     assert_eq!(rt; out.len(), 532);
-    assert_eq!(rt; &out[..266], ANSWER);
-    assert_eq!(rt; &out[266..], ANSWER);
+    assert!(rt; out.starts_with(ANSWER));
+    assert!(rt; out.ends_with(ANSWER));
     assert_eq!(rt; err.len(), 0);
     Ok(())
 }
