@@ -4,7 +4,7 @@ ghost use Rattle.profile.specs.Means.{Line as LineSaid, AdviceLine as AdviceLine
 use std::marker::Model;
 
 /// A quantity of a lot of an item.
-#[derive(Debug, Drop)]
+#[derive(Clone, Debug, Drop)]
 pub struct Line {
     pub(crate) item: Vec<u8>,
     pub(crate) lot: Vec<u8>,
@@ -18,6 +18,17 @@ impl Model for Line {
 }
 
 impl Line {
+    /// A quantity, in the unit EA, of a lot of an item.
+    pub fn new(item: Vec<u8>, lot: Vec<u8>, quantity: u32) -> Line
+        ensures { result ≡ record { item = item.items; lot = lot.items; quantity = quantity } }
+    {
+        Line {
+            item,
+            lot,
+            quantity,
+        }
+    }
+
     /// The item (W04 or W01, element 5).
     pub fn item(&self) -> &[u8]
         ensures { result.now ≡ self.now.item }

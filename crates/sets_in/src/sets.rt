@@ -63,7 +63,7 @@ impl Advice {
 
 /// Where an order goes: the first N1 of its set with code ST, and the N3 and N4 that belong to it. A text that isn't
 /// there is empty.
-#[derive(Debug, Drop)]
+#[derive(Clone, Debug, Drop)]
 pub struct Address {
     pub(crate) name: Vec<u8>,
     pub(crate) one: Vec<u8>,
@@ -78,6 +78,18 @@ impl Model for Address {
 }
 
 impl Address {
+    /// An address of these texts: the name, the two lines of the street, and city, state and postal code on one line.
+    pub fn new(name: Vec<u8>, one: Vec<u8>, two: Vec<u8>, place: Vec<u8>) -> Address
+        ensures { result ≡ record { name = name.items; one = one.items; two = two.items; place = place.items } }
+    {
+        Address {
+            name,
+            one,
+            two,
+            place,
+        }
+    }
+
     /// The name (N102).
     pub fn name(&self) -> &[u8]
         ensures { result.now ≡ self.now.name }
