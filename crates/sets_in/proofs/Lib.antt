@@ -8,3 +8,6 @@ pub mod Parse
 pub mod Whole
 pub mod Meaning
 pub mod AckMeaning
+pub mod OrderParse
+pub mod OrderMeaning
+pub mod Least

@@ -48,7 +48,7 @@ pub with_skip : (id : List ℕ) (xs ys : List Segment) → Lacks id xs → segme
 with_skip id [] ys h = refl
 with_skip id (x ∷ xs) ys h = with_no id x (xs ++ ys) h.0 ∙ with_skip id xs ys h.1
 
-from_skip : (id : List ℕ) (n : ℕ) (xs ys : List Segment) → Lacks id xs → places_from id n (xs ++ ys) ≡ places_from id (n + length xs) ys
+pub from_skip : (id : List ℕ) (n : ℕ) (xs ys : List Segment) → Lacks id xs → places_from id n (xs ++ ys) ≡ places_from id (n + length xs) ys
 from_skip id n [] ys h = let e : n ≡ n + 0 = omega arith in ap (λ k. places_from id k ys) e
 from_skip id n (x ∷ xs) ys h =
     let e : n + 1 + length xs ≡ n + length (x ∷ xs) = omega arith in
@@ -76,7 +76,7 @@ nth : (front : List Segment) (s : Segment) (ys : List Segment) → slice_get (fr
 nth [] s ys = refl
 nth (x ∷ front) s ys = nth front s ys
 
-at : (ss front : List Segment) (s : Segment) (ys : List Segment) (n : ℕ) → ss ≡ front ++ s ∷ ys → n ≡ length front + 1 → segment_at ss n ≡ s
+pub at : (ss front : List Segment) (s : Segment) (ys : List Segment) (n : ℕ) → ss ≡ front ++ s ∷ ys → n ≡ length front + 1 → segment_at ss n ≡ s
 at ss front s ys n e p =
     let k : n - 1 ≡ length front = omega arith in
     ap (λ i. unwrap_or (slice_get ss i) []) k ∙ ap (λ (x : List Segment). unwrap_or (slice_get x (length front)) []) e ∙ ap (λ (o : Option Segment). unwrap_or o []) (nth front s ys)

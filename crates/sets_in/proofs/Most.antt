@@ -5,6 +5,7 @@ use Rattle.std.specs.List.{enumerate_from}
 use Rattle.std.proofs.lemmas.Slice.Eq.{bytes_eq-Decides}
 use Rattle.profile.specs.Bytes.{Delims}
 use Rattle.profile.specs.Cut.{Segment, id_of, has_id, places_of}
+use Rattle.profile.specs.Limits.{most_lines}
 use Rattle.profile.specs.Words.{Words, Never, Empty, One, Then, Or, Times, has_word, has_empty, words_after, then_words, or_words, times_words, words_943, words_940}
 use Rattle.profile.specs.Faults.{fault_from}
 use Rattle.sets_in.proofs.Sound.{from_parts}
@@ -125,8 +126,8 @@ places_length id n (s ∷ ss) = by_test (has_id id s) (places_length id (n + 1) 
     by_test true h = omega arith
     by_test false h = omega arith
 
-pub few_goods : (d : Delims) (ss : List Segment) → fault_from d words_943 words_943 [] 1 ss ≡ None → length (places_of (codes "W04") ss) ≤ 99
+pub few_goods : (d : Delims) (ss : List Segment) → fault_from d words_943 words_943 [] 1 ss ≡ None → length (places_of (codes "W04") ss) ≤ most_lines
 few_goods d ss h = rw (places_length (codes "W04") 1 ss) (count_bound (codes "W04") d words_943 words_943 [] 1 ss h)
 
-pub few_ordered : (d : Delims) (ss : List Segment) → fault_from d words_940 words_940 [] 1 ss ≡ None → length (places_of (codes "W01") ss) ≤ 99
+pub few_ordered : (d : Delims) (ss : List Segment) → fault_from d words_940 words_940 [] 1 ss ≡ None → length (places_of (codes "W01") ss) ≤ most_lines
 few_ordered d ss h = rw (places_length (codes "W01") 1 ss) (count_bound (codes "W01") d words_940 words_940 [] 1 ss h)

@@ -2,6 +2,7 @@
 use Rattle.std.proofs.Common.{◌≡◌, ℕ, zero, suc, List, [], ◌∷◌, ◌++◌, map, refl, sym, ◌∙◌, ap, subst, inl, inr, append_assoc}
 use Rattle.std.specs.Prelude.{codes}
 use Rattle.std.specs.List.{AllByRecursion}
+use Rattle.profile.specs.Limits.{most_lines}
 use Rattle.profile.specs.Words.{Words, One, Then, Times, IsWord, IsRow, words_943}
 use Rattle.tables.specs.Advice.{total, lines, dates, references}
 use Rattle.sets_in.specs.Said.{IsHeader, in_pairs}
@@ -51,7 +52,7 @@ rows f id (suc n) (x ∷ xs) (a, b, e, p, q) =
     let tail : b ≡ map f xs = cc in
     (head, rows f id n xs (subst (IsRow (IsWord (One id)) n) tail q))
 
-times_word : {X : Type 0} (f : X → List ℕ) (xs : List X) (low high : ℕ) (id : List ℕ) (w : Words) → IsWord (Then (Times low high (One id)) w) (map f xs)
+pub times_word : {X : Type 0} (f : X → List ℕ) (xs : List X) (low high : ℕ) (id : List ℕ) (w : Words) → IsWord (Then (Times low high (One id)) w) (map f xs)
     → (ys zs : List X) × (xs ≡ ys ++ zs) × AllByRecursion (λ x. f x ≡ id) ys × IsWord w (map f zs)
 times_word f xs low high id w (a, b, e, (n, l, u, row), q) =
     let s = split f xs a b e in
@@ -104,7 +105,7 @@ Lined {X} f xs = (gs : List (X × X)) × (w03 se : X) × (xs ≡ in_pairs gs ++ 
     × AllByRecursion (λ g. (f g.0 ≡ codes "W04") × (f g.1 ≡ codes "N9")) gs × (f w03 ≡ codes "W03") × (f se ≡ codes "SE")
 
 lined : {X : Type 0} (f : X → List ℕ) (xs : List X) → IsWord lines (map f xs) → Lined f xs
-lined {X} f xs h = with_goods (goods_word f xs 1 99 (codes "W04") (codes "N9") total h)
+lined {X} f xs h = with_goods (goods_word f xs 1 most_lines (codes "W04") (codes "N9") total h)
   where
     with_goods : (gs : List (X × X)) × (zs : List X) × (xs ≡ in_pairs gs ++ zs) × AllByRecursion (λ g. (f g.0 ≡ codes "W04") × (f g.1 ≡ codes "N9")) gs × IsWord total (map f zs) → Lined f xs
     with_goods (gs, zs, e, all, w) = let l = ended f zs w in (gs, l.0, l.1, e ∙ ap (λ y. in_pairs gs ++ y) l.2, all, l.3, l.4)

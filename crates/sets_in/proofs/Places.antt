@@ -113,12 +113,12 @@ after_no s ss t =
 abbrev shipped : Option Segment → List Segment → Option meant.Address
 shipped n1 behind = option_map (λ s. meant.address_of s (take_while belongs behind)) n1
 
-first_ship_to : (s : Segment) (ss : List Segment) → meant.is_ship_to s ≡ true → meant.ship_to (s ∷ ss) ≡ Some (meant.address_of s (take_while belongs ss))
+pub first_ship_to : (s : Segment) (ss : List Segment) → meant.is_ship_to s ≡ true → meant.ship_to (s ∷ ss) ≡ Some (meant.address_of s (take_while belongs ss))
 first_ship_to s ss t =
     ap (λ (b : Bool). shipped (cond b (Some s) (find meant.is_ship_to ss)) (after_first meant.is_ship_to (s ∷ ss))) t
     ∙ ap (shipped (Some s)) (after_yes s ss t)
 
-later_ship_to : (s : Segment) (ss : List Segment) → meant.is_ship_to s ≡ false → meant.ship_to (s ∷ ss) ≡ meant.ship_to ss
+pub later_ship_to : (s : Segment) (ss : List Segment) → meant.is_ship_to s ≡ false → meant.ship_to (s ∷ ss) ≡ meant.ship_to ss
 later_ship_to s ss t =
     ap (λ (b : Bool). shipped (cond b (Some s) (find meant.is_ship_to ss)) (after_first meant.is_ship_to (s ∷ ss))) t
     ∙ ap (shipped (find meant.is_ship_to ss)) (after_no s ss t)

@@ -4,3 +4,5 @@ pub mod Spaced
 pub mod Places
 pub mod Said
 pub mod SaidAck
+pub mod SaidOrder
+pub mod TradeFaults

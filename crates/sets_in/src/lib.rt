@@ -5,6 +5,7 @@
 mod acks;
 mod addresses;
 mod advices;
+pub mod laws;
 mod lines;
 mod orders;
 mod reading;

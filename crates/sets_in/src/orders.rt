@@ -4,6 +4,7 @@ ghost use Rattle.profile.specs.Limits.{most_quantity};
 ghost use Rattle.profile.specs.Means as meant;
 ghost use Rattle.profile.specs.Words as kinds;
 ghost use Rattle.sets_in.specs.Amounts.{IsAmount, IsCounted, HaveAmounts};
+ghost use Rattle.sets_in.specs.SaidOrder.{SaysOrder};
 
 use crate::addresses::ship_to;
 use crate::lines::OrderLine;
@@ -19,6 +20,7 @@ fn ordered<'a>(set: &Checked<'a>) -> &'a [Segment<'a>]
     ensures same { result.now ≡ set.now.pieces }
     ensures short { length result.now < 2 ^ 32 - 1 }
     ensures counted { IsCounted (codes "W01") (codes "W76") (segments_of result.now) }
+    ensures says { SaysOrder (segments_of result.now) (meant.order_of (segments_of result.now)) }
 {
     set.segments()
 }
@@ -76,13 +78,12 @@ fn order_lines(alloc: Global, segments: &[Segment<'_>]) -> Result<Vec<OrderLine>
     Ok(lines)
 }
 
-/// What an order that was judged says: its number, where it goes, its lines in order, and its total, with their
-/// positions. The one error is want of memory.
-pub fn order(alloc: Global, set: &Checked<'_>) -> Result<Order, AllocError>
-    requires { set.now.kind ≡ kinds.ShippingOrder }
-    ensures { IfOk result (λ o. o ≡ meant.order_of (segments_of set.now.pieces)) }
+// What the segments of an order say.
+fn told(alloc: Global, segments: &[Segment<'_>]) -> Result<Order, AllocError>
+    requires short { length segments.now < 2 ^ 32 - 1 }
+    requires counted { IsCounted (codes "W01") (codes "W76") (segments_of segments.now) }
+    ensures { IfOk result (λ o. o ≡ meant.order_of (segments_of segments.now)) }
 {
-    let segments = ordered(set);
     let number_text = copied(alloc, element_with(segments, b"W05", 2))?;
     let address = ship_to(alloc, segments)?;
     let lines = order_lines(alloc, segments)?;
@@ -93,4 +94,14 @@ pub fn order(alloc: Global, set: &Checked<'_>) -> Result<Order, AllocError>
         total: number(element_with(segments, b"W76", 1)),
         total_position: place_with(segments, b"W76"),
     })
+}
+
+/// What an order that was judged says: its number, where it goes, its lines in order, and its total, with their
+/// positions. The one error is want of memory.
+pub fn order(alloc: Global, set: &Checked<'_>) -> Result<Order, AllocError>
+    requires { set.now.kind ≡ kinds.ShippingOrder }
+    ensures value { IfOk result (λ o. o ≡ meant.order_of (segments_of set.now.pieces)) }
+    ensures says { IfOk result (λ o. SaysOrder (segments_of set.now.pieces) o) }
+{
+    told(alloc, ordered(set))
 }

@@ -5,3 +5,7 @@ pub mod Numbered
 pub mod InterchangeLaws
 pub mod TextLaws
 pub mod BodyLaws
+pub mod Inside
+pub mod Written
+pub mod WrittenBodies
+pub mod WrittenInterchanges

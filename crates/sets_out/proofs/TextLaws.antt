@@ -1,17 +1,15 @@
 -- The layouts' own texts are those of what is handed over.
-use Rattle.std.proofs.Common.{◌≡◌, ℕ, List, [], ◌∷◌, ◌++◌, map, length, false, refl, sym, ◌∙◌, ap, Some, None}
+use Rattle.std.proofs.Common.{◌≡◌, ℕ, List, [], ◌∷◌, ◌++◌, map, length, refl, sym, ◌∙◌, ap, Some, None}
 use Rattle.std.specs.Prelude.{◌==◌, if◌then◌else◌, codes, bytes_eq, Option}
 use Rattle.std.proofs.Math.Dec.{eqb-suc-zero}
-use Rattle.std.proofs.lemmas.List.{append-nil}
 use Rattle.std.proofs.lemmas.Simd.{map-map}
 use Rattle.profile.specs.Bytes.{Delims}
-use Rattle.profile.specs.Cut.{Segment, IsWritten, cut, spelled}
-use Rattle.profile.proofs.CutUniqueLaws.{written_again}
+use Rattle.profile.specs.Cut.{Segment}
 use Rattle.profile.specs.Moments.{Moment}
 use Rattle.profile.specs.Header.{Who, isa, delims_of}
 use Rattle.profile.specs.History.{Telling}
 use Rattle.profile.specs.Texts.{Told, answer, answered, told_of, ta1, body_997, group_of_sets, interchange, receiver_of}
-use Rattle.sets_out.specs.Headings.{Heading, heading_of, ta1_of}
+use Rattle.sets_out.specs.Headings.{heading_of, ta1_of}
 use Rattle.sets_out.specs.Interchanges.{answer_of, answers_group, groups_for}
 
 pub ta1-heading : (text : List ℕ) (note : Option ℕ) → ta1 text note ≡ ta1_of (heading_of text) note
@@ -37,9 +35,3 @@ answer-told W w t n text ts =
     let acknowledged : List Segment = (if bytes_eq (isa text 14) (codes "1") then ta1 text None ∷ [] else []) in
     ap (answer_from (delims_of text) W w t n acknowledged) (sym (map-map body_997 told_of (answered ts)))
     ∙ from_told (delims_of text) W w t n acknowledged (map told_of (answered ts))
-
-pub ta1_again : (d : Delims) (h : Heading) (note : Option ℕ) → (d.separator == d.terminator) ≡ false → IsWritten d (ta1_of h note)
-    → cut d (spelled d (ta1_of h note)) ≡ record { segments = ta1_of h note ∷ []; rest = [] }
-ta1_again d h note apart w =
-    let whole : spelled d (ta1_of h note) ++ [] ≡ spelled d (ta1_of h note) = append-nil (spelled d (ta1_of h note)) in
-    ap (cut d) (sym whole) ∙ written_again d (ta1_of h note ∷ []) apart (w, tt)

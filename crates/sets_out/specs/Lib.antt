@@ -3,3 +3,4 @@ pub mod Headings
 pub mod Documents
 pub mod Handed
 pub mod Interchanges
+pub mod Inside

@@ -1,5 +1,6 @@
 ghost use Rattle.std.specs.Prelude.{◌≡◌, ◌+◌, ◌-◌, ◌++◌, ◌∷◌, [], codes, decimal, drop, replicate, map, flat_map, length, OnOk, IfOk};
 ghost use Rattle.profile.specs.Bytes.{padded, zero_filled};
+ghost use Rattle.profile.specs.Limits.{most_partner};
 ghost use Rattle.profile.specs.Cut.{joined};
 ghost use Rattle.profile.specs.Moments.{date6, date8, time4};
 ghost use Rattle.profile.specs.Texts.{Receiver, receiver_of, isa_segment};
@@ -9,6 +10,7 @@ ghost use Rattle.sets_out.specs.Appends.{Appends};
 use crate::numbers::{date, digits, time};
 use crate::writing::append_segment;
 use itoa::Buffer;
+use profile::MOST_PARTNER;
 use segments::{Delims, Moment, Who};
 use std::alloc::AllocError;
 use std::marker::Model;
@@ -26,6 +28,7 @@ pub struct Envelope {
     pub number: u32,
 }
 
+// As many spaces as an id of a partner may have bytes.
 const SPACES: &[u8] = b"               ";
 
 // One side of an interchange, as two elements of ISA name it: the id with the spaces that fill it.
@@ -42,14 +45,14 @@ impl<'a> Model for Party<'a> {
     ghost view = { λ p. record { qualifier = p.qualifier.now; id = p.id.now ++ p.fill.now } };
 }
 
-// The spaces that are missing at fifteen.
+// The spaces that an id of this length lacks of its width in ISA.
 fn fill(length: usize) -> &'static [u8]
-    ensures { result.now ≡ replicate (15 - length) 32 }
+    ensures { result.now ≡ replicate (most_partner - length) 32 }
 {
-    &SPACES[length.min(15)..]
+    &SPACES[length.min(MOST_PARTNER)..]
 }
 
-// A partner, with its id filled to fifteen.
+// A partner, with its id filled to that width.
 pub(crate) fn filled(who: &Who) -> Party<'_>
     ensures { result ≡ receiver_of who.now }
 {

@@ -1,5 +1,6 @@
 use super::*;
 use segments::{Delims, Moment, Who};
+use std::alloc::{AllocError, Global};
 use std::test::Fail;
 
 const ACCEPTED: &[u8] =
@@ -87,9 +88,9 @@ fn in_error<'a>(number: &'a [u8], segment: SetFault<'a>) -> ToldSet<'a> {
 }
 
 // A set that is rejected with a code of its own.
-fn rejected<'a>(control: &'a [u8], code: u8) -> ToldSet<'a> {
+fn rejected<'a>(number: &'a [u8], control: &'a [u8], code: u8) -> ToldSet<'a> {
     ToldSet {
-        number: b"943",
+        number,
         control,
         rejection: Some(Rejection {
             code,
@@ -248,12 +249,12 @@ fn tells_two_sets(rt: HostRuntime) -> Result<(), Fail> {
         text_of_997(rt, &judged(b"OW", b"2", 2, &orders))?.as_slice(),
         b"ST*997*0001~AK1*OW*2~AK2*940*0001~AK5*A~AK2*940*0002~AK5*A~AK9*A*2*2*2~SE*8*0001~".as_slice()
     );
-    let miscounted = [rejected(b"0001", 4), passed(b"943", b"0002")];
+    let miscounted = [rejected(b"943", b"0001", 4), passed(b"943", b"0002")];
     assert_eq!(rt;
         text_of_997(rt, &judged(b"AR", b"1", 2, &miscounted))?.as_slice(),
         b"ST*997*0001~AK1*AR*1~AK2*943*0001~AK5*R*4~AK2*943*0002~AK5*A~AK9*P*2*2*1~SE*8*0001~".as_slice()
     );
-    let repeated = [passed(b"943", b"0001"), rejected(b"0001", 7)];
+    let repeated = [passed(b"943", b"0001"), rejected(b"943", b"0001", 7)];
     assert_eq!(rt;
         text_of_997(rt, &judged(b"AR", b"1", 2, &repeated))?.as_slice(),
         b"ST*997*0001~AK1*AR*1~AK2*943*0001~AK5*A~AK2*943*0001~AK5*R*7~AK9*P*2*2*1~SE*8*0001~".as_slice()
@@ -292,11 +293,150 @@ fn tells_a_segment(rt: HostRuntime) -> Result<(), Fail> {
     Ok(())
 }
 
+// A 997 of one group with one 943, which has a segment in error.
+fn text_of_fault(
+    rt: HostRuntime,
+    id: &[u8],
+    position: usize,
+    code: u8,
+    element: Option<ElementFault>,
+) -> Result<Vec<u8>, Fail> {
+    let sets = [in_error(
+        b"943",
+        SetFault {
+            id,
+            position,
+            code,
+            element,
+        },
+    )];
+    text_of_997(rt, &judged(b"AR", b"1", 1, &sets))
+}
+
+#[test]
+fn tells_a_misplaced_segment(rt: HostRuntime) -> Result<(), Fail> {
+    let cases = [
+        (
+            b"W04".as_slice(),
+            201,
+            2,
+            b"ST*997*0001~AK1*AR*1~AK2*943*0001~AK3*W04*201**2~AK5*R*5~AK9*R*1*1*0~SE*7*0001~".as_slice(),
+        ),
+        (
+            b"ZZZ".as_slice(),
+            3,
+            1,
+            b"ST*997*0001~AK1*AR*1~AK2*943*0001~AK3*ZZZ*3**1~AK5*R*5~AK9*R*1*1*0~SE*7*0001~".as_slice(),
+        ),
+        (
+            b"W05".as_slice(),
+            3,
+            6,
+            b"ST*997*0001~AK1*AR*1~AK2*943*0001~AK3*W05*3**6~AK5*R*5~AK9*R*1*1*0~SE*7*0001~".as_slice(),
+        ),
+        (
+            b"W06".as_slice(),
+            2,
+            3,
+            b"ST*997*0001~AK1*AR*1~AK2*943*0001~AK3*W06*2**3~AK5*R*5~AK9*R*1*1*0~SE*7*0001~".as_slice(),
+        ),
+    ];
+    for (id, position, code, want) in cases {
+        assert_eq!(rt;
+            text_of_fault(rt, id, position, code, None)?.as_slice(),
+            want
+        );
+    }
+    Ok(())
+}
+
+#[test]
+fn tells_an_element(rt: HostRuntime) -> Result<(), Fail> {
+    let cases = [
+        (
+            b"W03".as_slice(),
+            201,
+            1,
+            7,
+            b"ST*997*0001~AK1*AR*1~AK2*943*0001~AK3*W03*201**8~AK4*1**7~AK5*R*5~AK9*R*1*1*0~SE*8*0001~".as_slice(),
+        ),
+        (
+            b"W04".as_slice(),
+            3,
+            1,
+            5,
+            b"ST*997*0001~AK1*AR*1~AK2*943*0001~AK3*W04*3**8~AK4*1**5~AK5*R*5~AK9*R*1*1*0~SE*8*0001~".as_slice(),
+        ),
+        (
+            b"W04".as_slice(),
+            3,
+            6,
+            3,
+            b"ST*997*0001~AK1*AR*1~AK2*943*0001~AK3*W04*3**8~AK4*6**3~AK5*R*5~AK9*R*1*1*0~SE*8*0001~".as_slice(),
+        ),
+        (
+            b"W06".as_slice(),
+            2,
+            3,
+            8,
+            b"ST*997*0001~AK1*AR*1~AK2*943*0001~AK3*W06*2**8~AK4*3**8~AK5*R*5~AK9*R*1*1*0~SE*8*0001~".as_slice(),
+        ),
+        (
+            b"N9".as_slice(),
+            6,
+            2,
+            7,
+            b"ST*997*0001~AK1*AR*1~AK2*943*0001~AK3*N9*6**8~AK4*2**7~AK5*R*5~AK9*R*1*1*0~SE*8*0001~".as_slice(),
+        ),
+    ];
+    for (id, position, place, code, want) in cases {
+        let element = Some(ElementFault { place, code });
+        assert_eq!(rt;
+            text_of_fault(rt, id, position, 8, element)?.as_slice(),
+            want
+        );
+    }
+    Ok(())
+}
+
+#[test]
+fn tells_a_set(rt: HostRuntime) -> Result<(), Fail> {
+    let cases = [
+        (
+            b"940".as_slice(),
+            1,
+            b"ST*997*0001~AK1*AR*1~AK2*940*0001~AK5*R*1~AK9*R*1*1*0~SE*6*0001~".as_slice(),
+        ),
+        (
+            b"940".as_slice(),
+            2,
+            b"ST*997*0001~AK1*AR*1~AK2*940*0001~AK5*R*2~AK9*R*1*1*0~SE*6*0001~".as_slice(),
+        ),
+        (
+            b"943".as_slice(),
+            3,
+            b"ST*997*0001~AK1*AR*1~AK2*943*0001~AK5*R*3~AK9*R*1*1*0~SE*6*0001~".as_slice(),
+        ),
+    ];
+    for (number, code, want) in cases {
+        let sets = [rejected(number, b"0001", code)];
+        assert_eq!(rt;
+            text_of_997(rt, &judged(b"AR", b"1", 1, &sets))?.as_slice(),
+            want
+        );
+    }
+    Ok(())
+}
+
 #[test]
 fn tells_a_group(rt: HostRuntime) -> Result<(), Fail> {
     assert_eq!(rt;
         text_of_997(rt, &faulty(b"XX", 1, 1))?.as_slice(),
         b"ST*997*0001~AK1*XX*1~AK9*R*1*1*0*1~SE*4*0001~".as_slice()
+    );
+    assert_eq!(rt;
+        text_of_997(rt, &faulty(b"AR", 1, 2))?.as_slice(),
+        b"ST*997*0001~AK1*AR*1~AK9*R*1*1*0*2~SE*4*0001~".as_slice()
     );
     assert_eq!(rt;
         text_of_997(rt, &faulty(b"AR", 1, 4))?.as_slice(),
@@ -462,5 +602,121 @@ fn adjustments(rt: HostRuntime) -> Result<(), Fail> {
         out.as_slice(),
         b"ST*947*0001~W15*20250304*4~W19*AA*-3*EA**SK*BOLT~N9*LT*L1~SE*5*0001~".as_slice()
     );
+    Ok(())
+}
+
+// A vector that holds some text.
+fn begun(alloc: Global) -> Result<Vec<u8>, AllocError> {
+    let mut out = Vec::new(alloc);
+    out.extend_from_slice(b"A~")?;
+    Ok(out)
+}
+
+// Whether a writer left the whole text in that vector, or what it held where memory was refused.
+fn is_whole_or_nothing(written: Result<(), AllocError>, out: &[u8], whole: &[u8]) -> bool {
+    match written {
+        Ok(()) => out == whole,
+        Err(_) => out == b"A~".as_slice(),
+    }
+}
+
+// The same with each allocation refused in turn, as `rt try --test --fail-alloc N` does.
+#[test]
+fn writes_whole_or_nothing(rt: HostRuntime) -> Result<(), Fail> {
+    let delims = Delims::of_documents();
+    let Ok(mut out) = begun(rt.alloc()) else {
+        return Ok(());
+    };
+    let written = write_ta1(&mut out, delims, &heading(b"000000007", true), None);
+    assert!(rt; is_whole_or_nothing(written, &out, b"A~TA1*000000007*250304*0915*A*000~"));
+
+    let Ok(mut out) = begun(rt.alloc()) else {
+        return Ok(());
+    };
+    let sets = [passed(b"943", b"0001")];
+    let told = judged(b"AR", b"1", 1, &sets);
+    let written = write_997(&mut out, delims, 1, &told);
+    assert!(rt;
+        is_whole_or_nothing(
+            written,
+            &out,
+            b"A~ST*997*0001~AK1*AR*1~AK2*943*0001~AK5*A~AK9*A*1*1*1~SE*6*0001~"
+        )
+    );
+    Ok(())
+}
+
+#[test]
+fn writes_documents_whole_or_nothing(rt: HostRuntime) -> Result<(), Fail> {
+    let moment = envelope(4)?.moment;
+    let Ok(mut out) = begun(rt.alloc()) else {
+        return Ok(());
+    };
+    let receipt = Receipt {
+        order: b"PO77",
+        shipment: b"SHP1",
+        lines: &[],
+        counted: 0,
+        advised: 100,
+    };
+    let written = write_944(&mut out, &moment, 4, &receipt);
+    assert!(rt;
+        is_whole_or_nothing(
+            written,
+            &out,
+            b"A~ST*944*0001~W17*F*20250304*4*PO77*SHP1~W14*0*100~SE*4*0001~"
+        )
+    );
+
+    let Ok(mut out) = begun(rt.alloc()) else {
+        return Ok(());
+    };
+    let written = write_945(&mut out, &moment, 4, &shipped(&[of_six(0, &[])], 0));
+    assert!(rt;
+        is_whole_or_nothing(
+            written,
+            &out,
+            b"A~ST*945*0001~W06*F*ORD1*20250304*4~LX*1~W12*CP*6*0*6*EA**SK*BOLT~W03*0~SE*6*0001~"
+        )
+    );
+
+    let Ok(mut out) = begun(rt.alloc()) else {
+        return Ok(());
+    };
+    let lines = [AdjustedLine {
+        item: b"BOLT",
+        lot: b"L1",
+        before: 10,
+        after: 7,
+    }];
+    let written = write_947(&mut out, &moment, 4, &lines);
+    assert!(rt;
+        is_whole_or_nothing(
+            written,
+            &out,
+            b"A~ST*947*0001~W15*20250304*4~W19*AA*-3*EA**SK*BOLT~N9*LT*L1~SE*5*0001~"
+        )
+    );
+    Ok(())
+}
+
+#[test]
+fn writes_interchanges_whole_or_nothing(rt: HostRuntime) -> Result<(), Fail> {
+    let Ok(mut out) = begun(rt.alloc()) else {
+        return Ok(());
+    };
+    let envelope = envelope(1)?;
+    let heading = heading(b"000000007", true);
+    let refusal = Refusal {
+        delims: Delims::of_documents(),
+        warehouse: envelope.warehouse,
+        moment: envelope.moment,
+        heading: &heading,
+        note: 1,
+    };
+    match write_interchange(&mut out, &Interchange::Refused(&refusal)) {
+        Ok(()) => assert!(rt; out.starts_with(b"A~ISA") && out.ends_with(REFUSED)),
+        Err(_) => assert_eq!(rt; out.as_slice(), b"A~".as_slice()),
+    }
     Ok(())
 }
