@@ -19,7 +19,7 @@ first_noted (p ∷ ps) = by_test p.0 (first_note ps) (first_of None (map (λ p. 
     by_test true o h e = refl
     by_test false o h e = e
 
-first_appended : (ps qs : List (Bool × ℕ)) → first_note (ps ++ qs) ≡ or_else (first_note ps) (first_note qs)
+pub first_appended : (ps qs : List (Bool × ℕ)) → first_note (ps ++ qs) ≡ or_else (first_note ps) (first_note qs)
 first_appended [] qs = refl
 first_appended (p ∷ ps) qs = by_test p.0 (first_note (ps ++ qs)) (first_note ps) (first_appended ps qs)
   where

@@ -1,2 +1,9 @@
-pub mod SetsEnd
+pub mod Verdicts
+pub mod Judges
+pub mod Takes
+pub mod Loops
+pub mod Content
 pub mod Subjects
+pub mod Decides
+pub mod Lists
+pub mod Performs

@@ -1,9 +1,9 @@
 -- Whom a readable interchange names.
-use Rattle.std.proofs.Common.{◌≡◌, ℕ, ◌+◌, Bool, true, false, List, refl, sym, ◌∙◌, ap, Option, Some, None}
-use Rattle.std.specs.Prelude.{option_map, if◌then◌else◌, not, ◌&&◌}
+use Rattle.std.proofs.Common.{◌≡◌, ℕ, Bool, true, false, List, refl, sym, ◌∙◌, ap, Option, Some, None}
+use Rattle.std.specs.Prelude.{option_map, if◌then◌else◌}
 use Rattle.profile.specs.Header.{Who, is_unreadable, is_partner, sender, isa}
 use Rattle.profile.specs.Moments.{Moment}
-use Rattle.profile.specs.Register.{Command, Interchange, command_mark, interchange_mark}
+use Rattle.profile.specs.Register.{Interchange, command_mark, interchange_mark}
 use Rattle.profile.specs.Accepted.{subject}
 use Rattle.profile.specs.Reply.{interchange_entry}
 use Rattle.rules.specs.Written.{Written, written_as}

@@ -1,53 +1,87 @@
--- What a decision may be, as far as it is told today.
-use Rattle.std.specs.Prelude.{ℕ, ◌≡◌, ◌+◌, Bool, true, false, List, [], Option, Some, None, bytes_eq}
-use Rattle.profile.specs.Header.{Who}
-use Rattle.profile.specs.Moments.{Moment}
-use Rattle.profile.specs.Reply.{interchange_entry, enrolment_entry}
-use Rattle.profile.specs.Accepted.{entry_of}
-use Rattle.rules.specs.Asked.{asked}
-use Rattle.rules.specs.Written.{Recalled, written_as, unnumbered}
+-- What a page and what is known stand for, and the decision on a command.
+use Rattle.std.specs.Prelude.{ℕ, ◌≡◌, ◌+◌, List, Option, Some, None}
 use Rattle.std.specs.Borrow.{Bor}
-use Rattle.stock.specs.declared.page.Page.{Page}
-use Rattle.rules.specs.declared.commands.Command.{Command}
-use Rattle.rules.specs.declared.commands.Command.TheVariants.{Interchange, Enrol}
-use Rattle.rules.specs.declared.refusals.Refusal.{Refusal}
-use Rattle.rules.specs.declared.refusals.Refusal.TheVariants.{AlreadyEnrolled, NotBuilt}
+use Rattle.profile.specs.Moments.{Moment}
+use Rattle.profile.specs.Register as meant
+use Rattle.profile.specs.History.{History}
+use Rattle.profile.specs.Reply as replies
+use Rattle.profile.specs.Decision as known
+use Rattle.profile.specs.Accepted.{entry_of, depositor_of}
+use Rattle.stock.specs.Pages.{PageFacts}
+use Rattle.stock.specs.Shows.{Shows}
+use Rattle.rules.specs.Told.{refusal_of}
+use Rattle.rules.specs.Written.{Recalled, written_as, unnumbered}
 use Rattle.rules.specs.declared.decisions.Decision.{Decision}
 use Rattle.rules.specs.declared.decisions.Decision.TheVariants.{Stored, Refused, Accepted}
 
+-- a page of this history
+pub record IsPageOf (p : PageFacts) (h : History) : Type 0 where
+  pub shows : Shows p h.events
+  pub entries : p.entries ≡ h.numbered
+
+-- the page of a depositor with this history; a stranger has neither
+abbrev pub StandsFor : Option (Bor PageFacts) → Option History → Type 0
+StandsFor None None = Unit {0}
+StandsFor None (Some h) = ⊥
+StandsFor (Some p) None = ⊥
+StandsFor (Some p) (Some h) = IsPageOf p.now h
+
+-- an entry as it is written down, and the text that went out for it
+abbrev pub IsEntry : Recalled → known.Recalled → Type 0
+IsEntry r k = (n : ℕ) × (r.entry ≡ written_as n k.entry) × (r.outgoing ≡ k.outgoing)
+
+abbrev pub IsRecalled : Option Recalled → Option known.Recalled → Type 0
+IsRecalled None None = Unit {0}
+IsRecalled None (Some k) = ⊥
+IsRecalled (Some r) None = ⊥
+IsRecalled (Some r) (Some k) = IsEntry r k
+
+-- what is known is known under this key
+abbrev pub IsUnder : List ℕ → Option known.Recalled → Type 0
+IsUnder key None = Unit {0}
+IsUnder key (Some k) = meant.mark k.entry ≡ key
+
+-- what a decision on a command is given: the page of the depositor that it names, and what is known under its key
+pub record IsGiven (held : Option (Bor PageFacts)) (recalled : Option Recalled) (c : meant.Command) (h : Option History) (k : Option known.Recalled) : Type 0 where
+  pub page : StandsFor held h
+  pub known : IsRecalled recalled k
+  pub under : IsUnder (meant.command_mark c) k
+  -- who is no partner has no history
+  pub stranger : depositor_of c ≡ None → h ≡ None
+
 -- how many numbered entries a page tells, and 0 without one
-abbrev pub entries_of : Option (Bor Page) → ℕ
+abbrev pub entries_of : Option (Bor PageFacts) → ℕ
 entries_of None = 0
 entries_of (Some page) = page.now.entries
 
--- The decision on an enrolment: accepted where there is none yet.
-abbrev pub IsEnrolment : Bool → Who → Moment → Decision → Type 0
-IsEnrolment enrolled w t (Stored text) = ⊥
-IsEnrolment enrolled w t (Refused r text) = (enrolled ≡ true) × (r ≡ AlreadyEnrolled) × (text.items ≡ [])
-IsEnrolment enrolled w t (Accepted e changes text) = (enrolled ≡ false) × (e ≡ written_as 0 (enrolment_entry w t)) × (text.items ≡ [])
+-- there is no event since the last entry
+abbrev pub IsAtRest : Option (Bor PageFacts) → Type 0
+IsAtRest None = Unit {0}
+IsAtRest (Some page) = page.now.recent ≡ 0
 
--- the bytes are not those of an interchange that is known
-abbrev pub IsNews : Option Recalled → List ℕ → Type 0
-IsNews None bytes = Unit {0}
-IsNews (Some k) bytes = bytes_eq k.entry.body bytes ≡ false
+abbrev pub IsHeldAtRest : Option PageFacts → Type 0
+IsHeldAtRest None = Unit {0}
+IsHeldAtRest (Some page) = page.recent ≡ 0
 
--- The decision on an interchange of a depositor that is enrolled or isn't, with so many numbered entries: stored where its
--- bytes are known, whatever else is said of them; accepted under the next number, and only where its control number is
--- new; refused where what it asks for isn't built.
-abbrev pub IsAnswer : Bool → ℕ → Option Recalled → List ℕ → Moment → Decision → Type 0
-IsAnswer enrolled n known bytes t (Stored text) =
-    (k : Recalled) × (known ≡ Some k) × (bytes_eq k.entry.body bytes ≡ true) × (text.items ≡ k.outgoing)
-IsAnswer enrolled n known bytes t (Refused r text) = (r ≡ NotBuilt) × (text.items ≡ []) × (enrolled ≡ true → IsNews known bytes)
-IsAnswer enrolled n known bytes t (Accepted e changes text) =
-    (enrolled ≡ true) × (known ≡ None) × (e ≡ written_as (n + 1) (interchange_entry bytes t))
+-- the number of a command's entry behind so many numbered ones
+abbrev pub number_behind : ℕ → meant.Command → ℕ
+number_behind n (meant.Enrol w) = 0
+number_behind n c = n + 1
 
--- The decision on a command, with what is known under its key.
-abbrev pub IsDecided : Bool → ℕ → Option Recalled → Command → Moment → Decision → Type 0
-IsDecided enrolled n known (Enrol w) t decision = IsEnrolment enrolled w t decision
-IsDecided enrolled n known (Interchange bytes) t decision = IsAnswer enrolled n known bytes.now t decision
+-- the decision that is this reply, behind so many numbered entries
+abbrev pub IsReply : ℕ → meant.Command → Moment → replies.Reply → Decision → Type 0
+IsReply n c t reply (Stored text) = reply ≡ replies.Stored text.items
+IsReply n c t reply (Refused refusal text) = reply ≡ replies.Refused (refusal_of refusal) text.items
+IsReply n c t reply (Accepted e changes text) = (reply ≡ replies.Accepted text.items) × (e ≡ written_as (number_behind n c) (entry_of c t))
 
--- An accepted command comes to its entry, whatever its number.
-abbrev pub Comes : Command → Moment → Decision → Type 0
-Comes c t (Stored text) = Unit {0}
-Comes c t (Refused r text) = Unit {0}
-Comes c t (Accepted e changes text) = unnumbered e ≡ written_as 0 (entry_of (asked c) t)
+-- no entry comes of it
+abbrev pub IsNoEntry : Decision → Type 0
+IsNoEntry (Stored text) = Unit {0}
+IsNoEntry (Refused r text) = Unit {0}
+IsNoEntry (Accepted e changes text) = ⊥
+
+-- the entry that an accepted command makes, whatever its number
+abbrev pub Makes : meant.Command → Moment → Decision → Type 0
+Makes c t (Stored text) = Unit {0}
+Makes c t (Refused r text) = Unit {0}
+Makes c t (Accepted e changes text) = unnumbered e ≡ written_as 0 (entry_of c t)

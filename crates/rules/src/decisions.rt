@@ -1,19 +1,21 @@
-ghost use Rattle.std.specs.Prelude.{◌≡◌, ℕ, Bool, true, List, Option, Some, None, IfOk, IfSome, is_some, option_copied};
-ghost use Rattle.rules.specs.Decided.{IsDecided, IsEnrolment, IsAnswer, entries_of};
-ghost use Rattle.rules.specs.Written.{Recalled, written_as};
-ghost use Rattle.profile.specs.Moments.{Moment as Minute};
-ghost use Rattle.profile.specs.Header.{isa};
-ghost use Rattle.profile.specs.Register.{interchange_mark};
+ghost use Rattle.std.specs.Prelude.{◌≡◌, Option, IfOk, option_copied};
+ghost use Rattle.profile.specs.Decision as meant;
+ghost use Rattle.profile.specs.History.{History};
 ghost use Rattle.profile.specs.Reply.{enrolment_entry};
+ghost use Rattle.rules.specs.Asked.{act_of, asked};
+ghost use Rattle.profile.specs.Header.{Who as Partner};
+ghost use Rattle.profile.specs.Register as register;
+ghost use Rattle.rules.specs.Decided.{Makes, IsAtRest, IsGiven, StandsFor, IsReply, entries_of};
+ghost use Rattle.rules.specs.Written.{written_as};
 
-use crate::commands::{Command, Key};
+use crate::acts::clerk;
+use crate::commands::{Act, Command, Key};
 use crate::entries::{Entry, Known};
 use crate::house::Warehouse;
-use crate::interchanges::{NotTaken, Occasion, take};
+use crate::interchanges::interchange;
 use crate::refusals::Refusal;
-use envelope::{Isa, isa};
-use profile::MOST_ENTRIES;
 use segments::{Moment, Who};
+use sets_out::Envelope;
 use std::alloc::{AllocError, Global};
 use stock::{Change, Page};
 
@@ -49,10 +51,17 @@ fn enrolment(alloc: Global, who: Who, moment: Moment) -> Result<Entry, AllocErro
 }
 
 // The decision on an enrolment.
-fn enrol(alloc: Global, is_enrolled: bool, who: Who, moment: Moment) -> Result<Decision, AllocError>
-    ensures { IfOk result (IsEnrolment is_enrolled who moment) }
+fn enrol(
+    alloc: Global,
+    page: Option<&Page>,
+    who: Who,
+    moment: Moment,
+) -> Result<Decision, AllocError>
+    ensures comes { IfOk result (Makes (register.Enrol who) moment) }
+    ensures reply { IfOk result (λ d. (h : Option History) (k : Option meant.Recalled) (W : Partner) → StandsFor page.entry h
+        → IsReply (entries_of page.entry) (register.Enrol who) moment (meant.reply_by W h k (register.Enrol who) moment) d) }
 {
-    if is_enrolled {
+    if page.is_some() {
         return Ok(Decision::Refused(Refusal::AlreadyEnrolled, Vec::new(alloc)));
     }
     Ok(Decision::Accepted {
@@ -62,105 +71,36 @@ fn enrol(alloc: Global, is_enrolled: bool, who: Who, moment: Moment) -> Result<D
     })
 }
 
-// The entry of an interchange under a number.
-fn received(
-    alloc: Global,
-    header: &Isa<'_>,
-    who: Who,
-    number: u32,
-    moment: Moment,
-    text: &[u8],
-) -> Result<Entry, AllocError>
-    ensures { IfOk result (λ entry. entry ≡ record { who = who; key = interchange_mark (isa header.now 13); n = number; moment = moment; body = text.now }) }
-{
-    Ok(Entry {
-        who,
-        key: Key::Interchange(header.element(13)).text(alloc)?,
-        n: number,
-        moment,
-        body: text.to_vec(alloc)?,
-    })
-}
-
-// The acceptance of an interchange under a new control number, whose header is this.
-fn accepted(
-    alloc: Global,
-    warehouse: &Warehouse,
-    page: &Page,
-    header: &Isa<'_>,
-    moment: Moment,
-    text: &[u8],
-) -> Result<Option<Decision>, AllocError>
-    requires { header.now ≡ text.now }
-    ensures { IfOk result (λ o. IfSome o (IsAnswer true page.now.entries None text.now moment)) }
-{
-    let entries = page.entries();
-    let Some(who) = header.sender() else {
-        return Ok(None);
-    };
-    if entries >= MOST_ENTRIES {
-        return Ok(None);
-    }
-    let occasion = Occasion {
-        warehouse: *warehouse,
-        depositor: who,
-        moment,
-        number: entries + 1,
-    };
-    match take(alloc, &occasion, page, text) {
-        Ok(taken) => Ok(Some(Decision::Accepted {
-            entry: received(alloc, header, who, entries + 1, moment, text)?,
-            changes: taken.changes,
-            outgoing: taken.outgoing,
-        })),
-        Err(NotTaken::NotBuilt) => Ok(None),
-        Err(NotTaken::OutOfMemory) => Err(AllocError),
-    }
-}
-
-// The decision on an interchange of an enrolled depositor under a new control number.
-fn fresh(
-    alloc: Global,
-    warehouse: &Warehouse,
-    page: &Page,
-    text: &[u8],
-    moment: Moment,
-) -> Result<Decision, AllocError>
-    ensures { IfOk result (IsAnswer true page.now.entries None text.now moment) }
-{
-    if let Ok(header) = isa(text) {
-        if let Some(decision) = accepted(alloc, warehouse, page, &header, moment, text)? {
-            return Ok(decision);
-        }
-    }
-    Ok(Decision::Refused(Refusal::NotBuilt, Vec::new(alloc)))
-}
-
-// The decision on an interchange: a known control number is looked at before anything else is.
-fn interchange(
+// The decision on a clerk's act.
+fn perform(
     alloc: Global,
     warehouse: &Warehouse,
     page: Option<&Page>,
     known: Option<&Known>,
-    text: &[u8],
+    who: Who,
+    ticket: &[u8],
+    act: &Act<'_>,
     moment: Moment,
 ) -> Result<Decision, AllocError>
-    ensures { IfOk result (IsAnswer (is_some page.entry) (entries_of page.entry) (option_copied known.entry) text.now moment) }
+    requires { IsAtRest page }
+    ensures comes { IfOk result (Makes (register.Clerk who ticket.now (act_of act.now)) moment) }
+    ensures reply { IfOk result (λ d. (h : Option History) (k : Option meant.Recalled) → IsGiven page.entry (option_copied known.entry) (register.Clerk who ticket.now (act_of act.now)) h k
+        → IsReply (entries_of page.entry) (register.Clerk who ticket.now (act_of act.now)) moment (meant.clerk_by warehouse.now h k who ticket.now (act_of act.now) moment) d) }
 {
     let Some(page) = page else {
-        return Ok(Decision::Refused(Refusal::NotBuilt, Vec::new(alloc)));
+        return Ok(Decision::Refused(Refusal::UnknownDepositor, Vec::new(alloc)));
     };
-    let Some(known) = known else {
-        return fresh(alloc, warehouse, page, text, moment);
+    let envelope = Envelope {
+        warehouse: warehouse.who(),
+        depositor: who,
+        moment,
+        number: page.next_number(),
     };
-    if known.is_of(text) {
-        return Ok(Decision::Stored(known.outgoing().to_vec(alloc)?));
-    }
-    Ok(Decision::Refused(Refusal::NotBuilt, Vec::new(alloc)))
+    clerk(alloc, &envelope, page, known, ticket, act)
 }
 
 /// What a command comes to, by the page of the depositor that it names, if that is enrolled, and what is known under its
-/// key. Only want of memory keeps it from being decided.
+/// key: the defined reply, with the entry that is to be recorded. Only want of memory keeps it from being decided.
 pub fn decide(
     alloc: Global,
     warehouse: &Warehouse,
@@ -169,10 +109,16 @@ pub fn decide(
     command: &Command<'_>,
     moment: Moment,
 ) -> Result<Decision, AllocError>
-    ensures { IfOk result (λ decision. IsDecided (is_some page.entry) (entries_of page.entry) (option_copied known.entry) command.now moment decision) }
+    requires { IsAtRest page }
+    ensures comes { IfOk result (Makes (asked command.now) moment) }
+    ensures reply { IfOk result (λ d. (h : Option History) (k : Option meant.Recalled) → IsGiven page.entry (option_copied known.entry) (asked command.now) h k
+        → IsReply (entries_of page.entry) (asked command.now) moment (meant.reply_by warehouse.now h k (asked command.now) moment) d) }
 {
     match command {
-        Command::Enrol(who) => enrol(alloc, page.is_some(), *who, moment),
         Command::Interchange(text) => interchange(alloc, warehouse, page, known, text, moment),
+        Command::Enrol(who) => enrol(alloc, page, *who, moment),
+        Command::Clerk { who, ticket, act } => {
+            perform(alloc, warehouse, page, known, *who, ticket, act, moment)
+        }
     }
 }

@@ -11,13 +11,14 @@ use std::marker::Model;
 pub struct Entry {
     /// The depositor that it is of.
     pub who: Who,
-    /// Its key among the depositor's entries: `E` of an enrolment, `X` and ISA13 of an interchange.
+    /// Its key among the depositor's entries: `E` of an enrolment, `X` and ISA13 of an interchange, `T` and the ticket of an
+    /// act.
     pub key: Vec<u8>,
     /// Its number among the depositor's entries, from 1; 0 of an enrolment.
     pub n: u32,
     /// When it was accepted.
     pub moment: Moment,
-    /// What was accepted: an interchange's bytes, nothing of an enrolment.
+    /// What was accepted: an interchange's bytes, an act's canonical text, nothing of an enrolment.
     pub body: Vec<u8>,
 }
 
@@ -75,6 +76,11 @@ impl Entry {
         ensures { result ≡ nat_lt 0 self.now.n }
     {
         self.n > 0
+    }
+
+    /// Whether the entry is that of a clerk's act: its key is `T` and the ticket.
+    pub(crate) fn is_ticketed(&self) -> bool {
+        self.key.first() == Some(&b'T')
     }
 
     /// A copy of it.

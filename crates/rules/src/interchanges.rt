@@ -1,195 +1,213 @@
-ghost use Rattle.std.specs.Prelude.{◌≡◌, ◌<◌, IfSome, IfOk};
-ghost use Rattle.rules.specs.declared.interchanges.NotTaken.TheVariants.{OutOfMemory};
+//! What an interchange comes to.
+ghost use Rattle.std.specs.Prelude.{◌≡◌, ◌+◌, ℕ, List, None, Option, IfOk, option_copied};
+ghost use Rattle.profile.specs.Header.{isa as meant_isa, sender};
+ghost use Rattle.profile.specs.Halt.{structure_note};
+ghost use Rattle.profile.specs.History.{History};
+ghost use Rattle.profile.specs.Register as register;
+ghost use Rattle.profile.specs.Refusals as refusals;
+ghost use Rattle.profile.specs.Reply as replies;
+ghost use Rattle.profile.specs.Decision as recalled;
+ghost use Rattle.profile.specs.Cut.{cut};
+ghost use Rattle.profile.specs.Header.{delims_of};
+ghost use Rattle.profile.specs.Structure.{groups_of};
+ghost use Rattle.envelope.specs.Conditions.{IsTold};
+ghost use Rattle.rules.specs.Decided.{IsNoEntry, Makes, IsPageOf, IsEntry, IsGiven, IsReply, IsAtRest, entries_of};
 
+use crate::answers::{answer, refusal};
+use crate::commands::Key;
+use crate::decisions::Decision;
+use crate::entries::{Entry, Known};
 use crate::house::Warehouse;
-use envelope::{Group, Halt, Interchange, Isa, Set, header_note, isa, structure};
-use profile::MOST_BYTES;
-use segments::{Moment, Segment, Who};
-use sets_in::{Advice, advice};
-use sets_out::{
-    Answer, Envelope, Heading, Interchange as Outgoing, Told, ToldSet, write_interchange,
-};
+use crate::refusals::Refusal;
+use crate::taking::take_groups;
+use envelope::{Halt, Interchange, Isa, header_note, isa, structure};
+use profile::MOST_ENTRIES;
+use segments::{Moment, Who};
+use sets_out::Envelope;
 use std::alloc::{AllocError, Global};
-use stock::{Change, Page, Stop, announce};
-use tables::{Checked, SetKind, is_closed, judge};
+use stock::Page;
 
-/// What an interchange came to that was taken.
-#[derive(Drop)]
-pub(crate) struct Taken {
-    /// The page with its events.
-    pub(crate) page: Page,
-    /// The rows that changed.
-    pub(crate) changes: Vec<Change>,
-    /// The answer.
-    pub(crate) outgoing: Vec<u8>,
+// The refusal of an interchange with a note.
+fn noted(
+    alloc: Global,
+    warehouse: &Warehouse,
+    header: &Isa<'_>,
+    moment: Moment,
+    code: u8,
+) -> Result<Decision, AllocError>
+    ensures comes { IfOk result (IsNoEntry) }
+    ensures reply { IfOk result (λ d. (n : ℕ) (c : register.Command)
+        → IsReply n c moment (replies.Refused (refusals.Note code) (replies.refusal_answer warehouse.now header.now moment (refusals.Note code))) d) }
+{
+    let answer = refusal(alloc, warehouse.who(), header, moment, code)?;
+    Ok(Decision::Refused(Refusal::Note(code), answer))
 }
 
-/// Why an interchange isn't taken.
-#[derive(Drop)]
-pub(crate) enum NotTaken {
-    /// What it asks for isn't built.
-    NotBuilt,
-    /// A growth was refused.
-    OutOfMemory,
+// What an interchange comes to whose control number is known: the stored text where its bytes are the same, whatever else
+// is said of them; else it is refused as a duplicate.
+fn again(
+    alloc: Global,
+    warehouse: &Warehouse,
+    known: &Known,
+    header: &Isa<'_>,
+    text: &[u8],
+    moment: Moment,
+) -> Result<Decision, AllocError>
+    requires { header.now ≡ text.now }
+    ensures comes { IfOk result (IsNoEntry) }
+    ensures reply { IfOk result (λ d. (n : ℕ) (k : recalled.Recalled) → IsEntry known.now k → register.mark k.entry ≡ register.interchange_mark (meant_isa text.now 13)
+        → IsReply n (register.Interchange text.now) moment (recalled.interchange_again warehouse.now text.now moment k) d) }
+{
+    if known.is_of(text) {
+        return Ok(Decision::Stored(known.outgoing().to_vec(alloc)?));
+    }
+    let answer = refusal(alloc, warehouse.who(), header, moment, 25)?;
+    Ok(Decision::Refused(Refusal::Duplicate, answer))
 }
 
-impl From<AllocError> for NotTaken {
-    fn from(_error: AllocError) -> NotTaken {
-        NotTaken::OutOfMemory
+// The entry of an interchange.
+fn entry(
+    alloc: Global,
+    envelope: &Envelope,
+    header: &Isa<'_>,
+    text: &[u8],
+) -> Result<Entry, AllocError>
+    ensures { IfOk result (λ e. e ≡ record { who = envelope.now.depositor; key = register.interchange_mark (meant_isa header.now 13); n = envelope.now.number; moment = envelope.now.moment; body = text.now }) }
+{
+    Ok(Entry {
+        who: envelope.depositor,
+        key: Key::Interchange(header.element(13)).text(alloc)?,
+        n: envelope.number,
+        moment: envelope.moment,
+        body: text.to_vec(alloc)?,
+    })
+}
+
+// What an interchange comes to that no condition halts: it is accepted under the next number, if there is one.
+fn accepted(
+    alloc: Global,
+    envelope: Envelope,
+    page: &Page,
+    header: &Isa<'_>,
+    interchange: &Interchange<'_>,
+    text: &[u8],
+) -> Result<Decision, AllocError>
+    requires same { header.now ≡ text.now }
+    requires parts { interchange.now ≡ record { delims = delims_of text.now; groups = groups_of (cut (delims_of text.now) text.now).segments } }
+    requires clean { structure_note text.now ≡ None }
+    requires number { envelope.number ≡ page.now.entries + 1 }
+    requires rest { page.now.recent ≡ 0 }
+    requires whose { envelope.depositor ≡ sender text.now }
+    ensures comes { IfOk result (Makes (register.Interchange text.now) envelope.moment) }
+    ensures reply { IfOk result (λ d. (h : History) → IsPageOf page.now h
+        → IsReply page.now.entries (register.Interchange text.now) envelope.moment (recalled.accepted_by envelope.warehouse h (replies.interchange_entry text.now envelope.moment)) d) }
+{
+    if page.entries() >= MOST_ENTRIES {
+        return Ok(Decision::Refused(Refusal::NumbersUsedUp, Vec::new(alloc)));
+    }
+    let groups = take_groups(alloc, page.copy()?, interchange)?;
+    let outgoing = answer(alloc, envelope, header, &groups.told)?;
+    let entry = entry(alloc, &envelope, header, text)?;
+    Ok(Decision::Accepted {
+        entry,
+        changes: groups.changes,
+        outgoing,
+    })
+}
+
+// What an interchange comes to that is halted at its segments.
+fn halted(
+    alloc: Global,
+    warehouse: &Warehouse,
+    header: &Isa<'_>,
+    moment: Moment,
+    halt: Halt,
+) -> Result<Decision, AllocError>
+    ensures comes { IfOk result (IsNoEntry) }
+    ensures reply { IfOk result (λ d. (text : List ℕ) (h : History) (n : ℕ) → IsTold halt text → header.now ≡ text
+        → IsReply n (register.Interchange text) moment (recalled.interchange_new warehouse.now h text moment (structure_note text)) d) }
+{
+    match halt {
+        Halt::Note(code) => noted(alloc, warehouse, header, moment, code),
+        Halt::OutOfMemory => Err(AllocError),
     }
 }
 
-impl From<Halt> for NotTaken {
-    fn from(halt: Halt) -> NotTaken {
-        match halt {
-            Halt::Note(_) => NotTaken::NotBuilt,
-            Halt::OutOfMemory => NotTaken::OutOfMemory,
-        }
+// What an interchange of an enrolled depositor comes to whose control number is new.
+fn fresh(
+    alloc: Global,
+    warehouse: &Warehouse,
+    page: &Page,
+    who: Who,
+    header: &Isa<'_>,
+    text: &[u8],
+    moment: Moment,
+) -> Result<Decision, AllocError>
+    requires same { header.now ≡ text.now }
+    requires rest { page.now.recent ≡ 0 }
+    requires whose { who ≡ sender text.now }
+    ensures comes { IfOk result (Makes (register.Interchange text.now) moment) }
+    ensures reply { IfOk result (λ d. (h : History) → IsPageOf page.now h
+        → IsReply page.now.entries (register.Interchange text.now) moment (recalled.interchange_new warehouse.now h text.now moment (recalled.new_note warehouse.now text.now)) d) }
+{
+    if let Some(code) = header_note(header, &warehouse.who()) {
+        return noted(alloc, warehouse, header, moment, code);
+    }
+    let envelope = Envelope {
+        warehouse: warehouse.who(),
+        depositor: who,
+        moment,
+        number: page.next_number(),
+    };
+    match structure(alloc, text, header) {
+        Ok(interchange) => accepted(alloc, envelope, page, header, &interchange, text),
+        Err(halt) => halted(alloc, warehouse, header, moment, halt),
     }
 }
 
-impl From<Stop> for NotTaken {
-    fn from(stop: Stop) -> NotTaken {
-        match stop {
-            Stop::Set(_) => NotTaken::NotBuilt,
-            Stop::OutOfMemory => NotTaken::OutOfMemory,
-        }
+// What an interchange comes to that can be read.
+fn readable(
+    alloc: Global,
+    warehouse: &Warehouse,
+    page: Option<&Page>,
+    known: Option<&Known>,
+    header: &Isa<'_>,
+    text: &[u8],
+    moment: Moment,
+) -> Result<Decision, AllocError>
+    requires same { header.now ≡ text.now }
+    requires rest { IsAtRest page }
+    ensures comes { IfOk result (Makes (register.Interchange text.now) moment) }
+    ensures reply { IfOk result (λ d. (h : Option History) (k : Option recalled.Recalled) → IsGiven page.entry (option_copied known.entry) (register.Interchange text.now) h k
+        → IsReply (entries_of page.entry) (register.Interchange text.now) moment (recalled.interchange_known warehouse.now h k text.now moment) d) }
+{
+    let (Some(page), Some(who)) = (page, header.sender()) else {
+        return noted(alloc, warehouse, header, moment, 6);
+    };
+    match known {
+        Some(known) => again(alloc, warehouse, known, header, text, moment),
+        None => fresh(alloc, warehouse, page, who, header, text, moment),
     }
 }
 
-/// Who takes an interchange, for whom, when, and under which number.
-#[derive(Clone, Copy)]
-pub(crate) struct Occasion {
-    pub(crate) warehouse: Warehouse,
-    pub(crate) depositor: Who,
-    pub(crate) moment: Moment,
-    pub(crate) number: u32,
-}
-
-// The header of a text that can be read and that no condition on the header halts.
-fn addressed<'a>(text: &'a [u8], warehouse: &Warehouse) -> Option<Isa<'a>>
-    ensures { IfSome result (λ i. i ≡ text.now) }
+/// What an interchange comes to: it is refused where it can't be read; where its sender isn't enrolled; where its control
+/// number is known of other bytes; at the first condition on its header and its segments that holds; where the numbers are
+/// used up. A known interchange is answered with what was sent for it. Want of memory is the one error.
+pub(crate) fn interchange(
+    alloc: Global,
+    warehouse: &Warehouse,
+    page: Option<&Page>,
+    known: Option<&Known>,
+    text: &[u8],
+    moment: Moment,
+) -> Result<Decision, AllocError>
+    requires { IsAtRest page }
+    ensures comes { IfOk result (Makes (register.Interchange text.now) moment) }
+    ensures reply { IfOk result (λ d. (h : Option History) (k : Option recalled.Recalled) → IsGiven page.entry (option_copied known.entry) (register.Interchange text.now) h k
+        → IsReply (entries_of page.entry) (register.Interchange text.now) moment (recalled.interchange_by warehouse.now h k text.now moment) d) }
 {
     match isa(text) {
-        Ok(header) if header_note(&header, &warehouse.who()).is_none() => Some(header),
-        _ => None,
+        Ok(header) => readable(alloc, warehouse, page, known, &header, text, moment),
+        Err(_) => Ok(Decision::Refused(Refusal::Unreadable, Vec::new(alloc))),
     }
-}
-
-// The one group of an interchange, where it has no fault.
-fn only_group<'s, 'a>(interchange: &'s Interchange<'a>) -> Option<&'s Group<'a>> {
-    let groups = interchange.groups();
-    if groups.len() != 1 || groups[0].fault().is_some() {
-        return None;
-    }
-    Some(&groups[0])
-}
-
-// The one set of a group, where its envelope has no fault.
-fn only_set<'s, 'a>(alloc: Global, group: &'s Group<'a>) -> Result<&'s Set<'a>, NotTaken> {
-    let sets = group.sets();
-    if sets.len() != 1 {
-        return Err(NotTaken::NotBuilt);
-    }
-    let faults = group.set_faults(alloc)?;
-    if faults.iter().any(|fault| fault.is_some()) {
-        return Err(NotTaken::NotBuilt);
-    }
-    Ok(&sets[0])
-}
-
-// Whether the first line of the set stands directly behind its second segment, with no part of a header between.
-fn has_no_header(segments: &[Segment<'_>]) -> bool {
-    match segments.get(2) {
-        Some(segment) => segment.has_id(b"W04"),
-        None => false,
-    }
-}
-
-// The advice of a set of lines alone that has no fault.
-fn advised(alloc: Global, segments: &[Segment<'_>]) -> Result<Advice, NotTaken> {
-    if segments.len() > MOST_BYTES || !is_closed(segments) || !has_no_header(segments) {
-        return Err(NotTaken::NotBuilt);
-    }
-    match judge(SetKind::ShipmentAdvice, segments) {
-        Ok(set) => Ok(advice(alloc, &set)?),
-        Err(_) => Err(NotTaken::NotBuilt),
-    }
-}
-
-// What the answer repeats of the header.
-fn heading<'a>(header: &Isa<'a>) -> Heading<'a> {
-    Heading {
-        qualifier: header.element(5),
-        id: header.element(6),
-        date: header.element(9),
-        time: header.element(10),
-        control: header.element(13),
-        asks: header.element(14) == b"1".as_slice(),
-    }
-}
-
-// The answer to an interchange of one set that passed.
-fn answer<'a>(
-    alloc: Global,
-    occasion: &Occasion,
-    header: &Isa<'a>,
-    group: &Segment<'a>,
-    set: &Segment<'a>,
-) -> Result<Vec<u8>, AllocError> {
-    let sets = [ToldSet {
-        number: set.element(1),
-        control: set.element(2),
-        rejection: None,
-    }];
-    let told = [Told {
-        function: group.element(1),
-        number: group.element(6),
-        stated: 1,
-        received: 1,
-        fault: None,
-        sets: &sets,
-    }];
-    let heading = heading(header);
-    let envelope = Envelope {
-        warehouse: occasion.warehouse.who(),
-        depositor: occasion.depositor,
-        moment: occasion.moment,
-        number: occasion.number,
-    };
-    let answer = Answer {
-        delims: header.delims(),
-        envelope,
-        heading: &heading,
-        told: &told,
-    };
-    let interchange = Outgoing::Answered(&answer);
-    let mut text = Vec::new(alloc);
-    write_interchange(&mut text, &interchange)?;
-    Ok(text)
-}
-
-/// Takes an interchange over the page that its depositor has: it passes all tests of the envelope, and has one group of one
-/// 943 of lines alone that passes.
-pub(crate) fn take(
-    alloc: Global,
-    occasion: &Occasion,
-    page: &Page,
-    text: &[u8],
-) -> Result<Taken, NotTaken> {
-    let header = addressed(text, &occasion.warehouse).ok_or(NotTaken::NotBuilt)?;
-    let interchange = structure(alloc, text, &header)?;
-    let group = only_group(&interchange).ok_or(NotTaken::NotBuilt)?;
-    let set = only_set(alloc, group)?;
-    let segments = set.segments();
-    let advice = advised(alloc, segments)?;
-    if segments.is_empty() || group.head().element(1) != b"AR".as_slice() {
-        return Err(NotTaken::NotBuilt);
-    }
-    let step = announce(alloc, page, &advice)?;
-    Ok(Taken {
-        page: step.page,
-        changes: step.changes,
-        outgoing: answer(alloc, occasion, &header, group.head(), &segments[0])?,
-    })
 }

@@ -2,19 +2,25 @@
 //! command's key. No store and no clock are asked here.
 #![tactic(auto)]
 
+mod acts;
+mod answers;
 mod commands;
 mod decisions;
+mod documents;
 mod entries;
 mod house;
 mod interchanges;
+mod judging;
+mod readings;
 mod refusals;
 mod replays;
+mod taking;
 
-pub use commands::{Command, Key, subject};
+pub use commands::{Act, Command, Key, subject};
 pub use decisions::{Decision, decide};
 pub use entries::{Entry, Known};
 pub use house::Warehouse;
 pub use refusals::Refusal;
 pub use replays::{Replayed, replay};
 pub use segments::{Ident, Moment, Who};
-pub use stock::{Change, Page, Row};
+pub use stock::{Change, Line, Page, Row, Sheet, SheetKind};

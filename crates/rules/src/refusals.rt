@@ -1,37 +1,128 @@
-ghost use Rattle.std.specs.Prelude.{◌≡◌};
-ghost use Rattle.rules.specs.Told.{number_told, name_told};
+ghost use Rattle.std.specs.Prelude.{◌≡◌, IfOk};
+ghost use Rattle.profile.specs.Bytes.{zero_filled};
+ghost use Rattle.profile.specs.Refusals as meant;
+ghost use Rattle.rules.specs.Told.{refusal_of, plain_name};
+
+use std::alloc::{AllocError, Global};
 
 /// Why a command is refused. The book is as before.
 #[derive(Clone, Copy, Debug, PartialEq, Eq)]
 pub enum Refusal {
+    /// 1: the text is no interchange that can be read.
+    Unreadable,
+    /// 2: a condition on the interchange's header or segments, with its note code (TA105).
+    Note(u8),
+    /// 3: the control number is known of other bytes.
+    Duplicate,
+    /// 20: the depositor isn't enrolled.
+    UnknownDepositor,
+    /// 21: the ticket is known of another act.
+    TicketUsed,
+    /// 22: no advice has this shipment number.
+    UnknownAdvice,
+    /// 23: the advice was counted before.
+    AdviceClosed,
+    /// 24: no order has this number.
+    UnknownOrder,
+    /// 25: the order was picked before.
+    OrderClosed,
+    /// 26: a line exceeds what the order has reserved of its pair.
+    NotReserved,
+    /// 27: no count named a pair of the sheet.
+    UnknownLot,
+    /// 28: a new amount is below what is reserved of its pair.
+    BelowReserved,
+    /// 29: no line differs from what is on hand.
+    NoDifference,
+    /// 30: a quantity is over its limit.
+    TooMuch,
+    /// 31: a pair stands twice in a sheet.
+    RepeatedLine,
     /// 32: a text that can't be read.
     BadText,
+    /// 33: a sheet has too many lines.
+    TooManyLines,
+    /// 34: the depositor's numbers are used up.
+    NumbersUsedUp,
     /// 35: the depositor is enrolled already.
     AlreadyEnrolled,
-    /// 36: what the command asks for isn't built yet.
-    NotBuilt,
+}
+
+// `Note(006)`, with the code in three digits.
+fn note_name(alloc: Global, code: u8) -> Result<Vec<u8>, AllocError>
+    ensures { IfOk result (λ name. name.items ≡ meant.refusal_name (meant.Note code)) }
+{
+    let mut name = Vec::new(alloc);
+    name.extend_from_slice(b"Note(")?;
+    name.push(b'0' + code / 10 / 10 % 10)?;
+    name.push(b'0' + code / 10 % 10)?;
+    name.push(b'0' + code % 10)?;
+    name.push(b')')?;
+    Ok(name)
 }
 
 impl Refusal {
     /// Its number.
     pub fn number(&self) -> u8
-        ensures { result ≡ number_told self.now }
+        ensures { result ≡ meant.refusal_number (refusal_of self.now) }
     {
         match self {
+            Refusal::Unreadable => 1,
+            Refusal::Note(_) => 2,
+            Refusal::Duplicate => 3,
+            Refusal::UnknownDepositor => 20,
+            Refusal::TicketUsed => 21,
+            Refusal::UnknownAdvice => 22,
+            Refusal::AdviceClosed => 23,
+            Refusal::UnknownOrder => 24,
+            Refusal::OrderClosed => 25,
+            Refusal::NotReserved => 26,
+            Refusal::UnknownLot => 27,
+            Refusal::BelowReserved => 28,
+            Refusal::NoDifference => 29,
+            Refusal::TooMuch => 30,
+            Refusal::RepeatedLine => 31,
             Refusal::BadText => 32,
+            Refusal::TooManyLines => 33,
+            Refusal::NumbersUsedUp => 34,
             Refusal::AlreadyEnrolled => 35,
-            Refusal::NotBuilt => 36,
         }
     }
 
-    /// Its name.
-    pub fn name(&self) -> &'static str
-        ensures { result.now ≡ name_told self.now }
+    // Its name without a note's code.
+    fn plain_name(&self) -> &'static str
+        ensures { result.now ≡ plain_name self.now }
     {
         match self {
+            Refusal::Unreadable => "Unreadable",
+            Refusal::Note(_) => "Note",
+            Refusal::Duplicate => "Duplicate",
+            Refusal::UnknownDepositor => "UnknownDepositor",
+            Refusal::TicketUsed => "TicketUsed",
+            Refusal::UnknownAdvice => "UnknownAdvice",
+            Refusal::AdviceClosed => "AdviceClosed",
+            Refusal::UnknownOrder => "UnknownOrder",
+            Refusal::OrderClosed => "OrderClosed",
+            Refusal::NotReserved => "NotReserved",
+            Refusal::UnknownLot => "UnknownLot",
+            Refusal::BelowReserved => "BelowReserved",
+            Refusal::NoDifference => "NoDifference",
+            Refusal::TooMuch => "TooMuch",
+            Refusal::RepeatedLine => "RepeatedLine",
             Refusal::BadText => "BadText",
+            Refusal::TooManyLines => "TooManyLines",
+            Refusal::NumbersUsedUp => "NumbersUsedUp",
             Refusal::AlreadyEnrolled => "AlreadyEnrolled",
-            Refusal::NotBuilt => "NotBuilt",
+        }
+    }
+
+    /// Its name, a note's with the code in three digits, as `Note(006)`. Want of memory is the one error.
+    pub fn name(&self, alloc: Global) -> Result<Vec<u8>, AllocError>
+        ensures { IfOk result (λ name. name.items ≡ meant.refusal_name (refusal_of self.now)) }
+    {
+        match self {
+            Refusal::Note(code) => note_name(alloc, *code),
+            other => other.plain_name().as_bytes().to_vec(alloc),
         }
     }
 }

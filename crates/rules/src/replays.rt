@@ -1,9 +1,22 @@
+//! What an entry of the register came to.
+ghost use Rattle.std.specs.Prelude.{◌≡◌, ◌≤◌, ◌<◌, ◌+◌, IfOk, length, sum_by};
+ghost use Rattle.std.specs.List.{AllByRecursion};
+ghost use Rattle.rules.specs.Judging.{IsSmall};
+ghost use Rattle.profile.specs.Limits.{most_entries};
+ghost use Rattle.rules.specs.Decided.{IsHeldAtRest};
+
+use crate::acts::perform;
+use crate::answers::answer;
+use crate::documents::document;
 use crate::entries::Entry;
 use crate::house::Warehouse;
-use crate::interchanges::{NotTaken, Occasion, Taken, take};
+use crate::readings::read;
+use crate::taking::take_groups;
+use envelope::{Halt, Interchange, Isa, isa, structure};
 use profile::MOST_ENTRIES;
+use sets_out::Envelope;
 use std::alloc::{AllocError, Global};
-use stock::Page;
+use stock::{Page, Stop};
 
 /// A page with one entry of the register more, and the text that went out for it.
 #[derive(Drop)]
@@ -14,32 +27,102 @@ pub struct Replayed {
     pub outgoing: Vec<u8>,
 }
 
-// What an entry's interchange came to; None where it is none that is taken.
-fn taken(
+// A page to which nothing comes.
+fn nothing(alloc: Global, page: Page) -> Replayed
+    ensures { result.page ≡ page }
+{
+    Replayed {
+        page,
+        outgoing: Vec::new(alloc),
+    }
+}
+
+// What the groups of an interchange came to.
+fn grouped(
     alloc: Global,
-    warehouse: &Warehouse,
-    page: &Page,
-    entry: &Entry,
-) -> Result<Option<Taken>, AllocError> {
-    let occasion = Occasion {
-        warehouse: *warehouse,
-        depositor: entry.who(),
-        moment: entry.moment(),
-        number: entry.number(),
+    envelope: Envelope,
+    page: Page,
+    header: &Isa<'_>,
+    interchange: &Interchange<'_>,
+) -> Result<Replayed, AllocError>
+    requires room { page.recent + sum_by (λ g. length g.sets) interchange.now.groups ≤ 1000 }
+    requires small { AllByRecursion IsSmall interchange.now.groups }
+    ensures { IfOk result (λ r. r.page.entries ≡ page.entries) }
+{
+    let groups = take_groups(alloc, page, interchange)?;
+    let outgoing = answer(alloc, envelope, header, &groups.told)?;
+    Ok(Replayed {
+        page: groups.page,
+        outgoing,
+    })
+}
+
+// What an interchange that can be read came to.
+fn structured(
+    alloc: Global,
+    envelope: Envelope,
+    page: Page,
+    header: &Isa<'_>,
+    text: &[u8],
+) -> Result<Replayed, AllocError>
+    requires same { header.now ≡ text.now }
+    requires rest { page.recent ≡ 0 }
+    ensures { IfOk result (λ r. r.page.entries ≡ page.entries) }
+{
+    match structure(alloc, text, header) {
+        Ok(interchange) => grouped(alloc, envelope, page, header, &interchange),
+        Err(Halt::Note(_)) => Ok(nothing(alloc, page)),
+        Err(Halt::OutOfMemory) => Err(AllocError),
+    }
+}
+
+// What an interchange came to.
+fn received(
+    alloc: Global,
+    envelope: Envelope,
+    page: Page,
+    text: &[u8],
+) -> Result<Replayed, AllocError>
+    requires { page.recent ≡ 0 }
+    ensures { IfOk result (λ r. r.page.entries ≡ page.entries) }
+{
+    match isa(text) {
+        Ok(header) => structured(alloc, envelope, page, &header, text),
+        Err(_) => Ok(nothing(alloc, page)),
+    }
+}
+
+// What a clerk's act came to.
+fn performed(
+    alloc: Global,
+    envelope: Envelope,
+    page: Page,
+    text: &[u8],
+) -> Result<Replayed, AllocError>
+    requires { page.recent ≡ 0 }
+    ensures { IfOk result (λ r. r.page.entries ≡ page.entries) }
+{
+    let Some(read) = read(alloc, text)? else {
+        return Ok(nothing(alloc, page));
     };
-    match take(alloc, &occasion, page, entry.body()) {
-        Ok(taken) => Ok(Some(taken)),
-        Err(NotTaken::NotBuilt) => Ok(None),
-        Err(NotTaken::OutOfMemory) => Err(AllocError),
+    let act = read.act();
+    match perform(alloc, &page, &act) {
+        Ok(step) => Ok(Replayed {
+            page: step.page,
+            outgoing: document(alloc, &envelope, &page, &act)?,
+        }),
+        Err(Stop::OutOfMemory) => Err(AllocError),
+        Err(_) => Ok(nothing(alloc, page)),
     }
 }
 
 // The page with one numbered entry more.
-fn ended(page: Page) -> Page {
+fn ended(page: Page) -> Page
+    requires { page.entries < most_entries }
+    ensures { result.recent ≡ 0 }
+{
     let mut page = page;
-    if page.entries() < MOST_ENTRIES {
-        page.next_entry();
-    }
+    page.next_entry();
     page
 }
 
@@ -50,22 +133,30 @@ pub fn replay(
     warehouse: &Warehouse,
     page: Option<Page>,
     entry: &Entry,
-) -> Result<Replayed, AllocError> {
-    let page = page.unwrap_or(Page::new(alloc));
-    if !entry.is_numbered() {
-        return Ok(Replayed {
-            page,
-            outgoing: Vec::new(alloc),
-        });
+) -> Result<Replayed, AllocError>
+    requires { IsHeldAtRest page }
+    ensures { IfOk result (λ r. r.page.recent ≡ 0) }
+{
+    let page = match page {
+        Some(page) => page,
+        None => Page::new(alloc),
+    };
+    if !entry.is_numbered() || page.entries() >= MOST_ENTRIES {
+        return Ok(nothing(alloc, page));
     }
-    match taken(alloc, warehouse, &page, entry)? {
-        Some(taken) => Ok(Replayed {
-            page: ended(taken.page),
-            outgoing: taken.outgoing,
-        }),
-        None => Ok(Replayed {
-            page: ended(page),
-            outgoing: Vec::new(alloc),
-        }),
-    }
+    let envelope = Envelope {
+        warehouse: warehouse.who(),
+        depositor: entry.who(),
+        moment: entry.moment(),
+        number: entry.number(),
+    };
+    let replayed = if entry.is_ticketed() {
+        performed(alloc, envelope, page, entry.body())?
+    } else {
+        received(alloc, envelope, page, entry.body())?
+    };
+    Ok(Replayed {
+        page: ended(replayed.page),
+        outgoing: replayed.outgoing,
+    })
 }

@@ -58,7 +58,7 @@ all_good d words rest behind position (s ∷ ss) h = let p = from_parts d words 
 
 -- an element whose row wants digits is a number
 
-taken : {X : Type 0} (b : Bool) (x : X) (rest : Option X) → (if b then Some x else rest) ≡ None → (b ≡ false) × (rest ≡ None)
+pub taken : {X : Type 0} (b : Bool) (x : X) (rest : Option X) → (if b then Some x else rest) ≡ None → (b ≡ false) × (rest ≡ None)
 taken true x rest h = absurd (cc)
 taken false x rest h = (refl, h)
 
@@ -70,7 +70,7 @@ and_true : (b : Bool) → (b && true) ≡ false → b ≡ false
 and_true true h = h
 and_true false h = refl
 
-not_false : (b : Bool) → not b ≡ false → b ≡ true
+pub not_false : (b : Bool) → not b ≡ false → b ≡ true
 not_false true h = refl
 not_false false h = absurd (cc)
 
@@ -78,7 +78,7 @@ all_same : (f g : ℕ → Bool) (e : List ℕ) → ((b : ℕ) → f b ≡ g b) �
 all_same f g [] same = refl
 all_same f g (b ∷ bs) same = rw (same b, all_same f g bs same) refl
 
-amount_of : (d : Delims) (kind : Kind) (most : ℕ) (e : List ℕ) → ((b : ℕ) → takes d kind b ≡ is_digit b) → element_fault d (must kind 1 most) e ≡ None → IsAmount most e
+pub amount_of : (d : Delims) (kind : Kind) (most : ℕ) (e : List ℕ) → ((b : ℕ) → takes d kind b ≡ is_digit b) → element_fault d (must kind 1 most) e ≡ None → IsAmount most e
 amount_of d kind most e same h =
     let p0 = taken (length e == 0 && true) 1 _ h in
     let p1 = passed (length e == 0) _ (and_true (length e == 0) p0.0) p0.1 in
@@ -107,7 +107,7 @@ no_code : (place : ℕ) (o : Option ℕ) → option_map (at_place place) o ≡ N
 no_code place None h = refl
 no_code place (Some c) h = absurd (cc)
 
-first_row : (d : Delims) (row : Row) (rows : List Row) (s : Segment) → faulty_element d (row ∷ rows) s ≡ None → element_fault d row (element s 1) ≡ None
+pub first_row : (d : Delims) (row : Row) (rows : List Row) (s : Segment) → faulty_element d (row ∷ rows) s ≡ None → element_fault d row (element s 1) ≡ None
 first_row d row rows s h =
     let p = both_none _ (least_element_fault d 2 rows (drop 1 (drop 1 s))) h in
     ap (λ (e : List ℕ). element_fault d row e) (sym (element_behind s 1)) ∙ no_code 1 _ p.0

@@ -1,5 +1,5 @@
 -- How much a set may say.
-use Rattle.std.specs.Prelude.{◌≤◌, List, length, All}
+use Rattle.std.specs.Prelude.{◌≤◌, ◌<◌, ◌-◌, ◌^◌, List, length, All}
 use Rattle.profile.specs.Limits.{most_lines, most_quantity}
 use Rattle.profile.specs.Means.{AdviceLine, OrderLine}
 
@@ -7,6 +7,8 @@ use Rattle.profile.specs.Means.{AdviceLine, OrderLine}
 pub record HasFewLines (lines : List AdviceLine) : Type 0 where
   pub few : length lines ≤ most_lines
   pub small : All (λ (l : AdviceLine). l.line.quantity ≤ most_quantity) lines
+  -- a line's N9 has a position behind that of its W04
+  pub placed : All (λ (l : AdviceLine). l.position < 2 ^ 32 - 1) lines
 
 pub record HasFewOrderLines (lines : List OrderLine) : Type 0 where
   pub few : length lines ≤ most_lines

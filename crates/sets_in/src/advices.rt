@@ -54,6 +54,7 @@ fn advice_lines(alloc: Global, segments: &[Segment<'_>]) -> Result<Vec<AdviceLin
     requires quantities { HaveAmounts (codes "W04") 1 5 (segments_of segments.now) }
     ensures lines { IfOk result (λ v. v.items ≡ map (meant.advice_line (segments_of segments.now)) (places_of (codes "W04") (segments_of segments.now))) }
     ensures small { IfOk result (λ v. All (λ (l : meant.AdviceLine). l.line.quantity ≤ most_quantity) v.items) }
+    ensures placed { IfOk result (λ v. All (λ (l : meant.AdviceLine). l.position < 2 ^ 32 - 1) v.items) }
 {
     let mut lines = Vec::new(alloc);
     for (index, segment) in segments.iter().enumerate() {

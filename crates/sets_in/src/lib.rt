@@ -15,6 +15,7 @@ pub use acks::{AckIn, ack};
 pub use advices::advice;
 pub use lines::{AdviceLine, Line, OrderLine};
 pub use orders::order;
+pub use reading::number;
 pub use sets::{Address, Advice, Order};
 
 #[cfg(test)]

@@ -8,8 +8,8 @@ ghost use Rattle.sets_in.specs.Amounts.{IsAmount};
 use segments::Segment;
 use std::alloc::{AllocError, Global};
 
-/// The value of at most nine digits.
-pub(crate) fn number(text: &[u8]) -> u32
+/// The value of at most nine digits, as quantities and numbers of documents have them.
+pub fn number(text: &[u8]) -> u32
     requires { IsAmount 9 text.now }
     ensures { result ≡ value text.now }
 {

@@ -1,11 +1,38 @@
-//! The depositors' pages: what there is of each item and lot, and the advices that were announced.
+//! The depositors' pages: what there is of each item and lot, what was announced and ordered, which documents were sent, and
+//! what each event makes of it.
 #![tactic(auto)]
 
-mod advices;
+mod acknowledgments;
+mod allotment;
+mod announcements;
+mod changes;
+mod documents;
+mod faults;
+mod known;
+pub mod laws;
+mod lines;
+mod lots;
 mod page;
+mod picks;
+mod receipts;
+mod recounts;
+mod reservations;
 mod rows;
 mod steps;
 
-pub use page::{KnownAdvice, Page};
+pub use acknowledgments::acknowledge;
+pub use allotment::allot;
+pub use announcements::announce;
+pub use documents::{Document, Function};
+pub use known::{KnownAdvice, KnownLine, KnownOrder};
+pub use page::Page;
+pub use picks::pick;
+pub use receipts::receive;
+pub use recounts::recount;
+pub use reservations::reserve;
 pub use rows::Row;
-pub use steps::{Change, Step, Stop, announce};
+pub use sheets::{Line, Sheet, SheetKind};
+pub use steps::{Change, Step, Stop};
+
+#[cfg(test)]
+mod tests;

@@ -1,110 +1,225 @@
-ghost use Rattle.std.specs.Prelude.{◌≡◌, ◌<◌, ◌+◌, bytes_eq, IfOk};
-ghost use Rattle.std.specs.List.{list_any};
+ghost use Rattle.std.specs.Prelude.{◌≡◌, ◌<◌, ◌+◌, List, [], ◌∷◌, IfOk, MatchOption, is_some, None, Some};
+ghost use Rattle.profile.specs.Limits.{most_entries};
+ghost use Rattle.profile.specs.Events.{Event, Enrolment};
+ghost use Rattle.profile.specs.Movements.{OnHand, balance};
+ghost use Rattle.stock.specs.Pages.{PageFacts, IsSound, advice_at, order_at, next_entry};
+ghost use Rattle.stock.specs.Pages.{IsAt, is_shipment, is_number};
+ghost use Rattle.stock.specs.Shows.{Shows};
+ghost use Rattle.stock.specs.Told.{told, amount};
 
-use crate::rows::{Row, expect_line};
-use sets_in::{Advice, AdviceLine};
+use crate::documents::Document;
+use crate::known::{KnownAdvice, KnownOrder};
+use crate::rows::{Column, Row, amount_of};
 use std::alloc::{AllocError, Global};
+use std::marker::Model;
 
-/// An advice that was announced.
-#[derive(Clone, Drop)]
-pub struct KnownAdvice {
-    /// Its shipment number.
-    pub shipment: Vec<u8>,
-}
-
-/// What there is of a depositor's goods, and its advices.
-#[derive(Clone, Drop)]
+/// What a depositor's entries come to.
+#[derive(Debug, Drop)]
 pub struct Page {
-    rows: Vec<Row>,
-    advices: Vec<KnownAdvice>,
-    entries: u32,
+    pub(crate) rows: Vec<Row>,
+    pub(crate) advices: Vec<KnownAdvice>,
+    pub(crate) orders: Vec<KnownOrder>,
+    pub(crate) documents: Vec<Document>,
+    pub(crate) entries: u32,
+    pub(crate) recent: u32,
 }
 
-// Adds the lines of an advice to what is expected.
-fn expect_all(alloc: Global, rows: &mut Vec<Row>, lines: &[AdviceLine]) -> Result<(), AllocError> {
-    for line in lines {
-        expect_line(alloc, rows, line.line())?;
-    }
-    Ok(())
+impl Model for Page {
+    ghost Value = { PageFacts };
+
+    ghost view = { λ p. record { rows = p.rows.items; advices = p.advices.items; orders = p.orders.items; documents = p.documents.items; entries = p.entries; recent = p.recent } };
+
+    ghost invariant = { λ p. IsSound (record { rows = p.rows.items; advices = p.advices.items; orders = p.orders.items; documents = p.documents.items; entries = p.entries; recent = p.recent }) };
 }
 
 impl Page {
     /// The page of a depositor that has just enrolled.
     pub fn new(alloc: Global) -> Page
-        ensures { result.entries ≡ 0 }
+        ensures shows { Shows result (Enrolment ∷ []) }
+        ensures entries { result.entries ≡ 0 }
+        ensures recent { result.recent ≡ 0 }
     {
         Page {
             rows: Vec::new(alloc),
             advices: Vec::new(alloc),
+            orders: Vec::new(alloc),
+            documents: Vec::new(alloc),
             entries: 0,
+            recent: 0,
         }
     }
 
     /// A copy of it; want of memory is the one error.
     pub fn copy(&self) -> Result<Page, AllocError>
-        ensures { IfOk result (λ page. page.entries ≡ self.now.entries) }
+        ensures { IfOk result (λ page. page ≡ self.now) }
     {
-        self.clone()
+        Ok(Page {
+            rows: copied_rows(&self.rows)?,
+            advices: copied_advices(&self.advices)?,
+            orders: copied_orders(&self.orders)?,
+            documents: copied_documents(&self.documents)?,
+            entries: self.entries,
+            recent: self.recent,
+        })
     }
 
-    /// How many numbered entries there are.
+    /// How many numbered entries there are, at most 999,999.
     pub fn entries(&self) -> u32
         ensures { result ≡ self.now.entries }
     {
         self.entries
     }
 
-    /// Its rows, one for each pair that an advice or a count named, in no order.
+    /// The number that the next entry has, at most 1,000,000.
+    pub fn next_number(&self) -> u32
+        ensures { result ≡ self.now.entries + 1 }
+    {
+        self.entries + 1
+    }
+
+    /// How many events there have been since the last entry, at most 1,000.
+    pub fn recent(&self) -> u32
+        ensures { result ≡ self.now.recent }
+    {
+        self.recent
+    }
+
+    /// Its rows, one for each pair that an advice or a count named, in no order. On every page nothing is below 0, and no more
+    /// is reserved of a pair than is on hand.
     pub fn rows(&self) -> &[Row]
-        ensures { result.now ≡ self.now.rows.items }
+        ensures rows { result.now ≡ self.now.rows }
+        ensures sound { IsSound self.now }
     {
         &self.rows
     }
 
-    /// Whether an advice under this shipment number was announced.
-    pub fn has_advice(&self, shipment: &[u8]) -> bool
-        ensures { result ≡ list_any (λ a. bytes_eq a.shipment.items shipment.now) self.now.advices.items }
+    /// Its advices, one for each shipment number, in the order in which they were announced.
+    pub fn advices(&self) -> &[KnownAdvice]
+        ensures { result.now ≡ self.now.advices }
     {
-        is_known(&self.advices, shipment)
+        &self.advices
     }
 
-    /// Ends a numbered entry: there is one more, and nothing else changes.
+    /// Its orders, one for each number, in the order in which they came.
+    pub fn orders(&self) -> &[KnownOrder]
+        ensures { result.now ≡ self.now.orders }
+    {
+        &self.orders
+    }
+
+    /// The documents that were sent, one for each number of an entry.
+    pub fn documents(&self) -> &[Document]
+        ensures { result.now ≡ self.now.documents }
+    {
+        &self.documents
+    }
+
+    /// The advice under a shipment number, if there is one.
+    pub fn advice(&self, shipment: &[u8]) -> Option<&KnownAdvice>
+        ensures { MatchOption result (advice_at shipment.now self.now.advices ≡ None) (λ k. advice_at shipment.now self.now.advices ≡ Some k.now) }
+    {
+        let advices = self.advices();
+        match place_of_advice(advices, shipment) {
+            None => None,
+            Some(i) => Some(&advices[i]),
+        }
+    }
+
+    // Whether there is an advice under a shipment number.
+    pub(crate) fn has_advice(&self, shipment: &[u8]) -> bool
+        ensures { result ≡ is_some (advice_at shipment.now self.now.advices) }
+    {
+        match self.advice(shipment) {
+            None => false,
+            Some(_) => true,
+        }
+    }
+
+    // Whether there is an order under a number.
+    pub(crate) fn has_order(&self, number: &[u8]) -> bool
+        ensures { result ≡ is_some (order_at number.now self.now.orders) }
+    {
+        match self.order(number) {
+            None => false,
+            Some(_) => true,
+        }
+    }
+
+    /// The order under a number, if there is one.
+    pub fn order(&self, number: &[u8]) -> Option<&KnownOrder>
+        ensures { MatchOption result (order_at number.now self.now.orders ≡ None) (λ k. order_at number.now self.now.orders ≡ Some k.now) }
+    {
+        let orders = self.orders();
+        match place_of_order(orders, number) {
+            None => None,
+            Some(i) => Some(&orders[i]),
+        }
+    }
+
+    /// What is on hand of a pair, in the unit EA: 0 where there is no row of it.
+    pub fn on_hand(&self, item: &[u8], lot: &[u8]) -> u64
+        ensures told { result ≡ told (amount OnHand) item.now lot.now self.now.rows }
+        ensures balance { (es : List Event) → Shows self.now es → result ≡ balance es OnHand item.now lot.now }
+    {
+        let rows = self.rows();
+        amount_of(rows, Column::OnHand, item, lot)
+    }
+
+    /// Ends a numbered entry: there is one more, with no event since, and nothing else changes.
     pub fn next_entry(&mut self)
-        requires { self.old.entries < 999999 }
-        ensures { self.new ≡ record self.old { entries = self.old.entries + 1 } }
+        requires { self.old.entries < most_entries }
+        ensures next { self.new ≡ next_entry self.old }
+        ensures shows { (es : List Event) → Shows self.old es → Shows self.new es }
     {
         self.entries += 1;
-    }
-
-    // The page with an advice more, whose lines are expected.
-    pub(crate) fn announced(&self, alloc: Global, advice: &Advice) -> Result<Page, AllocError>
-        ensures { IfOk result (λ page. page.entries ≡ self.now.entries) }
-    {
-        let Page {
-            mut rows,
-            mut advices,
-            entries,
-        } = self.copy()?;
-        expect_all(alloc, &mut rows, advice.lines())?;
-        advices.push(KnownAdvice {
-            shipment: advice.shipment().to_vec(alloc)?,
-        })?;
-        Ok(Page {
-            rows,
-            advices,
-            entries,
-        })
+        self.recent = 0;
     }
 }
 
-// Whether one of the advices has the shipment number.
-fn is_known(advices: &[KnownAdvice], shipment: &[u8]) -> bool
-    ensures { result ≡ list_any (λ a. bytes_eq a.shipment.items shipment.now) advices.now }
+fn copied_rows(rows: &Vec<Row>) -> Result<Vec<Row>, AllocError>
+    ensures { IfOk result (λ copy. copy.items ≡ rows.now.items) }
 {
-    for advice in advices {
-        if advice.shipment.as_slice() == shipment {
-            return true;
+    rows.clone()
+}
+
+fn copied_advices(advices: &Vec<KnownAdvice>) -> Result<Vec<KnownAdvice>, AllocError>
+    ensures { IfOk result (λ copy. copy.items ≡ advices.now.items) }
+{
+    advices.clone()
+}
+
+fn copied_orders(orders: &Vec<KnownOrder>) -> Result<Vec<KnownOrder>, AllocError>
+    ensures { IfOk result (λ copy. copy.items ≡ orders.now.items) }
+{
+    orders.clone()
+}
+
+fn copied_documents(documents: &Vec<Document>) -> Result<Vec<Document>, AllocError>
+    ensures { IfOk result (λ copy. copy.items ≡ documents.now.items) }
+{
+    documents.clone()
+}
+
+/// The place of the advice under a shipment number.
+pub(crate) fn place_of_advice(advices: &[KnownAdvice], shipment: &[u8]) -> Option<usize>
+    ensures { MatchOption result (advice_at shipment.now advices.now ≡ None) (λ i. IsAt (is_shipment shipment.now) advices.now i) }
+{
+    for (i, advice) in advices.iter().enumerate() {
+        if advice.is_under(shipment) {
+            return Some(i);
         }
     }
-    false
+    None
+}
+
+/// The place of the order under a number.
+pub(crate) fn place_of_order(orders: &[KnownOrder], number: &[u8]) -> Option<usize>
+    ensures { MatchOption result (order_at number.now orders.now ≡ None) (λ i. IsAt (is_number number.now) orders.now i) }
+{
+    for (i, order) in orders.iter().enumerate() {
+        if order.is_under(number) {
+            return Some(i);
+        }
+    }
+    None
 }

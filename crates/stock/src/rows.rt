@@ -1,12 +1,27 @@
-ghost use Rattle.std.specs.Prelude.{◌≡◌, ◌<◌, IfOk, IfSome, length};
-ghost use Rattle.stock.specs.Rows.{blank, is_row};
+ghost use Rattle.std.specs.Prelude.{◌≡◌, [], ◌∷◌, ◌≤◌, ◌<◌, ◌+◌, ◌^◌, ℕ, List, length, IfOk, OnOk, OnErr, MatchOption, IsSome, slice_index_or, if◌then◌else◌, cond, true, ◌&&◌};
+ghost use Rattle.std.specs.List.{list_any};
+ghost use Rattle.profile.specs.Rows.{LotRow};
+ghost use Rattle.profile.specs.Events.{is_pair, quantity_of};
+ghost use Rattle.profile.specs.Movements.{Column as Kind, Expected, OnHand, Reservation, Shipped};
+ghost use Rattle.stock.specs.Told.{is_row, told, one, since, amount, given, named_by, same_row, raised, lowered, marked, blank, with_on_hand, IsDistinct};
+ghost use Rattle.stock.specs.Moved.{IsPlace, IsPlaced, IsAdded, IsTaken, IsMarked, IsCounted, IsRaised, IsShipped, IsSet};
+ghost use Rattle.stock.specs.Columns.{column_of};
 
 use sets_in::Line;
 use std::alloc::{AllocError, Global};
 use std::marker::Model;
 
-/// What there is of a pair of an item and a lot.
-#[derive(Clone, Drop)]
+// An amount of a row.
+#[derive(Clone, Copy, Debug, PartialEq, Eq)]
+pub(crate) enum Column {
+    Expected,
+    OnHand,
+    Reservation,
+    Shipped,
+}
+
+/// What there is of a pair of an item and a lot. Amounts are in the unit EA.
+#[derive(Clone, Debug, Drop)]
 pub struct Row {
     /// The item, 1 to 20 bytes.
     pub item: Vec<u8>,
@@ -33,15 +48,42 @@ impl Model for Row {
 }
 
 impl Row {
-    /// Whether the row is that of the line's pair.
+    /// Whether it is the row of this pair.
+    pub fn is_of(&self, item: &[u8], lot: &[u8]) -> bool
+        ensures { result ≡ is_row item.now lot.now self.now }
+    {
+        self.item.as_slice() == item && self.lot.as_slice() == lot
+    }
+
+    /// Whether it is the row of the line's pair.
     pub fn is_for(&self, line: &Line) -> bool
         ensures { result ≡ is_row line.now.item line.now.lot self.now }
     {
-        self.item.as_slice() == line.item() && self.lot.as_slice() == line.lot()
+        self.is_of(line.item(), line.lot())
+    }
+
+    // A copy of it.
+    pub(crate) fn copy(&self) -> Result<Row, AllocError>
+        ensures { IfOk result (λ row. row ≡ self.now) }
+    {
+        self.clone()
+    }
+
+    // Whether another is the same.
+    fn is_same(&self, other: &Row) -> bool
+        ensures { result ≡ same_row self.now other.now }
+    {
+        self.item.as_slice() == other.item.as_slice()
+            && self.lot.as_slice() == other.lot.as_slice()
+            && self.since == other.since
+            && self.expected == other.expected
+            && self.on_hand == other.on_hand
+            && self.reserved == other.reserved
+            && self.shipped == other.shipped
     }
 
     // The row of a line's pair, with nothing in it.
-    pub(crate) fn blank(alloc: Global, line: &Line) -> Result<Row, AllocError>
+    fn blank(alloc: Global, line: &Line) -> Result<Row, AllocError>
         ensures { IfOk result (λ row. row ≡ blank line.now) }
     {
         Ok(Row {
@@ -55,32 +97,283 @@ impl Row {
         })
     }
 
-    // Adds to what is expected.
-    pub(crate) fn expect(&mut self, quantity: u32) {
-        self.expected = self.expected.saturating_add(u64::from(quantity));
+    // An amount of it.
+    pub(crate) fn amount(&self, column: Column) -> u64
+        ensures { result ≡ amount (column_of column) self.now }
+    {
+        match column {
+            Column::Expected => self.expected,
+            Column::OnHand => self.on_hand,
+            Column::Reservation => self.reserved,
+            Column::Shipped => self.shipped,
+        }
+    }
+
+    fn since(&self) -> u32
+        ensures { result ≡ since self.now }
+    {
+        self.since
+    }
+
+    fn mark(&mut self, n: u32)
+        ensures { self.new ≡ marked n self.old }
+    {
+        if self.since == 0 {
+            self.since = n;
+        }
+    }
+
+    fn set_on_hand(&mut self, n: u32)
+        ensures { self.new ≡ with_on_hand n self.old }
+    {
+        self.on_hand = u64::from(n);
+    }
+
+    fn add(&mut self, column: Column, n: u32)
+        requires { amount (column_of column) self.old + n < 2 ^ 64 }
+        ensures { self.new ≡ raised (column_of column) n self.old }
+    {
+        match column {
+            Column::Expected => self.expected += n as u64,
+            Column::OnHand => self.on_hand += n as u64,
+            Column::Reservation => self.reserved += n as u64,
+            Column::Shipped => self.shipped += n as u64,
+        }
+    }
+
+    fn take(&mut self, column: Column, n: u32)
+        requires { n ≤ amount (column_of column) self.old }
+        ensures { self.new ≡ lowered (column_of column) n self.old }
+    {
+        match column {
+            Column::Expected => self.expected -= n as u64,
+            Column::OnHand => self.on_hand -= n as u64,
+            Column::Reservation => self.reserved -= n as u64,
+            Column::Shipped => self.shipped -= n as u64,
+        }
     }
 }
 
-// The place of the row of the line's pair.
-pub(crate) fn place_of(rows: &[Row], line: &Line) -> Option<usize>
-    ensures { IfSome result (λ i. i < length rows.now) }
+// The place of the row of a pair.
+pub(crate) fn place_of(rows: &[Row], item: &[u8], lot: &[u8]) -> Option<usize>
+    ensures { MatchOption result (told one item.now lot.now rows.now ≡ 0) (λ i. IsPlace item.now lot.now rows.now i) }
 {
-    rows.iter().position(|row| row.is_for(line))
+    for (i, row) in rows.iter().enumerate() {
+        if row.is_of(item, lot) {
+            return Some(i);
+        }
+    }
+    None
 }
 
-// Adds a line to what is expected of its pair.
-pub(crate) fn expect_line(
+// An amount of a pair: 0 where there is no row of it.
+pub(crate) fn amount_of(rows: &[Row], column: Column, item: &[u8], lot: &[u8]) -> u64
+    requires { IsDistinct rows.now }
+    ensures { result ≡ told (amount (column_of column)) item.now lot.now rows.now }
+{
+    match place_of(rows, item, lot) {
+        None => 0,
+        Some(i) => rows[i].amount(column),
+    }
+}
+
+// The number of the first count that named a pair, or 0.
+pub(crate) fn since_of(rows: &[Row], item: &[u8], lot: &[u8]) -> u32
+    requires { IsDistinct rows.now }
+    ensures { result ≡ told since item.now lot.now rows.now }
+{
+    match place_of(rows, item, lot) {
+        None => 0,
+        Some(i) => rows[i].since(),
+    }
+}
+
+// The place of the line's row, which is made where there is none.
+fn placed(alloc: Global, rows: &mut Vec<Row>, line: &Line) -> Result<usize, AllocError>
+    requires { IsDistinct rows.old.items }
+    ensures { IfOk result (λ i. IsPlaced rows.old.items rows.new.items line.now i) }
+{
+    if let Some(i) = place_of(rows, line.item(), line.lot()) {
+        return Ok(i);
+    }
+    let i = rows.len();
+    rows.push(Row::blank(alloc, line)?)?;
+    Ok(i)
+}
+
+// Adds a line to a column.
+fn add_line(
     alloc: Global,
     rows: &mut Vec<Row>,
+    column: Column,
     line: &Line,
-) -> Result<(), AllocError> {
-    let i = match place_of(rows, line) {
-        Some(i) => i,
-        None => {
-            rows.push(Row::blank(alloc, line)?)?;
-            rows.len() - 1
-        }
-    };
-    rows[i].expect(line.quantity());
+) -> Result<(), AllocError>
+    requires distinct { IsDistinct rows.old.items }
+    requires fits { told (amount (column_of column)) line.now.item line.now.lot rows.old.items + line.now.quantity < 2 ^ 64 }
+    ensures { OnOk result (IsAdded (column_of column) (line.now ∷ []) rows.old.items rows.new.items) }
+{
+    let i = placed(alloc, rows, line)?;
+    let row = &mut rows[i];
+    row.add(column, line.quantity());
     Ok(())
+}
+
+// Takes a line from a column.
+fn take_line(rows: &mut Vec<Row>, column: Column, line: &Line)
+    requires distinct { IsDistinct rows.old.items }
+    requires there { line.now.quantity ≤ told (amount (column_of column)) line.now.item line.now.lot rows.old.items }
+    ensures { IsTaken (column_of column) (line.now ∷ []) rows.old.items rows.new.items }
+{
+    if let Some(i) = place_of(rows, line.item(), line.lot()) {
+        let row = &mut rows[i];
+        row.take(column, line.quantity());
+    }
+}
+
+// Adds a line to a column of its row, if there is one.
+fn raise_line(rows: &mut Vec<Row>, column: Column, line: &Line)
+    requires distinct { IsDistinct rows.old.items }
+    requires fits { told (amount (column_of column)) line.now.item line.now.lot rows.old.items + line.now.quantity < 2 ^ 64 }
+    requires there { told one line.now.item line.now.lot rows.old.items ≡ 0 → line.now.quantity ≡ 0 }
+    ensures { IsRaised (column_of column) (line.now ∷ []) rows.old.items rows.new.items }
+{
+    if let Some(i) = place_of(rows, line.item(), line.lot()) {
+        let row = &mut rows[i];
+        row.add(column, line.quantity());
+    }
+}
+
+// Adds the lines to a column of their rows; a line whose pair has no row is of nothing.
+pub(crate) fn raise_lines(rows: &mut Vec<Row>, column: Column, lines: &[Line])
+    requires distinct { IsDistinct rows.old.items }
+    requires fits { (item lot : List ℕ) → told (amount (column_of column)) item lot rows.old.items + quantity_of lines.now item lot < 2 ^ 64 }
+    requires there { (item lot : List ℕ) → told one item lot rows.old.items ≡ 0 → quantity_of lines.now item lot ≡ 0 }
+    ensures { IsRaised (column_of column) lines.now rows.old.items rows.new.items }
+{
+    for line in lines {
+        raise_line(rows, column, line);
+    }
+}
+
+// Takes the sheet from what is on hand and adds it to what was shipped; takes what was reserved.
+pub(crate) fn ship(rows: &mut Vec<Row>, reserved: &[Line], sheet: &[Line])
+    requires distinct { IsDistinct rows.old.items }
+    requires on_hand { (item lot : List ℕ) → quantity_of sheet.now item lot ≤ told (amount OnHand) item lot rows.old.items }
+    requires fits { (item lot : List ℕ) → told (amount Shipped) item lot rows.old.items + quantity_of sheet.now item lot < 2 ^ 64 }
+    requires there { (item lot : List ℕ) → quantity_of reserved.now item lot ≤ told (amount Reservation) item lot rows.old.items }
+    ensures { IsShipped reserved.now sheet.now rows.old.items rows.new.items }
+{
+    take_lines(rows, Column::OnHand, sheet);
+    raise_lines(rows, Column::Shipped, sheet);
+    take_lines(rows, Column::Reservation, reserved);
+}
+
+// Sets what is on hand of the line's pair.
+fn set_line(rows: &mut Vec<Row>, line: &Line)
+    requires distinct { IsDistinct rows.old.items }
+    requires there { 1 ≤ told one line.now.item line.now.lot rows.old.items }
+    ensures { IsSet (line.now ∷ []) rows.old.items rows.new.items }
+{
+    if let Some(i) = place_of(rows, line.item(), line.lot()) {
+        let row = &mut rows[i];
+        row.set_on_hand(line.quantity());
+    }
+}
+
+// Sets what is on hand of the lines' pairs.
+pub(crate) fn set_lines(rows: &mut Vec<Row>, lines: &[Line])
+    requires distinct { IsDistinct rows.old.items }
+    requires there { (item lot : List ℕ) → named_by lines.now item lot ≤ told one item lot rows.old.items }
+    ensures { IsSet lines.now rows.old.items rows.new.items }
+{
+    for line in lines {
+        set_line(rows, line);
+    }
+}
+
+// Adds the lines to a column.
+pub(crate) fn add_lines(
+    alloc: Global,
+    rows: &mut Vec<Row>,
+    column: Column,
+    lines: &[Line],
+) -> Result<(), AllocError>
+    requires distinct { IsDistinct rows.old.items }
+    requires fits { (item lot : List ℕ) → told (amount (column_of column)) item lot rows.old.items + quantity_of lines.now item lot < 2 ^ 64 }
+    ensures { OnOk result (IsAdded (column_of column) lines.now rows.old.items rows.new.items) }
+{
+    for line in lines {
+        add_line(alloc, rows, column, line)?;
+    }
+    Ok(())
+}
+
+// Takes the lines from a column.
+pub(crate) fn take_lines(rows: &mut Vec<Row>, column: Column, lines: &[Line])
+    requires distinct { IsDistinct rows.old.items }
+    requires there { (item lot : List ℕ) → quantity_of lines.now item lot ≤ told (amount (column_of column)) item lot rows.old.items }
+    ensures { IsTaken (column_of column) lines.now rows.old.items rows.new.items }
+{
+    for line in lines {
+        take_line(rows, column, line);
+    }
+}
+
+// Numbers the line's row, if it has no number.
+fn mark_line(rows: &mut Vec<Row>, n: u32, line: &Line)
+    requires distinct { IsDistinct rows.old.items }
+    requires there { 1 ≤ told one line.now.item line.now.lot rows.old.items }
+    ensures { IsMarked n (line.now ∷ []) rows.old.items rows.new.items }
+{
+    if let Some(i) = place_of(rows, line.item(), line.lot()) {
+        let row = &mut rows[i];
+        row.mark(n);
+    }
+}
+
+// Numbers the rows of the lines that have no number.
+pub(crate) fn mark_lines(rows: &mut Vec<Row>, n: u32, lines: &[Line])
+    requires positive { 0 < n }
+    requires distinct { IsDistinct rows.old.items }
+    requires there { (item lot : List ℕ) → named_by lines.now item lot ≤ told one item lot rows.old.items }
+    ensures { IsMarked n lines.now rows.old.items rows.new.items }
+{
+    for line in lines {
+        mark_line(rows, n, line);
+    }
+}
+
+// Takes what was expected, adds the sheet to what is on hand, and numbers the sheet's rows.
+pub(crate) fn count(
+    alloc: Global,
+    rows: &mut Vec<Row>,
+    n: u32,
+    expected: &[Line],
+    sheet: &[Line],
+) -> Result<(), AllocError>
+    requires positive { 0 < n }
+    requires distinct { IsDistinct rows.old.items }
+    requires there { (item lot : List ℕ) → quantity_of expected.now item lot ≤ told (amount Expected) item lot rows.old.items }
+    requires fits { (item lot : List ℕ) → told (amount OnHand) item lot rows.old.items + quantity_of sheet.now item lot < 2 ^ 64 }
+    ensures { OnOk result (IsCounted n expected.now sheet.now rows.old.items rows.new.items) }
+{
+    take_lines(rows, Column::Expected, expected);
+    add_lines(alloc, rows, Column::OnHand, sheet)?;
+    mark_lines(rows, n, sheet);
+    Ok(())
+}
+
+// Whether the row is one of these, most likely that at i.
+pub(crate) fn has_row(rows: &[Row], i: usize, row: &Row) -> bool
+    ensures { result ≡ list_any (same_row row.now) rows.now }
+{
+    if i < rows.len() && row.is_same(&rows[i]) {
+        return true;
+    }
+    for other in rows {
+        if row.is_same(other) {
+            return true;
+        }
+    }
+    false
 }

@@ -1,10 +1,9 @@
-ghost use Rattle.std.specs.Prelude.{◌≡◌, IfOk};
+ghost use Rattle.std.specs.Prelude.{◌≡◌};
 
-use crate::advices::advice_fault;
+use crate::known::{KnownAdvice, KnownOrder};
 use crate::page::Page;
 use crate::rows::Row;
-use sets_in::Advice;
-use std::alloc::{AllocError, Global};
+use std::alloc::AllocError;
 use tables::SetFault;
 
 /// A row of a depositor's tables that an event changes, as a whole, by its key.
@@ -12,22 +11,35 @@ use tables::SetFault;
 pub enum Change {
     /// The row of a pair.
     Stock(Row),
+    /// An advice, new or closed.
+    Advice(KnownAdvice),
+    /// An order, new with what is reserved for it; or closed, when nothing is reserved for it any more.
+    Order(KnownOrder),
+    /// What the first acknowledgment says of a document.
+    Document {
+        /// The number of the document's entry.
+        n: u32,
+        /// Whether it is accepted.
+        accepts: bool,
+    },
 }
 
-/// A page with one event more, and the rows that changed.
+/// A page with one event more.
 #[derive(Drop)]
 pub struct Step {
     /// The page.
     pub page: Page,
-    /// The rows that changed.
+    /// The rows that changed: those of pairs, and behind them that of the advice, the order or the document.
     pub changes: Vec<Change>,
 }
 
 /// Why there is no such page; the page is as before.
 #[derive(Drop)]
 pub enum Stop {
-    /// The trade fault of a set.
+    /// The trade fault of a set, at the least position.
     Set(SetFault<'static>),
+    /// The first refusal of a clerk's act, by its number, 22 to 29.
+    Refused(u8),
     /// A growth was refused.
     OutOfMemory,
 }
@@ -40,29 +52,4 @@ impl From<AllocError> for Stop {
     fn from(_error: AllocError) -> Stop {
         Stop::OutOfMemory
     }
-}
-
-// The rows of an advice's lines, as they are on the page.
-fn announced_rows(advice: &Advice, page: &Page, alloc: Global) -> Result<Vec<Change>, AllocError> {
-    let mut changes = Vec::new(alloc);
-    for row in page.rows() {
-        if advice.lines().iter().any(|line| row.is_for(line.line())) {
-            changes.push(Change::Stock(row.clone()?))?;
-        }
-    }
-    Ok(changes)
-}
-
-/// Opens an advice: each of its lines is added to what is expected of its pair. The error is the trade fault at the least
-/// position (a known shipment number, a pair that stands twice, a W03 that isn't the sum), or want of memory.
-pub fn announce(alloc: Global, page: &Page, advice: &Advice) -> Result<Step, Stop>
-    ensures { IfOk result (λ step. step.page.entries ≡ page.now.entries) }
-{
-    let is_known = page.has_advice(advice.shipment());
-    if let Some(fault) = advice_fault(advice, is_known) {
-        return Err(Stop::Set(fault));
-    }
-    let page = page.announced(alloc, advice)?;
-    let changes = announced_rows(advice, &page, alloc)?;
-    Ok(Step { page, changes })
 }

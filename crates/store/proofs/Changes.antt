@@ -1,8 +1,8 @@
 -- How changes of a book follow one another.
-use Rattle.std.proofs.Common.{◌≡◌, ◌≤◌, ◌<◌, ◌∙◌, sym, refl, arith, List, ◌⊎◌, inl, inr, subst, ap, ℕ}
+use Rattle.std.proofs.Common.{◌≡◌, ◌∙◌, sym, refl, arith, List, ◌⊎◌, inl, inr}
 use Rattle.rules.specs.Written.{Written}
 use Rattle.store.specs.declared.fault.Fault.{Fault}
-use Rattle.std.proofs.Common.{[], ◌∷◌, ◌++◌, append-nil, Result, Ok, Err, OnErr, IsErr}
+use Rattle.std.proofs.Common.{Result, Ok, Err, OnErr}
 use Rattle.store.specs.Standing.{Standing, IsUsable, IsUnchanged, GoesOn, LeavesEither, IsFault, IsQueryFault, Refused}
 
 pub goes_trans : (a b c : Standing) → GoesOn a b → GoesOn b c → GoesOn a c

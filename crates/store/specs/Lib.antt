@@ -1,4 +1,5 @@
 pub mod Faults
 pub mod Standing
 pub mod Replayed
+pub mod Sent
 pub mod Runs

@@ -1,5 +1,5 @@
 -- The register that commands leave, by what they were answered: the entries as they are written down, without their numbers.
-use Rattle.std.specs.Prelude.{ℕ, List, [], ◌∷◌, ◌++◌}
+use Rattle.std.specs.Prelude.{List, [], ◌∷◌, ◌++◌}
 use Rattle.profile.specs.Moments.{Moment}
 use Rattle.profile.specs.Accepted.{entry_of}
 use Rattle.rules.specs.Asked.{asked}

@@ -1,6 +1,7 @@
 ghost use Rattle.std.specs.Prelude.{◌≡◌, ◌++◌, ◌∷◌, [], List, Bool, true, false, IfOk, OnOk, OnErr, IfErr, IsErrOf, is_some};
 ghost use Rattle.std.specs.List.{list_any};
 ghost use Rattle.profile.specs.Header.{Who as Partner, who_eq};
+ghost use Rattle.rules.specs.Decided.{IsHeldAtRest};
 ghost use Rattle.rules.specs.Written.{Written, unnumbered};
 ghost use Rattle.store.specs.Standing.{Standing, IsUsable, IsUnchanged, GoesOn, LeavesEither, IsFault, IsQueryFault, IsCommitFault};
 
@@ -19,10 +20,11 @@ pub trait Keeper {
     fn warehouse(&self) -> Warehouse
         ensures { result ≡ (standing self.now).warehouse };
 
-    /// The page of a depositor; None for a stranger.
+    /// The page of a depositor, with no event since its last entry; None for a stranger.
     fn load(&mut self, who: Who) -> Result<Option<Page>, Fault>
         ensures page { (standing self.new).doubt ≡ 0 → (L : List Written) → (standing self.old).keeps L
             → IfOk result (λ page. is_some page ≡ list_any (λ e. who_eq e.who who) L) }
+        ensures rest { IfOk result IsHeldAtRest }
         ensures same { IsUnchanged (standing self.old) (standing self.new) }
         ensures fault { IfErr result (λ fault. IsQueryFault fault (standing self.old) (standing self.new)) }
         ensures shut { (standing self.old).shut ≡ true → IsErrOf result Fault.Reopen };

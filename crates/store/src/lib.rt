@@ -12,8 +12,8 @@ pub use keeping::Keeper;
 pub use replaying::ReplayBook;
 pub use rows::{DocumentState, OutKind, OutRow, StockRow};
 pub use rules::{
-    Command, Decision, Entry, Ident, Key, Known, Moment, Page, Refusal, Warehouse, Who, decide,
-    subject,
+    Act, Change, Command, Decision, Entry, Ident, Key, Known, Line, Moment, Page, Refusal, Row,
+    Sheet, SheetKind, Warehouse, Who, decide, subject,
 };
 pub use serving::{Outcome, Reply, outbox, run, stock, submit};
 

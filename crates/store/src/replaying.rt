@@ -1,11 +1,12 @@
 ghost use Rattle.std.specs.Prelude.{◌≡◌, [], ◌∷◌, ◌++◌, IfOk, OnOk, OnErr, IfSome, ◌<◌, length, is_some, map};
 ghost use Rattle.std.specs.List.{list_any};
 ghost use Rattle.profile.specs.Header.{who_eq};
+ghost use Rattle.rules.specs.Decided.{IsHeldAtRest};
 ghost use Rattle.store.specs.Standing.{IsUsable};
 
 use crate::fault::Fault;
 use crate::keeping::Keeper;
-use crate::rows::{DocumentState, OutKind, OutRow, StockRow};
+use crate::rows::{OutRow, StockRow};
 use rules::{Change, Entry, Key, Known, Page, Warehouse, Who, replay};
 use std::alloc::{AllocError, Global};
 use std::marker::Model;
@@ -47,7 +48,8 @@ fn page_behind(
     entries: &[Entry],
     who: &Who,
 ) -> Result<Option<Page>, AllocError>
-    ensures { IfOk result (λ page. is_some page ≡ list_any (λ w. who_eq w.who who.now) entries.now) }
+    ensures page { IfOk result (λ page. is_some page ≡ list_any (λ w. who_eq w.who who.now) entries.now) }
+    ensures rest { IfOk result IsHeldAtRest }
 {
     let mut page = None;
     for entry in entries {
@@ -117,11 +119,12 @@ fn shown(alloc: Global, page: &Page) -> Result<Vec<StockRow>, AllocError> {
     Ok(rows)
 }
 
-// The texts that went out to a depositor, by number: those of its numbered entries that aren't empty.
+// The texts that went out to a depositor with this page, by number: those of its numbered entries that aren't empty.
 fn sent(
     alloc: Global,
     warehouse: &Warehouse,
     entries: &[Entry],
+    page: &Page,
     who: &Who,
 ) -> Result<Vec<OutRow>, AllocError> {
     let mut rows = Vec::new(alloc);
@@ -129,7 +132,7 @@ fn sent(
         if entry.is_of(who) && entry.is_numbered() {
             let content = outgoing_behind(alloc, warehouse, &entries[..i], entry)?;
             if !content.is_empty() {
-                rows.push(OutRow::answer(entry.number(), content))?;
+                rows.push(OutRow::of(page, entry, content))?;
             }
         }
     }
@@ -181,10 +184,10 @@ impl Keeper for ReplayBook {
     }
 
     fn outbox(&mut self, who: Who) -> Result<Option<Vec<OutRow>>, Fault> {
-        if self.load(who)?.is_none() {
-            return Ok(None);
+        match self.load(who)? {
+            Some(page) => Ok(Some(sent(self.alloc, &self.warehouse, &self.entries, &page, &who)?)),
+            None => Ok(None),
         }
-        Ok(Some(sent(self.alloc, &self.warehouse, &self.entries, &who)?))
     }
 
     fn refused(&self) -> u64 {

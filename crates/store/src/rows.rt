@@ -1,7 +1,9 @@
 ghost use Rattle.std.specs.Prelude.{◌≡◌, IfOk};
-ghost use Rattle.profile.specs.Rows.{shown_row};
+ghost use Rattle.profile.specs.Register.{Deed, deed_mark, body_of};
+ghost use Rattle.profile.specs.Rows.{shown_row, state_text};
+ghost use Rattle.store.specs.Sent.{kind_text, state_name, kind_by, said_under, sent_row};
 
-use rules::Row;
+use rules::{Entry, Page, Row};
 use std::alloc::AllocError;
 use std::marker::Model;
 
@@ -35,19 +37,59 @@ impl Model for StockRow {
 pub enum OutKind {
     /// The answer to an interchange.
     Answer,
+    /// The receipt advice (944) of a count.
+    Receipt,
+    /// The shipping advice (945) of a pick.
+    Shipment,
+    /// The inventory adjustment advice (947) of a recount.
+    Adjustment,
 }
 
-/// What the other side said of a document.
+impl OutKind {
+    /// The word for it in lists and tables: ANS, 944, 945 or 947.
+    pub fn text(self) -> &'static [u8]
+        ensures { result.now ≡ kind_text self }
+    {
+        match self {
+            OutKind::Answer => b"ANS",
+            OutKind::Receipt => b"944",
+            OutKind::Shipment => b"945",
+            OutKind::Adjustment => b"947",
+        }
+    }
+}
+
+/// What the other side said of a document: the first acknowledgment behind it that names it decides.
 #[derive(Clone, Copy, Debug, PartialEq, Eq)]
 pub enum DocumentState {
     /// Answers have no state.
     Unasked,
+    /// Nothing yet.
+    Open,
+    /// It is accepted.
+    Accepted,
+    /// It is refused.
+    Refused,
+}
+
+impl DocumentState {
+    /// The word for it in lists and tables: -, open, accepted or refused.
+    pub fn text(self) -> &'static [u8]
+        ensures { result.now ≡ state_name self }
+    {
+        match self {
+            DocumentState::Unasked => b"-",
+            DocumentState::Open => b"open",
+            DocumentState::Accepted => b"accepted",
+            DocumentState::Refused => b"refused",
+        }
+    }
 }
 
 /// A text that went out to a depositor.
 #[derive(Clone, Drop)]
 pub struct OutRow {
-    /// The number of its entry.
+    /// The number of its entry, 1 to 999,999.
     pub n: u32,
     /// What it is.
     pub kind: OutKind,
@@ -55,6 +97,15 @@ pub struct OutRow {
     pub content: Vec<u8>,
     /// What was said of it.
     pub state: DocumentState,
+}
+
+impl Model for OutRow {
+    ghost use Rattle.profile.specs.Rows.{OutRow};
+    ghost use Rattle.store.specs.Sent.{kind_text, state_name};
+
+    ghost Value = { OutRow };
+
+    ghost view = { λ r. record { n = r.n; kind = kind_text r.kind; content = r.content.items; state = state_name r.state } };
 }
 
 impl StockRow {
@@ -73,14 +124,62 @@ impl StockRow {
     }
 }
 
+// What kind of text goes out for an entry with this key and body.
+fn kind_of(key: &[u8], body: &[u8]) -> OutKind
+    ensures { (deed : Deed) → key.now ≡ deed_mark deed → body.now ≡ body_of deed → kind_text result ≡ kind_by deed }
+{
+    if !key.starts_with(b"T") {
+        OutKind::Answer
+    } else if body.starts_with(b"count ") {
+        OutKind::Receipt
+    } else if body.starts_with(b"pick ") {
+        OutKind::Shipment
+    } else {
+        OutKind::Adjustment
+    }
+}
+
+// What the page's documents say of the one under a number.
+fn said_of(page: &Page, n: u32) -> Option<bool>
+    ensures { result ≡ said_under n page.now.documents }
+{
+    let documents = page.documents();
+    for document in documents {
+        if document.n() == n {
+            return document.said();
+        }
+    }
+    None
+}
+
+// The state of a document of which this was said.
+fn state_of(said: Option<bool>) -> DocumentState
+    ensures { state_name result ≡ state_text said }
+{
+    match said {
+        None => DocumentState::Open,
+        Some(true) => DocumentState::Accepted,
+        Some(false) => DocumentState::Refused,
+    }
+}
+
 impl OutRow {
-    /// The answer under a number.
-    pub(crate) fn answer(n: u32, content: Vec<u8>) -> OutRow {
+    /// The row of an entry that sent this out, by the page of all its depositor's entries.
+    pub(crate) fn of(page: &Page, entry: &Entry, content: Vec<u8>) -> OutRow
+        ensures { (deed : Deed) → entry.now.key ≡ deed_mark deed → entry.now.body ≡ body_of deed
+            → result ≡ sent_row page.now.documents deed entry.now.n content.items }
+    {
+        let n = entry.number();
+        let kind = kind_of(&entry.key, entry.body());
+        let state = match kind {
+            OutKind::Answer => DocumentState::Unasked,
+            _ => state_of(said_of(page, n)),
+        };
         OutRow {
             n,
-            kind: OutKind::Answer,
+            kind,
             content,
-            state: DocumentState::Unasked,
+            state,
         }
     }
 }

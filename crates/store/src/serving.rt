@@ -2,7 +2,7 @@ ghost use Rattle.std.specs.Prelude.{◌≡◌, ◌++◌, ◌∷◌, [], List, Bo
 ghost use Rattle.rules.specs.Written.{Written};
 ghost use Rattle.profile.specs.Accepted.{entry_of};
 ghost use Rattle.rules.specs.Asked.{asked};
-ghost use Rattle.rules.specs.Decided.{Comes};
+ghost use Rattle.rules.specs.Decided.{IsHeldAtRest, Makes};
 ghost use Rattle.rules.specs.declared.commands.Command.{Command as Asking};
 ghost use Rattle.profile.specs.Moments.{Moment as Minute};
 ghost use Rattle.store.specs.Runs.{behind, behind_all, with_entry, UnlessAccepted};
@@ -36,6 +36,7 @@ fn recall<K: Keeper>(
     keeper: &mut K,
     command: &Command<'_>,
 ) -> Result<(Option<Page>, Option<Known>), Fault>
+    ensures rest { IfOk result (λ found. IsHeldAtRest found.0) }
     ensures same { IsUnchanged (K.standing keeper.old) (K.standing keeper.new) }
     ensures fault { IfErr result (λ fault. IsQueryFault fault (K.standing keeper.old) (K.standing keeper.new)) }
 {
@@ -54,7 +55,7 @@ fn judge<K: Keeper>(
     command: &Command<'_>,
     moment: Moment,
 ) -> Result<Decision, Fault>
-    ensures decision { IfOk result (Comes command.now moment) }
+    ensures decision { IfOk result (Makes (asked command.now) moment) }
     ensures same { IsUnchanged (K.standing keeper.old) (K.standing keeper.new) }
     ensures fault { IfErr result (λ fault. IsQueryFault fault (K.standing keeper.old) (K.standing keeper.new)) }
 {

@@ -1,8 +1,13 @@
+use crate::sheets;
 use crate::told::{Status, Stop, tell_refusal, tell_text};
+use crate::words::Deed;
+use profile::{MOST_NUMBER, MOST_TICKET};
 use std::alloc::Global;
 use std::rt::Files;
 use std::{fs, io};
-use store::{Command, Moment, Refusal, ReplayBook, Reply, Who, submit};
+use store::{
+    Act, Command, Ident, Moment, Refusal, ReplayBook, Reply, Sheet, SheetKind, Who, submit,
+};
 
 /// Enrols a depositor.
 pub fn enrol<E: io::Write>(
@@ -13,10 +18,10 @@ pub fn enrol<E: io::Write>(
     err: &mut E,
 ) -> Result<Status, Stop> {
     let Some(who) = Who::new(who.as_bytes()) else {
-        return tell_refusal(err, Refusal::BadText);
+        return tell_refusal(alloc, err, Refusal::BadText);
     };
     match submit(alloc, book, &Command::Enrol(who), moment)? {
-        Reply::Refused { refusal, .. } => tell_refusal(err, refusal),
+        Reply::Refused { refusal, .. } => tell_refusal(alloc, err, refusal),
         _ => Ok(Status::Done),
     }
 }
@@ -38,7 +43,99 @@ pub fn send<R: Files + AllocGlobal, W: io::Write, E: io::Write>(
         }
         Reply::Refused { refusal, answer } => {
             tell_text(out, &answer)?;
-            tell_refusal(err, refusal)
+            tell_refusal(rt.alloc(), err, refusal)
         }
     }
+}
+
+/// What a clerk did, as the words say it.
+#[derive(Clone, Copy)]
+pub struct Told<'a> {
+    /// What was done.
+    pub deed: Deed,
+    /// The depositor.
+    pub who: &'a str,
+    /// The ticket.
+    pub ticket: &'a str,
+    /// The number of the advice or the order; nothing of a recount.
+    pub number: &'a str,
+}
+
+// The depositor of a clerk's words; None where a word can't be read.
+fn depositor(told: &Told<'_>) -> Option<Who> {
+    let who = Who::new(told.who.as_bytes())?;
+    Ident::new(told.ticket.as_bytes(), MOST_TICKET)?;
+    if told.deed != Deed::Recount {
+        Ident::new(told.number.as_bytes(), MOST_NUMBER)?;
+    }
+    Some(who)
+}
+
+// The kind of the sheet.
+fn kind(deed: Deed) -> SheetKind {
+    match deed {
+        Deed::Count => SheetKind::Count,
+        Deed::Pick => SheetKind::Pick,
+        Deed::Recount => SheetKind::Recount,
+    }
+}
+
+// The act, with its sheet.
+fn act<'a>(deed: Deed, number: &'a [u8], sheet: &'a Sheet) -> Act<'a> {
+    match deed {
+        Deed::Count => Act::Count {
+            shipment: number,
+            sheet,
+        },
+        Deed::Pick => Act::Pick {
+            order: number,
+            sheet,
+        },
+        Deed::Recount => Act::Recount { sheet },
+    }
+}
+
+// Submits a clerk's act and prints its document.
+fn submit_act<W: io::Write, E: io::Write>(
+    alloc: Global,
+    book: &mut ReplayBook,
+    command: &Command<'_>,
+    moment: Moment,
+    out: &mut W,
+    err: &mut E,
+) -> Result<Status, Stop> {
+    match submit(alloc, book, command, moment)? {
+        Reply::Accepted(text) | Reply::Stored(text) => {
+            tell_text(out, &text)?;
+            Ok(Status::Done)
+        }
+        Reply::Refused { refusal, .. } => tell_refusal(alloc, err, refusal),
+    }
+}
+
+/// Submits what a clerk did, with the sheet in a file, and prints the document.
+pub fn clerk<R: Files + AllocGlobal, W: io::Write, E: io::Write>(
+    rt: &R,
+    book: &mut ReplayBook,
+    told: &Told<'_>,
+    file: &str,
+    moment: Moment,
+    out: &mut W,
+    err: &mut E,
+) -> Result<Status, Stop> {
+    let alloc = rt.alloc();
+    let Some(who) = depositor(told) else {
+        return tell_refusal(alloc, err, Refusal::BadText);
+    };
+    let text = fs::read(rt, file)?;
+    let sheet = match sheets::sheet(alloc, kind(told.deed), &text)? {
+        Ok(sheet) => sheet,
+        Err(refusal) => return tell_refusal(alloc, err, refusal),
+    };
+    let command = Command::Clerk {
+        who,
+        ticket: told.ticket.as_bytes(),
+        act: act(told.deed, told.number.as_bytes(), &sheet),
+    };
+    submit_act(alloc, book, &command, moment, out, err)
 }

@@ -5,6 +5,7 @@ mod acts;
 mod clock;
 mod commands;
 mod script;
+mod sheets;
 mod told;
 mod words;
 

@@ -1,4 +1,4 @@
-use crate::acts;
+use crate::acts::{self, Told};
 use crate::clock::now;
 use crate::told::{Status, Stop, tell_refusal};
 use crate::words::{Place, Words, line};
@@ -39,6 +39,23 @@ fn perform<R: Files + Clock + AllocGlobal, W: io::Write, E: io::Write>(
             let moment = moment_for(rt, *at)?;
             acts::send(rt, book, file, moment, out, err)
         }
+        Words::Clerk {
+            deed,
+            who,
+            ticket,
+            number,
+            sheet,
+            at,
+        } => {
+            let moment = moment_for(rt, *at)?;
+            let told = Told {
+                deed: *deed,
+                who,
+                ticket,
+                number,
+            };
+            acts::clerk(rt, book, &told, sheet, moment, out, err)
+        }
         _ => Err(misplaced(rt, "init stands in the first line alone\n")),
     }
 }
@@ -55,7 +72,7 @@ fn made<R: AllocGlobal, E: io::Write>(
     match Who::new(who.as_bytes()) {
         Some(who) => Ok(Some(ReplayBook::new(rt.alloc(), Warehouse::new(who)))),
         None => {
-            tell_refusal(err, Refusal::BadText)?;
+            tell_refusal(rt.alloc(), err, Refusal::BadText)?;
             Ok(None)
         }
     }

@@ -1,5 +1,5 @@
 use crate::words::LineFault;
-use std::alloc::AllocError;
+use std::alloc::{AllocError, Global};
 use std::io;
 use store::{Fault, Refusal};
 
@@ -82,10 +82,17 @@ pub fn tell_text<W: io::Write>(out: &mut W, text: &[u8]) -> Result<(), Stop> {
     Ok(())
 }
 
-/// Tells a refusal on standard error, as `refused 35 AlreadyEnrolled`.
-pub fn tell_refusal<E: io::Write>(err: &mut E, refusal: Refusal) -> Result<Status, Stop> {
-    let (number, name) = (refusal.number(), refusal.name());
-    write!(err, "refused {number} {name}\n")?;
+/// Tells a refusal on standard error, as `refused 35 AlreadyEnrolled` or `refused 2 Note(006)`.
+pub fn tell_refusal<E: io::Write>(
+    alloc: Global,
+    err: &mut E,
+    refusal: Refusal,
+) -> Result<Status, Stop> {
+    let number = refusal.number();
+    let name = refusal.name(alloc)?;
+    write!(err, "refused {number} ")?;
+    err.write_all(&name)?;
+    err.write_all(b"\n")?;
     Ok(Status::Refused)
 }
 

@@ -40,6 +40,32 @@ pub enum Words<'a> {
         /// The moment, if the line says one.
         at: Option<Moment>,
     },
+    /// Tell what a clerk did.
+    Clerk {
+        /// What was done.
+        deed: Deed,
+        /// The depositor, as `QQ-ID`.
+        who: &'a str,
+        /// The ticket.
+        ticket: &'a str,
+        /// The number of the advice or the order; nothing of a recount.
+        number: &'a str,
+        /// The file with the sheet.
+        sheet: &'a str,
+        /// The moment, if the line says one.
+        at: Option<Moment>,
+    },
+}
+
+/// What a clerk did.
+#[derive(Clone, Copy, Debug, PartialEq, Eq)]
+pub enum Deed {
+    /// Goods of an advice were counted.
+    Count,
+    /// An order was picked.
+    Pick,
+    /// Goods on hand were counted again.
+    Recount,
 }
 
 /// Why a line of words asks for nothing.
@@ -78,7 +104,7 @@ fn script<'a>(alloc: Global) -> Result<Command<'a>, AllocError> {
     Command::new(alloc, "script")
         .about("Runs the commands of a file, line by line, over a new book in memory")
         .after_help(
-            "Example: whx12 script morning.txt\n\nThe first line is init; each other line is enrol or send, with single spaces between words.\nA refused command is told on standard error, and the script goes on.",
+            "Example: whx12 script morning.txt\n\nThe first line is init; each other line is enrol, send, count, pick or recount, with single spaces between words.\nA refused command is told on standard error, and the script goes on.",
         )
         .arg(value(alloc, "file", "FILE", "The file with the commands"))
 }
@@ -117,6 +143,79 @@ fn send<'a>(alloc: Global) -> Result<Command<'a>, AllocError> {
         .arg(at(alloc))
 }
 
+// The depositor and the ticket of a clerk's act, which stand in front of its other words.
+fn clerk<'a>(
+    alloc: Global,
+    name: &'a str,
+    about: &'a str,
+    example: &'a str,
+) -> Result<Command<'a>, AllocError> {
+    Command::new(alloc, name)
+        .about(about)
+        .after_help(example)
+        .arg(value(
+            alloc,
+            "who",
+            "WHO",
+            "The depositor: its qualifier, a hyphen and its id",
+        ))?
+        .arg(value(
+            alloc,
+            "ticket",
+            "TICKET",
+            "The ticket, by which the act is known when it is told again",
+        ))
+}
+
+// The sheet, and the moment, which stand behind its other words.
+fn sheet<'a>(alloc: Global, command: Command<'a>) -> Result<Command<'a>, AllocError> {
+    command
+        .arg(value(
+            alloc,
+            "sheet",
+            "SHEET",
+            "The file with the sheet: CSV records of item, lot and quantity",
+        ))?
+        .arg(at(alloc))
+}
+
+fn count<'a>(alloc: Global) -> Result<Command<'a>, AllocError> {
+    let command = clerk(
+        alloc,
+        "count",
+        "Counts the goods of an advice, and prints its receipt (944)",
+        "Example: count ZZ-ACME T1 SHP1 count.csv",
+    )?;
+    let number = value(
+        alloc,
+        "number",
+        "SHIPMENT",
+        "The shipment number of the advice",
+    );
+    sheet(alloc, command.arg(number)?)
+}
+
+fn pick<'a>(alloc: Global) -> Result<Command<'a>, AllocError> {
+    let command = clerk(
+        alloc,
+        "pick",
+        "Tells what was picked for an order, and prints its shipping advice (945)",
+        "Example: pick ZZ-ACME T2 ORD1 pick.csv",
+    )?;
+    let number = value(alloc, "number", "ORDER", "The number of the order");
+    sheet(alloc, command.arg(number)?)
+}
+
+fn recount<'a>(alloc: Global) -> Result<Command<'a>, AllocError> {
+    let command = clerk(
+        alloc,
+        "recount",
+        "Sets what is on hand, and prints the adjustment (947)",
+        "Example: recount ZZ-ACME T3 recount.csv",
+    )?;
+    sheet(alloc, command)
+}
+
 // What may stand at the place.
 fn parser<'a>(alloc: Global, place: Place) -> Result<Command<'a>, AllocError> {
     let parser = Command::new(alloc, "whx12")
@@ -130,7 +229,10 @@ fn parser<'a>(alloc: Global, place: Place) -> Result<Command<'a>, AllocError> {
         Place::Script => parser
             .subcommand(init(alloc)?)?
             .subcommand(enrol(alloc)?)?
-            .subcommand(send(alloc)?),
+            .subcommand(send(alloc)?)?
+            .subcommand(count(alloc)?)?
+            .subcommand(pick(alloc)?)?
+            .subcommand(recount(alloc)?),
     }
 }
 
@@ -175,6 +277,37 @@ fn given<'a>(alloc: Global, values: &ArgMatches<'a>, id: &str) -> Result<&'a str
     }
 }
 
+// What a clerk's subcommand says was done, if it is one.
+fn deed_of(name: &str) -> Option<Deed> {
+    match name {
+        "count" => Some(Deed::Count),
+        "pick" => Some(Deed::Pick),
+        "recount" => Some(Deed::Recount),
+        _ => None,
+    }
+}
+
+// What a clerk's subcommand asks for with its values.
+fn told<'a>(
+    alloc: Global,
+    deed: Deed,
+    values: &ArgMatches<'a>,
+    at: Option<Moment>,
+) -> Result<Words<'a>, LineFault> {
+    let number = match deed {
+        Deed::Recount => "",
+        _ => given(alloc, values, "number")?,
+    };
+    Ok(Words::Clerk {
+        deed,
+        who: given(alloc, values, "who")?,
+        ticket: given(alloc, values, "ticket")?,
+        number,
+        sheet: given(alloc, values, "sheet")?,
+        at,
+    })
+}
+
 // What a subcommand asks for with its values.
 fn asked<'a>(alloc: Global, name: &str, values: &ArgMatches<'a>) -> Result<Words<'a>, LineFault> {
     if name == "script" {
@@ -186,6 +319,9 @@ fn asked<'a>(alloc: Global, name: &str, values: &ArgMatches<'a>) -> Result<Words
     if name == "send" {
         let file = given(alloc, values, "file")?;
         return Ok(Words::Send { file, at });
+    }
+    if let Some(deed) = deed_of(name) {
+        return told(alloc, deed, values, at);
     }
     let who = given(alloc, values, "who")?;
     if name == "enrol" {

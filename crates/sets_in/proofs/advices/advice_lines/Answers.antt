@@ -1,4 +1,4 @@
-use Rattle.std.proofs.Common.{◌≤◌, sym, ◌∙◌, ap, subst, List}
+use Rattle.std.proofs.Common.{◌≤◌, ◌<◌, ◌-◌, ◌^◌, arith, sym, ◌∙◌, ap, subst, List}
 use Rattle.std.specs.Prelude.{codes, All}
 use Rattle.std.proofs.lemmas.List.Elements.{All-push}
 use Rattle.profile.specs.Cut.{Piece, has_id, segments_of}
@@ -18,4 +18,7 @@ loop-index-preserved c = record {
       c.loop-index.invariant.lines c.in_ok-advice_line.ensures.line c.in_ok-push.ensures.items;
   small = subst (λ (xs : List meant.AdviceLine). All (λ (l : meant.AdviceLine). l.line.quantity ≤ most_quantity) xs) (sym c.in_ok-push.ensures.items)
       (All-push (λ (l : meant.AdviceLine). l.line.quantity ≤ most_quantity) c.loop-index.lines.items c.in_ok-advice_line.field-0 c.loop-index.invariant.small c.in_ok-advice_line.ensures.small);
+  placed = subst (λ (xs : List meant.AdviceLine). All (λ (l : meant.AdviceLine). l.position < 2 ^ 32 - 1) xs) (sym c.in_ok-push.ensures.items)
+      (All-push (λ (l : meant.AdviceLine). l.position < 2 ^ 32 - 1) c.loop-index.lines.items c.in_ok-advice_line.field-0 c.loop-index.invariant.placed
+      (omega (arith, c.requires.short, c.loop-index-test.true, ap (λ (l : meant.AdviceLine). l.position) c.in_ok-advice_line.ensures.line)));
 }

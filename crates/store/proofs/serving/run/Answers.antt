@@ -1,12 +1,9 @@
-use Rattle.std.proofs.Common.{rules, ℕ, ◌≡◌, ◌∙◌, ◌+◌, ◌<◌, ◌++◌, ◌∷◌, [], List, length, get_or, arith, ap, sym, refl, subst, Some}
-use Rattle.rules.specs.Written.{Written}
-use Rattle.profile.specs.Moments.{Moment}
-use Rattle.rules.specs.declared.commands.Command.{Command}
+use Rattle.std.proofs.Common.{◌∙◌, List, arith, sym, refl, subst}
 use Rattle.store.specs.declared.serving.Reply.{Reply}
-use Rattle.store.specs.Runs.{behind, behind_all, with_entry}
-use Rattle.store.specs.Standing.{IsUsable, LeavesEither}
+use Rattle.store.specs.Runs.{behind_all}
+use Rattle.store.specs.Standing.{IsUsable}
 use Rattle.store.proofs.Registers.{usable_push, either_next}
-use Rattle.store.proofs.Changes.{clean_before, goes_trans, usable_stays, either_at}
+use Rattle.store.proofs.Changes.{clean_before, goes_trans, usable_stays}
 use Rattle.store.proofs.serving.run.Goals as goal
 
 pub returns-in-Err-clause-left : goal.returns-in-Err-clause-left

@@ -1,6 +1,7 @@
-use Rattle.std.proofs.Common.{rules, sym, refl, ap, subst, ◌∙◌, ◌++◌, ◌∷◌, [], List}
+use Rattle.std.proofs.Common.{rules, subst, List}
 use Rattle.rules.specs.Written.{Written}
-use Rattle.rules.specs.Decided.{Comes}
+use Rattle.rules.specs.Asked.{asked}
+use Rattle.rules.specs.Decided.{Makes}
 use Rattle.store.specs.Runs.{with_entry}
 use Rattle.store.specs.Standing.{IsUsable, LeavesEither}
 use Rattle.store.proofs.Changes.{clean_before, usable_stays, fault_after, leaves_first, at_fault}
@@ -16,7 +17,7 @@ returns-in_err-commit-in-Accepted-clause-left g c = λ clean L u.
     let old = g.K.Keeper.standing c.args.keeper.now in
     let mid = g.K.Keeper.standing c.judge.new.keeper in
     let early = clean_before mid (g.K.Keeper.standing c.commit.new.self) c.commit.ensures.goes clean in
-    let is = subst (Comes c.args.command.now c.args.moment) c.in-Accepted.is c.in_ok-text.ensures.decision in
+    let is = subst (Makes (asked c.args.command.now) c.args.moment) c.in-Accepted.is c.in_ok-text.ensures.decision in
     at_fault c.from_residual-in_err-commit-in-Accepted.result
     (subst (λ (M : List Written). LeavesEither (g.K.Keeper.standing c.commit.new.self) L M) (grown L c.args.command.now c.args.moment c.in-Accepted.entry is)
     (c.in_err-commit-in-Accepted.ensures.left clean L (usable_stays old mid c.judge.ensures.same early L u)))
@@ -37,6 +38,6 @@ returns-in_ok-commit-in-Accepted-clause-ok g c = λ clean L u.
     let old = g.K.Keeper.standing c.args.keeper.now in
     let mid = g.K.Keeper.standing c.judge.new.keeper in
     let early = clean_before mid (g.K.Keeper.standing c.commit.new.self) c.commit.ensures.goes clean in
-    let is = subst (Comes c.args.command.now c.args.moment) c.in-Accepted.is c.in_ok-text.ensures.decision in
+    let is = subst (Makes (asked c.args.command.now) c.args.moment) c.in-Accepted.is c.in_ok-text.ensures.decision in
     subst (IsUsable (g.K.Keeper.standing c.commit.new.self)) (grown L c.args.command.now c.args.moment c.in-Accepted.entry is)
     (c.in_ok-commit-in-Accepted.ensures.ok clean L (usable_stays old mid c.judge.ensures.same early L u))

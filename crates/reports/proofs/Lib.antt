@@ -1,0 +1,5 @@
+mod ColumnLaws
+mod MoreLaws
+mod FilterLaws
+mod PickLaws
+mod WriterLaws

@@ -1,0 +1,87 @@
+-- A picking sheet is the same of the events and of the page.
+use Rattle.std.proofs.Common.{◌≡◌, ℕ, Bool, true, false, ◌&&◌, List, [], ◌∷◌, map, filter, flat_map, refl, ap, sym, ◌∙◌, bytes_eq, Option, Some, None, option_map, Ok, Err}
+use Rattle.std.specs.Prelude.{nat_lt}
+use Rattle.std.proofs.lemmas.List.Folds.{flat_map-map}
+use Rattle.profile.specs.Lists.{in_order, first_found, or_else}
+use Rattle.profile.specs.Means.{Line, OrderLine}
+use Rattle.profile.specs.Events.{Event, Enrolment, Advised, Ordered, Acknowledged, Counted, Picked, Recounted, pair_before, Reserved, order_if, order_under, is_order_open}
+use Rattle.profile.specs.Page.{reserved_lines, page_line, page_order}
+use Rattle.profile.specs.Refusals.{OrderClosed}
+use Rattle.profile.specs.Reports.{pick_lines, pick_sheet, pick_list}
+use Rattle.profile.proofs.TextLaws.{text_is}
+use Rattle.sheets.proofs.PairLaws.{before_through, one_pair}
+use Rattle.stock.specs.Pages.{PageFacts, order_at}
+use Rattle.stock.specs.Shows.{Shows}
+use Rattle.reports.specs.Picking.{held_of, order_lines, order_sheet, listed}
+use Rattle.reports.proofs.FilterLaws.{filter_in_order, filters}
+
+-- the reservations of an item are those of its shares
+held_is : (shares : List Line) (item : List ℕ) → held_of (reserved_lines shares) item ≡ in_order pair_before (filter (λ k. bytes_eq k.item item && nat_lt 0 k.quantity) shares)
+held_is shares item =
+    filter_in_order pair_before before_through (λ k. bytes_eq k.item item) (λ k l e f. ap (λ i. bytes_eq i item) (one_pair k l e f).0) (filter (λ k. nat_lt 0 k.quantity) shares)
+    ∙ ap (in_order pair_before) (filters (λ k. bytes_eq k.item item) (λ k. nat_lt 0 k.quantity) shares)
+
+lines_are : (shares : List Line) (l : OrderLine) → order_lines (reserved_lines shares) (page_line l) ≡ pick_lines shares l
+lines_are shares l = rw (held_is shares l.item) refl
+
+all_lines_are : (shares : List Line) (ls : List OrderLine) → flat_map (order_lines (reserved_lines shares)) (map page_line ls) ≡ flat_map (pick_lines shares) ls
+all_lines_are shares ls = flat_map-map (order_lines (reserved_lines shares)) page_line ls ∙ (λ i. flat_map (λ l. lines_are shares l i) ls)
+
+sheet_is : (es : List Event) (r : Reserved) → is_order_open r.order.number es ≡ true → order_sheet (page_order es r) ≡ pick_sheet r
+sheet_is es r h = rw (h, all_lines_are r.shares r.order.lines) refl
+
+-- an order is found under its number
+
+found_is : {X Y : Type 0} (f : X → Option Y) (P : Y → Type 0) → ((x : X) (y : Y) → f x ≡ Some y → P y) → (xs : List X) (y : Y) → first_found f xs ≡ Some y → P y
+found_is {Y = Y} f P each [] y h = absurd (cc)
+found_is {Y = Y} f P each (x ∷ xs) y h = by_first (f x) refl (λ g. found_is f P each xs y g) h
+  where
+    by_first : (o : Option Y) → f x ≡ o → (first_found f xs ≡ Some y → P y) → or_else o (first_found f xs) ≡ Some y → P y
+    by_first (Some z) e rest g = each x y (e ∙ g)
+    by_first None e rest g = rest g
+
+abbrev number_in : Option Reserved → List ℕ
+number_in None = []
+number_in (Some r) = r.order.number
+
+number_of : (number : List ℕ) (e : Event) (r : Reserved) → order_if number e ≡ Some r → r.order.number ≡ number
+number_of number (Ordered o shares) r h = by_test (bytes_eq o.number number) refl
+  where
+    by_test : (t : Bool) → bytes_eq o.number number ≡ t → r.order.number ≡ number
+    by_test true e =
+        let found : Some (record { order = o; shares = shares }) ≡ Some r = rw e at h in
+        sym (ap number_in found) ∙ text_is o.number number e
+    by_test false e =
+        let found : None ≡ Some r = rw e at h in
+        absurd (cc)
+number_of number Enrolment r h = absurd (cc)
+number_of number (Advised a) r h = absurd (cc)
+number_of number (Acknowledged n a) r h = absurd (cc)
+number_of number (Counted n a sheet) r h = absurd (cc)
+number_of number (Picked n o shares sheet) r h = absurd (cc)
+number_of number (Recounted n before sheet) r h = absurd (cc)
+
+-- the list of the events is that of the page's order
+listed_is : (es : List Event) (number : List ℕ) → pick_list es number ≡ listed (option_map (page_order es) (order_under number es))
+listed_is es number = by_order (order_under number es) refl
+  where
+    by_open : (r : Reserved) → order_under number es ≡ Some r → r.order.number ≡ number → (t : Bool) → is_order_open number es ≡ t → pick_list es number ≡ listed (Some (page_order es r))
+    by_open r e same true f =
+        let is_open : is_order_open r.order.number es ≡ true = ap (λ n. is_order_open n es) same ∙ f in
+        let meant : pick_list es number ≡ Ok (pick_sheet r) = rw (e, f) refl in
+        let found : listed (Some (page_order es r)) ≡ Ok (order_sheet (page_order es r)) = rw is_open refl in
+        meant ∙ ap Ok (sym (sheet_is es r is_open)) ∙ sym found
+    by_open r e same false f =
+        let is_closed : is_order_open r.order.number es ≡ false = ap (λ n. is_order_open n es) same ∙ f in
+        let meant : pick_list es number ≡ Err OrderClosed = rw (e, f) refl in
+        let found : listed (Some (page_order es r)) ≡ Err OrderClosed = rw is_closed refl in
+        meant ∙ sym found
+
+    by_order : (o : Option Reserved) → order_under number es ≡ o → pick_list es number ≡ listed (option_map (page_order es) (order_under number es))
+    by_order None e = rw e refl
+    by_order (Some r) e =
+        by_open r e (found_is (order_if number) (λ r. r.order.number ≡ number) (number_of number) es r e) (is_order_open number es) refl
+        ∙ ap (λ o. listed (option_map (page_order es) o)) (sym e)
+
+pub shown_list : (p : PageFacts) (es : List Event) (number : List ℕ) → Shows p es → pick_list es number ≡ listed (order_at number p.orders)
+shown_list p es number shows = listed_is es number ∙ ap listed (sym (shows.orders number))

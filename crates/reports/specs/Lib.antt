@@ -1,0 +1,2 @@
+pub mod Exports
+pub mod Picking

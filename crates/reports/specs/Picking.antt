@@ -1,0 +1,44 @@
+-- Picking sheets of orders as a page has them.
+use Rattle.std.specs.Prelude.{◌≡◌, ℕ, ◌-◌, List, [], ◌++◌, length, if◌then◌else◌, nat_lt, ◌==◌, Some, None, Ok, Err, codes, bytes_eq, filter, flat_map, Option, Result, option_to_list}
+use Rattle.profile.specs.Means.{Line}
+use Rattle.profile.specs.Page.{PageLine, PageOrder}
+use Rattle.profile.specs.Refusals as refusals
+use Rattle.profile.specs.Reports.{ended, address_lines, pick_line}
+use Rattle.profile.specs.Texts.{total_of}
+use Rattle.reports.specs.declared.picking.NoSheet.{NoSheet}
+use Rattle.reports.specs.declared.picking.NoSheet.TheVariants.{UnknownOrder, OrderClosed, OutOfMemory}
+
+-- the reservations of an item
+abbrev pub held_of : List Line → List ℕ → List Line
+held_of reserved item = filter (λ k. bytes_eq k.item item) reserved
+
+abbrev pub held_lines : List Line → List ℕ
+held_lines held = flat_map (λ k. pick_line k.item k.lot k.quantity) held
+
+abbrev pub short_line : List ℕ → ℕ → List ℕ
+short_line item short = if short == 0 then [] else pick_line item (codes "(short)") short
+
+-- the reservations of a line, and what is short
+abbrev pub order_lines : List Line → PageLine → List ℕ
+order_lines reserved l = held_lines (held_of reserved l.item) ++ short_line l.item (l.quantity - total_of (held_of reserved l.item))
+
+-- a line of an address, behind three spaces
+abbrev pub address_line : List ℕ → List ℕ
+address_line text = if nat_lt 0 (length text) then ended (codes "   " ++ text) else []
+
+abbrev pub order_sheet : PageOrder → List ℕ
+order_sheet k =
+    ended (codes "ORDER " ++ k.number)
+    ++ flat_map address_lines (option_to_list k.address)
+    ++ flat_map (order_lines k.reserved) k.lines
+
+-- the sheet of an order that was looked up
+abbrev pub listed : Option PageOrder → Result (List ℕ) refusals.Refusal
+listed None = Err refusals.UnknownOrder
+listed (Some k) = if k.is_open then Ok (order_sheet k) else Err refusals.OrderClosed
+
+-- why there is none; want of memory has no cause here
+abbrev pub Explains : Result (List ℕ) refusals.Refusal → NoSheet → Type 0
+Explains answer UnknownOrder = answer ≡ Err refusals.UnknownOrder
+Explains answer OrderClosed = answer ≡ Err refusals.OrderClosed
+Explains answer OutOfMemory = Unit {0}

@@ -1,0 +1,61 @@
+ghost use Rattle.std.specs.Prelude.{◌≡◌, ◌++◌, [], List, ℕ, IfOk, OnOk};
+ghost use Rattle.profile.specs.Reports as meant;
+ghost use Rattle.reports.specs.Exports.{Holds};
+
+use csv::{Error, QuoteStyle, Writer, WriterBuilder};
+use itoa::Buffer;
+use std::alloc::{AllocError, Global};
+use store::StockRow;
+
+// Writes the record of a row.
+fn write_row(writer: &mut Writer<Vec<u8>>, row: &StockRow) -> Result<(), Error>
+    ensures { OnOk result ((text : List ℕ) → Holds writer.old text → Holds writer.new (text ++ meant.stock_record row.now)) }
+{
+    let mut expected = Buffer::new();
+    let mut on_hand = Buffer::new();
+    let mut reserved = Buffer::new();
+    let mut shipped = Buffer::new();
+    writer.write_fields(&[
+        &row.item,
+        &row.lot,
+        expected.format(row.expected).as_bytes(),
+        on_hand.format(row.on_hand).as_bytes(),
+        reserved.format(row.reserved).as_bytes(),
+        shipped.format(row.shipped).as_bytes(),
+    ])?;
+    Ok(())
+}
+
+// Writes the record of headings and those of the rows.
+fn write_rows(writer: &mut Writer<Vec<u8>>, rows: &[StockRow]) -> Result<(), Error>
+    requires { Holds writer.old [] }
+    ensures { OnOk result (Holds writer.new (meant.stock_csv rows.now)) }
+{
+    writer.write_fields(&[
+        b"item",
+        b"lot",
+        b"expected",
+        b"on_hand",
+        b"reserved",
+        b"shipped",
+    ])?;
+    for row in rows {
+        write_row(writer, row)?;
+    }
+    Ok(())
+}
+
+/// The stock export of these rows: CSV, the record `item,lot,expected,on_hand,reserved,shipped` and then a record for each row,
+/// in the order given, with amounts in the unit EA. Nothing is quoted, since no identifier and no number needs it. The one error
+/// is want of memory, the only one that a writer into a vector has.
+pub fn stock_csv(alloc: Global, rows: &[StockRow]) -> Result<Vec<u8>, AllocError>
+    ensures { IfOk result (λ text. text.items ≡ meant.stock_csv rows.now) }
+{
+    let mut writer = WriterBuilder::new()
+        .quote_style(QuoteStyle::Never)
+        .from_writer(Vec::new(alloc));
+    if write_rows(&mut writer, rows).is_err() {
+        return Err(AllocError);
+    }
+    writer.into_inner().map_err(|_| AllocError)
+}

@@ -1,0 +1,177 @@
+ghost use Rattle.std.specs.Prelude.{◌≡◌, ◌++◌, ◌-◌, List, Some, Ok, IfOk, IfErr, OnOk, flat_map, option_to_list};
+ghost use Rattle.profile.specs.Events.{Event};
+ghost use Rattle.profile.specs.Reports as meant;
+ghost use Rattle.profile.specs.Texts.{total_of};
+ghost use Rattle.reports.specs.Picking.{held_of, held_lines, address_line, order_lines, order_sheet, listed, Explains};
+ghost use Rattle.stock.specs.Pages.{order_at};
+ghost use Rattle.stock.specs.Shows.{Shows};
+
+use crate::columns::{append_left, append_right};
+use itoa::Buffer;
+use profile::{MOST_ITEM, MOST_LOT};
+use sets_in::{Address, Line};
+use std::alloc::{AllocError, Global};
+use stock::{KnownLine, KnownOrder, Page};
+
+// The width of a quantity.
+const QUANTITY: usize = 6;
+
+/// Why there is no picking sheet.
+#[derive(Clone, Copy, Debug, PartialEq, Eq)]
+pub enum NoSheet {
+    /// The depositor has no order of this number.
+    UnknownOrder,
+    /// The order was picked.
+    OrderClosed,
+    /// A growth was refused.
+    OutOfMemory,
+}
+
+impl From<AllocError> for NoSheet {
+    ghost use Rattle.reports.specs.declared.picking.NoSheet.TheVariants.{OutOfMemory};
+
+    ghost from_gives = { λ _ why. why ≡ OutOfMemory };
+
+    fn from(_: AllocError) -> NoSheet {
+        NoSheet::OutOfMemory
+    }
+}
+
+// Appends the text and LF.
+fn append_ended(out: &mut Vec<u8>, beginning: &[u8], text: &[u8]) -> Result<(), AllocError>
+    ensures { OnOk result (out.new.items ≡ out.old.items ++ meant.ended (beginning.now ++ text.now)) }
+{
+    out.extend_from_slice(beginning)?;
+    out.extend_from_slice(text)?;
+    out.push(b'\n')?;
+    Ok(())
+}
+
+// Appends the line of a text of an address, where it isn't empty.
+fn append_address_line(out: &mut Vec<u8>, text: &[u8]) -> Result<(), AllocError>
+    ensures { OnOk result (out.new.items ≡ out.old.items ++ address_line text.now) }
+{
+    if text.is_empty() {
+        return Ok(());
+    }
+    append_ended(out, b"   ", text)
+}
+
+// Appends where goods go: the name, and what else isn't empty.
+fn append_address(out: &mut Vec<u8>, address: &Address) -> Result<(), AllocError>
+    ensures { OnOk result (out.new.items ≡ out.old.items ++ meant.address_lines address.now) }
+{
+    append_ended(out, b"TO ", address.name())?;
+    append_address_line(out, address.one())?;
+    append_address_line(out, address.two())?;
+    append_address_line(out, address.place())
+}
+
+// Appends where an order goes, if it says so.
+fn append_destination(out: &mut Vec<u8>, order: &KnownOrder) -> Result<(), AllocError>
+    ensures { OnOk result (out.new.items ≡ out.old.items ++ flat_map meant.address_lines (option_to_list order.now.address)) }
+{
+    match order.address() {
+        None => Ok(()),
+        Some(address) => append_address(out, address),
+    }
+}
+
+// Appends a line of the sheet.
+fn append_line(out: &mut Vec<u8>, item: &[u8], lot: &[u8], quantity: u32) -> Result<(), AllocError>
+    ensures { OnOk result (out.new.items ≡ out.old.items ++ meant.pick_line item.now lot.now quantity) }
+{
+    let mut buffer = Buffer::new();
+    append_left(out, item, MOST_ITEM)?;
+    out.push(b' ')?;
+    append_left(out, lot, MOST_LOT)?;
+    out.push(b' ')?;
+    append_right(out, buffer.format(quantity).as_bytes(), QUANTITY)?;
+    out.push(b'\n')?;
+    Ok(())
+}
+
+// Appends a line for each reservation of the item. The result is how much of the quantity is short.
+fn append_held(
+    out: &mut Vec<u8>,
+    reserved: &[Line],
+    item: &[u8],
+    quantity: u32,
+) -> Result<u32, AllocError>
+    ensures text { OnOk result (out.new.items ≡ out.old.items ++ held_lines (held_of reserved.now item.now)) }
+    ensures short { IfOk result (λ short. short ≡ quantity - total_of (held_of reserved.now item.now)) }
+{
+    let mut short = quantity;
+    for line in reserved {
+        if line.item() == item {
+            append_line(out, line.item(), line.lot(), line.quantity())?;
+            short = short.saturating_sub(line.quantity());
+        }
+    }
+    Ok(short)
+}
+
+// Appends what of a line of an order is reserved, and what is short.
+fn append_order_line(
+    out: &mut Vec<u8>,
+    reserved: &[Line],
+    line: &KnownLine,
+) -> Result<(), AllocError>
+    ensures { OnOk result (out.new.items ≡ out.old.items ++ order_lines reserved.now line.now) }
+{
+    let short = append_held(out, reserved, line.item(), line.quantity())?;
+    if short == 0 {
+        return Ok(());
+    }
+    append_line(out, line.item(), b"(short)", short)
+}
+
+// The picking sheet of an order.
+fn picking_sheet(alloc: Global, order: &KnownOrder) -> Result<Vec<u8>, AllocError>
+    ensures { IfOk result (λ text. text.items ≡ order_sheet order.now) }
+{
+    let mut text = Vec::new(alloc);
+    append_ended(&mut text, b"ORDER ", order.number())?;
+    append_destination(&mut text, order)?;
+    for line in order.lines() {
+        append_order_line(&mut text, order.reserved(), line)?;
+    }
+    Ok(text)
+}
+
+// The picking sheet of an order, if it is open.
+pub(crate) fn sheet_of(alloc: Global, order: &KnownOrder) -> Result<Vec<u8>, NoSheet>
+    ensures ok { IfOk result (λ text. listed (Some order.now) ≡ Ok text.items) }
+    ensures err { IfErr result (λ why. Explains (listed (Some order.now)) why) }
+{
+    if !order.is_open() {
+        return Err(NoSheet::OrderClosed);
+    }
+    Ok(picking_sheet(alloc, order)?)
+}
+
+// The picking sheet of a page's order, if there is one and it is open.
+fn sheet_on(alloc: Global, page: &Page, number: &[u8]) -> Result<Vec<u8>, NoSheet>
+    ensures ok { IfOk result (λ text. listed (order_at number.now page.now.orders) ≡ Ok text.items) }
+    ensures err { IfErr result (λ why. Explains (listed (order_at number.now page.now.orders)) why) }
+{
+    match page.order(number) {
+        None => Err(NoSheet::UnknownOrder),
+        Some(order) => sheet_of(alloc, order),
+    }
+}
+
+/// The picking sheet of an open order of the page: its number, where it goes, and for each of its lines what is reserved, by lot
+/// bytes, and what is short. UnknownOrder (24) and OrderClosed (25) are answered exactly where the order is unknown or closed,
+/// OutOfMemory (40) where a growth was refused.
+pub fn pick_list(alloc: Global, page: &Page, number: &[u8]) -> Result<Vec<u8>, NoSheet>
+    // Of each events that the page stands for.
+    ensures ok { IfOk result (λ text. (es : List Event) → Shows page.now es → meant.pick_list es number.now ≡ Ok text.items) }
+    ensures err { IfErr result (λ why. (es : List Event) → Shows page.now es → Explains (meant.pick_list es number.now) why) }
+
+    // The same of the page alone.
+    ensures sheet { IfOk result (λ text. listed (order_at number.now page.now.orders) ≡ Ok text.items) }
+    ensures none { IfErr result (λ why. Explains (listed (order_at number.now page.now.orders)) why) }
+{
+    sheet_on(alloc, page, number)
+}

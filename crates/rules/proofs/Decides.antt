@@ -1,0 +1,161 @@
+-- Decisions on interchanges, as the definitions have them.
+use Rattle.std.proofs.Common.{◌≡◌, ℕ, ◌+◌, ◌<◌, Bool, true, false, not, cond, List, [], Option, Some, None, refl, sym, ap, ◌∙◌, subst, arith}
+use Rattle.std.specs.Prelude.{◌&&◌, bytes_eq, nat_lt, if◌then◌else◌}
+use Rattle.std.specs.Borrow.{Bor}
+use Rattle.profile.specs.Accepted.{depositor_of}
+use Rattle.std.proofs.lemmas.Bool.{le-ltb}
+use Rattle.profile.specs.Limits.{most_entries}
+use Rattle.profile.specs.Moments.{Moment}
+use Rattle.profile.specs.Header.{Who, is_partner, isa, sender, delims_of, is_unreadable}
+use Rattle.profile.specs.Cut.{cut}
+use Rattle.profile.specs.Structure.{groups_of}
+use Rattle.profile.specs.History.{History, tellings}
+use Rattle.profile.specs.Texts.{Told, answer}
+use Rattle.profile.specs.Register.{Interchange, Deed, Enrolled, Received, Performed, Entry, mark, deed_mark, interchange_mark, body_of}
+use Rattle.profile.specs.Refusals.{Unreadable, Note, Duplicate}
+use Rattle.profile.specs.Reply.{Accepted, Refused, refusal_answer, interchange_entry}
+use Rattle.profile.specs.Decision as known
+use Rattle.sets_out.specs.Headings.{heading_of}
+use Rattle.sets_out.specs.Interchanges.{answer_of}
+use Rattle.sets_out.proofs.TextLaws.{answer-told}
+use Rattle.stock.specs.Pages.{PageFacts}
+use Rattle.profile.specs.Lists.{or_else}
+use Rattle.profile.specs.Halt.{header_notes, structure_notes, structure_note}
+use Rattle.envelope.specs.Conditions.{first_note}
+use Rattle.envelope.specs.Halting.{first_appended}
+use Rattle.rules.specs.Written.{Written, Recalled, written_as}
+use Rattle.rules.specs.Judging.{AreGroupsTaken}
+use Rattle.rules.specs.Decided.{IsPageOf, IsEntry, StandsFor, IsRecalled, IsUnder, IsGiven, IsReply, entries_of}
+use Rattle.rules.specs.declared.decisions.Decision.{Decision}
+
+-- a known control number of other bytes
+again_by : (W : Who) (text : List ℕ) (t : Moment) (e : Entry) (out : List ℕ) (d : Deed) → e.deed ≡ d → deed_mark d ≡ interchange_mark (isa text 13) → bytes_eq (body_of d) text ≡ false
+    → known.interchange_again W text t (record { entry = record { who = e.who; moment = e.moment; deed = d }; outgoing = out }) ≡ Refused Duplicate (refusal_answer W text t Duplicate)
+again_by W text t e out Enrolled is key other = refl
+again_by W text t e out (Received bytes) is key other = rw other refl
+again_by W text t e out (Performed ticket act) is key other = refl
+
+pub again_other : (W : Who) (text : List ℕ) (t : Moment) (r : Recalled) (k : known.Recalled) (out : List ℕ) → IsEntry r k → mark k.entry ≡ interchange_mark (isa text 13)
+    → bytes_eq r.entry.body text ≡ false → out ≡ refusal_answer W text t Duplicate → known.interchange_again W text t k ≡ Refused Duplicate out
+again_other W text t r k out entry key other is =
+    let body : r.entry.body ≡ body_of k.entry.deed = ap (λ (w : _). w.body) entry.1 in
+    again_by W text t k.entry k.outgoing k.entry.deed refl key (ap (λ (b : List ℕ). bytes_eq b text) (sym body) ∙ other) ∙ ap (Refused Duplicate) (sym is)
+
+-- an interchange that is accepted under the next number
+pub accepted_out : (W w : Who) (t : Moment) (number : ℕ) (text header : List ℕ) (p new : PageFacts) (told : List Told) (out : List ℕ) (h : History)
+    → header ≡ text → number ≡ p.entries + 1 → AreGroupsTaken (delims_of text) (groups_of ((cut (delims_of text) text).segments)) p new told
+    → out ≡ answer_of (delims_of header) W w t number (heading_of header) told → IsPageOf p h → w ≡ sender text
+    → out ≡ known.out_by W h (interchange_entry text t)
+accepted_out W w t number text header p new told out h same is groups made of from =
+    let n = p.entries + 1 in
+    let ts = tellings h.events n text in
+    made ∙ ap (λ (x : List ℕ). answer_of (delims_of x) W w t number (heading_of x) told) same
+    ∙ ap (λ k. answer_of (delims_of text) W w t k (heading_of text) told) is
+    ∙ ap (λ (x : List Told). answer_of (delims_of text) W w t n (heading_of text) x) (groups.told h.events of.shows)
+    ∙ sym (answer-told W w t n text ts)
+    ∙ ap (λ (x : Who). answer W x t n text ts) from
+    ∙ ap (λ k. answer W (sender text) t (k + 1) text (tellings h.events (k + 1) text)) of.entries
+
+pub accepted_reply : (W w : Who) (t : Moment) (number : ℕ) (text header : List ℕ) (p new : PageFacts) (told : List Told) (out : List ℕ) (e : Written) (h : History)
+    → header ≡ text → number ≡ p.entries + 1 → p.entries < most_entries → AreGroupsTaken (delims_of text) (groups_of ((cut (delims_of text) text).segments)) p new told
+    → out ≡ answer_of (delims_of header) W w t number (heading_of header) told
+    → e ≡ record { who = w; key = interchange_mark (isa header 13); n = number; moment = t; body = text } → IsPageOf p h → w ≡ sender text
+    → (known.accepted_by W h (interchange_entry text t) ≡ Accepted out) × (e ≡ written_as (p.entries + 1) (interchange_entry text t))
+accepted_reply W w t number text header p new told out e h same is few groups made entered of from =
+    let room : nat_lt most_entries (h.numbered + 1) ≡ false = le-ltb most_entries (h.numbered + 1) (omega (arith, few, of.entries)) in (
+      rw room (ap Accepted (sym (accepted_out W w t number text header p new told out h same is groups made of from))),
+      entered ∙ ap (λ (x : List ℕ). record { who = w; key = interchange_mark (isa x 13); n = number; moment = t; body = text }) same
+          ∙ ap (λ k. record { who = w; key = interchange_mark (isa text 13); n = k; moment = t; body = text }) is
+          ∙ ap (λ (x : Who). record { who = x; key = interchange_mark (isa text 13); n = p.entries + 1; moment = t; body = text }) from,
+    )
+
+-- the first note of the header's conditions, else that of the conditions on the segments
+pub noted_header : (W : Who) (text header : List ℕ) (o : Option ℕ) (code : ℕ) → header ≡ text → o ≡ first_note (header_notes W header) → o ≡ Some code → known.new_note W text ≡ Some code
+noted_header W text header o code same is some =
+    first_appended (header_notes W text) (structure_notes text)
+    ∙ ap (λ (x : Option ℕ). or_else x (first_note (structure_notes text))) (ap (λ (x : List ℕ). first_note (header_notes W x)) (sym same) ∙ sym is ∙ some)
+
+pub noted_segments : (W : Who) (text header : List ℕ) (o later : Option ℕ) → header ≡ text → o ≡ first_note (header_notes W header) → o ≡ None → structure_note text ≡ later → known.new_note W text ≡ later
+noted_segments W text header o later same is none other =
+    first_appended (header_notes W text) (structure_notes text)
+    ∙ ap (λ (x : Option ℕ). or_else x (first_note (structure_notes text))) (ap (λ (x : List ℕ). first_note (header_notes W x)) (sym same) ∙ sym is ∙ none) ∙ other
+
+-- a note's refusal is the reply to a new control number that has the note
+pub noted_new : (W : Who) (h : History) (text header : List ℕ) (t : Moment) (n code : ℕ) (found : Option ℕ) (d : Decision) → header ≡ text → found ≡ Some code
+    → IsReply n (Interchange text) t (Refused (Note code) (refusal_answer W header t (Note code))) d → IsReply n (Interchange text) t (known.interchange_new W h text t found) d
+noted_new W h text header t n code found d same is reply =
+    subst (λ (o : Option ℕ). IsReply n (Interchange text) t (known.interchange_new W h text t o) d) (sym is)
+    (subst (λ (x : List ℕ). IsReply n (Interchange text) t (Refused (Note code) (refusal_answer W x t (Note code))) d) same reply)
+
+pub accepted_new : (W : Who) (h : History) (text : List ℕ) (t : Moment) (n : ℕ) (found : Option ℕ) (d : Decision) → found ≡ None
+    → IsReply n (Interchange text) t (known.accepted_by W h (interchange_entry text t)) d → IsReply n (Interchange text) t (known.interchange_new W h text t found) d
+accepted_new W h text t n found d is reply = subst (λ (o : Option ℕ). IsReply n (Interchange text) t (known.interchange_new W h text t o) d) (sym is) reply
+
+-- who has no page has no history
+pub no_page : (held : Option (Bor PageFacts)) (h : Option History) → held ≡ None → StandsFor held h → h ≡ None
+no_page held None is stands = refl
+no_page held (Some x) is stands = absurd (subst (λ (o : Option (Bor PageFacts)). StandsFor o (Some x)) is stands)
+
+-- a sender that is no partner names no depositor
+both_no : (a : Bool) → (a && false) ≡ false
+both_no true = refl
+both_no false = refl
+
+pub no_sender : (text header : List ℕ) (o : Option Who) → header ≡ text → o ≡ (if is_partner (sender header) then Some (sender header) else None) → o ≡ None
+    → depositor_of (Interchange text) ≡ None
+no_sender text header o same is none = by_test (is_partner (sender text)) refl (sym is ∙ none)
+  where
+    by_test : (b : Bool) → is_partner (sender text) ≡ b → (if is_partner (sender header) then Some (sender header) else None) ≡ None → depositor_of (Interchange text) ≡ None
+    by_test true partner e =
+        let there : (if is_partner (sender header) then Some (sender header) else None) ≡ Some (sender header) = rw (ap (λ (x : List ℕ). is_partner (sender x)) same ∙ partner) refl in
+        absurd (cc (e, there))
+    by_test false partner e =
+        ap (λ (b : Bool). cond (not (is_unreadable text) && b) (Some (sender text)) None) partner
+        ∙ ap (λ (b : Bool). cond b (Some (sender text)) None) (both_no (not (is_unreadable text)))
+
+-- the reply to a stranger
+pub stranger_reply : (W : Who) (h : Option History) (k : Option known.Recalled) (text header : List ℕ) (t : Moment) (n : ℕ) (d : Decision) → header ≡ text → h ≡ None
+    → IsReply n (Interchange text) t (Refused (Note 6) (refusal_answer W header t (Note 6))) d → IsReply n (Interchange text) t (known.interchange_known W h k text t) d
+stranger_reply W h k text header t n d same is reply =
+    subst (λ (o : Option History). IsReply n (Interchange text) t (known.interchange_known W o k text t) d) (sym is)
+    (subst (λ (x : List ℕ). IsReply n (Interchange text) t (Refused (Note 6) (refusal_answer W x t (Note 6))) d) same reply)
+
+-- the reply to a known control number
+again_given : (W : Who) (h : Option History) (k : Option known.Recalled) (text : List ℕ) (t : Moment) (n : ℕ) (d : Decision) (p : Bor PageFacts) (r : Recalled)
+    → StandsFor (Some p) h → IsRecalled (Some r) k → IsUnder (interchange_mark (isa text 13)) k
+    → ((n : ℕ) (K : known.Recalled) → IsEntry r K → mark K.entry ≡ interchange_mark (isa text 13) → IsReply n (Interchange text) t (known.interchange_again W text t K) d)
+    → IsReply n (Interchange text) t (known.interchange_known W h k text t) d
+again_given W None k text t n d p r held is under reply = absurd held
+again_given W (Some h) None text t n d p r held is under reply = absurd is
+again_given W (Some h) (Some k) text t n d p r held is under reply = reply n k is under
+
+pub given_again : (W : Who) (held : Option (Bor PageFacts)) (o : Option Recalled) (h : Option History) (k : Option known.Recalled) (text : List ℕ) (t : Moment) (d : Decision) (p : Bor PageFacts) (r : Recalled)
+    → held ≡ Some p → o ≡ Some r → IsGiven held o (Interchange text) h k
+    → ((n : ℕ) (K : known.Recalled) → IsEntry r K → mark K.entry ≡ interchange_mark (isa text 13) → IsReply n (Interchange text) t (known.interchange_again W text t K) d)
+    → IsReply (entries_of held) (Interchange text) t (known.interchange_known W h k text t) d
+given_again W held o h k text t d p r page recalled given reply =
+    again_given W h k text t (entries_of held) d p r (subst (λ (x : Option (Bor PageFacts)). StandsFor x h) page given.page)
+    (subst (λ (x : Option Recalled). IsRecalled x k) recalled given.known) given.under reply
+
+-- the reply to a new control number
+new_given : (W : Who) (h : Option History) (k : Option known.Recalled) (text : List ℕ) (t : Moment) (d : Decision) (p : Bor PageFacts)
+    → StandsFor (Some p) h → IsRecalled None k
+    → ((H : History) → IsPageOf p.now H → IsReply p.now.entries (Interchange text) t (known.interchange_new W H text t (known.new_note W text)) d)
+    → IsReply p.now.entries (Interchange text) t (known.interchange_known W h k text t) d
+new_given W None k text t d p held is reply = absurd held
+new_given W (Some h) (Some k) text t d p held is reply = absurd is
+new_given W (Some h) None text t d p held is reply = reply h held
+
+pub given_new : (W : Who) (held : Option (Bor PageFacts)) (o : Option Recalled) (h : Option History) (k : Option known.Recalled) (text : List ℕ) (t : Moment) (d : Decision) (p : Bor PageFacts)
+    → held ≡ Some p → o ≡ None → IsGiven held o (Interchange text) h k
+    → ((H : History) → IsPageOf p.now H → IsReply p.now.entries (Interchange text) t (known.interchange_new W H text t (known.new_note W text)) d)
+    → IsReply (entries_of held) (Interchange text) t (known.interchange_known W h k text t) d
+given_new W held o h k text t d p page recalled given reply =
+    subst (λ (x : Option (Bor PageFacts)). IsReply (entries_of x) (Interchange text) t (known.interchange_known W h k text t) d) (sym page)
+    (new_given W h k text t d p (subst (λ (x : Option (Bor PageFacts)). StandsFor x h) page given.page) (subst (λ (x : Option Recalled). IsRecalled x k) recalled given.known) reply)
+
+-- the reply to a text that can be read
+pub readable_reply : (W : Who) (h : Option History) (k : Option known.Recalled) (text : List ℕ) (t : Moment) (n : ℕ) (d : Decision) → is_unreadable text ≡ false
+    → IsReply n (Interchange text) t (known.interchange_known W h k text t) d → IsReply n (Interchange text) t (known.interchange_by W h k text t) d
+readable_reply W h k text t n d readable reply =
+    subst (λ (b : Bool). IsReply n (Interchange text) t (cond b (Refused Unreadable []) (known.interchange_known W h k text t)) d) (sym readable) reply

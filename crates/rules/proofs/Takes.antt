@@ -1,0 +1,188 @@
+-- Sets and groups that are taken one after another.
+use Rattle.std.proofs.Common.{◌≡◌, ℕ, zero, suc, ◌+◌, ◌-◌, ◌<◌, Bool, true, false, not, cond, List, [], ◌∷◌, ◌++◌, Option, Some, None, Ok, Err, refl, sym, ap, ◌∙◌, subst, arith, take, length, map, get_or}
+use Rattle.std.specs.Prelude.{codes, slice_get, unwrap_or}
+use Rattle.std.proofs.lemmas.List.{append_assoc, append-nil, map-append, take_more, length-append}
+use Rattle.std.proofs.lemmas.List.Elements.{filter_map-append}
+use Rattle.profile.specs.Bytes.{Delims}
+use Rattle.profile.specs.Words.{SetKind}
+use Rattle.profile.specs.Cut.{Segment, Piece, AreOf, segments_of, element, has_id, last_segment}
+use Rattle.std.specs.List.{position_or_len}
+use Rattle.envelope.specs.Parts.{IsFramed}
+use Rattle.profile.specs.Structure.{Set, head_of, control_of, envelope_fault, examined_on}
+use Rattle.profile.specs.Events.{Event}
+use Rattle.profile.specs.History.{Rejection, Verdict, event_of, by_segment, judged, outcome_of, verdicts_on}
+use Rattle.profile.specs.Texts.{ToldSet, told_set}
+use Rattle.stock.specs.Pages.{PageFacts}
+use Rattle.stock.specs.Shows.{Shows}
+use Rattle.stock.specs.declared.steps.Step.{Step}
+use Rattle.tables.specs.Judged.{IsClosed}
+use Rattle.rules.specs.declared.judging.Verdict.{Verdict as Settled}
+use Rattle.rules.specs.declared.judging.Verdict.TheVariants.{Passed, Rejected}
+use Rattle.rules.specs.Judging.{passed, IsVerdict, IsOnTime, AreTaken}
+use Rattle.rules.proofs.Verdicts.{verdicts_append}
+
+abbrev Examined : Type 0
+Examined = Set × Option ℕ
+
+abbrev told_as : Set → Option Rejection → ToldSet
+told_as s r = record { number = element (head_of s) 1; control = control_of s; rejection = r }
+
+-- nothing was taken yet
+pub none_taken : (d : Delims) (kind : Option SetKind) (p : PageFacts) → AreTaken d kind [] p p []
+none_taken d kind p = record {
+  shows = λ es shows. subst (Shows p) (sym (append-nil es)) shows;
+  told = λ es shows. refl;
+  entries = refl;
+  recent = omega arith;
+}
+
+-- a set that is rejected leaves the page
+pub taken_rejected : (d : Delims) (kind : Option SetKind) (p : PageFacts) (s : Set) (fault : Option ℕ) (r : Rejection) (told : ToldSet)
+    → ((es : List Event) → Shows p es → outcome_of d es (p.entries + 1) kind fault s ≡ Err r) → told ≡ told_as s (Some r)
+    → AreTaken d kind ((s, fault) ∷ []) p p (told ∷ [])
+taken_rejected d kind p s fault r told outcome is = record {
+  shows = λ es shows. rw (outcome es shows) (subst (Shows p) (sym (append-nil es)) shows);
+  told = λ es shows. rw (outcome es shows) (ap (λ (x : ToldSet). x ∷ []) is);
+  entries = refl;
+  recent = omega arith;
+}
+
+-- a set that passes adds its event
+pub taken_passed : (d : Delims) (kind : Option SetKind) (p q : PageFacts) (s : Set) (fault : Option ℕ) (told : ToldSet)
+    → ((es : List Event) → Shows p es → (e : Event) × (outcome_of d es (p.entries + 1) kind fault s ≡ Ok e) × Shows q (es ++ e ∷ [])) → told ≡ told_as s None
+    → q.entries ≡ p.entries → q.recent ≡ p.recent + 1 → AreTaken d kind ((s, fault) ∷ []) p q (told ∷ [])
+taken_passed d kind p q s fault told outcome is entries recent = record {
+  shows = λ es shows. let o = outcome es shows in rw o.1 o.2;
+  told = λ es shows. let o = outcome es shows in rw o.1 (ap (λ (x : ToldSet). x ∷ []) is);
+  entries = entries;
+  recent = omega (arith, recent);
+}
+
+-- the events of verdicts put together
+pub passed_append : (vs ws : List Verdict) → passed (vs ++ ws) ≡ passed vs ++ passed ws
+passed_append vs ws = filter_map-append event_of vs ws
+
+-- one list of sets after another
+pub taken_both : (d : Delims) (kind : Option SetKind) (ps qs : List Examined) (old mid new : PageFacts) (some more : List ToldSet)
+    → AreTaken d kind ps old mid some → AreTaken d kind qs mid new more → AreTaken d kind (ps ++ qs) old new (some ++ more)
+taken_both d kind ps qs old mid new some more first second = record {
+  shows = λ es shows.
+      let n = old.entries + 1 in
+      let vs = verdicts_on d es n kind ps in
+      let ws = verdicts_on d (es ++ passed vs) n kind qs in
+      let later : Shows new ((es ++ passed vs) ++ passed ws) =
+      subst (λ k. Shows new ((es ++ passed vs) ++ passed (verdicts_on d (es ++ passed vs) (k + 1) kind qs))) first.entries (second.shows (es ++ passed vs) (first.shows es shows)) in
+      let all : (es ++ passed vs) ++ passed ws ≡ es ++ passed (verdicts_on d es n kind (ps ++ qs)) =
+      append_assoc es (passed vs) (passed ws) ∙ ap (λ (x : List Event). es ++ x) (sym (ap passed (verdicts_append d es n kind ps qs) ∙ passed_append vs ws)) in
+      subst (Shows new) all later;
+  told = λ es shows.
+      let n = old.entries + 1 in
+      let vs = verdicts_on d es n kind ps in
+      let ws = verdicts_on d (es ++ passed vs) n kind qs in
+      let later : more ≡ map told_set ws =
+      subst (λ k. more ≡ map told_set (verdicts_on d (es ++ passed vs) (k + 1) kind qs)) first.entries (second.told (es ++ passed vs) (first.shows es shows)) in
+      ap (λ (x : List ToldSet). some ++ x) later ∙ ap (λ (x : List ToldSet). x ++ map told_set ws) (first.told es shows)
+      ∙ sym (ap (map told_set) (verdicts_append d es n kind ps qs) ∙ map-append told_set vs ws);
+  entries = second.entries ∙ first.entries;
+  recent = omega (arith, first.recent, second.recent, length-append ps qs);
+}
+
+-- The examined sets of a group.
+
+pub examined_length : (kind : Option SetKind) (earlier : List (List ℕ)) (ss : List Set) → length (examined_on kind earlier ss) ≡ length ss
+examined_length kind earlier [] = refl
+examined_length kind earlier (s ∷ ss) = ap suc (examined_length kind (control_of s ∷ earlier) ss)
+
+-- the set and the fault at a place
+pub examined_at : (kind : Option SetKind) (earlier : List (List ℕ)) (ss : List Set) (i : ℕ) (d : Set) (e : Examined) → i < length ss
+    → get_or (examined_on kind earlier ss) i e ≡ (get_or ss i d, get_or (map (λ (p : Examined). p.1) (examined_on kind earlier ss)) i None)
+examined_at kind earlier [] i d e within = absurd (omega (arith, within))
+examined_at kind earlier (s ∷ ss) zero d e within = refl
+examined_at kind earlier (s ∷ ss) (suc i) d e within = examined_at kind (control_of s ∷ earlier) ss i d e (omega (arith, within))
+
+-- one place more
+pub examined_more : (kind : Option SetKind) (ss : List Set) (i : ℕ) (d : Set) → i < length ss
+    → take (i + 1) (examined_on kind [] ss)
+    ≡ take i (examined_on kind [] ss) ++ (get_or ss i d, get_or (map (λ (p : Examined). p.1) (examined_on kind [] ss)) i None) ∷ []
+examined_more kind ss i d within =
+    take_more (examined_on kind [] ss) i (d, None) (omega (arith, within, examined_length kind [] ss))
+    ∙ ap (λ (p : Examined). take i (examined_on kind [] ss) ++ p ∷ []) (examined_at kind [] ss i d (d, None) within)
+
+-- a set without a fault of its envelope is closed
+fault_closed : (kind : Option SetKind) (earlier : List (List ℕ)) (s : Set) → envelope_fault kind earlier s ≡ None → s.is_closed ≡ true
+fault_closed kind earlier s none = by_test s.is_closed refl none
+  where
+    by_test : (b : Bool) → s.is_closed ≡ b → envelope_fault kind earlier s ≡ None → s.is_closed ≡ true
+    by_test true is h = is
+    by_test false is h = let e : envelope_fault kind earlier s ≡ Some 2 = rw is refl in absurd (cc (e, h))
+
+pub examined_closed : (kind : Option SetKind) (earlier : List (List ℕ)) (ss : List Set) (i : ℕ) (d : Set) → i < length ss
+    → get_or (map (λ (p : Examined). p.1) (examined_on kind earlier ss)) i None ≡ None → (get_or ss i d).is_closed ≡ true
+examined_closed kind earlier [] i d within none = absurd (omega (arith, within))
+examined_closed kind earlier (s ∷ ss) zero d within none = fault_closed kind earlier s none
+examined_closed kind earlier (s ∷ ss) (suc i) d within none = examined_closed kind (control_of s ∷ earlier) ss i d (omega (arith, within)) none
+
+-- a set that was judged passed, or is rejected
+pub taken_judged : (d : Delims) (kind : SetKind) (p q : PageFacts) (s : Set) (told : ToldSet)
+    → ((es : List Event) → Shows p es → (e : Event) × (by_segment (judged d es (p.entries + 1) kind s.segments) ≡ Ok e) × Shows q (es ++ e ∷ [])) → told ≡ told_as s None
+    → q.entries ≡ p.entries → q.recent ≡ p.recent + 1 → AreTaken d (Some kind) ((s, None) ∷ []) p q (told ∷ [])
+taken_judged d kind p q s told outcome is entries recent = taken_passed d (Some kind) p q s None told outcome is entries recent
+
+pub taken_faulty : (d : Delims) (kind : SetKind) (p : PageFacts) (s : Set) (r : Rejection) (told : ToldSet)
+    → ((es : List Event) → Shows p es → by_segment (judged d es (p.entries + 1) kind s.segments) ≡ Err r) → told ≡ told_as s (Some r)
+    → AreTaken d (Some kind) ((s, None) ∷ []) p p (told ∷ [])
+taken_faulty d kind p s r told outcome is = taken_rejected d (Some kind) p s None r told outcome is
+
+-- SE stands last in a set that is closed
+abbrev ends : Segment → Bool
+ends s = has_id (codes "SE") s
+
+last_behind : (x y : Segment) (xs : List Segment) → last_segment (x ∷ y ∷ xs) ≡ last_segment (y ∷ xs)
+last_behind x y xs = let n : length (x ∷ y ∷ xs) - 1 ≡ suc (length (y ∷ xs) - 1) = omega arith in ap (λ k. unwrap_or (slice_get (x ∷ y ∷ xs) k) []) n
+
+place_last : (xs : List Segment) → position_or_len ends xs + 1 ≡ length xs → ends (last_segment xs) ≡ true
+place_last [] at = absurd (omega (arith, at))
+place_last (x ∷ []) at = by_test (ends x) refl
+  where
+    by_test : (b : Bool) → ends x ≡ b → ends x ≡ true
+    by_test true is = is
+    by_test false is = let e : position_or_len ends (x ∷ []) ≡ 1 + 0 = ap (λ (b : Bool). cond (not b) (1 + 0) 0) is in absurd (omega (arith, e, at))
+place_last (x ∷ y ∷ xs) at = by_test (ends x) refl (place_last (y ∷ xs))
+  where
+    by_test : (b : Bool) → ends x ≡ b → (position_or_len ends (y ∷ xs) + 1 ≡ length (y ∷ xs) → ends (last_segment (y ∷ xs)) ≡ true) → ends (last_segment (x ∷ y ∷ xs)) ≡ true
+    by_test true is later =
+        let e : position_or_len ends (x ∷ y ∷ xs) ≡ 0 = ap (λ (b : Bool). cond (not b) (1 + position_or_len ends (y ∷ xs)) 0) is in absurd (omega (arith, e, at))
+    by_test false is later =
+        let e : position_or_len ends (x ∷ y ∷ xs) ≡ 1 + position_or_len ends (y ∷ xs) = ap (λ (b : Bool). cond (not b) (1 + position_or_len ends (y ∷ xs)) 0) is in
+        ap ends (last_behind x y xs) ∙ later (omega (arith, e, at))
+
+pub framed_ends : (s : Set) → IsFramed s → s.is_closed ≡ true → ends (last_segment s.segments) ≡ true
+framed_ends s framed closed = place_last s.segments (rw closed at framed.ends)
+
+pub pieces_closed : (ps : List Piece) (s : Set) (fault : Option ℕ) → segments_of ps ≡ s.segments → IsFramed s → (fault ≡ None → s.is_closed ≡ true) → fault ≡ None → IsClosed ps
+pieces_closed ps s fault same framed closed none = ap (λ (ss : List Segment). ends (last_segment ss)) same ∙ framed_ends s framed (closed none)
+
+-- a set whose verdict is known, by the pieces that it holds
+abbrev IsJudgedAs : (d : Delims) (kind : SetKind) (p : PageFacts) (ps : List Piece) (v : Settled) → Type 0
+IsJudgedAs d kind p ps v = (e : Delims) → AreOf e ps → (es : List Event) → Shows p es → IsVerdict es (by_segment (judged e es (p.entries + 1) kind (segments_of ps))) v
+
+pub take_passed : (d : Delims) (kind : SetKind) (p : PageFacts) (ps : List Piece) (s : Set) (fault : Option ℕ) (v : Settled) (step : Step) (page : PageFacts) (told : ToldSet)
+    → segments_of ps ≡ s.segments → AreOf d ps → fault ≡ None → IsJudgedAs d kind p ps v → IsOnTime p v → v ≡ Passed step → page ≡ step.page → told ≡ told_as s None
+    → AreTaken d (Some kind) ((s, fault) ∷ []) p page (told ∷ [])
+take_passed d kind p ps s fault v step page told same of none is time passes here shown =
+    let t : IsOnTime p (Passed step) = subst (IsOnTime p) passes time in
+    let all : AreTaken d (Some kind) ((s, None) ∷ []) p step.page (told ∷ []) = taken_judged d kind p step.page s told
+    (λ es shows. let w : IsVerdict es (by_segment (judged d es (p.entries + 1) kind (segments_of ps))) (Passed step) =
+    subst (λ (x : Settled). IsVerdict es (by_segment (judged d es (p.entries + 1) kind (segments_of ps))) x) passes (is d of es shows) in
+    (w.0, ap (λ (ss : List Segment). by_segment (judged d es (p.entries + 1) kind ss)) (sym same) ∙ w.1, w.2))
+    shown t.0 t.1 in
+    rw (none, here) all
+
+pub take_rejected : (d : Delims) (kind : SetKind) (p : PageFacts) (ps : List Piece) (s : Set) (fault : Option ℕ) (v : Settled) (r : Rejection) (page : PageFacts) (told : ToldSet)
+    → segments_of ps ≡ s.segments → AreOf d ps → fault ≡ None → IsJudgedAs d kind p ps v → v ≡ Rejected r → page ≡ p → told ≡ told_as s (Some r)
+    → AreTaken d (Some kind) ((s, fault) ∷ []) p page (told ∷ [])
+take_rejected d kind p ps s fault v r page told same of none is rejects here shown =
+    let all : AreTaken d (Some kind) ((s, None) ∷ []) p p (told ∷ []) = taken_faulty d kind p s r told
+    (λ es shows. ap (λ (ss : List Segment). by_segment (judged d es (p.entries + 1) kind ss)) (sym same)
+    ∙ subst (λ (x : Settled). IsVerdict es (by_segment (judged d es (p.entries + 1) kind (segments_of ps))) x) rejects (is d of es shows)) shown in
+    rw (none, here) all

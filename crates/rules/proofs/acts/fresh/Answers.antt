@@ -1,0 +1,25 @@
+use Rattle.std.proofs.Common.{◌+◌}
+use Rattle.std.proofs.lemmas.Result.{IfOk-weaker}
+use Rattle.profile.specs.Register.{Clerk}
+use Rattle.profile.specs.Reply.{clerk_entry}
+use Rattle.rules.specs.Asked.{act_of}
+use Rattle.rules.proofs.Performs.{act_done, act_told_of}
+use Rattle.rules.proofs.acts.fresh.Goals as goal
+
+pub returns-in-Ok-clause-reply : goal.returns-in-Ok-clause-reply
+returns-in-Ok-clause-reply c =
+    let e = c.args.envelope.now in
+    let act = act_of c.args.act.now in
+    IfOk-weaker c.accepted.result _ _ (λ d reply h of.
+    let found = c.in-Ok.ensures.ok h.events of.shows in
+    act_done e.warehouse c.args.page.now h (clerk_entry e.depositor c.args.ticket.now act e.moment) act found.0 c.args.page.now.entries (Clerk e.depositor c.args.ticket.now act) e.moment d of found.1
+    (reply h found.0 of found.1)) c.accepted.ensures.reply
+
+pub returns-in-Err-clause-reply : goal.returns-in-Err-clause-reply
+returns-in-Err-clause-reply c =
+    let e = c.args.envelope.now in
+    let act = act_of c.args.act.now in
+    IfOk-weaker c.refused.result _ _ (λ d reply h of.
+    act_told_of e.warehouse c.args.page.now h (clerk_entry e.depositor c.args.ticket.now act e.moment) act c.args.page.now.entries (Clerk e.depositor c.args.ticket.now act) e.moment d of
+    (reply h.events (c.args.page.now.entries + 1) act (c.in-Err.ensures.err h.events of.shows)
+    e.warehouse h (clerk_entry e.depositor c.args.ticket.now act e.moment) c.args.page.now.entries (Clerk e.depositor c.args.ticket.now act) e.moment)) c.refused.ensures.reply

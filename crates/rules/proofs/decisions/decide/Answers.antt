@@ -1,0 +1,22 @@
+use Rattle.std.proofs.Common.{sym, subst}
+use Rattle.std.specs.Prelude.{Option, IfOk, option_copied}
+use Rattle.std.proofs.lemmas.Result.{IfOk-weaker}
+use Rattle.profile.specs.Decision as meant
+use Rattle.profile.specs.History.{History}
+use Rattle.rules.specs.Asked.{asked}
+use Rattle.rules.specs.Decided.{IsGiven, IsReply, entries_of}
+use Rattle.rules.specs.declared.commands.Command.{Command}
+use Rattle.rules.proofs.decisions.decide.Goals as goal
+
+pub returns-in-Interchange-clause-reply : goal.returns-in-Interchange-clause-reply
+returns-in-Interchange-clause-reply c = subst (λ (x : Command). IfOk c.interchange.result (λ d. (h : Option History) (k : Option meant.Recalled) → IsGiven c.args.page (option_copied c.args.known) (asked x) h k
+    → IsReply (entries_of c.args.page) (asked x) c.args.moment (meant.reply_by c.args.warehouse.now h k (asked x) c.args.moment) d)) (sym c.in-Interchange.is) c.interchange.ensures.reply
+
+pub returns-in-Enrol-clause-reply : goal.returns-in-Enrol-clause-reply
+returns-in-Enrol-clause-reply c = subst (λ (x : Command). IfOk c.enrol.result (λ d. (h : Option History) (k : Option meant.Recalled) → IsGiven c.args.page (option_copied c.args.known) (asked x) h k
+    → IsReply (entries_of c.args.page) (asked x) c.args.moment (meant.reply_by c.args.warehouse.now h k (asked x) c.args.moment) d)) (sym c.in-Enrol.is)
+    (IfOk-weaker c.enrol.result _ _ (λ d reply h k given. reply h k c.args.warehouse.now given.page) c.enrol.ensures.reply)
+
+pub returns-in-Clerk-clause-reply : goal.returns-in-Clerk-clause-reply
+returns-in-Clerk-clause-reply c = subst (λ (x : Command). IfOk c.perform.result (λ d. (h : Option History) (k : Option meant.Recalled) → IsGiven c.args.page (option_copied c.args.known) (asked x) h k
+    → IsReply (entries_of c.args.page) (asked x) c.args.moment (meant.reply_by c.args.warehouse.now h k (asked x) c.args.moment) d)) (sym c.in-Clerk.is) c.perform.ensures.reply

@@ -1,0 +1,37 @@
+use Rattle.std.proofs.Common.{List, ap, ◌∙◌, sym, subst, arith, length}
+use Rattle.profile.specs.Texts.{Told}
+use Rattle.sets_out.specs.Headings.{heading_of}
+use Rattle.sets_out.specs.Interchanges.{answer_of}
+use Rattle.stock.specs.Pages.{PageFacts}
+use Rattle.std.specs.Prelude.{sum_by}
+use Rattle.std.specs.List.{AllByRecursion}
+use Rattle.profile.specs.Structure.{Group, groups_of}
+use Rattle.profile.specs.Cut.{cut}
+use Rattle.profile.specs.Header.{delims_of}
+use Rattle.envelope.specs.Parts.{GroupsOf}
+use Rattle.rules.specs.Judging.{IsSmall, AreGroupsTaken}
+use Rattle.rules.proofs.Content.{content}
+use Rattle.rules.proofs.Decides.{accepted_reply}
+use Rattle.rules.proofs.interchanges.accepted.Goals as goal
+
+pub take_groups-requires-clause-room : goal.take_groups-requires-clause-room
+take_groups-requires-clause-room c =
+    let few = (content c.args.text.now c.requires.clean).1 in
+    let same = ap (λ (i : GroupsOf). sum_by (λ (g : Group). length g.sets) i.groups) c.requires.parts in
+    omega (arith, few, same, ap (λ (p : _). p.recent) c.in_ok-copy.ensures, c.requires.rest)
+
+pub take_groups-requires-clause-small : goal.take_groups-requires-clause-small
+take_groups-requires-clause-small c =
+    subst (λ (i : GroupsOf). AllByRecursion IsSmall i.groups) (sym c.requires.parts) (content c.args.text.now c.requires.clean).0
+
+pub returns-clause-reply : goal.returns-clause-reply
+returns-clause-reply c = λ h of.
+    let e = c.args.envelope in
+    let told = c.in_ok-groups.groups.told.items in
+    let taken : AreGroupsTaken (delims_of c.args.text.now) (groups_of ((cut (delims_of c.args.text.now) c.args.text.now).segments)) c.args.page.now c.in_ok-groups.groups.page told =
+    subst (λ (i : GroupsOf). AreGroupsTaken i.delims i.groups c.args.page.now c.in_ok-groups.groups.page told) c.requires.parts
+    (subst (λ (p : PageFacts). AreGroupsTaken c.args.interchange.now.delims c.args.interchange.now.groups p c.in_ok-groups.groups.page told) c.in_ok-copy.ensures c.in_ok-groups.ensures) in
+    accepted_reply e.warehouse e.depositor e.moment e.number c.args.text.now c.args.header.now c.args.page.now c.in_ok-groups.groups.page told c.in_ok-outgoing.outgoing.items c.in_ok-entry.entry h
+    c.requires.same c.requires.number (omega (arith, c.if-entries-ge-MOST_ENTRIES.false, c.entries.ensures)) taken
+    (c.in_ok-outgoing.ensures ∙ ap (λ (ts : List Told). answer_of (delims_of c.args.header.now) e.warehouse e.depositor e.moment e.number (heading_of c.args.header.now) ts) c.deref.ensures.value)
+    c.in_ok-entry.ensures of c.requires.whose

@@ -1,0 +1,31 @@
+use Rattle.std.proofs.Common.{◌≡◌, ap, None}
+use Rattle.std.specs.Prelude.{Option, option_copied}
+use Rattle.std.proofs.lemmas.Result.{IfOk-weaker}
+use Rattle.profile.specs.History.{History}
+use Rattle.profile.specs.Register.{Interchange}
+use Rattle.profile.specs.Decision as recalled
+use Rattle.rules.specs.Decided.{IsGiven, entries_of}
+use Rattle.rules.proofs.Decides.{no_page, no_sender, stranger_reply, given_again, given_new}
+use Rattle.rules.proofs.interchanges.readable.Goals.{in_default-via-in-Some+in_default, in_default-via-in_default}
+use Rattle.rules.proofs.interchanges.readable.Goals as goal
+
+pub returns-in_default-clause-reply : goal.returns-in_default-clause-reply
+returns-in_default-clause-reply c =
+    let none : (h : Option History) (k : Option recalled.Recalled) → IsGiven c.args.page (option_copied c.args.known) (Interchange c.args.text.now) h k → h ≡ None =
+    λ h k given. elim c.in_default.branch [
+      | in_default-via-in-Some+in_default w ↦ given.stranger (no_sender c.args.text.now c.args.header.now c.sender.result c.requires.same c.sender.ensures w.in_default.is-1)
+      | in_default-via-in_default w ↦ no_page c.args.page h w.in_default.is-0 given.page
+    ] in
+    IfOk-weaker c.noted.result _ _ (λ d reply h k given.
+    stranger_reply c.args.warehouse.now h k c.args.text.now c.args.header.now c.args.moment (entries_of c.args.page) d c.requires.same (none h k given)
+    (reply (entries_of c.args.page) (Interchange c.args.text.now))) c.noted.ensures.reply
+
+pub returns-in-Some-clause-reply : goal.returns-in-Some-clause-reply
+returns-in-Some-clause-reply c = IfOk-weaker c.again.result _ _ (λ d reply h k given.
+    given_again c.args.warehouse.now c.args.page (option_copied c.args.known) h k c.args.text.now c.args.moment d c.in-Some-Some.page c.in-Some.known.now
+    c.in-Some-Some.is-0 (ap option_copied c.in-Some.is) given reply) c.again.ensures.reply
+
+pub returns-in-None-clause-reply : goal.returns-in-None-clause-reply
+returns-in-None-clause-reply c = IfOk-weaker c.fresh.result _ _ (λ d reply h k given.
+    given_new c.args.warehouse.now c.args.page (option_copied c.args.known) h k c.args.text.now c.args.moment d c.in-Some-Some.page
+    c.in-Some-Some.is-0 (ap option_copied c.in-None.is) given reply) c.fresh.ensures.reply

@@ -1,0 +1,87 @@
+-- What sets and groups come to over a page: for each list of events that the page stands for.
+use Rattle.std.specs.Prelude.{ℕ, ◌≡◌, ◌+◌, ◌≤◌, List, [], ◌∷◌, ◌++◌, length, map, sum_by, flat_map, filter_map, if◌then◌else◌, Bool, not, bytes_eq, codes, Option, Some, Result, Ok, Err}
+use Rattle.profile.specs.Bytes.{Delims}
+use Rattle.profile.specs.Words.{SetKind}
+use Rattle.profile.specs.Cut.{Segment, element}
+use Rattle.profile.specs.Structure.{Set, Group, group_fault}
+use Rattle.profile.specs.Faults.{SetFault}
+use Rattle.profile.specs.Events.{Event}
+use Rattle.profile.specs.History.{Rejection, Verdict as Told, event_of, verdicts_on, Telling, telling_of, events_told, tellings_on}
+use Rattle.profile.specs.Texts.{ToldSet, Told as ToldGroup, told_set, told_of, stated_sets, answered}
+use Rattle.sets_in.specs.Amounts.{IsAmount}
+use Rattle.tables.specs.Judged.{told}
+use Rattle.stock.specs.Pages.{PageFacts}
+use Rattle.stock.specs.Shows.{Shows}
+use Rattle.stock.specs.declared.steps.Stop.{Stop}
+use Rattle.stock.specs.declared.steps.Stop.TheVariants as stopped
+use Rattle.rules.specs.declared.judging.Verdict.{Verdict}
+use Rattle.rules.specs.declared.judging.Verdict.TheVariants.{Passed, Rejected}
+
+-- a step of this outcome: the page with the event
+abbrev pub IsStep : List Event → Result Event SetFault → PageFacts → Type 0
+IsStep es outcome new = (e : Event) × (outcome ≡ Ok e) × Shows new (es ++ e ∷ [])
+
+-- the trade fault of this outcome, or want of memory
+abbrev pub IsStop : Result Event SetFault → Stop → Type 0
+IsStop outcome (stopped.Set f) = outcome ≡ Err (told f)
+IsStop outcome (stopped.Refused n) = ⊥
+IsStop outcome stopped.OutOfMemory = Unit {0}
+
+-- what a judged set came to
+abbrev pub IsVerdict : List Event → Result Event Rejection → Verdict → Type 0
+IsVerdict es outcome (Passed step) = (e : Event) × (outcome ≡ Ok e) × Shows step.page (es ++ e ∷ [])
+IsVerdict es outcome (Rejected r) = outcome ≡ Err r
+
+abbrev pub IsOnTime : PageFacts → Verdict → Type 0
+IsOnTime old (Passed step) = (step.page.entries ≡ old.entries) × (step.page.recent ≡ old.recent + 1)
+IsOnTime old (Rejected r) = Unit {0}
+
+-- the events of verdicts, and of tellings
+abbrev pub passed : List Told → List Event
+passed vs = filter_map event_of vs
+
+abbrev pub told_events : List Telling → List Event
+told_events ts = flat_map events_told ts
+
+-- examined sets were taken one after another, under the number of the next entry
+pub record AreTaken (d : Delims) (kind : Option SetKind) (ps : List (Set × Option ℕ)) (old new : PageFacts) (sets : List ToldSet) : Type 0 where
+  pub shows : (es : List Event) → Shows old es → Shows new (es ++ passed (verdicts_on d es (old.entries + 1) kind ps))
+  pub told : (es : List Event) → Shows old es → sets ≡ map told_set (verdicts_on d es (old.entries + 1) kind ps)
+  pub entries : new.entries ≡ old.entries
+  pub recent : new.recent ≤ old.recent + length ps
+
+-- a group was taken: its sets, or none of them where it has a fault
+pub record IsGroupTaken (d : Delims) (g : Group) (old new : PageFacts) (sets : List ToldSet) : Type 0 where
+  pub shows : (es : List Event) → Shows old es → Shows new (es ++ events_told (telling_of d es (old.entries + 1) g))
+  pub told : (es : List Event) → Shows old es → sets ≡ map told_set ((telling_of d es (old.entries + 1) g).verdicts)
+  pub entries : new.entries ≡ old.entries
+  pub recent : new.recent ≤ old.recent + length g.sets
+
+-- what a group is told with these sets
+abbrev pub told_with : Group → List ToldSet → ToldGroup
+told_with g sets = record {
+  function = element g.head 1;
+  number = element g.head 6;
+  stated = stated_sets g;
+  received = length g.sets;
+  fault = group_fault g;
+  sets = sets;
+}
+
+-- a group of acknowledgments isn't answered
+abbrev pub is_answered : Group → Bool
+is_answered g = not (bytes_eq (element g.head 1) (codes "FA"))
+
+abbrev pub told_if : Group → List ToldSet → List ToldGroup
+told_if g sets = if is_answered g then told_with g sets ∷ [] else []
+
+-- GE01, where there is one, is a number of at most nine digits
+abbrev pub IsSmall : Group → Type 0
+IsSmall g = (ge : Segment) → g.tail ≡ Some ge → IsAmount 9 (element ge 1)
+
+-- groups were taken one after another
+pub record AreGroupsTaken (d : Delims) (gs : List Group) (old new : PageFacts) (groups : List ToldGroup) : Type 0 where
+  pub shows : (es : List Event) → Shows old es → Shows new (es ++ told_events (tellings_on d es (old.entries + 1) gs))
+  pub told : (es : List Event) → Shows old es → groups ≡ map told_of (answered (tellings_on d es (old.entries + 1) gs))
+  pub entries : new.entries ≡ old.entries
+  pub recent : new.recent ≤ old.recent + sum_by (λ g. length g.sets) gs

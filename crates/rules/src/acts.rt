@@ -1,0 +1,172 @@
+//! What a clerk's act comes to.
+ghost use Rattle.std.specs.Prelude.{◌≡◌, ◌<◌, ◌+◌, ◌++◌, ◌∷◌, [], ℕ, List, Option, Some, Ok, IfOk, IfErr, option_copied};
+ghost use Rattle.profile.specs.Clerk.{performed};
+ghost use Rattle.profile.specs.Decision as recalled;
+ghost use Rattle.profile.specs.Events.{Event};
+ghost use Rattle.profile.specs.Header.{Who};
+ghost use Rattle.profile.specs.Moments.{Moment};
+ghost use Rattle.profile.specs.History.{History};
+ghost use Rattle.profile.specs.Register as register;
+ghost use Rattle.profile.specs.Reply as replies;
+ghost use Rattle.stock.specs.Shows.{Shows};
+ghost use Rattle.stock.specs.Stops.{StopsAct};
+ghost use Rattle.rules.specs.Asked.{act_of};
+ghost use Rattle.rules.specs.Told.{refusal_of, numbered};
+ghost use Rattle.rules.specs.Written.{written_as};
+ghost use Rattle.rules.specs.Decided.{IsNoEntry, Makes, IsPageOf, IsEntry, IsRecalled, IsUnder, IsReply};
+
+use crate::commands::{Act, Key};
+use crate::decisions::Decision;
+use crate::documents::document;
+use crate::entries::{Entry, Known};
+use crate::refusals::Refusal;
+use profile::MOST_ENTRIES;
+use sets_out::Envelope;
+use std::alloc::{AllocError, Global};
+use stock::{Change, Page, Step, Stop, pick, receive, recount};
+
+/// The page with an act's event.
+pub(crate) fn perform(alloc: Global, page: &Page, act: &Act<'_>) -> Result<Step, Stop>
+    requires { page.now.recent < 1000 }
+    ensures ok { IfOk result (λ step. (es : List Event) → Shows page.now es
+        → (e : Event) × (performed es (page.now.entries + 1) (act_of act.now) ≡ Ok e) × Shows step.page (es ++ e ∷ [])) }
+    ensures err { IfErr result (λ stop. (es : List Event) → Shows page.now es → StopsAct (performed es (page.now.entries + 1) (act_of act.now)) stop) }
+    ensures entries { IfOk result (λ step. step.page.entries ≡ page.now.entries) }
+{
+    match act {
+        Act::Count { shipment, sheet } => receive(alloc, page, shipment, sheet),
+        Act::Pick { order, sheet } => pick(alloc, page, order, sheet),
+        Act::Recount { sheet } => recount(alloc, page, sheet),
+    }
+}
+
+// The refusal of an act that has this number.
+fn numbered(number: u8) -> Refusal
+    ensures { refusal_of result ≡ numbered number }
+{
+    match number {
+        22 => Refusal::UnknownAdvice,
+        23 => Refusal::AdviceClosed,
+        24 => Refusal::UnknownOrder,
+        25 => Refusal::OrderClosed,
+        26 => Refusal::NotReserved,
+        27 => Refusal::UnknownLot,
+        28 => Refusal::BelowReserved,
+        _ => Refusal::NoDifference,
+    }
+}
+
+// The entry of an act.
+fn entry(
+    alloc: Global,
+    envelope: &Envelope,
+    ticket: &[u8],
+    act: &Act<'_>,
+) -> Result<Entry, AllocError>
+    ensures { IfOk result (λ e. e ≡ written_as envelope.now.number (replies.clerk_entry envelope.now.depositor ticket.now (act_of act.now) envelope.now.moment)) }
+{
+    Ok(Entry {
+        who: envelope.depositor,
+        key: Key::Ticket(ticket).text(alloc)?,
+        n: envelope.number,
+        moment: envelope.moment,
+        body: act.canonical(alloc)?,
+    })
+}
+
+// The refusal that stopped an act.
+fn refused(alloc: Global, stop: Stop) -> Result<Decision, AllocError>
+    ensures comes { IfOk result (IsNoEntry) }
+    ensures reply { IfOk result (λ d. (es : List Event) (number : ℕ) (act : register.Act) → StopsAct (performed es number act) stop
+        → (W : Who) (h : History) (e : register.Entry) (n : ℕ) (c : register.Command) (t : Moment) → IsReply n c t (recalled.act_told W h e (performed es number act)) d) }
+{
+    match stop {
+        Stop::Refused(number) => Ok(Decision::Refused(numbered(number), Vec::new(alloc))),
+        _ => Err(AllocError),
+    }
+}
+
+// An act that was performed: it is accepted under the next number, if there is one.
+fn accepted(
+    alloc: Global,
+    envelope: &Envelope,
+    page: &Page,
+    ticket: &[u8],
+    act: &Act<'_>,
+    changes: Vec<Change>,
+) -> Result<Decision, AllocError>
+    requires { envelope.now.number ≡ page.now.entries + 1 }
+    ensures comes { IfOk result (Makes (register.Clerk envelope.now.depositor ticket.now (act_of act.now)) envelope.now.moment) }
+    ensures reply { IfOk result (λ d. (h : History) (e : Event) → IsPageOf page.now h → performed h.events (page.now.entries + 1) (act_of act.now) ≡ Ok e
+        → IsReply page.now.entries (register.Clerk envelope.now.depositor ticket.now (act_of act.now)) envelope.now.moment
+        (recalled.accepted_by envelope.now.warehouse h (replies.clerk_entry envelope.now.depositor ticket.now (act_of act.now) envelope.now.moment)) d) }
+{
+    if page.entries() >= MOST_ENTRIES {
+        return Ok(Decision::Refused(Refusal::NumbersUsedUp, Vec::new(alloc)));
+    }
+    let outgoing = document(alloc, envelope, page, act)?;
+    let entry = entry(alloc, envelope, ticket, act)?;
+    Ok(Decision::Accepted {
+        entry,
+        changes,
+        outgoing,
+    })
+}
+
+// What an act comes to under a new ticket.
+fn fresh(
+    alloc: Global,
+    envelope: &Envelope,
+    page: &Page,
+    ticket: &[u8],
+    act: &Act<'_>,
+) -> Result<Decision, AllocError>
+    requires number { envelope.now.number ≡ page.now.entries + 1 }
+    requires rest { page.now.recent ≡ 0 }
+    ensures comes { IfOk result (Makes (register.Clerk envelope.now.depositor ticket.now (act_of act.now)) envelope.now.moment) }
+    ensures reply { IfOk result (λ d. (h : History) → IsPageOf page.now h
+        → IsReply page.now.entries (register.Clerk envelope.now.depositor ticket.now (act_of act.now)) envelope.now.moment
+        (recalled.act_new envelope.now.warehouse h (replies.clerk_entry envelope.now.depositor ticket.now (act_of act.now) envelope.now.moment) (act_of act.now)) d) }
+{
+    match perform(alloc, page, act) {
+        Ok(step) => accepted(alloc, envelope, page, ticket, act, step.changes),
+        Err(stop) => refused(alloc, stop),
+    }
+}
+
+// What an act comes to under a known ticket: the stored text where it is the same act.
+fn again(alloc: Global, known: &Known, act: &Act<'_>) -> Result<Decision, AllocError>
+    ensures comes { IfOk result (IsNoEntry) }
+    ensures reply { IfOk result (λ d. (n : ℕ) (k : recalled.Recalled) (who : Who) (ticket : List ℕ) (t : Moment) → IsEntry known.now k → register.mark k.entry ≡ register.ticket_mark ticket
+        → IsReply n (register.Clerk who ticket (act_of act.now)) t (recalled.act_again (act_of act.now) k) d) }
+{
+    let text = act.canonical(alloc)?;
+    if known.is_of(&text) {
+        return Ok(Decision::Stored(known.outgoing().to_vec(alloc)?));
+    }
+    Ok(Decision::Refused(Refusal::TicketUsed, Vec::new(alloc)))
+}
+
+/// What a clerk's act comes to: it is refused where the depositor isn't enrolled, where its ticket is known of another act,
+/// at the first of its own refusals, and where the numbers are used up. A known act is answered with its document. Want of
+/// memory is the one error.
+pub(crate) fn clerk(
+    alloc: Global,
+    envelope: &Envelope,
+    page: &Page,
+    known: Option<&Known>,
+    ticket: &[u8],
+    act: &Act<'_>,
+) -> Result<Decision, AllocError>
+    requires number { envelope.now.number ≡ page.now.entries + 1 }
+    requires rest { page.now.recent ≡ 0 }
+    ensures comes { IfOk result (Makes (register.Clerk envelope.now.depositor ticket.now (act_of act.now)) envelope.now.moment) }
+    ensures reply { IfOk result (λ d. (h : History) (k : Option recalled.Recalled) → IsPageOf page.now h → IsRecalled (option_copied known.entry) k → IsUnder (register.ticket_mark ticket.now) k
+        → IsReply page.now.entries (register.Clerk envelope.now.depositor ticket.now (act_of act.now)) envelope.now.moment
+        (recalled.clerk_by envelope.now.warehouse (Some h) k envelope.now.depositor ticket.now (act_of act.now) envelope.now.moment) d) }
+{
+    match known {
+        Some(known) => again(alloc, known, act),
+        None => fresh(alloc, envelope, page, ticket, act),
+    }
+}

@@ -1,0 +1,134 @@
+//! What a set comes to over a page.
+ghost use Rattle.std.specs.Prelude.{◌≡◌, ◌<◌, ◌+◌, ◌-◌, ◌^◌, List, Some, IfOk, IfErr, length};
+ghost use Rattle.profile.specs.Cut.{segments_of, AreOf};
+ghost use Rattle.profile.specs.Bytes.{Delims as Delimiters};
+ghost use Rattle.profile.specs.Events.{Event};
+ghost use Rattle.profile.specs.History as meant;
+ghost use Rattle.profile.specs.Words as kinds;
+ghost use Rattle.stock.specs.Shows.{Shows};
+ghost use Rattle.tables.specs.Judged.{IsClosed, told};
+ghost use Rattle.tables.specs.Kinds.{kind_of};
+ghost use Rattle.rules.specs.Judging.{IsStep, IsStop, IsVerdict, IsOnTime};
+
+use segments::Segment;
+use sets_in::{ack, advice, order};
+use sets_out::{ElementFault, Rejection, SetFault as SegmentFault};
+use std::alloc::{AllocError, Global};
+use stock::{Page, Step, Stop, acknowledge, announce, reserve};
+use tables::{Checked, SetFault, SetKind, judge};
+
+/// What a set came to.
+#[derive(Drop)]
+pub(crate) enum Verdict<'a> {
+    /// It passed: the page with its event.
+    Passed(Step),
+    /// It is rejected, and the page is as before.
+    Rejected(Rejection<'a>),
+}
+
+// A rejection for a segment in error.
+fn in_segment<'a>(fault: &SetFault<'a>) -> Rejection<'a>
+    ensures { result ≡ record { code = 5; segment = Some (told fault.now) } }
+{
+    let element = fault.element.map(|(place, code)| ElementFault {
+        place: place as usize,
+        code,
+    });
+    Rejection {
+        code: 5,
+        segment: Some(SegmentFault {
+            id: fault.segment,
+            position: fault.position as usize,
+            code: fault.code,
+            element,
+        }),
+    }
+}
+
+// The step of an advice.
+fn advised(alloc: Global, page: &Page, set: &Checked<'_>) -> Result<Step, Stop>
+    requires kind { set.now.kind ≡ kinds.ShipmentAdvice }
+    requires room { page.now.recent < 1000 }
+    ensures ok { IfOk result (λ step. (es : List Event) → Shows page.now es → IsStep es (meant.traded es (page.now.entries + 1) set.now.kind (segments_of set.now.pieces)) step.page) }
+    ensures err { IfErr result (λ stop. (es : List Event) → Shows page.now es → IsStop (meant.traded es (page.now.entries + 1) set.now.kind (segments_of set.now.pieces)) stop) }
+    ensures entries { IfOk result (λ step. step.page.entries ≡ page.now.entries) }
+    ensures recent { IfOk result (λ step. step.page.recent ≡ page.now.recent + 1) }
+{
+    let advice = advice(alloc, set)?;
+    announce(alloc, page, &advice)
+}
+
+// The step of an order.
+fn ordered(alloc: Global, page: &Page, set: &Checked<'_>) -> Result<Step, Stop>
+    requires kind { set.now.kind ≡ kinds.ShippingOrder }
+    requires room { page.now.recent < 1000 }
+    ensures ok { IfOk result (λ step. (es : List Event) → Shows page.now es → IsStep es (meant.traded es (page.now.entries + 1) set.now.kind (segments_of set.now.pieces)) step.page) }
+    ensures err { IfErr result (λ stop. (es : List Event) → Shows page.now es → IsStop (meant.traded es (page.now.entries + 1) set.now.kind (segments_of set.now.pieces)) stop) }
+    ensures entries { IfOk result (λ step. step.page.entries ≡ page.now.entries) }
+    ensures recent { IfOk result (λ step. step.page.recent ≡ page.now.recent + 1) }
+{
+    let order = order(alloc, set)?;
+    reserve(alloc, page, &order)
+}
+
+// The step of an acknowledgment.
+fn acknowledged(alloc: Global, page: &Page, set: &Checked<'_>) -> Result<Step, Stop>
+    requires kind { set.now.kind ≡ kinds.FunctionalAcknowledgment }
+    requires room { page.now.recent < 1000 }
+    ensures ok { IfOk result (λ step. (es : List Event) → Shows page.now es → IsStep es (meant.traded es (page.now.entries + 1) set.now.kind (segments_of set.now.pieces)) step.page) }
+    ensures err { IfErr result (λ stop. (es : List Event) → Shows page.now es → IsStop (meant.traded es (page.now.entries + 1) set.now.kind (segments_of set.now.pieces)) stop) }
+    ensures entries { IfOk result (λ step. step.page.entries ≡ page.now.entries) }
+    ensures recent { IfOk result (λ step. step.page.recent ≡ page.now.recent + 1) }
+{
+    let ack = ack(alloc, set)?;
+    Ok(acknowledge(alloc, page, &ack)?)
+}
+
+// The step of a set without a fault of its own, or its trade fault.
+fn traded(alloc: Global, page: &Page, set: &Checked<'_>) -> Result<Step, Stop>
+    requires { page.now.recent < 1000 }
+    ensures ok { IfOk result (λ step. (es : List Event) → Shows page.now es → IsStep es (meant.traded es (page.now.entries + 1) set.now.kind (segments_of set.now.pieces)) step.page) }
+    ensures err { IfErr result (λ stop. (es : List Event) → Shows page.now es → IsStop (meant.traded es (page.now.entries + 1) set.now.kind (segments_of set.now.pieces)) stop) }
+    ensures entries { IfOk result (λ step. step.page.entries ≡ page.now.entries) }
+    ensures recent { IfOk result (λ step. step.page.recent ≡ page.now.recent + 1) }
+{
+    match set.kind() {
+        SetKind::ShipmentAdvice => advised(alloc, page, set),
+        SetKind::ShippingOrder => ordered(alloc, page, set),
+        SetKind::FunctionalAcknowledgment => acknowledged(alloc, page, set),
+    }
+}
+
+// What a set without a fault of its own came to.
+fn settled<'a>(alloc: Global, page: &Page, set: &Checked<'a>) -> Result<Verdict<'a>, AllocError>
+    requires { page.now.recent < 1000 }
+    ensures value { IfOk result (λ v. (es : List Event) → Shows page.now es → IsVerdict es (meant.by_segment (meant.traded es (page.now.entries + 1) set.now.kind (segments_of set.now.pieces))) v) }
+    ensures time { IfOk result (IsOnTime page.now) }
+{
+    match traded(alloc, page, set) {
+        Ok(step) => Ok(Verdict::Passed(step)),
+        Err(Stop::Set(fault)) => Ok(Verdict::Rejected(in_segment(&fault))),
+        Err(_) => Err(AllocError),
+    }
+}
+
+/// What a set of a kind comes to over a page: it passes, or is rejected for its first segment in error. Want of memory is
+/// the one error.
+pub(crate) fn judged<'a>(
+    alloc: Global,
+    page: &Page,
+    kind: SetKind,
+    segments: &'a [Segment<'a>],
+) -> Result<Verdict<'a>, AllocError>
+    requires few { length segments.now < 2 ^ 32 - 1 }
+    requires closed { IsClosed segments.now }
+    requires room { page.now.recent < 1000 }
+    ensures value { IfOk result (λ v. (d : Delimiters) → AreOf d segments.now → (es : List Event) → Shows page.now es
+        → IsVerdict es (meant.by_segment (meant.judged d es (page.now.entries + 1) (kind_of kind) (segments_of segments.now))) v) }
+    ensures time { IfOk result (IsOnTime page.now) }
+{
+    match judge(kind, segments) {
+        Ok(set) => settled(alloc, page, &set),
+        Err(fault) => Ok(Verdict::Rejected(in_segment(&fault))),
+    }
+}

@@ -1,0 +1,271 @@
+//! What the sets of a group, and the groups of an interchange, come to one after another.
+ghost use Rattle.std.specs.Prelude.{◌≡◌, ◌≤◌, ◌<◌, ◌+◌, ◌++◌, [], ◌∷◌, true, Some, None, IfOk, OnOk, length, sum_by};
+ghost use Rattle.std.specs.List.{AllByRecursion};
+ghost use Rattle.profile.specs.Cut.{element};
+ghost use Rattle.profile.specs.Structure as meant;
+ghost use Rattle.profile.specs.Texts.{stated_sets};
+ghost use Rattle.tables.specs.Kinds.{kind_of};
+ghost use Rattle.rules.specs.Judging.{AreTaken, IsGroupTaken, AreGroupsTaken, IsSmall, is_answered, told_with, told_if};
+
+use crate::judging::{Verdict, judged};
+use envelope::{Group, Interchange, Set};
+use sets_in::number;
+use sets_out::{Rejection, ToldSet};
+use std::alloc::{AllocError, Global};
+use std::marker::Model;
+use stock::{Change, Page, Step};
+use tables::SetKind;
+
+/// A set that was taken: the page behind it, the rows that changed, and what is told of it.
+#[derive(Drop)]
+struct TakenSet<'a> {
+    page: Page,
+    changes: Vec<Change>,
+    told: ToldSet<'a>,
+}
+
+/// Sets that were taken, one after another.
+#[derive(Drop)]
+struct TakenSets<'a> {
+    page: Page,
+    changes: Vec<Change>,
+    told: Vec<ToldSet<'a>>,
+}
+
+// An element of the ST of a set.
+fn head_element<'a>(set: &Set<'a>, n: usize) -> &'a [u8]
+    ensures { result.now ≡ element (meant.head_of set.now.set) n }
+{
+    match set.segments().first() {
+        Some(first) => first.element(n),
+        None => &[],
+    }
+}
+
+// What is told of a set.
+fn told<'a>(set: &Set<'a>, rejection: Option<Rejection<'a>>) -> ToldSet<'a>
+    ensures { result ≡ record { number = element (meant.head_of set.now.set) 1; control = meant.control_of set.now.set; rejection = rejection.entry } }
+{
+    ToldSet {
+        number: head_element(set, 1),
+        control: head_element(set, 2),
+        rejection,
+    }
+}
+
+// A set that is rejected, over the page as it is.
+fn rejected<'a>(alloc: Global, page: Page, set: &Set<'a>, rejection: Rejection<'a>) -> TakenSet<'a>
+    ensures page { result.page ≡ page }
+    ensures told { result.told ≡ record { number = element (meant.head_of set.now.set) 1; control = meant.control_of set.now.set; rejection = Some rejection.entry } }
+{
+    TakenSet {
+        page,
+        changes: Vec::new(alloc),
+        told: told(set, Some(rejection)),
+    }
+}
+
+// A set that passed.
+fn passed<'a>(set: &Set<'a>, step: Step) -> TakenSet<'a>
+    ensures page { result.page ≡ step.page }
+    ensures told { result.told ≡ record { number = element (meant.head_of set.now.set) 1; control = meant.control_of set.now.set; rejection = None } }
+{
+    TakenSet {
+        page: step.page,
+        changes: step.changes,
+        told: told(set, None),
+    }
+}
+
+// One set more, with the fault of its envelope if it has one.
+fn take_set<'a>(
+    alloc: Global,
+    page: Page,
+    kind: SetKind,
+    set: &'a Set<'a>,
+    fault: Option<u8>,
+) -> Result<TakenSet<'a>, AllocError>
+    requires room { page.recent < 1000 }
+    requires closed { fault ≡ None → set.now.set.is_closed ≡ true }
+    ensures { IfOk result (λ t. AreTaken set.now.delims (Some (kind_of kind)) ((set.now.set, fault) ∷ []) page t.page (t.told ∷ [])) }
+{
+    if let Some(code) = fault {
+        let rejection = Rejection {
+            code,
+            segment: None,
+        };
+        return Ok(rejected(alloc, page, set, rejection));
+    }
+    match judged(alloc, &page, kind, set.segments())? {
+        Verdict::Passed(step) => Ok(passed(set, step)),
+        Verdict::Rejected(rejection) => Ok(rejected(alloc, page, set, rejection)),
+    }
+}
+
+// The sets of a group without a fault, in turn: one that passes acts before the next is judged.
+fn take_sets<'a>(
+    alloc: Global,
+    start: Page,
+    kind: SetKind,
+    group: &'a Group<'a>,
+) -> Result<TakenSets<'a>, AllocError>
+    requires { start.recent + length group.now.group.sets ≤ 1000 }
+    ensures { IfOk result (λ t. AreTaken group.now.delims (Some (kind_of kind)) (meant.examined group.now.group) start t.page t.told.items) }
+{
+    let faults = group.set_faults(alloc)?;
+    let mut page = start;
+    let mut changes = Vec::new(alloc);
+    let mut told = Vec::new(alloc);
+    for (i, set) in group.sets().iter().enumerate() {
+        let mut taken = take_set(alloc, page, kind, set, faults[i])?;
+        page = taken.page;
+        changes.append(&mut taken.changes)?;
+        told.push(taken.told)?;
+    }
+    Ok(TakenSets {
+        page,
+        changes,
+        told,
+    })
+}
+
+// The functional identifier of a group, GS01.
+fn function<'a>(group: &Group<'a>) -> &'a [u8]
+    ensures { result.now ≡ element group.now.group.head 1 }
+{
+    group.head().element(1)
+}
+
+// The sets of a group; none is taken where the group has a fault.
+fn take_group<'a>(
+    alloc: Global,
+    start: Page,
+    group: &'a Group<'a>,
+) -> Result<TakenSets<'a>, AllocError>
+    requires { start.recent + length group.now.group.sets ≤ 1000 }
+    ensures { IfOk result (λ t. IsGroupTaken group.now.delims group.now.group start t.page t.told.items) }
+{
+    let kind = SetKind::of_function(function(group));
+    match (group.fault(), kind) {
+        (None, Some(kind)) => take_sets(alloc, start, kind, group),
+        _ => Ok(TakenSets {
+            page: start,
+            changes: Vec::new(alloc),
+            told: Vec::new(alloc),
+        }),
+    }
+}
+
+/// What a group is told.
+#[derive(Drop)]
+pub(crate) struct GroupTold<'a> {
+    /// GS01.
+    pub(crate) function: &'a [u8],
+    /// GS06.
+    pub(crate) number: &'a [u8],
+    /// The sets that GE01 states, or those received where there is no GE.
+    pub(crate) stated: u32,
+    /// The sets that were received.
+    pub(crate) received: usize,
+    /// The fault of the group, if it has one.
+    pub(crate) fault: Option<u8>,
+    /// Its sets; none where it has a fault.
+    pub(crate) sets: Vec<ToldSet<'a>>,
+}
+
+impl<'a> Model for GroupTold<'a> {
+    ghost use Rattle.profile.specs.Texts.{Told};
+
+    ghost Value = { Told };
+
+    ghost view = { λ t. record { function = t.function.now; number = t.number.now; stated = t.stated; received = t.received; fault = t.fault; sets = t.sets.items } };
+}
+
+// The number of sets that a group states.
+fn stated(group: &Group<'_>) -> u32
+    requires small { IsSmall group.now.group }
+    requires few { length group.now.group.sets ≤ 1000 }
+    ensures { result ≡ stated_sets group.now.group }
+{
+    match group.tail() {
+        None => group.sets().len() as u32,
+        Some(tail) => number(tail.element(1)),
+    }
+}
+
+// What a group is told, with these sets.
+fn group_told<'a>(group: &Group<'a>, sets: Vec<ToldSet<'a>>) -> GroupTold<'a>
+    requires small { IsSmall group.now.group }
+    requires few { length group.now.group.sets ≤ 1000 }
+    ensures { result ≡ told_with group.now.group sets.entry.items }
+{
+    GroupTold {
+        function: function(group),
+        number: group.head().element(6),
+        stated: stated(group),
+        received: group.sets().len(),
+        fault: group.fault(),
+        sets,
+    }
+}
+
+// Whether a group is answered: acknowledgments are not.
+fn is_answered(group: &Group<'_>) -> bool
+    ensures { result ≡ is_answered group.now.group }
+{
+    function(group) != b"FA".as_slice()
+}
+
+// Adds what a group is told, if it is answered.
+fn tell<'a>(
+    told: &mut Vec<GroupTold<'a>>,
+    group: &Group<'a>,
+    sets: Vec<ToldSet<'a>>,
+) -> Result<(), AllocError>
+    requires small { IsSmall group.now.group }
+    requires few { length group.now.group.sets ≤ 1000 }
+    ensures { OnOk result (told.new.items ≡ told.old.items ++ told_if group.now.group sets.entry.items) }
+{
+    if is_answered(group) {
+        told.push(group_told(group, sets))?;
+    }
+    Ok(())
+}
+
+/// Groups that were taken, one after another: the page behind them, the rows that changed, and what is told of each that is
+/// answered.
+#[derive(Drop)]
+pub(crate) struct TakenGroups<'a> {
+    /// The page.
+    pub(crate) page: Page,
+    /// The rows that changed.
+    pub(crate) changes: Vec<Change>,
+    /// What is told.
+    pub(crate) told: Vec<GroupTold<'a>>,
+}
+
+/// The groups of an interchange, in turn. Want of memory is the one error.
+pub(crate) fn take_groups<'a>(
+    alloc: Global,
+    start: Page,
+    interchange: &'a Interchange<'a>,
+) -> Result<TakenGroups<'a>, AllocError>
+    requires room { start.recent + sum_by (λ g. length g.sets) interchange.now.groups ≤ 1000 }
+    requires small { AllByRecursion IsSmall interchange.now.groups }
+    ensures { IfOk result (λ t. AreGroupsTaken interchange.now.delims interchange.now.groups start t.page t.told.items) }
+{
+    let mut page = start;
+    let mut changes = Vec::new(alloc);
+    let mut told = Vec::new(alloc);
+    for group in interchange.groups() {
+        let mut taken = take_group(alloc, page, group)?;
+        page = taken.page;
+        changes.append(&mut taken.changes)?;
+        tell(&mut told, group, taken.told)?;
+    }
+    Ok(TakenGroups {
+        page,
+        changes,
+        told,
+    })
+}

@@ -1,0 +1,4 @@
+pub mod PairLaws
+mod OrderLaws
+mod RefusalLaws
+mod SheetLaws

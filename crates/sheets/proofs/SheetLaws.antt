@@ -1,0 +1,82 @@
+-- A sheet that is made is the one of the definition.
+use Rattle.std.proofs.Common.{◌≡◌, ℕ, ◌≤◌, true, ◌&&◌, List, [], ◌∷◌, map, length, refl, ap, sym, ◌∙◌, arith, None, Ok, IsPermutation, All, sum_by}
+use Rattle.std.specs.Prelude.{nat_le}
+use Rattle.std.specs.List.{list_all}
+use Rattle.std.specs.List.Sorted.{IsSorted}
+use Rattle.std.specs.Cmp.Derive.{both_true}
+use Rattle.std.proofs.Common.{le-leb, leb-true}
+use Rattle.std.proofs.lemmas.List.Sorted.{IsPermutation-map, sum_by-IsPermutation}
+use Rattle.std.proofs.lemmas.List.Elements.{All-nil, All-cons}
+use Rattle.profile.specs.Bytes.{value, is_identifier}
+use Rattle.profile.specs.Limits.{most_lines, most_item, most_lot, most_recounted}
+use Rattle.profile.specs.Lists.{in_order}
+use Rattle.profile.specs.Means.{Line}
+use Rattle.profile.specs.Events.{pair_before}
+use Rattle.profile.specs.Clerk.{RawLine, SheetKind, CountSheet, PickSheet, RecountSheet, line_of, sheet_of, is_sheet, is_sheet_line, is_ascending, least_quantity, quantity_limit}
+use Rattle.profile.proofs.SheetLaws.{sheet_of-is}
+use Rattle.profile.proofs.TextLaws.{both_parts}
+use Rattle.sheets.specs.Pairs.{pair_cmp}
+use Rattle.sheets.specs.Refused.{refused}
+use Rattle.sheets.proofs.OrderLaws.{one_of, told, told_once, sorted_ascends, ascending_same}
+use Rattle.sheets.proofs.RefusalLaws.{accepted_is}
+
+-- lines that aren't refused are, sorted, the sheet
+pub made : (kind : SheetKind) (raw sorted : List RawLine) → refused kind raw ≡ None → IsPermutation raw sorted → IsSorted pair_cmp sorted
+    → sheet_of kind raw ≡ Ok (map line_of sorted)
+made kind raw sorted h moved up =
+    let accepted = accepted_is kind raw h in
+    let lines = in_order pair_before (map line_of raw) in
+    let sheet = sheet_of-is kind raw lines accepted.1 in
+    let sizes = both_parts (nat_le (length lines) most_lines && list_all (is_sheet_line kind) lines) (is_ascending lines) sheet.0 in
+    let counted : (f : Line → ℕ) → sum_by f (map line_of sorted) ≡ sum_by f (map line_of raw) =
+    λ f. sum_by-IsPermutation f (map line_of raw) (map line_of sorted) (IsPermutation-map line_of raw sorted moved) in
+    let once : (item lot : List ℕ) → told item lot (map line_of sorted) ≤ 1 =
+    λ item lot. omega (arith, told_once raw accepted.0 item lot, counted (one_of item lot)) in
+    let same : lines ≡ map line_of sorted = ascending_same lines (map line_of sorted) sizes.1 (sorted_ascends sorted up once)
+    (λ f. counted f ∙ sym (sum_by-IsPermutation f (map line_of raw) lines sheet.1)) in
+    accepted.1 ∙ ap Ok same
+
+pub made_of_kind : (kind : SheetKind) (raw : List RawLine) (ls : List Line) → sheet_of kind raw ≡ Ok ls → is_sheet kind ls ≡ true
+made_of_kind kind raw ls h = (sheet_of-is kind raw ls h).0
+
+-- a sheet of any kind keeps the limits of a recount
+
+widened_line : (kind : SheetKind) (l : Line) → is_sheet_line kind l ≡ true → is_sheet_line RecountSheet l ≡ true
+widened_line kind l h =
+    let p = both_parts (is_identifier 1 most_item l.item && is_identifier 1 most_lot l.lot && nat_le (least_quantity kind) l.quantity) (nat_le l.quantity (quantity_limit kind)) h in
+    let q = both_parts (is_identifier 1 most_item l.item && is_identifier 1 most_lot l.lot) (nat_le (least_quantity kind) l.quantity) p.0 in
+    both_true (both_true q.0 (le-leb 0 l.quantity (omega arith))) (by_kind kind p.1)
+  where
+    by_kind : (kind : SheetKind) → nat_le l.quantity (quantity_limit kind) ≡ true → nat_le l.quantity most_recounted ≡ true
+    by_kind CountSheet e = le-leb l.quantity 999999999 (omega (arith, leb-true l.quantity 99999 e))
+    by_kind PickSheet e = le-leb l.quantity 999999999 (omega (arith, leb-true l.quantity 99999 e))
+    by_kind RecountSheet e = e
+
+widened_lines : (kind : SheetKind) (ls : List Line) → list_all (is_sheet_line kind) ls ≡ true → list_all (is_sheet_line RecountSheet) ls ≡ true
+widened_lines kind [] h = refl
+widened_lines kind (l ∷ ls) h =
+    let p = both_parts (is_sheet_line kind l) (list_all (is_sheet_line kind) ls) h in
+    both_true (widened_line kind l p.0) (widened_lines kind ls p.1)
+
+pub widened : (kind : SheetKind) (ls : List Line) → is_sheet kind ls ≡ true → is_sheet RecountSheet ls ≡ true
+widened kind ls h =
+    let p = both_parts (nat_le (length ls) most_lines && list_all (is_sheet_line kind) ls) (is_ascending ls) h in
+    let q = both_parts (nat_le (length ls) most_lines) (list_all (is_sheet_line kind) ls) p.0 in
+    both_true (both_true q.0 (widened_lines kind ls q.1)) p.1
+
+-- the quantities of a sheet's lines
+
+abbrev Fits : RawLine → Type 0
+Fits l = value l.quantity ≤ most_recounted
+
+lines_fit : (ls : List RawLine) → list_all (is_sheet_line RecountSheet) (map line_of ls) ≡ true → All Fits ls
+lines_fit [] h = All-nil Fits
+lines_fit (l ∷ ls) h =
+    let p = both_parts (is_sheet_line RecountSheet (line_of l)) (list_all (is_sheet_line RecountSheet) (map line_of ls)) h in
+    let q = both_parts (is_identifier 1 most_item l.item && is_identifier 1 most_lot l.lot && nat_le 0 (value l.quantity)) (nat_le (value l.quantity) most_recounted) p.0 in
+    All-cons Fits l ls (leb-true (value l.quantity) most_recounted q.1) (lines_fit ls p.1)
+
+pub fits : (ls : List RawLine) → is_sheet RecountSheet (map line_of ls) ≡ true → All (λ (l : RawLine). value l.quantity ≤ most_recounted) ls
+fits ls h =
+    let p = both_parts (nat_le (length (map line_of ls)) most_lines && list_all (is_sheet_line RecountSheet) (map line_of ls)) (is_ascending (map line_of ls)) h in
+    lines_fit ls (both_parts (nat_le (length (map line_of ls)) most_lines) (list_all (is_sheet_line RecountSheet) (map line_of ls)) p.0).1

@@ -1,0 +1,14 @@
+//! The sheets of a clerk's counts, picks and recounts: lines as they were read, tested and put in order.
+#![tactic(auto)]
+
+mod kinds;
+mod lines;
+mod making;
+mod writing;
+
+pub use kinds::SheetKind;
+pub use lines::Line;
+pub use making::Sheet;
+
+#[cfg(test)]
+mod tests;

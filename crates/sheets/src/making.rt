@@ -1,0 +1,169 @@
+ghost use Rattle.std.specs.Prelude.{◌≡◌, ◌==◌, ◌++◌, OnOk, OnErr, flat_map, List, true, Ok, Err, IfOk, IfErr, IsPermutation, length, map};
+ghost use Rattle.std.specs.List.{list_any};
+ghost use Rattle.std.specs.List.Sorted.{IsSorted};
+ghost use Rattle.profile.specs.Clerk as clerk;
+ghost use Rattle.profile.specs.Lists as lists;
+ghost use Rattle.profile.specs.Means as meant;
+ghost use Rattle.profile.specs.Register.{line_text};
+ghost use Rattle.profile.specs.Refusals.{Refusal, refusal_number};
+ghost use Rattle.sheets.specs.Kinds.{kind_of};
+ghost use Rattle.sheets.specs.Pairs.{pair_cmp};
+ghost use Rattle.sheets.specs.Refused.{refused};
+
+use crate::kinds::SheetKind;
+use crate::lines::Line;
+use crate::writing::append_lines;
+use profile::MOST_LINES;
+use std::alloc::{AllocError, Global};
+use std::marker::Model;
+
+// The numbers of a sheet's refusals.
+const TOO_MUCH: u8 = 30;
+
+const REPEATED_LINE: u8 = 31;
+
+const BAD_TEXT: u8 = 32;
+
+const TOO_MANY_LINES: u8 = 33;
+
+/// A sheet of a clerk's act: at most 99 lines of identifiers and quantities within their limits, by item and then lot
+/// bytes, each pair once.
+#[derive(Debug, Drop)]
+pub struct Sheet {
+    lines: Vec<Line>,
+}
+
+impl Model for Sheet {
+    ghost Value = { List meant.Line };
+
+    ghost view = { λ s. map clerk.line_of s.lines.items };
+
+    ghost invariant = { λ s. clerk.is_sheet clerk.RecountSheet (map clerk.line_of s.lines.items) ≡ true };
+}
+
+// Whether one of the others is of the line's pair.
+fn is_among(line: &Line, others: &[Line]) -> bool
+    ensures { result ≡ list_any (clerk.same_raw_pair line.now) others.now }
+{
+    others.iter().any(|other| line.is_pair_of(other))
+}
+
+// Whether two of the lines are of one pair.
+fn has_repeats(lines: &[Line]) -> bool
+    ensures { result ≡ lists.has_repeats clerk.same_raw_pair lines.now }
+{
+    for (index, line) in lines.iter().enumerate() {
+        if is_among(line, &lines[index + 1..]) {
+            return true;
+        }
+    }
+    false
+}
+
+fn has_bad_line(kind: SheetKind, lines: &[Line]) -> bool
+    ensures { result ≡ list_any (clerk.is_bad_line (kind_of kind)) lines.now }
+{
+    lines.iter().any(|line| line.is_bad(kind))
+}
+
+fn has_too_much(kind: SheetKind, lines: &[Line]) -> bool
+    ensures { result ≡ list_any (clerk.is_too_much (kind_of kind)) lines.now }
+{
+    lines.iter().any(|line| line.is_too_much(kind))
+}
+
+// The number of the first refusal, each over all lines.
+fn refusal(kind: SheetKind, lines: &[Line]) -> Option<u8>
+    ensures { result ≡ refused (kind_of kind) lines.now }
+{
+    if lines.len() > usize::from(MOST_LINES) {
+        return Some(TOO_MANY_LINES);
+    }
+    if has_bad_line(kind, lines) {
+        return Some(BAD_TEXT);
+    }
+    if has_too_much(kind, lines) {
+        return Some(TOO_MUCH);
+    }
+    if has_repeats(lines) {
+        return Some(REPEATED_LINE);
+    }
+    None
+}
+
+// The same lines by item and then lot.
+fn in_order(mut lines: Vec<Line>) -> Vec<Line>
+    ensures same { IsPermutation lines.items result.items }
+    ensures sorted { IsSorted pair_cmp result.items }
+{
+    lines.sort_unstable_by(|line, other| line.compare_pair(other));
+    lines
+}
+
+impl Sheet {
+    /// The sheet of these lines, in order. It takes no memory. The error is the number of the first refusal that holds:
+    /// 33 more than 99 lines; 32 an item, a lot or a quantity that can't be read, or a pick of 0; 30 a quantity of more
+    /// than nine digits or over its limit; 31 a pair of item and lot twice.
+    pub fn new(kind: SheetKind, lines: Vec<Line>) -> Result<Sheet, u8>
+        ensures ok { IfOk result (λ sheet. clerk.sheet_of (kind_of kind) lines.items ≡ Ok sheet) }
+        ensures kind { IfOk result (λ sheet. clerk.is_sheet (kind_of kind) sheet ≡ true) }
+        ensures err { IfErr result (λ n. (r : Refusal) × (clerk.sheet_of (kind_of kind) lines.items ≡ Err r) × (refusal_number r ≡ n)) }
+    {
+        match refusal(kind, &lines) {
+            Some(number) => Err(number),
+            None => Ok(Sheet {
+                lines: in_order(lines),
+            }),
+        }
+    }
+
+    /// How many lines it has.
+    pub fn len(&self) -> usize
+        ensures { result ≡ length self.now }
+    {
+        self.lines.len()
+    }
+
+    /// Whether it has no line.
+    pub fn is_empty(&self) -> bool
+        ensures { result ≡ (length self.now == 0) }
+    {
+        self.lines.is_empty()
+    }
+
+    /// Its lines as they were read, by item and then lot.
+    pub fn raw_lines(&self) -> &[Line]
+        ensures lines { map clerk.line_of result.now ≡ self.now }
+        ensures sheet { clerk.is_sheet clerk.RecountSheet self.now ≡ true }
+    {
+        &self.lines
+    }
+
+    /// Its lines, by item and then lot, with quantities as numbers. The one error is want of memory.
+    pub fn lines(&self, alloc: Global) -> Result<Vec<sets_in::Line>, AllocError>
+        ensures lines { IfOk result (λ v. v.items ≡ self.now) }
+        ensures sheet { clerk.is_sheet clerk.RecountSheet self.now ≡ true }
+    {
+        let mut lines = Vec::new(alloc);
+        for line in &self.lines {
+            lines.push(line.typed(alloc)?)?;
+        }
+        Ok(lines)
+    }
+
+    /// Appends the lines of an act's canonical text: ITEM,LOT,QUANTITY and LF for each, without leading zeros. After an
+    /// error, AllocError, the vector holds what it held.
+    pub fn write_lines(&self, out: &mut Vec<u8>) -> Result<(), AllocError>
+        ensures ok { OnOk result (out.new.items ≡ out.old.items ++ flat_map line_text self.now) }
+        ensures err { OnErr result (out.new.items ≡ out.old.items) }
+    {
+        let start = out.len();
+        match append_lines(out, &self.lines) {
+            Ok(()) => Ok(()),
+            Err(e) => {
+                out.truncate(start);
+                Err(e)
+            }
+        }
+    }
+}

@@ -1,0 +1,98 @@
+-- A page with an advice more.
+use Rattle.std.proofs.Common.{◌≡◌, ℕ, ◌+◌, ◌<◌, ◌^◌, Bool, true, false, not, cond, List, [], ◌∷◌, ◌++◌, refl, ap, sym, ◌∙◌, arith, Option, Some, None}
+use Rattle.std.proofs.lemmas.List.{append-nil}
+use Rattle.std.proofs.lemmas.List.Sums.{sum_by_push}
+use Rattle.std.proofs.lemmas.Grind.{flat_map-append}
+use Rattle.std.proofs.lemmas.Slice.Eq.{bytes_eq-Decides}
+use Rattle.std.specs.Prelude.{bytes_eq, is_some, option_map, flat_map, count_by}
+use Rattle.std.specs.Option.{option_or}
+use Rattle.profile.specs.Lists.{or_else}
+use Rattle.profile.specs.Means.{Line, Advice, advised}
+use Rattle.profile.specs.Rows.{named}
+use Rattle.profile.specs.Page.{PageAdvice, PageOrder, page_advice}
+use Rattle.profile.specs.Events.{Event, Advised, quantity_of, advice_if, advice_under, counts, count_naming, advice_fault, advice_fault_where}
+use Rattle.profile.specs.Movements.{Expected, OnHand, Reservation}
+use Rattle.sets_in.specs.Limits.{HasFewLines}
+use Rattle.stock.specs.Told.{told, amount, named_by, positive}
+use Rattle.stock.specs.Pages.{PageFacts, is_shipment, is_number, is_document, advice_at, order_at, document_at, awaited, held, IsSound}
+use Rattle.stock.specs.Shows.{Shows, is_numbered_within}
+use Rattle.stock.specs.Steps.{opened, IsAnnounced}
+use Rattle.stock.proofs.Sums.{added_distinct, named_append}
+use Rattle.stock.proofs.Moves.{came_push, went_push, came_comes, went_comes, given_le, quantity_le, advised_le}
+use Rattle.stock.proofs.Finds.{first_found_push, find_push, count_push_once}
+use Rattle.stock.proofs.PageLemmas.{all_numbered_same}
+use Rattle.stock.proofs.Views.{advice_seen, uncounted, advice_view}
+use Rattle.stock.proofs.Events.{found_kept, any_kept, all_push, order_kept, document_kept, shares_kept, counted_kept, picked_kept}
+
+-- the lines fit
+pub advised_fits : (a : Advice) (p : PageFacts) → HasFewLines a.lines → IsSound p → (item lot : List ℕ) → told (amount Expected) item lot p.rows + quantity_of (advised a) item lot < 2 ^ 64
+advised_fits a p few sound item lot = omega (arith, sound.bounded Expected item lot, sound.numbered, sound.few, quantity_le (advised a) item lot, advised_le a few)
+
+pub announced_sound : (a : Advice) (old new : PageFacts) → IsAnnounced a old new → HasFewLines a.lines → advice_at a.shipment old.advices ≡ None → old.recent < 1000 → IsSound old → IsSound new
+announced_sound a old new step few unknown room sound = record {
+  distinct = added_distinct Expected (advised a) old.rows new.rows step.rows sound.distinct;
+  expected = λ i l. omega (
+    arith,
+    step.rows.amounts Expected i l,
+    sound.expected i l,
+    ap (λ (ks : List PageAdvice). awaited ks i l) step.advices,
+    sum_by_push (λ (k : PageAdvice). cond k.is_open (quantity_of k.lines i l) 0) old.advices (opened a),
+  );
+  reserved = λ i l. omega (arith, step.rows.amounts Reservation i l, sound.reserved i l, ap (λ (ks : List PageOrder). held ks i l) step.orders);
+  covered = λ i l. omega (arith, step.rows.amounts Reservation i l, step.rows.amounts OnHand i l, sound.covered i l);
+  bounded = λ c i l. omega (arith, step.rows.amounts c i l, sound.bounded c i l, given_le Expected (advised a) c i l, advised_le a few, step.next.entries, step.next.recent);
+  numbered = omega (arith, sound.numbered, step.next.entries);
+  few = omega (arith, step.next.recent);
+  advices_once = λ s. omega (
+    arith,
+    ap (count_by (is_shipment s)) step.advices,
+    count_push_once (is_shipment s) old.advices (opened a) (sound.advices_once s)
+        (λ h. ap (λ (x : List ℕ). advice_at x old.advices) (sym ((bytes_eq-Decides a.shipment s).0 h)) ∙ unknown),
+  );
+  orders_once = λ n. omega (arith, ap (count_by (is_number n)) step.orders, sound.orders_once n);
+  documents_once = λ n. omega (arith, ap (count_by (is_document n)) step.documents, sound.documents_once n);
+}
+
+-- an advice that is opened
+seen_push : (o : Option Advice) (v b : Bool) (a : Advice) → (o ≡ None → v ≡ true)
+    → option_or (advice_seen o v) (cond b (Some (opened a)) None) ≡ advice_seen (or_else o (cond b (Some a) None)) v
+seen_push (Some x) v b a h = refl
+seen_push None true true a h = refl
+seen_push None true false a h = refl
+seen_push None false b a h = let no : false ≡ true = h refl in absurd (cc)
+
+pub announced_shows : (a : Advice) (old new : PageFacts) (es : List Event) → IsAnnounced a old new → Shows old es → Shows new (es ++ Advised a ∷ [])
+announced_shows a old new es step shows = let e = Advised a in record {
+  amounts = λ c i l. omega (arith, step.rows.amounts c i l, shows.amounts c i l, came_push es e c i l, went_push es e c i l, came_comes Expected (advised a) c i l, went_comes Expected (advised a) c i l);
+  sinces = λ i l. found_kept (count_naming i l) es e refl ∙ shows.sinces i l ∙ ap positive (sym (step.rows.sinces i l));
+  pairs = λ i l. omega (arith, step.rows.named i l, shows.pairs i l, named_append (flat_map named es) (advised a) i l, ap (λ (ls : List Line). named_by ls i l) (flat_map-append named es (e ∷ []) ∙ ap (λ (ls : List Line). flat_map named es ++ ls) (append-nil (advised a))));
+  advices = λ s. ap (advice_at s) step.advices ∙ find_push (is_shipment s) old.advices (opened a)
+      ∙ ap (λ (o : Option PageAdvice). option_or o (cond (bytes_eq a.shipment s) (Some (opened a)) None)) (shows.advices s ∙ advice_view s es)
+      ∙ seen_push (advice_under s es) (uncounted s es) (bytes_eq a.shipment s) a (λ none. ap not (shows.counted s none))
+      ∙ ap (λ (o : Option Advice). advice_seen o (uncounted s es)) (sym (first_found_push (advice_if s) es e))
+      ∙ ap (λ (v : Bool). advice_seen (advice_under s (es ++ e ∷ [])) (not v)) (sym (any_kept (counts s) es e refl))
+      ∙ sym (advice_view s (es ++ e ∷ []));
+  orders = λ n. ap (order_at n) step.orders ∙ shows.orders n ∙ order_kept es e n refl refl;
+  documents = λ n. ap (document_at n) step.documents ∙ shows.documents n ∙ document_kept es e n refl (λ f. refl);
+  counted = λ s. counted_kept es e s refl (shows.counted s);
+  picked = λ n. picked_kept es e n refl (shows.picked n);
+  shares = λ n. shares_kept es e n refl (shows.shares n);
+  numbers = all_push (is_numbered_within (new.entries + 1)) es e (all_numbered_same old.entries new.entries es step.next.entries shows.numbers) refl;
+}
+
+is_some_view : {X Y : Type 0} (f : X → Y) (o : Option X) → is_some (option_map f o) ≡ is_some o
+is_some_view f (Some a) = refl
+is_some_view f None = refl
+
+-- the fault that the page tells is that of the events
+pub advice_fault_shown : (p : PageFacts) (es : List Event) (a : Advice) → Shows p es → advice_fault_where (is_some (advice_at a.shipment p.advices)) a ≡ advice_fault es a
+advice_fault_shown p es a shows = ap (λ (v : Bool). advice_fault_where v a) (ap is_some (shows.advices a.shipment) ∙ is_some_view (page_advice es) (advice_under a.shipment es))
+
+is_none : {X : Type 0} (o : Option X) → is_some o ≡ false → o ≡ None
+is_none (Some x) h = absurd (cc)
+is_none None h = refl
+
+-- an advice without a fault is new
+pub advice_unknown : (o : Option PageAdvice) (a : Advice) → advice_fault_where (is_some o) a ≡ None → o ≡ None
+advice_unknown (Some k) a h = absurd (cc)
+advice_unknown None a h = refl

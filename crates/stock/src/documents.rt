@@ -1,0 +1,140 @@
+ghost use Rattle.std.specs.Prelude.{◌≡◌, ◌==◌, None, MatchOption, OnOk};
+ghost use Rattle.stock.specs.Functions.{function_text};
+ghost use Rattle.stock.specs.Pages.{is_document, document_at, IsAt};
+ghost use Rattle.stock.specs.Steps.{IsSent, decides, heard};
+
+use sets_in::AckIn;
+use std::alloc::AllocError;
+use std::marker::Model;
+
+/// What kind of document was sent.
+#[derive(Clone, Copy, Debug, PartialEq, Eq)]
+pub enum Function {
+    /// A receipt advice (944, of a group RE).
+    Receipt,
+    /// A shipping advice (945, of a group SW).
+    Shipment,
+    /// An inventory adjustment advice (947, of a group AW).
+    Adjustment,
+}
+
+impl Function {
+    /// The functional identifier of its group: RE, SW or AW.
+    pub fn text(&self) -> &'static [u8]
+        ensures { result.now ≡ function_text self.now }
+    {
+        match self {
+            Function::Receipt => b"RE",
+            Function::Shipment => b"SW",
+            Function::Adjustment => b"AW",
+        }
+    }
+}
+
+/// A document that was sent.
+#[derive(Clone, Debug, Drop)]
+pub struct Document {
+    /// The number of its entry, 1 to 999,999.
+    n: u32,
+    function: Function,
+    said: Option<bool>,
+}
+
+impl Model for Document {
+    ghost use Rattle.profile.specs.Page.{PageDocument};
+    ghost use Rattle.stock.specs.Functions.{function_text};
+
+    ghost Value = { PageDocument };
+
+    ghost view = { λ d. record { n = d.n; function = function_text d.function; said = d.said } };
+}
+
+impl Document {
+    /// A document of the entry `n`, and what the first acknowledgment of it said.
+    pub fn new(n: u32, function: Function, said: Option<bool>) -> Document
+        ensures { result ≡ record { n = n; function = function_text function; said = said } }
+    {
+        Document { n, function, said }
+    }
+
+    /// The number of its entry.
+    pub fn n(&self) -> u32
+        ensures { result ≡ self.now.n }
+    {
+        self.n
+    }
+
+    // Whether it is under this number.
+    pub(crate) fn is_under(&self, n: u32) -> bool
+        ensures { result ≡ is_document n self.now }
+    {
+        self.n == n
+    }
+
+    // Whether an acknowledgment decides it, which the entry after this number brings.
+    pub(crate) fn is_decided_by(&self, entries: u32, ack: &AckIn) -> bool
+        ensures { result ≡ decides entries ack.now self.now }
+    {
+        self.n <= entries
+            && ack.document() == self.n
+            && ack.function() == self.function.text()
+            && self.said.is_none()
+    }
+
+    // The document after the acknowledgment.
+    pub(crate) fn heard(&self, entries: u32, ack: &AckIn) -> Document
+        ensures { result ≡ heard entries ack.now self.now }
+    {
+        let said = if self.is_decided_by(entries, ack) {
+            Some(ack.accepts())
+        } else {
+            self.said
+        };
+        Document {
+            n: self.n,
+            function: self.function,
+            said,
+        }
+    }
+
+    /// What kind of document it is.
+    pub fn function(&self) -> Function
+        ensures { function_text result ≡ self.now.function }
+    {
+        self.function
+    }
+
+    /// What the first acknowledgment of it said, whether it is accepted; None before there is one.
+    pub fn said(&self) -> Option<bool>
+        ensures { result ≡ self.now.said }
+    {
+        self.said
+    }
+}
+
+// The place of the document with a number.
+pub(crate) fn place_of_document(documents: &[Document], n: u32) -> Option<usize>
+    ensures { MatchOption result (document_at n documents.now ≡ None) (λ i. IsAt (is_document n) documents.now i) }
+{
+    for (i, document) in documents.iter().enumerate() {
+        if document.is_under(n) {
+            return Some(i);
+        }
+    }
+    None
+}
+
+// Adds the document that is sent under a number, unless there is one.
+pub(crate) fn send(
+    documents: &mut Vec<Document>,
+    n: u32,
+    function: Function,
+) -> Result<(), AllocError>
+    ensures { OnOk result (IsSent n (function_text function) documents.old.items documents.new.items) }
+{
+    if let Some(_) = place_of_document(documents, n) {
+        return Ok(());
+    }
+    documents.push(Document::new(n, function, None))?;
+    Ok(())
+}

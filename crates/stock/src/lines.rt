@@ -1,0 +1,152 @@
+ghost use Rattle.std.specs.Prelude.{◌≡◌, ◌≤◌, ◌<◌, ◌^◌, ℕ, List, IfOk, OnOk, MatchOption, length, map, nat_lt, if◌then◌else◌};
+ghost use Rattle.std.specs.List.{insert, list_any};
+ghost use Rattle.profile.specs.Events.{is_pair, pair_before, quantity_of};
+ghost use Rattle.profile.specs.Lists.{placed};
+ghost use Rattle.profile.specs.Page.{page_line, reserved_lines};
+ghost use Rattle.stock.specs.Steps.{exceeds};
+
+use crate::known::KnownLine;
+use sets_in::{AdviceLine, Line, OrderLine};
+use std::alloc::{AllocError, Global};
+
+// A copy of a line.
+fn copied(line: &Line) -> Result<Line, AllocError>
+    ensures { IfOk result (λ copy. copy ≡ line.now) }
+{
+    line.clone()
+}
+
+// A copy of the lines.
+pub(crate) fn copied_lines(alloc: Global, lines: &[Line]) -> Result<Vec<Line>, AllocError>
+    ensures { IfOk result (λ copy. copy.items ≡ lines.now) }
+{
+    let mut copy = Vec::new(alloc);
+    for line in lines {
+        copy.push(copied(line)?)?;
+    }
+    Ok(copy)
+}
+
+// What the lines of an advice advise.
+pub(crate) fn advised(alloc: Global, lines: &[AdviceLine]) -> Result<Vec<Line>, AllocError>
+    ensures { IfOk result (λ copy. copy.items ≡ map (λ l. l.line) lines.now) }
+{
+    let mut copy = Vec::new(alloc);
+    for line in lines {
+        copy.push(copied(line.line())?)?;
+    }
+    Ok(copy)
+}
+
+// A line of an order as a page has it.
+fn known_line(alloc: Global, line: &OrderLine) -> Result<KnownLine, AllocError>
+    ensures { IfOk result (λ known. known ≡ page_line line.now) }
+{
+    let item = line.item().to_vec(alloc)?;
+    let pin = match line.pin() {
+        Some(lot) => Some(lot.to_vec(alloc)?),
+        None => None,
+    };
+    Ok(KnownLine::new(item, pin, line.quantity()))
+}
+
+// The lines of an order as a page has them.
+pub(crate) fn known_lines(alloc: Global, lines: &[OrderLine]) -> Result<Vec<KnownLine>, AllocError>
+    ensures { IfOk result (λ known. known.items ≡ map page_line lines.now) }
+{
+    let mut known = Vec::new(alloc);
+    for line in lines {
+        known.push(known_line(alloc, line)?)?;
+    }
+    Ok(known)
+}
+
+// Whether a line stands before another, by item and then by lot bytes.
+fn comes_before(line: &Line, other: &Line) -> bool
+    ensures { result ≡ pair_before line.now other.now }
+{
+    if line.item() == other.item() {
+        return line.lot().cmp(&other.lot()).is_lt();
+    }
+    line.item().cmp(&other.item()).is_lt()
+}
+
+// Where a line belongs, if its pair isn't there.
+fn place_among(lines: &[Line], new: &Line) -> Option<usize>
+    ensures { MatchOption result (placed pair_before new.now lines.now ≡ lines.now) (λ i. (i ≤ length lines.now) × (placed pair_before new.now lines.now ≡ insert lines.now i new.now)) }
+{
+    for (i, other) in lines.iter().enumerate() {
+        if comes_before(new, other) {
+            return Some(i);
+        }
+        if !comes_before(other, new) {
+            return None;
+        }
+    }
+    Some(lines.len())
+}
+
+// Puts a line in its place.
+fn place(lines: &mut Vec<Line>, new: Line) -> Result<(), AllocError>
+    ensures { OnOk result (lines.new.items ≡ placed pair_before new lines.old.items) }
+{
+    if let Some(i) = place_among(lines, &new) {
+        lines.insert(i, new)?;
+    }
+    Ok(())
+}
+
+// Puts a copy of a share in its place, if it is above 0.
+fn reserve_share(lines: &mut Vec<Line>, share: &Line) -> Result<(), AllocError>
+    ensures { OnOk result (lines.new.items ≡ (if nat_lt 0 share.now.quantity then placed pair_before share.now lines.old.items else lines.old.items)) }
+{
+    if share.quantity() > 0 {
+        place(lines, copied(share)?)?;
+    }
+    Ok(())
+}
+
+// The shares above 0, by item and lot.
+pub(crate) fn reserved(alloc: Global, shares: &[Line]) -> Result<Vec<Line>, AllocError>
+    ensures { IfOk result (λ lines. lines.items ≡ reserved_lines shares.now) }
+{
+    let mut lines = Vec::new(alloc);
+    for i in (0..shares.len()).rev() {
+        reserve_share(&mut lines, &shares[i])?;
+    }
+    Ok(lines)
+}
+
+// Whether a line is of the pair.
+fn is_of(line: &Line, item: &[u8], lot: &[u8]) -> bool
+    ensures { result ≡ is_pair item.now lot.now line.now }
+{
+    line.item() == item && line.lot() == lot
+}
+
+// The quantity that lines give a pair.
+fn quantity_of(lines: &[Line], item: &[u8], lot: &[u8]) -> u64
+    requires { quantity_of lines.now item.now lot.now < 2 ^ 64 }
+    ensures { result ≡ quantity_of lines.now item.now lot.now }
+{
+    let mut quantity: u64 = 0;
+    for line in lines {
+        if is_of(line, item, lot) {
+            quantity += u64::from(line.quantity());
+        }
+    }
+    quantity
+}
+
+/// Whether one of the lines exceeds what is reserved of its pair.
+pub(crate) fn exceeds(reserved: &[Line], lines: &[Line]) -> bool
+    requires { (item lot : List ℕ) → quantity_of reserved.now item lot < 2 ^ 64 }
+    ensures { result ≡ list_any (exceeds reserved.now) lines.now }
+{
+    for line in lines {
+        if quantity_of(reserved, line.item(), line.lot()) < u64::from(line.quantity()) {
+            return true;
+        }
+    }
+    false
+}

@@ -1,0 +1,171 @@
+ghost use Rattle.std.specs.Prelude.{◌≡◌, ◌≤◌, min, IfOk, OnOk, MatchOption, length};
+ghost use Rattle.std.specs.List.{insert};
+ghost use Rattle.profile.specs.Allotment.{ranks_before, may_have};
+ghost use Rattle.profile.specs.Lists.{placed, in_order};
+ghost use Rattle.stock.specs.Lots.{is_lot_of, rank_of, ranks_of, free_in, shares_in, all_shares_in};
+ghost use Rattle.stock.specs.Told.{IsDistinct};
+
+use crate::rows::{Column, Row, amount_of};
+use sets_in::{Line, OrderLine};
+use std::alloc::{AllocError, Global};
+use std::marker::Model;
+
+// A lot with the number of the first count that named it.
+#[derive(Debug, Drop)]
+struct Ranked {
+    since: u32,
+    lot: Vec<u8>,
+}
+
+impl Model for Ranked {
+    ghost use Rattle.profile.specs.Allotment.{Ranked};
+
+    ghost Value = { Ranked };
+
+    ghost view = { λ r. record { since = r.since; lot = r.lot.items } };
+}
+
+impl Ranked {
+    fn of(alloc: Global, row: &Row) -> Result<Ranked, AllocError>
+        ensures { IfOk result (λ ranked. ranked ≡ rank_of row.now) }
+    {
+        Ok(Ranked {
+            since: row.since,
+            lot: row.lot.to_vec(alloc)?,
+        })
+    }
+
+    fn lot(&self) -> &[u8]
+        ensures { result.now ≡ self.now.lot }
+    {
+        &self.lot
+    }
+
+    fn comes_before(&self, other: &Ranked) -> bool
+        ensures { result ≡ ranks_before self.now other.now }
+    {
+        ranks_before(self.since, &self.lot, other.since, &other.lot)
+    }
+}
+
+// Whether a lot was counted before another: by the first count that named it, then by its bytes.
+fn ranks_before(since: u32, lot: &[u8], other_since: u32, other_lot: &[u8]) -> bool
+    ensures { result ≡ ranks_before (record { since = since; lot = lot.now }) (record { since = other_since; lot = other_lot.now }) }
+{
+    if since == other_since {
+        return lot.cmp(&other_lot).is_lt();
+    }
+    since < other_since
+}
+
+// Whether it is the row of a lot of the item that a count named.
+fn is_lot_of(row: &Row, item: &[u8]) -> bool
+    ensures { result ≡ is_lot_of item.now row.now }
+{
+    row.item.as_slice() == item && 0 < row.since
+}
+
+// Where a lot belongs, if it isn't there.
+fn place_among(ranked: &[Ranked], new: &Ranked) -> Option<usize>
+    ensures { MatchOption result (placed ranks_before new.now ranked.now ≡ ranked.now) (λ i. (i ≤ length ranked.now) × (placed ranks_before new.now ranked.now ≡ insert ranked.now i new.now)) }
+{
+    for (i, other) in ranked.iter().enumerate() {
+        if new.comes_before(other) {
+            return Some(i);
+        }
+        if !other.comes_before(new) {
+            return None;
+        }
+    }
+    Some(ranked.len())
+}
+
+// Puts a lot in its place.
+fn place(ranked: &mut Vec<Ranked>, new: Ranked) -> Result<(), AllocError>
+    ensures { OnOk result (ranked.new.items ≡ placed ranks_before new ranked.old.items) }
+{
+    if let Some(i) = place_among(ranked, &new) {
+        ranked.insert(i, new)?;
+    }
+    Ok(())
+}
+
+// The lots of an item that a count named, the first counted first.
+fn lots(alloc: Global, rows: &[Row], item: &[u8]) -> Result<Vec<Ranked>, AllocError>
+    ensures { IfOk result (λ lots. lots.items ≡ in_order ranks_before (ranks_of item.now rows.now)) }
+{
+    let mut lots = Vec::new(alloc);
+    for row in rows {
+        if is_lot_of(row, item) {
+            place(&mut lots, Ranked::of(alloc, row)?)?;
+        }
+    }
+    Ok(lots)
+}
+
+// A line of so much of a pair.
+fn new_line(alloc: Global, item: &[u8], lot: &[u8], quantity: u32) -> Result<Line, AllocError>
+    ensures { IfOk result (λ line. line ≡ record { item = item.now; lot = lot.now; quantity = quantity }) }
+{
+    Ok(Line::new(item.to_vec(alloc)?, lot.to_vec(alloc)?, quantity))
+}
+
+// What is free of a pair: on hand and not reserved.
+fn free(rows: &[Row], item: &[u8], lot: &[u8]) -> u64
+    requires { IsDistinct rows.now }
+    ensures { result ≡ free_in rows.now item.now lot.now }
+{
+    let on_hand = amount_of(rows, Column::OnHand, item, lot);
+    on_hand.saturating_sub(amount_of(rows, Column::Reservation, item, lot))
+}
+
+// Whether a line may have a lot: a pinned one has that lot alone.
+fn may_have(line: &OrderLine, lot: &[u8]) -> bool
+    ensures { result ≡ may_have line.now.pin lot.now }
+{
+    match line.pin() {
+        None => true,
+        Some(pin) => pin == lot,
+    }
+}
+
+// What a lot gives where so much is still wanted.
+fn share_of(left: u32, free: u64) -> u32
+    ensures { result ≡ min left free }
+{
+    u64::from(left).min(free) as u32
+}
+
+// What a line of an order is given of each lot that it may have, 0 included.
+fn shares(alloc: Global, rows: &[Row], line: &OrderLine) -> Result<Vec<Line>, AllocError>
+    requires { IsDistinct rows.now }
+    ensures { IfOk result (λ shares. shares.items ≡ shares_in rows.now line.now) }
+{
+    let lots = lots(alloc, rows, line.item())?;
+    let mut left = line.quantity();
+    let mut shares = Vec::new(alloc);
+    for ranked in &lots {
+        if may_have(line, ranked.lot()) {
+            let share = share_of(left, free(rows, line.item(), ranked.lot()));
+            shares.push(new_line(alloc, line.item(), ranked.lot(), share)?)?;
+            left -= share;
+        }
+    }
+    Ok(shares)
+}
+
+/// What the lines of an order are given, line by line.
+pub(crate) fn all_shares(
+    alloc: Global,
+    rows: &[Row],
+    lines: &[OrderLine],
+) -> Result<Vec<Line>, AllocError>
+    requires { IsDistinct rows.now }
+    ensures { IfOk result (λ all. all.items ≡ all_shares_in rows.now lines.now) }
+{
+    let mut all = Vec::new(alloc);
+    for line in lines {
+        all.append(&mut shares(alloc, rows, line)?)?;
+    }
+    Ok(all)
+}

@@ -1,0 +1,99 @@
+ghost use Rattle.std.specs.Prelude.{◌≡◌, ◌<◌, ◌+◌, ◌++◌, [], ◌∷◌, List, None, IfOk, IfErr, option_map};
+ghost use Rattle.profile.specs.Allotment.{order_shares};
+ghost use Rattle.profile.specs.Events.{Event, Ordered, order_fault, repeated, same_order_item};
+ghost use Rattle.profile.specs.Page.{reserved_lines};
+ghost use Rattle.stock.specs.Lots.{all_shares_in};
+ghost use Rattle.stock.specs.Pages.{order_at};
+ghost use Rattle.stock.specs.Shows.{Shows};
+ghost use Rattle.stock.specs.Steps.{IsReserved, opened_order};
+ghost use Rattle.stock.specs.Stops.{StopsFor, order_changes};
+
+use crate::changes::order_changes;
+use crate::faults::order_fault;
+use crate::known::KnownOrder;
+use crate::lines::{known_lines, reserved};
+use crate::lots::all_shares;
+use crate::page::Page;
+use crate::rows::{Column, add_lines};
+use crate::steps::{Step, Stop};
+use sets_in::{Address, Line, Order};
+use std::alloc::{AllocError, Global};
+
+// A copy of the address of an order.
+fn copied_address(order: &Order) -> Result<Option<Address>, AllocError>
+    ensures { IfOk result (λ address. address ≡ order.now.address) }
+{
+    match order.address() {
+        Some(address) => Ok(Some(address.clone()?)),
+        None => Ok(None),
+    }
+}
+
+// An order that is opened, with what is reserved for it.
+fn opened(
+    alloc: Global,
+    order: &Order,
+    shares: &[Line],
+    lines: Vec<Line>,
+) -> Result<KnownOrder, AllocError>
+    requires { lines.items ≡ reserved_lines shares.now }
+    ensures { IfOk result (λ known. known ≡ opened_order order.now shares.now) }
+{
+    let number = order.number().to_vec(alloc)?;
+    let address = copied_address(order)?;
+    let known = known_lines(alloc, order.lines())?;
+    Ok(KnownOrder::new(number, address, known, lines, true))
+}
+
+// The page with an order more, which is opened, and its shares reserved.
+fn with_order(alloc: Global, page: Page, order: &Order, shares: &[Line]) -> Result<Page, AllocError>
+    requires room { page.recent < 1000 }
+    requires unknown { order_at order.now.number page.orders ≡ None }
+    requires once { repeated same_order_item [] order.now.lines ≡ None }
+    requires allotted { shares.now ≡ all_shares_in page.rows order.now.lines }
+    ensures { IfOk result (λ new. IsReserved order.now shares.now page new) }
+{
+    let lines = reserved(alloc, shares)?;
+    let Page {
+        mut rows,
+        advices,
+        mut orders,
+        documents,
+        entries,
+        recent,
+    } = page;
+    add_lines(alloc, &mut rows, Column::Reservation, &lines)?;
+    orders.push(opened(alloc, order, shares, lines)?)?;
+    Ok(Page {
+        rows,
+        advices,
+        orders,
+        documents,
+        entries,
+        recent: recent + 1,
+    })
+}
+
+/// Opens an order: each of its lines is given what is free of the lots that it may have, the lot that was counted first
+/// before the others, as far as it is wanted, and that is reserved. The error is the trade fault at the least position (a
+/// known order number, an item that stands twice, a W76 that isn't the sum), or want of memory.
+pub fn reserve(alloc: Global, page: &Page, order: &Order) -> Result<Step, Stop>
+    requires { page.now.recent < 1000 }
+    ensures ok { IfOk result (λ step. (es : List Event) → Shows page.now es → (order_fault es order.now ≡ None) × Shows step.page (es ++ Ordered order.now (order_shares es order.now) ∷ [])) }
+    ensures err { IfErr result (λ stop. (es : List Event) → Shows page.now es → StopsFor (order_fault es order.now) stop) }
+    ensures changes { IfOk result (λ step. step.changes.items ≡ order_changes order.now.number page.now step.page) }
+    ensures entries { IfOk result (λ step. step.page.entries ≡ page.now.entries) }
+    ensures recent { IfOk result (λ step. step.page.recent ≡ page.now.recent + 1) }
+{
+    let is_known = page.has_order(order.number());
+    if let Some(fault) = order_fault(order, is_known) {
+        return Err(Stop::Set(fault));
+    }
+    let shares = all_shares(alloc, page.rows(), order.lines())?;
+    let next = with_order(alloc, page.copy()?, order, &shares)?;
+    let changes = order_changes(alloc, order.number(), page, &next)?;
+    Ok(Step {
+        page: next,
+        changes,
+    })
+}

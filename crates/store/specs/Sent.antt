@@ -1,0 +1,40 @@
+-- The rows of the outbox, by what a page says of its documents.
+use Rattle.std.specs.Prelude.{ℕ, Bool, List, codes, ◌==◌, find, Option, Some, None}
+use Rattle.profile.specs.Register.{Deed, Performed}
+use Rattle.profile.specs.Rows.{OutRow, act_kind, state_text}
+use Rattle.profile.specs.Page.{PageDocument}
+use Rattle.store.specs.declared.rows.OutKind.{OutKind}
+use Rattle.store.specs.declared.rows.OutKind.TheVariants.{Answer, Receipt, Shipment, Adjustment}
+use Rattle.store.specs.declared.rows.DocumentState.{DocumentState}
+use Rattle.store.specs.declared.rows.DocumentState.TheVariants.{Unasked, Open, Accepted, Refused}
+
+abbrev pub kind_text : OutKind → List ℕ
+kind_text Answer = codes "ANS"
+kind_text Receipt = codes "944"
+kind_text Shipment = codes "945"
+kind_text Adjustment = codes "947"
+
+abbrev pub state_name : DocumentState → List ℕ
+state_name Unasked = codes "-"
+state_name Open = codes "open"
+state_name Accepted = codes "accepted"
+state_name Refused = codes "refused"
+
+-- what kind of text goes out for a deed
+abbrev pub kind_by : Deed → List ℕ
+kind_by (Performed ticket act) = act_kind act
+kind_by d = codes "ANS"
+
+abbrev pub said_in : Option PageDocument → Option Bool
+said_in None = None
+said_in (Some d) = d.said
+
+-- what a page's documents say of the one under a number
+abbrev pub said_under : ℕ → List PageDocument → Option Bool
+said_under n ds = said_in (find (λ d. d.n == n) ds)
+
+-- the row of a deed under a number that sent this out, by a page's documents
+abbrev pub sent_row : List PageDocument → Deed → ℕ → List ℕ → OutRow
+sent_row ds (Performed ticket act) n content =
+    record { n = n; kind = act_kind act; content = content; state = state_text (said_under n ds) }
+sent_row ds d n content = record { n = n; kind = codes "ANS"; content = content; state = codes "-" }
