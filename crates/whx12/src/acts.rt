@@ -1,4 +1,4 @@
-use crate::sheets;
+use crate::sheet_files::sheet;
 use crate::told::{Status, Stop, tell_refusal, tell_text};
 use crate::words::Deed;
 use profile::{MOST_NUMBER, MOST_TICKET};
@@ -128,7 +128,7 @@ pub fn clerk<R: Files + AllocGlobal, W: io::Write, E: io::Write>(
         return tell_refusal(alloc, err, Refusal::BadText);
     };
     let text = fs::read(rt, file)?;
-    let sheet = match sheets::sheet(alloc, kind(told.deed), &text)? {
+    let sheet = match sheet(alloc, kind(told.deed), &text)? {
         Ok(sheet) => sheet,
         Err(refusal) => return tell_refusal(alloc, err, refusal),
     };

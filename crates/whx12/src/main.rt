@@ -5,7 +5,7 @@ mod acts;
 mod clock;
 mod commands;
 mod script;
-mod sheets;
+mod sheet_files;
 mod told;
 mod words;
 
