@@ -340,6 +340,12 @@ fn tells_a_misplaced_segment(rt: HostRuntime) -> Result<(), Fail> {
             3,
             b"ST*997*0001~AK1*AR*1~AK2*943*0001~AK3*W06*2**3~AK5*R*5~AK9*R*1*1*0~SE*7*0001~".as_slice(),
         ),
+        (
+            b"W03".as_slice(),
+            5,
+            3,
+            b"ST*997*0001~AK1*AR*1~AK2*943*0001~AK3*W03*5**3~AK5*R*5~AK9*R*1*1*0~SE*7*0001~".as_slice(),
+        ),
     ];
     for (id, position, code, want) in cases {
         assert_eq!(rt;
@@ -387,6 +393,62 @@ fn tells_an_element(rt: HostRuntime) -> Result<(), Fail> {
             2,
             7,
             b"ST*997*0001~AK1*AR*1~AK2*943*0001~AK3*N9*6**8~AK4*2**7~AK5*R*5~AK9*R*1*1*0~SE*8*0001~".as_slice(),
+        ),
+        (
+            b"W04".as_slice(),
+            3,
+            1,
+            1,
+            b"ST*997*0001~AK1*AR*1~AK2*943*0001~AK3*W04*3**8~AK4*1**1~AK5*R*5~AK9*R*1*1*0~SE*8*0001~".as_slice(),
+        ),
+        (
+            b"W04".as_slice(),
+            3,
+            1,
+            6,
+            b"ST*997*0001~AK1*AR*1~AK2*943*0001~AK3*W04*3**8~AK4*1**6~AK5*R*5~AK9*R*1*1*0~SE*8*0001~".as_slice(),
+        ),
+        (
+            b"W04".as_slice(),
+            3,
+            1,
+            7,
+            b"ST*997*0001~AK1*AR*1~AK2*943*0001~AK3*W04*3**8~AK4*1**7~AK5*R*5~AK9*R*1*1*0~SE*8*0001~".as_slice(),
+        ),
+        (
+            b"W04".as_slice(),
+            3,
+            2,
+            7,
+            b"ST*997*0001~AK1*AR*1~AK2*943*0001~AK3*W04*3**8~AK4*2**7~AK5*R*5~AK9*R*1*1*0~SE*8*0001~".as_slice(),
+        ),
+        (
+            b"W04".as_slice(),
+            3,
+            2,
+            5,
+            b"ST*997*0001~AK1*AR*1~AK2*943*0001~AK3*W04*3**8~AK4*2**5~AK5*R*5~AK9*R*1*1*0~SE*8*0001~".as_slice(),
+        ),
+        (
+            b"W05".as_slice(),
+            2,
+            2,
+            7,
+            b"ST*997*0001~AK1*AR*1~AK2*943*0001~AK3*W05*2**8~AK4*2**7~AK5*R*5~AK9*R*1*1*0~SE*8*0001~".as_slice(),
+        ),
+        (
+            b"W01".as_slice(),
+            6,
+            5,
+            7,
+            b"ST*997*0001~AK1*AR*1~AK2*943*0001~AK3*W01*6**8~AK4*5**7~AK5*R*5~AK9*R*1*1*0~SE*8*0001~".as_slice(),
+        ),
+        (
+            b"W76".as_slice(),
+            5,
+            1,
+            7,
+            b"ST*997*0001~AK1*AR*1~AK2*943*0001~AK3*W76*5**8~AK4*1**7~AK5*R*5~AK9*R*1*1*0~SE*8*0001~".as_slice(),
         ),
     ];
     for (id, position, place, code, want) in cases {
