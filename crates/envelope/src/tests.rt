@@ -84,11 +84,14 @@ fn beginnings(rt: HostRuntime) -> Result<(), Fail> {
 
 #[test]
 fn single_changes(rt: HostRuntime) -> Result<(), Fail> {
-    let cases: [(usize, u8, u8); 13] = [
+    let cases: [(usize, u8, u8); 16] = [
         (3, b'-', UNREADABLE),
         (104, b'*', UNREADABLE),
         (105, b'>', UNREADABLE),
         (4, b'1', 10),
+        (7, b'X', 11),
+        (18, b'1', 12),
+        (21, b'X', 13),
         (51, b'Y', 9),
         (70, b'A', 14),
         (77, b'3', 15),

@@ -80,7 +80,7 @@ fn told(alloc: Global, segments: &[Segment<'_>]) -> Result<Advice, AllocError>
         order,
         lines,
         total: number(element_with(segments, b"W03", 1)),
-        total_position: place_with(segments, b"W03"),
+        place_of_total: place_with(segments, b"W03"),
     })
 }
 

@@ -10,13 +10,15 @@ mod lines;
 mod orders;
 mod reading;
 mod sets;
+mod shipping;
 
 pub use acks::{AckIn, ack};
 pub use advices::advice;
-pub use lines::{AdviceLine, Line, OrderLine};
+pub use lines::{AdviceLine, Line};
 pub use orders::order;
 pub use reading::number;
-pub use sets::{Address, Advice, Order};
+pub use sets::{Address, Advice};
+pub use shipping::{Order, OrderLine};
 
 #[cfg(test)]
 mod tests;

@@ -7,9 +7,8 @@ ghost use Rattle.sets_in.specs.Amounts.{IsAmount, IsCounted, HaveAmounts};
 ghost use Rattle.sets_in.specs.SaidOrder.{SaysOrder};
 
 use crate::addresses::ship_to;
-use crate::lines::OrderLine;
 use crate::reading::{copied, element_at, element_with, number, place_with};
-use crate::sets::Order;
+use crate::shipping::{Order, OrderLine};
 use segments::Segment;
 use std::alloc::{AllocError, Global};
 use tables::Checked;
@@ -92,7 +91,7 @@ fn told(alloc: Global, segments: &[Segment<'_>]) -> Result<Order, AllocError>
         address,
         lines,
         total: number(element_with(segments, b"W76", 1)),
-        total_position: place_with(segments, b"W76"),
+        place_of_total: place_with(segments, b"W76"),
     })
 }
 

@@ -1,8 +1,8 @@
-ghost use Rattle.std.specs.Prelude.{◌≡◌, MatchOption, None};
+ghost use Rattle.std.specs.Prelude.{◌≡◌};
 ghost use Rattle.profile.specs.Means as meant;
-ghost use Rattle.sets_in.specs.Limits.{HasFewLines, HasFewOrderLines};
+ghost use Rattle.sets_in.specs.Limits.{HasFewLines};
 
-use crate::lines::{AdviceLine, OrderLine};
+use crate::lines::AdviceLine;
 use std::marker::Model;
 
 /// What a shipment advice (943) says.
@@ -12,13 +12,13 @@ pub struct Advice {
     pub(crate) order: Vec<u8>,
     pub(crate) lines: Vec<AdviceLine>,
     pub(crate) total: u32,
-    pub(crate) total_position: u32,
+    pub(crate) place_of_total: u32,
 }
 
 impl Model for Advice {
     ghost Value = { meant.Advice };
 
-    ghost view = { λ a. record { shipment = a.shipment.items; order = a.order.items; lines = a.lines.items; total = a.total; total_position = a.total_position } };
+    ghost view = { λ a. record { shipment = a.shipment.items; order = a.order.items; lines = a.lines.items; total = a.total; total_position = a.place_of_total } };
 
     ghost invariant = { λ a. HasFewLines a.lines.items };
 }
@@ -57,7 +57,7 @@ impl Advice {
     pub fn total_position(&self) -> u32
         ensures { result ≡ self.now.total_position }
     {
-        self.total_position
+        self.place_of_total
     }
 }
 
@@ -116,61 +116,5 @@ impl Address {
         ensures { result.now ≡ self.now.place }
     {
         &self.place
-    }
-}
-
-/// What a shipping order (940) says.
-#[derive(Debug, Drop)]
-pub struct Order {
-    pub(crate) number: Vec<u8>,
-    pub(crate) address: Option<Address>,
-    pub(crate) lines: Vec<OrderLine>,
-    pub(crate) total: u32,
-    pub(crate) total_position: u32,
-}
-
-impl Model for Order {
-    ghost Value = { meant.Order };
-
-    ghost view = { λ o. record { number = o.number.items; address = o.address; lines = o.lines.items; total = o.total; total_position = o.total_position } };
-
-    ghost invariant = { λ o. HasFewOrderLines o.lines.items };
-}
-
-impl Order {
-    /// The order number (W05, element 2).
-    pub fn number(&self) -> &[u8]
-        ensures { result.now ≡ self.now.number }
-    {
-        &self.number
-    }
-
-    /// Where it goes; None where no N1 has the code ST.
-    pub fn address(&self) -> Option<&Address>
-        ensures { MatchOption result (self.now.address ≡ None) (λ a. self.now.address ≡ Some a.now) }
-    {
-        self.address.as_ref()
-    }
-
-    /// The lines, in the order of their W01: at most 99, each of a quantity of at most 99,999.
-    pub fn lines(&self) -> &[OrderLine]
-        ensures lines { result.now ≡ self.now.lines }
-        ensures few { HasFewOrderLines self.now.lines }
-    {
-        &self.lines
-    }
-
-    /// The sum of the quantities as the set states it (W76, element 1), right or wrong.
-    pub fn total(&self) -> u32
-        ensures { result ≡ self.now.total }
-    {
-        self.total
-    }
-
-    /// The position of W76 in the set, ST at 1.
-    pub fn total_position(&self) -> u32
-        ensures { result ≡ self.now.total_position }
-    {
-        self.total_position
     }
 }

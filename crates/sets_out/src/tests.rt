@@ -225,6 +225,20 @@ fn refuses(rt: HostRuntime) -> Result<(), Fail> {
         text_of_refusal(rt, &stranger, 6)?.as_slice(),
         b"ISA*00*          *00*          *ZZ*WHSE1          *ZZ*ACM2           *250304*0915*U*00401*000000000*0*P*>~TA1*000000001*250304*0915*R*006~IEA*0*000000000~".as_slice()
     );
+    for (note, code) in [
+        (9, "009"),
+        (14, "014"),
+        (21, "021"),
+        (22, "022"),
+        (23, "023"),
+        (24, "024"),
+    ] {
+        let want = format!(in rt.alloc();
+            "ISA*00*          *00*          *ZZ*WHSE1          *ZZ*ACME           *250304*0915*U*00401*000000000*0*P*>~TA1*000000001*250304*0915*R*{code}~IEA*0*000000000~"
+        )?;
+        let text = text_of_refusal(rt, &heading(b"000000001", true), note)?;
+        assert_eq!(rt; text.as_slice(), want.as_bytes());
+    }
     Ok(())
 }
 

@@ -184,7 +184,7 @@ fn count<'a>(alloc: Global) -> Result<Command<'a>, AllocError> {
         alloc,
         "count",
         "Counts the goods of an advice, and prints its receipt (944)",
-        "Example: count ZZ-ACME T1 SHP1 count.csv",
+        "Example: count ZZ-ACME 4711 SHP1 count.csv",
     )?;
     let number = value(
         alloc,
@@ -200,7 +200,7 @@ fn pick<'a>(alloc: Global) -> Result<Command<'a>, AllocError> {
         alloc,
         "pick",
         "Tells what was picked for an order, and prints its shipping advice (945)",
-        "Example: pick ZZ-ACME T2 ORD1 pick.csv",
+        "Example: pick ZZ-ACME 4712 ORD1 pick.csv",
     )?;
     let number = value(alloc, "number", "ORDER", "The number of the order");
     sheet(alloc, command.arg(number)?)
@@ -211,7 +211,7 @@ fn recount<'a>(alloc: Global) -> Result<Command<'a>, AllocError> {
         alloc,
         "recount",
         "Sets what is on hand, and prints the adjustment (947)",
-        "Example: recount ZZ-ACME T3 recount.csv",
+        "Example: recount ZZ-ACME 4713 recount.csv",
     )?;
     sheet(alloc, command)
 }
