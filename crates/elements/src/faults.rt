@@ -4,10 +4,15 @@ ghost use Rattle.elements.specs.Rows.{row_of};
 ghost use Rattle.elements.specs.Told.{told_element};
 
 use crate::kinds::{Kind, Row, element_fault};
+use profile::{
+    CONTROL_DIGITS, DATE_DIGITS, FUNCTION_BYTES, GROUPS_DIGITS, LEAST_SET_CONTROL, LEAST_SIDE,
+    LEAST_TIME, MOST_AGENCY, MOST_SET_CONTROL, MOST_SIDE, MOST_TIME, MOST_VERSION, SEGMENTS_DIGITS,
+    SET_BYTES, SETS_DIGITS,
+};
 use segments::{Delims, Segment};
 
 macro_rules! must {
-    ($kind:expr, $least:literal, $most:literal) => {
+    ($kind:expr, $least:expr, $most:expr) => {
         Row {
             is_mandatory: true,
             kind: $kind,
@@ -18,26 +23,35 @@ macro_rules! must {
 }
 
 const GS: &[Row] = &[
-    must!(Kind::Alphanumeric, 2, 2),
-    must!(Kind::Data, 2, 15),
-    must!(Kind::Data, 2, 15),
-    must!(Kind::Date, 8, 8),
-    must!(Kind::Time, 4, 8),
-    must!(Kind::Digits, 1, 9),
-    must!(Kind::Data, 1, 2),
-    must!(Kind::Data, 1, 12),
+    must!(Kind::Alphanumeric, FUNCTION_BYTES, FUNCTION_BYTES),
+    must!(Kind::Data, LEAST_SIDE, MOST_SIDE),
+    must!(Kind::Data, LEAST_SIDE, MOST_SIDE),
+    must!(Kind::Date, DATE_DIGITS, DATE_DIGITS),
+    must!(Kind::Time, LEAST_TIME, MOST_TIME),
+    must!(Kind::Digits, 1, CONTROL_DIGITS),
+    must!(Kind::Data, 1, MOST_AGENCY),
+    must!(Kind::Data, 1, MOST_VERSION),
 ];
 
-const GE: &[Row] = &[must!(Kind::Digits, 1, 6), must!(Kind::Digits, 1, 9)];
+const GE: &[Row] = &[
+    must!(Kind::Digits, 1, SETS_DIGITS),
+    must!(Kind::Digits, 1, CONTROL_DIGITS),
+];
 
 const ST: &[Row] = &[
-    must!(Kind::Alphanumeric, 3, 3),
-    must!(Kind::Alphanumeric, 4, 9),
+    must!(Kind::Alphanumeric, SET_BYTES, SET_BYTES),
+    must!(Kind::Alphanumeric, LEAST_SET_CONTROL, MOST_SET_CONTROL),
 ];
 
-const SE: &[Row] = &[must!(Kind::Digits, 1, 10), must!(Kind::Alphanumeric, 4, 9)];
+const SE: &[Row] = &[
+    must!(Kind::Digits, 1, SEGMENTS_DIGITS),
+    must!(Kind::Alphanumeric, LEAST_SET_CONTROL, MOST_SET_CONTROL),
+];
 
-const IEA: &[Row] = &[must!(Kind::Digits, 1, 5), must!(Kind::Digits, 9, 9)];
+const IEA: &[Row] = &[
+    must!(Kind::Digits, 1, GROUPS_DIGITS),
+    must!(Kind::Digits, CONTROL_DIGITS, CONTROL_DIGITS),
+];
 
 /// The least faulty element of a segment by its rows: its place, from 1, and its code (AK401 and AK403). An element
 /// beyond the last row, empty or not, has code 3; None where no element is faulty.

@@ -6,6 +6,7 @@ ghost use Rattle.profile.specs.Moments as moments;
 ghost use Rattle.profile.specs.Elements as meant;
 ghost use Rattle.elements.specs.Rows.{kind_of, row_of};
 
+use profile::{DATE_DIGITS, LEAST_TIME};
 use segments::{Delims, is_day};
 
 /// The types of elements, as an element row names them.
@@ -103,20 +104,23 @@ fn names_day(text: &[u8]) -> bool
 fn is_date(text: &[u8]) -> bool
     ensures { result ≡ moments.is_date text.now }
 {
-    text.len() == 8 && all_digits(text) && names_day(text)
+    text.len() == DATE_DIGITS && all_digits(text) && names_day(text)
 }
 
 // Whether the first four are a time of day.
 fn is_clock(text: &[u8]) -> bool
     ensures { result ≡ moments.is_clock text.now }
 {
-    text.len() == 4 && all_digits(text) && number(&text[..2]) < 24 && number(&text[2..]) < 60
+    text.len() == LEAST_TIME
+        && all_digits(text)
+        && number(&text[..2]) < 24
+        && number(&text[2..]) < 60
 }
 
 fn is_time(text: &[u8]) -> bool
     ensures { result ≡ (moments.is_clock (take 4 text.now) && not (length text.now == 5)) }
 {
-    text.len() >= 4 && text.len() != 5 && is_clock(&text[..4])
+    text.len() >= LEAST_TIME && text.len() != 5 && is_clock(&text[..LEAST_TIME])
 }
 
 fn is_among(texts: &[&[u8]], element: &[u8]) -> bool

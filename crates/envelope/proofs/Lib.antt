@@ -5,6 +5,7 @@ pub mod Holding
 pub mod Legibility
 pub mod Moments
 pub mod NoteLemmas
+pub mod Offsets
 pub mod PieceLemmas
 pub mod Runs
 pub mod Spaces

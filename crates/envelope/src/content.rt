@@ -10,7 +10,7 @@ use crate::looking::{count, has};
 use crate::parts::Group;
 use crate::places::are_in_place;
 use elements::is_well_formed;
-use profile::{MOST_GROUPS, MOST_SETS};
+use profile::{LEAST_SEGMENT, MOST_GROUPS, MOST_SEGMENT, MOST_SETS};
 use segments::{Delims, Segment};
 
 // More than there are of anything: sums are cut off here.
@@ -34,7 +34,7 @@ fn are_well_formed(delims: &Delims, segments: &[Segment<'_>]) -> bool
 fn is_segment_id(id: &[u8]) -> bool
     ensures { result ≡ meant.is_segment_id id.now }
 {
-    id.len() >= 2 && id.len() <= 3 && all_alphanumeric(id)
+    id.len() >= LEAST_SEGMENT && id.len() <= MOST_SEGMENT && all_alphanumeric(id)
 }
 
 // Whether each piece has an id of that shape.

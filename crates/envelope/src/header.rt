@@ -1,9 +1,10 @@
-ghost use Rattle.std.specs.Prelude.{◌≡◌, ℕ, ◌<◌, ◌≤◌, List, length, if◌then◌else◌, Some, None, true, false};
+ghost use Rattle.std.specs.Prelude.{◌≡◌, ◌+◌, ℕ, ◌<◌, ◌≤◌, List, length, slice_get, unwrap_or, if◌then◌else◌, Some, None, true, false};
 ghost use Rattle.profile.specs.Halt.{is_addressed_to as names};
 ghost use Rattle.profile.specs.Header as meant;
 ghost use Rattle.envelope.specs.Legibility.{width};
 
 use crate::bytes::{is_padded, same, stripped};
+use profile::ISA_PLACES;
 use segments::{Delims, Who};
 use std::marker::Model;
 
@@ -27,6 +28,15 @@ impl<'a> Model for Isa<'a> {
     ghost invariant = { λ i. (106 ≤ length i.text.now) × (meant.is_unreadable i.text.now ≡ false) × (i.delims ≡ meant.delims_of i.text.now) };
 }
 
+// Where an element of ISA begins, and how wide it is.
+fn place(n: usize) -> (usize, usize)
+    requires { n < 17 }
+    ensures value { result ≡ unwrap_or (slice_get meant.places n) (0, 0) }
+    ensures within { result.0 + result.1 ≤ 105 }
+{
+    ISA_PLACES[n]
+}
+
 // The element of ISA at a place; 0 is the id.
 pub(crate) fn element(text: &[u8], n: usize) -> &[u8]
     requires long { 106 ≤ length text.now }
@@ -34,25 +44,8 @@ pub(crate) fn element(text: &[u8], n: usize) -> &[u8]
     ensures value { result.now ≡ meant.isa text.now n }
     ensures wide { length result.now ≡ width n }
 {
-    match n {
-        0 => &text[..3],
-        1 => &text[4..6],
-        2 => &text[7..17],
-        3 => &text[18..20],
-        4 => &text[21..31],
-        5 => &text[32..34],
-        6 => &text[35..50],
-        7 => &text[51..53],
-        8 => &text[54..69],
-        9 => &text[70..76],
-        10 => &text[77..81],
-        11 => &text[82..83],
-        12 => &text[84..89],
-        13 => &text[90..99],
-        14 => &text[100..101],
-        15 => &text[102..103],
-        _ => &text[104..105],
-    }
+    let (start, width) = place(n);
+    &text[start..start + width]
 }
 
 impl<'a> Isa<'a> {

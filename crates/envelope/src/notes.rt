@@ -8,21 +8,22 @@ ghost use Rattle.envelope.specs.Conditions as meant;
 use crate::bytes::{all_spaces, same};
 use crate::header::Isa;
 use elements::{Kind, Row, element_fault};
+use profile::{DATE_DIGITS, LEAST_TIME};
 use segments::{Delims, Who};
 
 // ISA09 behind the century, and ISA10: the rows that tell a date and a time of day.
 const DATE: Row = Row {
     is_mandatory: true,
     kind: Kind::Date,
-    least: 8,
-    most: 8,
+    least: DATE_DIGITS,
+    most: DATE_DIGITS,
 };
 
 const CLOCK: Row = Row {
     is_mandatory: true,
     kind: Kind::Time,
-    least: 4,
-    most: 4,
+    least: LEAST_TIME,
+    most: LEAST_TIME,
 };
 
 // Whether the six digits are a date of the years 2000 to 2099.

@@ -6,13 +6,8 @@ ghost use Rattle.envelope.specs.Legibility as parts;
 
 use crate::bytes::{all_digits, same};
 use crate::header::{Isa, Unreadable, element};
-use profile::MOST_BYTES;
+use profile::{ISA_BYTES, ISA_SEPARATORS, MOST_BYTES};
 use segments::Delims;
-
-// The offsets of the element separator in ISA.
-const SEPARATORS: [usize; 16] = [
-    3, 6, 17, 20, 31, 34, 50, 53, 69, 76, 81, 83, 89, 99, 101, 103,
-];
 
 // Whether the text begins as a header does.
 fn begins(text: &[u8]) -> bool
@@ -44,7 +39,9 @@ fn is_separated(delims: &Delims, text: &[u8]) -> bool
     ensures { result ≡ list_all (λ k. slice_index text.now k == delims.now.separator) meant.separator_offsets }
 {
     let separator = delims.separator();
-    SEPARATORS.iter().all(|k| byte_at(text, *k) == separator)
+    ISA_SEPARATORS
+        .iter()
+        .all(|k| byte_at(text, *k) == separator)
 }
 
 // Whether ISA01 to ISA15 are data: ISA16 is a delimiter.
@@ -83,7 +80,7 @@ fn is_begun(text: &[u8]) -> bool
     ensures test { result ≡ parts.is_begun text.now }
     ensures long { result ≡ true → 106 ≤ length text.now }
 {
-    text.len() <= MOST_BYTES && text.len() >= 106 && begins(text)
+    text.len() <= MOST_BYTES && text.len() >= ISA_BYTES && begins(text)
 }
 
 // Whether all bytes are what they may be.
@@ -100,7 +97,7 @@ fn is_filled(delims: &Delims, text: &[u8]) -> bool
     if !all_digits(element(text, 13)) {
         return false;
     }
-    is_legible(delims, &text[106..])
+    is_legible(delims, &text[ISA_BYTES..])
 }
 
 // The delimiters of a text that can be read.

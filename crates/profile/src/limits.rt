@@ -38,3 +38,21 @@ pub const LEAST_PARTNER: usize = 2;
 
 /// The most bytes of a partner's id: the width of ISA06 and ISA08, which spaces fill.
 pub const MOST_PARTNER: usize = 15;
+
+/// The most parties of a set: N1, each with its N3 and N4.
+pub const MOST_PARTIES: u8 = 5;
+
+/// The most references of a set: N9 before its lines.
+pub const MOST_REFERENCES: u8 = 5;
+
+/// The most dates of a set: G62.
+pub const MOST_DATES: u8 = 2;
+
+/// The most sets that an acknowledgment tells: AK2.
+pub const MOST_TOLD_SETS: u16 = 999;
+
+/// The most segments that are told of a set: AK3.
+pub const MOST_TOLD_SEGMENTS: u8 = 99;
+
+/// The most elements that are told of a segment: AK4.
+pub const MOST_TOLD_ELEMENTS: u8 = 99;

@@ -4,12 +4,9 @@ ghost use Rattle.profile.specs.Reports as meant;
 
 use crate::columns::{append_left, append_right};
 use itoa::Buffer;
-use profile::{MOST_ITEM, MOST_LOT};
+use profile::{AMOUNT_COLUMN, MOST_ITEM, MOST_LOT};
 use std::alloc::{AllocError, Global};
 use store::StockRow;
-
-// The width of an amount.
-const AMOUNT: usize = 15;
 
 // Appends the columns of an amount each, with a space before each.
 fn append_amounts(out: &mut Vec<u8>, amounts: &[&[u8]]) -> Result<(), AllocError>
@@ -17,7 +14,7 @@ fn append_amounts(out: &mut Vec<u8>, amounts: &[&[u8]]) -> Result<(), AllocError
 {
     for amount in amounts {
         out.push(b' ')?;
-        append_right(out, amount, AMOUNT)?;
+        append_right(out, amount, AMOUNT_COLUMN)?;
     }
     Ok(())
 }

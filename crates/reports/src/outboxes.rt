@@ -3,18 +3,16 @@ ghost use Rattle.profile.specs.Reports as meant;
 
 use crate::columns::append_right;
 use itoa::Buffer;
+use profile::NUMBER_COLUMN;
 use std::alloc::{AllocError, Global};
 use store::OutRow;
-
-// The width of an entry's number.
-const NUMBER: usize = 6;
 
 // Appends the line of a row.
 fn append_row(out: &mut Vec<u8>, row: &OutRow) -> Result<(), AllocError>
     ensures { OnOk result (out.new.items ≡ out.old.items ++ meant.outbox_line row.now) }
 {
     let mut number = Buffer::new();
-    append_right(out, number.format(row.n).as_bytes(), NUMBER)?;
+    append_right(out, number.format(row.n).as_bytes(), NUMBER_COLUMN)?;
     out.push(b' ')?;
     out.extend_from_slice(row.kind.text())?;
     out.push(b' ')?;

@@ -8,13 +8,10 @@ ghost use Rattle.stock.specs.Shows.{Shows};
 
 use crate::columns::{append_left, append_right};
 use itoa::Buffer;
-use profile::{MOST_ITEM, MOST_LOT};
+use profile::{MOST_ITEM, MOST_LOT, QUANTITY_COLUMN};
 use sets_in::{Address, Line};
 use std::alloc::{AllocError, Global};
 use stock::{KnownLine, KnownOrder, Page};
-
-// The width of a quantity.
-const QUANTITY: usize = 6;
 
 /// Why there is no picking sheet.
 #[derive(Clone, Copy, Debug, PartialEq, Eq)]
@@ -86,7 +83,7 @@ fn append_line(out: &mut Vec<u8>, item: &[u8], lot: &[u8], quantity: u32) -> Res
     out.push(b' ')?;
     append_left(out, lot, MOST_LOT)?;
     out.push(b' ')?;
-    append_right(out, buffer.format(quantity).as_bytes(), QUANTITY)?;
+    append_right(out, buffer.format(quantity).as_bytes(), QUANTITY_COLUMN)?;
     out.push(b'\n')?;
     Ok(())
 }

@@ -7,3 +7,10 @@ pub mod Subjects
 pub mod Decides
 pub mod Lists
 pub mod Performs
+pub mod ReadBack
+pub mod Plays
+pub mod Follows
+pub mod Rowed
+pub mod Led
+pub mod Leading
+pub mod Tables

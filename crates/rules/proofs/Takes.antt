@@ -13,12 +13,13 @@ use Rattle.profile.specs.Events.{Event}
 use Rattle.profile.specs.History.{Rejection, Verdict, event_of, by_segment, judged, outcome_of, verdicts_on}
 use Rattle.profile.specs.Texts.{ToldSet, told_set}
 use Rattle.stock.specs.Pages.{PageFacts}
+use Rattle.stock.specs.Puts.{put}
 use Rattle.stock.specs.Shows.{Shows}
 use Rattle.stock.specs.declared.steps.Step.{Step}
 use Rattle.tables.specs.Judged.{IsClosed}
 use Rattle.rules.specs.declared.judging.Verdict.{Verdict as Settled}
 use Rattle.rules.specs.declared.judging.Verdict.TheVariants.{Passed, Rejected}
-use Rattle.rules.specs.Judging.{passed, IsVerdict, IsOnTime, AreTaken}
+use Rattle.rules.specs.Judging.{passed, IsVerdict, AreTaken}
 use Rattle.rules.proofs.Verdicts.{verdicts_append}
 
 abbrev Examined : Type 0
@@ -164,18 +165,18 @@ pieces_closed ps s fault same framed closed none = ap (λ (ss : List Segment). e
 
 -- a set whose verdict is known, by the pieces that it holds
 abbrev IsJudgedAs : (d : Delims) (kind : SetKind) (p : PageFacts) (ps : List Piece) (v : Settled) → Type 0
-IsJudgedAs d kind p ps v = (e : Delims) → AreOf e ps → (es : List Event) → Shows p es → IsVerdict es (by_segment (judged e es (p.entries + 1) kind (segments_of ps))) v
+IsJudgedAs d kind p ps v = (e : Delims) → AreOf e ps → (es : List Event) → Shows p es → IsVerdict p es (by_segment (judged e es (p.entries + 1) kind (segments_of ps))) v
 
 pub take_passed : (d : Delims) (kind : SetKind) (p : PageFacts) (ps : List Piece) (s : Set) (fault : Option ℕ) (v : Settled) (step : Step) (page : PageFacts) (told : ToldSet)
-    → segments_of ps ≡ s.segments → AreOf d ps → fault ≡ None → IsJudgedAs d kind p ps v → IsOnTime p v → v ≡ Passed step → page ≡ step.page → told ≡ told_as s None
+    → segments_of ps ≡ s.segments → AreOf d ps → fault ≡ None → IsJudgedAs d kind p ps v → v ≡ Passed step → page ≡ put step.changes.items p → told ≡ told_as s None
     → AreTaken d (Some kind) ((s, fault) ∷ []) p page (told ∷ [])
-take_passed d kind p ps s fault v step page told same of none is time passes here shown =
-    let t : IsOnTime p (Passed step) = subst (IsOnTime p) passes time in
-    let all : AreTaken d (Some kind) ((s, None) ∷ []) p step.page (told ∷ []) = taken_judged d kind p step.page s told
-    (λ es shows. let w : IsVerdict es (by_segment (judged d es (p.entries + 1) kind (segments_of ps))) (Passed step) =
-    subst (λ (x : Settled). IsVerdict es (by_segment (judged d es (p.entries + 1) kind (segments_of ps))) x) passes (is d of es shows) in
+take_passed d kind p ps s fault v step page told same of none is passes here shown =
+    let q = put step.changes.items p in
+    let all : AreTaken d (Some kind) ((s, None) ∷ []) p q (told ∷ []) = taken_judged d kind p q s told
+    (λ es shows. let w : IsVerdict p es (by_segment (judged d es (p.entries + 1) kind (segments_of ps))) (Passed step) =
+    subst (λ (x : Settled). IsVerdict p es (by_segment (judged d es (p.entries + 1) kind (segments_of ps))) x) passes (is d of es shows) in
     (w.0, ap (λ (ss : List Segment). by_segment (judged d es (p.entries + 1) kind ss)) (sym same) ∙ w.1, w.2))
-    shown t.0 t.1 in
+    shown refl refl in
     rw (none, here) all
 
 pub take_rejected : (d : Delims) (kind : SetKind) (p : PageFacts) (ps : List Piece) (s : Set) (fault : Option ℕ) (v : Settled) (r : Rejection) (page : PageFacts) (told : ToldSet)
@@ -184,5 +185,5 @@ pub take_rejected : (d : Delims) (kind : SetKind) (p : PageFacts) (ps : List Pie
 take_rejected d kind p ps s fault v r page told same of none is rejects here shown =
     let all : AreTaken d (Some kind) ((s, None) ∷ []) p p (told ∷ []) = taken_faulty d kind p s r told
     (λ es shows. ap (λ (ss : List Segment). by_segment (judged d es (p.entries + 1) kind ss)) (sym same)
-    ∙ subst (λ (x : Settled). IsVerdict es (by_segment (judged d es (p.entries + 1) kind (segments_of ps))) x) rejects (is d of es shows)) shown in
+    ∙ subst (λ (x : Settled). IsVerdict p es (by_segment (judged d es (p.entries + 1) kind (segments_of ps))) x) rejects (is d of es shows)) shown in
     rw (none, here) all

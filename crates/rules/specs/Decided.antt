@@ -1,13 +1,15 @@
 -- What a page and what is known stand for, and the decision on a command.
-use Rattle.std.specs.Prelude.{ℕ, ◌≡◌, ◌+◌, List, Option, Some, None}
+use Rattle.std.specs.Prelude.{ℕ, ◌≡◌, ◌+◌, List, [], Option, Some, None}
 use Rattle.std.specs.Borrow.{Bor}
 use Rattle.profile.specs.Moments.{Moment}
 use Rattle.profile.specs.Register as meant
-use Rattle.profile.specs.History.{History}
+use Rattle.profile.specs.History.{History, after_entry}
 use Rattle.profile.specs.Reply as replies
 use Rattle.profile.specs.Decision as known
 use Rattle.profile.specs.Accepted.{entry_of, depositor_of}
-use Rattle.stock.specs.Pages.{PageFacts}
+use Rattle.stock.specs.Pages.{PageFacts, next_entry}
+use Rattle.stock.specs.Puts.{put}
+use Rattle.stock.specs.declared.steps.Change.{Change}
 use Rattle.stock.specs.Shows.{Shows}
 use Rattle.rules.specs.Told.{refusal_of}
 use Rattle.rules.specs.Written.{Recalled, written_as, unnumbered}
@@ -73,6 +75,26 @@ abbrev pub IsReply : ℕ → meant.Command → Moment → replies.Reply → Deci
 IsReply n c t reply (Stored text) = reply ≡ replies.Stored text.items
 IsReply n c t reply (Refused refusal text) = reply ≡ replies.Refused (refusal_of refusal) text.items
 IsReply n c t reply (Accepted e changes text) = (reply ≡ replies.Accepted text.items) × (e ≡ written_as (number_behind n c) (entry_of c t))
+
+-- a page with changes put in, when the entry ends
+abbrev pub led_to : List Change → PageFacts → PageFacts
+led_to cs p = next_entry (put cs p)
+
+-- the changes of an accepted command lead from the page of a history to that of the history with the command's entry
+abbrev pub LeadsOn : PageFacts → meant.Command → Moment → Decision → Type 0
+LeadsOn p c t (Stored text) = Unit {0}
+LeadsOn p c t (Refused r text) = Unit {0}
+LeadsOn p c t (Accepted e changes text) = (h : History) → IsPageOf p h → IsPageOf (led_to changes.items p) (after_entry h (entry_of c t))
+
+-- a depositor that enrols has no page, and nothing changes on one
+abbrev pub ChangesNothing : Decision → Type 0
+ChangesNothing (Stored text) = Unit {0}
+ChangesNothing (Refused r text) = Unit {0}
+ChangesNothing (Accepted e changes text) = changes.items ≡ []
+
+abbrev pub LeadsFrom : Option (Bor PageFacts) → meant.Command → Moment → Decision → Type 0
+LeadsFrom None c t d = ChangesNothing d
+LeadsFrom (Some p) c t d = LeadsOn p.now c t d
 
 -- no entry comes of it
 abbrev pub IsNoEntry : Decision → Type 0

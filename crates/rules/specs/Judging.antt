@@ -1,5 +1,5 @@
 -- What sets and groups come to over a page: for each list of events that the page stands for.
-use Rattle.std.specs.Prelude.{ℕ, ◌≡◌, ◌+◌, ◌≤◌, List, [], ◌∷◌, ◌++◌, length, map, sum_by, flat_map, filter_map, if◌then◌else◌, Bool, not, bytes_eq, codes, Option, Some, Result, Ok, Err}
+use Rattle.std.specs.Prelude.{ℕ, ◌≡◌, ◌+◌, ◌≤◌, List, [], ◌∷◌, ◌++◌, length, map, fold, sum_by, flat_map, filter_map, if◌then◌else◌, Bool, not, bytes_eq, codes, Option, Some, Result, Ok, Err}
 use Rattle.profile.specs.Bytes.{Delims}
 use Rattle.profile.specs.Words.{SetKind}
 use Rattle.profile.specs.Cut.{Segment, element}
@@ -10,7 +10,9 @@ use Rattle.profile.specs.History.{Rejection, Verdict as Told, event_of, verdicts
 use Rattle.profile.specs.Texts.{ToldSet, Told as ToldGroup, told_set, told_of, stated_sets, answered}
 use Rattle.sets_in.specs.Amounts.{IsAmount}
 use Rattle.tables.specs.Judged.{told}
-use Rattle.stock.specs.Pages.{PageFacts}
+use Rattle.stock.specs.Pages.{PageFacts, IsSound}
+use Rattle.stock.specs.Puts.{put, put_change}
+use Rattle.stock.specs.declared.steps.Change.{Change}
 use Rattle.stock.specs.Shows.{Shows}
 use Rattle.stock.specs.declared.steps.Stop.{Stop}
 use Rattle.stock.specs.declared.steps.Stop.TheVariants as stopped
@@ -27,14 +29,19 @@ IsStop outcome (stopped.Set f) = outcome ≡ Err (told f)
 IsStop outcome (stopped.Refused n) = ⊥
 IsStop outcome stopped.OutOfMemory = Unit {0}
 
--- what a judged set came to
-abbrev pub IsVerdict : List Event → Result Event Rejection → Verdict → Type 0
-IsVerdict es outcome (Passed step) = (e : Event) × (outcome ≡ Ok e) × Shows step.page (es ++ e ∷ [])
-IsVerdict es outcome (Rejected r) = outcome ≡ Err r
+-- what a judged set came to over a page
+abbrev pub IsVerdict : PageFacts → List Event → Result Event Rejection → Verdict → Type 0
+IsVerdict p es outcome (Passed step) = (e : Event) × (outcome ≡ Ok e) × Shows (put step.changes.items p) (es ++ e ∷ [])
+IsVerdict p es outcome (Rejected r) = outcome ≡ Err r
 
-abbrev pub IsOnTime : PageFacts → Verdict → Type 0
-IsOnTime old (Passed step) = (step.page.entries ≡ old.entries) × (step.page.recent ≡ old.recent + 1)
-IsOnTime old (Rejected r) = Unit {0}
+-- the step can be put into the page
+abbrev pub CanBePut : PageFacts → Verdict → Type 0
+CanBePut p (Passed step) = IsSound (put step.changes.items p)
+CanBePut p (Rejected r) = Unit {0}
+
+-- what changes lead to in the same entry, however many events they are of
+abbrev pub IsLed : List Change → PageFacts → PageFacts → Type 0
+IsLed cs old new = new ≡ record (fold put_change old cs) { entries = old.entries; recent = new.recent }
 
 -- the events of verdicts, and of tellings
 abbrev pub passed : List Told → List Event

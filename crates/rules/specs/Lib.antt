@@ -4,3 +4,6 @@ pub mod Asked
 pub mod Judging
 pub mod Decided
 pub mod Documents
+pub mod Likely
+pub mod Played
+pub mod Tabled

@@ -5,15 +5,17 @@ ghost use Rattle.profile.specs.Decision as recalled;
 ghost use Rattle.profile.specs.Events.{Event};
 ghost use Rattle.profile.specs.Header.{Who};
 ghost use Rattle.profile.specs.Moments.{Moment};
-ghost use Rattle.profile.specs.History.{History};
+ghost use Rattle.profile.specs.History.{History, after_entry};
 ghost use Rattle.profile.specs.Register as register;
 ghost use Rattle.profile.specs.Reply as replies;
+ghost use Rattle.stock.specs.Pages.{IsSound};
+ghost use Rattle.stock.specs.Puts.{put};
 ghost use Rattle.stock.specs.Shows.{Shows};
 ghost use Rattle.stock.specs.Stops.{StopsAct};
 ghost use Rattle.rules.specs.Asked.{act_of};
 ghost use Rattle.rules.specs.Told.{refusal_of, numbered};
 ghost use Rattle.rules.specs.Written.{written_as};
-ghost use Rattle.rules.specs.Decided.{IsNoEntry, Makes, IsPageOf, IsEntry, IsRecalled, IsUnder, IsReply};
+ghost use Rattle.rules.specs.Decided.{IsNoEntry, Makes, IsPageOf, IsEntry, IsRecalled, IsUnder, IsReply, LeadsOn, led_to};
 
 use crate::commands::{Act, Key};
 use crate::decisions::Decision;
@@ -25,13 +27,13 @@ use sets_out::Envelope;
 use std::alloc::{AllocError, Global};
 use stock::{Change, Page, Step, Stop, pick, receive, recount};
 
-/// The page with an act's event.
+/// What an act's event changes on the page.
 pub(crate) fn perform(alloc: Global, page: &Page, act: &Act<'_>) -> Result<Step, Stop>
     requires { page.now.recent < 1000 }
     ensures ok { IfOk result (λ step. (es : List Event) → Shows page.now es
-        → (e : Event) × (performed es (page.now.entries + 1) (act_of act.now) ≡ Ok e) × Shows step.page (es ++ e ∷ [])) }
+        → (e : Event) × (performed es (page.now.entries + 1) (act_of act.now) ≡ Ok e) × Shows (put step.changes.items page.now) (es ++ e ∷ [])) }
     ensures err { IfErr result (λ stop. (es : List Event) → Shows page.now es → StopsAct (performed es (page.now.entries + 1) (act_of act.now)) stop) }
-    ensures entries { IfOk result (λ step. step.page.entries ≡ page.now.entries) }
+    ensures sound { IfOk result (λ step. IsSound (put step.changes.items page.now)) }
 {
     match act {
         Act::Count { shipment, sheet } => receive(alloc, page, shipment, sheet),
@@ -95,8 +97,11 @@ fn accepted(
     act: &Act<'_>,
     changes: Vec<Change>,
 ) -> Result<Decision, AllocError>
-    requires { envelope.now.number ≡ page.now.entries + 1 }
+    requires number { envelope.now.number ≡ page.now.entries + 1 }
+    requires led { (h : History) → IsPageOf page.now h
+        → IsPageOf (led_to changes.items page.now) (after_entry h (replies.clerk_entry envelope.now.depositor ticket.now (act_of act.now) envelope.now.moment)) }
     ensures comes { IfOk result (Makes (register.Clerk envelope.now.depositor ticket.now (act_of act.now)) envelope.now.moment) }
+    ensures leads { IfOk result (LeadsOn page.now (register.Clerk envelope.now.depositor ticket.now (act_of act.now)) envelope.now.moment) }
     ensures reply { IfOk result (λ d. (h : History) (e : Event) → IsPageOf page.now h → performed h.events (page.now.entries + 1) (act_of act.now) ≡ Ok e
         → IsReply page.now.entries (register.Clerk envelope.now.depositor ticket.now (act_of act.now)) envelope.now.moment
         (recalled.accepted_by envelope.now.warehouse h (replies.clerk_entry envelope.now.depositor ticket.now (act_of act.now) envelope.now.moment)) d) }
@@ -124,6 +129,7 @@ fn fresh(
     requires number { envelope.now.number ≡ page.now.entries + 1 }
     requires rest { page.now.recent ≡ 0 }
     ensures comes { IfOk result (Makes (register.Clerk envelope.now.depositor ticket.now (act_of act.now)) envelope.now.moment) }
+    ensures leads { IfOk result (LeadsOn page.now (register.Clerk envelope.now.depositor ticket.now (act_of act.now)) envelope.now.moment) }
     ensures reply { IfOk result (λ d. (h : History) → IsPageOf page.now h
         → IsReply page.now.entries (register.Clerk envelope.now.depositor ticket.now (act_of act.now)) envelope.now.moment
         (recalled.act_new envelope.now.warehouse h (replies.clerk_entry envelope.now.depositor ticket.now (act_of act.now) envelope.now.moment) (act_of act.now)) d) }
@@ -161,6 +167,7 @@ pub(crate) fn clerk(
     requires number { envelope.now.number ≡ page.now.entries + 1 }
     requires rest { page.now.recent ≡ 0 }
     ensures comes { IfOk result (Makes (register.Clerk envelope.now.depositor ticket.now (act_of act.now)) envelope.now.moment) }
+    ensures leads { IfOk result (LeadsOn page.now (register.Clerk envelope.now.depositor ticket.now (act_of act.now)) envelope.now.moment) }
     ensures reply { IfOk result (λ d. (h : History) (k : Option recalled.Recalled) → IsPageOf page.now h → IsRecalled (option_copied known.entry) k → IsUnder (register.ticket_mark ticket.now) k
         → IsReply page.now.entries (register.Clerk envelope.now.depositor ticket.now (act_of act.now)) envelope.now.moment
         (recalled.clerk_by envelope.now.warehouse (Some h) k envelope.now.depositor ticket.now (act_of act.now) envelope.now.moment) d) }

@@ -5,7 +5,7 @@ ghost use Rattle.profile.specs.Reply.{enrolment_entry};
 ghost use Rattle.rules.specs.Asked.{act_of, asked};
 ghost use Rattle.profile.specs.Header.{Who as Partner};
 ghost use Rattle.profile.specs.Register as register;
-ghost use Rattle.rules.specs.Decided.{Makes, IsAtRest, IsGiven, StandsFor, IsReply, entries_of};
+ghost use Rattle.rules.specs.Decided.{Makes, IsAtRest, IsGiven, StandsFor, IsReply, LeadsFrom, entries_of};
 ghost use Rattle.rules.specs.Written.{written_as};
 
 use crate::acts::clerk;
@@ -58,6 +58,7 @@ fn enrol(
     moment: Moment,
 ) -> Result<Decision, AllocError>
     ensures comes { IfOk result (Makes (register.Enrol who) moment) }
+    ensures leads { IfOk result (LeadsFrom page.entry (register.Enrol who) moment) }
     ensures reply { IfOk result (λ d. (h : Option History) (k : Option meant.Recalled) (W : Partner) → StandsFor page.entry h
         → IsReply (entries_of page.entry) (register.Enrol who) moment (meant.reply_by W h k (register.Enrol who) moment) d) }
 {
@@ -84,6 +85,7 @@ fn perform(
 ) -> Result<Decision, AllocError>
     requires { IsAtRest page }
     ensures comes { IfOk result (Makes (register.Clerk who ticket.now (act_of act.now)) moment) }
+    ensures leads { IfOk result (LeadsFrom page.entry (register.Clerk who ticket.now (act_of act.now)) moment) }
     ensures reply { IfOk result (λ d. (h : Option History) (k : Option meant.Recalled) → IsGiven page.entry (option_copied known.entry) (register.Clerk who ticket.now (act_of act.now)) h k
         → IsReply (entries_of page.entry) (register.Clerk who ticket.now (act_of act.now)) moment (meant.clerk_by warehouse.now h k who ticket.now (act_of act.now) moment) d) }
 {
@@ -111,6 +113,7 @@ pub fn decide(
 ) -> Result<Decision, AllocError>
     requires { IsAtRest page }
     ensures comes { IfOk result (Makes (asked command.now) moment) }
+    ensures leads { IfOk result (LeadsFrom page.entry (asked command.now) moment) }
     ensures reply { IfOk result (λ d. (h : Option History) (k : Option meant.Recalled) → IsGiven page.entry (option_copied known.entry) (asked command.now) h k
         → IsReply (entries_of page.entry) (asked command.now) moment (meant.reply_by warehouse.now h k (asked command.now) moment) d) }
 {

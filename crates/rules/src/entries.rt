@@ -1,4 +1,5 @@
-ghost use Rattle.std.specs.Prelude.{◌≡◌, ◌&&◌, nat_lt, bytes_eq, IfOk};
+ghost use Rattle.std.specs.Prelude.{◌≡◌, ◌&&◌, ◌==◌, nat_lt, bytes_eq, codes, IfOk};
+ghost use Rattle.std.specs.List.{starts_with};
 ghost use Rattle.profile.specs.Header.{who_eq};
 ghost use Rattle.rules.specs.Written.{Written};
 
@@ -79,8 +80,10 @@ impl Entry {
     }
 
     /// Whether the entry is that of a clerk's act: its key is `T` and the ticket.
-    pub(crate) fn is_ticketed(&self) -> bool {
-        self.key.first() == Some(&b'T')
+    pub(crate) fn is_ticketed(&self) -> bool
+        ensures { result ≡ starts_with (λ a b. a == b) self.now.key (codes "T") }
+    {
+        self.key.starts_with(b"T")
     }
 
     /// A copy of it.

@@ -11,7 +11,7 @@ ghost use Rattle.profile.specs.Cut.{cut};
 ghost use Rattle.profile.specs.Header.{delims_of};
 ghost use Rattle.profile.specs.Structure.{groups_of};
 ghost use Rattle.envelope.specs.Conditions.{IsTold};
-ghost use Rattle.rules.specs.Decided.{IsNoEntry, Makes, IsPageOf, IsEntry, IsGiven, IsReply, IsAtRest, entries_of};
+ghost use Rattle.rules.specs.Decided.{IsNoEntry, Makes, IsPageOf, IsEntry, IsGiven, IsReply, IsAtRest, LeadsOn, LeadsFrom, entries_of};
 
 use crate::answers::{answer, refusal};
 use crate::commands::Key;
@@ -99,6 +99,7 @@ fn accepted(
     requires rest { page.now.recent ≡ 0 }
     requires whose { envelope.depositor ≡ sender text.now }
     ensures comes { IfOk result (Makes (register.Interchange text.now) envelope.moment) }
+    ensures leads { IfOk result (LeadsOn page.now (register.Interchange text.now) envelope.moment) }
     ensures reply { IfOk result (λ d. (h : History) → IsPageOf page.now h
         → IsReply page.now.entries (register.Interchange text.now) envelope.moment (recalled.accepted_by envelope.warehouse h (replies.interchange_entry text.now envelope.moment)) d) }
 {
@@ -147,6 +148,7 @@ fn fresh(
     requires rest { page.now.recent ≡ 0 }
     requires whose { who ≡ sender text.now }
     ensures comes { IfOk result (Makes (register.Interchange text.now) moment) }
+    ensures leads { IfOk result (LeadsOn page.now (register.Interchange text.now) moment) }
     ensures reply { IfOk result (λ d. (h : History) → IsPageOf page.now h
         → IsReply page.now.entries (register.Interchange text.now) moment (recalled.interchange_new warehouse.now h text.now moment (recalled.new_note warehouse.now text.now)) d) }
 {
@@ -178,6 +180,7 @@ fn readable(
     requires same { header.now ≡ text.now }
     requires rest { IsAtRest page }
     ensures comes { IfOk result (Makes (register.Interchange text.now) moment) }
+    ensures leads { IfOk result (LeadsFrom page.entry (register.Interchange text.now) moment) }
     ensures reply { IfOk result (λ d. (h : Option History) (k : Option recalled.Recalled) → IsGiven page.entry (option_copied known.entry) (register.Interchange text.now) h k
         → IsReply (entries_of page.entry) (register.Interchange text.now) moment (recalled.interchange_known warehouse.now h k text.now moment) d) }
 {
@@ -203,6 +206,7 @@ pub(crate) fn interchange(
 ) -> Result<Decision, AllocError>
     requires { IsAtRest page }
     ensures comes { IfOk result (Makes (register.Interchange text.now) moment) }
+    ensures leads { IfOk result (LeadsFrom page.entry (register.Interchange text.now) moment) }
     ensures reply { IfOk result (λ d. (h : Option History) (k : Option recalled.Recalled) → IsGiven page.entry (option_copied known.entry) (register.Interchange text.now) h k
         → IsReply (entries_of page.entry) (register.Interchange text.now) moment (recalled.interchange_by warehouse.now h k text.now moment) d) }
 {

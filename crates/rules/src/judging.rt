@@ -5,10 +5,12 @@ ghost use Rattle.profile.specs.Bytes.{Delims as Delimiters};
 ghost use Rattle.profile.specs.Events.{Event};
 ghost use Rattle.profile.specs.History as meant;
 ghost use Rattle.profile.specs.Words as kinds;
+ghost use Rattle.stock.specs.Pages.{IsSound};
+ghost use Rattle.stock.specs.Puts.{put};
 ghost use Rattle.stock.specs.Shows.{Shows};
 ghost use Rattle.tables.specs.Judged.{IsClosed, told};
 ghost use Rattle.tables.specs.Kinds.{kind_of};
-ghost use Rattle.rules.specs.Judging.{IsStep, IsStop, IsVerdict, IsOnTime};
+ghost use Rattle.rules.specs.Judging.{IsStep, IsStop, IsVerdict, CanBePut};
 
 use segments::Segment;
 use sets_in::{ack, advice, order};
@@ -20,7 +22,7 @@ use tables::{Checked, SetFault, SetKind, judge};
 /// What a set came to.
 #[derive(Drop)]
 pub(crate) enum Verdict<'a> {
-    /// It passed: the page with its event.
+    /// It passed: what its event changes on the page.
     Passed(Step),
     /// It is rejected, and the page is as before.
     Rejected(Rejection<'a>),
@@ -49,10 +51,9 @@ fn in_segment<'a>(fault: &SetFault<'a>) -> Rejection<'a>
 fn advised(alloc: Global, page: &Page, set: &Checked<'_>) -> Result<Step, Stop>
     requires kind { set.now.kind ≡ kinds.ShipmentAdvice }
     requires room { page.now.recent < 1000 }
-    ensures ok { IfOk result (λ step. (es : List Event) → Shows page.now es → IsStep es (meant.traded es (page.now.entries + 1) set.now.kind (segments_of set.now.pieces)) step.page) }
+    ensures ok { IfOk result (λ step. (es : List Event) → Shows page.now es → IsStep es (meant.traded es (page.now.entries + 1) set.now.kind (segments_of set.now.pieces)) (put step.changes.items page.now)) }
     ensures err { IfErr result (λ stop. (es : List Event) → Shows page.now es → IsStop (meant.traded es (page.now.entries + 1) set.now.kind (segments_of set.now.pieces)) stop) }
-    ensures entries { IfOk result (λ step. step.page.entries ≡ page.now.entries) }
-    ensures recent { IfOk result (λ step. step.page.recent ≡ page.now.recent + 1) }
+    ensures sound { IfOk result (λ step. IsSound (put step.changes.items page.now)) }
 {
     let advice = advice(alloc, set)?;
     announce(alloc, page, &advice)
@@ -62,10 +63,9 @@ fn advised(alloc: Global, page: &Page, set: &Checked<'_>) -> Result<Step, Stop>
 fn ordered(alloc: Global, page: &Page, set: &Checked<'_>) -> Result<Step, Stop>
     requires kind { set.now.kind ≡ kinds.ShippingOrder }
     requires room { page.now.recent < 1000 }
-    ensures ok { IfOk result (λ step. (es : List Event) → Shows page.now es → IsStep es (meant.traded es (page.now.entries + 1) set.now.kind (segments_of set.now.pieces)) step.page) }
+    ensures ok { IfOk result (λ step. (es : List Event) → Shows page.now es → IsStep es (meant.traded es (page.now.entries + 1) set.now.kind (segments_of set.now.pieces)) (put step.changes.items page.now)) }
     ensures err { IfErr result (λ stop. (es : List Event) → Shows page.now es → IsStop (meant.traded es (page.now.entries + 1) set.now.kind (segments_of set.now.pieces)) stop) }
-    ensures entries { IfOk result (λ step. step.page.entries ≡ page.now.entries) }
-    ensures recent { IfOk result (λ step. step.page.recent ≡ page.now.recent + 1) }
+    ensures sound { IfOk result (λ step. IsSound (put step.changes.items page.now)) }
 {
     let order = order(alloc, set)?;
     reserve(alloc, page, &order)
@@ -75,10 +75,9 @@ fn ordered(alloc: Global, page: &Page, set: &Checked<'_>) -> Result<Step, Stop>
 fn acknowledged(alloc: Global, page: &Page, set: &Checked<'_>) -> Result<Step, Stop>
     requires kind { set.now.kind ≡ kinds.FunctionalAcknowledgment }
     requires room { page.now.recent < 1000 }
-    ensures ok { IfOk result (λ step. (es : List Event) → Shows page.now es → IsStep es (meant.traded es (page.now.entries + 1) set.now.kind (segments_of set.now.pieces)) step.page) }
+    ensures ok { IfOk result (λ step. (es : List Event) → Shows page.now es → IsStep es (meant.traded es (page.now.entries + 1) set.now.kind (segments_of set.now.pieces)) (put step.changes.items page.now)) }
     ensures err { IfErr result (λ stop. (es : List Event) → Shows page.now es → IsStop (meant.traded es (page.now.entries + 1) set.now.kind (segments_of set.now.pieces)) stop) }
-    ensures entries { IfOk result (λ step. step.page.entries ≡ page.now.entries) }
-    ensures recent { IfOk result (λ step. step.page.recent ≡ page.now.recent + 1) }
+    ensures sound { IfOk result (λ step. IsSound (put step.changes.items page.now)) }
 {
     let ack = ack(alloc, set)?;
     Ok(acknowledge(alloc, page, &ack)?)
@@ -87,10 +86,9 @@ fn acknowledged(alloc: Global, page: &Page, set: &Checked<'_>) -> Result<Step, S
 // The step of a set without a fault of its own, or its trade fault.
 fn traded(alloc: Global, page: &Page, set: &Checked<'_>) -> Result<Step, Stop>
     requires { page.now.recent < 1000 }
-    ensures ok { IfOk result (λ step. (es : List Event) → Shows page.now es → IsStep es (meant.traded es (page.now.entries + 1) set.now.kind (segments_of set.now.pieces)) step.page) }
+    ensures ok { IfOk result (λ step. (es : List Event) → Shows page.now es → IsStep es (meant.traded es (page.now.entries + 1) set.now.kind (segments_of set.now.pieces)) (put step.changes.items page.now)) }
     ensures err { IfErr result (λ stop. (es : List Event) → Shows page.now es → IsStop (meant.traded es (page.now.entries + 1) set.now.kind (segments_of set.now.pieces)) stop) }
-    ensures entries { IfOk result (λ step. step.page.entries ≡ page.now.entries) }
-    ensures recent { IfOk result (λ step. step.page.recent ≡ page.now.recent + 1) }
+    ensures sound { IfOk result (λ step. IsSound (put step.changes.items page.now)) }
 {
     match set.kind() {
         SetKind::ShipmentAdvice => advised(alloc, page, set),
@@ -102,8 +100,8 @@ fn traded(alloc: Global, page: &Page, set: &Checked<'_>) -> Result<Step, Stop>
 // What a set without a fault of its own came to.
 fn settled<'a>(alloc: Global, page: &Page, set: &Checked<'a>) -> Result<Verdict<'a>, AllocError>
     requires { page.now.recent < 1000 }
-    ensures value { IfOk result (λ v. (es : List Event) → Shows page.now es → IsVerdict es (meant.by_segment (meant.traded es (page.now.entries + 1) set.now.kind (segments_of set.now.pieces))) v) }
-    ensures time { IfOk result (IsOnTime page.now) }
+    ensures value { IfOk result (λ v. (es : List Event) → Shows page.now es → IsVerdict page.now es (meant.by_segment (meant.traded es (page.now.entries + 1) set.now.kind (segments_of set.now.pieces))) v) }
+    ensures fits { IfOk result (CanBePut page.now) }
 {
     match traded(alloc, page, set) {
         Ok(step) => Ok(Verdict::Passed(step)),
@@ -124,8 +122,8 @@ pub(crate) fn judged<'a>(
     requires closed { IsClosed segments.now }
     requires room { page.now.recent < 1000 }
     ensures value { IfOk result (λ v. (d : Delimiters) → AreOf d segments.now → (es : List Event) → Shows page.now es
-        → IsVerdict es (meant.by_segment (meant.judged d es (page.now.entries + 1) (kind_of kind) (segments_of segments.now))) v) }
-    ensures time { IfOk result (IsOnTime page.now) }
+        → IsVerdict page.now es (meant.by_segment (meant.judged d es (page.now.entries + 1) (kind_of kind) (segments_of segments.now))) v) }
+    ensures fits { IfOk result (CanBePut page.now) }
 {
     match judge(kind, segments) {
         Ok(set) => settled(alloc, page, &set),

@@ -11,6 +11,7 @@ mod entries;
 mod house;
 mod interchanges;
 mod judging;
+pub mod laws;
 mod readings;
 mod refusals;
 mod replays;

@@ -1,10 +1,16 @@
 //! Acts, read from their canonical texts.
-ghost use Rattle.std.specs.Prelude.{◌≡◌, IfOk, IfSome};
-ghost use Rattle.profile.specs.Register.{canonical};
+ghost use Rattle.std.specs.Prelude.{◌≡◌, IfOk, map, filter_map, option_map};
+ghost use Rattle.profile.specs.Clerk.{raw_line};
+ghost use Rattle.profile.specs.Readings as meant;
+ghost use Rattle.profile.specs.Readings.{parts_at};
 ghost use Rattle.rules.specs.Asked.{act_of, read_act};
+ghost use Rattle.rules.specs.Likely.{named_head, head_in, record_in, act_from, likely_act};
 
 use crate::commands::Act;
+use profile::MOST_NUMBER;
+use segments::Ident;
 use std::alloc::{AllocError, Global};
+use std::marker::Model;
 use stock::{Line, Sheet, SheetKind};
 
 /// An act that was read.
@@ -13,6 +19,21 @@ pub(crate) struct ReadAct<'a> {
     kind: SheetKind,
     number: &'a [u8],
     sheet: Sheet,
+}
+
+/// What was done, and to what: nothing of a recount.
+#[derive(Drop)]
+struct Head<'a> {
+    kind: SheetKind,
+    number: &'a [u8],
+}
+
+impl<'a> Model for Head<'a> {
+    ghost use Rattle.rules.specs.Likely.{Head};
+
+    ghost Value = { Head };
+
+    ghost view = { λ h. record { kind = h.kind; number = h.number.now } };
 }
 
 impl<'a> ReadAct<'a> {
@@ -34,28 +55,49 @@ impl<'a> ReadAct<'a> {
     }
 }
 
-// What stands before the first such byte, and what stands behind it.
-fn parted(text: &[u8], byte: u8) -> Option<(&[u8], &[u8])> {
-    let place = text.iter().position(|b| *b == byte)?;
-    Some((&text[..place], &text[place + 1..]))
+// The parts of a text between those bytes.
+fn parts<'a>(alloc: Global, text: &'a [u8], byte: u8) -> Result<Vec<&'a [u8]>, AllocError>
+    ensures { IfOk result (λ v. map (λ part. part.now) v.items ≡ parts_at byte text.now) }
+{
+    text.split(|b| *b == byte).collect(alloc)
 }
 
-// What was done, and to what, by the first line.
-fn head(line: &[u8]) -> Option<(SheetKind, &[u8])> {
-    match parted(line, b' ') {
-        Some((b"count", number)) => Some((SheetKind::Count, number)),
-        Some((b"pick", number)) => Some((SheetKind::Pick, number)),
-        Some(_) => None,
-        None => Some((SheetKind::Recount, b"")),
+// What was done, and to what, by a word and a number.
+fn named<'a>(word: &[u8], number: &'a [u8]) -> Option<Head<'a>>
+    ensures { result ≡ named_head word.now number.now }
+{
+    if Ident::new(number, MOST_NUMBER).is_none() {
+        return None;
+    }
+    let kind = if word == b"count".as_slice() {
+        SheetKind::Count
+    } else if word == b"pick".as_slice() {
+        SheetKind::Pick
+    } else {
+        return None;
+    };
+    Some(Head { kind, number })
+}
+
+// What was done, and to what, by the words of the first line.
+fn first_line<'a>(words: &[&'a [u8]]) -> Option<Head<'a>>
+    ensures { result ≡ head_in (map (λ word. word.now) words.now) }
+{
+    match *words {
+        [word, number] => named(word, number),
+        [_] => Some(Head {
+            kind: SheetKind::Recount,
+            number: b"",
+        }),
+        _ => None,
     }
 }
 
-// The line of a sheet that a text between two LF is: ITEM,LOT,QUANTITY.
-fn line(alloc: Global, text: &[u8]) -> Result<Option<Line>, AllocError> {
-    let Some((item, rest)) = parted(text, b',') else {
-        return Ok(None);
-    };
-    let Some((lot, quantity)) = parted(rest, b',') else {
+// The line of a sheet with these parts.
+fn line_of(alloc: Global, parts: &[&[u8]]) -> Result<Option<Line>, AllocError>
+    ensures { IfOk result (λ line. line ≡ raw_line (map (λ part. part.now) parts.now)) }
+{
+    let [item, lot, quantity] = *parts else {
         return Ok(None);
     };
     Ok(Some(Line::new(
@@ -65,45 +107,59 @@ fn line(alloc: Global, text: &[u8]) -> Result<Option<Line>, AllocError> {
     )))
 }
 
-// The lines of a sheet, each with its LF; nothing stands behind the last.
-fn lines(alloc: Global, text: &[u8]) -> Result<Option<Vec<Line>>, AllocError> {
+// The line of a sheet that a text between two LF is: ITEM,LOT,QUANTITY.
+fn line(alloc: Global, text: &[u8]) -> Result<Option<Line>, AllocError>
+    ensures { IfOk result (λ line. line ≡ record_in text.now) }
+{
+    let parts = parts(alloc, text, b',')?;
+    line_of(alloc, &parts)
+}
+
+// The lines of a sheet among these texts.
+fn lines(alloc: Global, texts: &[&[u8]]) -> Result<Vec<Line>, AllocError>
+    ensures { IfOk result (λ lines. lines.items ≡ filter_map record_in (map (λ text. text.now) texts.now)) }
+{
     let mut lines = Vec::new(alloc);
-    for piece in text.split(|b| *b == b'\n') {
-        if piece.is_empty() {
-            continue;
-        }
-        match line(alloc, piece)? {
-            Some(line) => lines.push(line)?,
-            None => return Ok(None),
+    for text in texts {
+        if let Some(line) = line(alloc, text)? {
+            lines.push(line)?;
         }
     }
-    Ok(Some(lines))
+    Ok(lines)
+}
+
+// The act of a head and of lines, where they make a sheet.
+fn made<'a>(head: Head<'a>, lines: Vec<Line>) -> Option<ReadAct<'a>>
+    ensures { option_map read_act result ≡ act_from lines.items head.entry }
+{
+    match Sheet::new(head.kind, lines) {
+        Ok(sheet) => Some(ReadAct {
+            kind: head.kind,
+            number: head.number,
+            sheet,
+        }),
+        Err(_) => None,
+    }
 }
 
 // The act that the text looks like.
-fn likely<'a>(alloc: Global, text: &'a [u8]) -> Result<Option<ReadAct<'a>>, AllocError> {
-    let Some((first, rest)) = parted(text, b'\n') else {
+fn likely<'a>(alloc: Global, text: &'a [u8]) -> Result<Option<ReadAct<'a>>, AllocError>
+    ensures { IfOk result (λ o. option_map read_act o ≡ likely_act text.now) }
+{
+    let texts = parts(alloc, text, b'\n')?;
+    let [first, rest @ ..] = texts.as_slice() else {
         return Ok(None);
     };
-    let Some((kind, number)) = head(first) else {
+    let words = parts(alloc, first, b' ')?;
+    let Some(head) = first_line(&words) else {
         return Ok(None);
     };
-    let Some(lines) = lines(alloc, rest)? else {
-        return Ok(None);
-    };
-    match Sheet::new(kind, lines) {
-        Ok(sheet) => Ok(Some(ReadAct {
-            kind,
-            number,
-            sheet,
-        })),
-        Err(_) => Ok(None),
-    }
+    Ok(made(head, lines(alloc, rest)?))
 }
 
 /// The act of which the text is the canonical one, if there is one. Want of memory is the one error.
 pub(crate) fn read<'a>(alloc: Global, text: &'a [u8]) -> Result<Option<ReadAct<'a>>, AllocError>
-    ensures { IfOk result (λ o. IfSome o (λ act. canonical (read_act act) ≡ text.now)) }
+    ensures { IfOk result (λ o. option_map read_act o ≡ meant.act_of text.now) }
 {
     let Some(read) = likely(alloc, text)? else {
         return Ok(None);

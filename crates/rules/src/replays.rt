@@ -1,12 +1,31 @@
 //! What an entry of the register came to.
-ghost use Rattle.std.specs.Prelude.{◌≡◌, ◌≤◌, ◌<◌, ◌+◌, IfOk, length, sum_by};
-ghost use Rattle.std.specs.List.{AllByRecursion};
-ghost use Rattle.rules.specs.Judging.{IsSmall};
+ghost use Rattle.std.specs.Prelude.{◌≡◌, ◌≤◌, ◌<◌, ◌+◌, [], ℕ, List, Result, Ok, Err, true, None, IfOk, length, sum_by};
+ghost use Rattle.profile.specs.Clerk.{is_act, performed};
+ghost use Rattle.profile.specs.Cut.{cut};
+ghost use Rattle.profile.specs.Events.{Event};
+ghost use Rattle.profile.specs.Halt.{structure_note};
+ghost use Rattle.profile.specs.Header.{delims_of};
+ghost use Rattle.profile.specs.History.{History};
 ghost use Rattle.profile.specs.Limits.{most_entries};
-ghost use Rattle.rules.specs.Decided.{IsHeldAtRest};
+ghost use Rattle.profile.specs.Readings.{is_entry};
+ghost use Rattle.profile.specs.Refusals.{Refusal};
+ghost use Rattle.profile.specs.Register as register;
+ghost use Rattle.profile.specs.Reply.{clerk_entry};
+ghost use Rattle.profile.specs.Structure.{groups_of};
+ghost use Rattle.profile.specs.Texts.{document_of};
+ghost use Rattle.envelope.specs.Conditions.{IsTold};
+ghost use Rattle.stock.specs.Pages.{IsSound, next_entry};
+ghost use Rattle.stock.specs.Puts.{put};
+ghost use Rattle.stock.specs.Shows.{Shows};
+ghost use Rattle.stock.specs.Stops.{StopsAct};
+ghost use Rattle.rules.specs.Asked.{act_of};
+ghost use Rattle.rules.specs.Decided.{IsHeldAtRest, IsPageOf};
+ghost use Rattle.rules.specs.Played.{IsBefore, IsPlayed, IsReplayed, is_clean, number_after};
+ghost use Rattle.rules.specs.Written.{written_as};
 
 use crate::acts::perform;
 use crate::answers::answer;
+use crate::commands::Act;
 use crate::documents::document;
 use crate::entries::Entry;
 use crate::house::Warehouse;
@@ -16,7 +35,7 @@ use envelope::{Halt, Interchange, Isa, isa, structure};
 use profile::MOST_ENTRIES;
 use sets_out::Envelope;
 use std::alloc::{AllocError, Global};
-use stock::{Page, Stop};
+use stock::{Page, Step, Stop};
 
 /// A page with one entry of the register more, and the text that went out for it.
 #[derive(Drop)]
@@ -29,7 +48,8 @@ pub struct Replayed {
 
 // A page to which nothing comes.
 fn nothing(alloc: Global, page: Page) -> Replayed
-    ensures { result.page ≡ page }
+    ensures page { result.page ≡ page }
+    ensures outgoing { result.outgoing.items ≡ [] }
 {
     Replayed {
         page,
@@ -45,9 +65,12 @@ fn grouped(
     header: &Isa<'_>,
     interchange: &Interchange<'_>,
 ) -> Result<Replayed, AllocError>
-    requires room { page.recent + sum_by (λ g. length g.sets) interchange.now.groups ≤ 1000 }
-    requires small { AllByRecursion IsSmall interchange.now.groups }
-    ensures { IfOk result (λ r. r.page.entries ≡ page.entries) }
+    requires parts { interchange.now ≡ record { delims = delims_of header.now; groups = groups_of (cut (delims_of header.now) header.now).segments } }
+    requires clean { structure_note header.now ≡ None }
+    requires rest { page.recent ≡ 0 }
+    ensures entries { IfOk result (λ r. r.page.entries ≡ page.entries) }
+    ensures played { IfOk result (λ r. (h : History) → IsPageOf page h → envelope.number ≡ h.numbered + 1
+        → IsPlayed envelope.warehouse h (record { who = envelope.depositor; moment = envelope.moment; deed = register.Received header.now }) r.page r.outgoing.items) }
 {
     let groups = take_groups(alloc, page, interchange)?;
     let outgoing = answer(alloc, envelope, header, &groups.told)?;
@@ -55,6 +78,17 @@ fn grouped(
         page: groups.page,
         outgoing,
     })
+}
+
+// An interchange with a note is none that was accepted.
+fn halted(alloc: Global, page: Page, halt: Halt) -> Result<Replayed, AllocError>
+    ensures entries { IfOk result (λ r. r.page.entries ≡ page.entries) }
+    ensures never { IfOk result (λ r. (text : List ℕ) → IsTold halt text → structure_note text ≡ None → ⊥) }
+{
+    match halt {
+        Halt::Note(_) => Ok(nothing(alloc, page)),
+        Halt::OutOfMemory => Err(AllocError),
+    }
 }
 
 // What an interchange that can be read came to.
@@ -67,12 +101,13 @@ fn structured(
 ) -> Result<Replayed, AllocError>
     requires same { header.now ≡ text.now }
     requires rest { page.recent ≡ 0 }
-    ensures { IfOk result (λ r. r.page.entries ≡ page.entries) }
+    ensures entries { IfOk result (λ r. r.page.entries ≡ page.entries) }
+    ensures played { IfOk result (λ r. (h : History) → IsPageOf page h → envelope.number ≡ h.numbered + 1 → structure_note text.now ≡ None
+        → IsPlayed envelope.warehouse h (record { who = envelope.depositor; moment = envelope.moment; deed = register.Received text.now }) r.page r.outgoing.items) }
 {
     match structure(alloc, text, header) {
         Ok(interchange) => grouped(alloc, envelope, page, header, &interchange),
-        Err(Halt::Note(_)) => Ok(nothing(alloc, page)),
-        Err(Halt::OutOfMemory) => Err(AllocError),
+        Err(halt) => halted(alloc, page, halt),
     }
 }
 
@@ -84,7 +119,9 @@ fn received(
     text: &[u8],
 ) -> Result<Replayed, AllocError>
     requires { page.recent ≡ 0 }
-    ensures { IfOk result (λ r. r.page.entries ≡ page.entries) }
+    ensures entries { IfOk result (λ r. r.page.entries ≡ page.entries) }
+    ensures played { IfOk result (λ r. (h : History) → IsPageOf page h → envelope.number ≡ h.numbered + 1 → is_clean (register.Received text.now) ≡ true
+        → IsPlayed envelope.warehouse h (record { who = envelope.depositor; moment = envelope.moment; deed = register.Received text.now }) r.page r.outgoing.items) }
 {
     match isa(text) {
         Ok(header) => structured(alloc, envelope, page, &header, text),
@@ -92,7 +129,56 @@ fn received(
     }
 }
 
-// What a clerk's act came to.
+// An act that was stopped came to nothing.
+fn stopped(alloc: Global, page: Page, stop: Stop) -> Result<Replayed, AllocError>
+    ensures { IfOk result (λ r. (r.page ≡ page) × (r.outgoing.items ≡ [])
+        × ((outcome : Result Event Refusal) → StopsAct outcome stop → (refusal : Refusal) × (outcome ≡ Err refusal))) }
+{
+    match stop {
+        Stop::OutOfMemory => Err(AllocError),
+        Stop::Set(_) | Stop::Refused(_) => Ok(nothing(alloc, page)),
+    }
+}
+
+// A page with what an act changes on it, and the act's document.
+fn stepped(
+    alloc: Global,
+    envelope: &Envelope,
+    page: Page,
+    act: &Act<'_>,
+    step: &Step,
+) -> Result<Replayed, AllocError>
+    requires { IsSound (put step.now.changes.items page) }
+    ensures { IfOk result (λ r. (r.page ≡ put step.now.changes.items page)
+        × ((es : List Event) (e : Event) → Shows page es → performed es envelope.now.number (act_of act.now) ≡ Ok e
+        → r.outgoing.items ≡ document_of envelope.now.warehouse envelope.now.depositor envelope.now.moment envelope.now.number e)) }
+{
+    let outgoing = document(alloc, envelope, &page, act)?;
+    Ok(Replayed {
+        page: page.with(step)?,
+        outgoing,
+    })
+}
+
+// What an act came to.
+fn done(
+    alloc: Global,
+    envelope: Envelope,
+    page: Page,
+    act: &Act<'_>,
+) -> Result<Replayed, AllocError>
+    requires { page.recent ≡ 0 }
+    ensures entries { IfOk result (λ r. r.page.entries ≡ page.entries) }
+    ensures played { IfOk result (λ r. (h : History) (ticket : List ℕ) → IsPageOf page h → envelope.number ≡ h.numbered + 1
+        → IsPlayed envelope.warehouse h (clerk_entry envelope.depositor ticket (act_of act.now) envelope.moment) r.page r.outgoing.items) }
+{
+    match perform(alloc, &page, act) {
+        Ok(step) => stepped(alloc, &envelope, page, act, &step),
+        Err(stop) => stopped(alloc, page, stop),
+    }
+}
+
+// What a clerk's act came to, by its canonical text.
 fn performed(
     alloc: Global,
     envelope: Envelope,
@@ -100,30 +186,59 @@ fn performed(
     text: &[u8],
 ) -> Result<Replayed, AllocError>
     requires { page.recent ≡ 0 }
-    ensures { IfOk result (λ r. r.page.entries ≡ page.entries) }
+    ensures entries { IfOk result (λ r. r.page.entries ≡ page.entries) }
+    ensures played { IfOk result (λ r. (h : History) (ticket : List ℕ) (act : register.Act) → IsPageOf page h → envelope.number ≡ h.numbered + 1
+        → is_act act ≡ true → text.now ≡ register.canonical act
+        → IsPlayed envelope.warehouse h (clerk_entry envelope.depositor ticket act envelope.moment) r.page r.outgoing.items) }
 {
-    let Some(read) = read(alloc, text)? else {
-        return Ok(nothing(alloc, page));
-    };
-    let act = read.act();
-    match perform(alloc, &page, &act) {
-        Ok(step) => Ok(Replayed {
-            page: step.page,
-            outgoing: document(alloc, &envelope, &page, &act)?,
-        }),
-        Err(Stop::OutOfMemory) => Err(AllocError),
-        Err(_) => Ok(nothing(alloc, page)),
+    match read(alloc, text)? {
+        Some(read) => done(alloc, envelope, page, &read.act()),
+        None => Ok(nothing(alloc, page)),
     }
 }
 
 // The page with one numbered entry more.
 fn ended(page: Page) -> Page
     requires { page.entries < most_entries }
-    ensures { result.recent ≡ 0 }
+    ensures next { result ≡ next_entry page }
+    ensures shows { (es : List Event) → Shows page es → Shows result es }
 {
     let mut page = page;
     page.next_entry();
     page
+}
+
+// What a numbered entry came to.
+fn numbered(
+    alloc: Global,
+    warehouse: &Warehouse,
+    page: Page,
+    entry: &Entry,
+) -> Result<Replayed, AllocError>
+    requires { page.recent ≡ 0 }
+    ensures rest { IfOk result (λ r. r.page.recent ≡ 0) }
+    ensures replayed { IfOk result (λ r. (h : History) (e : register.Entry) → IsPageOf page h → register.is_numbered e ≡ true
+        → entry.now ≡ written_as (number_after h e) e → number_after h e ≤ most_entries → is_entry e ≡ true → is_clean e.deed ≡ true
+        → IsReplayed warehouse.now h e r.page r.outgoing.items) }
+{
+    if !entry.is_numbered() || page.entries() >= MOST_ENTRIES {
+        return Ok(nothing(alloc, page));
+    }
+    let envelope = Envelope {
+        warehouse: warehouse.who(),
+        depositor: entry.who(),
+        moment: entry.moment(),
+        number: entry.number(),
+    };
+    let played = if entry.is_ticketed() {
+        performed(alloc, envelope, page, entry.body())?
+    } else {
+        received(alloc, envelope, page, entry.body())?
+    };
+    Ok(Replayed {
+        page: ended(played.page),
+        outgoing: played.outgoing,
+    })
 }
 
 /// What an entry of the register came to, over the page that its depositor had before it; an enrolment has none before it.
@@ -135,28 +250,13 @@ pub fn replay(
     entry: &Entry,
 ) -> Result<Replayed, AllocError>
     requires { IsHeldAtRest page }
-    ensures { IfOk result (λ r. r.page.recent ≡ 0) }
+    ensures rest { IfOk result (λ r. r.page.recent ≡ 0) }
+    ensures replayed { IfOk result (λ r. (h : History) (e : register.Entry) → IsBefore page h e
+        → entry.now ≡ written_as (number_after h e) e → number_after h e ≤ most_entries → is_entry e ≡ true → is_clean e.deed ≡ true
+        → IsReplayed warehouse.now h e r.page r.outgoing.items) }
 {
-    let page = match page {
-        Some(page) => page,
-        None => Page::new(alloc),
-    };
-    if !entry.is_numbered() || page.entries() >= MOST_ENTRIES {
-        return Ok(nothing(alloc, page));
+    match page {
+        Some(page) => numbered(alloc, warehouse, page, entry),
+        None => Ok(nothing(alloc, Page::new(alloc))),
     }
-    let envelope = Envelope {
-        warehouse: warehouse.who(),
-        depositor: entry.who(),
-        moment: entry.moment(),
-        number: entry.number(),
-    };
-    let replayed = if entry.is_ticketed() {
-        performed(alloc, envelope, page, entry.body())?
-    } else {
-        received(alloc, envelope, page, entry.body())?
-    };
-    Ok(Replayed {
-        page: ended(replayed.page),
-        outgoing: replayed.outgoing,
-    })
 }

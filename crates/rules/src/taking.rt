@@ -4,8 +4,10 @@ ghost use Rattle.std.specs.List.{AllByRecursion};
 ghost use Rattle.profile.specs.Cut.{element};
 ghost use Rattle.profile.specs.Structure as meant;
 ghost use Rattle.profile.specs.Texts.{stated_sets};
+ghost use Rattle.stock.specs.Pages.{IsSound};
+ghost use Rattle.stock.specs.Puts.{put};
 ghost use Rattle.tables.specs.Kinds.{kind_of};
-ghost use Rattle.rules.specs.Judging.{AreTaken, IsGroupTaken, AreGroupsTaken, IsSmall, is_answered, told_with, told_if};
+ghost use Rattle.rules.specs.Judging.{AreTaken, IsGroupTaken, AreGroupsTaken, IsSmall, IsLed, is_answered, told_with, told_if};
 
 use crate::judging::{Verdict, judged};
 use envelope::{Group, Interchange, Set};
@@ -56,6 +58,7 @@ fn told<'a>(set: &Set<'a>, rejection: Option<Rejection<'a>>) -> ToldSet<'a>
 // A set that is rejected, over the page as it is.
 fn rejected<'a>(alloc: Global, page: Page, set: &Set<'a>, rejection: Rejection<'a>) -> TakenSet<'a>
     ensures page { result.page ≡ page }
+    ensures changes { result.changes.items ≡ [] }
     ensures told { result.told ≡ record { number = element (meant.head_of set.now.set) 1; control = meant.control_of set.now.set; rejection = Some rejection.entry } }
 {
     TakenSet {
@@ -65,16 +68,17 @@ fn rejected<'a>(alloc: Global, page: Page, set: &Set<'a>, rejection: Rejection<'
     }
 }
 
-// A set that passed.
-fn passed<'a>(set: &Set<'a>, step: Step) -> TakenSet<'a>
-    ensures page { result.page ≡ step.page }
-    ensures told { result.told ≡ record { number = element (meant.head_of set.now.set) 1; control = meant.control_of set.now.set; rejection = None } }
+// A set that passed, with what its event changes put into the page.
+fn passed<'a>(page: Page, set: &Set<'a>, step: Step) -> Result<TakenSet<'a>, AllocError>
+    requires { IsSound (put step.changes.items page) }
+    ensures { IfOk result (λ t. (t.page ≡ put step.changes.items page) × (t.changes.items ≡ step.changes.items)
+        × (t.told ≡ record { number = element (meant.head_of set.now.set) 1; control = meant.control_of set.now.set; rejection = None })) }
 {
-    TakenSet {
-        page: step.page,
+    Ok(TakenSet {
+        page: page.with(&step)?,
         changes: step.changes,
         told: told(set, None),
-    }
+    })
 }
 
 // One set more, with the fault of its envelope if it has one.
@@ -87,7 +91,8 @@ fn take_set<'a>(
 ) -> Result<TakenSet<'a>, AllocError>
     requires room { page.recent < 1000 }
     requires closed { fault ≡ None → set.now.set.is_closed ≡ true }
-    ensures { IfOk result (λ t. AreTaken set.now.delims (Some (kind_of kind)) ((set.now.set, fault) ∷ []) page t.page (t.told ∷ [])) }
+    ensures taken { IfOk result (λ t. AreTaken set.now.delims (Some (kind_of kind)) ((set.now.set, fault) ∷ []) page t.page (t.told ∷ [])) }
+    ensures led { IfOk result (λ t. IsLed t.changes.items page t.page) }
 {
     if let Some(code) = fault {
         let rejection = Rejection {
@@ -97,7 +102,7 @@ fn take_set<'a>(
         return Ok(rejected(alloc, page, set, rejection));
     }
     match judged(alloc, &page, kind, set.segments())? {
-        Verdict::Passed(step) => Ok(passed(set, step)),
+        Verdict::Passed(step) => passed(page, set, step),
         Verdict::Rejected(rejection) => Ok(rejected(alloc, page, set, rejection)),
     }
 }
@@ -110,7 +115,8 @@ fn take_sets<'a>(
     group: &'a Group<'a>,
 ) -> Result<TakenSets<'a>, AllocError>
     requires { start.recent + length group.now.group.sets ≤ 1000 }
-    ensures { IfOk result (λ t. AreTaken group.now.delims (Some (kind_of kind)) (meant.examined group.now.group) start t.page t.told.items) }
+    ensures taken { IfOk result (λ t. AreTaken group.now.delims (Some (kind_of kind)) (meant.examined group.now.group) start t.page t.told.items) }
+    ensures led { IfOk result (λ t. IsLed t.changes.items start t.page) }
 {
     let faults = group.set_faults(alloc)?;
     let mut page = start;
@@ -143,7 +149,8 @@ fn take_group<'a>(
     group: &'a Group<'a>,
 ) -> Result<TakenSets<'a>, AllocError>
     requires { start.recent + length group.now.group.sets ≤ 1000 }
-    ensures { IfOk result (λ t. IsGroupTaken group.now.delims group.now.group start t.page t.told.items) }
+    ensures taken { IfOk result (λ t. IsGroupTaken group.now.delims group.now.group start t.page t.told.items) }
+    ensures led { IfOk result (λ t. IsLed t.changes.items start t.page) }
 {
     let kind = SetKind::of_function(function(group));
     match (group.fault(), kind) {
@@ -252,7 +259,8 @@ pub(crate) fn take_groups<'a>(
 ) -> Result<TakenGroups<'a>, AllocError>
     requires room { start.recent + sum_by (λ g. length g.sets) interchange.now.groups ≤ 1000 }
     requires small { AllByRecursion IsSmall interchange.now.groups }
-    ensures { IfOk result (λ t. AreGroupsTaken interchange.now.delims interchange.now.groups start t.page t.told.items) }
+    ensures taken { IfOk result (λ t. AreGroupsTaken interchange.now.delims interchange.now.groups start t.page t.told.items) }
+    ensures led { IfOk result (λ t. IsLed t.changes.items start t.page) }
 {
     let mut page = start;
     let mut changes = Vec::new(alloc);

@@ -2,6 +2,7 @@ ghost use Rattle.std.specs.Prelude.{◌≡◌, IsTrue};
 ghost use Rattle.profile.specs.Bytes.{Delims as Bounds, is_data};
 ghost use Rattle.profile.specs.Header.{are_delimiters, delims_in, is_delimiter};
 
+use profile::{COMPONENT_AT, ISA_BYTES, SEPARATOR_AT, TERMINATOR_AT};
 use std::marker::Model;
 
 /// The three delimiters of an interchange, as ISA names them by using them: the element separator behind its id, the
@@ -36,12 +37,12 @@ impl Delims {
     pub fn of(text: &[u8]) -> Option<Delims>
         ensures { result ≡ delims_in text.now }
     {
-        if text.len() < 106 {
+        if text.len() < ISA_BYTES {
             return None;
         }
-        let separator = text[3];
-        let component = text[104];
-        let terminator = text[105];
+        let separator = text[SEPARATOR_AT];
+        let component = text[COMPONENT_AT];
+        let terminator = text[TERMINATOR_AT];
         let allowed = is_allowed(separator)
             && is_allowed(component)
             && (is_allowed(terminator) || terminator == b'\n');

@@ -3,15 +3,15 @@ ghost use Rattle.profile.specs.Header.{Who as Partner, is_partner, who_eq, who_o
 ghost use Rattle.segments.specs.Filled.{length_front, filled_front};
 
 use crate::idents::{all_alphanumeric, is_ident};
-use profile::{LEAST_PARTNER, MOST_PARTNER};
+use profile::{LEAST_PARTNER, MOST_PARTNER, QUALIFIER_BYTES};
 use std::marker::Model;
 
 /// A trading partner, as two elements of ISA name it: a qualifier of two of A to Z and 0 to 9, and an id of 2 to 15
 /// identifier bytes, which is kept filled up with spaces.
 #[derive(Clone, Copy)]
 pub struct Who {
-    qualifier: [u8; 2],
-    id: [u8; 15],
+    qualifier: [u8; QUALIFIER_BYTES],
+    id: [u8; MOST_PARTNER],
     len: usize,
 }
 
@@ -33,14 +33,14 @@ impl Who {
     pub fn of(qualifier: &[u8], id: &[u8]) -> Option<Who>
         ensures { let w : Partner = record { qualifier = qualifier.now; id = id.now } in result ≡ (if is_partner w then Some w else None) }
     {
-        if qualifier.len() != 2 || !all_alphanumeric(qualifier) {
+        if qualifier.len() != QUALIFIER_BYTES || !all_alphanumeric(qualifier) {
             return None;
         }
         if !is_ident(id, LEAST_PARTNER, MOST_PARTNER) {
             return None;
         }
         let qualifier = [qualifier[0], qualifier[1]];
-        let mut filled = [b' '; 15];
+        let mut filled = [b' '; MOST_PARTNER];
         let len = id.len();
         filled[..len].copy_from_slice(id);
         Some(Who {

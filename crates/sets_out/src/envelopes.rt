@@ -10,7 +10,7 @@ ghost use Rattle.sets_out.specs.Appends.{Appends};
 use crate::numbers::{date, digits, time};
 use crate::writing::append_segment;
 use itoa::Buffer;
-use profile::MOST_PARTNER;
+use profile::{BLANK_BYTES, CONTROL_DIGITS, LEAST_SET_CONTROL, MOST_PARTNER};
 use segments::{Delims, Moment, Who};
 use std::alloc::AllocError;
 use std::marker::Model;
@@ -93,7 +93,7 @@ fn append_opening(out: &mut Vec<u8>, separator: u8) -> Result<(), AllocError>
     ensures ok { OnOk result (out.new.items ≡ out.old.items ++ joined separator (codes "ISA" ∷ codes "00" ∷ padded 10 [] ∷ codes "00" ∷ padded 10 [] ∷ [])) }
     ensures kept { Extends out.old.items out.new.items }
 {
-    let ten = &SPACES[..10];
+    let ten = &SPACES[..BLANK_BYTES];
     out.extend_from_slice(b"ISA")?;
     append_elements(out, separator, &[b"00", ten, b"00", ten])?;
     Ok(())
@@ -123,7 +123,7 @@ fn append_closing(
 {
     let date = date(moment);
     let time = time(moment);
-    let control = digits::<9>(u64::from(number));
+    let control = digits::<CONTROL_DIGITS>(u64::from(number));
     let component = [delims.component()];
     append_tail(
         out,
@@ -173,7 +173,7 @@ pub(crate) fn append_iea(
 {
     let mut buffer = Buffer::new();
     let groups = buffer.format(groups).as_bytes();
-    let control = digits::<9>(u64::from(number));
+    let control = digits::<CONTROL_DIGITS>(u64::from(number));
     append_segment(out, delims, &[b"IEA", groups, &control])
 }
 
@@ -230,7 +230,7 @@ pub(crate) fn append_st(
     ensures ok { IfOk result (λ n. Appends delims out.old.items out.new.items ((codes "ST" ∷ number.now ∷ zero_filled 4 place ∷ []) ∷ []) n) }
     ensures kept { Extends out.old.items out.new.items }
 {
-    let control = digits::<4>(place);
+    let control = digits::<LEAST_SET_CONTROL>(place);
     append_segment(out, delims, &[b"ST", number, &control])
 }
 
@@ -246,6 +246,6 @@ pub(crate) fn append_se(
 {
     let mut buffer = Buffer::new();
     let segments = buffer.format(segments).as_bytes();
-    let control = digits::<4>(place);
+    let control = digits::<LEAST_SET_CONTROL>(place);
     append_segment(out, delims, &[b"SE", segments, &control])
 }

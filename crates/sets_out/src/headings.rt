@@ -6,6 +6,7 @@ ghost use Rattle.sets_out.specs.Headings.{Heading as Meant, ta1_of};
 
 use crate::numbers::digits;
 use crate::writing::append_segment;
+use profile::NOTE_DIGITS;
 use segments::{Delims, write_segment};
 use std::alloc::AllocError;
 use std::marker::Model;
@@ -47,7 +48,7 @@ pub(crate) fn append_ta1(
     match note {
         None => append_segment(out, delims, &[b"TA1", control, date, time, b"A", b"000"]),
         Some(note) => {
-            let note = digits::<3>(u64::from(note));
+            let note = digits::<NOTE_DIGITS>(u64::from(note));
             append_segment(out, delims, &[b"TA1", control, date, time, b"R", &note])
         }
     }

@@ -7,14 +7,11 @@ ghost use Rattle.sheets.specs.Kinds.{kind_of};
 ghost use Rattle.sheets.specs.Pairs.{pair_cmp};
 
 use crate::kinds::SheetKind;
-use profile::{MOST_ITEM, MOST_LOT};
+use profile::{MOST_ITEM, MOST_LOT, SHEET_DIGITS};
 use segments::Ident;
 use std::alloc::{AllocError, Global};
 use std::cmp::Ordering;
 use std::marker::Model;
-
-// A longer quantity is over every limit, whatever its value.
-const MOST_DIGITS: usize = 9;
 
 /// A line of a sheet, as it was read: nothing of it is tested yet.
 #[derive(Debug, Drop)]
@@ -102,7 +99,7 @@ impl Line {
         ensures { result ≡ clerk.picks_nothing (kind_of kind) self.now }
     {
         match kind {
-            SheetKind::Pick => self.quantity.len() <= MOST_DIGITS && self.amount() == 0,
+            SheetKind::Pick => self.quantity.len() <= SHEET_DIGITS && self.amount() == 0,
             SheetKind::Count | SheetKind::Recount => false,
         }
     }
@@ -121,7 +118,7 @@ impl Line {
     pub(crate) fn is_too_much(&self, kind: SheetKind) -> bool
         ensures { result ≡ clerk.is_too_much (kind_of kind) self.now }
     {
-        self.quantity.len() > MOST_DIGITS || self.amount() > kind.most()
+        self.quantity.len() > SHEET_DIGITS || self.amount() > kind.most()
     }
 
     // Whether both are of one item and one lot.

@@ -1,49 +1,177 @@
 -- A page after an acknowledgment.
-use Rattle.std.proofs.Common.{◌≡◌, ℕ, ◌+◌, ◌<◌, Bool, true, false, ◌&&◌, cond, eqb, ltb, leb, List, [], ◌∷◌, ◌++◌, map, refl, ap, sym, ◌∙◌, arith, inl, inr, Option, Some, None}
-use Rattle.std.proofs.lemmas.Bool.{cases_Bool, leb-true, leb-false, lt-ltb, le-ltb}
+use Rattle.std.proofs.Common.{◌≡◌, ℕ, ◌+◌, ◌<◌, Bool, true, false, ◌&&◌, ◌||◌, cond, eqb, ltb, leb, List, [], ◌∷◌, ◌++◌, refl, ap, sym, ◌∙◌, subst, arith, inl, inr, Option, Some, None}
+use Rattle.std.proofs.lemmas.Bool.{cases_Bool, and_parts, eqb-true, eqb-false, eq-eqb, leb-true, leb-false, lt-ltb, le-ltb}
 use Rattle.std.proofs.lemmas.List.{append-nil}
 use Rattle.std.proofs.lemmas.Grind.{flat_map-append}
-use Rattle.std.specs.Prelude.{bytes_eq, option_map, flat_map, count_by, find, is_none}
+use Rattle.std.specs.Prelude.{bytes_eq, option_map, flat_map, find, is_none, nat_lt}
+use Rattle.std.specs.List.{list_any, list_all}
+use Rattle.profile.specs.Bytes.{comes_before}
 use Rattle.profile.specs.Lists.{or_else}
 use Rattle.profile.specs.Means.{Line, Acknowledgment}
 use Rattle.profile.specs.Rows.{LotRow, named, said_of, acknowledges}
 use Rattle.profile.specs.Page.{PageAdvice, PageOrder, PageDocument}
 use Rattle.profile.specs.Events.{Event, Acknowledged, count_naming}
 use Rattle.profile.specs.Movements.{OnHand, Expected, Reservation}
+use Rattle.stock.specs.declared.steps.Change.TheVariants as change
 use Rattle.stock.specs.Told.{told, one, amount, since, named_by, positive}
-use Rattle.stock.specs.Pages.{PageFacts, is_shipment, is_number, is_document, advice_at, order_at, document_at, awaited, held, IsSound}
+use Rattle.stock.specs.Keyed.{rises_by, key_before, row_key, shipment_of, number_of, entry_of}
+use Rattle.stock.specs.Pages.{PageFacts, is_document, advice_at, order_at, document_at, awaited, held, IsSound, AreSorted}
+use Rattle.stock.specs.Puts.{put}
 use Rattle.stock.specs.Shows.{Shows, sent_if, sent_under, document_of, is_numbered_within}
-use Rattle.stock.specs.Steps.{heard, IsAcknowledged}
-use Rattle.stock.proofs.Finds.{first_found_push}
-use Rattle.stock.proofs.Moves.{came_push, went_push, sum_by-map}
+use Rattle.stock.specs.Steps.{decides, heard, said_of_found, IsAcknowledged}
+use Rattle.stock.specs.Stops.{document_changes}
+use Rattle.stock.proofs.Finds.{first_found_push, found_says}
+use Rattle.stock.proofs.Keys.{find_above}
+use Rattle.stock.proofs.KeyLemmas.{numbers_strict, document_test, document_put, said_sorted, sorted_distinct, advices_once, orders_once, documents_once}
+use Rattle.stock.proofs.Moves.{came_push, went_push}
 use Rattle.stock.proofs.PageLemmas.{all_numbered_same, own_number}
 use Rattle.stock.proofs.Events.{found_kept, all_push, advice_kept, order_kept, shares_kept, counted_kept, picked_kept}
 
 pub acknowledged_sound : (a : Acknowledgment) (old new : PageFacts) → IsAcknowledged a old new → old.recent < 1000 → IsSound old → IsSound new
 acknowledged_sound a old new step room sound = record {
-  distinct = λ x y. omega (arith, ap (told one x y) step.rows, sound.distinct x y);
+  sorted = sorted;
+  distinct = sorted_distinct new.rows sorted.rows;
   expected = λ x y. omega (arith, ap (told (amount Expected) x y) step.rows, sound.expected x y, ap (λ (ks : List PageAdvice). awaited ks x y) step.advices);
   reserved = λ x y. omega (arith, ap (told (amount Reservation) x y) step.rows, sound.reserved x y, ap (λ (ks : List PageOrder). held ks x y) step.orders);
   covered = λ x y. omega (arith, ap (told (amount Reservation) x y) step.rows, ap (told (amount OnHand) x y) step.rows, sound.covered x y);
   bounded = λ c x y. omega (arith, ap (told (amount c) x y) step.rows, sound.bounded c x y, step.next.entries, step.next.recent);
   numbered = omega (arith, sound.numbered, step.next.entries);
   few = omega (arith, step.next.recent);
-  advices_once = λ s. omega (arith, ap (count_by (is_shipment s)) step.advices, sound.advices_once s);
-  orders_once = λ n. omega (arith, ap (count_by (is_number n)) step.orders, sound.orders_once n);
-  documents_once = λ n. omega (
-    arith,
-    ap (count_by (is_document n)) step.documents,
-    sum_by-map (λ (d : PageDocument). cond {A = ℕ} (is_document n d) 1 0) (heard old.entries a) old.documents,
-    sound.documents_once n,
-  );
+  advices_once = advices_once new.advices sorted.advices;
+  orders_once = orders_once new.orders sorted.orders;
+  documents_once = documents_once new.documents sorted.documents;
+}
+  where
+    sorted : AreSorted new
+    sorted = record {
+      rows = ap (rises_by key_before row_key) step.rows ∙ sound.sorted.rows;
+      advices = ap (rises_by comes_before shipment_of) step.advices ∙ sound.sorted.advices;
+      orders = ap (rises_by comes_before number_of) step.orders ∙ sound.sorted.orders;
+      documents = step.sorted;
+    }
+
+-- What an acknowledgment decides.
+
+-- no document decides another
+any_none : {X : Type 0} (p q : X → Bool) (xs : List X) → ((x : X) → q x ≡ true → p x ≡ true) → find p xs ≡ None → list_any q xs ≡ false
+any_none p q [] within none = refl
+any_none {X} p q (x ∷ xs) within none = elim (cases_Bool (p x)) [
+  | inl e ↦ let g : Some x ≡ None = ap (λ (v : Bool). cond v (Some x) (find p xs)) (sym e) ∙ none in absurd (cc)
+  | inr e ↦ elim (cases_Bool (q x)) [
+    | inl f ↦ let d : true ≡ false = sym (within x f) ∙ e in absurd (cc)
+    | inr f ↦ rw f (any_none p q xs within (ap (λ (v : Bool). cond v (Some x) (find p xs)) (sym e) ∙ none))
+  ]
+]
+
+decides_that : (k : ℕ) (a : Acknowledgment) (d : PageDocument) → decides k a d ≡ true → is_document a.document d ≡ true
+decides_that k a d h =
+    let b = and_parts (leb d.n k && eqb a.document d.n && bytes_eq a.function d.function) (is_none d.said) h in
+    let c = and_parts (leb d.n k && eqb a.document d.n) (bytes_eq a.function d.function) b.0 in
+    let e = and_parts (leb d.n k) (eqb a.document d.n) c.0 in
+    eq-eqb d.n a.document (sym (eqb-true a.document d.n e.1))
+
+pub decides_none : (k : ℕ) (a : Acknowledgment) (ds : List PageDocument) → document_at a.document ds ≡ None → list_any (decides k a) ds ≡ false
+decides_none k a ds none = any_none (is_document a.document) (decides k a) ds (λ d. decides_that k a d) none
+
+pub decides_some : (k : ℕ) (a : Acknowledgment) (ds : List PageDocument) (d : PageDocument) → rises_by nat_lt entry_of ds ≡ true → document_at a.document ds ≡ Some d
+    → list_any (decides k a) ds ≡ decides k a d
+decides_some k a [] d sorted found = absurd (cc)
+decides_some k a (x ∷ xs) d sorted found =
+    let parts = and_parts (list_all (λ (y : PageDocument). ltb x.n y.n) xs) (rises_by nat_lt entry_of xs) sorted in
+    elim (cases_Bool (is_document a.document x)) [
+      | inl e ↦
+          let g : Some x ≡ Some d = ap (λ (v : Bool). cond v (Some x) (document_at a.document xs)) (sym e) ∙ found in
+          let same : x ≡ d = cc in
+          let none : document_at a.document xs ≡ None = find_above nat_lt numbers_strict entry_of a.document (is_document a.document) (document_test a.document) xs
+          (ap (λ (n : ℕ). list_all (λ (y : PageDocument). ltb n y.n) xs) (sym (eqb-true x.n a.document e)) ∙ parts.0) in
+          ap (λ (v : Bool). decides k a x || v) (decides_none k a xs none) ∙ or_false (decides k a x) ∙ ap (decides k a) same
+      | inr e ↦
+          let no : decides k a x ≡ false = elim (cases_Bool (decides k a x)) [ inl f ↦ let d : true ≡ false = sym (decides_that k a x f) ∙ e in absurd (cc) | inr f ↦ f ] in
+          ap (λ (v : Bool). v || list_any (decides k a) xs) no
+          ∙ decides_some k a xs d parts.1 (ap (λ (v : Bool). cond v (Some x) (document_at a.document xs)) (sym e) ∙ found)
+    ]
+  where
+    or_false : (v : Bool) → (v || false) ≡ v
+    or_false true = refl
+    or_false false = refl
+
+not_heard : (k : ℕ) (a : Acknowledgment) (d : PageDocument) → decides k a d ≡ false → heard k a d ≡ d
+not_heard k a d h = ap (λ (v : Bool). record d { said = cond v (Some a.accepts) d.said }) h
+
+-- a document under another number hears nothing
+other_heard : (k n : ℕ) (a : Acknowledgment) (ds : List PageDocument) → eqb a.document n ≡ false → option_map (heard k a) (document_at n ds) ≡ document_at n ds
+other_heard k n a ds apart = by (document_at n ds) refl
+  where
+    by : (o : Option PageDocument) → document_at n ds ≡ o → option_map (heard k a) o ≡ o
+    by None h = refl
+    by (Some x) h =
+        let number : x.n ≡ n = eqb-true x.n n (found_says (is_document n) ds x h) in
+        let no : decides k a x ≡ false = elim (cases_Bool (decides k a x)) [
+          | inl f ↦ absurd (eqb-false a.document n apart (sym (eqb-true x.n a.document (decides_that k a x f)) ∙ number))
+          | inr f ↦ f
+        ] in
+        ap Some (not_heard k a x no)
+
+unheard : (k : ℕ) (a : Acknowledgment) (ds : List PageDocument) → option_map (heard k a) (document_at a.document ds) ≡ document_at a.document ds
+    → (n : ℕ) → document_at n ds ≡ option_map (heard k a) (document_at n ds)
+unheard k a ds own n = elim (cases_Bool (eqb a.document n)) [
+  | inl e ↦ subst (λ (m : ℕ). document_at m ds ≡ option_map (heard k a) (document_at m ds)) (eqb-true a.document n e) (sym own)
+  | inr e ↦ sym (other_heard k n a ds e)
+]
+
+quiet : (a : Acknowledgment) (p : PageFacts) → IsSound p → option_map (heard p.entries a) (document_at a.document p.documents) ≡ document_at a.document p.documents
+    → IsAcknowledged a p (put [] p)
+quiet a p sound own = record {
+  rows = refl;
+  advices = refl;
+  orders = refl;
+  documents = unheard p.entries a p.documents own;
+  sorted = sound.sorted.documents;
+  next = record { entries = refl; recent = refl };
 }
 
-find_map : {X : Type 0} (p : X → Bool) (f : X → X) (xs : List X) → ((x : X) → p (f x) ≡ p x) → find p (map f xs) ≡ option_map f (find p xs)
-find_map p f [] h = refl
-find_map {X} p f (x ∷ xs) h = ap (λ (v : Bool). cond v (Some (f x)) (find p (map f xs))) (h x) ∙ elim (cases_Bool (p x)) [
-  | inl e ↦ rw e refl
-  | inr e ↦ rw e (find_map p f xs h)
-]
+decided : (a : Acknowledgment) (p : PageFacts) (d : PageDocument) → IsSound p → document_at a.document p.documents ≡ Some d → decides p.entries a d ≡ true
+    → IsAcknowledged a p (put (change.Document a.document a.accepts ∷ []) p)
+decided a p d sound found yes_it = record {
+  rows = refl;
+  advices = refl;
+  orders = refl;
+  documents = λ n. ap (λ (o : Option PageDocument). document_at n (said_of_found o a.accepts p.documents)) found ∙ document_put n said p.documents ∙ at n (eqb d.n n) refl;
+  sorted = said_sorted a.document a.accepts p.documents sound.sorted.documents;
+  next = record { entries = refl; recent = refl };
+}
+  where
+    said : PageDocument
+    said = record d { said = Some a.accepts }
+
+    number : d.n ≡ a.document
+    number = eqb-true d.n a.document (found_says (is_document a.document) p.documents d found)
+
+    now : heard p.entries a d ≡ said
+    now = ap (λ (v : Bool). record d { said = cond v (Some a.accepts) d.said }) yes_it
+
+    at : (n : ℕ) (v : Bool) → eqb d.n n ≡ v → cond v (Some said) (document_at n p.documents) ≡ option_map (heard p.entries a) (document_at n p.documents)
+    at n true e =
+        let here : document_at n p.documents ≡ Some d = ap (λ (m : ℕ). document_at m p.documents) (sym (eqb-true d.n n e) ∙ number) ∙ found in
+        ap Some (sym now) ∙ ap (option_map (heard p.entries a)) (sym here)
+    at n false e = sym (other_heard p.entries n a p.documents (ap (λ (m : ℕ). eqb m n) (sym number) ∙ e))
+
+-- the changes of an acknowledgment make the page that heard it
+pub acknowledged_put : (a : Acknowledgment) (p : PageFacts) → IsSound p → IsAcknowledged a p (put (document_changes p a) p)
+acknowledged_put a p sound = by (document_at a.document p.documents) refl
+  where
+    made : (v : Bool) → list_any (decides p.entries a) p.documents ≡ v → IsAcknowledged a p (put (cond v (change.Document a.document a.accepts ∷ []) []) p)
+        → IsAcknowledged a p (put (document_changes p a) p)
+    made v e h = subst (λ (u : Bool). IsAcknowledged a p (put (cond u (change.Document a.document a.accepts ∷ []) []) p)) (sym e) h
+
+    with_it : (d : PageDocument) (v : Bool) → document_at a.document p.documents ≡ Some d → decides p.entries a d ≡ v → IsAcknowledged a p (put (document_changes p a) p)
+    with_it d true h e = made true (decides_some p.entries a p.documents d sound.sorted.documents h ∙ e) (decided a p d sound h e)
+    with_it d false h e = made false (decides_some p.entries a p.documents d sound.sorted.documents h ∙ e)
+        (quiet a p sound (ap (option_map (heard p.entries a)) h ∙ ap Some (not_heard p.entries a d e) ∙ sym h))
+
+    by : (o : Option PageDocument) → document_at a.document p.documents ≡ o → IsAcknowledged a p (put (document_changes p a) p)
+    by None h = made false (decides_none p.entries a p.documents h) (quiet a p sound (ap (option_map (heard p.entries a)) h ∙ sym h))
+    by (Some d) h = with_it d (decides p.entries a d) h refl
 
 lt_le : (m k : ℕ) → ltb m (k + 1) ≡ leb m k
 lt_le m k = elim (cases_Bool (leb m k)) [
@@ -75,7 +203,7 @@ acknowledged_shows a old new es step shows = let e = Acknowledged (old.entries +
   );
   advices = λ s. ap (advice_at s) step.advices ∙ shows.advices s ∙ advice_kept es e s refl refl;
   orders = λ s. ap (order_at s) step.orders ∙ shows.orders s ∙ order_kept es e s refl refl;
-  documents = λ m. ap (document_at m) step.documents ∙ find_map (is_document m) (heard old.entries a) old.documents (λ d. refl)
+  documents = λ m. step.documents m
       ∙ ap (option_map (heard old.entries a)) (shows.documents m) ∙ by m (sent_under m es)
       ∙ ap (option_map (document_of (es ++ e ∷ []) m)) (sym (found_kept (sent_if m) es e refl));
   counted = λ s. counted_kept es e s refl (shows.counted s);

@@ -1,10 +1,8 @@
 -- A page with an advice more.
 use Rattle.std.proofs.Common.{◌≡◌, ℕ, ◌+◌, ◌<◌, ◌^◌, Bool, true, false, not, cond, List, [], ◌∷◌, ◌++◌, refl, ap, sym, ◌∙◌, arith, Option, Some, None}
 use Rattle.std.proofs.lemmas.List.{append-nil}
-use Rattle.std.proofs.lemmas.List.Sums.{sum_by_push}
 use Rattle.std.proofs.lemmas.Grind.{flat_map-append}
-use Rattle.std.proofs.lemmas.Slice.Eq.{bytes_eq-Decides}
-use Rattle.std.specs.Prelude.{bytes_eq, is_some, option_map, flat_map, count_by}
+use Rattle.std.specs.Prelude.{bytes_eq, is_some, option_map, flat_map, nat_lt}
 use Rattle.std.specs.Option.{option_or}
 use Rattle.profile.specs.Lists.{or_else}
 use Rattle.profile.specs.Means.{Line, Advice, advised}
@@ -14,12 +12,16 @@ use Rattle.profile.specs.Events.{Event, Advised, quantity_of, advice_if, advice_
 use Rattle.profile.specs.Movements.{Expected, OnHand, Reservation}
 use Rattle.sets_in.specs.Limits.{HasFewLines}
 use Rattle.stock.specs.Told.{told, amount, named_by, positive}
-use Rattle.stock.specs.Pages.{PageFacts, is_shipment, is_number, is_document, advice_at, order_at, document_at, awaited, held, IsSound}
+use Rattle.stock.specs.Pages.{PageFacts, advice_at, order_at, document_at, awaited, held, IsSound, AreSorted}
 use Rattle.stock.specs.Shows.{Shows, is_numbered_within}
 use Rattle.stock.specs.Steps.{opened, IsAnnounced}
-use Rattle.stock.proofs.Sums.{added_distinct, named_append}
+use Rattle.stock.proofs.Sums.{named_append}
+use Rattle.profile.specs.Bytes.{comes_before}
+use Rattle.stock.specs.Keyed.{rises_by, number_of, entry_of}
+use Rattle.stock.proofs.Keys.{was}
+use Rattle.stock.proofs.KeyLemmas.{sorted_distinct, advice_sum, advice_put_new, advices_put_sorted, advices_once, orders_once, documents_once}
 use Rattle.stock.proofs.Moves.{came_push, went_push, came_comes, went_comes, given_le, quantity_le, advised_le}
-use Rattle.stock.proofs.Finds.{first_found_push, find_push, count_push_once}
+use Rattle.stock.proofs.Finds.{first_found_push}
 use Rattle.stock.proofs.PageLemmas.{all_numbered_same}
 use Rattle.stock.proofs.Views.{advice_seen, uncounted, advice_view}
 use Rattle.stock.proofs.Events.{found_kept, any_kept, all_push, order_kept, document_kept, shares_kept, counted_kept, picked_kept}
@@ -30,28 +32,33 @@ advised_fits a p few sound item lot = omega (arith, sound.bounded Expected item 
 
 pub announced_sound : (a : Advice) (old new : PageFacts) → IsAnnounced a old new → HasFewLines a.lines → advice_at a.shipment old.advices ≡ None → old.recent < 1000 → IsSound old → IsSound new
 announced_sound a old new step few unknown room sound = record {
-  distinct = added_distinct Expected (advised a) old.rows new.rows step.rows sound.distinct;
+  sorted = sorted;
+  distinct = sorted_distinct new.rows step.rows.sorted;
   expected = λ i l. omega (
     arith,
     step.rows.amounts Expected i l,
     sound.expected i l,
     ap (λ (ks : List PageAdvice). awaited ks i l) step.advices,
-    sum_by_push (λ (k : PageAdvice). cond k.is_open (quantity_of k.lines i l) 0) old.advices (opened a),
+    advice_sum (λ (k : PageAdvice). cond k.is_open (quantity_of k.lines i l) 0) (opened a) old.advices sound.sorted.advices,
+    ap (was (λ (k : PageAdvice). cond k.is_open (quantity_of k.lines i l) 0)) unknown,
   );
   reserved = λ i l. omega (arith, step.rows.amounts Reservation i l, sound.reserved i l, ap (λ (ks : List PageOrder). held ks i l) step.orders);
   covered = λ i l. omega (arith, step.rows.amounts Reservation i l, step.rows.amounts OnHand i l, sound.covered i l);
   bounded = λ c i l. omega (arith, step.rows.amounts c i l, sound.bounded c i l, given_le Expected (advised a) c i l, advised_le a few, step.next.entries, step.next.recent);
   numbered = omega (arith, sound.numbered, step.next.entries);
   few = omega (arith, step.next.recent);
-  advices_once = λ s. omega (
-    arith,
-    ap (count_by (is_shipment s)) step.advices,
-    count_push_once (is_shipment s) old.advices (opened a) (sound.advices_once s)
-        (λ h. ap (λ (x : List ℕ). advice_at x old.advices) (sym ((bytes_eq-Decides a.shipment s).0 h)) ∙ unknown),
-  );
-  orders_once = λ n. omega (arith, ap (count_by (is_number n)) step.orders, sound.orders_once n);
-  documents_once = λ n. omega (arith, ap (count_by (is_document n)) step.documents, sound.documents_once n);
+  advices_once = advices_once new.advices sorted.advices;
+  orders_once = orders_once new.orders sorted.orders;
+  documents_once = documents_once new.documents sorted.documents;
 }
+  where
+    sorted : AreSorted new
+    sorted = record {
+      rows = step.rows.sorted;
+      advices = advices_put_sorted (opened a) old.advices new.advices step.advices sound.sorted.advices;
+      orders = ap (rises_by comes_before number_of) step.orders ∙ sound.sorted.orders;
+      documents = ap (rises_by nat_lt entry_of) step.documents ∙ sound.sorted.documents;
+    }
 
 -- an advice that is opened
 seen_push : (o : Option Advice) (v b : Bool) (a : Advice) → (o ≡ None → v ≡ true)
@@ -61,12 +68,12 @@ seen_push None true true a h = refl
 seen_push None true false a h = refl
 seen_push None false b a h = let no : false ≡ true = h refl in absurd (cc)
 
-pub announced_shows : (a : Advice) (old new : PageFacts) (es : List Event) → IsAnnounced a old new → Shows old es → Shows new (es ++ Advised a ∷ [])
-announced_shows a old new es step shows = let e = Advised a in record {
+pub announced_shows : (a : Advice) (old new : PageFacts) (es : List Event) → IsAnnounced a old new → advice_at a.shipment old.advices ≡ None → Shows old es → Shows new (es ++ Advised a ∷ [])
+announced_shows a old new es step unknown shows = let e = Advised a in record {
   amounts = λ c i l. omega (arith, step.rows.amounts c i l, shows.amounts c i l, came_push es e c i l, went_push es e c i l, came_comes Expected (advised a) c i l, went_comes Expected (advised a) c i l);
   sinces = λ i l. found_kept (count_naming i l) es e refl ∙ shows.sinces i l ∙ ap positive (sym (step.rows.sinces i l));
   pairs = λ i l. omega (arith, step.rows.named i l, shows.pairs i l, named_append (flat_map named es) (advised a) i l, ap (λ (ls : List Line). named_by ls i l) (flat_map-append named es (e ∷ []) ∙ ap (λ (ls : List Line). flat_map named es ++ ls) (append-nil (advised a))));
-  advices = λ s. ap (advice_at s) step.advices ∙ find_push (is_shipment s) old.advices (opened a)
+  advices = λ s. ap (advice_at s) step.advices ∙ advice_put_new s (opened a) old.advices unknown
       ∙ ap (λ (o : Option PageAdvice). option_or o (cond (bytes_eq a.shipment s) (Some (opened a)) None)) (shows.advices s ∙ advice_view s es)
       ∙ seen_push (advice_under s es) (uncounted s es) (bytes_eq a.shipment s) a (λ none. ap not (shows.counted s none))
       ∙ ap (λ (o : Option Advice). advice_seen o (uncounted s es)) (sym (first_found_push (advice_if s) es e))

@@ -15,7 +15,10 @@ use Rattle.profile.specs.Events.{Event, Recounted, is_pair, quantity_of, count_n
 use Rattle.profile.specs.Movements.{Column, Expected, OnHand, Reservation, Shipped, comes, goes, balance}
 use Rattle.stock.specs.Told.{told, one, amount, since, given, named_by, positive}
 use Rattle.stock.specs.Moved.{set_by}
-use Rattle.stock.specs.Pages.{PageFacts, is_shipment, is_number, advice_at, order_at, awaited, held, IsSound}
+use Rattle.profile.specs.Bytes.{comes_before}
+use Rattle.stock.specs.Keyed.{rises_by, shipment_of, number_of}
+use Rattle.stock.specs.Pages.{PageFacts, advice_at, order_at, awaited, held, IsSound, AreSorted}
+use Rattle.stock.proofs.KeyLemmas.{sorted_distinct, sent_sorted, advices_once, orders_once, documents_once}
 use Rattle.stock.specs.Shows.{Shows, is_numbered_within}
 use Rattle.stock.specs.Steps.{is_unknown, is_below, is_on_hand, IsRecounted}
 use Rattle.stock.proofs.Tells.{pair_is, told_absent}
@@ -119,7 +122,8 @@ not_below rows (l ∷ ls) a b h t =
 pub recounted_sound : (n : ℕ) (sheet : List Line) (old new : PageFacts) → IsRecounted n sheet old new → IsSheet sheet → list_any (is_below old.rows) sheet ≡ false
     → old.recent < 1000 → IsSound old → IsSound new
 recounted_sound n sheet old new step is_sheet covers room sound = record {
-  distinct = λ a b. omega (arith, step.rows.named a b, sound.distinct a b);
+  sorted = sorted;
+  distinct = sorted_distinct new.rows step.rows.sorted;
   expected = λ a b. omega (arith, step.rows.others Expected a b refl, sound.expected a b, ap (λ (ks : List PageAdvice). awaited ks a b) step.advices);
   reserved = λ a b. omega (arith, step.rows.others Reservation a b refl, sound.reserved a b, ap (λ (ks : List PageOrder). held ks a b) step.orders);
   covered = λ a b. elim (cases_Bool (list_any (is_pair a b) sheet)) [
@@ -129,11 +133,19 @@ recounted_sound n sheet old new step is_sheet covers room sound = record {
   bounded = bounded;
   numbered = omega (arith, sound.numbered, step.next.entries);
   few = omega (arith, step.next.recent);
-  advices_once = λ s. omega (arith, ap (count_by (is_shipment s)) step.advices, sound.advices_once s);
-  orders_once = λ m. omega (arith, ap (count_by (is_number m)) step.orders, sound.orders_once m);
-  documents_once = step.documents.once sound.documents_once;
+  advices_once = advices_once new.advices sorted.advices;
+  orders_once = orders_once new.orders sorted.orders;
+  documents_once = documents_once new.documents sorted.documents;
 }
   where
+    sorted : AreSorted new
+    sorted = record {
+      rows = step.rows.sorted;
+      advices = ap (rises_by comes_before shipment_of) step.advices ∙ sound.sorted.advices;
+      orders = ap (rises_by comes_before number_of) step.orders ∙ sound.sorted.orders;
+      documents = sent_sorted n (codes "AW") old.documents new.documents step.documents sound.sorted.documents;
+    }
+
     now : (a b : List ℕ) → told (amount OnHand) a b new.rows ≡ cond (list_any (is_pair a b) sheet) (quantity_of sheet a b) (told (amount OnHand) a b old.rows)
     now a b = step.rows.on_hand a b ∙ set_once a b sheet (told (amount OnHand) a b old.rows) (is_sheet.once a b)
 

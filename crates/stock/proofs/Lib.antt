@@ -1,6 +1,10 @@
+pub mod Orders
+pub mod Texts
+pub mod Keys
+pub mod Finds
+pub mod KeyLemmas
 pub mod Tells
 pub mod Sums
-pub mod Finds
 pub mod Moves
 pub mod Marks
 pub mod PageLemmas
@@ -10,8 +14,6 @@ pub mod Events
 pub mod Announces
 pub mod Pairs
 pub mod Receives
-pub mod Sends
-pub mod Orders
 pub mod Ranks
 pub mod LotLemmas
 pub mod Shares
@@ -23,3 +25,5 @@ pub mod Corrects
 pub mod Acknowledges
 pub mod PageLaws
 pub mod ChangeLaws
+pub mod Leads
+pub mod Steppings

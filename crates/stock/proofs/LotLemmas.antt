@@ -1,5 +1,5 @@
 -- The lots that rows and events name.
-use Rattle.std.proofs.Common.{◌≡◌, ℕ, ◌+◌, ◌<◌, ◌≤◌, Bool, true, false, ◌||◌, cond, eqb, ltb, List, [], ◌∷◌, ◌++◌, ◌⊎◌, refl, ap, sym, ◌∙◌, subst, inl, inr, arith, length, get_or, take, map, Option, Some, None}
+use Rattle.std.proofs.Common.{◌≡◌, ℕ, zero, suc, ◌+◌, ◌<◌, ◌≤◌, Bool, true, false, ◌||◌, cond, eqb, ltb, List, [], ◌∷◌, ◌++◌, ◌⊎◌, refl, ap, sym, ◌∙◌, subst, inl, inr, arith, length, get_or, take, map, Option, Some, None}
 use Rattle.std.proofs.lemmas.Bool.{cases_Bool, both_ways, and_parts, ltb-true, lt-ltb, eqb-false, ne_eqb}
 use Rattle.std.proofs.lemmas.List.{take_more, map-append, append-nil}
 use Rattle.std.proofs.lemmas.List.Elements.{filter-append}
@@ -12,7 +12,9 @@ use Rattle.profile.specs.Means.{Line}
 use Rattle.profile.specs.Allotment.{Ranked, ranks_before, lots_named}
 use Rattle.profile.specs.Events.{Event, Enrolment, Advised, Ordered, Acknowledged, Counted, Picked, Recounted, is_pair, count_naming, since}
 use Rattle.stock.specs.Lots.{is_lot_of, rank_of, ranks_of}
+use Rattle.profile.specs.Bytes.{comes_before}
 use Rattle.stock.proofs.Orders.{Has, in_order_same}
+use Rattle.stock.proofs.Texts.{texts_never}
 use Rattle.stock.proofs.Ranks.{ranks_strict}
 use Rattle.stock.specs.Told.{is_row, told, one, since as first_count, positive, IsDistinct}
 use Rattle.stock.specs.Pages.{PageFacts}
@@ -105,7 +107,7 @@ filter_has {X} p x (y ∷ ys) h = elim (cases_Bool (p y)) [
 ]
 
 -- a row that is there is told of
-told_some : (a b : List ℕ) (rows : List LotRow) (r : LotRow) → Has r rows → is_row a b r ≡ true → told one a b rows ≡ 0 → ⊥
+pub told_some : (a b : List ℕ) (rows : List LotRow) (r : LotRow) → Has r rows → is_row a b r ≡ true → told one a b rows ≡ 0 → ⊥
 told_some a b [] r h e none = h
 told_some a b (x ∷ xs) r h e none = elim h [
   | inl same ↦ let here : is_row a b x ≡ true = ap (is_row a b) (sym same) ∙ e in absurd (omega (arith, told_cons one a b x xs, part_yes one a b x here))
@@ -208,3 +210,42 @@ lots_shown p es item shows distinct = in_order_same ranks_before ranks_strict (r
   where
     rank : List ℕ → Ranked
     rank lot = record { since = since es item lot; lot = lot }
+
+-- Only the rows of an item have its lots.
+
+pub lots_none_before : (item : List ℕ) (rows : List LotRow) (i : ℕ) → ((k : ℕ) (d : LotRow) → k < i → comes_before (get_or rows k d).item item ≡ true) → ranks_of item (take i rows) ≡ []
+lots_none_before item rows zero before = refl
+lots_none_before item [] (suc i) before = refl
+lots_none_before item (r ∷ rows) (suc i) before =
+    let apart : is_lot_of item r ≡ false = no_lot item r (before 0 r (omega arith)) in
+    rw apart (lots_none_before item rows i (λ k d lt. before (suc k) d (omega arith)))
+  where
+    no_lot : (item : List ℕ) (r : LotRow) → comes_before r.item item ≡ true → is_lot_of item r ≡ false
+    no_lot item r h = elim (cases_Bool (bytes_eq r.item item)) [
+      | inl e ↦
+          let same = (bytes_eq-Decides r.item item).0 e in
+          let g : true ≡ false = sym h ∙ ap (comes_before r.item) (sym same) ∙ texts_never r.item in
+          absurd (cc)
+      | inr e ↦ rw e refl
+    ]
+
+pub lots_none_behind : (item : List ℕ) (rows : List LotRow) (i : ℕ) → ((k : ℕ) (d : LotRow) → i ≤ k → k < length rows → comes_before item (get_or rows k d).item ≡ true)
+    → ranks_of item (take i rows) ≡ ranks_of item rows
+lots_none_behind item [] zero behind = refl
+lots_none_behind item (r ∷ rows) zero behind =
+    let apart : is_lot_of item r ≡ false = no_lot item r (behind 0 r (omega arith) (omega arith)) in
+    rw apart (lots_none_behind item rows zero (λ k d le within. behind (suc k) d (omega arith) (omega arith)))
+  where
+    no_lot : (item : List ℕ) (r : LotRow) → comes_before item r.item ≡ true → is_lot_of item r ≡ false
+    no_lot item r h = elim (cases_Bool (bytes_eq r.item item)) [
+      | inl e ↦
+          let same = (bytes_eq-Decides r.item item).0 e in
+          let g : true ≡ false = sym h ∙ ap (comes_before item) same ∙ texts_never item in
+          absurd (cc)
+      | inr e ↦ rw e refl
+    ]
+lots_none_behind item [] (suc i) behind = refl
+lots_none_behind item (r ∷ rows) (suc i) behind = elim (cases_Bool (is_lot_of item r)) [
+  | inl e ↦ rw e (ap (λ (rs : List Ranked). rank_of r ∷ rs) (lots_none_behind item rows i (λ k d le within. behind (suc k) d (omega arith) (omega arith))))
+  | inr e ↦ rw e (lots_none_behind item rows i (λ k d le within. behind (suc k) d (omega arith) (omega arith)))
+]

@@ -9,8 +9,10 @@ use Rattle.profile.specs.Rows.{LotRow}
 use Rattle.profile.specs.Means.{Line}
 use Rattle.profile.specs.Events.{is_pair}
 use Rattle.profile.specs.Movements.{Column, Expected, OnHand, Reservation, Shipped}
-use Rattle.stock.specs.Told.{is_row, told, one, since, amount, named_by, marked, positive, first_number, IsDistinct}
+use Rattle.stock.specs.Told.{is_row, told, one, since, amount, named_by, marked, positive, first_number}
+use Rattle.stock.specs.Keyed.{IsSorted}
 use Rattle.stock.specs.Moved.{IsPlace, IsMarked}
+use Rattle.stock.proofs.KeyLemmas.{sorted_distinct, sorted_kept}
 use Rattle.stock.proofs.Tells.{part, part_yes, part_no, told_set, told_kept, told_here, row_at, row_as_line}
 use Rattle.stock.proofs.Sums.{own_pair}
 
@@ -38,11 +40,13 @@ or_false true = refl
 or_false false = refl
 
 -- a row that a count names
-pub marked_at : (n : ℕ) (line : Line) (rows : List LotRow) (i : ℕ) (r : LotRow) → IsDistinct rows → IsPlace line.item line.lot rows i → r ≡ get_or rows i r
+pub marked_at : (n : ℕ) (line : Line) (rows : List LotRow) (i : ℕ) (r : LotRow) → IsSorted rows → IsPlace line.item line.lot rows i → r ≡ get_or rows i r
     → IsMarked n (line ∷ []) rows (set rows i (marked n r))
-marked_at n line rows i r distinct place is =
+marked_at n line rows i r sorted place is =
+    let distinct = sorted_distinct rows sorted in
     let at = row_at line rows i r place is in
     let y = marked n r in record {
+      sorted = sorted_kept rows i r y sorted at.within is refl;
       amounts = λ c a b. told_kept (amount c) line rows i r y at (λ a b. refl) (amount_marked c n r) a b;
       sinces = λ a b. elim (cases_Bool (is_pair a b line)) [
         | inl e ↦ let here : is_row a b r ≡ true = row_as_line a b line r at.here ∙ e in
@@ -61,6 +65,7 @@ pub marked_more : (n : ℕ) (lines : List Line) (i : ℕ) (l : Line) (old mid ne
 marked_more n lines i l old mid new positive within is first next =
     let e : take (i + 1) lines ≡ take i lines ++ l ∷ [] = take_more lines i l within ∙ ap (λ (x : Line). take i lines ++ x ∷ []) (sym is) in
     rw e (record {
+      sorted = next.sorted;
       amounts = λ c a b. next.amounts c a b ∙ first.amounts c a b;
       sinces = λ a b. next.sinces a b ∙ ap (first_number n (list_any (is_pair a b) (l ∷ []))) (first.sinces a b)
           ∙ first_twice n (told since a b old) (list_any (is_pair a b) (take i lines)) (list_any (is_pair a b) (l ∷ [])) positive
@@ -71,9 +76,6 @@ marked_more n lines i l old mid new positive within is first next =
 -- a line's pair is named by the lines
 pub named_own : (lines : List Line) (i : ℕ) (l : Line) → i < length lines → l ≡ get_or lines i l → named_by lines l.item l.lot ≡ 1
 named_own lines i l within is = ap (λ (v : Bool). cond v 1 0) (list_any_at (is_pair l.item l.lot) lines i l within (ap (is_pair l.item l.lot) (sym is) ∙ own_pair l))
-
-pub marked_distinct : (n : ℕ) (lines : List Line) (old new : List LotRow) → IsMarked n lines old new → IsDistinct old → IsDistinct new
-marked_distinct n lines old new marked distinct a b = omega (arith, distinct a b, marked.named a b)
 
 pub next_named : (n : ℕ) (lines : List Line) (i : ℕ) (l : Line) (old mid : List LotRow) → i < length lines → l ≡ get_or lines i l
     → IsMarked n (take i lines) old mid → ((a b : List ℕ) → named_by lines a b ≤ told one a b old) → 1 ≤ told one l.item l.lot mid

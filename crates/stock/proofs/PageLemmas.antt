@@ -12,6 +12,7 @@ use Rattle.stock.specs.Shows.{Shows, is_numbered_within}
 
 pub blank_sound : IsSound (record { rows = []; advices = []; orders = []; documents = []; entries = 0; recent = 0 })
 blank_sound = record {
+  sorted = record { rows = refl; advices = refl; orders = refl; documents = refl };
   distinct = λ a b. omega arith;
   expected = λ a b. refl;
   reserved = λ a b. refl;
@@ -40,6 +41,7 @@ blank_shows = record {
 
 pub next_sound : (p : PageFacts) → p.entries < most_entries → IsSound p → IsSound (next_entry p)
 next_sound p room sound = record {
+  sorted = record { rows = sound.sorted.rows; advices = sound.sorted.advices; orders = sound.sorted.orders; documents = sound.sorted.documents };
   distinct = sound.distinct;
   expected = sound.expected;
   reserved = sound.reserved;

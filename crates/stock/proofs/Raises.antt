@@ -8,23 +8,27 @@ use Rattle.profile.specs.Means.{Line}
 use Rattle.profile.specs.Events.{is_pair, quantity_of}
 use Rattle.profile.specs.Movements.{Column, Expected, OnHand, Reservation, Shipped, column_eq}
 use Rattle.stock.specs.Told.{is_row, told, one, since, amount, named_by, raised, with_on_hand, IsDistinct}
+use Rattle.stock.specs.Keyed.{IsSorted}
+use Rattle.stock.proofs.KeyLemmas.{sorted_distinct, sorted_kept}
 use Rattle.stock.specs.Moved.{IsPlace, IsTaken, IsRaised, IsShipped, IsSet, set_by}
 use Rattle.stock.proofs.Tells.{part, part_yes, part_no, told_set, told_kept, told_here, IsRowAt, row_at, row_as_line, told_named, placed_there, added_at, given_one, told_absent}
 use Rattle.stock.proofs.Sums.{given_append, given_here, quantity_next}
 use Rattle.stock.proofs.Marks.{named_own}
 
-pub raised_at : (k : Column) (line : Line) (rows : List LotRow) (i : ℕ) (r : LotRow) → IsPlace line.item line.lot rows i → r ≡ get_or rows i r
+pub raised_at : (k : Column) (line : Line) (rows : List LotRow) (i : ℕ) (r : LotRow) → IsSorted rows → IsPlace line.item line.lot rows i → r ≡ get_or rows i r
     → IsRaised k (line ∷ []) rows (set rows i (raised k line.quantity r))
-raised_at k line rows i r place is =
-    let added = added_at k line rows rows i r (placed_there line rows i place) is in record {
+raised_at k line rows i r sorted place is =
+    let added = added_at k line rows rows i r (placed_there line rows i sorted place) is in record {
+      sorted = added.sorted;
       amounts = added.amounts;
       sinces = added.sinces;
       named = λ a b. omega (arith, added.named a b, told_named line rows i place a b);
     }
 
 -- nothing comes to a pair without a row
-pub raised_none : (k : Column) (line : Line) (rows : List LotRow) → line.quantity ≡ 0 → IsRaised k (line ∷ []) rows rows
-raised_none k line rows nothing = record {
+pub raised_none : (k : Column) (line : Line) (rows : List LotRow) → IsSorted rows → line.quantity ≡ 0 → IsRaised k (line ∷ []) rows rows
+raised_none k line rows sorted nothing = record {
+  sorted = sorted;
   amounts = λ c a b. elim (cases_Bool (is_pair a b line)) [
     | inl e ↦ elim (cases_Bool (column_eq k c))
         [ inl f ↦ rw (given_one k line c a b, e, f) (omega (arith, nothing)) | inr f ↦ rw (given_one k line c a b, e, f) (omega arith) ]
@@ -39,6 +43,7 @@ pub raised_more : (k : Column) (lines : List Line) (i : ℕ) (l : Line) (old mid
 raised_more k lines i l old mid new within is first next =
     let e : take (i + 1) lines ≡ take i lines ++ l ∷ [] = take_more lines i l within ∙ ap (λ (x : Line). take i lines ++ x ∷ []) (sym is) in
     rw e (record {
+      sorted = next.sorted;
       amounts = λ c a b. omega (arith, first.amounts c a b, next.amounts c a b, given_append k (take i lines) (l ∷ []) c a b);
       sinces = λ a b. next.sinces a b ∙ first.sinces a b;
       named = λ a b. next.named a b ∙ first.named a b;
@@ -56,12 +61,10 @@ pub next_raised_there : (k : Column) (lines : List Line) (i : ℕ) (l : Line) (o
 next_raised_there k lines i l old mid within is first there none =
     omega (arith, there l.item l.lot (sym (first.named l.item l.lot) ∙ none), quantity_next lines i l within is)
 
-pub raised_distinct : (k : Column) (lines : List Line) (old new : List LotRow) → IsRaised k lines old new → IsDistinct old → IsDistinct new
-raised_distinct k lines old new step distinct a b = omega (arith, distinct a b, step.named a b)
-
 pub shipped_made : (reserved sheet : List Line) (r0 r1 r2 r3 : List LotRow) → IsTaken OnHand sheet r0 r1 → IsRaised Shipped sheet r1 r2 → IsTaken Reservation reserved r2 r3
     → IsShipped reserved sheet r0 r3
 shipped_made reserved sheet r0 r1 r2 r3 first second third = record {
+  sorted = third.sorted;
   amounts = λ c a b. omega (arith, first.amounts c a b, second.amounts c a b, third.amounts c a b);
   sinces = λ a b. third.sinces a b ∙ second.sinces a b ∙ first.sinces a b;
   named = λ a b. third.named a b ∙ second.named a b ∙ first.named a b;
@@ -94,11 +97,13 @@ set_told line rows i r distinct at a b =
           rw e all
     ]
 
-pub set_at : (line : Line) (rows : List LotRow) (i : ℕ) (r : LotRow) → IsDistinct rows → IsPlace line.item line.lot rows i → r ≡ get_or rows i r
+pub set_at : (line : Line) (rows : List LotRow) (i : ℕ) (r : LotRow) → IsSorted rows → IsPlace line.item line.lot rows i → r ≡ get_or rows i r
     → IsSet (line ∷ []) rows (set rows i (with_on_hand line.quantity r))
-set_at line rows i r distinct place is =
+set_at line rows i r sorted place is =
+    let distinct = sorted_distinct rows sorted in
     let at = row_at line rows i r place is in
     let y = with_on_hand line.quantity r in record {
+      sorted = sorted_kept rows i r y sorted at.within is refl;
       on_hand = set_told line rows i r distinct at;
       others = λ c a b e. told_kept (amount c) line rows i r y at (λ a b. refl) (amount_set c line.quantity r e) a b;
       sinces = λ a b. told_kept since line rows i r y at (λ a b. refl) refl a b;
@@ -110,6 +115,7 @@ pub set_more : (lines : List Line) (i : ℕ) (l : Line) (old mid new : List LotR
 set_more lines i l old mid new within is first next =
     let e : take (i + 1) lines ≡ take i lines ++ l ∷ [] = take_more lines i l within ∙ ap (λ (x : Line). take i lines ++ x ∷ []) (sym is) in
     rw e (record {
+      sorted = next.sorted;
       on_hand = λ a b. next.on_hand a b ∙ ap (set_by (l ∷ []) a b) (first.on_hand a b)
           ∙ sym (fold-append (λ (m : ℕ) (k : Line). cond (is_pair a b k) k.quantity m) (told (amount OnHand) a b old) (take i lines) (l ∷ []));
       others = λ c a b e. next.others c a b e ∙ first.others c a b e;
@@ -120,9 +126,6 @@ set_more lines i l old mid new within is first next =
 pub next_set : (lines : List Line) (i : ℕ) (l : Line) (old mid : List LotRow) → i < length lines → l ≡ get_or lines i l
     → IsSet (take i lines) old mid → ((a b : List ℕ) → named_by lines a b ≤ told one a b old) → 1 ≤ told one l.item l.lot mid
 next_set lines i l old mid within is first there = omega (arith, first.named l.item l.lot, there l.item l.lot, named_own lines i l within is)
-
-pub set_distinct : (lines : List Line) (old new : List LotRow) → IsSet lines old new → IsDistinct old → IsDistinct new
-set_distinct lines old new step distinct a b = omega (arith, distinct a b, step.named a b)
 
 pub sheet_there : (sheet : List Line) (old new : List LotRow) → IsTaken OnHand sheet old new → ((a b : List ℕ) → quantity_of sheet a b ≤ told (amount OnHand) a b old)
     → (a b : List ℕ) → told one a b new ≡ 0 → quantity_of sheet a b ≡ 0

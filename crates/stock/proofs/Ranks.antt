@@ -4,7 +4,7 @@ use Rattle.std.proofs.lemmas.Bool.{both_ways, ltb-true, eqb-true, lt-ltb, le-ltb
 use Rattle.profile.specs.Bytes.{comes_before}
 use Rattle.profile.specs.Allotment.{Ranked, ranks_before}
 use Rattle.stock.proofs.Orders.{IsStrict}
-use Rattle.stock.proofs.Pairs.{texts_never, texts_through, texts_total}
+use Rattle.stock.proofs.Texts.{texts_never, texts_through, texts_total}
 
 -- what the order of ranks says
 rank_says : (x y : Ranked) → ranks_before x y ≡ true → (x.since < y.since) ⊎ ((x.since ≡ y.since) × (comes_before x.lot y.lot ≡ true))

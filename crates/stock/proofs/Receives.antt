@@ -1,11 +1,10 @@
 -- A page with an advice counted.
-use Rattle.std.proofs.Common.{◌≡◌, ℕ, ◌+◌, ◌<◌, ◌≤◌, ◌^◌, Bool, true, false, ◌||◌, not, cond, eqb, List, [], ◌∷◌, ◌++◌, map, length, get_or, set, take, refl, ap, sym, ◌∙◌, arith, inl, inr, Option, Some, None, Ok, Err}
+use Rattle.std.proofs.Common.{◌≡◌, ℕ, ◌+◌, ◌<◌, ◌≤◌, ◌^◌, Bool, true, false, ◌||◌, not, cond, eqb, List, [], ◌∷◌, ◌++◌, map, refl, ap, sym, ◌∙◌, arith, inl, inr, Option, Some, None, Ok, Err}
 use Rattle.std.proofs.lemmas.Bool.{cases_Bool, and_parts, leb-true, le-ltb, eqb-true}
 use Rattle.std.proofs.lemmas.List.{append-nil}
-use Rattle.std.proofs.lemmas.List.Sums.{sum_by-set, get_or-le-sum_by}
 use Rattle.std.proofs.lemmas.Grind.{flat_map-append}
 use Rattle.std.proofs.lemmas.Slice.Eq.{bytes_eq-Decides}
-use Rattle.std.specs.Prelude.{bytes_eq, option_map, flat_map, codes, count_by, nat_lt, nat_le}
+use Rattle.std.specs.Prelude.{bytes_eq, option_map, flat_map, codes, nat_lt, nat_le}
 use Rattle.std.specs.Option.{option_or}
 use Rattle.std.specs.List.{list_any, list_all}
 use Rattle.profile.specs.Lists.{or_else}
@@ -17,12 +16,16 @@ use Rattle.profile.specs.Page.{PageAdvice, PageOrder, PageDocument, page_advice}
 use Rattle.profile.specs.Events.{Event, Enrolment, Advised, Ordered, Acknowledged, Counted, Picked, Recounted, is_pair, quantity_of, advice_if, advice_under, counts, is_advice_open, count_naming}
 use Rattle.profile.specs.Movements.{Column, Expected, OnHand, Reservation, column_eq, comes, goes}
 use Rattle.stock.specs.Told.{told, amount, since, given, named_by, positive}
-use Rattle.stock.specs.Pages.{PageFacts, IsAt, is_shipment, is_number, advice_at, order_at, document_at, awaited, held, IsSound}
+use Rattle.profile.specs.Bytes.{comes_before}
+use Rattle.stock.specs.Keyed.{rises_by, number_of, put_advice}
+use Rattle.stock.specs.Pages.{PageFacts, is_shipment, advice_at, order_at, document_at, awaited, held, IsSound, AreSorted}
 use Rattle.stock.specs.Shows.{Shows, sent_if, sent_under, document_of, is_numbered_within}
-use Rattle.stock.specs.Steps.{closed_advice, IsSent, IsReceived}
-use Rattle.stock.proofs.Sums.{named_few, named_append}
+use Rattle.stock.specs.Steps.{closed_advice, with_sent, IsReceived}
+use Rattle.stock.proofs.Keys.{was}
+use Rattle.stock.proofs.KeyLemmas.{sorted_distinct, advice_sum, advice_put, advices_put_sorted, sent_sorted, sent_found, advices_once, orders_once, documents_once}
+use Rattle.stock.proofs.Sums.{named_append}
 use Rattle.stock.proofs.Moves.{came_push, went_push, came_append, went_append, came_comes, went_comes, came_goes, went_goes}
-use Rattle.stock.proofs.Finds.{first_found_push, find_at, find_set, count_set, map_some, map_none}
+use Rattle.stock.proofs.Finds.{first_found_push, found_says, found_le, map_some, map_none}
 use Rattle.stock.proofs.PageLemmas.{all_numbered_same, own_number}
 use Rattle.stock.proofs.Pairs.{IsSheet}
 use Rattle.stock.proofs.Views.{advice_seen, uncounted, advice_view, advice_found_under}
@@ -33,10 +36,10 @@ abbrev pub open_part : List ℕ → List ℕ → PageAdvice → ℕ
 open_part i l k = cond k.is_open (quantity_of k.lines i l) 0
 
 -- what an open advice brings is expected
-pub expected_there : (p : PageFacts) (i : ℕ) (k : PageAdvice) → IsSound p → i < length p.advices → k ≡ get_or p.advices i k → k.is_open ≡ true
+pub expected_there : (p : PageFacts) (s : List ℕ) (k : PageAdvice) → IsSound p → advice_at s p.advices ≡ Some k → k.is_open ≡ true
     → (a b : List ℕ) → quantity_of k.lines a b ≤ told (amount Expected) a b p.rows
-expected_there p i k sound within is opened a b =
-    omega (arith, sound.expected a b, get_or-le-sum_by (open_part a b) p.advices i k within, ap (open_part a b) is, ap (λ (v : Bool). cond v (quantity_of k.lines a b) 0) opened)
+expected_there p s k sound known opened a b =
+    omega (arith, sound.expected a b, found_le (open_part a b) (is_shipment s) p.advices k known, ap (λ (v : Bool). cond v (quantity_of k.lines a b) 0) opened)
 
 pub given_at_most : (k : Column) (lines : List Line) (c : Column) (a b : List ℕ) → given k lines c a b ≤ quantity_of lines a b
 given_at_most k lines c a b = elim (cases_Bool (column_eq k c)) [ inl e ↦ rw e (omega arith) | inr e ↦ rw e (omega arith) ]
@@ -44,17 +47,18 @@ given_at_most k lines c a b = elim (cases_Bool (column_eq k c)) [ inl e ↦ rw e
 pub sheet_fits : (p : PageFacts) (sheet : List Line) → IsSheet sheet → IsSound p → (item lot : List ℕ) → told (amount OnHand) item lot p.rows + quantity_of sheet item lot < 2 ^ 64
 sheet_fits p sheet is_sheet sound item lot = omega (arith, sound.bounded OnHand item lot, sound.numbered, sound.few, is_sheet.little item lot)
 
-pub received_sound : (n i : ℕ) (k : PageAdvice) (sheet : List Line) (old new : PageFacts) → IsReceived n i k sheet old new
-    → i < length old.advices → k ≡ get_or old.advices i k → k.is_open ≡ true → IsSheet sheet → old.recent < 1000 → IsSound old → IsSound new
-received_sound n i k sheet old new step within is opened is_sheet room sound = record {
-  distinct = λ a b. omega (arith, step.rows.named a b, sound.distinct a b, named_few sheet a b);
+pub received_sound : (n : ℕ) (k : PageAdvice) (sheet : List Line) (old new : PageFacts) → IsReceived n k sheet old new
+    → advice_at k.shipment old.advices ≡ Some k → k.is_open ≡ true → IsSheet sheet → old.recent < 1000 → IsSound old → IsSound new
+received_sound n k sheet old new step known opened is_sheet room sound = record {
+  sorted = sorted;
+  distinct = sorted_distinct new.rows step.rows.sorted;
   expected = λ a b. omega (
     arith,
     step.rows.amounts Expected a b,
     sound.expected a b,
     ap (λ (ks : List PageAdvice). awaited ks a b) step.advices,
-    sum_by-set (open_part a b) old.advices i (closed_advice k) k within,
-    ap (open_part a b) is,
+    advice_sum (open_part a b) (closed_advice k) old.advices sound.sorted.advices,
+    ap (was (open_part a b)) known,
     ap (λ (v : Bool). cond v (quantity_of k.lines a b) 0) opened,
   );
   reserved = λ a b. omega (arith, step.rows.amounts Reservation a b, sound.reserved a b, ap (λ (ks : List PageOrder). held ks a b) step.orders);
@@ -62,28 +66,35 @@ received_sound n i k sheet old new step within is opened is_sheet room sound = r
   bounded = λ c a b. omega (arith, step.rows.amounts c a b, sound.bounded c a b, given_at_most OnHand sheet c a b, is_sheet.little a b, step.next.entries, step.next.recent);
   numbered = omega (arith, sound.numbered, step.next.entries);
   few = omega (arith, step.next.recent);
-  advices_once = λ s. omega (arith, ap (count_by (is_shipment s)) step.advices, count_set (is_shipment s) old.advices i k (closed_advice k) within is refl, sound.advices_once s);
-  orders_once = λ m. omega (arith, ap (count_by (is_number m)) step.orders, sound.orders_once m);
-  documents_once = step.documents.once sound.documents_once;
+  advices_once = advices_once new.advices sorted.advices;
+  orders_once = orders_once new.orders sorted.orders;
+  documents_once = documents_once new.documents sorted.documents;
 }
+  where
+    sorted : AreSorted new
+    sorted = record {
+      rows = step.rows.sorted;
+      advices = advices_put_sorted (closed_advice k) old.advices new.advices step.advices sound.sorted.advices;
+      orders = ap (rises_by comes_before number_of) step.orders ∙ sound.sorted.orders;
+      documents = sent_sorted n (codes "RE") old.documents new.documents step.documents sound.sorted.documents;
+    }
 
--- The advice at i is closed.
+-- The advice is closed.
 
 abbrev pub closed_if : Bool → Option PageAdvice → Option PageAdvice
 closed_if true o = option_map closed_advice o
 closed_if false o = o
 
-advice_set : (s shipment : List ℕ) (ks : List PageAdvice) (i : ℕ) (k : PageAdvice) → IsAt (is_shipment shipment) ks i → k ≡ get_or ks i k
-    → advice_at s (set ks i (closed_advice k)) ≡ closed_if (bytes_eq shipment s) (advice_at s ks)
-advice_set s shipment ks i k at is =
-    let key : k.shipment ≡ shipment = (bytes_eq-Decides k.shipment shipment).0 (ap (is_shipment shipment) is ∙ at.here k) in
-    find_set (is_shipment s) ks i k (closed_advice k) at.within is refl
-    (λ e. ap (λ (t : List ℕ). advice_at t (take i ks)) (sym ((bytes_eq-Decides k.shipment s).0 e) ∙ key) ∙ at.first)
+advice_closed : (s shipment : List ℕ) (ks : List PageAdvice) (k : PageAdvice) → advice_at shipment ks ≡ Some k
+    → advice_at s (put_advice (closed_advice k) ks) ≡ closed_if (bytes_eq shipment s) (advice_at s ks)
+advice_closed s shipment ks k known =
+    let key : k.shipment ≡ shipment = (bytes_eq-Decides k.shipment shipment).0 (found_says (is_shipment shipment) ks k known) in
+    advice_put s (closed_advice k) ks
     ∙ ap (λ (t : List ℕ). cond (bytes_eq t s) (Some (closed_advice k)) (advice_at s ks)) key
     ∙ by (bytes_eq shipment s) refl
   where
     by : (v : Bool) → bytes_eq shipment s ≡ v → cond v (Some (closed_advice k)) (advice_at s ks) ≡ closed_if v (advice_at s ks)
-    by true e = ap (option_map closed_advice) (sym (ap (λ (t : List ℕ). advice_at t ks) (sym ((bytes_eq-Decides shipment s).0 e)) ∙ find_at (is_shipment shipment) ks i k at is))
+    by true e = ap (option_map closed_advice) (sym (ap (λ (t : List ℕ). advice_at t ks) (sym ((bytes_eq-Decides shipment s).0 e)) ∙ known))
     by false e = refl
 
 closed_seen : (b v : Bool) (o : Option Advice) → closed_if b (advice_seen o v) ≡ advice_seen o (cond b false v)
@@ -118,12 +129,12 @@ said_none n f (Picked m o shares sheet ∷ es) h = said_none n f es (and_parts (
 said_none n f (Recounted m before sheet ∷ es) h = said_none n f es (and_parts (is_numbered_within n (Recounted m before sheet)) (list_all (is_numbered_within n) es) h).1
 
 -- a document more
-pub sent_shown : (es : List Event) (e : Event) (n : ℕ) (f : List ℕ) (old new : List PageDocument) → IsSent n f old new
+pub sent_shown : (es : List Event) (e : Event) (n : ℕ) (f : List ℕ) (old new : List PageDocument) → new ≡ with_sent n f old
     → ((m : ℕ) → sent_if m e ≡ cond (eqb n m) (Some f) None) → ((m : ℕ) (g : List ℕ) → acknowledges m g e ≡ None)
     → list_all (is_numbered_within n) es ≡ true → (m : ℕ) → document_at m old ≡ option_map (document_of es m) (sent_under m es)
     → document_at m new ≡ option_map (document_of (es ++ e ∷ []) m) (sent_under m (es ++ e ∷ []))
 sent_shown es e n f old new sent by_event silent numbered m shown =
-    sent.found m
+    ap (document_at m) sent ∙ sent_found n m f old
     ∙ ap (λ (o : Option PageDocument). option_or o (cond (eqb n m) (Some (record { n = n; function = f; said = None })) None)) shown
     ∙ by (sent_under m es) (eqb n m) refl
     ∙ ap (option_map (document_of (es ++ e ∷ []) m)) (ap (or_else (sent_under m es)) (sym (by_event m)) ∙ sym (first_found_push (sent_if m) es e))
@@ -163,10 +174,10 @@ pub counted_ok : (es : List Event) (n : ℕ) (s : List ℕ) (a : Advice) (k : Pa
     → counted es n s sheet ≡ Ok (Counted n a sheet)
 counted_ok es n s a k sheet found is opened = rw (found, open_known es s a k true found is opened) refl
 
-pub received_shows : (n i : ℕ) (k : PageAdvice) (a : Advice) (sheet : List Line) (shipment : List ℕ) (old new : PageFacts) (es : List Event)
-    → n ≡ old.entries + 1 → IsReceived n i k sheet old new → IsAt (is_shipment shipment) old.advices i → k ≡ get_or old.advices i k
+pub received_shows : (n : ℕ) (k : PageAdvice) (a : Advice) (sheet : List Line) (shipment : List ℕ) (old new : PageFacts) (es : List Event)
+    → n ≡ old.entries + 1 → IsReceived n k sheet old new → advice_at shipment old.advices ≡ Some k
     → advice_under shipment es ≡ Some a → page_advice es a ≡ k → Shows old es → Shows new (es ++ Counted n a sheet ∷ [])
-received_shows n i k a sheet shipment old new es number step at is found seen shows =
+received_shows n k a sheet shipment old new es number step known found seen shows =
     let e = Counted n a sheet in
     let lines : k.lines ≡ advised a = ap (λ (x : PageAdvice). x.lines) (sym seen) in
     let key : a.shipment ≡ shipment = advice_found_under shipment es a found in
@@ -195,7 +206,7 @@ received_shows n i k a sheet shipment old new es number step at is found seen sh
         named_append (flat_map named es) sheet x y,
         ap (λ (ls : List Line). named_by ls x y) (flat_map-append named es (e ∷ []) ∙ ap (λ (ls : List Line). flat_map named es ++ ls) (append-nil sheet)),
       );
-      advices = λ s. ap (advice_at s) step.advices ∙ advice_set s shipment old.advices i k at is
+      advices = λ s. ap (advice_at s) step.advices ∙ advice_closed s shipment old.advices k known
           ∙ ap (closed_if (bytes_eq shipment s)) (shows.advices s ∙ advice_view s es)
           ∙ closed_seen (bytes_eq shipment s) (uncounted s es) (advice_under s es)
           ∙ ap (λ (t : List ℕ). advice_seen (advice_under s es) (cond (bytes_eq t s) false (uncounted s es))) (sym key)

@@ -1,10 +1,8 @@
 -- A page with an order more.
 use Rattle.std.proofs.Common.{◌≡◌, ℕ, ◌+◌, ◌*◌, ◌<◌, ◌≤◌, ◌^◌, Bool, true, false, not, cond, List, [], ◌∷◌, ◌++◌, refl, ap, sym, ◌∙◌, subst, arith, Option, Some, None}
 use Rattle.std.proofs.lemmas.List.{append-nil}
-use Rattle.std.proofs.lemmas.List.Sums.{sum_by_push}
 use Rattle.std.proofs.lemmas.Grind.{flat_map-append}
-use Rattle.std.proofs.lemmas.Slice.Eq.{bytes_eq-Decides}
-use Rattle.std.specs.Prelude.{bytes_eq, is_some, option_map, flat_map, count_by}
+use Rattle.std.specs.Prelude.{bytes_eq, is_some, option_map, flat_map, nat_lt}
 use Rattle.std.specs.Option.{option_or}
 use Rattle.profile.specs.Limits.{most_recounted}
 use Rattle.profile.specs.Lists.{or_else}
@@ -14,11 +12,15 @@ use Rattle.profile.specs.Page.{PageAdvice, PageOrder, page_order, reserved_lines
 use Rattle.profile.specs.Events.{Event, Ordered, quantity_of, order_if, order_under, Reserved, picks, count_naming, order_fault, order_fault_where, repeated, same_order_item, repeated_item, wrong_order_total}
 use Rattle.profile.specs.Movements.{Column, Expected, OnHand, Reservation, Shipped}
 use Rattle.stock.specs.Told.{told, amount, given, named_by, positive}
-use Rattle.stock.specs.Pages.{PageFacts, is_shipment, is_number, is_document, advice_at, order_at, document_at, awaited, held, IsSound}
+use Rattle.stock.specs.Pages.{PageFacts, advice_at, order_at, document_at, awaited, held, IsSound, AreSorted}
 use Rattle.stock.specs.Shows.{Shows, is_numbered_within, NamesEachOnce}
 use Rattle.stock.specs.Steps.{opened_order, IsReserved}
 use Rattle.stock.proofs.Moves.{came_push, went_push, came_comes, went_comes}
-use Rattle.stock.proofs.Finds.{first_found_push, find_push, count_push_once, map_none}
+use Rattle.stock.proofs.Finds.{first_found_push, map_none}
+use Rattle.profile.specs.Bytes.{comes_before}
+use Rattle.stock.specs.Keyed.{rises_by, shipment_of, entry_of}
+use Rattle.stock.proofs.Keys.{was}
+use Rattle.stock.proofs.KeyLemmas.{sorted_distinct, order_sum, order_put_new, orders_put_sorted, advices_once, orders_once, documents_once}
 use Rattle.stock.proofs.PageLemmas.{all_numbered_same}
 use Rattle.stock.proofs.Views.{order_seen, unpicked, order_view}
 use Rattle.stock.proofs.Events.{found_kept, or_else_left, any_kept, all_push, advice_kept, document_kept, counted_kept, picked_kept}
@@ -39,28 +41,33 @@ within_bound p shares allotted sound Shipped a b = omega (arith, sound.bounded S
 pub reserved_sound : (o : Order) (shares : List Line) (old new : PageFacts) → IsReserved o shares old new → IsAllotted old.rows shares
     → order_at o.number old.orders ≡ None → old.recent < 1000 → IsSound old → IsSound new
 reserved_sound o shares old new step allotted unknown room sound = record {
-  distinct = λ a b. omega (arith, step.rows.named a b, sound.distinct a b, allotted.named a b);
+  sorted = sorted;
+  distinct = sorted_distinct new.rows step.rows.sorted;
   expected = λ a b. omega (arith, step.rows.amounts Expected a b, sound.expected a b, ap (λ (ks : List PageAdvice). awaited ks a b) step.advices);
   reserved = λ a b. omega (
     arith,
     step.rows.amounts Reservation a b,
     sound.reserved a b,
     ap (λ (ks : List PageOrder). held ks a b) step.orders,
-    sum_by_push (λ (k : PageOrder). cond k.is_open (quantity_of k.reserved a b) 0) old.orders (opened_order o shares),
+    order_sum (λ (k : PageOrder). cond k.is_open (quantity_of k.reserved a b) 0) (opened_order o shares) old.orders sound.sorted.orders,
+    ap (was (λ (k : PageOrder). cond k.is_open (quantity_of k.reserved a b) 0)) unknown,
   );
   covered = λ a b. omega (arith, step.rows.amounts Reservation a b, step.rows.amounts OnHand a b, sound.covered a b, allotted.within a b);
   bounded = λ c a b. omega (arith, step.rows.amounts c a b, within_bound old shares allotted sound c a b, step.next.entries, step.next.recent);
   numbered = omega (arith, sound.numbered, step.next.entries);
   few = omega (arith, step.next.recent);
-  advices_once = λ s. omega (arith, ap (count_by (is_shipment s)) step.advices, sound.advices_once s);
-  orders_once = λ n. omega (
-    arith,
-    ap (count_by (is_number n)) step.orders,
-    count_push_once (is_number n) old.orders (opened_order o shares) (sound.orders_once n)
-        (λ h. ap (λ (x : List ℕ). order_at x old.orders) (sym ((bytes_eq-Decides o.number n).0 h)) ∙ unknown),
-  );
-  documents_once = λ n. omega (arith, ap (count_by (is_document n)) step.documents, sound.documents_once n);
+  advices_once = advices_once new.advices sorted.advices;
+  orders_once = orders_once new.orders sorted.orders;
+  documents_once = documents_once new.documents sorted.documents;
 }
+  where
+    sorted : AreSorted new
+    sorted = record {
+      rows = step.rows.sorted;
+      advices = ap (rises_by comes_before shipment_of) step.advices ∙ sound.sorted.advices;
+      orders = orders_put_sorted (opened_order o shares) old.orders new.orders step.orders sound.sorted.orders;
+      documents = ap (rises_by nat_lt entry_of) step.documents ∙ sound.sorted.documents;
+    }
 
 -- an order that is opened
 seen_push : (x : Option Reserved) (v b : Bool) (o : Order) (shares : List Line) → (x ≡ None → v ≡ true)
@@ -76,9 +83,9 @@ each_once (Some y) b r h g = h
 each_once None true r h g = g
 each_once None false r h g = tt
 
-pub reserved_shows : (o : Order) (shares : List Line) (old new : PageFacts) (es : List Event) → IsReserved o shares old new → IsAllotted old.rows shares → Shows old es
+pub reserved_shows : (o : Order) (shares : List Line) (old new : PageFacts) (es : List Event) → IsReserved o shares old new → IsAllotted old.rows shares → order_at o.number old.orders ≡ None → Shows old es
     → Shows new (es ++ Ordered o shares ∷ [])
-reserved_shows o shares old new es step allotted shows = let e = Ordered o shares in let r : Reserved = record { order = o; shares = shares } in record {
+reserved_shows o shares old new es step allotted unknown shows = let e = Ordered o shares in let r : Reserved = record { order = o; shares = shares } in record {
   amounts = λ c a b. omega (
     arith,
     step.rows.amounts c a b,
@@ -98,7 +105,7 @@ reserved_shows o shares old new es step allotted shows = let e = Ordered o share
     ap (λ (ls : List Line). named_by ls a b) (flat_map-append named es (e ∷ []) ∙ append-nil (flat_map named es)),
   );
   advices = λ s. ap (advice_at s) step.advices ∙ shows.advices s ∙ advice_kept es e s refl refl;
-  orders = λ n. ap (order_at n) step.orders ∙ find_push (is_number n) old.orders (opened_order o shares)
+  orders = λ n. ap (order_at n) step.orders ∙ order_put_new n (opened_order o shares) old.orders unknown
       ∙ ap (λ (x : Option PageOrder). option_or x (cond (bytes_eq o.number n) (Some (opened_order o shares)) None)) (shows.orders n ∙ order_view n es)
       ∙ seen_push (order_under n es) (unpicked n es) (bytes_eq o.number n) o shares (λ none. ap not (shows.picked n none))
       ∙ ap (λ (x : Option Reserved). order_seen x (unpicked n es)) (sym (first_found_push (order_if n) es e))

@@ -1,8 +1,7 @@
 -- A page with an order picked.
-use Rattle.std.proofs.Common.{◌≡◌, ℕ, ◌+◌, ◌<◌, ◌≤◌, ◌^◌, Bool, true, false, ◌||◌, not, cond, ltb, List, [], ◌∷◌, ◌++◌, map, length, get_or, set, take, refl, ap, sym, ◌∙◌, subst, arith, inl, inr, Option, Some, None, Ok, Err}
+use Rattle.std.proofs.Common.{◌≡◌, ℕ, ◌+◌, ◌<◌, ◌≤◌, ◌^◌, Bool, true, false, ◌||◌, not, cond, ltb, List, [], ◌∷◌, ◌++◌, map, refl, ap, sym, ◌∙◌, subst, arith, inl, inr, Option, Some, None, Ok, Err}
 use Rattle.std.proofs.lemmas.Bool.{cases_Bool, ltb-false}
 use Rattle.std.proofs.lemmas.List.{append-nil}
-use Rattle.std.proofs.lemmas.List.Sums.{sum_by-set, get_or-le-sum_by}
 use Rattle.std.proofs.lemmas.Grind.{flat_map-append}
 use Rattle.std.proofs.lemmas.Slice.Eq.{bytes_eq-Decides}
 use Rattle.std.specs.Prelude.{bytes_eq, option_map, flat_map, count_by, codes}
@@ -15,11 +14,15 @@ use Rattle.profile.specs.Page.{PageAdvice, PageOrder, page_order, reserved_lines
 use Rattle.profile.specs.Events.{Event, Picked, is_pair, quantity_of, order_if, order_under, Reserved, picks, is_order_open, count_naming}
 use Rattle.profile.specs.Movements.{Column, Expected, OnHand, Reservation, Shipped, comes, goes}
 use Rattle.stock.specs.Told.{told, amount, given, named_by, positive}
-use Rattle.stock.specs.Pages.{PageFacts, IsAt, is_shipment, is_number, advice_at, order_at, awaited, held, IsSound}
+use Rattle.profile.specs.Bytes.{comes_before}
+use Rattle.stock.specs.Keyed.{rises_by, shipment_of, put_order}
+use Rattle.stock.specs.Pages.{PageFacts, is_number, advice_at, order_at, awaited, held, IsSound, AreSorted}
+use Rattle.stock.proofs.Keys.{was}
+use Rattle.stock.proofs.KeyLemmas.{sorted_distinct, order_sum, order_put, orders_put_sorted, sent_sorted, advices_once, orders_once, documents_once}
 use Rattle.stock.specs.Shows.{Shows, is_numbered_within, NamesEachOnce}
 use Rattle.stock.specs.Steps.{closed_order, exceeds, IsPicked}
 use Rattle.stock.proofs.Moves.{came_push, went_push, came_append, went_append, came_comes, went_comes, came_goes, went_goes}
-use Rattle.stock.proofs.Finds.{find_at, find_set, count_set, map_some, map_none}
+use Rattle.stock.proofs.Finds.{found_says, found_le, map_some, map_none}
 use Rattle.stock.proofs.PageLemmas.{all_numbered_same, own_number}
 use Rattle.stock.proofs.Pairs.{IsSheet, count_yes, count_no, quantity_yes, quantity_no, quantity_none}
 use Rattle.stock.proofs.Tells.{pair_is}
@@ -31,14 +34,14 @@ abbrev pub held_part : List ℕ → List ℕ → PageOrder → ℕ
 held_part i l k = cond k.is_open (quantity_of k.reserved i l) 0
 
 -- what is held for an open order is reserved, and so on hand
-pub held_there : (p : PageFacts) (i : ℕ) (k : PageOrder) → IsSound p → i < length p.orders → k ≡ get_or p.orders i k → k.is_open ≡ true
+pub held_there : (p : PageFacts) (s : List ℕ) (k : PageOrder) → IsSound p → order_at s p.orders ≡ Some k → k.is_open ≡ true
     → (a b : List ℕ) → quantity_of k.reserved a b ≤ told (amount Reservation) a b p.rows
-held_there p i k sound within is opened a b =
-    omega (arith, sound.reserved a b, get_or-le-sum_by (held_part a b) p.orders i k within, ap (held_part a b) is, ap (λ (v : Bool). cond v (quantity_of k.reserved a b) 0) opened)
+held_there p s k sound known opened a b =
+    omega (arith, sound.reserved a b, found_le (held_part a b) (is_number s) p.orders k known, ap (λ (v : Bool). cond v (quantity_of k.reserved a b) 0) opened)
 
-pub held_fits : (p : PageFacts) (i : ℕ) (k : PageOrder) → IsSound p → i < length p.orders → k ≡ get_or p.orders i k → k.is_open ≡ true
+pub held_fits : (p : PageFacts) (s : List ℕ) (k : PageOrder) → IsSound p → order_at s p.orders ≡ Some k → k.is_open ≡ true
     → (a b : List ℕ) → quantity_of k.reserved a b < 2 ^ 64
-held_fits p i k sound within is opened a b = omega (arith, held_there p i k sound within is opened a b, sound.bounded Reservation a b, sound.numbered, sound.few)
+held_fits p s k sound known opened a b = omega (arith, held_there p s k sound known opened a b, sound.bounded Reservation a b, sound.numbered, sound.few)
 
 -- no line exceeds, and so no pair does
 unlike : (p q : Bool) → (p || q) ≡ false → (p ≡ false) × (q ≡ false)
@@ -59,46 +62,54 @@ within_reserved reserved (l ∷ ls) a b h few =
       | inr e ↦ omega (arith, quantity_no a b l ls e, within_reserved reserved ls a b u.1 (omega (arith, count_no (is_pair a b) l ls e, few)))
     ]
 
-pub picked_sound : (n i : ℕ) (k : PageOrder) (sheet : List Line) (old new : PageFacts) → IsPicked n i k sheet old new
-    → i < length old.orders → k ≡ get_or old.orders i k → k.is_open ≡ true → IsSheet sheet → list_any (exceeds k.reserved) sheet ≡ false → old.recent < 1000 → IsSound old → IsSound new
-picked_sound n i k sheet old new step within is opened is_sheet covers room sound = record {
-  distinct = λ a b. omega (arith, step.rows.named a b, sound.distinct a b);
+pub picked_sound : (n : ℕ) (k : PageOrder) (sheet : List Line) (old new : PageFacts) → IsPicked n k sheet old new
+    → order_at k.number old.orders ≡ Some k → k.is_open ≡ true → IsSheet sheet → list_any (exceeds k.reserved) sheet ≡ false → old.recent < 1000 → IsSound old → IsSound new
+picked_sound n k sheet old new step known opened is_sheet covers room sound = record {
+  sorted = sorted;
+  distinct = sorted_distinct new.rows step.rows.sorted;
   expected = λ a b. omega (arith, step.rows.amounts Expected a b, sound.expected a b, ap (λ (ks : List PageAdvice). awaited ks a b) step.advices);
   reserved = λ a b. omega (
     arith,
     step.rows.amounts Reservation a b,
     sound.reserved a b,
     ap (λ (ks : List PageOrder). held ks a b) step.orders,
-    sum_by-set (held_part a b) old.orders i (closed_order k) k within,
-    ap (held_part a b) is,
+    order_sum (held_part a b) (closed_order k) old.orders sound.sorted.orders,
+    ap (was (held_part a b)) known,
     ap (λ (v : Bool). cond v (quantity_of k.reserved a b) 0) opened,
   );
   covered = λ a b. omega (arith, step.rows.amounts Reservation a b, step.rows.amounts OnHand a b, sound.covered a b, within_reserved k.reserved sheet a b covers (is_sheet.once a b));
   bounded = λ c a b. omega (arith, step.rows.amounts c a b, sound.bounded c a b, given_at_most Shipped sheet c a b, is_sheet.little a b, step.next.entries, step.next.recent);
   numbered = omega (arith, sound.numbered, step.next.entries);
   few = omega (arith, step.next.recent);
-  advices_once = λ s. omega (arith, ap (count_by (is_shipment s)) step.advices, sound.advices_once s);
-  orders_once = λ m. omega (arith, ap (count_by (is_number m)) step.orders, count_set (is_number m) old.orders i k (closed_order k) within is refl, sound.orders_once m);
-  documents_once = step.documents.once sound.documents_once;
+  advices_once = advices_once new.advices sorted.advices;
+  orders_once = orders_once new.orders sorted.orders;
+  documents_once = documents_once new.documents sorted.documents;
 }
+  where
+    sorted : AreSorted new
+    sorted = record {
+      rows = step.rows.sorted;
+      advices = ap (rises_by comes_before shipment_of) step.advices ∙ sound.sorted.advices;
+      orders = orders_put_sorted (closed_order k) old.orders new.orders step.orders sound.sorted.orders;
+      documents = sent_sorted n (codes "SW") old.documents new.documents step.documents sound.sorted.documents;
+    }
 
--- The order at i is closed.
+-- The order is closed.
 
 abbrev closed_if : Bool → Option PageOrder → Option PageOrder
 closed_if true o = option_map closed_order o
 closed_if false o = o
 
-order_set : (s number : List ℕ) (ks : List PageOrder) (i : ℕ) (k : PageOrder) → IsAt (is_number number) ks i → k ≡ get_or ks i k
-    → order_at s (set ks i (closed_order k)) ≡ closed_if (bytes_eq number s) (order_at s ks)
-order_set s number ks i k at is =
-    let key : k.number ≡ number = (bytes_eq-Decides k.number number).0 (ap (is_number number) is ∙ at.here k) in
-    find_set (is_number s) ks i k (closed_order k) at.within is refl
-    (λ e. ap (λ (t : List ℕ). order_at t (take i ks)) (sym ((bytes_eq-Decides k.number s).0 e) ∙ key) ∙ at.first)
+order_closed : (s number : List ℕ) (ks : List PageOrder) (k : PageOrder) → order_at number ks ≡ Some k
+    → order_at s (put_order (closed_order k) ks) ≡ closed_if (bytes_eq number s) (order_at s ks)
+order_closed s number ks k known =
+    let key : k.number ≡ number = (bytes_eq-Decides k.number number).0 (found_says (is_number number) ks k known) in
+    order_put s (closed_order k) ks
     ∙ ap (λ (t : List ℕ). cond (bytes_eq t s) (Some (closed_order k)) (order_at s ks)) key
     ∙ by (bytes_eq number s) refl
   where
     by : (v : Bool) → bytes_eq number s ≡ v → cond v (Some (closed_order k)) (order_at s ks) ≡ closed_if v (order_at s ks)
-    by true e = ap (option_map closed_order) (sym (ap (λ (t : List ℕ). order_at t ks) (sym ((bytes_eq-Decides number s).0 e)) ∙ find_at (is_number number) ks i k at is))
+    by true e = ap (option_map closed_order) (sym (ap (λ (t : List ℕ). order_at t ks) (sym ((bytes_eq-Decides number s).0 e)) ∙ known))
     by false e = refl
 
 closed_seen : (b v : Bool) (o : Option Reserved) → closed_if b (order_seen o v) ≡ order_seen o (cond b false v)
@@ -161,10 +172,10 @@ pub picked_ok : (p : PageFacts) (es : List Event) (n : ℕ) (s : List ℕ) (r : 
 picked_ok p es n s r k sheet shows found is opened covers =
     rw (found, open_known es s r k true found is opened, same_excess k.reserved r.shares sheet (reserved_sums p es s r k shows found is opened) ∙ covers) refl
 
-pub picked_shows : (n i : ℕ) (k : PageOrder) (r : Reserved) (sheet : List Line) (number : List ℕ) (old new : PageFacts) (es : List Event)
-    → n ≡ old.entries + 1 → IsPicked n i k sheet old new → IsAt (is_number number) old.orders i → k ≡ get_or old.orders i k
+pub picked_shows : (n : ℕ) (k : PageOrder) (r : Reserved) (sheet : List Line) (number : List ℕ) (old new : PageFacts) (es : List Event)
+    → n ≡ old.entries + 1 → IsPicked n k sheet old new → order_at number old.orders ≡ Some k
     → order_under number es ≡ Some r → page_order es r ≡ k → k.is_open ≡ true → Shows old es → Shows new (es ++ Picked n r.order r.shares sheet ∷ [])
-picked_shows n i k r sheet number old new es follows step at is found seen opened shows =
+picked_shows n k r sheet number old new es follows step known found seen opened shows =
     let e = Picked n r.order r.shares sheet in
     let key : r.order.number ≡ number = order_found_under number es r found in
     let numbered : list_all (is_numbered_within n) es ≡ true = ap (λ (m : ℕ). list_all (is_numbered_within m) es) follows ∙ shows.numbers in
@@ -195,7 +206,7 @@ picked_shows n i k r sheet number old new es follows step at is found seen opene
         ap (λ (ls : List Line). named_by ls x y) (flat_map-append named es (e ∷ []) ∙ append-nil (flat_map named es)),
       );
       advices = λ s. ap (advice_at s) step.advices ∙ shows.advices s ∙ advice_kept es e s refl refl;
-      orders = λ s. ap (order_at s) step.orders ∙ order_set s number old.orders i k at is
+      orders = λ s. ap (order_at s) step.orders ∙ order_closed s number old.orders k known
           ∙ ap (closed_if (bytes_eq number s)) (shows.orders s ∙ order_view s es)
           ∙ closed_seen (bytes_eq number s) (unpicked s es) (order_under s es)
           ∙ ap (λ (t : List ℕ). order_seen (order_under s es) (cond (bytes_eq t s) false (unpicked s es))) (sym key)

@@ -10,7 +10,7 @@ use Rattle.profile.specs.Rows.{LotRow}
 use Rattle.profile.specs.Means.{Line}
 use Rattle.profile.specs.Events.{is_pair, quantity_of}
 use Rattle.profile.specs.Movements.{Column, Expected, OnHand, Reservation, Shipped, column_eq}
-use Rattle.stock.specs.Told.{told, amount, given, named_by, IsDistinct}
+use Rattle.stock.specs.Told.{told, amount, given, named_by}
 use Rattle.stock.specs.Moved.{IsAdded, IsTaken}
 use Rattle.stock.proofs.Tells.{same_bytes}
 
@@ -82,18 +82,13 @@ quantity_next lines i l within is =
 pub named_few : (lines : List Line) (a b : List ℕ) → named_by lines a b ≤ 1
 named_few lines a b = elim (cases_Bool (list_any (is_pair a b) lines)) [ inl e ↦ rw e (omega arith) | inr e ↦ rw e (omega arith) ]
 
-pub added_distinct : (k : Column) (lines : List Line) (old new : List LotRow) → IsAdded k lines old new → IsDistinct old → IsDistinct new
-added_distinct k lines old new added distinct a b = omega (arith, distinct a b, added.named a b, named_few lines a b)
-
-pub taken_distinct : (k : Column) (lines : List Line) (old new : List LotRow) → IsTaken k lines old new → IsDistinct old → IsDistinct new
-taken_distinct k lines old new taken distinct a b = omega (arith, distinct a b, taken.named a b)
-
 -- one line more
 pub added_more : (k : Column) (lines : List Line) (i : ℕ) (l : Line) (old mid new : List LotRow) → i < length lines → l ≡ get_or lines i l
     → IsAdded k (take i lines) old mid → IsAdded k (l ∷ []) mid new → IsAdded k (take (i + 1) lines) old new
 added_more k lines i l old mid new within is first next =
     let e : take (i + 1) lines ≡ take i lines ++ l ∷ [] = take_more lines i l within ∙ ap (λ (x : Line). take i lines ++ x ∷ []) (sym is) in
     rw e (record {
+      sorted = next.sorted;
       amounts = λ c a b. omega (arith, first.amounts c a b, next.amounts c a b, given_append k (take i lines) (l ∷ []) c a b);
       sinces = λ a b. next.sinces a b ∙ first.sinces a b;
       named = λ a b. omega (arith, first.named a b, next.named a b, named_append (take i lines) (l ∷ []) a b);
@@ -104,6 +99,7 @@ pub taken_more : (k : Column) (lines : List Line) (i : ℕ) (l : Line) (old mid 
 taken_more k lines i l old mid new within is first next =
     let e : take (i + 1) lines ≡ take i lines ++ l ∷ [] = take_more lines i l within ∙ ap (λ (x : Line). take i lines ++ x ∷ []) (sym is) in
     rw e (record {
+      sorted = next.sorted;
       amounts = λ c a b. omega (arith, first.amounts c a b, next.amounts c a b, given_append k (take i lines) (l ∷ []) c a b);
       sinces = λ a b. next.sinces a b ∙ first.sinces a b;
       named = λ a b. next.named a b ∙ first.named a b;

@@ -1,6 +1,6 @@
 -- What rows tell, as they change.
-use Rattle.std.proofs.Common.{◌≡◌, ℕ, zero, suc, ◌+◌, ◌<◌, ◌≤◌, Bool, true, false, ◌&&◌, cond, List, [], ◌∷◌, ◌++◌, length, get_or, set, refl, ap, sym, ◌∙◌, arith, inl, inr}
-use Rattle.std.proofs.lemmas.List.Sums.{sum_by-cons, sum_by_push, sum_by-set, get_or-le-sum_by}
+use Rattle.std.proofs.Common.{◌≡◌, ℕ, zero, suc, ◌+◌, ◌<◌, ◌≤◌, Bool, true, false, ◌&&◌, cond, List, [], ◌∷◌, length, get_or, set, refl, ap, sym, ◌∙◌, arith, inl, inr}
+use Rattle.std.proofs.lemmas.List.Sums.{sum_by-cons, sum_by-set, get_or-le-sum_by}
 use Rattle.std.proofs.lemmas.Slice.Eq.{bytes_eq-Decides}
 use Rattle.std.proofs.lemmas.Bool.{cases_Bool}
 use Rattle.std.specs.Prelude.{bytes_eq, sum_by}
@@ -8,9 +8,14 @@ use Rattle.profile.specs.Rows.{LotRow}
 use Rattle.profile.specs.Means.{Line}
 use Rattle.profile.specs.Events.{is_pair}
 use Rattle.profile.specs.Movements.{Column, Expected, OnHand, Reservation, Shipped, column_eq}
-use Rattle.stock.specs.Told.{is_row, told, one, since, amount, given, raised, lowered, blank, named_by, IsDistinct}
+use Rattle.stock.specs.Told.{is_row, told, one, since, amount, given, raised, lowered, blank, named_by}
 use Rattle.stock.specs.Moved.{IsPlace, IsPlaced, IsAdded, IsTaken}
-use Rattle.std.proofs.lemmas.List.{get_or_push, length_push}
+use Rattle.std.specs.List.{insert}
+use Rattle.std.proofs.lemmas.List.Edits.{length-insert, get_or-insert_at}
+use Rattle.std.proofs.lemmas.List.Sums.{sum_by-insert}
+use Rattle.stock.specs.Keyed.{key_before, row_key, rises_by, IsSorted, IsRank}
+use Rattle.stock.proofs.Keys.{rank_insert}
+use Rattle.stock.proofs.KeyLemmas.{pairs_strict, row_test, put_sorted, sorted_kept, sorted_distinct, key_raised, key_lowered}
 
 -- one row's part of what is told of a pair
 abbrev pub part : (LotRow → ℕ) → List ℕ → List ℕ → LotRow → ℕ
@@ -19,8 +24,8 @@ part f item lot r = cond (is_row item lot r) (f r) 0
 pub told_cons : (f : LotRow → ℕ) (a b : List ℕ) (r : LotRow) (rows : List LotRow) → told f a b (r ∷ rows) ≡ part f a b r + told f a b rows
 told_cons f a b r rows = sum_by-cons (part f a b) r rows
 
-pub told_push : (f : LotRow → ℕ) (a b : List ℕ) (rows : List LotRow) (r : LotRow) → told f a b (rows ++ r ∷ []) ≡ told f a b rows + part f a b r
-told_push f a b rows r = sum_by_push (part f a b) rows r
+told_insert : (f : LotRow → ℕ) (a b : List ℕ) (rows : List LotRow) (i : ℕ) (r : LotRow) → told f a b (insert rows i r) ≡ told f a b rows + part f a b r
+told_insert f a b rows i r = sum_by-insert (part f a b) rows i r
 
 pub told_set : (f : LotRow → ℕ) (a b : List ℕ) (rows : List LotRow) (i : ℕ) (y d : LotRow) → i < length rows
     → told f a b (set rows i y) + part f a b (get_or rows i d) ≡ told f a b rows + part f a b y
@@ -199,8 +204,9 @@ told_named line rows i place a b = elim (cases_Bool (is_pair a b line)) [
 ]
 
 -- a row that is there
-pub placed_there : (line : Line) (rows : List LotRow) (i : ℕ) → IsPlace line.item line.lot rows i → IsPlaced rows rows line i
-placed_there line rows i place = record {
+pub placed_there : (line : Line) (rows : List LotRow) (i : ℕ) → IsSorted rows → IsPlace line.item line.lot rows i → IsPlaced rows rows line i
+placed_there line rows i sorted place = record {
+  sorted = sorted;
   place = place;
   amounts = λ c a b. refl;
   sinces = λ a b. refl;
@@ -223,22 +229,26 @@ own_row : (line : Line) → is_row line.item line.lot (blank line) ≡ true
 own_row line = rw (same_bytes line.item, same_bytes line.lot) refl
 
 -- a row that is made
-pub placed_new : (line : Line) (rows : List LotRow) (i : ℕ) → i ≡ length rows → told one line.item line.lot rows ≡ 0
-    → IsPlaced rows (rows ++ blank line ∷ []) line i
-placed_new line rows i e none = record {
+pub placed_new : (line : Line) (rows : List LotRow) (i : ℕ) → IsSorted rows → IsRank key_before row_key rows (line.item, line.lot) i → told one line.item line.lot rows ≡ 0
+    → IsPlaced rows (insert rows i (blank line)) line i
+placed_new line rows i sorted rank none = record {
+  sorted = ap (rises_by key_before row_key) (rank_insert key_before pairs_strict row_key rows i (blank line) rank apart) ∙ put_sorted (blank line) rows sorted;
   place = record {
-    within = omega (arith, length_push rows (blank line));
-    here = λ d. ap (is_row line.item line.lot) (get_or_push rows (blank line) d i (sym e)) ∙ own_row line;
+    within = omega (arith, length-insert rows i (blank line) rank.bound);
+    here = λ d. ap (is_row line.item line.lot) (get_or-insert_at rows i (blank line) d rank.bound) ∙ own_row line;
   };
-  amounts = λ c a b. omega (arith, told_push (amount c) a b rows (blank line), part_blank (amount c) line a b (amount_blank c line));
-  sinces = λ a b. omega (arith, told_push since a b rows (blank line), part_blank since line a b refl);
+  amounts = λ c a b. omega (arith, told_insert (amount c) a b rows i (blank line), part_blank (amount c) line a b (amount_blank c line));
+  sinces = λ a b. omega (arith, told_insert since a b rows i (blank line), part_blank since line a b refl);
   named = λ a b. elim (cases_Bool (is_pair a b line)) [
     | inl y ↦ let same = pair_is a b line y in
         let absent : told one a b rows ≡ 0 = ap (λ (x : List ℕ). told one x b rows) (sym same.0) ∙ ap (λ (x : List ℕ). told one line.item x rows) (sym same.1) ∙ none in
-        rw y (omega (arith, told_push one a b rows (blank line), part_yes one a b (blank line) y))
-    | inr n ↦ rw n (omega (arith, told_push one a b rows (blank line), part_no one a b (blank line) n))
+        rw y (omega (arith, told_insert one a b rows i (blank line), part_yes one a b (blank line) y))
+    | inr n ↦ rw n (omega (arith, told_insert one a b rows i (blank line), part_no one a b (blank line) n))
   ];
 }
+  where
+    apart : (d : LotRow) → i < length rows → row_key (get_or rows i d) ≡ row_key (blank line) → ⊥
+    apart d within same = absurd (omega (arith, none, told_there line.item line.lot rows i d within ((row_test line.item line.lot).said (get_or rows i d) same)))
 
 -- a line that comes to a row which was placed
 pub added_at : (k : Column) (line : Line) (old mid : List LotRow) (i : ℕ) (r : LotRow) → IsPlaced old mid line i → r ≡ get_or mid i r
@@ -246,40 +256,36 @@ pub added_at : (k : Column) (line : Line) (old mid : List LotRow) (i : ℕ) (r :
 added_at k line old mid i r placed is =
     let at = row_at line mid i r placed.place is in
     let y = raised k line.quantity r in record {
+      sorted = sorted_kept mid i r y placed.sorted at.within is (key_raised k line.quantity r);
       amounts = λ c a b. omega (arith, raised_amounts k line mid i r at c a b, placed.amounts c a b);
       sinces = λ a b. told_kept since line mid i r y at (λ a b. is_row_raised a b k line.quantity r) (since_raised k line.quantity r) a b ∙ placed.sinces a b;
       named = λ a b. told_kept one line mid i r y at (λ a b. is_row_raised a b k line.quantity r) refl a b ∙ placed.named a b;
     }
 
 -- a line that goes from its row
-pub taken_at : (k : Column) (line : Line) (rows : List LotRow) (i : ℕ) (r : LotRow) → IsPlace line.item line.lot rows i → r ≡ get_or rows i r → line.quantity ≤ amount k r
+pub taken_at : (k : Column) (line : Line) (rows : List LotRow) (i : ℕ) (r : LotRow) → IsSorted rows → IsPlace line.item line.lot rows i → r ≡ get_or rows i r → line.quantity ≤ amount k r
     → IsTaken k (line ∷ []) rows (set rows i (lowered k line.quantity r))
-taken_at k line rows i r place is enough =
+taken_at k line rows i r sorted place is enough =
     let at = row_at line rows i r place is in
     let y = lowered k line.quantity r in record {
+      sorted = sorted_kept rows i r y sorted at.within is (key_lowered k line.quantity r);
       amounts = λ c a b. lowered_amounts k line rows i r at enough c a b;
       sinces = λ a b. told_kept since line rows i r y at (λ a b. is_row_lowered a b k line.quantity r) (since_lowered k line.quantity r) a b;
       named = λ a b. told_kept one line rows i r y at (λ a b. is_row_lowered a b k line.quantity r) refl a b;
     }
 
 -- an amount of a row is what is told of its pair
-pub amount_here : (f : LotRow → ℕ) (item lot : List ℕ) (rows : List LotRow) (i : ℕ) (r : LotRow) → IsDistinct rows → IsPlace item lot rows i → r ≡ get_or rows i r
+pub amount_here : (f : LotRow → ℕ) (item lot : List ℕ) (rows : List LotRow) (i : ℕ) (r : LotRow) → IsSorted rows → IsPlace item lot rows i → r ≡ get_or rows i r
     → f r ≡ told f item lot rows
-amount_here f item lot rows i r distinct place is =
-    ap f is ∙ sym (told_here f item lot rows i r place.within (place.here r) (distinct item lot))
-
--- a row that is placed is still the only one
-pub distinct_placed : (old new : List LotRow) (line : Line) (i : ℕ) → IsPlaced old new line i → IsDistinct old → IsDistinct new
-distinct_placed old new line i placed distinct a b = elim (cases_Bool (is_pair a b line)) [
-  | inl e ↦ let h : named_by (line ∷ []) a b ≤ 1 = rw e (omega arith) in omega (arith, distinct a b, placed.named a b)
-  | inr e ↦ let h : named_by (line ∷ []) a b ≤ 1 = rw e (omega arith) in omega (arith, distinct a b, placed.named a b)
-]
+amount_here f item lot rows i r sorted place is =
+    ap f is ∙ sym (told_here f item lot rows i r place.within (place.here r) (sorted_distinct rows sorted item lot))
 
 -- nothing goes from a pair without a row
-pub taken_none : (k : Column) (line : Line) (rows : List LotRow) → told one line.item line.lot rows ≡ 0 → line.quantity ≤ told (amount k) line.item line.lot rows
+pub taken_none : (k : Column) (line : Line) (rows : List LotRow) → IsSorted rows → told one line.item line.lot rows ≡ 0 → line.quantity ≤ told (amount k) line.item line.lot rows
     → IsTaken k (line ∷ []) rows rows
-taken_none k line rows none enough =
+taken_none k line rows sorted none enough =
     let nothing : line.quantity ≡ 0 = omega (arith, told_absent (amount k) line.item line.lot rows none) in record {
+      sorted = sorted;
       amounts = λ c a b. elim (cases_Bool (is_pair a b line)) [
         | inl e ↦ elim (cases_Bool (column_eq k c))
             [ inl f ↦ rw (given_one k line c a b, e, f) (omega arith) | inr f ↦ rw (given_one k line c a b, e, f) (omega arith) ]

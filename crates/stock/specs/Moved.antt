@@ -5,6 +5,7 @@ use Rattle.profile.specs.Events.{is_pair}
 use Rattle.profile.specs.Rows.{LotRow}
 use Rattle.profile.specs.Means.{Line}
 use Rattle.profile.specs.Movements.{Column, Expected, OnHand, Reservation, Shipped, column_eq}
+use Rattle.stock.specs.Keyed.{IsSorted}
 use Rattle.stock.specs.Told.{is_row, told, one, since, amount, given, named_by, first_number}
 
 -- the row of a pair is at i
@@ -14,6 +15,7 @@ pub record IsPlace (item lot : List ℕ) (rows : List LotRow) (i : ℕ) : Type 0
 
 -- there is a row for a line at i, and else nothing changes
 pub record IsPlaced (old new : List LotRow) (line : Line) (i : ℕ) : Type 0 where
+  pub sorted : IsSorted new
   pub place : IsPlace line.item line.lot new i
   pub amounts : (c : Column) (item lot : List ℕ) → told (amount c) item lot new ≡ told (amount c) item lot old
   pub sinces : (item lot : List ℕ) → told since item lot new ≡ told since item lot old
@@ -21,24 +23,28 @@ pub record IsPlaced (old new : List LotRow) (line : Line) (i : ℕ) : Type 0 whe
 
 -- lines came to a column
 pub record IsAdded (column : Column) (lines : List Line) (old new : List LotRow) : Type 0 where
+  pub sorted : IsSorted new
   pub amounts : (c : Column) (item lot : List ℕ) → told (amount c) item lot new ≡ told (amount c) item lot old + given column lines c item lot
   pub sinces : (item lot : List ℕ) → told since item lot new ≡ told since item lot old
   pub named : (item lot : List ℕ) → told one item lot new ≡ max (told one item lot old) (named_by lines item lot)
 
 -- lines went from a column
 pub record IsTaken (column : Column) (lines : List Line) (old new : List LotRow) : Type 0 where
+  pub sorted : IsSorted new
   pub amounts : (c : Column) (item lot : List ℕ) → told (amount c) item lot new + given column lines c item lot ≡ told (amount c) item lot old
   pub sinces : (item lot : List ℕ) → told since item lot new ≡ told since item lot old
   pub named : (item lot : List ℕ) → told one item lot new ≡ told one item lot old
 
 -- lines were named by the count of a number
 pub record IsMarked (n : ℕ) (lines : List Line) (old new : List LotRow) : Type 0 where
+  pub sorted : IsSorted new
   pub amounts : (c : Column) (item lot : List ℕ) → told (amount c) item lot new ≡ told (amount c) item lot old
   pub sinces : (item lot : List ℕ) → told since item lot new ≡ first_number n (list_any (is_pair item lot) lines) (told since item lot old)
   pub named : (item lot : List ℕ) → told one item lot new ≡ told one item lot old
 
 -- what was expected went, a sheet came on hand and was numbered
 pub record IsCounted (n : ℕ) (expected sheet : List Line) (old new : List LotRow) : Type 0 where
+  pub sorted : IsSorted new
   pub amounts : (c : Column) (item lot : List ℕ)
       → told (amount c) item lot new + given Expected expected c item lot ≡ told (amount c) item lot old + given OnHand sheet c item lot
   pub sinces : (item lot : List ℕ) → told since item lot new ≡ first_number n (list_any (is_pair item lot) sheet) (told since item lot old)
@@ -46,12 +52,14 @@ pub record IsCounted (n : ℕ) (expected sheet : List Line) (old new : List LotR
 
 -- lines came to a column of rows that are there
 pub record IsRaised (column : Column) (lines : List Line) (old new : List LotRow) : Type 0 where
+  pub sorted : IsSorted new
   pub amounts : (c : Column) (item lot : List ℕ) → told (amount c) item lot new ≡ told (amount c) item lot old + given column lines c item lot
   pub sinces : (item lot : List ℕ) → told since item lot new ≡ told since item lot old
   pub named : (item lot : List ℕ) → told one item lot new ≡ told one item lot old
 
 -- a sheet went from what is on hand and was shipped, and what was reserved went
 pub record IsShipped (reserved sheet : List Line) (old new : List LotRow) : Type 0 where
+  pub sorted : IsSorted new
   pub amounts : (c : Column) (item lot : List ℕ)
       → told (amount c) item lot new + given OnHand sheet c item lot + given Reservation reserved c item lot ≡ told (amount c) item lot old + given Shipped sheet c item lot
   pub sinces : (item lot : List ℕ) → told since item lot new ≡ told since item lot old
@@ -63,6 +71,7 @@ set_by lines item lot n = fold (λ (m : ℕ) (l : Line). if is_pair item lot l t
 
 -- lines set what is on hand
 pub record IsSet (lines : List Line) (old new : List LotRow) : Type 0 where
+  pub sorted : IsSorted new
   pub on_hand : (item lot : List ℕ) → told (amount OnHand) item lot new ≡ set_by lines item lot (told (amount OnHand) item lot old)
   pub others : (c : Column) (item lot : List ℕ) → column_eq OnHand c ≡ false → told (amount c) item lot new ≡ told (amount c) item lot old
   pub sinces : (item lot : List ℕ) → told since item lot new ≡ told since item lot old

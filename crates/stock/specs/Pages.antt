@@ -1,10 +1,12 @@
 -- A page as its tables have it, and what is true of every page.
-use Rattle.std.specs.Prelude.{ℕ, ◌≤◌, ◌≡◌, ◌+◌, ◌*◌, Bool, true, List, if◌then◌else◌, ◌==◌, None, Option, bytes_eq, sum_by, count_by, find, length, take, slice_index_or, ◌<◌}
+use Rattle.std.specs.Prelude.{ℕ, ◌≤◌, ◌≡◌, ◌+◌, ◌*◌, Bool, true, List, if◌then◌else◌, ◌==◌, None, Option, bytes_eq, sum_by, count_by, find, length, take, slice_index_or, ◌<◌, nat_lt}
 use Rattle.profile.specs.Limits.{most_recounted, most_entries}
 use Rattle.profile.specs.Rows.{LotRow}
 use Rattle.profile.specs.Page.{PageAdvice, PageOrder, PageDocument}
 use Rattle.profile.specs.Events.{quantity_of}
 use Rattle.profile.specs.Movements.{Column, Expected, OnHand, Reservation}
+use Rattle.profile.specs.Bytes.{comes_before}
+use Rattle.stock.specs.Keyed.{IsSorted, rises_by, shipment_of, number_of, entry_of}
 use Rattle.stock.specs.Told.{told, amount, IsDistinct}
 
 pub record PageFacts : Type 0 where
@@ -53,9 +55,17 @@ held ks item lot = sum_by (λ k. if k.is_open then quantity_of k.reserved item l
 abbrev pub most_events : PageFacts → ℕ
 most_events p = 1000 * p.entries + p.recent
 
+-- each list is in the order of its keys
+pub record AreSorted (p : PageFacts) : Type 0 where
+  pub rows : IsSorted p.rows
+  pub advices : rises_by comes_before shipment_of p.advices ≡ true
+  pub orders : rises_by comes_before number_of p.orders ≡ true
+  pub documents : rises_by nat_lt entry_of p.documents ≡ true
+
 -- Of every page: nothing is below 0, no more is reserved than is on hand, what is expected and reserved belongs to what is
--- open, no sum leaves 64 bits, and each key stands once.
+-- open, no sum leaves 64 bits, and each key stands once, in order.
 pub record IsSound (p : PageFacts) : Type 0 where
+  pub sorted : AreSorted p
   pub distinct : IsDistinct p.rows
   pub expected : (item lot : List ℕ) → told (amount Expected) item lot p.rows ≡ awaited p.advices item lot
   pub reserved : (item lot : List ℕ) → told (amount Reservation) item lot p.rows ≡ held p.orders item lot

@@ -1,6 +1,5 @@
 -- What becomes of a page with one event more.
-use Rattle.std.specs.Prelude.{ℕ, ◌≡◌, ◌≤◌, ◌+◌, ◌==◌, Bool, true, false, List, [], ◌∷◌, ◌++◌, if◌then◌else◌, Some, None, codes, count_by, map, nat_lt, nat_le, is_none, ◌&&◌, bytes_eq, slice_set}
-use Rattle.std.specs.Option.{option_or}
+use Rattle.std.specs.Prelude.{ℕ, ◌≡◌, ◌+◌, ◌==◌, Bool, true, false, List, [], if◌then◌else◌, Option, Some, None, codes, map, nat_lt, nat_le, is_none, ◌&&◌, bytes_eq, option_map}
 use Rattle.profile.specs.Means.{Line, Advice, advised, Order, Acknowledgment}
 use Rattle.profile.specs.Events.{quantity_of}
 use Rattle.profile.specs.Movements.{Expected, OnHand, Reservation}
@@ -8,7 +7,8 @@ use Rattle.profile.specs.Rows.{LotRow}
 use Rattle.profile.specs.Page.{PageAdvice, PageOrder, PageDocument, page_line, reserved_lines}
 use Rattle.stock.specs.Moved.{IsAdded, IsCounted, IsShipped, IsSet}
 use Rattle.stock.specs.Told.{told, since, amount}
-use Rattle.stock.specs.Pages.{PageFacts, is_document, document_at}
+use Rattle.stock.specs.Keyed.{put_advice, put_order, put_document, rises_by, entry_of}
+use Rattle.stock.specs.Pages.{PageFacts, document_at}
 
 -- an advice that is opened
 abbrev pub opened : Advice → PageAdvice
@@ -21,7 +21,7 @@ pub record IsNext (old new : PageFacts) : Type 0 where
 
 pub record IsAnnounced (a : Advice) (old new : PageFacts) : Type 0 where
   pub rows : IsAdded Expected (advised a) old.rows new.rows
-  pub advices : new.advices ≡ old.advices ++ opened a ∷ []
+  pub advices : new.advices ≡ put_advice (opened a) old.advices
   pub orders : new.orders ≡ old.orders
   pub documents : new.documents ≡ old.documents
   pub next : IsNext old new
@@ -33,17 +33,28 @@ closed_advice k = record k { is_open = false }
 abbrev pub closed_order : PageOrder → PageOrder
 closed_order k = record k { reserved = []; is_open = false }
 
--- a document was sent under a number, if none was before
-pub record IsSent (n : ℕ) (function : List ℕ) (old new : List PageDocument) : Type 0 where
-  pub found : (m : ℕ) → document_at m new ≡ option_or (document_at m old) (if n == m then Some (record { n = n; function = function; said = None }) else None)
-  pub once : ((m : ℕ) → count_by (is_document m) old ≤ 1) → (m : ℕ) → count_by (is_document m) new ≤ 1
+-- a document that is sent, unless one was sent under its number
+abbrev pub sent_unless : Option PageDocument → ℕ → List ℕ → List PageDocument → List PageDocument
+sent_unless (Some d) n function ds = ds
+sent_unless None n function ds = put_document (record { n = n; function = function; said = None }) ds
 
--- goods are counted: the advice at i is closed, the sheet is on hand
-pub record IsReceived (n i : ℕ) (k : PageAdvice) (sheet : List Line) (old new : PageFacts) : Type 0 where
+abbrev pub with_sent : ℕ → List ℕ → List PageDocument → List PageDocument
+with_sent n function ds = sent_unless (document_at n ds) n function ds
+
+-- a document with what is said of it, if there is one
+abbrev pub said_of_found : Option PageDocument → Bool → List PageDocument → List PageDocument
+said_of_found (Some d) accepts ds = put_document (record d { said = Some accepts }) ds
+said_of_found None accepts ds = ds
+
+abbrev pub with_said : ℕ → Bool → List PageDocument → List PageDocument
+with_said n accepts ds = said_of_found (document_at n ds) accepts ds
+
+-- goods are counted: the advice is closed, the sheet is on hand
+pub record IsReceived (n : ℕ) (k : PageAdvice) (sheet : List Line) (old new : PageFacts) : Type 0 where
   pub rows : IsCounted n k.lines sheet old.rows new.rows
-  pub advices : new.advices ≡ slice_set old.advices i (closed_advice k)
+  pub advices : new.advices ≡ put_advice (closed_advice k) old.advices
   pub orders : new.orders ≡ old.orders
-  pub documents : IsSent n (codes "RE") old.documents new.documents
+  pub documents : new.documents ≡ with_sent n (codes "RE") old.documents
   pub next : IsNext old new
 
 -- an order that is opened, with its shares
@@ -60,7 +71,7 @@ opened_order o shares = record {
 pub record IsReserved (o : Order) (shares : List Line) (old new : PageFacts) : Type 0 where
   pub rows : IsAdded Reservation (reserved_lines shares) old.rows new.rows
   pub advices : new.advices ≡ old.advices
-  pub orders : new.orders ≡ old.orders ++ opened_order o shares ∷ []
+  pub orders : new.orders ≡ put_order (opened_order o shares) old.orders
   pub documents : new.documents ≡ old.documents
   pub next : IsNext old new
 
@@ -68,12 +79,12 @@ pub record IsReserved (o : Order) (shares : List Line) (old new : PageFacts) : T
 abbrev pub exceeds : List Line → Line → Bool
 exceeds reserved l = nat_lt (quantity_of reserved l.item l.lot) l.quantity
 
--- goods are picked: the order at i is closed, the sheet is shipped, and nothing is reserved for the order any more
-pub record IsPicked (n i : ℕ) (k : PageOrder) (sheet : List Line) (old new : PageFacts) : Type 0 where
+-- goods are picked: the order is closed, the sheet is shipped, and nothing is reserved for the order any more
+pub record IsPicked (n : ℕ) (k : PageOrder) (sheet : List Line) (old new : PageFacts) : Type 0 where
   pub rows : IsShipped k.reserved sheet old.rows new.rows
   pub advices : new.advices ≡ old.advices
-  pub orders : new.orders ≡ slice_set old.orders i (closed_order k)
-  pub documents : IsSent n (codes "SW") old.documents new.documents
+  pub orders : new.orders ≡ put_order (closed_order k) old.orders
+  pub documents : new.documents ≡ with_sent n (codes "SW") old.documents
   pub next : IsNext old new
 
 -- whether no count named the pair of a line, whether it is below what is reserved, and whether it is what is on hand
@@ -91,7 +102,7 @@ pub record IsRecounted (n : ℕ) (sheet : List Line) (old new : PageFacts) : Typ
   pub rows : IsSet sheet old.rows new.rows
   pub advices : new.advices ≡ old.advices
   pub orders : new.orders ≡ old.orders
-  pub documents : IsSent n (codes "AW") old.documents new.documents
+  pub documents : new.documents ≡ with_sent n (codes "AW") old.documents
   pub next : IsNext old new
 
 -- an acknowledgment decides a document of an earlier entry that it names, unless one before it did
@@ -107,5 +118,6 @@ pub record IsAcknowledged (a : Acknowledgment) (old new : PageFacts) : Type 0 wh
   pub rows : new.rows ≡ old.rows
   pub advices : new.advices ≡ old.advices
   pub orders : new.orders ≡ old.orders
-  pub documents : new.documents ≡ map (heard old.entries a) old.documents
+  pub documents : (n : ℕ) → document_at n new.documents ≡ option_map (heard old.entries a) (document_at n old.documents)
+  pub sorted : rises_by nat_lt entry_of new.documents ≡ true
   pub next : IsNext old new

@@ -1,10 +1,9 @@
-ghost use Rattle.std.specs.Prelude.{◌≡◌, ◌==◌, None, MatchOption, OnOk};
+ghost use Rattle.std.specs.Prelude.{◌≡◌, Some};
 ghost use Rattle.stock.specs.Functions.{function_text};
-ghost use Rattle.stock.specs.Pages.{is_document, document_at, IsAt};
-ghost use Rattle.stock.specs.Steps.{IsSent, decides, heard};
+ghost use Rattle.stock.specs.Pages.{is_document};
+ghost use Rattle.stock.specs.Steps.{decides};
 
 use sets_in::AckIn;
-use std::alloc::AllocError;
 use std::marker::Model;
 
 /// What kind of document was sent.
@@ -81,20 +80,11 @@ impl Document {
             && self.said.is_none()
     }
 
-    // The document after the acknowledgment.
-    pub(crate) fn heard(&self, entries: u32, ack: &AckIn) -> Document
-        ensures { result ≡ heard entries ack.now self.now }
+    // Keeps what an acknowledgment said of it.
+    pub(crate) fn keep(&mut self, accepts: bool)
+        ensures { self.new ≡ record self.old { said = Some accepts } }
     {
-        let said = if self.is_decided_by(entries, ack) {
-            Some(ack.accepts())
-        } else {
-            self.said
-        };
-        Document {
-            n: self.n,
-            function: self.function,
-            said,
-        }
+        self.said = Some(accepts);
     }
 
     /// What kind of document it is.
@@ -110,31 +100,4 @@ impl Document {
     {
         self.said
     }
-}
-
-// The place of the document with a number.
-pub(crate) fn place_of_document(documents: &[Document], n: u32) -> Option<usize>
-    ensures { MatchOption result (document_at n documents.now ≡ None) (λ i. IsAt (is_document n) documents.now i) }
-{
-    for (i, document) in documents.iter().enumerate() {
-        if document.is_under(n) {
-            return Some(i);
-        }
-    }
-    None
-}
-
-// Adds the document that is sent under a number, unless there is one.
-pub(crate) fn send(
-    documents: &mut Vec<Document>,
-    n: u32,
-    function: Function,
-) -> Result<(), AllocError>
-    ensures { OnOk result (IsSent n (function_text function) documents.old.items documents.new.items) }
-{
-    if let Some(_) = place_of_document(documents, n) {
-        return Ok(());
-    }
-    documents.push(Document::new(n, function, None))?;
-    Ok(())
 }

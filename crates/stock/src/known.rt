@@ -1,4 +1,5 @@
 ghost use Rattle.std.specs.Prelude.{◌≡◌, ◌≤◌, length, sum_by, IfOk, MatchOption, None, Some, option_map};
+ghost use Rattle.profile.specs.Bytes.{comes_before};
 ghost use Rattle.profile.specs.Limits.{most_lines};
 ghost use Rattle.profile.specs.Page.{PageAdvice, PageLine, PageOrder};
 ghost use Rattle.stock.specs.Pages.{is_shipment, is_number};
@@ -67,6 +68,13 @@ impl KnownAdvice {
         self.shipment.as_slice() == shipment
     }
 
+    // Whether it comes before a shipment number.
+    pub(crate) fn is_before(&self, shipment: &[u8]) -> bool
+        ensures { result ≡ comes_before self.now.shipment shipment.now }
+    {
+        self.shipment.as_slice().cmp(&shipment).is_lt()
+    }
+
     /// What is advised, in the order of its set.
     pub fn lines(&self) -> &[Line]
         ensures { result.now ≡ self.now.lines }
@@ -74,11 +82,13 @@ impl KnownAdvice {
         &self.lines
     }
 
-    // Closes it.
-    pub(crate) fn close(&mut self)
-        ensures { self.new ≡ closed_advice self.old }
+    // A copy of it that is closed.
+    pub(crate) fn closed(&self) -> Result<KnownAdvice, AllocError>
+        ensures { IfOk result (λ known. known ≡ closed_advice self.now) }
     {
-        self.is_open = false;
+        let mut known = self.copy()?;
+        known.is_open = false;
+        Ok(known)
     }
 
     /// Whether it hasn't been counted yet.
@@ -216,6 +226,13 @@ impl KnownOrder {
         self.number.as_slice() == number
     }
 
+    // Whether it comes before a number.
+    pub(crate) fn is_before(&self, number: &[u8]) -> bool
+        ensures { result ≡ comes_before self.now.number number.now }
+    {
+        self.number.as_slice().cmp(&number).is_lt()
+    }
+
     /// Where it goes, if its set said so.
     pub fn address(&self) -> Option<&Address>
         ensures { MatchOption result (self.now.address ≡ None) (λ a. self.now.address ≡ Some a.now) }
@@ -237,12 +254,14 @@ impl KnownOrder {
         &self.reserved
     }
 
-    // Closes it: nothing is reserved for it any more.
-    pub(crate) fn close(&mut self)
-        ensures { self.new ≡ closed_order self.old }
+    // A copy of it that is closed: nothing is reserved for it any more.
+    pub(crate) fn closed(&self) -> Result<KnownOrder, AllocError>
+        ensures { IfOk result (λ known. known ≡ closed_order self.now) }
     {
-        self.reserved.clear();
-        self.is_open = false;
+        let mut known = self.copy()?;
+        known.reserved.clear();
+        known.is_open = false;
+        Ok(known)
     }
 
     /// Whether it hasn't been picked yet.

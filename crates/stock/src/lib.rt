@@ -7,6 +7,7 @@ mod allotment;
 mod announcements;
 mod changes;
 mod documents;
+mod drafts;
 mod faults;
 mod known;
 pub mod laws;
@@ -18,6 +19,7 @@ mod receipts;
 mod recounts;
 mod reservations;
 mod rows;
+mod searches;
 mod steps;
 
 pub use acknowledgments::acknowledge;

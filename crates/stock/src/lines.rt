@@ -1,4 +1,4 @@
-ghost use Rattle.std.specs.Prelude.{◌≡◌, ◌≤◌, ◌<◌, ◌^◌, ℕ, List, IfOk, OnOk, MatchOption, length, map, nat_lt, if◌then◌else◌};
+ghost use Rattle.std.specs.Prelude.{◌≡◌, ◌++◌, ◌≤◌, ◌<◌, ◌^◌, ℕ, List, IfOk, OnOk, MatchOption, length, map, nat_lt, if◌then◌else◌};
 ghost use Rattle.std.specs.List.{insert, list_any};
 ghost use Rattle.profile.specs.Events.{is_pair, pair_before, quantity_of};
 ghost use Rattle.profile.specs.Lists.{placed};
@@ -17,7 +17,7 @@ fn copied(line: &Line) -> Result<Line, AllocError>
 }
 
 // A copy of the lines.
-pub(crate) fn copied_lines(alloc: Global, lines: &[Line]) -> Result<Vec<Line>, AllocError>
+fn copied_lines(alloc: Global, lines: &[Line]) -> Result<Vec<Line>, AllocError>
     ensures { IfOk result (λ copy. copy.items ≡ lines.now) }
 {
     let mut copy = Vec::new(alloc);
@@ -25,6 +25,19 @@ pub(crate) fn copied_lines(alloc: Global, lines: &[Line]) -> Result<Vec<Line>, A
         copy.push(copied(line)?)?;
     }
     Ok(copy)
+}
+
+// Copies of lines, and of others behind them.
+pub(crate) fn joined(
+    alloc: Global,
+    lines: &[Line],
+    others: &[Line],
+) -> Result<Vec<Line>, AllocError>
+    ensures { IfOk result (λ joined. joined.items ≡ lines.now ++ others.now) }
+{
+    let mut joined = copied_lines(alloc, lines)?;
+    joined.append(&mut copied_lines(alloc, others)?)?;
+    Ok(joined)
 }
 
 // What the lines of an advice advise.

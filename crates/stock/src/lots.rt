@@ -1,9 +1,11 @@
-ghost use Rattle.std.specs.Prelude.{◌≡◌, ◌≤◌, min, IfOk, OnOk, MatchOption, length};
+ghost use Rattle.std.specs.Prelude.{◌≡◌, ◌≤◌, ◌<◌, ℕ, true, slice_index_or, min, IfOk, OnOk, MatchOption, length};
 ghost use Rattle.std.specs.List.{insert};
 ghost use Rattle.profile.specs.Allotment.{ranks_before, may_have};
+ghost use Rattle.profile.specs.Bytes.{comes_before};
+ghost use Rattle.profile.specs.Rows.{LotRow};
 ghost use Rattle.profile.specs.Lists.{placed, in_order};
+ghost use Rattle.stock.specs.Keyed.{IsSorted};
 ghost use Rattle.stock.specs.Lots.{is_lot_of, rank_of, ranks_of, free_in, shares_in, all_shares_in};
-ghost use Rattle.stock.specs.Told.{IsDistinct};
 
 use crate::rows::{Column, Row, amount_of};
 use sets_in::{Line, OrderLine};
@@ -90,12 +92,31 @@ fn place(ranked: &mut Vec<Ranked>, new: Ranked) -> Result<(), AllocError>
     Ok(())
 }
 
+// Where the rows of an item begin: those before are of items before it.
+fn item_start(rows: &[Row], item: &[u8]) -> usize
+    requires { IsSorted rows.now }
+    ensures { (k : ℕ) (d : LotRow) → k < result → comes_before (slice_index_or rows.now k d).item item.now ≡ true }
+{
+    rows.partition_point(|row| row.is_before_item(item))
+}
+
+// Where the rows of an item end: those from there on are of items behind it.
+fn item_end(rows: &[Row], item: &[u8]) -> usize
+    requires { IsSorted rows.now }
+    ensures bound { result ≤ length rows.now }
+    ensures behind { (k : ℕ) (d : LotRow) → result ≤ k → k < length rows.now → comes_before item.now (slice_index_or rows.now k d).item ≡ true }
+{
+    rows.partition_point(|row| !row.is_behind_item(item))
+}
+
 // The lots of an item that a count named, the first counted first.
 fn lots(alloc: Global, rows: &[Row], item: &[u8]) -> Result<Vec<Ranked>, AllocError>
+    requires { IsSorted rows.now }
     ensures { IfOk result (λ lots. lots.items ≡ in_order ranks_before (ranks_of item.now rows.now)) }
 {
     let mut lots = Vec::new(alloc);
-    for row in rows {
+    for i in item_start(rows, item)..item_end(rows, item) {
+        let row = &rows[i];
         if is_lot_of(row, item) {
             place(&mut lots, Ranked::of(alloc, row)?)?;
         }
@@ -112,7 +133,7 @@ fn new_line(alloc: Global, item: &[u8], lot: &[u8], quantity: u32) -> Result<Lin
 
 // What is free of a pair: on hand and not reserved.
 fn free(rows: &[Row], item: &[u8], lot: &[u8]) -> u64
-    requires { IsDistinct rows.now }
+    requires { IsSorted rows.now }
     ensures { result ≡ free_in rows.now item.now lot.now }
 {
     let on_hand = amount_of(rows, Column::OnHand, item, lot);
@@ -138,7 +159,7 @@ fn share_of(left: u32, free: u64) -> u32
 
 // What a line of an order is given of each lot that it may have, 0 included.
 fn shares(alloc: Global, rows: &[Row], line: &OrderLine) -> Result<Vec<Line>, AllocError>
-    requires { IsDistinct rows.now }
+    requires { IsSorted rows.now }
     ensures { IfOk result (λ shares. shares.items ≡ shares_in rows.now line.now) }
 {
     let lots = lots(alloc, rows, line.item())?;
@@ -160,7 +181,7 @@ pub(crate) fn all_shares(
     rows: &[Row],
     lines: &[OrderLine],
 ) -> Result<Vec<Line>, AllocError>
-    requires { IsDistinct rows.now }
+    requires { IsSorted rows.now }
     ensures { IfOk result (λ all. all.items ≡ all_shares_in rows.now lines.now) }
 {
     let mut all = Vec::new(alloc);

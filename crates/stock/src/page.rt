@@ -2,14 +2,17 @@ ghost use Rattle.std.specs.Prelude.{◌≡◌, ◌<◌, ◌+◌, List, [], ◌�
 ghost use Rattle.profile.specs.Limits.{most_entries};
 ghost use Rattle.profile.specs.Events.{Event, Enrolment};
 ghost use Rattle.profile.specs.Movements.{OnHand, balance};
-ghost use Rattle.stock.specs.Pages.{PageFacts, IsSound, advice_at, order_at, next_entry};
-ghost use Rattle.stock.specs.Pages.{IsAt, is_shipment, is_number};
+ghost use Rattle.stock.specs.Pages.{PageFacts, IsSound, advice_at, order_at, document_at, next_entry};
+ghost use Rattle.stock.specs.Puts.{put};
 ghost use Rattle.stock.specs.Shows.{Shows};
 ghost use Rattle.stock.specs.Told.{told, amount};
 
 use crate::documents::Document;
+use crate::drafts::Draft;
 use crate::known::{KnownAdvice, KnownOrder};
 use crate::rows::{Column, Row, amount_of};
+use crate::searches::{place_of_advice, place_of_document, place_of_order};
+use crate::steps::Step;
 use std::alloc::{AllocError, Global};
 use std::marker::Model;
 
@@ -49,6 +52,28 @@ impl Page {
         }
     }
 
+    /// The page of what a book keeps of a depositor: its rows by item and lot bytes, its advices and orders by the bytes of their
+    /// numbers, its documents by theirs, and how many numbered entries there are.
+    pub fn of(
+        rows: Vec<Row>,
+        advices: Vec<KnownAdvice>,
+        orders: Vec<KnownOrder>,
+        documents: Vec<Document>,
+        entries: u32,
+    ) -> Page
+        requires { IsSound (record { rows = rows.items; advices = advices.items; orders = orders.items; documents = documents.items; entries = entries; recent = 0 }) }
+        ensures { result ≡ record { rows = rows.items; advices = advices.items; orders = orders.items; documents = documents.items; entries = entries; recent = 0 } }
+    {
+        Page {
+            rows,
+            advices,
+            orders,
+            documents,
+            entries,
+            recent: 0,
+        }
+    }
+
     /// A copy of it; want of memory is the one error.
     pub fn copy(&self) -> Result<Page, AllocError>
         ensures { IfOk result (λ page. page ≡ self.now) }
@@ -84,7 +109,7 @@ impl Page {
         self.recent
     }
 
-    /// Its rows, one for each pair that an advice or a count named, in no order. On every page nothing is below 0, and no more
+    /// Its rows, one for each pair that an advice or a count named, by item and then lot bytes. On every page nothing is below 0, and no more
     /// is reserved of a pair than is on hand.
     pub fn rows(&self) -> &[Row]
         ensures rows { result.now ≡ self.now.rows }
@@ -93,21 +118,21 @@ impl Page {
         &self.rows
     }
 
-    /// Its advices, one for each shipment number, in the order in which they were announced.
+    /// Its advices, one for each shipment number, by the bytes of that.
     pub fn advices(&self) -> &[KnownAdvice]
         ensures { result.now ≡ self.now.advices }
     {
         &self.advices
     }
 
-    /// Its orders, one for each number, in the order in which they came.
+    /// Its orders, one for each number, by the bytes of that.
     pub fn orders(&self) -> &[KnownOrder]
         ensures { result.now ≡ self.now.orders }
     {
         &self.orders
     }
 
-    /// The documents that were sent, one for each number of an entry.
+    /// The documents that were sent, one for each number of an entry, by that.
     pub fn documents(&self) -> &[Document]
         ensures { result.now ≡ self.now.documents }
     {
@@ -118,10 +143,9 @@ impl Page {
     pub fn advice(&self, shipment: &[u8]) -> Option<&KnownAdvice>
         ensures { MatchOption result (advice_at shipment.now self.now.advices ≡ None) (λ k. advice_at shipment.now self.now.advices ≡ Some k.now) }
     {
-        let advices = self.advices();
-        match place_of_advice(advices, shipment) {
+        match place_of_advice(&self.advices, shipment) {
             None => None,
-            Some(i) => Some(&advices[i]),
+            Some(i) => Some(&self.advices[i]),
         }
     }
 
@@ -149,10 +173,9 @@ impl Page {
     pub fn order(&self, number: &[u8]) -> Option<&KnownOrder>
         ensures { MatchOption result (order_at number.now self.now.orders ≡ None) (λ k. order_at number.now self.now.orders ≡ Some k.now) }
     {
-        let orders = self.orders();
-        match place_of_order(orders, number) {
+        match place_of_order(&self.orders, number) {
             None => None,
-            Some(i) => Some(&orders[i]),
+            Some(i) => Some(&self.orders[i]),
         }
     }
 
@@ -163,6 +186,58 @@ impl Page {
     {
         let rows = self.rows();
         amount_of(rows, Column::OnHand, item, lot)
+    }
+
+    // The document with a number, if there is one.
+    pub(crate) fn document(&self, n: u32) -> Option<&Document>
+        ensures { MatchOption result (document_at n self.now.documents ≡ None) (λ d. document_at n self.now.documents ≡ Some d.now) }
+    {
+        match place_of_document(&self.documents, n) {
+            None => None,
+            Some(i) => Some(&self.documents[i]),
+        }
+    }
+
+    /// The page with one event more: what the step of this page changes is put in, each row by its key. Its time grows with the
+    /// changes and, where a row is new, with what stands behind its place. Want of memory is the one error; the page is given up.
+    pub fn with(self, step: &Step) -> Result<Page, AllocError>
+        requires { IsSound (put step.now.changes.items self) }
+        ensures { IfOk result (λ page. page ≡ put step.now.changes.items self) }
+    {
+        let Page {
+            rows,
+            advices,
+            orders,
+            documents,
+            entries,
+            recent,
+        } = self;
+        let mut draft = Draft {
+            rows,
+            advices,
+            orders,
+            documents,
+            entries,
+            recent,
+        };
+        for change in &step.changes {
+            draft = draft.put(change)?;
+        }
+        let Draft {
+            rows,
+            advices,
+            orders,
+            documents,
+            ..
+        } = draft;
+        Ok(Page {
+            rows,
+            advices,
+            orders,
+            documents,
+            entries,
+            recent: recent + 1,
+        })
     }
 
     /// Ends a numbered entry: there is one more, with no event since, and nothing else changes.
@@ -198,28 +273,4 @@ fn copied_documents(documents: &Vec<Document>) -> Result<Vec<Document>, AllocErr
     ensures { IfOk result (λ copy. copy.items ≡ documents.now.items) }
 {
     documents.clone()
-}
-
-/// The place of the advice under a shipment number.
-pub(crate) fn place_of_advice(advices: &[KnownAdvice], shipment: &[u8]) -> Option<usize>
-    ensures { MatchOption result (advice_at shipment.now advices.now ≡ None) (λ i. IsAt (is_shipment shipment.now) advices.now i) }
-{
-    for (i, advice) in advices.iter().enumerate() {
-        if advice.is_under(shipment) {
-            return Some(i);
-        }
-    }
-    None
-}
-
-/// The place of the order under a number.
-pub(crate) fn place_of_order(orders: &[KnownOrder], number: &[u8]) -> Option<usize>
-    ensures { MatchOption result (order_at number.now orders.now ≡ None) (λ i. IsAt (is_number number.now) orders.now i) }
-{
-    for (i, order) in orders.iter().enumerate() {
-        if order.is_under(number) {
-            return Some(i);
-        }
-    }
-    None
 }

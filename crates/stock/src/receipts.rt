@@ -1,49 +1,56 @@
-ghost use Rattle.std.specs.Prelude.{◌≡◌, ◌<◌, ◌+◌, ◌++◌, [], ◌∷◌, List, Ok, IfOk, IfErr, true, length, slice_index_or};
+ghost use Rattle.std.specs.Prelude.{◌≡◌, ◌<◌, ◌+◌, ◌++◌, [], ◌∷◌, List, Ok, Some, IfOk, IfErr, true};
 ghost use Rattle.profile.specs.Clerk.{counted};
 ghost use Rattle.profile.specs.Events.{Event};
-ghost use Rattle.profile.specs.Page.{PageAdvice};
+ghost use Rattle.stock.specs.Pages.{IsSound, advice_at};
+ghost use Rattle.stock.specs.Puts.{put};
 ghost use Rattle.stock.specs.Shows.{Shows};
 ghost use Rattle.stock.specs.Steps.{IsReceived};
 ghost use Rattle.stock.specs.Stops.{StopsAct, advice_changes};
+ghost use Rattle.stock.specs.declared.documents.Function.TheVariants.{Receipt};
+ghost use Rattle.stock.specs.declared.steps.Change.TheVariants.{Sent};
 
-use crate::changes::advice_changes;
-use crate::documents::{Function, send};
-use crate::lines::copied_lines;
-use crate::page::{Page, place_of_advice};
-use crate::rows::count;
-use crate::steps::{Step, Stop};
+use crate::changes::row_changes;
+use crate::documents::Function;
+use crate::known::KnownAdvice;
+use crate::lines::joined;
+use crate::page::Page;
+use crate::rows::{count, touched};
+use crate::steps::{Change, Step, Stop};
 use sheets::Sheet;
 use std::alloc::{AllocError, Global};
 
-// The page with the advice at i closed, and the sheet on hand.
-fn received(alloc: Global, page: Page, i: usize, sheet: &Sheet) -> Result<Page, AllocError>
-    requires within { i < length page.advices }
-    requires is_open { (d : PageAdvice) → (slice_index_or page.advices i d).is_open ≡ true }
-    requires room { page.recent < 1000 }
-    ensures { IfOk result (λ new. (k : PageAdvice) → k ≡ slice_index_or page.advices i k → IsReceived (page.entries + 1) i k sheet.now page new) }
+// What changes when the advice is closed and the sheet comes on hand.
+fn changes(
+    alloc: Global,
+    page: &Page,
+    advice: &KnownAdvice,
+    sheet: &Sheet,
+) -> Result<Vec<Change>, AllocError>
+    requires room { page.now.recent < 1000 }
+    requires known { advice_at advice.now.shipment page.now.advices ≡ Some advice.now }
+    requires is_open { advice.now.is_open ≡ true }
+    ensures made { IfOk result (λ changes. IsReceived (page.now.entries + 1) advice.now sheet.now page.now (put changes.items page.now)) }
+    ensures exact { IfOk result (λ changes. changes.items ≡ advice_changes advice.now.shipment page.now (put changes.items page.now) ++ Sent (page.now.entries + 1) Receipt ∷ []) }
+    ensures sound { IfOk result (λ changes. IsSound (put changes.items page.now)) }
 {
     let goods = sheet.lines(alloc)?;
-    let Page {
-        mut rows,
-        mut advices,
-        orders,
-        mut documents,
-        entries,
-        recent,
-    } = page;
-    let advice = &mut advices[i];
-    let lines = copied_lines(alloc, advice.lines())?;
-    advice.close();
-    count(alloc, &mut rows, entries + 1, &lines, &goods)?;
-    send(&mut documents, entries + 1, Function::Receipt)?;
-    Ok(Page {
-        rows,
-        advices,
-        orders,
-        documents,
-        entries,
-        recent: recent + 1,
-    })
+    let rows = page.rows();
+    let lines = joined(alloc, advice.lines(), &goods)?;
+    let mut touched = touched(alloc, rows, &lines)?;
+    count(
+        alloc,
+        &mut touched,
+        page.next_number(),
+        advice.lines(),
+        &goods,
+    )?;
+    let mut changes = row_changes(alloc, rows, &touched)?;
+    changes.push(Change::Advice(advice.closed()?))?;
+    changes.push(Change::Sent {
+        n: page.next_number(),
+        function: Function::Receipt,
+    })?;
+    Ok(changes)
 }
 
 /// Counts the goods of an advice under the number of the next entry: nothing of it is expected any more, and what the sheet
@@ -51,24 +58,17 @@ fn received(alloc: Global, page: Page, i: usize, sheet: &Sheet) -> Result<Page, 
 pub fn receive(alloc: Global, page: &Page, shipment: &[u8], sheet: &Sheet) -> Result<Step, Stop>
     requires { page.now.recent < 1000 }
     ensures ok { IfOk result (λ step. (es : List Event) → Shows page.now es
-        → (e : Event) × (counted es (page.now.entries + 1) shipment.now sheet.now ≡ Ok e) × Shows step.page (es ++ e ∷ [])) }
+        → (e : Event) × (counted es (page.now.entries + 1) shipment.now sheet.now ≡ Ok e) × Shows (put step.changes.items page.now) (es ++ e ∷ [])) }
     ensures err { IfErr result (λ stop. (es : List Event) → Shows page.now es → StopsAct (counted es (page.now.entries + 1) shipment.now sheet.now) stop) }
-    ensures changes { IfOk result (λ step. step.changes.items ≡ advice_changes shipment.now page.now step.page) }
-    ensures entries { IfOk result (λ step. step.page.entries ≡ page.now.entries) }
-    ensures recent { IfOk result (λ step. step.page.recent ≡ page.now.recent + 1) }
+    ensures changes { IfOk result (λ step. step.changes.items ≡ advice_changes shipment.now page.now (put step.changes.items page.now) ++ Sent (page.now.entries + 1) Receipt ∷ []) }
+    ensures sound { IfOk result (λ step. IsSound (put step.changes.items page.now)) }
 {
-    let advices = page.advices();
-    let Some(i) = place_of_advice(advices, shipment) else {
+    let Some(advice) = page.advice(shipment) else {
         return Err(Stop::Refused(22));
     };
-    let advice = &advices[i];
     if !advice.is_open() {
         return Err(Stop::Refused(23));
     }
-    let next = received(alloc, page.copy()?, i, sheet)?;
-    let changes = advice_changes(alloc, shipment, page, &next)?;
-    Ok(Step {
-        page: next,
-        changes,
-    })
+    let changes = changes(alloc, page, advice, sheet)?;
+    Ok(Step { changes })
 }

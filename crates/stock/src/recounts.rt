@@ -2,23 +2,27 @@ ghost use Rattle.std.specs.Prelude.{◌≡◌, ◌<◌, ◌+◌, ◌++◌, [], �
 ghost use Rattle.std.specs.List.{list_any, list_all};
 ghost use Rattle.profile.specs.Clerk.{recounted};
 ghost use Rattle.profile.specs.Events.{Event};
+ghost use Rattle.stock.specs.Keyed.{IsSorted};
+ghost use Rattle.stock.specs.Pages.{IsSound};
+ghost use Rattle.stock.specs.Puts.{put};
 ghost use Rattle.stock.specs.Shows.{Shows};
 ghost use Rattle.stock.specs.Steps.{IsRecounted, is_unknown, is_below, is_on_hand};
 ghost use Rattle.stock.specs.Stops.{StopsAct, row_changes};
-ghost use Rattle.stock.specs.Told.{IsDistinct};
+ghost use Rattle.stock.specs.declared.documents.Function.TheVariants.{Adjustment};
+ghost use Rattle.stock.specs.declared.steps.Change.TheVariants.{Sent};
 
 use crate::changes::row_changes;
-use crate::documents::{Function, send};
+use crate::documents::Function;
 use crate::page::Page;
-use crate::rows::{Column, Row, amount_of, set_lines, since_of};
-use crate::steps::{Step, Stop};
+use crate::rows::{Column, Row, amount_of, set_lines, since_of, touched};
+use crate::steps::{Change, Step, Stop};
 use sets_in::Line;
 use sheets::Sheet;
 use std::alloc::{AllocError, Global};
 
 // Whether no count named the pair of one of the lines.
 fn has_unknown(rows: &[Row], lines: &[Line]) -> bool
-    requires { IsDistinct rows.now }
+    requires { IsSorted rows.now }
     ensures { result ≡ list_any (is_unknown rows.now) lines.now }
 {
     for line in lines {
@@ -31,7 +35,7 @@ fn has_unknown(rows: &[Row], lines: &[Line]) -> bool
 
 // Whether a line is below what is reserved of its pair.
 fn is_below(rows: &[Row], line: &Line) -> bool
-    requires { IsDistinct rows.now }
+    requires { IsSorted rows.now }
     ensures { result ≡ is_below rows.now line.now }
 {
     u64::from(line.quantity()) < amount_of(rows, Column::Reservation, line.item(), line.lot())
@@ -39,7 +43,7 @@ fn is_below(rows: &[Row], line: &Line) -> bool
 
 // Whether one of the lines is below what is reserved of its pair.
 fn has_below(rows: &[Row], lines: &[Line]) -> bool
-    requires { IsDistinct rows.now }
+    requires { IsSorted rows.now }
     ensures { result ≡ list_any (is_below rows.now) lines.now }
 {
     for line in lines {
@@ -52,7 +56,7 @@ fn has_below(rows: &[Row], lines: &[Line]) -> bool
 
 // Whether a line is what is on hand of its pair.
 fn is_on_hand(rows: &[Row], line: &Line) -> bool
-    requires { IsDistinct rows.now }
+    requires { IsSorted rows.now }
     ensures { result ≡ is_on_hand rows.now line.now }
 {
     u64::from(line.quantity()) == amount_of(rows, Column::OnHand, line.item(), line.lot())
@@ -60,7 +64,7 @@ fn is_on_hand(rows: &[Row], line: &Line) -> bool
 
 // Whether each line is what is on hand of its pair.
 fn are_on_hand(rows: &[Row], lines: &[Line]) -> bool
-    requires { IsDistinct rows.now }
+    requires { IsSorted rows.now }
     ensures { result ≡ list_all (is_on_hand rows.now) lines.now }
 {
     for line in lines {
@@ -71,32 +75,25 @@ fn are_on_hand(rows: &[Row], lines: &[Line]) -> bool
     true
 }
 
-// The page with what is on hand as the sheet says.
-fn corrected(alloc: Global, page: Page, sheet: &Sheet) -> Result<Page, AllocError>
-    requires known { list_any (is_unknown page.rows) sheet.now ≡ false }
-    requires covered { list_any (is_below page.rows) sheet.now ≡ false }
-    requires room { page.recent < 1000 }
-    ensures { IfOk result (λ new. IsRecounted (page.entries + 1) sheet.now page new) }
+// What changes when what is on hand is as the sheet says.
+fn changes(alloc: Global, page: &Page, sheet: &Sheet) -> Result<Vec<Change>, AllocError>
+    requires room { page.now.recent < 1000 }
+    requires known { list_any (is_unknown page.now.rows) sheet.now ≡ false }
+    requires covered { list_any (is_below page.now.rows) sheet.now ≡ false }
+    ensures made { IfOk result (λ changes. IsRecounted (page.now.entries + 1) sheet.now page.now (put changes.items page.now)) }
+    ensures exact { IfOk result (λ changes. changes.items ≡ row_changes page.now (put changes.items page.now) ++ Sent (page.now.entries + 1) Adjustment ∷ []) }
+    ensures sound { IfOk result (λ changes. IsSound (put changes.items page.now)) }
 {
     let goods = sheet.lines(alloc)?;
-    let Page {
-        mut rows,
-        advices,
-        orders,
-        mut documents,
-        entries,
-        recent,
-    } = page;
-    set_lines(&mut rows, &goods);
-    send(&mut documents, entries + 1, Function::Adjustment)?;
-    Ok(Page {
-        rows,
-        advices,
-        orders,
-        documents,
-        entries,
-        recent: recent + 1,
-    })
+    let rows = page.rows();
+    let mut touched = touched(alloc, rows, &goods)?;
+    set_lines(&mut touched, &goods);
+    let mut changes = row_changes(alloc, rows, &touched)?;
+    changes.push(Change::Sent {
+        n: page.next_number(),
+        function: Function::Adjustment,
+    })?;
+    Ok(changes)
 }
 
 /// Sets what is on hand of the sheet's pairs, under the number of the next entry. The error is 27 (no count named a pair), 28
@@ -105,11 +102,10 @@ fn corrected(alloc: Global, page: Page, sheet: &Sheet) -> Result<Page, AllocErro
 pub fn recount(alloc: Global, page: &Page, sheet: &Sheet) -> Result<Step, Stop>
     requires { page.now.recent < 1000 }
     ensures ok { IfOk result (λ step. (es : List Event) → Shows page.now es
-        → (e : Event) × (recounted es (page.now.entries + 1) sheet.now ≡ Ok e) × Shows step.page (es ++ e ∷ [])) }
+        → (e : Event) × (recounted es (page.now.entries + 1) sheet.now ≡ Ok e) × Shows (put step.changes.items page.now) (es ++ e ∷ [])) }
     ensures err { IfErr result (λ stop. (es : List Event) → Shows page.now es → StopsAct (recounted es (page.now.entries + 1) sheet.now) stop) }
-    ensures changes { IfOk result (λ step. step.changes.items ≡ row_changes page.now step.page) }
-    ensures entries { IfOk result (λ step. step.page.entries ≡ page.now.entries) }
-    ensures recent { IfOk result (λ step. step.page.recent ≡ page.now.recent + 1) }
+    ensures changes { IfOk result (λ step. step.changes.items ≡ row_changes page.now (put step.changes.items page.now) ++ Sent (page.now.entries + 1) Adjustment ∷ []) }
+    ensures sound { IfOk result (λ step. IsSound (put step.changes.items page.now)) }
 {
     let goods = sheet.lines(alloc)?;
     let rows = page.rows();
@@ -122,10 +118,6 @@ pub fn recount(alloc: Global, page: &Page, sheet: &Sheet) -> Result<Step, Stop>
     if are_on_hand(rows, &goods) {
         return Err(Stop::Refused(29));
     }
-    let next = corrected(alloc, page.copy()?, sheet)?;
-    let changes = row_changes(alloc, page, &next)?;
-    Ok(Step {
-        page: next,
-        changes,
-    })
+    let changes = changes(alloc, page, sheet)?;
+    Ok(Step { changes })
 }

@@ -1,21 +1,22 @@
-ghost use Rattle.std.specs.Prelude.{◌≡◌, ◌<◌, ◌+◌, ◌++◌, [], ◌∷◌, List, None, IfOk, IfErr, option_map};
+ghost use Rattle.std.specs.Prelude.{◌≡◌, ◌<◌, ◌++◌, [], ◌∷◌, List, None, IfOk, IfErr, option_map};
 ghost use Rattle.profile.specs.Allotment.{order_shares};
 ghost use Rattle.profile.specs.Events.{Event, Ordered, order_fault, repeated, same_order_item};
 ghost use Rattle.profile.specs.Page.{reserved_lines};
 ghost use Rattle.stock.specs.Lots.{all_shares_in};
-ghost use Rattle.stock.specs.Pages.{order_at};
+ghost use Rattle.stock.specs.Pages.{IsSound, order_at};
+ghost use Rattle.stock.specs.Puts.{put};
 ghost use Rattle.stock.specs.Shows.{Shows};
 ghost use Rattle.stock.specs.Steps.{IsReserved, opened_order};
 ghost use Rattle.stock.specs.Stops.{StopsFor, order_changes};
 
-use crate::changes::order_changes;
+use crate::changes::row_changes;
 use crate::faults::order_fault;
 use crate::known::KnownOrder;
 use crate::lines::{known_lines, reserved};
 use crate::lots::all_shares;
 use crate::page::Page;
-use crate::rows::{Column, add_lines};
-use crate::steps::{Step, Stop};
+use crate::rows::{Column, add_lines, touched};
+use crate::steps::{Change, Step, Stop};
 use sets_in::{Address, Line, Order};
 use std::alloc::{AllocError, Global};
 
@@ -45,33 +46,28 @@ fn opened(
     Ok(KnownOrder::new(number, address, known, lines, true))
 }
 
-// The page with an order more, which is opened, and its shares reserved.
-fn with_order(alloc: Global, page: Page, order: &Order, shares: &[Line]) -> Result<Page, AllocError>
-    requires room { page.recent < 1000 }
-    requires unknown { order_at order.now.number page.orders ≡ None }
+// What an order that is opened changes, with its shares reserved.
+fn changes(
+    alloc: Global,
+    page: &Page,
+    order: &Order,
+    shares: &[Line],
+) -> Result<Vec<Change>, AllocError>
+    requires room { page.now.recent < 1000 }
+    requires unknown { order_at order.now.number page.now.orders ≡ None }
     requires once { repeated same_order_item [] order.now.lines ≡ None }
-    requires allotted { shares.now ≡ all_shares_in page.rows order.now.lines }
-    ensures { IfOk result (λ new. IsReserved order.now shares.now page new) }
+    requires allotted { shares.now ≡ all_shares_in page.now.rows order.now.lines }
+    ensures made { IfOk result (λ changes. IsReserved order.now shares.now page.now (put changes.items page.now)) }
+    ensures exact { IfOk result (λ changes. changes.items ≡ order_changes order.now.number page.now (put changes.items page.now)) }
+    ensures sound { IfOk result (λ changes. IsSound (put changes.items page.now)) }
 {
     let lines = reserved(alloc, shares)?;
-    let Page {
-        mut rows,
-        advices,
-        mut orders,
-        documents,
-        entries,
-        recent,
-    } = page;
-    add_lines(alloc, &mut rows, Column::Reservation, &lines)?;
-    orders.push(opened(alloc, order, shares, lines)?)?;
-    Ok(Page {
-        rows,
-        advices,
-        orders,
-        documents,
-        entries,
-        recent: recent + 1,
-    })
+    let rows = page.rows();
+    let mut touched = touched(alloc, rows, &lines)?;
+    add_lines(alloc, &mut touched, Column::Reservation, &lines)?;
+    let mut changes = row_changes(alloc, rows, &touched)?;
+    changes.push(Change::Order(opened(alloc, order, shares, lines)?))?;
+    Ok(changes)
 }
 
 /// Opens an order: each of its lines is given what is free of the lots that it may have, the lot that was counted first
@@ -79,21 +75,16 @@ fn with_order(alloc: Global, page: Page, order: &Order, shares: &[Line]) -> Resu
 /// known order number, an item that stands twice, a W76 that isn't the sum), or want of memory.
 pub fn reserve(alloc: Global, page: &Page, order: &Order) -> Result<Step, Stop>
     requires { page.now.recent < 1000 }
-    ensures ok { IfOk result (λ step. (es : List Event) → Shows page.now es → (order_fault es order.now ≡ None) × Shows step.page (es ++ Ordered order.now (order_shares es order.now) ∷ [])) }
+    ensures ok { IfOk result (λ step. (es : List Event) → Shows page.now es → (order_fault es order.now ≡ None) × Shows (put step.changes.items page.now) (es ++ Ordered order.now (order_shares es order.now) ∷ [])) }
     ensures err { IfErr result (λ stop. (es : List Event) → Shows page.now es → StopsFor (order_fault es order.now) stop) }
-    ensures changes { IfOk result (λ step. step.changes.items ≡ order_changes order.now.number page.now step.page) }
-    ensures entries { IfOk result (λ step. step.page.entries ≡ page.now.entries) }
-    ensures recent { IfOk result (λ step. step.page.recent ≡ page.now.recent + 1) }
+    ensures changes { IfOk result (λ step. step.changes.items ≡ order_changes order.now.number page.now (put step.changes.items page.now)) }
+    ensures sound { IfOk result (λ step. IsSound (put step.changes.items page.now)) }
 {
     let is_known = page.has_order(order.number());
     if let Some(fault) = order_fault(order, is_known) {
         return Err(Stop::Set(fault));
     }
     let shares = all_shares(alloc, page.rows(), order.lines())?;
-    let next = with_order(alloc, page.copy()?, order, &shares)?;
-    let changes = order_changes(alloc, order.number(), page, &next)?;
-    Ok(Step {
-        page: next,
-        changes,
-    })
+    let changes = changes(alloc, page, order, &shares)?;
+    Ok(Step { changes })
 }

@@ -1,9 +1,12 @@
 ghost use Rattle.std.specs.Prelude.{◌≡◌, [], ◌∷◌, ◌≤◌, ◌<◌, ◌+◌, ◌^◌, ℕ, List, length, IfOk, OnOk, OnErr, MatchOption, IsSome, slice_index_or, if◌then◌else◌, cond, true, ◌&&◌};
 ghost use Rattle.std.specs.List.{list_any};
 ghost use Rattle.profile.specs.Rows.{LotRow};
+ghost use Rattle.profile.specs.Bytes.{comes_before};
 ghost use Rattle.profile.specs.Events.{is_pair, quantity_of};
 ghost use Rattle.profile.specs.Movements.{Column as Kind, Expected, OnHand, Reservation, Shipped};
-ghost use Rattle.stock.specs.Told.{is_row, told, one, since, amount, given, named_by, same_row, raised, lowered, marked, blank, with_on_hand, IsDistinct};
+ghost use Rattle.stock.specs.Keyed.{key_before, row_key, put_row, IsSorted, IsRank};
+ghost use Rattle.stock.specs.Told.{is_row, told, one, since, amount, given, named_by, same_row, raised, lowered, marked, blank, with_on_hand};
+ghost use Rattle.stock.specs.Touched.{IsTouched, IsTouchedBy};
 ghost use Rattle.stock.specs.Moved.{IsPlace, IsPlaced, IsAdded, IsTaken, IsMarked, IsCounted, IsRaised, IsShipped, IsSet};
 ghost use Rattle.stock.specs.Columns.{column_of};
 
@@ -60,6 +63,30 @@ impl Row {
         ensures { result ≡ is_row line.now.item line.now.lot self.now }
     {
         self.is_of(line.item(), line.lot())
+    }
+
+    // Whether it comes before the row of a pair.
+    fn is_before(&self, item: &[u8], lot: &[u8]) -> bool
+        ensures { result ≡ key_before (row_key self.now) (item.now, lot.now) }
+    {
+        if self.item.as_slice() == item {
+            return self.lot.as_slice().cmp(&lot).is_lt();
+        }
+        self.item.as_slice().cmp(&item).is_lt()
+    }
+
+    // Whether its item comes before another.
+    pub(crate) fn is_before_item(&self, item: &[u8]) -> bool
+        ensures { result ≡ comes_before self.now.item item.now }
+    {
+        self.item.as_slice().cmp(&item).is_lt()
+    }
+
+    // Whether its item comes behind another.
+    pub(crate) fn is_behind_item(&self, item: &[u8]) -> bool
+        ensures { result ≡ comes_before item.now self.now.item }
+    {
+        item.cmp(&self.item.as_slice()).is_lt()
     }
 
     // A copy of it.
@@ -154,21 +181,70 @@ impl Row {
     }
 }
 
+// How many rows come before that of a pair.
+fn rank_of(rows: &[Row], item: &[u8], lot: &[u8]) -> usize
+    requires { IsSorted rows.now }
+    ensures { IsRank key_before row_key rows.now (item.now, lot.now) result }
+{
+    rows.partition_point(|row| row.is_before(item, lot))
+}
+
 // The place of the row of a pair.
 pub(crate) fn place_of(rows: &[Row], item: &[u8], lot: &[u8]) -> Option<usize>
+    requires { IsSorted rows.now }
     ensures { MatchOption result (told one item.now lot.now rows.now ≡ 0) (λ i. IsPlace item.now lot.now rows.now i) }
 {
-    for (i, row) in rows.iter().enumerate() {
-        if row.is_of(item, lot) {
-            return Some(i);
-        }
+    let i = rank_of(rows, item, lot);
+    if i == rows.len() {
+        return None;
+    }
+    if rows[i].is_of(item, lot) {
+        return Some(i);
     }
     None
 }
 
+// Puts a row in the place of that of its pair, or where that belongs.
+pub(crate) fn put_row(rows: &mut Vec<Row>, row: Row) -> Result<(), AllocError>
+    requires { IsSorted rows.old.items }
+    ensures { OnOk result (rows.new.items ≡ put_row row rows.old.items) }
+{
+    if let Some(i) = place_of(rows, &row.item, &row.lot) {
+        rows[i] = row;
+        return Ok(());
+    }
+    let i = rank_of(rows, &row.item, &row.lot);
+    rows.insert(i, row)?;
+    Ok(())
+}
+
+// The rows of the pairs that the lines name, as they are.
+pub(crate) fn touched(alloc: Global, rows: &[Row], lines: &[Line]) -> Result<Vec<Row>, AllocError>
+    requires { IsSorted rows.now }
+    ensures { IfOk result (λ touched. IsTouched lines.now rows.now touched.items) }
+{
+    let mut touched = Vec::new(alloc);
+    for line in lines {
+        touch(rows, &mut touched, line)?;
+    }
+    Ok(touched)
+}
+
+// Adds a copy of the row of a line's pair, if there is one.
+fn touch(rows: &[Row], touched: &mut Vec<Row>, line: &Line) -> Result<(), AllocError>
+    requires rows { IsSorted rows.now }
+    requires touched { IsSorted touched.old.items }
+    ensures { OnOk result (IsTouchedBy line.now rows.now touched.old.items touched.new.items) }
+{
+    if let Some(i) = place_of(rows, line.item(), line.lot()) {
+        put_row(touched, rows[i].copy()?)?;
+    }
+    Ok(())
+}
+
 // An amount of a pair: 0 where there is no row of it.
 pub(crate) fn amount_of(rows: &[Row], column: Column, item: &[u8], lot: &[u8]) -> u64
-    requires { IsDistinct rows.now }
+    requires { IsSorted rows.now }
     ensures { result ≡ told (amount (column_of column)) item.now lot.now rows.now }
 {
     match place_of(rows, item, lot) {
@@ -179,7 +255,7 @@ pub(crate) fn amount_of(rows: &[Row], column: Column, item: &[u8], lot: &[u8]) -
 
 // The number of the first count that named a pair, or 0.
 pub(crate) fn since_of(rows: &[Row], item: &[u8], lot: &[u8]) -> u32
-    requires { IsDistinct rows.now }
+    requires { IsSorted rows.now }
     ensures { result ≡ told since item.now lot.now rows.now }
 {
     match place_of(rows, item, lot) {
@@ -190,14 +266,14 @@ pub(crate) fn since_of(rows: &[Row], item: &[u8], lot: &[u8]) -> u32
 
 // The place of the line's row, which is made where there is none.
 fn placed(alloc: Global, rows: &mut Vec<Row>, line: &Line) -> Result<usize, AllocError>
-    requires { IsDistinct rows.old.items }
+    requires { IsSorted rows.old.items }
     ensures { IfOk result (λ i. IsPlaced rows.old.items rows.new.items line.now i) }
 {
     if let Some(i) = place_of(rows, line.item(), line.lot()) {
         return Ok(i);
     }
-    let i = rows.len();
-    rows.push(Row::blank(alloc, line)?)?;
+    let i = rank_of(rows, line.item(), line.lot());
+    rows.insert(i, Row::blank(alloc, line)?)?;
     Ok(i)
 }
 
@@ -208,7 +284,7 @@ fn add_line(
     column: Column,
     line: &Line,
 ) -> Result<(), AllocError>
-    requires distinct { IsDistinct rows.old.items }
+    requires sorted { IsSorted rows.old.items }
     requires fits { told (amount (column_of column)) line.now.item line.now.lot rows.old.items + line.now.quantity < 2 ^ 64 }
     ensures { OnOk result (IsAdded (column_of column) (line.now ∷ []) rows.old.items rows.new.items) }
 {
@@ -220,7 +296,7 @@ fn add_line(
 
 // Takes a line from a column.
 fn take_line(rows: &mut Vec<Row>, column: Column, line: &Line)
-    requires distinct { IsDistinct rows.old.items }
+    requires sorted { IsSorted rows.old.items }
     requires there { line.now.quantity ≤ told (amount (column_of column)) line.now.item line.now.lot rows.old.items }
     ensures { IsTaken (column_of column) (line.now ∷ []) rows.old.items rows.new.items }
 {
@@ -232,7 +308,7 @@ fn take_line(rows: &mut Vec<Row>, column: Column, line: &Line)
 
 // Adds a line to a column of its row, if there is one.
 fn raise_line(rows: &mut Vec<Row>, column: Column, line: &Line)
-    requires distinct { IsDistinct rows.old.items }
+    requires sorted { IsSorted rows.old.items }
     requires fits { told (amount (column_of column)) line.now.item line.now.lot rows.old.items + line.now.quantity < 2 ^ 64 }
     requires there { told one line.now.item line.now.lot rows.old.items ≡ 0 → line.now.quantity ≡ 0 }
     ensures { IsRaised (column_of column) (line.now ∷ []) rows.old.items rows.new.items }
@@ -245,7 +321,7 @@ fn raise_line(rows: &mut Vec<Row>, column: Column, line: &Line)
 
 // Adds the lines to a column of their rows; a line whose pair has no row is of nothing.
 pub(crate) fn raise_lines(rows: &mut Vec<Row>, column: Column, lines: &[Line])
-    requires distinct { IsDistinct rows.old.items }
+    requires sorted { IsSorted rows.old.items }
     requires fits { (item lot : List ℕ) → told (amount (column_of column)) item lot rows.old.items + quantity_of lines.now item lot < 2 ^ 64 }
     requires there { (item lot : List ℕ) → told one item lot rows.old.items ≡ 0 → quantity_of lines.now item lot ≡ 0 }
     ensures { IsRaised (column_of column) lines.now rows.old.items rows.new.items }
@@ -257,7 +333,7 @@ pub(crate) fn raise_lines(rows: &mut Vec<Row>, column: Column, lines: &[Line])
 
 // Takes the sheet from what is on hand and adds it to what was shipped; takes what was reserved.
 pub(crate) fn ship(rows: &mut Vec<Row>, reserved: &[Line], sheet: &[Line])
-    requires distinct { IsDistinct rows.old.items }
+    requires sorted { IsSorted rows.old.items }
     requires on_hand { (item lot : List ℕ) → quantity_of sheet.now item lot ≤ told (amount OnHand) item lot rows.old.items }
     requires fits { (item lot : List ℕ) → told (amount Shipped) item lot rows.old.items + quantity_of sheet.now item lot < 2 ^ 64 }
     requires there { (item lot : List ℕ) → quantity_of reserved.now item lot ≤ told (amount Reservation) item lot rows.old.items }
@@ -270,7 +346,7 @@ pub(crate) fn ship(rows: &mut Vec<Row>, reserved: &[Line], sheet: &[Line])
 
 // Sets what is on hand of the line's pair.
 fn set_line(rows: &mut Vec<Row>, line: &Line)
-    requires distinct { IsDistinct rows.old.items }
+    requires sorted { IsSorted rows.old.items }
     requires there { 1 ≤ told one line.now.item line.now.lot rows.old.items }
     ensures { IsSet (line.now ∷ []) rows.old.items rows.new.items }
 {
@@ -282,7 +358,7 @@ fn set_line(rows: &mut Vec<Row>, line: &Line)
 
 // Sets what is on hand of the lines' pairs.
 pub(crate) fn set_lines(rows: &mut Vec<Row>, lines: &[Line])
-    requires distinct { IsDistinct rows.old.items }
+    requires sorted { IsSorted rows.old.items }
     requires there { (item lot : List ℕ) → named_by lines.now item lot ≤ told one item lot rows.old.items }
     ensures { IsSet lines.now rows.old.items rows.new.items }
 {
@@ -298,7 +374,7 @@ pub(crate) fn add_lines(
     column: Column,
     lines: &[Line],
 ) -> Result<(), AllocError>
-    requires distinct { IsDistinct rows.old.items }
+    requires sorted { IsSorted rows.old.items }
     requires fits { (item lot : List ℕ) → told (amount (column_of column)) item lot rows.old.items + quantity_of lines.now item lot < 2 ^ 64 }
     ensures { OnOk result (IsAdded (column_of column) lines.now rows.old.items rows.new.items) }
 {
@@ -310,7 +386,7 @@ pub(crate) fn add_lines(
 
 // Takes the lines from a column.
 pub(crate) fn take_lines(rows: &mut Vec<Row>, column: Column, lines: &[Line])
-    requires distinct { IsDistinct rows.old.items }
+    requires sorted { IsSorted rows.old.items }
     requires there { (item lot : List ℕ) → quantity_of lines.now item lot ≤ told (amount (column_of column)) item lot rows.old.items }
     ensures { IsTaken (column_of column) lines.now rows.old.items rows.new.items }
 {
@@ -321,7 +397,7 @@ pub(crate) fn take_lines(rows: &mut Vec<Row>, column: Column, lines: &[Line])
 
 // Numbers the line's row, if it has no number.
 fn mark_line(rows: &mut Vec<Row>, n: u32, line: &Line)
-    requires distinct { IsDistinct rows.old.items }
+    requires sorted { IsSorted rows.old.items }
     requires there { 1 ≤ told one line.now.item line.now.lot rows.old.items }
     ensures { IsMarked n (line.now ∷ []) rows.old.items rows.new.items }
 {
@@ -334,7 +410,7 @@ fn mark_line(rows: &mut Vec<Row>, n: u32, line: &Line)
 // Numbers the rows of the lines that have no number.
 pub(crate) fn mark_lines(rows: &mut Vec<Row>, n: u32, lines: &[Line])
     requires positive { 0 < n }
-    requires distinct { IsDistinct rows.old.items }
+    requires sorted { IsSorted rows.old.items }
     requires there { (item lot : List ℕ) → named_by lines.now item lot ≤ told one item lot rows.old.items }
     ensures { IsMarked n lines.now rows.old.items rows.new.items }
 {
@@ -352,7 +428,7 @@ pub(crate) fn count(
     sheet: &[Line],
 ) -> Result<(), AllocError>
     requires positive { 0 < n }
-    requires distinct { IsDistinct rows.old.items }
+    requires sorted { IsSorted rows.old.items }
     requires there { (item lot : List ℕ) → quantity_of expected.now item lot ≤ told (amount Expected) item lot rows.old.items }
     requires fits { (item lot : List ℕ) → told (amount OnHand) item lot rows.old.items + quantity_of sheet.now item lot < 2 ^ 64 }
     ensures { OnOk result (IsCounted n expected.now sheet.now rows.old.items rows.new.items) }
@@ -363,17 +439,13 @@ pub(crate) fn count(
     Ok(())
 }
 
-// Whether the row is one of these, most likely that at i.
-pub(crate) fn has_row(rows: &[Row], i: usize, row: &Row) -> bool
+// Whether the row is one of these.
+pub(crate) fn has_row(rows: &[Row], row: &Row) -> bool
+    requires { IsSorted rows.now }
     ensures { result ≡ list_any (same_row row.now) rows.now }
 {
-    if i < rows.len() && row.is_same(&rows[i]) {
-        return true;
+    match place_of(rows, &row.item, &row.lot) {
+        None => false,
+        Some(i) => row.is_same(&rows[i]),
     }
-    for other in rows {
-        if row.is_same(other) {
-            return true;
-        }
-    }
-    false
 }

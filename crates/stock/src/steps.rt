@@ -1,7 +1,7 @@
 ghost use Rattle.std.specs.Prelude.{◌≡◌};
 
+use crate::documents::Function;
 use crate::known::{KnownAdvice, KnownOrder};
-use crate::page::Page;
 use crate::rows::Row;
 use std::alloc::AllocError;
 use tables::SetFault;
@@ -15,6 +15,13 @@ pub enum Change {
     Advice(KnownAdvice),
     /// An order, new with what is reserved for it; or closed, when nothing is reserved for it any more.
     Order(KnownOrder),
+    /// A document that is sent with its entry, unless one was sent under its number.
+    Sent {
+        /// The number of its entry, 1 to 1,000,000.
+        n: u32,
+        /// What kind of document it is.
+        function: Function,
+    },
     /// What the first acknowledgment says of a document.
     Document {
         /// The number of the document's entry.
@@ -24,16 +31,14 @@ pub enum Change {
     },
 }
 
-/// A page with one event more.
+/// What one event more changes on a page: `Page::with` puts it in.
 #[derive(Drop)]
 pub struct Step {
-    /// The page.
-    pub page: Page,
-    /// The rows that changed: those of pairs, and behind them that of the advice, the order or the document.
+    /// The rows of pairs that change, in order, and behind them the advice, the order and the document.
     pub changes: Vec<Change>,
 }
 
-/// Why there is no such page; the page is as before.
+/// Why there is no such step.
 #[derive(Drop)]
 pub enum Stop {
     /// The trade fault of a set, at the least position.

@@ -1,3 +1,6 @@
+ghost use Rattle.stock.specs.Pages.{IsSound};
+ghost use Rattle.stock.specs.Puts.{put};
+
 use super::*;
 use segments::{Delims, Segment, cut};
 use sets_in::{AckIn, Advice, Order, ack, advice, order};
@@ -76,20 +79,43 @@ fn ended(page: Page) -> Result<Page, Fail> {
     Ok(page)
 }
 
+// A page with one event more, and what changed.
+#[derive(Drop)]
+struct Next {
+    page: Page,
+    changes: Vec<Change>,
+}
+
+// The page with what a step of it changes.
+fn stepped(page: &Page, step: Step) -> Result<Next, Fail>
+    requires { IsSound (put step.changes.items page.now) }
+{
+    Ok(Next {
+        page: page.copy()?.with(&step)?,
+        changes: step.changes,
+    })
+}
+
 // What an advice comes to.
-fn announcing(alloc: Global, page: &Page, text: &[u8]) -> Result<Result<Step, Stop>, Fail> {
+fn announcing(alloc: Global, page: &Page, text: &[u8]) -> Result<Result<Next, Stop>, Fail> {
     if page.recent() >= 1000 {
         return Err("too many events".into());
     }
-    Ok(announce(alloc, page, &advice_of(alloc, text)?))
+    match announce(alloc, page, &advice_of(alloc, text)?) {
+        Ok(step) => Ok(Ok(stepped(page, step)?)),
+        Err(stop) => Ok(Err(stop)),
+    }
 }
 
 // What an order comes to.
-fn reserving(alloc: Global, page: &Page, text: &[u8]) -> Result<Result<Step, Stop>, Fail> {
+fn reserving(alloc: Global, page: &Page, text: &[u8]) -> Result<Result<Next, Stop>, Fail> {
     if page.recent() >= 1000 {
         return Err("too many events".into());
     }
-    Ok(reserve(alloc, page, &order_of(alloc, text)?))
+    match reserve(alloc, page, &order_of(alloc, text)?) {
+        Ok(step) => Ok(Ok(stepped(page, step)?)),
+        Err(stop) => Ok(Err(stop)),
+    }
 }
 
 // What a count comes to.
@@ -98,12 +124,15 @@ fn counting(
     page: &Page,
     shipment: &[u8],
     lines: &[[&[u8]; 3]],
-) -> Result<Result<Step, Stop>, Fail> {
+) -> Result<Result<Next, Stop>, Fail> {
     if page.recent() >= 1000 {
         return Err("too many events".into());
     }
     let sheet = sheet_of(alloc, SheetKind::Count, lines)?;
-    Ok(receive(alloc, page, shipment, &sheet))
+    match receive(alloc, page, shipment, &sheet) {
+        Ok(step) => Ok(Ok(stepped(page, step)?)),
+        Err(stop) => Ok(Err(stop)),
+    }
 }
 
 // What a pick comes to.
@@ -112,12 +141,15 @@ fn picking(
     page: &Page,
     number: &[u8],
     lines: &[[&[u8]; 3]],
-) -> Result<Result<Step, Stop>, Fail> {
+) -> Result<Result<Next, Stop>, Fail> {
     if page.recent() >= 1000 {
         return Err("too many events".into());
     }
     let sheet = sheet_of(alloc, SheetKind::Pick, lines)?;
-    Ok(pick(alloc, page, number, &sheet))
+    match pick(alloc, page, number, &sheet) {
+        Ok(step) => Ok(Ok(stepped(page, step)?)),
+        Err(stop) => Ok(Err(stop)),
+    }
 }
 
 // What a recount comes to.
@@ -125,38 +157,41 @@ fn recounting(
     alloc: Global,
     page: &Page,
     lines: &[[&[u8]; 3]],
-) -> Result<Result<Step, Stop>, Fail> {
+) -> Result<Result<Next, Stop>, Fail> {
     if page.recent() >= 1000 {
         return Err("too many events".into());
     }
     let sheet = sheet_of(alloc, SheetKind::Recount, lines)?;
-    Ok(recount(alloc, page, &sheet))
+    match recount(alloc, page, &sheet) {
+        Ok(step) => Ok(Ok(stepped(page, step)?)),
+        Err(stop) => Ok(Err(stop)),
+    }
 }
 
 // The step after an acknowledgment.
-fn acknowledging(alloc: Global, page: &Page, text: &[u8]) -> Result<Step, Fail> {
+fn acknowledging(alloc: Global, page: &Page, text: &[u8]) -> Result<Next, Fail> {
     if page.recent() >= 1000 {
         return Err("too many events".into());
     }
-    Ok(acknowledge(alloc, page, &ack_of(alloc, text)?)?)
+    stepped(page, acknowledge(alloc, page, &ack_of(alloc, text)?)?)
 }
 
 // A step that was made.
-fn made(outcome: Result<Step, Stop>) -> Result<Step, Fail> {
+fn made(outcome: Result<Next, Stop>) -> Result<Next, Fail> {
     match outcome {
-        Ok(step) => Ok(step),
+        Ok(next) => Ok(next),
         Err(Stop::OutOfMemory) => Err("no memory".into()),
         Err(_) => Err("a refusal or a fault".into()),
     }
 }
 
 // The page that a step left, with its entry ended.
-fn after(outcome: Result<Step, Stop>) -> Result<Page, Fail> {
+fn after(outcome: Result<Next, Stop>) -> Result<Page, Fail> {
     ended(made(outcome)?.page)
 }
 
 // The number of a refusal.
-fn refused(outcome: Result<Step, Stop>) -> Result<u8, Fail> {
+fn refused(outcome: Result<Next, Stop>) -> Result<u8, Fail> {
     match outcome {
         Err(Stop::Refused(number)) => Ok(number),
         Err(Stop::OutOfMemory) => Err("no memory".into()),
@@ -165,7 +200,7 @@ fn refused(outcome: Result<Step, Stop>) -> Result<u8, Fail> {
 }
 
 // A trade fault.
-fn faulted(outcome: Result<Step, Stop>) -> Result<SetFault<'static>, Fail> {
+fn faulted(outcome: Result<Next, Stop>) -> Result<SetFault<'static>, Fail> {
     match outcome {
         Err(Stop::Set(fault)) => Ok(fault),
         Err(Stop::OutOfMemory) => Err("no memory".into()),
@@ -259,8 +294,12 @@ fn counts_pairs_that_were_not_advised(rt: HostRuntime) -> Result<(), Fail> {
         b"SHP2",
         &[[b"BOLT", b"L1", b"10"], [b"BOLT", b"L2", b"3"]],
     )?)?;
-    assert_eq!(rt; step.changes.len(), 4);
-    assert!(rt; matches!(step.changes.last(), Some(Change::Advice(k)) if !k.is_open()));
+    assert_eq!(rt; step.changes.len(), 5);
+    assert!(rt; matches!(&step.changes[2], Change::Stock(row) if row.is_of(b"NUT", b"L9")));
+    assert!(rt; matches!(&step.changes[3], Change::Advice(k) if !k.is_open()));
+    assert!(rt;
+        matches!(&step.changes[4], Change::Sent { n, function: Function::Receipt } if *n == 2)
+    );
     let page = ended(step.page)?;
     assert!(rt; told(&page, b"BOLT", b"L1") == Some((2, 0, 10, 0, 0)));
     assert!(rt; told(&page, b"BOLT", b"L2") == Some((2, 0, 3, 0, 0)));
@@ -330,8 +369,9 @@ fn orders_share_what_is_free(rt: HostRuntime) -> Result<(), Fail> {
     );
     let step = made(picking(alloc, &page, b"ORD1", &[])?)?;
     assert!(rt; told(&step.page, b"BOLT", b"L1") == Some((2, 0, 90, 30, 0)));
+    assert_eq!(rt; step.changes.len(), 3);
     assert!(rt;
-        matches!(step.changes.last(), Some(Change::Order(k)) if !k.is_open() && k.reserved().is_empty())
+        matches!(&step.changes[1], Change::Order(k) if !k.is_open() && k.reserved().is_empty())
     );
     Ok(())
 }
@@ -491,7 +531,7 @@ fn recounts(rt: HostRuntime) -> Result<(), Fail> {
     );
     assert_eq!(rt; refused(recounting(alloc, &seven, &[])?)?, 29);
     let step = made(recounting(alloc, &seven, &[[b"BOLT", b"L1", b"7"]])?)?;
-    assert_eq!(rt; step.changes.len(), 1);
+    assert_eq!(rt; step.changes.len(), 2);
     assert!(rt; told(&step.page, b"BOLT", b"L1") == Some((2, 0, 7, 7, 0)));
     assert!(rt; document(&step.page, 4) == Some((Function::Adjustment, None)));
     let most = made(recounting(alloc, &seven, &[[b"BOLT", b"L1", b"999999999"]])?)?.page;
@@ -585,5 +625,57 @@ fn the_first_acknowledgment_decides(rt: HostRuntime) -> Result<(), Fail> {
     )?;
     assert!(rt; again.changes.is_empty());
     assert!(rt; document(&again.page, 2) == Some((Function::Receipt, Some(false))));
+    Ok(())
+}
+
+const ORD1: &[u8] = b"ST*940*0001~W05*N*ORD1~LX*1~W01*120*EA**SK*BOLT~W76*120~SE*6*0001~";
+
+// With each allocation refused in turn, as `rt try --test --fail-alloc N` does: the page is as before, and the step is made when
+// it is asked for again.
+#[test]
+fn a_step_without_memory_changes_nothing(rt: HostRuntime) -> Result<(), Fail> {
+    let alloc = rt.alloc();
+    let page = stocked(alloc)?;
+    let order = order_of(alloc, ORD1)?;
+    if page.recent() >= 1000 {
+        return Err("too many events".into());
+    }
+    let reserved = match reserve(alloc, &page, &order) {
+        Ok(step) => stepped(&page, step)?.page,
+        Err(_) => {
+            assert!(rt; told(&page, b"BOLT", b"L1") == Some((2, 0, 90, 0, 0)));
+            made(reserving(alloc, &page, ORD1)?)?.page
+        }
+    };
+    assert!(rt; told(&reserved, b"BOLT", b"L1") == Some((2, 0, 90, 90, 0)));
+    let sheet = sheet_of(alloc, SheetKind::Pick, &[[b"BOLT", b"L1", b"70"]])?;
+    if reserved.recent() >= 1000 {
+        return Err("too many events".into());
+    }
+    let shipped = match pick(alloc, &reserved, b"ORD1", &sheet) {
+        Ok(step) => stepped(&reserved, step)?.page,
+        Err(_) => {
+            assert!(rt; told(&reserved, b"BOLT", b"L1") == Some((2, 0, 90, 90, 0)));
+            made(picking(alloc, &reserved, b"ORD1", &[[b"BOLT", b"L1", b"70"]])?)?.page
+        }
+    };
+    assert!(rt; told(&shipped, b"BOLT", b"L1") == Some((2, 0, 20, 0, 70)));
+    Ok(())
+}
+
+#[test]
+fn lists_are_in_order(rt: HostRuntime) -> Result<(), Fail> {
+    let alloc = rt.alloc();
+    let page = lots(alloc)?;
+    let mut lots = Vec::new(alloc);
+    for row in page.rows() {
+        lots.extend_from_slice(&row.lot)?;
+    }
+    assert!(rt; lots.as_slice() == b"L0L1L2L9".as_slice());
+    assert!(rt;
+        page.advices()
+            .last()
+            .is_some_and(|k| k.shipment() == b"SHP2".as_slice())
+    );
     Ok(())
 }

@@ -1,6 +1,8 @@
 -- How changes of a book follow one another.
 use Rattle.std.proofs.Common.{◌≡◌, ◌∙◌, sym, refl, arith, List, ◌⊎◌, inl, inr}
-use Rattle.rules.specs.Written.{Written}
+use Rattle.profile.specs.Register.{Entry}
+use Rattle.profile.specs.Header.{Who}
+use Rattle.profile.specs.Accepted.{IsLegal}
 use Rattle.store.specs.declared.fault.Fault.{Fault}
 use Rattle.std.proofs.Common.{Result, Ok, Err, OnErr}
 use Rattle.store.specs.Standing.{Standing, IsUsable, IsUnchanged, GoesOn, LeavesEither, IsFault, IsQueryFault, Refused}
@@ -25,9 +27,10 @@ unchanged_trans a b c p q = record {
   no_more = λ clean L h M left. let mid = clean_before b c q.goes clean in p.no_more mid L h M (q.no_more clean L (p.keeps mid L h) M left);
 }
 
-pub usable_stays : (a b : Standing) → IsUnchanged a b → b.doubt ≡ 0 → (L : List Written) → IsUsable a L → IsUsable b L
+pub usable_stays : (a b : Standing) → IsUnchanged a b → b.doubt ≡ 0 → (L : List Entry) → IsUsable a L → IsUsable b L
 usable_stays a b p clean L u = record {
   opened = p.shut ∙ u.opened;
+  legal = rw p.goes.warehouse u.legal;
   keeps = p.keeps clean L u.keeps;
   stand = p.stand clean L u.keeps u.stand;
   only = λ M h. u.only M (p.no_more clean L u.keeps M h);
@@ -43,10 +46,10 @@ unchanged_refl a = record {
 }
 
 -- a usable book leaves its register, or the next
-pub leaves_first : (s : Standing) (L next : List Written) → IsUsable s L → LeavesEither s L next
+pub leaves_first : (s : Standing) (L next : List Entry) → IsUsable s L → LeavesEither s L next
 leaves_first s L next u = record { stand = u.stand; each = λ M h. inl (u.only M h) }
 
-refused_after : (a b c : Standing) → GoesOn a b → Refused b c → Refused a c
+pub refused_after : (a b c : Standing) → GoesOn a b → Refused b c → Refused a c
 refused_after a b c p (inl h) = inl (omega (arith, p.refusals, h))
 refused_after a b c p (inr h) = inr h
 
@@ -68,11 +71,11 @@ pub at_fault : {T E : Type 0} {P : Type 0} (r : Result T E) → P → OnErr r P
 at_fault (Ok x) p = tt
 at_fault (Err e) p = p
 
-at_side : (L a b c d : List Written) → a ≡ c → b ≡ d → (L ≡ a) ⊎ (L ≡ b) → (L ≡ c) ⊎ (L ≡ d)
+at_side : (L a b c d : List Entry) → a ≡ c → b ≡ d → (L ≡ a) ⊎ (L ≡ b) → (L ≡ c) ⊎ (L ≡ d)
 at_side L a b c d p q (inl x) = inl (x ∙ p)
 at_side L a b c d p q (inr x) = inr (x ∙ q)
 
-pub either_at : (s : Standing) (a b c d : List Written) → a ≡ c → b ≡ d → LeavesEither s a b → LeavesEither s c d
+pub either_at : (s : Standing) (a b c d : List Entry) → a ≡ c → b ≡ d → LeavesEither s a b → LeavesEither s c d
 either_at s a b c d p q h = record { stand = h.stand; each = λ L left. at_side L a b c d p q (h.each L left) }
 
 -- a query's fault after a call that changed nothing

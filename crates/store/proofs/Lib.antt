@@ -1,2 +1,4 @@
 pub mod Changes
-pub mod Registers
+pub mod Entries
+pub mod Repeats
+pub mod Replies

@@ -1,28 +1,32 @@
--- The register that commands leave, by what they were answered: the entries as they are written down, without their numbers.
-use Rattle.std.specs.Prelude.{List, [], ◌∷◌, ◌++◌}
+-- What commands are answered, in the words of the definitions.
+use Rattle.std.specs.Prelude.{Bool, List, map}
+use Rattle.std.specs.List.{list_all}
 use Rattle.profile.specs.Moments.{Moment}
-use Rattle.profile.specs.Accepted.{entry_of}
+use Rattle.profile.specs.Register as meant
+use Rattle.profile.specs.Reply as replies
+use Rattle.profile.specs.Accepted.{is_command}
 use Rattle.rules.specs.Asked.{asked}
-use Rattle.rules.specs.Written.{Written, written_as}
+use Rattle.rules.specs.Told.{refusal_of}
 use Rattle.rules.specs.declared.commands.Command.{Command}
 use Rattle.store.specs.declared.serving.Reply.{Reply}
 use Rattle.store.specs.declared.serving.Reply.TheVariants.{Accepted, Stored, Refused}
 
--- the register with the entry of a command at its end
-abbrev pub with_entry : List Written → Command → Moment → List Written
-with_entry L c t = L ++ written_as 0 (entry_of (asked c) t) ∷ []
+-- what a reply says
+abbrev pub told : Reply → replies.Reply
+told (Accepted text) = replies.Accepted text.items
+told (Stored text) = replies.Stored text.items
+told (Refused refusal text) = replies.Refused (refusal_of refusal) text.items
 
--- the register behind a command: with its entry where it was accepted, and else as it was
-abbrev pub behind : List Written → Command → Moment → Reply → List Written
-behind L c t (Accepted text) = with_entry L c t
-behind L c t (Stored text) = L
-behind L c t (Refused refusal text) = L
+-- what is asked at a moment
+abbrev pub asked_at : Command × Moment → meant.Command × Moment
+asked_at c = (asked c.0, c.1)
 
--- the register behind a list of commands, as far as they were answered
-abbrev pub behind_all : List Written → List (Command × Moment) → List Reply → List Written
-behind_all L cs [] = L
-behind_all L [] (a ∷ answers) = L
-behind_all L (c ∷ cs) (a ∷ answers) = behind_all (behind L c.0 c.1 a) cs answers
+abbrev pub all_asked : List (Command × Moment) → List (meant.Command × Moment)
+all_asked cs = map asked_at cs
+
+-- commands that can be given: a clerk's ticket, shipment and order are identifiers, and the sheet is one of its act
+abbrev pub can_be_given : List (Command × Moment) → Bool
+can_be_given cs = list_all (λ (c : Command × Moment). is_command (asked c.0)) cs
 
 -- a fact that holds unless a command was accepted
 abbrev pub UnlessAccepted : Reply → Type 0 → Type 0

@@ -1,7 +1,10 @@
 -- How a book stands, whichever way it is kept.
-use Rattle.std.specs.Prelude.{ℕ, ◌-◌, ◌^◌, ◌<◌, ◌≤◌, ◌≡◌, ◌⊎◌, List, Bool, true, false}
+use Rattle.std.specs.Prelude.{ℕ, ◌-◌, ◌^◌, ◌<◌, ◌≤◌, ◌≡◌, ◌⊎◌, ◌++◌, ◌∷◌, [], List, Bool, true, false}
 use Rattle.profile.specs.Header.{Who}
-use Rattle.rules.specs.Written.{Written}
+use Rattle.profile.specs.Register.{Entry, own}
+use Rattle.profile.specs.Reply.{out}
+use Rattle.profile.specs.Accepted.{IsLegal}
+use Rattle.rules.specs.Written.{Written, written}
 use Rattle.store.specs.declared.fault.Fault.{Fault}
 use Rattle.store.specs.declared.fault.Fault.TheVariants.{OutOfMemory, Store, Reopen, NotThisBook, Device}
 
@@ -10,24 +13,25 @@ use Rattle.store.specs.declared.fault.Fault.TheVariants.{OutOfMemory, Store, Reo
 -- whether the book has to be opened again
 pub record Standing : Type 1 where
   pub warehouse : Who
-  pub keeps : List Written → Type 0
-  pub left : List Written → Type 0
+  pub keeps : List Entry → Type 0
+  pub left : List Entry → Type 0
   pub all_stand : Type 0
   pub doubt : ℕ
   pub refusals : ℕ
   pub shut : Bool
 
 -- a crash leaves one of the two
-pub record LeavesEither (s : Standing) (first second : List Written) : Type 0 where
+pub record LeavesEither (s : Standing) (first second : List Entry) : Type 0 where
   pub stand : s.all_stand
-  pub each : (M : List Written) → s.left M → (M ≡ first) ⊎ (M ≡ second)
+  pub each : (M : List Entry) → s.left M → (M ≡ first) ⊎ (M ≡ second)
 
--- a book that serves: its store stands for the register, and a crash leaves what stands for that register alone
-pub record IsUsable (s : Standing) (L : List Written) : Type 0 where
+-- a book that serves: its store stands for a legal register, and a crash leaves what stands for that register alone
+pub record IsUsable (s : Standing) (L : List Entry) : Type 0 where
   pub opened : s.shut ≡ false
+  pub legal : IsLegal s.warehouse L
   pub keeps : s.keeps L
   pub stand : s.all_stand
-  pub only : (M : List Written) → s.left M → M ≡ L
+  pub only : (M : List Entry) → s.left M → M ≡ L
 
 -- no count falls, and the warehouse is the same
 pub record GoesOn (old new : Standing) : Type 0 where
@@ -39,9 +43,9 @@ pub record GoesOn (old new : Standing) : Type 0 where
 pub record IsUnchanged (old new : Standing) : Type 0 where
   pub goes : GoesOn old new
   pub shut : new.shut ≡ old.shut
-  pub keeps : new.doubt ≡ 0 → (L : List Written) → old.keeps L → new.keeps L
-  pub stand : new.doubt ≡ 0 → (L : List Written) → old.keeps L → old.all_stand → new.all_stand
-  pub no_more : new.doubt ≡ 0 → (L : List Written) → old.keeps L → (M : List Written) → new.left M → old.left M
+  pub keeps : new.doubt ≡ 0 → (L : List Entry) → old.keeps L → new.keeps L
+  pub stand : new.doubt ≡ 0 → (L : List Entry) → old.keeps L → old.all_stand → new.all_stand
+  pub no_more : new.doubt ≡ 0 → (L : List Entry) → old.keeps L → (M : List Entry) → new.left M → old.left M
 
 -- the store refused a call, or its count is at its greatest
 abbrev pub Refused : Standing → Standing → Type 0
@@ -51,7 +55,7 @@ Refused old new = (old.refusals < new.refusals) ⊎ (new.refusals ≡ 2 ^ 64 - 1
 pub record IsQueryFault (fault : Fault) (old new : Standing) : Type 0 where
   pub store : fault ≡ Store → Refused old new
   pub reopen : fault ≡ Reopen → old.shut ≡ true
-  pub not_this : fault ≡ NotThisBook → new.doubt ≡ 0 → (L : List Written) → old.keeps L → ⊥
+  pub not_this : fault ≡ NotThisBook → new.doubt ≡ 0 → (L : List Entry) → old.keeps L → ⊥
   pub device : fault ≡ Device → ⊥
 
 -- why a command failed, and what it left: all as it was, or a book that has to be opened again
@@ -68,10 +72,17 @@ IsCommitFault Reopen = Unit {0}
 IsCommitFault NotThisBook = ⊥
 IsCommitFault Device = ⊥
 
--- why a run stopped
-pub record IsRunFault (fault : Fault) (old new : Standing) : Type 0 where
+-- why a run of commands that can be given, or not, stopped
+pub record IsRunFault (fault : Fault) (given : Bool) (old new : Standing) : Type 0 where
   pub grew : old.shut ≡ false → new.shut ≡ true → Refused old new
   pub store : fault ≡ Store → Refused old new
   pub reopen : fault ≡ Reopen → old.shut ≡ true
-  pub not_this : fault ≡ NotThisBook → new.doubt ≡ 0 → (L : List Written) → IsUsable old L → ⊥
+  pub not_this : fault ≡ NotThisBook → given ≡ true → new.doubt ≡ 0 → (L : List Entry) → IsUsable old L → ⊥
   pub device : fault ≡ Device → ⊥
+
+-- what a book is given to append: the entry as it is written down behind the register, which stays legal with it, and the text
+-- that goes out for it
+pub record IsNext (W : Who) (L : List Entry) (e : Entry) (row : Written) (text : List ℕ) : Type 0 where
+  pub entry : row ≡ written L e
+  pub legal : IsLegal W (L ++ e ∷ [])
+  pub outgoing : text ≡ out W (own L e.who) e

@@ -1,9 +1,12 @@
-ghost use Rattle.std.specs.Prelude.{◌≡◌, ◌++◌, ◌∷◌, [], List, Bool, true, false, IfOk, OnOk, OnErr, IfErr, IsErrOf, is_some};
-ghost use Rattle.std.specs.List.{list_any};
-ghost use Rattle.profile.specs.Header.{Who as Partner, who_eq};
-ghost use Rattle.rules.specs.Decided.{IsHeldAtRest};
-ghost use Rattle.rules.specs.Written.{Written, unnumbered};
-ghost use Rattle.store.specs.Standing.{Standing, IsUsable, IsUnchanged, GoesOn, LeavesEither, IsFault, IsQueryFault, IsCommitFault};
+ghost use Rattle.std.specs.Prelude.{◌≡◌, ◌++◌, ◌∷◌, [], List, Bool, true, false, IfOk, OnOk, OnErr, IfErr, IsErrOf, option_map};
+ghost use Rattle.profile.specs.Register as register;
+ghost use Rattle.profile.specs.Accepted.{IsLegal};
+ghost use Rattle.profile.specs.Decision as decided;
+ghost use Rattle.profile.specs.Rows.{stock_of};
+ghost use Rattle.rules.specs.Asked.{mark_of};
+ghost use Rattle.rules.specs.Decided.{IsHeldAtRest, IsRecalled};
+ghost use Rattle.store.specs.Held.{IsHeldFor};
+ghost use Rattle.store.specs.Standing.{Standing, IsUsable, IsNext, IsUnchanged, GoesOn, LeavesEither, IsFault, IsQueryFault, IsCommitFault};
 
 use crate::fault::Fault;
 use crate::rows::{OutRow, StockRow};
@@ -22,8 +25,8 @@ pub trait Keeper {
 
     /// The page of a depositor, with no event since its last entry; None for a stranger.
     fn load(&mut self, who: Who) -> Result<Option<Page>, Fault>
-        ensures page { (standing self.new).doubt ≡ 0 → (L : List Written) → (standing self.old).keeps L
-            → IfOk result (λ page. is_some page ≡ list_any (λ e. who_eq e.who who) L) }
+        ensures page { (standing self.new).doubt ≡ 0 → (L : List register.Entry) → (standing self.old).keeps L → IsLegal (standing self.old).warehouse L
+            → IfOk result (λ page. IsHeldFor page (decided.standing (register.own L who))) }
         ensures rest { IfOk result IsHeldAtRest }
         ensures same { IsUnchanged (standing self.old) (standing self.new) }
         ensures fault { IfErr result (λ fault. IsQueryFault fault (standing self.old) (standing self.new)) }
@@ -31,16 +34,18 @@ pub trait Keeper {
 
     /// A depositor's entry under a key, with the text that went out for it; None where there is none.
     fn known(&mut self, who: Who, key: &Key<'_>) -> Result<Option<Known>, Fault>
+        ensures entry { (standing self.new).doubt ≡ 0 → (L : List register.Entry) → (standing self.old).keeps L → IsLegal (standing self.old).warehouse L
+            → IfOk result (λ known. IsRecalled known (decided.recalled (standing self.old).warehouse (mark_of key.now) (register.own L who))) }
         ensures same { IsUnchanged (standing self.old) (standing self.new) }
         ensures fault { IfErr result (λ fault. IsQueryFault fault (standing self.old) (standing self.new)) }
         ensures shut { (standing self.old).shut ≡ true → IsErrOf result Fault.Reopen };
 
     /// Appends an entry, with the rows that it changes and the text that goes out for it, in one transaction.
     fn commit(&mut self, entry: &Entry, changes: &[Change], outgoing: &[u8]) -> Result<(), Fault>
-        ensures ok { (standing self.new).doubt ≡ 0 → (L : List Written) → IsUsable (standing self.old) L
-            → OnOk result (IsUsable (standing self.new) (L ++ unnumbered entry.now ∷ [])) }
-        ensures left { (standing self.new).doubt ≡ 0 → (L : List Written) → IsUsable (standing self.old) L
-            → OnErr result (LeavesEither (standing self.new) L (L ++ unnumbered entry.now ∷ [])) }
+        ensures ok { (standing self.new).doubt ≡ 0 → (L : List register.Entry) (e : register.Entry) → IsUsable (standing self.old) L
+            → IsNext (standing self.old).warehouse L e entry.now outgoing.now → OnOk result (IsUsable (standing self.new) (L ++ e ∷ [])) }
+        ensures left { (standing self.new).doubt ≡ 0 → (L : List register.Entry) (e : register.Entry) → IsUsable (standing self.old) L
+            → IsNext (standing self.old).warehouse L e entry.now outgoing.now → OnErr result (LeavesEither (standing self.new) L (L ++ e ∷ [])) }
         ensures opened { OnOk result ((standing self.new).shut ≡ false) }
         ensures fault { IfErr result (λ fault. IsFault fault (standing self.old) (standing self.new)) }
         ensures kinds { IfErr result IsCommitFault }
@@ -50,6 +55,8 @@ pub trait Keeper {
 
     /// The stock rows of a depositor, by item and lot; None for a stranger.
     fn stock_rows(&mut self, who: Who) -> Result<Option<Vec<StockRow>>, Fault>
+        ensures rows { (standing self.new).doubt ≡ 0 → (L : List register.Entry) → (standing self.old).keeps L → IsLegal (standing self.old).warehouse L
+            → IfOk result (λ rows. option_map (λ v. v.items) rows ≡ stock_of L who) }
         ensures same { IsUnchanged (standing self.old) (standing self.new) }
         ensures fault { IfErr result (λ fault. IsQueryFault fault (standing self.old) (standing self.new)) }
         ensures shut { (standing self.old).shut ≡ true → IsErrOf result Fault.Reopen };

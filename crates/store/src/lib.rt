@@ -3,6 +3,7 @@
 
 mod fault;
 mod keeping;
+pub mod laws;
 mod replaying;
 mod rows;
 mod serving;

@@ -1,7 +1,16 @@
-ghost use Rattle.std.specs.Prelude.{◌≡◌, [], ◌∷◌, ◌++◌, IfOk, OnOk, OnErr, IfSome, ◌<◌, length, is_some, map};
-ghost use Rattle.std.specs.List.{list_any};
-ghost use Rattle.profile.specs.Header.{who_eq};
-ghost use Rattle.rules.specs.Decided.{IsHeldAtRest};
+ghost use Rattle.std.specs.Prelude.{◌≡◌, [], ◌∷◌, ◌++◌, List, None, IfOk, OnOk, OnErr, MatchOption, find, map, option_map, ℕ, ◌<◌, ◌+◌, length, take, slice_index_or as get_or};
+ghost use Rattle.profile.specs.Accepted.{IsLegal};
+ghost use Rattle.profile.specs.Decision.{standing as standing_of, recalled};
+ghost use Rattle.profile.specs.Register as register;
+ghost use Rattle.profile.specs.Reply.{out};
+ghost use Rattle.profile.specs.Rows.{stock_rows, stock_of};
+ghost use Rattle.profile.specs.History.{history};
+ghost use Rattle.profile.specs.Header.{Who as Partner};
+ghost use Rattle.rules.specs.Decided.{IsHeldAtRest, IsRecalled, IsPageOf};
+ghost use Rattle.rules.specs.Written.{written};
+ghost use Rattle.stock.specs.Pages.{IsAt};
+ghost use Rattle.store.specs.Held.{IsHeldFor};
+ghost use Rattle.store.specs.Replayed.{all_written, is_under};
 ghost use Rattle.store.specs.Standing.{IsUsable};
 
 use crate::fault::Fault;
@@ -41,6 +50,26 @@ impl ReplayBook {
     }
 }
 
+// The page of a depositor with one entry of the register more; another depositor's adds nothing.
+fn with_entry(
+    alloc: Global,
+    warehouse: &Warehouse,
+    page: Option<Page>,
+    entry: &Entry,
+    who: &Who,
+) -> Result<Option<Page>, AllocError>
+    requires { IsHeldAtRest page }
+    ensures page { (L behind : List register.Entry) (i : ℕ) → IsLegal warehouse.now (L ++ behind) → i < length (all_written L) → entry.now ≡ get_or (all_written L) i entry.now
+        → IsHeldFor page (standing_of (register.own (take i L) who.now)) → IfOk result (λ next. IsHeldFor next (standing_of (register.own (take (i + 1) L) who.now))) }
+    ensures rest { IfOk result IsHeldAtRest }
+{
+    if entry.is_of(who) {
+        Ok(Some(replay(alloc, warehouse, page, entry)?.page))
+    } else {
+        Ok(page)
+    }
+}
+
 // The page of a depositor behind these entries.
 fn page_behind(
     alloc: Global,
@@ -48,14 +77,13 @@ fn page_behind(
     entries: &[Entry],
     who: &Who,
 ) -> Result<Option<Page>, AllocError>
-    ensures page { IfOk result (λ page. is_some page ≡ list_any (λ w. who_eq w.who who.now) entries.now) }
+    ensures page { (L behind : List register.Entry) → entries.now ≡ all_written L → IsLegal warehouse.now (L ++ behind)
+        → IfOk result (λ page. IsHeldFor page (standing_of (register.own L who.now))) }
     ensures rest { IfOk result IsHeldAtRest }
 {
     let mut page = None;
     for entry in entries {
-        if entry.is_of(who) {
-            page = Some(replay(alloc, warehouse, page, entry)?.page);
-        }
+        page = with_entry(alloc, warehouse, page, entry, who)?;
     }
     Ok(page)
 }
@@ -66,14 +94,17 @@ fn outgoing_behind(
     warehouse: &Warehouse,
     before: &[Entry],
     entry: &Entry,
-) -> Result<Vec<u8>, AllocError> {
+) -> Result<Vec<u8>, AllocError>
+    ensures { (L : List register.Entry) (e : register.Entry) (behind : List register.Entry) → before.now ≡ all_written L → entry.now ≡ written L e
+        → IsLegal warehouse.now (L ++ e ∷ behind) → IfOk result (λ text. text.items ≡ out warehouse.now (register.own L e.who) e) }
+{
     let page = page_behind(alloc, warehouse, before, &entry.who())?;
     Ok(replay(alloc, warehouse, page, entry)?.outgoing)
 }
 
 // The place of a depositor's first entry under a key.
 fn place_of(entries: &[Entry], who: &Who, key: &[u8]) -> Option<usize>
-    ensures { IfSome result (λ i. i < length entries.now) }
+    ensures { MatchOption result (find (is_under who.now key.now) entries.now ≡ None) (λ i. IsAt (is_under who.now key.now) entries.now i) }
 {
     for (i, entry) in entries.iter().enumerate() {
         if entry.is_under(who, key) {
@@ -90,7 +121,10 @@ fn recalled(
     entries: &[Entry],
     who: &Who,
     key: &[u8],
-) -> Result<Option<Known>, AllocError> {
+) -> Result<Option<Known>, AllocError>
+    ensures { (L : List register.Entry) → entries.now ≡ all_written L → IsLegal warehouse.now L
+        → IfOk result (λ known. IsRecalled known (recalled warehouse.now key.now (register.own L who.now))) }
+{
     let Some(i) = place_of(entries, who, key) else {
         return Ok(None);
     };
@@ -110,13 +144,24 @@ fn append(entries: &mut Vec<Entry>, entry: &Entry) -> Result<(), AllocError>
 }
 
 // The rows that a depositor is shown, by item and lot.
-fn shown(alloc: Global, page: &Page) -> Result<Vec<StockRow>, AllocError> {
+fn shown(alloc: Global, page: &Page) -> Result<Vec<StockRow>, AllocError>
+    ensures { IfOk result (λ rows. (M : List register.Entry) → IsPageOf page.now (history M) → rows.items ≡ stock_rows M) }
+{
     let mut rows = Vec::new(alloc);
     for row in page.rows() {
         rows.push(StockRow::of(row)?)?;
     }
-    rows.sort_by(|a, b| a.item.cmp(&b.item).then_with(|| a.lot.cmp(&b.lot)))?;
     Ok(rows)
+}
+
+// The rows that a depositor with this page is shown; a stranger has none.
+fn rows_for(alloc: Global, page: Option<Page>) -> Result<Option<Vec<StockRow>>, AllocError>
+    ensures { IfOk result (λ rows. (L : List register.Entry) (who : Partner) → IsHeldFor page (standing_of (register.own L who)) → option_map (λ v. v.items) rows ≡ stock_of L who) }
+{
+    match page {
+        Some(page) => Ok(Some(shown(alloc, &page)?)),
+        None => Ok(None),
+    }
 }
 
 // The texts that went out to a depositor with this page, by number: those of its numbered entries that aren't empty.
@@ -140,13 +185,14 @@ fn sent(
 }
 
 impl Keeper for ReplayBook {
-    ghost use Rattle.std.specs.Prelude.{false, ◌≡◌, map};
-    ghost use Rattle.rules.specs.Written.{unnumbered};
+    ghost use Rattle.std.specs.Prelude.{false, ◌≡◌};
+    ghost use Rattle.profile.specs.Accepted.{IsLegal};
+    ghost use Rattle.store.specs.Replayed.{all_written};
 
     ghost standing = { λ b. record {
       warehouse = b.warehouse;
-      keeps = λ L. L ≡ map unnumbered b.entries;
-      left = λ L. L ≡ map unnumbered b.entries;
+      keeps = λ L. b.entries ≡ all_written L;
+      left = λ L. (b.entries ≡ all_written L) × IsLegal b.warehouse L;
       all_stand = Unit {0};
       doubt = 0;
       refusals = 0;
@@ -177,10 +223,8 @@ impl Keeper for ReplayBook {
     }
 
     fn stock_rows(&mut self, who: Who) -> Result<Option<Vec<StockRow>>, Fault> {
-        match self.load(who)? {
-            Some(page) => Ok(Some(shown(self.alloc, &page)?)),
-            None => Ok(None),
-        }
+        let page = self.load(who)?;
+        Ok(rows_for(self.alloc, page)?)
     }
 
     fn outbox(&mut self, who: Who) -> Result<Option<Vec<OutRow>>, Fault> {

@@ -1,11 +1,14 @@
-ghost use Rattle.std.specs.Prelude.{◌≡◌, ◌++◌, ◌∷◌, [], List, Bool, true, false, IfOk, OnOk, OnErr, IsErrOf, IfErr, IfSome, IsSome, IsNone, Some, slice_get, length, ◌<◌, ◌≤◌, ◌+◌};
-ghost use Rattle.rules.specs.Written.{Written};
-ghost use Rattle.profile.specs.Accepted.{entry_of};
+ghost use Rattle.std.specs.Prelude.{◌≡◌, ◌++◌, ◌∷◌, [], List, Bool, true, false, IfOk, OnOk, OnErr, IsErrOf, IfErr, IfSome, IsSome, IsNone, option_map, length, ◌<◌, ◌≤◌, ◌+◌};
+ghost use Rattle.std.specs.Prelude.{take, map, IsTrue};
+ghost use Rattle.std.specs.List.{list_all};
+ghost use Rattle.profile.specs.Register as register;
+ghost use Rattle.profile.specs.Accepted.{IsLegal, is_command, own_of, reply_to, after, accepted_on, replies_on};
+ghost use Rattle.profile.specs.Decision.{standing as standing_of, recalled};
+ghost use Rattle.profile.specs.Rows.{stock_of};
 ghost use Rattle.rules.specs.Asked.{asked};
-ghost use Rattle.rules.specs.Decided.{IsHeldAtRest, Makes};
-ghost use Rattle.rules.specs.declared.commands.Command.{Command as Asking};
-ghost use Rattle.profile.specs.Moments.{Moment as Minute};
-ghost use Rattle.store.specs.Runs.{behind, behind_all, with_entry, UnlessAccepted};
+ghost use Rattle.rules.specs.Decided.{IsHeldAtRest, IsRecalled};
+ghost use Rattle.store.specs.Held.{IsHeldFor, IsDecided};
+ghost use Rattle.store.specs.Runs.{told, all_asked, can_be_given, UnlessAccepted};
 ghost use Rattle.store.specs.Standing.{Standing, IsUsable, IsUnchanged, GoesOn, IsFault, IsQueryFault, IsRunFault, LeavesEither};
 
 use crate::fault::Fault;
@@ -36,15 +39,19 @@ fn recall<K: Keeper>(
     keeper: &mut K,
     command: &Command<'_>,
 ) -> Result<(Option<Page>, Option<Known>), Fault>
+    ensures page { (K.standing keeper.new).doubt ≡ 0 → (L : List register.Entry) → (K.standing keeper.old).keeps L → IsLegal (K.standing keeper.old).warehouse L
+        → IfOk result (λ found. IsHeldFor found.0 (standing_of (own_of L (asked command.now)))) }
+    ensures known { (K.standing keeper.new).doubt ≡ 0 → (L : List register.Entry) → (K.standing keeper.old).keeps L → IsLegal (K.standing keeper.old).warehouse L
+        → IfOk result (λ found. IsRecalled found.1 (recalled (K.standing keeper.old).warehouse (register.command_mark (asked command.now)) (own_of L (asked command.now)))) }
     ensures rest { IfOk result (λ found. IsHeldAtRest found.0) }
     ensures same { IsUnchanged (K.standing keeper.old) (K.standing keeper.new) }
     ensures fault { IfErr result (λ fault. IsQueryFault fault (K.standing keeper.old) (K.standing keeper.new)) }
 {
-    let Some((who, key)) = subject(command) else {
+    let Some(named) = subject(command) else {
         return Ok((None, None));
     };
-    let page = keeper.load(who)?;
-    let known = keeper.known(who, &key)?;
+    let page = keeper.load(named.0)?;
+    let known = keeper.known(named.0, &named.1)?;
     Ok((page, known))
 }
 
@@ -55,7 +62,8 @@ fn judge<K: Keeper>(
     command: &Command<'_>,
     moment: Moment,
 ) -> Result<Decision, Fault>
-    ensures decision { IfOk result (Makes (asked command.now) moment) }
+    ensures decision { (K.standing keeper.new).doubt ≡ 0 → (L : List register.Entry) → (K.standing keeper.old).keeps L → IsLegal (K.standing keeper.old).warehouse L
+        → IfOk result (IsDecided (K.standing keeper.old).warehouse L (asked command.now) moment) }
     ensures same { IsUnchanged (K.standing keeper.old) (K.standing keeper.new) }
     ensures fault { IfErr result (λ fault. IsQueryFault fault (K.standing keeper.old) (K.standing keeper.new)) }
 {
@@ -80,10 +88,12 @@ pub fn submit<K: Keeper>(
     command: &Command<'_>,
     moment: Moment,
 ) -> Result<Reply, Fault>
-    ensures ok { (K.standing keeper.new).doubt ≡ 0 → (L : List Written) → IsUsable (K.standing keeper.old) L
-        → IfOk result (λ reply. IsUsable (K.standing keeper.new) (behind L command.now moment reply)) }
-    ensures left { (K.standing keeper.new).doubt ≡ 0 → (L : List Written) → IsUsable (K.standing keeper.old) L
-        → OnErr result (LeavesEither (K.standing keeper.new) L (with_entry L command.now moment)) }
+    ensures reply { (K.standing keeper.new).doubt ≡ 0 → (L : List register.Entry) → (K.standing keeper.old).keeps L → IsLegal (K.standing keeper.old).warehouse L
+        → IfOk result (λ reply. told reply ≡ reply_to (K.standing keeper.old).warehouse L (asked command.now) moment) }
+    ensures ok { (K.standing keeper.new).doubt ≡ 0 → (L : List register.Entry) → IsUsable (K.standing keeper.old) L → is_command (asked command.now) ≡ true
+        → OnOk result (IsUsable (K.standing keeper.new) (after (K.standing keeper.old).warehouse L (asked command.now, moment))) }
+    ensures left { (K.standing keeper.new).doubt ≡ 0 → (L : List register.Entry) → IsUsable (K.standing keeper.old) L → is_command (asked command.now) ≡ true
+        → OnErr result (LeavesEither (K.standing keeper.new) L (after (K.standing keeper.old).warehouse L (asked command.now, moment))) }
     ensures kept { IfOk result (λ reply. UnlessAccepted reply (IsUnchanged (K.standing keeper.old) (K.standing keeper.new))) }
     ensures opened { OnOk result ((K.standing keeper.new).shut ≡ false) }
     ensures fault { IfErr result (λ fault. IsFault fault (K.standing keeper.old) (K.standing keeper.new)) }
@@ -109,6 +119,8 @@ pub fn submit<K: Keeper>(
 
 /// What a depositor has, by item and lot; None for a stranger. The book is as before.
 pub fn stock<K: Keeper>(keeper: &mut K, who: Who) -> Result<Option<Vec<StockRow>>, Fault>
+    ensures rows { (K.standing keeper.new).doubt ≡ 0 → (L : List register.Entry) → (K.standing keeper.old).keeps L → IsLegal (K.standing keeper.old).warehouse L
+        → IfOk result (λ rows. option_map (λ v. v.items) rows ≡ stock_of L who) }
     ensures same { IsUnchanged (K.standing keeper.old) (K.standing keeper.new) }
     ensures fault { IfErr result (λ fault. IsQueryFault fault (K.standing keeper.old) (K.standing keeper.new)) }
     ensures shut { (K.standing keeper.old).shut ≡ true → IsErrOf result Fault.Reopen }
@@ -142,12 +154,14 @@ fn answer_next<K: Keeper>(
     moment: Moment,
     replies: &mut Vec<Reply>,
 ) -> Result<(), Fault>
-    ensures ok { (K.standing keeper.new).doubt ≡ 0 → (L : List Written) → IsUsable (K.standing keeper.old) L
-        → OnOk result ((reply : Reply) × (replies.new.items ≡ replies.old.items ++ reply ∷ []) × IsUsable (K.standing keeper.new) (behind L command.now moment reply)) }
+    ensures reply { (K.standing keeper.new).doubt ≡ 0 → (L : List register.Entry) → (K.standing keeper.old).keeps L → IsLegal (K.standing keeper.old).warehouse L
+        → OnOk result (map told replies.new.items ≡ map told replies.old.items ++ reply_to (K.standing keeper.old).warehouse L (asked command.now) moment ∷ []) }
+    ensures ok { (K.standing keeper.new).doubt ≡ 0 → (L : List register.Entry) → IsUsable (K.standing keeper.old) L → is_command (asked command.now) ≡ true
+        → OnOk result (IsUsable (K.standing keeper.new) (after (K.standing keeper.old).warehouse L (asked command.now, moment))) }
     ensures more { OnOk result (length replies.new.items ≡ length replies.old.items + 1) }
     ensures no_more { OnErr result (replies.new.items ≡ replies.old.items) }
-    ensures left { (K.standing keeper.new).doubt ≡ 0 → (L : List Written) → IsUsable (K.standing keeper.old) L
-        → OnErr result (LeavesEither (K.standing keeper.new) L (with_entry L command.now moment)) }
+    ensures left { (K.standing keeper.new).doubt ≡ 0 → (L : List register.Entry) → IsUsable (K.standing keeper.old) L → is_command (asked command.now) ≡ true
+        → OnErr result (LeavesEither (K.standing keeper.new) L (after (K.standing keeper.old).warehouse L (asked command.now, moment))) }
     ensures opened { OnOk result ((K.standing keeper.old).shut ≡ (K.standing keeper.new).shut) }
     ensures fault { IfErr result (λ fault. IsFault fault (K.standing keeper.old) (K.standing keeper.new)) }
     ensures goes { GoesOn (K.standing keeper.old) (K.standing keeper.new) }
@@ -164,14 +178,18 @@ fn answer_next<K: Keeper>(
 pub fn run<K: Keeper>(alloc: Global, keeper: &mut K, commands: &[(Command<'_>, Moment)]) -> Outcome
     ensures all { IsNone result.fault → length result.replies.items ≡ length commands.now }
     ensures stopped { IsSome result.fault → length result.replies.items < length commands.now }
-    ensures left { (K.standing keeper.new).doubt ≡ 0 → (L : List Written) → IsUsable (K.standing keeper.old) L → (K.standing keeper.new).shut ≡ false
-        → IsUsable (K.standing keeper.new) (behind_all L commands.now result.replies.items) }
-    ensures broken { (K.standing keeper.new).doubt ≡ 0 → (L : List Written) → IsUsable (K.standing keeper.old) L → (K.standing keeper.new).shut ≡ true
-        → IsSome result.fault × ((next : Asking × Minute) → slice_get commands.now (length result.replies.items) ≡ Some next
-        → LeavesEither (K.standing keeper.new) (behind_all L commands.now result.replies.items)
-        (with_entry (behind_all L commands.now result.replies.items) next.0 next.1)) }
+    ensures replies { (K.standing keeper.new).doubt ≡ 0 → (L : List register.Entry) → IsUsable (K.standing keeper.old) L → can_be_given commands.now ≡ true
+        → map told result.replies.items ≡ replies_on (K.standing keeper.old).warehouse L (take (length result.replies.items) (all_asked commands.now)) }
+    ensures left { (K.standing keeper.new).doubt ≡ 0 → (L : List register.Entry) → IsUsable (K.standing keeper.old) L → can_be_given commands.now ≡ true
+        → (K.standing keeper.new).shut ≡ false
+        → IsUsable (K.standing keeper.new) (accepted_on (K.standing keeper.old).warehouse L (take (length result.replies.items) (all_asked commands.now))) }
+    ensures broken { (K.standing keeper.new).doubt ≡ 0 → (L : List register.Entry) → IsUsable (K.standing keeper.old) L → can_be_given commands.now ≡ true
+        → (K.standing keeper.new).shut ≡ true
+        → IsSome result.fault × LeavesEither (K.standing keeper.new)
+        (accepted_on (K.standing keeper.old).warehouse L (take (length result.replies.items) (all_asked commands.now)))
+        (accepted_on (K.standing keeper.old).warehouse L (take (length result.replies.items + 1) (all_asked commands.now))) }
     ensures goes { GoesOn (K.standing keeper.old) (K.standing keeper.new) }
-    ensures fault { IfSome result.fault (λ fault. IsRunFault fault (K.standing keeper.old) (K.standing keeper.new)) }
+    ensures fault { IfSome result.fault (λ fault. IsRunFault fault (can_be_given commands.now) (K.standing keeper.old) (K.standing keeper.new)) }
 {
     let mut replies = Vec::new(alloc);
     for (command, moment) in commands {

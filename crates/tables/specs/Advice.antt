@@ -1,7 +1,7 @@
 -- What may still come at each stage of a 943.
 use Rattle.std.specs.Prelude.{codes}
 use Rattle.profile.specs.Words.{Words, One, Times, Then, Empty, words_943, times_words}
-use Rattle.profile.specs.Limits.{most_lines}
+use Rattle.profile.specs.Limits.{most_lines, most_parties, most_references, most_dates}
 use Rattle.tables.specs.Languages.{some_of}
 use Rattle.tables.specs.declared.advice.Stage.{Stage}
 use Rattle.tables.specs.declared.advice.Stage.TheVariants.{Begin, Head, Parties, References, Dates, Goods, Lot, Total, End}
@@ -17,14 +17,14 @@ abbrev pub lines : Words
 lines = Then (Times 1 most_lines line) total
 
 abbrev pub dates : Words
-dates = Then (Times 0 2 (One (codes "G62"))) lines
+dates = Then (Times 0 most_dates (One (codes "G62"))) lines
 
 abbrev pub references : Words
-references = Then (Times 0 5 (One (codes "N9"))) dates
+references = Then (Times 0 most_references (One (codes "N9"))) dates
 
 abbrev pub rest_of : Stage → Words
 rest_of Begin = words_943
-rest_of Head = Then (One (codes "W06")) (Then (Times 0 5 (One (codes "N1"))) references)
+rest_of Head = Then (One (codes "W06")) (Then (Times 0 most_parties (One (codes "N1"))) references)
 rest_of (Parties left) = some_of left (One (codes "N1")) references
 rest_of (References left) = some_of left (One (codes "N9")) dates
 rest_of (Dates left) = some_of left (One (codes "G62")) lines

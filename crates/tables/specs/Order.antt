@@ -1,7 +1,7 @@
 -- What may still come at each stage of a 940.
 use Rattle.std.specs.Prelude.{codes}
 use Rattle.profile.specs.Words.{Words, One, Times, Then, Empty, words_940, times_words, optional}
-use Rattle.profile.specs.Limits.{most_lines}
+use Rattle.profile.specs.Limits.{most_lines, most_parties, most_references, most_dates}
 use Rattle.tables.specs.Languages.{some_of}
 use Rattle.tables.specs.declared.order.Stage.{Stage}
 use Rattle.tables.specs.declared.order.Stage.TheVariants.{Begin, Head, Parties, Named, Streeted, References, Dates, Numbered, Goods, Pinned, Total, End}
@@ -27,14 +27,14 @@ abbrev pub lines : Words
 lines = Then (Times 1 most_lines line) total
 
 abbrev pub dates : Words
-dates = Then (Times 0 2 (One (codes "G62"))) lines
+dates = Then (Times 0 most_dates (One (codes "G62"))) lines
 
 abbrev pub references : Words
-references = Then (Times 0 5 (One (codes "N9"))) dates
+references = Then (Times 0 most_references (One (codes "N9"))) dates
 
 abbrev pub rest_of : Stage → Words
 rest_of Begin = words_940
-rest_of Head = Then (One (codes "W05")) (Then (Times 0 5 party) references)
+rest_of Head = Then (One (codes "W05")) (Then (Times 0 most_parties party) references)
 rest_of (Parties left) = some_of left party references
 rest_of (Named left) = Then (Then address (times_words 0 left party)) references
 rest_of (Streeted left) = Then (Then (optional (One (codes "N4"))) (times_words 0 left party)) references

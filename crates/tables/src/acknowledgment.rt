@@ -6,6 +6,7 @@ ghost use Rattle.tables.specs.Languages.{found};
 ghost use Rattle.tables.specs.Acknowledgment.{rest_of};
 
 use crate::ids::Id;
+use profile::{MOST_TOLD_ELEMENTS, MOST_TOLD_SEGMENTS, MOST_TOLD_SETS};
 
 /// How far a 997 has come.
 #[derive(Clone, Copy)]
@@ -67,7 +68,7 @@ fn behind_head(id: Id) -> Option<Stage>
     ensures { option_map rest_of result ≡ found (words_after (text_of id) (rest_of Stage.Head)) }
 {
     match id {
-        Id::Ak1 => Some(Stage::Sets(999)),
+        Id::Ak1 => Some(Stage::Sets(MOST_TOLD_SETS)),
         _ => None,
     }
 }
@@ -76,7 +77,7 @@ fn behind_set(sets: u16, id: Id) -> Option<Stage>
     ensures { option_map rest_of result ≡ found (words_after (text_of id) (rest_of (Stage.Sets sets))) }
 {
     match id {
-        Id::Ak2 if sets > 0 => Some(Stage::Segments(sets - 1, 99)),
+        Id::Ak2 if sets > 0 => Some(Stage::Segments(sets - 1, MOST_TOLD_SEGMENTS)),
         Id::Ak9 => Some(Stage::Total),
         _ => None,
     }
@@ -86,7 +87,7 @@ fn behind_segment(sets: u16, segments: u8, id: Id) -> Option<Stage>
     ensures { option_map rest_of result ≡ found (words_after (text_of id) (rest_of (Stage.Segments sets segments))) }
 {
     match id {
-        Id::Ak3 if segments > 0 => Some(Stage::Elements(sets, segments - 1, 99)),
+        Id::Ak3 if segments > 0 => Some(Stage::Elements(sets, segments - 1, MOST_TOLD_ELEMENTS)),
         Id::Ak5 => Some(Stage::Sets(sets)),
         _ => None,
     }
@@ -97,7 +98,7 @@ fn behind_element(sets: u16, segments: u8, elements: u8, id: Id) -> Option<Stage
 {
     match id {
         Id::Ak4 if elements > 0 => Some(Stage::Elements(sets, segments, elements - 1)),
-        Id::Ak3 if segments > 0 => Some(Stage::Elements(sets, segments - 1, 99)),
+        Id::Ak3 if segments > 0 => Some(Stage::Elements(sets, segments - 1, MOST_TOLD_ELEMENTS)),
         Id::Ak5 => Some(Stage::Sets(sets)),
         _ => None,
     }

@@ -6,7 +6,7 @@ ghost use Rattle.tables.specs.Languages.{found};
 ghost use Rattle.tables.specs.Advice.{rest_of};
 
 use crate::ids::Id;
-use profile::MOST_LINES;
+use profile::{MOST_DATES, MOST_LINES, MOST_PARTIES, MOST_REFERENCES};
 
 /// How far a 943 has come.
 #[derive(Clone, Copy)]
@@ -72,7 +72,7 @@ fn behind_head(id: Id) -> Option<Stage>
     ensures { option_map rest_of result ≡ found (words_after (text_of id) (rest_of Stage.Head)) }
 {
     match id {
-        Id::W06 => Some(Stage::Parties(5)),
+        Id::W06 => Some(Stage::Parties(MOST_PARTIES)),
         _ => None,
     }
 }
@@ -82,8 +82,8 @@ fn behind_party(left: u8, id: Id) -> Option<Stage>
 {
     match id {
         Id::N1 if left > 0 => Some(Stage::Parties(left - 1)),
-        Id::N9 => Some(Stage::References(4)),
-        Id::G62 => Some(Stage::Dates(1)),
+        Id::N9 => Some(Stage::References(MOST_REFERENCES - 1)),
+        Id::G62 => Some(Stage::Dates(MOST_DATES - 1)),
         Id::W04 => Some(Stage::Goods(MOST_LINES - 1)),
         _ => None,
     }
@@ -94,7 +94,7 @@ fn behind_reference(left: u8, id: Id) -> Option<Stage>
 {
     match id {
         Id::N9 if left > 0 => Some(Stage::References(left - 1)),
-        Id::G62 => Some(Stage::Dates(1)),
+        Id::G62 => Some(Stage::Dates(MOST_DATES - 1)),
         Id::W04 => Some(Stage::Goods(MOST_LINES - 1)),
         _ => None,
     }

@@ -6,10 +6,19 @@ ghost use Rattle.tables.specs.Rows.{is_goods};
 
 use crate::ids::Id;
 use elements::{Kind, Row};
+use profile::{
+    CONTROL_DIGITS, DATE_DIGITS, DATE_QUALIFIER_BYTES, ELEMENT_DIGITS, FUNCTION_BYTES, LEAST_CITY,
+    LEAST_CODE, LEAST_COUNTRY, LEAST_POSTAL, LEAST_QUALIFIER, LEAST_SEGMENT, LEAST_SET_CONTROL,
+    LINE_DIGITS, MOST_CASE, MOST_CITY, MOST_CODE, MOST_CODE_QUALIFIER, MOST_COPY, MOST_COUNTRY,
+    MOST_DESCRIPTION, MOST_ERROR, MOST_ITEM, MOST_LOOP, MOST_LOT, MOST_NAME, MOST_NUMBER,
+    MOST_PLACE, MOST_POSTAL, MOST_QUALIFIER, MOST_REFERENCE, MOST_SEGMENT, MOST_SET_CONTROL,
+    MOST_STREET, POSITION_DIGITS, QUANTITY_DIGITS, SET_BYTES, SETS_DIGITS, STATE_BYTES,
+    TOTAL_DIGITS,
+};
 
 // The row of an element that must be there, with its type and its least and greatest length in bytes.
 macro_rules! must {
-    ($kind:expr, $least:literal, $most:literal) => {
+    ($kind:expr, $least:expr, $most:expr) => {
         Row {
             is_mandatory: true,
             kind: $kind,
@@ -21,7 +30,7 @@ macro_rules! must {
 
 // The row of an element that may be missing.
 macro_rules! may {
-    ($kind:expr, $least:literal, $most:literal) => {
+    ($kind:expr, $least:expr, $most:expr) => {
         Row {
             is_mandatory: false,
             kind: $kind,
@@ -33,102 +42,115 @@ macro_rules! may {
 
 const W06: &[Row] = &[
     must!(Kind::Coded(&[b"F"]), 1, 1),
-    must!(Kind::Identifier, 1, 22),
-    must!(Kind::Date, 8, 8),
-    must!(Kind::Identifier, 1, 22),
+    must!(Kind::Identifier, 1, MOST_NUMBER),
+    must!(Kind::Date, DATE_DIGITS, DATE_DIGITS),
+    must!(Kind::Identifier, 1, MOST_NUMBER),
 ];
 
 // W04 and W01: a quantity, its unit, an element without use, and an item with its qualifier.
 const GOODS: &[Row] = &[
-    must!(Kind::Quantity, 1, 5),
+    must!(Kind::Quantity, 1, QUANTITY_DIGITS),
     must!(Kind::Coded(&[b"EA"]), 2, 2),
-    may!(Kind::Data, 1, 12),
+    may!(Kind::Data, 1, MOST_CASE),
     must!(Kind::Coded(&[b"SK"]), 2, 2),
-    must!(Kind::Identifier, 1, 20),
+    must!(Kind::Identifier, 1, MOST_ITEM),
 ];
 
 // N9 directly behind W04 or W01: the lot of the line.
 const LOT: &[Row] = &[
     must!(Kind::Coded(&[b"LT"]), 2, 2),
-    must!(Kind::Identifier, 1, 12),
-    may!(Kind::Data, 1, 45),
+    must!(Kind::Identifier, 1, MOST_LOT),
+    may!(Kind::Data, 1, MOST_DESCRIPTION),
 ];
 
 const N9: &[Row] = &[
-    must!(Kind::Alphanumeric, 2, 3),
-    must!(Kind::Data, 1, 30),
-    may!(Kind::Data, 1, 45),
+    must!(Kind::Alphanumeric, LEAST_QUALIFIER, MOST_QUALIFIER),
+    must!(Kind::Data, 1, MOST_REFERENCE),
+    may!(Kind::Data, 1, MOST_DESCRIPTION),
 ];
 
 // W03 and W76: the sum of the quantities.
-const TOTAL: &[Row] = &[must!(Kind::Quantity, 1, 7)];
+const TOTAL: &[Row] = &[must!(Kind::Quantity, 1, TOTAL_DIGITS)];
 
 const W05: &[Row] = &[
     must!(Kind::Coded(&[b"N"]), 1, 1),
-    must!(Kind::Identifier, 1, 22),
-    may!(Kind::Data, 1, 22),
+    must!(Kind::Identifier, 1, MOST_NUMBER),
+    may!(Kind::Data, 1, MOST_NUMBER),
 ];
 
-const LX: &[Row] = &[must!(Kind::Quantity, 1, 6)];
+const LX: &[Row] = &[must!(Kind::Quantity, 1, LINE_DIGITS)];
 
 const N1: &[Row] = &[
-    must!(Kind::Alphanumeric, 2, 3),
-    may!(Kind::Data, 1, 60),
-    may!(Kind::Data, 1, 2),
-    may!(Kind::Data, 2, 80),
+    must!(Kind::Alphanumeric, LEAST_QUALIFIER, MOST_QUALIFIER),
+    may!(Kind::Data, 1, MOST_NAME),
+    may!(Kind::Data, 1, MOST_CODE_QUALIFIER),
+    may!(Kind::Data, LEAST_CODE, MOST_CODE),
 ];
 
-const N3: &[Row] = &[must!(Kind::Data, 1, 55), may!(Kind::Data, 1, 55)];
+const N3: &[Row] = &[
+    must!(Kind::Data, 1, MOST_STREET),
+    may!(Kind::Data, 1, MOST_STREET),
+];
 
 const N4: &[Row] = &[
-    may!(Kind::Data, 2, 30),
-    may!(Kind::Data, 2, 2),
-    may!(Kind::Data, 3, 15),
-    may!(Kind::Data, 2, 3),
+    may!(Kind::Data, LEAST_CITY, MOST_CITY),
+    may!(Kind::Data, STATE_BYTES, STATE_BYTES),
+    may!(Kind::Data, LEAST_POSTAL, MOST_POSTAL),
+    may!(Kind::Data, LEAST_COUNTRY, MOST_COUNTRY),
 ];
 
-const G62: &[Row] = &[must!(Kind::Alphanumeric, 2, 2), must!(Kind::Date, 8, 8)];
+const G62: &[Row] = &[
+    must!(
+        Kind::Alphanumeric,
+        DATE_QUALIFIER_BYTES,
+        DATE_QUALIFIER_BYTES
+    ),
+    must!(Kind::Date, DATE_DIGITS, DATE_DIGITS),
+];
 
-const AK1: &[Row] = &[must!(Kind::Alphanumeric, 2, 2), must!(Kind::Digits, 1, 9)];
+const AK1: &[Row] = &[
+    must!(Kind::Alphanumeric, FUNCTION_BYTES, FUNCTION_BYTES),
+    must!(Kind::Digits, 1, CONTROL_DIGITS),
+];
 
 const AK2: &[Row] = &[
-    must!(Kind::Alphanumeric, 3, 3),
-    must!(Kind::Alphanumeric, 4, 9),
+    must!(Kind::Alphanumeric, SET_BYTES, SET_BYTES),
+    must!(Kind::Alphanumeric, LEAST_SET_CONTROL, MOST_SET_CONTROL),
 ];
 
 const AK3: &[Row] = &[
-    must!(Kind::Alphanumeric, 2, 3),
-    must!(Kind::Digits, 1, 6),
-    may!(Kind::Data, 1, 4),
-    may!(Kind::Data, 1, 3),
+    must!(Kind::Alphanumeric, LEAST_SEGMENT, MOST_SEGMENT),
+    must!(Kind::Digits, 1, POSITION_DIGITS),
+    may!(Kind::Data, 1, MOST_LOOP),
+    may!(Kind::Data, 1, MOST_ERROR),
 ];
 
 const AK4: &[Row] = &[
-    must!(Kind::Parts, 1, 10),
-    may!(Kind::Digits, 1, 4),
-    must!(Kind::Data, 1, 3),
-    may!(Kind::Data, 1, 99),
+    must!(Kind::Parts, 1, MOST_PLACE),
+    may!(Kind::Digits, 1, ELEMENT_DIGITS),
+    must!(Kind::Data, 1, MOST_ERROR),
+    may!(Kind::Data, 1, MOST_COPY),
 ];
 
 const AK5: &[Row] = &[
     must!(Kind::Coded(&[b"A", b"R"]), 1, 1),
-    may!(Kind::Data, 1, 3),
-    may!(Kind::Data, 1, 3),
-    may!(Kind::Data, 1, 3),
-    may!(Kind::Data, 1, 3),
-    may!(Kind::Data, 1, 3),
+    may!(Kind::Data, 1, MOST_ERROR),
+    may!(Kind::Data, 1, MOST_ERROR),
+    may!(Kind::Data, 1, MOST_ERROR),
+    may!(Kind::Data, 1, MOST_ERROR),
+    may!(Kind::Data, 1, MOST_ERROR),
 ];
 
 const AK9: &[Row] = &[
     must!(Kind::Coded(&[b"A", b"P", b"R"]), 1, 1),
-    must!(Kind::Digits, 1, 6),
-    must!(Kind::Digits, 1, 6),
-    must!(Kind::Digits, 1, 6),
-    may!(Kind::Data, 1, 3),
-    may!(Kind::Data, 1, 3),
-    may!(Kind::Data, 1, 3),
-    may!(Kind::Data, 1, 3),
-    may!(Kind::Data, 1, 3),
+    must!(Kind::Digits, 1, SETS_DIGITS),
+    must!(Kind::Digits, 1, SETS_DIGITS),
+    must!(Kind::Digits, 1, SETS_DIGITS),
+    may!(Kind::Data, 1, MOST_ERROR),
+    may!(Kind::Data, 1, MOST_ERROR),
+    may!(Kind::Data, 1, MOST_ERROR),
+    may!(Kind::Data, 1, MOST_ERROR),
+    may!(Kind::Data, 1, MOST_ERROR),
 ];
 
 /// The rows of a segment with the id, which stands directly behind a W04 or a W01 or doesn't; None for ST and SE.

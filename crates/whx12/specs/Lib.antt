@@ -1,0 +1,5 @@
+pub mod Written
+pub mod Statuses
+pub mod Lines
+pub mod Parsers
+pub mod Rosters

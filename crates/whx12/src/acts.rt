@@ -1,6 +1,6 @@
 use crate::sheet_files::sheet;
 use crate::told::{Status, Stop, tell_refusal, tell_text};
-use crate::words::Deed;
+use crate::words::{Deed, Told};
 use profile::{MOST_NUMBER, MOST_TICKET};
 use std::alloc::Global;
 use std::rt::Files;
@@ -46,19 +46,6 @@ pub fn send<R: Files + AllocGlobal, W: io::Write, E: io::Write>(
             tell_refusal(rt.alloc(), err, refusal)
         }
     }
-}
-
-/// What a clerk did, as the words say it.
-#[derive(Clone, Copy)]
-pub struct Told<'a> {
-    /// What was done.
-    pub deed: Deed,
-    /// The depositor.
-    pub who: &'a str,
-    /// The ticket.
-    pub ticket: &'a str,
-    /// The number of the advice or the order; nothing of a recount.
-    pub number: &'a str,
 }
 
 // The depositor of a clerk's words; None where a word can't be read.
@@ -118,7 +105,6 @@ pub fn clerk<R: Files + AllocGlobal, W: io::Write, E: io::Write>(
     rt: &R,
     book: &mut ReplayBook,
     told: &Told<'_>,
-    file: &str,
     moment: Moment,
     out: &mut W,
     err: &mut E,
@@ -127,7 +113,7 @@ pub fn clerk<R: Files + AllocGlobal, W: io::Write, E: io::Write>(
     let Some(who) = depositor(told) else {
         return tell_refusal(alloc, err, Refusal::BadText);
     };
-    let text = fs::read(rt, file)?;
+    let text = fs::read(rt, told.sheet)?;
     let sheet = match sheet(alloc, kind(told.deed), &text)? {
         Ok(sheet) => sheet,
         Err(refusal) => return tell_refusal(alloc, err, refusal),

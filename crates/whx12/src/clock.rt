@@ -1,34 +1,45 @@
+//! Moments as the words of a line write them, and the clock's.
+ghost use Rattle.std.specs.Prelude.{◌≡◌, Some, option_map};
+ghost use Rattle.whx12.specs.Written as written;
+
+use crate::numbers::{all_digits, pair};
 use jiff::Timestamp;
 use jiff::tz::Offset;
 use std::rt::Clock;
 use std::time::SystemTime;
 use store::Moment;
 
-// The number that two digits are.
-fn pair(text: &[u8]) -> Option<u8> {
-    if text.len() != 2 || !text.iter().all(|b| matches!(*b, b'0'..=b'9')) {
-        return None;
-    }
-    Some((text[0] - b'0') * 10 + (text[1] - b'0'))
+// Whether the text has the form YYYY-MM-DDTHH:MM.
+fn is_form(text: &[u8]) -> bool
+    ensures { result ≡ written.is_form text.now }
+{
+    text.len() == 16
+        && all_digits(&text[0..2])
+        && all_digits(&text[2..4])
+        && &text[4..5] == b"-".as_slice()
+        && all_digits(&text[5..7])
+        && &text[7..8] == b"-".as_slice()
+        && all_digits(&text[8..10])
+        && &text[10..11] == b"T".as_slice()
+        && all_digits(&text[11..13])
+        && &text[13..14] == b":".as_slice()
+        && all_digits(&text[14..16])
 }
 
 /// The moment that is written as 2025-03-04T09:15; None where the text is another.
-pub fn moment_of(text: &[u8]) -> Option<Moment> {
-    if text.len() != 16
-        || text[4] != b'-'
-        || text[7] != b'-'
-        || text[10] != b'T'
-        || text[13] != b':'
-    {
+pub fn moment_of(text: &[u8]) -> Option<Moment>
+    ensures { result ≡ written.moment_of text.now }
+{
+    if !is_form(text) {
         return None;
     }
-    let year = u16::from(pair(&text[..2])?) * 100 + u16::from(pair(&text[2..4])?);
+    let year = u16::from(pair(&text[0..2])) * 100 + u16::from(pair(&text[2..4]));
     Moment::new(
         year,
-        pair(&text[5..7])?,
-        pair(&text[8..10])?,
-        pair(&text[11..13])?,
-        pair(&text[14..16])?,
+        pair(&text[5..7]),
+        pair(&text[8..10]),
+        pair(&text[11..13]),
+        pair(&text[14..16]),
     )
 }
 

@@ -4,8 +4,12 @@
 mod acts;
 mod clock;
 mod commands;
+mod numbers;
+mod rosters;
 mod script;
 mod sheet_files;
+mod shows;
+mod subcommands;
 mod told;
 mod words;
 

@@ -1,7 +1,7 @@
-use crate::acts::{self, Told};
 use crate::clock::now;
 use crate::told::{Status, Stop, tell_refusal};
-use crate::words::{Place, Words, line};
+use crate::words::{Act, Place, Show, Words, line};
+use crate::{acts, rosters, shows};
 use std::rt::{Clock, Files};
 use std::{fs, io};
 use store::{Moment, Refusal, ReplayBook, Warehouse, Who};
@@ -22,8 +22,46 @@ fn moment_for<R: Clock + AllocGlobal>(rt: &R, at: Option<Moment>) -> Result<Mome
     }
 }
 
-// Does what a line asks for, over the book.
+// Does to the book what a line says.
 fn perform<R: Files + Clock + AllocGlobal, W: io::Write, E: io::Write>(
+    rt: &R,
+    book: &mut ReplayBook,
+    act: &Act<'_>,
+    at: Option<Moment>,
+    out: &mut W,
+    err: &mut E,
+) -> Result<Status, Stop> {
+    let moment = moment_for(rt, at)?;
+    match act {
+        Act::Enrol { who } => acts::enrol(rt.alloc(), book, who, moment, err),
+        Act::Roster { file } => rosters::roster(rt, book, file, moment, out, err),
+        Act::Send { file } => acts::send(rt, book, file, moment, out, err),
+        Act::Clerk(told) => acts::clerk(rt, book, told, moment, out, err),
+    }
+}
+
+// Shows of the book what a line asks for.
+fn show_it<W: io::Write, E: io::Write>(
+    rt: &impl AllocGlobal,
+    book: &mut ReplayBook,
+    show: &Show<'_>,
+    out: &mut W,
+    err: &mut E,
+) -> Result<Status, Stop> {
+    let alloc = rt.alloc();
+    match show {
+        Show::Stock { who, is_csv } => shows::stock(alloc, book, who, *is_csv, out, err),
+        Show::Order { who, number } => shows::order(alloc, book, who, number, out, err),
+        Show::Outbox { who, number: None } => shows::outbox(alloc, book, who, out, err),
+        Show::Outbox {
+            who,
+            number: Some(number),
+        } => shows::content(alloc, book, who, *number, out, err),
+    }
+}
+
+// Does what a line asks for, over the book.
+fn answer<R: Files + Clock + AllocGlobal, W: io::Write, E: io::Write>(
     rt: &R,
     book: &mut ReplayBook,
     words: &Words<'_>,
@@ -31,31 +69,8 @@ fn perform<R: Files + Clock + AllocGlobal, W: io::Write, E: io::Write>(
     err: &mut E,
 ) -> Result<Status, Stop> {
     match words {
-        Words::Enrol { who, at } => {
-            let moment = moment_for(rt, *at)?;
-            acts::enrol(rt.alloc(), book, who, moment, err)
-        }
-        Words::Send { file, at } => {
-            let moment = moment_for(rt, *at)?;
-            acts::send(rt, book, file, moment, out, err)
-        }
-        Words::Clerk {
-            deed,
-            who,
-            ticket,
-            number,
-            sheet,
-            at,
-        } => {
-            let moment = moment_for(rt, *at)?;
-            let told = Told {
-                deed: *deed,
-                who,
-                ticket,
-                number,
-            };
-            acts::clerk(rt, book, &told, sheet, moment, out, err)
-        }
+        Words::Act { act, at } => perform(rt, book, act, *at, out, err),
+        Words::Show(show) => show_it(rt, book, show, out, err),
         _ => Err(misplaced(rt, "init stands in the first line alone\n")),
     }
 }
@@ -94,7 +109,7 @@ fn play<R: Files + Clock + AllocGlobal, W: io::Write, E: io::Write>(
         let words: Vec<&str> = row.split(' ').collect(rt.alloc())?;
         let asked = line(rt.alloc(), Place::Script, &words)?;
         match &mut book {
-            Some(book) => status = status.and(perform(rt, book, &asked, out, err)?),
+            Some(book) => status = status.and(answer(rt, book, &asked, out, err)?),
             None => match made(rt, &asked, err)? {
                 Some(new) => book = Some(new),
                 None => return Ok(Status::Refused),
@@ -107,7 +122,8 @@ fn play<R: Files + Clock + AllocGlobal, W: io::Write, E: io::Write>(
     }
 }
 
-/// Runs the script in a file over a new book in memory.
+/// Runs the script in a file over a new book in memory. A script that can't be read as words is a usage fault, a file that
+/// can't be read a fault; what was printed before either stays.
 pub fn run_script<R: Files + Clock + AllocGlobal, W: io::Write, E: io::Write>(
     rt: &R,
     file: &str,

@@ -1,3 +1,6 @@
+ghost use Rattle.std.specs.Prelude.{◌≡◌};
+ghost use Rattle.whx12.specs.Statuses as meant;
+
 use crate::words::LineFault;
 use std::alloc::{AllocError, Global};
 use std::io;
@@ -18,7 +21,9 @@ pub enum Status {
 
 impl Status {
     /// The exit status.
-    pub fn code(self) -> u8 {
+    pub fn code(self) -> u8
+        ensures { result ≡ meant.code_of self }
+    {
         match self {
             Status::Done => 0,
             Status::Refused => 1,
@@ -28,8 +33,13 @@ impl Status {
     }
 
     /// The status of what ended so, and then so.
-    pub fn and(self, next: Status) -> Status {
-        if next == Status::Done { self } else { next }
+    pub fn and(self, next: Status) -> Status
+        ensures { result ≡ meant.and_then self next }
+    {
+        match next {
+            Status::Done => self,
+            _ => next,
+        }
     }
 }
 

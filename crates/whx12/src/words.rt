@@ -1,6 +1,15 @@
+//! A line of words, and what it asks for.
+ghost use Rattle.std.specs.Prelude.{◌≡◌, Some, true, false, IfOk, IfSome, map, codes, bytes_eq};
+ghost use Rattle.std.specs.Option.{option_map_or};
+ghost use Rattle.clap.specs.Matches.{found_of};
+ghost use Rattle.clap.specs.Walk.{first_of, rows_of};
+ghost use Rattle.whx12.specs.Lines as meant;
+
 use crate::clock::moment_of;
+use crate::numbers::number_of;
+use crate::subcommands::parser;
+use clap::ArgMatches;
 use clap::error::ErrorKind;
-use clap::{Arg, ArgAction, ArgMatches, Command};
 use std::alloc::{AllocError, Global};
 use store::Moment;
 
@@ -26,35 +35,52 @@ pub enum Words<'a> {
         /// The warehouse, as `QQ-ID`.
         who: &'a str,
     },
+    /// Change the book.
+    Act {
+        /// What is done.
+        act: Act<'a>,
+        /// The moment, if the line says one.
+        at: Option<Moment>,
+    },
+    /// Show something of the book.
+    Show(Show<'a>),
+}
+
+/// What changes a book.
+#[derive(Clone, Copy)]
+pub enum Act<'a> {
     /// Enrol a depositor.
     Enrol {
         /// The depositor, as `QQ-ID`.
         who: &'a str,
-        /// The moment, if the line says one.
-        at: Option<Moment>,
+    },
+    /// Enrol the depositors of a list.
+    Roster {
+        /// The file with the list.
+        file: &'a str,
     },
     /// Submit an interchange.
     Send {
         /// The file that holds its bytes.
         file: &'a str,
-        /// The moment, if the line says one.
-        at: Option<Moment>,
     },
     /// Tell what a clerk did.
-    Clerk {
-        /// What was done.
-        deed: Deed,
-        /// The depositor, as `QQ-ID`.
-        who: &'a str,
-        /// The ticket.
-        ticket: &'a str,
-        /// The number of the advice or the order; nothing of a recount.
-        number: &'a str,
-        /// The file with the sheet.
-        sheet: &'a str,
-        /// The moment, if the line says one.
-        at: Option<Moment>,
-    },
+    Clerk(Told<'a>),
+}
+
+/// What a clerk did, as the words tell it.
+#[derive(Clone, Copy)]
+pub struct Told<'a> {
+    /// What was done.
+    pub deed: Deed,
+    /// The depositor, as `QQ-ID`.
+    pub who: &'a str,
+    /// The ticket.
+    pub ticket: &'a str,
+    /// The number of the advice or the order; nothing of a recount.
+    pub number: &'a str,
+    /// The file with the sheet.
+    pub sheet: &'a str,
 }
 
 /// What a clerk did.
@@ -66,6 +92,32 @@ pub enum Deed {
     Pick,
     /// Goods on hand were counted again.
     Recount,
+}
+
+/// What can be shown of a depositor.
+#[derive(Clone, Copy)]
+pub enum Show<'a> {
+    /// What is on hand.
+    Stock {
+        /// The depositor, as `QQ-ID`.
+        who: &'a str,
+        /// Whether it is shown as CSV.
+        is_csv: bool,
+    },
+    /// The picking sheet of an order.
+    Order {
+        /// The depositor, as `QQ-ID`.
+        who: &'a str,
+        /// The order's number.
+        number: &'a str,
+    },
+    /// What went out.
+    Outbox {
+        /// The depositor, as `QQ-ID`.
+        who: &'a str,
+        /// The number of the one text that is asked for, 1 to 999,999; None for the list.
+        number: Option<u32>,
+    },
 }
 
 /// Why a line of words asks for nothing.
@@ -80,159 +132,6 @@ pub enum LineFault {
 impl From<AllocError> for LineFault {
     fn from(_error: AllocError) -> LineFault {
         LineFault::OutOfMemory
-    }
-}
-
-// A value that must be there.
-fn value<'a>(alloc: Global, id: &'a str, name: &'a str, help: &'a str) -> Arg<'a> {
-    Arg::new(alloc, id)
-        .value_name(name)
-        .help(help)
-        .required(true)
-        .action(ArgAction::Set)
-}
-
-fn at<'a>(alloc: Global) -> Arg<'a> {
-    Arg::new(alloc, "at")
-        .long("at")
-        .value_name("YYYY-MM-DDTHH:MM")
-        .help("The moment of the command in UTC, in place of the clock's")
-        .action(ArgAction::Set)
-}
-
-fn script<'a>(alloc: Global) -> Result<Command<'a>, AllocError> {
-    Command::new(alloc, "script")
-        .about("Runs the commands of a file, line by line, over a new book in memory")
-        .after_help(
-            "Example: whx12 script morning.txt\n\nThe first line is init; each other line is enrol, send, count, pick or recount, with single spaces between words.\nA refused command is told on standard error, and the script goes on.",
-        )
-        .arg(value(alloc, "file", "FILE", "The file with the commands"))
-}
-
-fn init<'a>(alloc: Global) -> Result<Command<'a>, AllocError> {
-    Command::new(alloc, "init")
-        .about("Makes the book of a warehouse")
-        .after_help("Example: init ZZ-WHSE1")
-        .arg(value(
-            alloc,
-            "who",
-            "WHO",
-            "The warehouse: its qualifier, a hyphen and its id, as its ISA has them",
-        ))?
-        .arg(at(alloc))
-}
-
-fn enrol<'a>(alloc: Global) -> Result<Command<'a>, AllocError> {
-    Command::new(alloc, "enrol")
-        .about("Enrols a depositor, whose interchanges are taken from then on")
-        .after_help("Example: enrol ZZ-ACME")
-        .arg(value(
-            alloc,
-            "who",
-            "WHO",
-            "The depositor: its qualifier, a hyphen and its id, as its ISA has them",
-        ))?
-        .arg(at(alloc))
-}
-
-fn send<'a>(alloc: Global) -> Result<Command<'a>, AllocError> {
-    Command::new(alloc, "send")
-        .about("Hands in an interchange as it came, and prints the answer to send back")
-        .after_help("Example: send advice.x12")
-        .arg(value(alloc, "file", "FILE", "The file with the interchange"))?
-        .arg(at(alloc))
-}
-
-// The depositor and the ticket of a clerk's act, which stand in front of its other words.
-fn clerk<'a>(
-    alloc: Global,
-    name: &'a str,
-    about: &'a str,
-    example: &'a str,
-) -> Result<Command<'a>, AllocError> {
-    Command::new(alloc, name)
-        .about(about)
-        .after_help(example)
-        .arg(value(
-            alloc,
-            "who",
-            "WHO",
-            "The depositor: its qualifier, a hyphen and its id",
-        ))?
-        .arg(value(
-            alloc,
-            "ticket",
-            "TICKET",
-            "The ticket, by which the act is known when it is told again",
-        ))
-}
-
-// The sheet, and the moment, which stand behind its other words.
-fn sheet<'a>(alloc: Global, command: Command<'a>) -> Result<Command<'a>, AllocError> {
-    command
-        .arg(value(
-            alloc,
-            "sheet",
-            "SHEET",
-            "The file with the sheet: CSV records of item, lot and quantity",
-        ))?
-        .arg(at(alloc))
-}
-
-fn count<'a>(alloc: Global) -> Result<Command<'a>, AllocError> {
-    let command = clerk(
-        alloc,
-        "count",
-        "Counts the goods of an advice, and prints its receipt (944)",
-        "Example: count ZZ-ACME 4711 SHP1 count.csv",
-    )?;
-    let number = value(
-        alloc,
-        "number",
-        "SHIPMENT",
-        "The shipment number of the advice",
-    );
-    sheet(alloc, command.arg(number)?)
-}
-
-fn pick<'a>(alloc: Global) -> Result<Command<'a>, AllocError> {
-    let command = clerk(
-        alloc,
-        "pick",
-        "Tells what was picked for an order, and prints its shipping advice (945)",
-        "Example: pick ZZ-ACME 4712 ORD1 pick.csv",
-    )?;
-    let number = value(alloc, "number", "ORDER", "The number of the order");
-    sheet(alloc, command.arg(number)?)
-}
-
-fn recount<'a>(alloc: Global) -> Result<Command<'a>, AllocError> {
-    let command = clerk(
-        alloc,
-        "recount",
-        "Sets what is on hand, and prints the adjustment (947)",
-        "Example: recount ZZ-ACME 4713 recount.csv",
-    )?;
-    sheet(alloc, command)
-}
-
-// What may stand at the place.
-fn parser<'a>(alloc: Global, place: Place) -> Result<Command<'a>, AllocError> {
-    let parser = Command::new(alloc, "whx12")
-        .about("The book of a third-party warehouse that takes its orders as X12 interchanges")
-        .no_binary_name(true)
-        .subcommand_required(true)
-        .disable_help_subcommand(true)
-        .disable_version_flag(true);
-    match place {
-        Place::Program => parser.subcommand(script(alloc)?),
-        Place::Script => parser
-            .subcommand(init(alloc)?)?
-            .subcommand(enrol(alloc)?)?
-            .subcommand(send(alloc)?)?
-            .subcommand(count(alloc)?)?
-            .subcommand(pick(alloc)?)?
-            .subcommand(recount(alloc)?),
     }
 }
 
@@ -256,7 +155,9 @@ fn refused(alloc: Global, error: &clap::Error) -> LineFault {
 }
 
 // The moment that a line says, if it says one.
-fn moment<'a>(alloc: Global, values: &ArgMatches<'a>) -> Result<Option<Moment>, LineFault> {
+fn moment(alloc: Global, values: &ArgMatches<'_>) -> Result<Option<Moment>, LineFault>
+    ensures { IfOk result (meant.SaysMoment (rows_of (found_of values.now))) }
+{
     let Some(text) = values.get_str("at") else {
         return Ok(None);
     };
@@ -269,76 +170,157 @@ fn moment<'a>(alloc: Global, values: &ArgMatches<'a>) -> Result<Option<Moment>, 
     }
 }
 
+// The number that a line says, if it says one.
+fn number(alloc: Global, values: &ArgMatches<'_>) -> Result<Option<u32>, LineFault>
+    ensures { IfOk result (meant.SaysNumber (rows_of (found_of values.now))) }
+{
+    let Some(text) = values.get_str("number") else {
+        return Ok(None);
+    };
+    match number_of(text.as_bytes()) {
+        Some(number) => Ok(Some(number)),
+        None => Err(usage(alloc, "--number wants a number from 1 to 999999\n")),
+    }
+}
+
 // The value of a word that must be there.
-fn given<'a>(alloc: Global, values: &ArgMatches<'a>, id: &str) -> Result<&'a str, LineFault> {
+fn given<'a>(alloc: Global, values: &ArgMatches<'a>, id: &str) -> Result<&'a str, LineFault>
+    ensures { IfOk result (λ text. meant.Has (rows_of (found_of values.now)) id.now text.now) }
+{
     match values.get_str(id) {
         Some(text) => Ok(text),
         None => Err(usage(alloc, "a word is missing\n")),
     }
 }
 
-// What a clerk's subcommand says was done, if it is one.
-fn deed_of(name: &str) -> Option<Deed> {
-    match name {
-        "count" => Some(Deed::Count),
-        "pick" => Some(Deed::Pick),
-        "recount" => Some(Deed::Recount),
-        _ => None,
+// Whether the line has an option without a value.
+fn has_flag(values: &ArgMatches<'_>, id: &str) -> bool
+    ensures { result ≡ option_map_or (λ text. bytes_eq text (codes "true")) (first_of id.now (rows_of (found_of values.now))) false }
+{
+    match values.get_str(id) {
+        Some(text) => text == "true",
+        None => false,
     }
 }
 
-// What a clerk's subcommand asks for with its values.
-fn told<'a>(
-    alloc: Global,
-    deed: Deed,
-    values: &ArgMatches<'a>,
-    at: Option<Moment>,
-) -> Result<Words<'a>, LineFault> {
+// What a clerk did, with the values of its line.
+fn told_of<'a>(alloc: Global, deed: Deed, values: &ArgMatches<'a>) -> Result<Told<'a>, LineFault>
+    ensures told { IfOk result (meant.SaysTold (rows_of (found_of values.now))) }
+    ensures deed { IfOk result (λ t. t.deed ≡ deed) }
+{
     let number = match deed {
         Deed::Recount => "",
         _ => given(alloc, values, "number")?,
     };
-    Ok(Words::Clerk {
+    Ok(Told {
         deed,
         who: given(alloc, values, "who")?,
         ticket: given(alloc, values, "ticket")?,
         number,
         sheet: given(alloc, values, "sheet")?,
-        at,
     })
 }
 
-// What a subcommand asks for with its values.
-fn asked<'a>(alloc: Global, name: &str, values: &ArgMatches<'a>) -> Result<Words<'a>, LineFault> {
-    if name == "script" {
-        return Ok(Words::Script {
+// What a subcommand does to the book with its values; None where it does nothing to it.
+fn act_of<'a>(
+    alloc: Global,
+    name: &str,
+    values: &ArgMatches<'a>,
+) -> Result<Option<Act<'a>>, LineFault>
+    ensures { IfOk result (λ act. IfSome act (meant.SaysAct (name.now, rows_of (found_of values.now)))) }
+{
+    let act = match name {
+        "enrol" => Act::Enrol {
+            who: given(alloc, values, "who")?,
+        },
+        "roster" => Act::Roster {
             file: given(alloc, values, "file")?,
-        });
+        },
+        "send" => Act::Send {
+            file: given(alloc, values, "file")?,
+        },
+        "count" => Act::Clerk(told_of(alloc, Deed::Count, values)?),
+        "pick" => Act::Clerk(told_of(alloc, Deed::Pick, values)?),
+        "recount" => Act::Clerk(told_of(alloc, Deed::Recount, values)?),
+        _ => return Ok(None),
+    };
+    Ok(Some(act))
+}
+
+// What a subcommand shows with its values; None where it shows nothing.
+fn show_of<'a>(
+    alloc: Global,
+    name: &str,
+    values: &ArgMatches<'a>,
+) -> Result<Option<Show<'a>>, LineFault>
+    ensures { IfOk result (λ show. IfSome show (meant.SaysShow (name.now, rows_of (found_of values.now)))) }
+{
+    let show = match name {
+        "stock" => Show::Stock {
+            who: given(alloc, values, "who")?,
+            is_csv: has_flag(values, "csv"),
+        },
+        "orders" => Show::Order {
+            who: given(alloc, values, "who")?,
+            number: given(alloc, values, "number")?,
+        },
+        "outbox" => Show::Outbox {
+            who: given(alloc, values, "who")?,
+            number: number(alloc, values)?,
+        },
+        _ => return Ok(None),
+    };
+    Ok(Some(show))
+}
+
+// What a subcommand asks for with its values.
+fn asked<'a>(alloc: Global, name: &str, values: &ArgMatches<'a>) -> Result<Words<'a>, LineFault>
+    ensures { IfOk result (meant.Says (name.now, rows_of (found_of values.now))) }
+{
+    if name == "script" {
+        let file = given(alloc, values, "file")?;
+        return Ok(Words::Script { file });
     }
     let at = moment(alloc, values)?;
-    if name == "send" {
-        let file = given(alloc, values, "file")?;
-        return Ok(Words::Send { file, at });
+    if name == "init" {
+        let who = given(alloc, values, "who")?;
+        return Ok(Words::Init { who });
     }
-    if let Some(deed) = deed_of(name) {
-        return told(alloc, deed, values, at);
+    if let Some(act) = act_of(alloc, name, values)? {
+        return Ok(Words::Act { act, at });
     }
-    let who = given(alloc, values, "who")?;
-    if name == "enrol" {
-        return Ok(Words::Enrol { who, at });
+    match show_of(alloc, name, values)? {
+        Some(show) => Ok(Words::Show(show)),
+        None => Err(usage(alloc, "there is no such command\n")),
     }
-    Ok(Words::Init { who })
+}
+
+// Whether a word stands first.
+fn stands_first(words: &[&str], name: &str) -> bool
+    ensures { result ≡ meant.stands_first name.now (map (λ w. w.now) words.now) }
+{
+    match words.first() {
+        Some(first) => *first == name,
+        None => false,
+    }
 }
 
 /// Reads one line of words, without a program's name in front. A line that can't be read, or that asks for help, is a usage
 /// fault with the text to show; want of memory is told apart.
-pub fn line<'a>(alloc: Global, place: Place, words: &'a [&'a str]) -> Result<Words<'a>, LineFault> {
+pub fn line<'a>(alloc: Global, place: Place, words: &'a [&'a str]) -> Result<Words<'a>, LineFault>
+    // The first word names the subcommand, and its values are those that `clap` defines for a simple command.
+    ensures { IfOk result (λ asked. (f : meant.Found) × (meant.found_at place (map (λ w. w.now) words.now) ≡ Some f)
+        × (meant.stands_first f.0 (map (λ w. w.now) words.now) ≡ true) × meant.Says f asked) }
+{
     let matches = match parser(alloc, place)?.try_get_matches_from(words) {
         Ok(matches) => matches,
         Err(error) => return Err(refused(alloc, &error)),
     };
-    match matches.subcommand() {
-        Some((name, values)) => asked(alloc, name, values),
-        None => Err(usage(alloc, "a command is missing\n")),
+    let Some((name, values)) = matches.subcommand() else {
+        return Err(usage(alloc, "a command is missing\n"));
+    };
+    if !stands_first(words, name) {
+        return Err(usage(alloc, "a line begins with a command\n"));
     }
+    asked(alloc, name, values)
 }

@@ -1,4 +1,6 @@
 ghost use Rattle.std.specs.Prelude.{◌≡◌, IfOk};
+ghost use Rattle.stock.specs.Pages.{IsSound};
+ghost use Rattle.stock.specs.Puts.{put};
 
 use crate::{NoSheet, pick_list};
 use segments::{Delims, Segment, cut};
@@ -67,14 +69,16 @@ fn sheet_of(alloc: Global, kind: SheetKind, first: &[u8], second: &[u8]) -> Resu
 }
 
 // The page that a step left, with its entry ended.
-fn after(outcome: Result<Step, Stop>) -> Result<Page, Fail>
-    ensures { IfOk result (λ page. page.recent ≡ 0) }
+fn after(page: Page, outcome: Result<Step, Stop>) -> Result<Page, Fail>
+    requires { IfOk outcome (λ step. IsSound (put step.changes.items page)) }
+    ensures { IfOk result (λ next. next.recent ≡ 0) }
 {
-    let mut page = match outcome {
-        Ok(step) => step.page,
+    let step = match outcome {
+        Ok(step) => step,
         Err(Stop::OutOfMemory) => return Err(AllocError.into()),
         Err(_) => return Err("a refusal or a fault".into()),
     };
+    let mut page = page.with(&step)?;
     if page.entries() >= 999_999 {
         return Err("too many entries".into());
     }
@@ -86,10 +90,13 @@ fn after(outcome: Result<Step, Stop>) -> Result<Page, Fail>
 fn lists_an_order_until_it_is_picked(rt: HostRuntime) -> Result<(), Fail> {
     let alloc = rt.alloc();
     let page = Page::new(alloc);
-    let page = after(announce(alloc, &page, &advice_of(alloc, ADVICE)?))?;
+    let announced = announce(alloc, &page, &advice_of(alloc, ADVICE)?);
+    let page = after(page, announced)?;
     let counted = sheet_of(alloc, SheetKind::Count, b"5", b"7")?;
-    let page = after(receive(alloc, &page, b"SHP1", &counted))?;
-    let page = after(reserve(alloc, &page, &order_of(alloc, ORDER)?))?;
+    let received = receive(alloc, &page, b"SHP1", &counted);
+    let page = after(page, received)?;
+    let reserved = reserve(alloc, &page, &order_of(alloc, ORDER)?);
+    let page = after(page, reserved)?;
     match pick_list(alloc, &page, b"ORD1") {
         Ok(text) => assert_eq!(rt; text.as_slice(), PICKING_SHEET),
         Err(NoSheet::OutOfMemory) => return Err(AllocError.into()),
@@ -97,7 +104,8 @@ fn lists_an_order_until_it_is_picked(rt: HostRuntime) -> Result<(), Fail> {
     }
     assert!(rt; matches!(pick_list(alloc, &page, b"ORD2"), Err(NoSheet::UnknownOrder)));
     let picked = sheet_of(alloc, SheetKind::Pick, b"5", b"1")?;
-    let page = after(pick(alloc, &page, b"ORD1", &picked))?;
+    let shipped = pick(alloc, &page, b"ORD1", &picked);
+    let page = after(page, shipped)?;
     assert!(rt; matches!(pick_list(alloc, &page, b"ORD1"), Err(NoSheet::OrderClosed)));
     Ok(())
 }

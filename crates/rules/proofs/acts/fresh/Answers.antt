@@ -4,6 +4,7 @@ use Rattle.profile.specs.Register.{Clerk}
 use Rattle.profile.specs.Reply.{clerk_entry}
 use Rattle.rules.specs.Asked.{act_of}
 use Rattle.rules.proofs.Performs.{act_done, act_told_of}
+use Rattle.rules.proofs.Leading.{act_leads, nowhere}
 use Rattle.rules.proofs.acts.fresh.Goals as goal
 
 pub returns-in-Ok-clause-reply : goal.returns-in-Ok-clause-reply
@@ -23,3 +24,13 @@ returns-in-Err-clause-reply c =
     act_told_of e.warehouse c.args.page.now h (clerk_entry e.depositor c.args.ticket.now act e.moment) act c.args.page.now.entries (Clerk e.depositor c.args.ticket.now act) e.moment d of
     (reply h.events (c.args.page.now.entries + 1) act (c.in-Err.ensures.err h.events of.shows)
     e.warehouse h (clerk_entry e.depositor c.args.ticket.now act e.moment) c.args.page.now.entries (Clerk e.depositor c.args.ticket.now act) e.moment)) c.refused.ensures.reply
+
+pub accepted-requires-clause-led : goal.accepted-requires-clause-led
+accepted-requires-clause-led c =
+    let e = c.args.envelope.now in
+    λ h of. act_leads e.depositor c.args.ticket.now (act_of c.args.act.now) e.moment c.args.page.now c.in-Ok.step.changes.items h c.in-Ok.ensures.ok of
+
+pub returns-in-Err-clause-leads : goal.returns-in-Err-clause-leads
+returns-in-Err-clause-leads c =
+    let e = c.args.envelope.now in
+    IfOk-weaker c.refused.result _ _ (λ d none. nowhere c.args.page.now (Clerk e.depositor c.args.ticket.now (act_of c.args.act.now)) e.moment d none) c.refused.ensures.comes

@@ -4,7 +4,7 @@ use Rattle.std.proofs.lemmas.Result.{IfOk-weaker}
 use Rattle.profile.specs.Decision as meant
 use Rattle.profile.specs.History.{History}
 use Rattle.rules.specs.Asked.{asked}
-use Rattle.rules.specs.Decided.{IsGiven, IsReply, entries_of}
+use Rattle.rules.specs.Decided.{IsGiven, IsReply, LeadsFrom, entries_of}
 use Rattle.rules.specs.declared.commands.Command.{Command}
 use Rattle.rules.proofs.decisions.decide.Goals as goal
 
@@ -20,3 +20,12 @@ returns-in-Enrol-clause-reply c = subst (λ (x : Command). IfOk c.enrol.result (
 pub returns-in-Clerk-clause-reply : goal.returns-in-Clerk-clause-reply
 returns-in-Clerk-clause-reply c = subst (λ (x : Command). IfOk c.perform.result (λ d. (h : Option History) (k : Option meant.Recalled) → IsGiven c.args.page (option_copied c.args.known) (asked x) h k
     → IsReply (entries_of c.args.page) (asked x) c.args.moment (meant.reply_by c.args.warehouse.now h k (asked x) c.args.moment) d)) (sym c.in-Clerk.is) c.perform.ensures.reply
+
+pub returns-in-Interchange-clause-leads : goal.returns-in-Interchange-clause-leads
+returns-in-Interchange-clause-leads c = subst (λ (x : Command). IfOk c.interchange.result (LeadsFrom c.args.page (asked x) c.args.moment)) (sym c.in-Interchange.is) c.interchange.ensures.leads
+
+pub returns-in-Enrol-clause-leads : goal.returns-in-Enrol-clause-leads
+returns-in-Enrol-clause-leads c = subst (λ (x : Command). IfOk c.enrol.result (LeadsFrom c.args.page (asked x) c.args.moment)) (sym c.in-Enrol.is) c.enrol.ensures.leads
+
+pub returns-in-Clerk-clause-leads : goal.returns-in-Clerk-clause-leads
+returns-in-Clerk-clause-leads c = subst (λ (x : Command). IfOk c.perform.result (LeadsFrom c.args.page (asked x) c.args.moment)) (sym c.in-Clerk.is) c.perform.ensures.leads

@@ -12,6 +12,8 @@ use Rattle.envelope.specs.Parts.{GroupsOf}
 use Rattle.rules.specs.Judging.{IsSmall, AreGroupsTaken}
 use Rattle.rules.proofs.Content.{content}
 use Rattle.rules.proofs.Decides.{accepted_reply}
+use Rattle.rules.specs.Judging.{IsLed}
+use Rattle.rules.proofs.Leading.{interchange_leads}
 use Rattle.rules.proofs.interchanges.accepted.Goals as goal
 
 pub take_groups-requires-clause-room : goal.take_groups-requires-clause-room
@@ -30,8 +32,17 @@ returns-clause-reply c = λ h of.
     let told = c.in_ok-groups.groups.told.items in
     let taken : AreGroupsTaken (delims_of c.args.text.now) (groups_of ((cut (delims_of c.args.text.now) c.args.text.now).segments)) c.args.page.now c.in_ok-groups.groups.page told =
     subst (λ (i : GroupsOf). AreGroupsTaken i.delims i.groups c.args.page.now c.in_ok-groups.groups.page told) c.requires.parts
-    (subst (λ (p : PageFacts). AreGroupsTaken c.args.interchange.now.delims c.args.interchange.now.groups p c.in_ok-groups.groups.page told) c.in_ok-copy.ensures c.in_ok-groups.ensures) in
+    (subst (λ (p : PageFacts). AreGroupsTaken c.args.interchange.now.delims c.args.interchange.now.groups p c.in_ok-groups.groups.page told) c.in_ok-copy.ensures c.in_ok-groups.ensures.taken) in
     accepted_reply e.warehouse e.depositor e.moment e.number c.args.text.now c.args.header.now c.args.page.now c.in_ok-groups.groups.page told c.in_ok-outgoing.outgoing.items c.in_ok-entry.entry h
     c.requires.same c.requires.number (omega (arith, c.if-entries-ge-MOST_ENTRIES.false, c.entries.ensures)) taken
     (c.in_ok-outgoing.ensures ∙ ap (λ (ts : List Told). answer_of (delims_of c.args.header.now) e.warehouse e.depositor e.moment e.number (heading_of c.args.header.now) ts) c.deref.ensures.value)
     c.in_ok-entry.ensures of c.requires.whose
+
+pub returns-clause-leads : goal.returns-clause-leads
+returns-clause-leads c = λ h of.
+    let told = c.in_ok-groups.groups.told.items in
+    let taken : AreGroupsTaken (delims_of c.args.text.now) (groups_of ((cut (delims_of c.args.text.now) c.args.text.now).segments)) c.args.page.now c.in_ok-groups.groups.page told =
+    subst (λ (i : GroupsOf). AreGroupsTaken i.delims i.groups c.args.page.now c.in_ok-groups.groups.page told) c.requires.parts
+    (subst (λ (p : PageFacts). AreGroupsTaken c.args.interchange.now.delims c.args.interchange.now.groups p c.in_ok-groups.groups.page told) c.in_ok-copy.ensures c.in_ok-groups.ensures.taken) in
+    interchange_leads c.args.text.now c.args.envelope.moment c.args.page.now c.in_ok-groups.groups.page told c.in_ok-groups.groups.changes.items h taken
+    (subst (λ (p : PageFacts). IsLed c.in_ok-groups.groups.changes.items p c.in_ok-groups.groups.page) c.in_ok-copy.ensures c.in_ok-groups.ensures.led) of

@@ -9,6 +9,7 @@ use Rattle.profile.specs.Reply.{interchange_entry}
 use Rattle.rules.specs.Decided.{IsReply}
 use Rattle.envelope.specs.Conditions.{first_note}
 use Rattle.rules.proofs.Decides.{noted_header, noted_segments, noted_new, accepted_new}
+use Rattle.rules.proofs.Leading.{nowhere}
 use Rattle.rules.proofs.interchanges.fresh.Goals as goal
 
 pub returns-in-Some-clause-reply : goal.returns-in-Some-clause-reply
@@ -40,3 +41,9 @@ returns-in-Err-clause-reply c =
     IfOk-weaker c.halted.result _ _ (λ d h H of.
     subst (λ (o : Option ℕ). IsReply c.args.page.now.entries (Interchange c.args.text.now) c.args.moment (interchange_new W H c.args.text.now c.args.moment o) d) (sym found)
     (h c.args.text.now H c.args.page.now.entries c.in-Err.ensures c.requires.same)) c.halted.ensures.reply
+
+pub returns-in-Some-clause-leads : goal.returns-in-Some-clause-leads
+returns-in-Some-clause-leads c = IfOk-weaker c.noted.result _ _ (λ d none. nowhere c.args.page.now (Interchange c.args.text.now) c.args.moment d none) c.noted.ensures.comes
+
+pub returns-in-Err-clause-leads : goal.returns-in-Err-clause-leads
+returns-in-Err-clause-leads c = IfOk-weaker c.halted.result _ _ (λ d none. nowhere c.args.page.now (Interchange c.args.text.now) c.args.moment d none) c.halted.ensures.comes

@@ -7,6 +7,7 @@ use Rattle.profile.specs.Decision as recalled
 use Rattle.rules.specs.Decided.{IsGiven, entries_of}
 use Rattle.rules.proofs.Decides.{no_page, no_sender, stranger_reply, given_again, given_new}
 use Rattle.rules.proofs.interchanges.readable.Goals.{in_default-via-in-Some+in_default, in_default-via-in_default}
+use Rattle.rules.proofs.Leading.{nowhere_from, from_page}
 use Rattle.rules.proofs.interchanges.readable.Goals as goal
 
 pub returns-in_default-clause-reply : goal.returns-in_default-clause-reply
@@ -29,3 +30,12 @@ pub returns-in-None-clause-reply : goal.returns-in-None-clause-reply
 returns-in-None-clause-reply c = IfOk-weaker c.fresh.result _ _ (λ d reply h k given.
     given_new c.args.warehouse.now c.args.page (option_copied c.args.known) h k c.args.text.now c.args.moment d c.in-Some-Some.page
     c.in-Some-Some.is-0 (ap option_copied c.in-None.is) given reply) c.fresh.ensures.reply
+
+pub returns-in_default-clause-leads : goal.returns-in_default-clause-leads
+returns-in_default-clause-leads c = IfOk-weaker c.noted.result _ _ (λ d none. nowhere_from c.args.page (Interchange c.args.text.now) c.args.moment d none) c.noted.ensures.comes
+
+pub returns-in-Some-clause-leads : goal.returns-in-Some-clause-leads
+returns-in-Some-clause-leads c = IfOk-weaker c.again.result _ _ (λ d none. nowhere_from c.args.page (Interchange c.args.text.now) c.args.moment d none) c.again.ensures.comes
+
+pub returns-in-None-clause-leads : goal.returns-in-None-clause-leads
+returns-in-None-clause-leads c = IfOk-weaker c.fresh.result _ _ (λ d leads. from_page c.args.page c.in-Some-Some.page (Interchange c.args.text.now) c.args.moment d c.in-Some-Some.is-0 leads) c.fresh.ensures.leads

@@ -1,18 +1,10 @@
-use Rattle.std.proofs.Common.{ap, sym, subst, arith, length}
-use Rattle.std.specs.Prelude.{sum_by}
-use Rattle.std.specs.List.{AllByRecursion}
-use Rattle.profile.specs.Structure.{Group}
-use Rattle.envelope.specs.Parts.{GroupsOf}
-use Rattle.rules.specs.Judging.{IsSmall}
-use Rattle.rules.proofs.Content.{content}
+use Rattle.std.proofs.Common.{List, subst}
+use Rattle.std.proofs.lemmas.Result.{IfOk-weaker}
+use Rattle.profile.specs.Register.{Received}
+use Rattle.rules.specs.Played.{IsPlayed}
 use Rattle.rules.proofs.replays.structured.Goals as goal
 
-pub grouped-requires-clause-room : goal.grouped-requires-clause-room
-grouped-requires-clause-room c =
-    let few = (content c.args.text.now c.in-Ok.ensures.0).1 in
-    let same = ap (λ (i : GroupsOf). sum_by (λ (g : Group). length g.sets) i.groups) c.in-Ok.ensures.1 in
-    omega (arith, few, same, c.requires.rest)
-
-pub grouped-requires-clause-small : goal.grouped-requires-clause-small
-grouped-requires-clause-small c =
-    subst (λ (i : GroupsOf). AllByRecursion IsSmall i.groups) (sym c.in-Ok.ensures.1) (content c.args.text.now c.in-Ok.ensures.0).0
+pub returns-in-Ok-clause-played : goal.returns-in-Ok-clause-played
+returns-in-Ok-clause-played c = IfOk-weaker c.grouped.result _ _ (λ r played h of is clean.
+    let e = c.args.envelope in
+    subst (λ (text : List _). IsPlayed e.warehouse h (record { who = e.depositor; moment = e.moment; deed = Received text }) r.page r.outgoing.items) c.requires.same (played h of is)) c.grouped.ensures.played

@@ -7,10 +7,10 @@ use Rattle.tables.specs.Kinds.{kind_of}
 use Rattle.rules.proofs.Loops.{group_taken}
 use Rattle.rules.proofs.taking.take_group.Goals as goal
 
-pub returns-in-None-Some : goal.returns-in-None-Some
-returns-in-None-Some c =
+pub returns-in-None-Some-clause-taken : goal.returns-in-None-Some-clause-taken
+returns-in-None-Some-clause-taken c =
     let none : group_fault c.args.group.now.group ≡ None = sym c.fault.ensures ∙ c.in-None-Some.is-0 in
     let is : kind_in c.args.group.now.group ≡ Some (kind_of c.in-None-Some.kind) =
     ap (λ (f : List ℕ). find (λ k. bytes_eq (words.kind_function k) f) words.set_kinds) (sym c.function.ensures) ∙ sym c.of_function-kind.ensures ∙ ap (option_map kind_of) c.in-None-Some.is-1 in
     IfOk-weaker c.take_sets.result _ _ (λ t h.
-    group_taken c.args.group.now.group c.args.group.now.delims (kind_of c.in-None-Some.kind) c.args.start t.page t.told.items none is h) c.take_sets.ensures
+    group_taken c.args.group.now.group c.args.group.now.delims (kind_of c.in-None-Some.kind) c.args.start t.page t.told.items none is h) c.take_sets.ensures.taken

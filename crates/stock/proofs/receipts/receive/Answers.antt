@@ -1,34 +1,46 @@
-use Rattle.std.proofs.Common.{◌≡◌, ◌+◌, refl, sym, get_or, Some}
+use Rattle.std.proofs.Common.{◌≡◌, ◌∙◌, ◌++◌, ◌∷◌, [], ◌+◌, List, ℕ, refl, sym, ap}
+use Rattle.std.proofs.lemmas.Slice.Eq.{bytes_eq-Decides}
 use Rattle.profile.specs.Refusals.{UnknownAdvice, AdviceClosed}
 use Rattle.profile.specs.Events.{Counted}
-use Rattle.profile.specs.Page.{PageAdvice}
-use Rattle.stock.specs.Pages.{IsAt, is_shipment, advice_at}
-use Rattle.stock.specs.Steps.{IsReceived}
-use Rattle.stock.proofs.Finds.{find_at}
+use Rattle.stock.specs.declared.documents.Function.TheVariants.{Receipt}
+use Rattle.stock.specs.declared.steps.Change.TheVariants.{Sent}
+use Rattle.stock.specs.Pages.{advice_at, is_shipment}
+use Rattle.stock.specs.Puts.{put}
+use Rattle.stock.specs.Stops.{advice_changes}
+use Rattle.stock.proofs.Finds.{found_says}
 use Rattle.stock.proofs.Receives.{advice_known, received_shows, counted_unknown, counted_closed, counted_ok}
 use Rattle.stock.proofs.receipts.receive.Goals as goal
 
 pub returns-in_default-clause-err : goal.returns-in_default-clause-err
 returns-in_default-clause-err c = λ es shows.
-    (UnknownAdvice, counted_unknown c.args.page.now es (c.args.page.now.entries + 1) c.args.shipment.now c.args.sheet.now shows (rw c.advices-advices.ensures at c.in_default.ensures), refl)
+    (UnknownAdvice, counted_unknown c.args.page.now es (c.args.page.now.entries + 1) c.args.shipment.now c.args.sheet.now shows c.in_default.ensures, refl)
 
 pub returns-then-not-is_open-clause-err : goal.returns-then-not-is_open-clause-err
 returns-then-not-is_open-clause-err c = λ es shows.
-    let at : IsAt (is_shipment c.args.shipment.now) c.advices-advices.result.now c.in-Some.i = c.in-Some.ensures in
-    let k : PageAdvice = c.index-advices-i.result in
-    let found : advice_at c.args.shipment.now c.advices-advices.result.now ≡ Some k = find_at (is_shipment c.args.shipment.now) c.advices-advices.result.now c.in-Some.i k at c.index-advices-i.is in
-    (AdviceClosed, counted_closed c.args.page.now es (c.args.page.now.entries + 1) c.args.shipment.now k c.args.sheet.now shows (rw c.advices-advices.ensures at found) (sym c.if-not-is_open.ensures), refl)
+    (AdviceClosed, counted_closed c.args.page.now es (c.args.page.now.entries + 1) c.args.shipment.now c.in-Some.advice.now c.args.sheet.now shows c.in-Some.ensures (sym c.if-not-is_open.ensures), refl)
+
+pub changes-requires-clause-known : goal.changes-requires-clause-known
+changes-requires-clause-known c =
+    let k = c.in-Some.advice.now in
+    let key : k.shipment ≡ c.args.shipment.now = (bytes_eq-Decides k.shipment c.args.shipment.now).0 (found_says (is_shipment c.args.shipment.now) c.args.page.now.advices k c.in-Some.ensures) in
+    ap (λ (s : List ℕ). advice_at s c.args.page.now.advices) key ∙ c.in-Some.ensures
+
+pub changes-requires-clause-is_open : goal.changes-requires-clause-is_open
+changes-requires-clause-is_open c = sym c.if-not-is_open.ensures
 
 pub returns-clause-ok : goal.returns-clause-ok
 returns-clause-ok c = λ es shows.
     let n = c.args.page.now.entries + 1 in
-    let at : IsAt (is_shipment c.args.shipment.now) c.args.page.now.advices c.in-Some.i = rw c.advices-advices.ensures at c.in-Some.ensures in
-    let k : PageAdvice = c.index-advices-i.result in
-    let is : k ≡ get_or c.args.page.now.advices c.in-Some.i k = rw c.advices-advices.ensures at c.index-advices-i.is in
-    let found : advice_at c.args.shipment.now c.args.page.now.advices ≡ Some k = find_at (is_shipment c.args.shipment.now) c.args.page.now.advices c.in-Some.i k at is in
-    let step : IsReceived n c.in-Some.i k c.args.sheet.now c.args.page.now c.in_ok-next.next = (rw c.in_ok-copy.ensures at c.in_ok-next.ensures) k is in
-    let a = advice_known c.args.page.now es c.args.shipment.now k shows found in (
+    let k = c.in-Some.advice.now in
+    let a = advice_known c.args.page.now es c.args.shipment.now k shows c.in-Some.ensures in (
       Counted n a.0 c.args.sheet.now,
       counted_ok es n c.args.shipment.now a.0 k c.args.sheet.now a.1 a.2 (sym c.if-not-is_open.ensures),
-      received_shows n c.in-Some.i k a.0 c.args.sheet.now c.args.shipment.now c.args.page.now c.in_ok-next.next es refl step at is a.1 a.2 shows,
+      received_shows n k a.0 c.args.sheet.now c.args.shipment.now c.args.page.now _ es refl c.in_ok-changes.ensures.made c.in-Some.ensures a.1 a.2 shows,
     )
+
+pub returns-clause-changes : goal.returns-clause-changes
+returns-clause-changes c =
+    let k = c.in-Some.advice.now in
+    let p = c.args.page.now in
+    let key : k.shipment ≡ c.args.shipment.now = (bytes_eq-Decides k.shipment c.args.shipment.now).0 (found_says (is_shipment c.args.shipment.now) p.advices k c.in-Some.ensures) in
+    c.in_ok-changes.ensures.exact ∙ ap (λ (s : List ℕ). advice_changes s p (put c.in_ok-changes.changes.items p) ++ Sent (p.entries + 1) Receipt ∷ []) key

@@ -1,7 +1,7 @@
 use Rattle.std.proofs.Common.{arith}
 use Rattle.stock.specs.Told.{amount}
 use Rattle.stock.specs.Columns.{column_of}
-use Rattle.stock.proofs.Tells.{added_at, amount_here, distinct_placed}
+use Rattle.stock.proofs.Tells.{added_at, amount_here}
 use Rattle.stock.proofs.rows.add_line.Goals as goal
 
 pub add-requires : goal.add-requires
@@ -13,7 +13,7 @@ add-requires c =
       c.quantity.ensures,
       placed.amounts (column_of c.args.column) c.args.line.now.item c.args.line.now.lot,
       amount_here (amount (column_of c.args.column)) c.args.line.now.item c.args.line.now.lot c.placed.new.rows.items c.in_ok-i.i c.index_mut-row.result.now
-          (distinct_placed c.args.rows.now.items c.placed.new.rows.items c.args.line.now c.in_ok-i.i placed c.requires.distinct) placed.place c.index_mut-row.ensures.value,
+          placed.sorted placed.place c.index_mut-row.ensures.value,
     )
 
 pub returns : goal.returns

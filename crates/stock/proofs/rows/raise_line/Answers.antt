@@ -11,15 +11,15 @@ add-requires c =
       arith,
       c.requires.fits,
       c.quantity.ensures,
-      amount_here (amount (column_of c.args.column)) c.args.line.now.item c.args.line.now.lot c.args.rows.now.items c.in-Some.i c.index_mut-row.result.now c.requires.distinct
+      amount_here (amount (column_of c.args.column)) c.args.line.now.item c.args.line.now.lot c.args.rows.now.items c.in-Some.i c.index_mut-row.result.now c.requires.sorted
           (rw (c.deref.ensures.value, c.item.ensures, c.lot.ensures) at c.in-Some.ensures) c.index_mut-row.ensures.value,
     )
 
 pub returns-in-Some : goal.returns-in-Some
 returns-in-Some c = rw (c.add.ensures, c.quantity.ensures)
-    (raised_at (column_of c.args.column) c.args.line.now c.args.rows.now.items c.in-Some.i c.index_mut-row.result.now
+    (raised_at (column_of c.args.column) c.args.line.now c.args.rows.now.items c.in-Some.i c.index_mut-row.result.now c.requires.sorted
     (rw (c.deref.ensures.value, c.item.ensures, c.lot.ensures) at c.in-Some.ensures) c.index_mut-row.ensures.value)
 
 pub returns-in_default : goal.returns-in_default
-returns-in_default c = raised_none (column_of c.args.column) c.args.line.now c.args.rows.now.items
+returns-in_default c = raised_none (column_of c.args.column) c.args.line.now c.args.rows.now.items c.requires.sorted
     (c.requires.there (rw (c.deref.ensures.value, c.item.ensures, c.lot.ensures) at c.in_default.ensures))

@@ -10,17 +10,17 @@ take-requires c =
       arith,
       c.requires.there,
       c.quantity.ensures,
-      amount_here (amount (column_of c.args.column)) c.args.line.now.item c.args.line.now.lot c.args.rows.now.items c.in-Some.i c.index_mut-row.result.now c.requires.distinct (rw (c.deref.ensures.value, c.item.ensures, c.lot.ensures) at c.in-Some.ensures) c.index_mut-row.ensures.value,
+      amount_here (amount (column_of c.args.column)) c.args.line.now.item c.args.line.now.lot c.args.rows.now.items c.in-Some.i c.index_mut-row.result.now c.requires.sorted (rw (c.deref.ensures.value, c.item.ensures, c.lot.ensures) at c.in-Some.ensures) c.index_mut-row.ensures.value,
     ))
 
 pub returns-in-Some : goal.returns-in-Some
 returns-in-Some c = rw (c.take.ensures, c.quantity.ensures)
-    (taken_at (column_of c.args.column) c.args.line.now c.args.rows.now.items c.in-Some.i c.index_mut-row.result.now (rw (c.deref.ensures.value, c.item.ensures, c.lot.ensures) at c.in-Some.ensures) c.index_mut-row.ensures.value
+    (taken_at (column_of c.args.column) c.args.line.now c.args.rows.now.items c.in-Some.i c.index_mut-row.result.now c.requires.sorted (rw (c.deref.ensures.value, c.item.ensures, c.lot.ensures) at c.in-Some.ensures) c.index_mut-row.ensures.value
     (omega (
       arith,
       c.requires.there,
-      amount_here (amount (column_of c.args.column)) c.args.line.now.item c.args.line.now.lot c.args.rows.now.items c.in-Some.i c.index_mut-row.result.now c.requires.distinct (rw (c.deref.ensures.value, c.item.ensures, c.lot.ensures) at c.in-Some.ensures) c.index_mut-row.ensures.value,
+      amount_here (amount (column_of c.args.column)) c.args.line.now.item c.args.line.now.lot c.args.rows.now.items c.in-Some.i c.index_mut-row.result.now c.requires.sorted (rw (c.deref.ensures.value, c.item.ensures, c.lot.ensures) at c.in-Some.ensures) c.index_mut-row.ensures.value,
     )))
 
 pub returns-in_default : goal.returns-in_default
-returns-in_default c = taken_none _ _ _ (rw (c.deref.ensures.value, c.item.ensures, c.lot.ensures) at c.in_default.ensures) c.requires.there
+returns-in_default c = taken_none _ _ _ c.requires.sorted (rw (c.deref.ensures.value, c.item.ensures, c.lot.ensures) at c.in_default.ensures) c.requires.there

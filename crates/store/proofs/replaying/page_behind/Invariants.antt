@@ -1,11 +1,14 @@
-use Rattle.std.proofs.Common.{◌≡◌, take, is_some}
-use Rattle.std.specs.List.{list_any}
-use Rattle.profile.specs.Header.{who_eq}
+use Rattle.std.proofs.Common.{◌≡◌, ◌++◌, take, List}
+use Rattle.profile.specs.Accepted.{IsLegal}
+use Rattle.profile.specs.Decision.{standing}
+use Rattle.profile.specs.Register.{Entry, own}
 use Rattle.rules.specs.Decided.{IsHeldAtRest}
+use Rattle.store.specs.Held.{IsHeldFor}
+use Rattle.store.specs.Replayed.{all_written}
 use Rattle.store.proofs.replaying.page_behind.Given as goal
 
 abbrev pub invariant-loop-entry : goal.invariant-loop-entry
 invariant-loop-entry l = record {
-  page : is_some l.page ≡ list_any (λ w. who_eq w.who l.who) (take l.entry-index l.entries);
+  page : (L behind : List Entry) → l.entries ≡ all_written L → IsLegal l.warehouse (L ++ behind) → IsHeldFor l.page (standing (own (take l.entry-index L) l.who));
   rest : IsHeldAtRest l.page;
 }

@@ -1,34 +1,64 @@
-use Rattle.std.proofs.Common.{◌∙◌, List, arith, sym, refl, subst}
-use Rattle.store.specs.declared.serving.Reply.{Reply}
-use Rattle.store.specs.Runs.{behind_all}
-use Rattle.store.specs.Standing.{IsUsable}
-use Rattle.store.proofs.Registers.{usable_push, either_next}
-use Rattle.store.proofs.Changes.{clean_before, goes_trans, usable_stays}
+use Rattle.std.proofs.Common.{◌∙◌, List, arith, sym, refl, ap, subst, length, take, ◌++◌, ◌∷◌, []}
+use Rattle.profile.specs.Register.{Entry}
+use Rattle.profile.specs.Header.{Who}
+use Rattle.profile.specs.Accepted.{accepted_on, after, reply_to, IsLegal}
+use Rattle.profile.specs.Reply as replies
+use Rattle.store.specs.Runs.{all_asked, asked_at}
+use Rattle.store.specs.Standing.{IsUsable, LeavesEither}
+use Rattle.store.proofs.Changes.{clean_before, goes_trans, usable_stays, refused_after}
+use Rattle.store.proofs.Replies.{given_item, next_usable, next_left, next_told}
 use Rattle.store.proofs.serving.run.Goals as goal
 
 pub returns-in-Err-clause-left : goal.returns-in-Err-clause-left
-returns-in-Err-clause-left g c = λ clean L u open'.
+returns-in-Err-clause-left g c = λ clean L u given open'.
     let i = c.loop-command.invariant in
+    let old = g.K.Keeper.standing c.args.keeper.now in
     let now = g.K.Keeper.standing c.loop-command.keeper in
     let new = g.K.Keeper.standing c.answer_next.new.keeper in
     let early = clean_before now new c.answer_next.ensures.goes clean in
     let same = c.in-Err.ensures.fault.clean (open' ∙ sym u.opened ∙ i.shut) in
-    subst (λ (answers : List Reply). IsUsable new (behind_all L c.args.commands.now answers)) (sym c.in-Err.ensures.no_more) (usable_stays now new same clean _ (i.usable early L u))
+    let count = ap length c.in-Err.ensures.no_more ∙ i.count in
+    subst (λ n. IsUsable new (accepted_on old.warehouse L (take n (all_asked c.args.commands.now)))) (sym count)
+    (usable_stays now new same clean _ (i.usable early L u given))
 
 pub returns-in-Err-clause-broken : goal.returns-in-Err-clause-broken
-returns-in-Err-clause-broken g c = λ clean L u shut.
+returns-in-Err-clause-broken g c = λ clean L u given shut.
     let i = c.loop-command.invariant in
+    let old = g.K.Keeper.standing c.args.keeper.now in
     let now = g.K.Keeper.standing c.loop-command.keeper in
     let new = g.K.Keeper.standing c.answer_next.new.keeper in
     let early = clean_before now new c.answer_next.ensures.goes clean in
-    let kept = c.in-Err.ensures.no_more in
-    let either = c.in-Err.ensures.left clean _ (i.usable early L u) in
-    (refl, λ next at. either_next new L _ _ _ _ _ _ next i.count c.loop-command-item.is kept at either)
+    let count = ap length c.in-Err.ensures.no_more ∙ i.count in
+    let cs = c.args.commands.now in
+    let lt = c.loop-command-test.true in
+    let is = c.loop-command-item.is in
+    let u1 = i.usable early L u given in
+    let either = c.in-Err.ensures.left clean _ u1 (given_item cs _ _ given lt is) in
+    (refl, next_left new now.warehouse old.warehouse L cs _ _ _ lt is i.goes.warehouse count either)
+
+pub returns-in-Err-clause-fault : goal.returns-in-Err-clause-fault
+returns-in-Err-clause-fault g c =
+    let i = c.loop-command.invariant in
+    let f = c.in-Err.ensures.fault in
+    let old = g.K.Keeper.standing c.args.keeper.now in
+    let now = g.K.Keeper.standing c.loop-command.keeper in
+    let new = g.K.Keeper.standing c.answer_next.new.keeper in
+    record {
+      grew = λ was is. refused_after old now new i.goes (f.broken (sym i.shut ∙ was) is);
+      store = λ h. refused_after old now new i.goes (f.why.store h);
+      reopen = λ h. i.shut ∙ f.why.reopen h;
+      not_this = λ h given clean L u.
+          f.why.not_this h clean _ (i.usable (clean_before now new c.answer_next.ensures.goes clean) L u given).keeps;
+      device = f.why.device;
+    }
 
 pub loop-command-preserved : goal.loop-command-preserved
 loop-command-preserved g c =
     let i = c.loop-command.invariant in
     let e = c.in_default.ensures in
+    let cs = c.args.commands.now in
+    let lt = c.loop-command-test.true in
+    let is = c.loop-command-item.is in
     let old = g.K.Keeper.standing c.args.keeper.now in
     let now = g.K.Keeper.standing c.loop-command.keeper in
     let new = g.K.Keeper.standing c.answer_next.new.keeper in
@@ -36,7 +66,11 @@ loop-command-preserved g c =
       count = omega (arith, e.more, i.count);
       goes = goes_trans old now new i.goes e.goes;
       shut = i.shut ∙ e.opened;
-      usable = λ clean L u.
-          let h = e.ok clean _ (i.usable (clean_before now new e.goes clean) L u) in
-          usable_push new L _ _ _ _ _ _ c.loop-command-test.true i.count c.loop-command-item.is h.0 h.1 h.2;
+      usable = λ clean L u given.
+          next_usable new now.warehouse old.warehouse L cs _ _ lt is i.goes.warehouse
+          (e.ok clean _ (i.usable (clean_before now new e.goes clean) L u given) (given_item cs _ _ given lt is));
+      told = λ clean L u given.
+          let early = clean_before now new e.goes clean in
+          let u1 = i.usable early L u given in
+          next_told _ _ now.warehouse old.warehouse L cs _ _ lt is i.goes.warehouse (i.told early L u given) (e.reply clean _ u1.keeps u1.legal);
     }

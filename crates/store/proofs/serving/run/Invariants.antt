@@ -1,6 +1,8 @@
-use Rattle.std.proofs.Common.{◌≡◌, List, length}
-use Rattle.rules.specs.Written.{Written}
-use Rattle.store.specs.Runs.{behind_all}
+use Rattle.std.proofs.Common.{◌≡◌, List, length, map, take, true}
+use Rattle.std.specs.List.{list_all}
+use Rattle.profile.specs.Register.{Entry}
+use Rattle.profile.specs.Accepted.{accepted_on, replies_on}
+use Rattle.store.specs.Runs.{told, all_asked, can_be_given}
 use Rattle.store.specs.Standing.{IsUsable, GoesOn}
 use Rattle.store.proofs.serving.run.Given as goal
 
@@ -12,5 +14,8 @@ invariant-loop-command g l =
       count : length l.replies.items ≡ l.command-index;
       goes : GoesOn old now;
       shut : old.shut ≡ now.shut;
-      usable : now.doubt ≡ 0 → (L : List Written) → IsUsable old L → IsUsable now (behind_all L l.commands l.replies.items);
+      usable : now.doubt ≡ 0 → (L : List Entry) → IsUsable old L → can_be_given l.commands ≡ true
+          → IsUsable now (accepted_on old.warehouse L (take l.command-index (all_asked l.commands)));
+      told : now.doubt ≡ 0 → (L : List Entry) → IsUsable old L → can_be_given l.commands ≡ true
+          → map told l.replies.items ≡ replies_on old.warehouse L (take l.command-index (all_asked l.commands));
     }

@@ -1,7 +1,9 @@
 use Rattle.std.proofs.Common.{◌∙◌, ap, sym}
-use Rattle.stock.specs.Pages.{advice_at, is_shipment}
+use Rattle.stock.specs.Pages.{PageFacts, advice_at, is_shipment}
 use Rattle.stock.proofs.Finds.{find_at}
 use Rattle.stock.proofs.page.Page.advice.Goals as goal
 
 pub returns-in-Some : goal.returns-in-Some
-returns-in-Some c = ap (advice_at c.args.shipment.now) (sym c.advices-advices.ensures) ∙ find_at (is_shipment c.args.shipment.now) _ c.in-Some.i _ c.in-Some.ensures c.index-advices-i.is
+returns-in-Some c =
+    ap (λ (p : PageFacts). advice_at c.args.shipment.now p.advices) (sym c.self.view_is)
+    ∙ find_at (is_shipment c.args.shipment.now) c.self.inside.advices.items c.in-Some.i c.index.result.now (rw c.deref.ensures.value at c.in-Some.ensures) c.index.ensures

@@ -5,7 +5,7 @@ use Rattle.stock.proofs.PageLemmas.{on_hand_shown}
 use Rattle.stock.proofs.page.Page.on_hand.Goals as goal
 
 pub amount_of-requires : goal.amount_of-requires
-amount_of-requires c = rw c.rows-rows.ensures.rows c.rows-rows.ensures.sound.distinct
+amount_of-requires c = rw c.rows-rows.ensures.rows c.rows-rows.ensures.sound.sorted.rows
 
 pub returns-clause-told : goal.returns-clause-told
 returns-clause-told c = c.amount_of.ensures ∙ ap (told (amount OnHand) c.args.item.now c.args.lot.now) c.rows-rows.ensures.rows

@@ -1,7 +1,9 @@
 use Rattle.std.proofs.Common.{◌∙◌, ap, sym}
-use Rattle.stock.specs.Pages.{order_at, is_number}
+use Rattle.stock.specs.Pages.{PageFacts, order_at, is_number}
 use Rattle.stock.proofs.Finds.{find_at}
 use Rattle.stock.proofs.page.Page.order.Goals as goal
 
 pub returns-in-Some : goal.returns-in-Some
-returns-in-Some c = ap (order_at c.args.number.now) (sym c.orders-orders.ensures) ∙ find_at (is_number c.args.number.now) _ c.in-Some.i _ c.in-Some.ensures c.index-orders-i.is
+returns-in-Some c =
+    ap (λ (p : PageFacts). order_at c.args.number.now p.orders) (sym c.self.view_is)
+    ∙ find_at (is_number c.args.number.now) c.self.inside.orders.items c.in-Some.i c.index.result.now (rw c.deref.ensures.value at c.in-Some.ensures) c.index.ensures

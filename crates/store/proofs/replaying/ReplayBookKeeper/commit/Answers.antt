@@ -1,18 +1,21 @@
-use Rattle.std.proofs.Common.{sym, ap, refl, ◌≡◌, ◌∙◌, ◌++◌, ◌∷◌, [], map, List}
-use Rattle.std.proofs.lemmas.List.{map-append}
-use Rattle.rules.specs.Written.{Written, unnumbered}
-use Rattle.store.specs.Replayed.{Replayed}
+use Rattle.std.proofs.Common.{subst, sym, ap, refl, ◌≡◌, ◌∙◌, ◌++◌, ◌∷◌, [], List}
+use Rattle.profile.specs.Accepted.{IsLegal}
+use Rattle.rules.specs.Written.{Written, written}
+use Rattle.store.specs.Replayed.{Replayed, all_written}
+use Rattle.store.proofs.Entries.{written_more, one_register}
 use Rattle.store.proofs.replaying.ReplayBookKeeper.commit.Goals as goal
 
 pub returns-clause-ok : goal.returns-clause-ok
-returns-clause-ok c = λ clean L u.
-    let view = ap (λ (b : Replayed). map unnumbered b.entries) c.self.view_is in
-    let same : L ++ unnumbered c.args.entry.now ∷ [] ≡ map unnumbered c.append.new.entries.items =
-    ap (λ (M : List Written). M ++ unnumbered c.args.entry.now ∷ []) (u.keeps ∙ sym view)
-    ∙ sym (map-append unnumbered _ _) ∙ sym (ap (map unnumbered) c.in_ok-append.ensures.ok) in
+returns-clause-ok c = λ clean L e u next.
+    let view = ap (λ (b : Replayed). b.entries) c.self.view_is in
+    let house = ap (λ (b : Replayed). b.warehouse) c.self.view_is in
+    let same : c.append.new.entries.items ≡ all_written (L ++ e ∷ []) =
+    c.in_ok-append.ensures.ok ∙ ap (λ (ws : List Written). ws ++ c.args.entry.now ∷ []) (view ∙ u.keeps)
+    ∙ ap (λ (w : Written). all_written L ++ w ∷ []) next.entry ∙ sym (written_more [] L e) in
     record {
       opened = refl;
+      legal = subst (λ W. IsLegal W (L ++ e ∷ [])) (sym house) next.legal;
       keeps = same;
       stand = tt;
-      only = λ M h. h ∙ sym same;
+      only = λ M h. one_register c.self.inside.warehouse c.args.self.now.warehouse M (L ++ e ∷ []) h.1 next.legal (sym h.0 ∙ same);
     }

@@ -1,12 +1,12 @@
-use Rattle.std.proofs.Common.{sym, ap, ◌∙◌, map}
-use Rattle.std.specs.List.{list_any}
-use Rattle.profile.specs.Header.{who_eq}
-use Rattle.rules.specs.Written.{unnumbered}
+use Rattle.std.proofs.Common.{append-nil, sym, ap, ◌∙◌, ◌++◌, [], subst, List}
+use Rattle.profile.specs.Accepted.{IsLegal}
+use Rattle.profile.specs.Register.{Entry}
 use Rattle.store.specs.Replayed.{Replayed}
-use Rattle.store.proofs.Registers.{any-unnumbered}
 use Rattle.store.proofs.replaying.ReplayBookKeeper.load.Goals as goal
 
 pub returns-clause-page : goal.returns-clause-page
-returns-clause-page c = λ clean L keeps.
-    let view = ap (λ (b : Replayed). map unnumbered b.entries) c.self.view_is in
-    c.in_ok-page_behind.ensures.page ∙ rw c.deref.ensures.value (sym (any-unnumbered c.args.who _)) ∙ ap (list_any (λ w. who_eq w.who c.args.who)) (view ∙ sym keeps)
+returns-clause-page c = λ clean L keeps legal.
+    let view = ap (λ (b : Replayed). b.entries) c.self.view_is in
+    let house = ap (λ (b : Replayed). b.warehouse) c.self.view_is in
+    c.in_ok-page_behind.ensures.page L [] (c.deref.ensures.value ∙ view ∙ keeps)
+    (subst (λ W. IsLegal W (L ++ [])) (sym house) (subst (IsLegal c.args.self.now.warehouse) (sym (append-nil L)) legal))

@@ -1,0 +1,69 @@
+-- The changes of accepted commands lead from the page of a history to that of one entry more.
+use Rattle.std.proofs.Common.{◌≡◌, ℕ, ◌+◌, List, [], ◌∷◌, ◌++◌, Option, Some, None, Ok, false, sym, ap, subst}
+use Rattle.std.specs.Prelude.{Result, is_some}
+use Rattle.std.specs.Borrow.{Bor}
+use Rattle.profile.specs.Moments.{Moment}
+use Rattle.profile.specs.Header.{Who, delims_of}
+use Rattle.profile.specs.Cut.{cut}
+use Rattle.profile.specs.Structure.{groups_of}
+use Rattle.profile.specs.Events.{Event}
+use Rattle.profile.specs.Refusals.{Refusal}
+use Rattle.profile.specs.Clerk.{performed}
+use Rattle.profile.specs.History.{History, events_added, after_entry}
+use Rattle.profile.specs.Texts.{Told}
+use Rattle.profile.specs.Register.{Act, Command, Received, Performed}
+use Rattle.profile.specs.Reply.{interchange_entry, clerk_entry}
+use Rattle.stock.specs.declared.steps.Change.{Change}
+use Rattle.stock.specs.Pages.{PageFacts, next_entry}
+use Rattle.stock.specs.Puts.{put}
+use Rattle.stock.specs.Shows.{Shows}
+use Rattle.stock.proofs.PageLemmas.{next_shows}
+use Rattle.rules.specs.Judging.{AreGroupsTaken, IsLed}
+use Rattle.rules.specs.Decided.{IsPageOf, IsNoEntry, LeadsOn, LeadsFrom, ChangesNothing, led_to}
+use Rattle.rules.specs.declared.decisions.Decision.{Decision}
+use Rattle.rules.specs.declared.decisions.Decision.TheVariants.{Stored, Refused, Accepted}
+use Rattle.rules.proofs.Plays.{added_of}
+
+pub interchange_leads : (text : List ℕ) (t : Moment) (p new : PageFacts) (told : List Told) (cs : List Change) (h : History)
+    → AreGroupsTaken (delims_of text) (groups_of ((cut (delims_of text) text).segments)) p new told → IsLed cs p new → IsPageOf p h
+    → IsPageOf (led_to cs p) (after_entry h (interchange_entry text t))
+interchange_leads text t p new told cs h taken led of =
+    let events = h.events ++ events_added h.events (h.numbered + 1) (Received text) in
+    let there : Shows new events = subst (λ (k : ℕ). Shows new (h.events ++ events_added h.events (k + 1) (Received text))) of.entries (taken.shows h.events of.shows) in
+    let same : next_entry new ≡ led_to cs p = ap next_entry led in
+    record {
+      shows = subst (λ (q : PageFacts). Shows q events) same (next_shows new events there);
+      entries = ap (λ n. n + 1) of.entries;
+    }
+
+pub act_leads : (w : Who) (ticket : List ℕ) (act : Act) (t : Moment) (p : PageFacts) (cs : List Change) (h : History)
+    → ((es : List Event) → Shows p es → (e : Event) × (performed es (p.entries + 1) act ≡ Ok e) × Shows (put cs p) (es ++ e ∷ [])) → IsPageOf p h
+    → IsPageOf (led_to cs p) (after_entry h (clerk_entry w ticket act t))
+act_leads w ticket act t p cs h steps of =
+    let found = steps h.events of.shows in
+    let here : performed h.events (h.numbered + 1) act ≡ Ok found.0 = subst (λ (k : ℕ). performed h.events (k + 1) act ≡ Ok found.0) of.entries found.1 in
+    let there : Shows (put cs p) (h.events ++ events_added h.events (h.numbered + 1) (Performed ticket act)) =
+    subst (λ (o : Result Event Refusal). Shows (put cs p) (h.events ++ added_of o)) (sym here) found.2 in
+    record {
+      shows = next_shows (put cs p) (h.events ++ events_added h.events (h.numbered + 1) (Performed ticket act)) there;
+      entries = ap (λ n. n + 1) of.entries;
+    }
+
+-- what makes no entry leads nowhere
+pub nowhere : (p : PageFacts) (c : Command) (t : Moment) (d : Decision) → IsNoEntry d → LeadsOn p c t d
+nowhere p c t (Stored text) h = tt
+nowhere p c t (Refused r text) h = tt
+nowhere p c t (Accepted e changes text) h = absurd h
+
+pub nowhere_from : (held : Option (Bor PageFacts)) (c : Command) (t : Moment) (d : Decision) → IsNoEntry d → LeadsFrom held c t d
+nowhere_from None c t (Stored text) h = tt
+nowhere_from None c t (Refused r text) h = tt
+nowhere_from None c t (Accepted e changes text) h = absurd h
+nowhere_from (Some p) c t d h = nowhere p.now c t d h
+
+pub from_page : (held : Option (Bor PageFacts)) (p : Bor PageFacts) (c : Command) (t : Moment) (d : Decision) → held ≡ Some p → LeadsOn p.now c t d → LeadsFrom held c t d
+from_page held p c t d is leads = subst (λ (o : Option (Bor PageFacts)). LeadsFrom o c t d) (sym is) leads
+
+pub from_none : (held : Option (Bor PageFacts)) (c : Command) (t : Moment) (d : Decision) → is_some held ≡ false → ChangesNothing d → LeadsFrom held c t d
+from_none None c t d is none = none
+from_none (Some p) c t d is none = absurd (cc (is))

@@ -1,0 +1,24 @@
+use Rattle.std.proofs.Common.{◌++◌, ◌∷◌, [], ap, sym, subst}
+use Rattle.std.proofs.lemmas.Result.{IfOk-weaker}
+use Rattle.stock.specs.Pages.{PageFacts}
+use Rattle.stock.specs.Shows.{Shows}
+use Rattle.rules.specs.Asked.{act_of}
+use Rattle.rules.proofs.Plays.{done_played, stopped_played}
+use Rattle.rules.proofs.replays.done.Goals as goal
+
+pub returns-in-Ok-clause-entries : goal.returns-in-Ok-clause-entries
+returns-in-Ok-clause-entries c = IfOk-weaker c.stepped.result _ _ (λ r done. ap (λ (p : PageFacts). p.entries) done.0) c.stepped.ensures
+
+pub returns-in-Ok-clause-played : goal.returns-in-Ok-clause-played
+returns-in-Ok-clause-played c = IfOk-weaker c.stepped.result _ _ (λ r done h ticket of is.
+    let e = c.args.envelope in
+    let p = c.args.page in
+    done_played e.warehouse e.depositor e.moment e.number ticket (act_of c.args.act.now) p r.page r.outgoing.items h
+    (λ es shows. let f = c.in-Ok.ensures.ok es shows in (f.0, f.1, subst (λ (q : PageFacts). Shows q (es ++ f.0 ∷ [])) (sym done.0) f.2))
+    (ap (λ (q : PageFacts). q.entries) done.0) done.1 of is) c.stepped.ensures
+
+pub returns-in-Err-clause-played : goal.returns-in-Err-clause-played
+returns-in-Err-clause-played c = IfOk-weaker c.stopped.result _ _ (λ r stopped h ticket of is.
+    let e = c.args.envelope in
+    let refused = stopped.2 _ (c.in-Err.ensures.err h.events of.shows) in
+    stopped_played e.warehouse e.depositor e.moment ticket (act_of c.args.act.now) c.args.page r.page r.outgoing.items h refused.0 refused.1 stopped.0 stopped.1 of) c.stopped.ensures

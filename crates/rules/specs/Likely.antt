@@ -1,0 +1,53 @@
+-- The act that a text looks like: what is written of it again may be another text.
+use Rattle.std.specs.Prelude.{ℕ, not, List, [], ◌∷◌, codes, bytes_eq, filter_map, Option, Some, None, Result, Ok, Err, option_and_then}
+use Rattle.profile.specs.Limits.{most_number}
+use Rattle.profile.specs.Bytes.{is_identifier}
+use Rattle.profile.specs.Lists.{first_of}
+use Rattle.profile.specs.Means.{Line}
+use Rattle.profile.specs.Register.{Act}
+use Rattle.profile.specs.Refusals.{Refusal}
+use Rattle.profile.specs.Clerk.{RawLine, raw_line, sheet_of}
+use Rattle.profile.specs.Readings.{parts_at}
+use Rattle.sheets.specs.Kinds.{kind_of}
+use Rattle.sheets.specs.declared.kinds.SheetKind.{SheetKind}
+use Rattle.sheets.specs.declared.kinds.SheetKind.TheVariants.{Count, Pick, Recount}
+use Rattle.rules.specs.Asked.{by_kind}
+
+-- what was done, and to what
+pub record Head : Type 0 where
+  pub kind : SheetKind
+  pub number : List ℕ
+
+-- by a word and a number
+abbrev pub named_head : List ℕ → List ℕ → Option Head
+named_head word number = first_of None
+    ((not (is_identifier 1 most_number number), None)
+    ∷ (bytes_eq word (codes "count"), Some (record { kind = Count; number = number }))
+    ∷ (bytes_eq word (codes "pick"), Some (record { kind = Pick; number = number }))
+    ∷ [])
+
+-- by the words of the first line
+abbrev pub head_in : List (List ℕ) → Option Head
+head_in (word ∷ number ∷ []) = named_head word number
+head_in (word ∷ []) = Some (record { kind = Recount; number = [] })
+head_in words = None
+
+-- the line that the text between two LF is, as it was read
+abbrev pub record_in : List ℕ → Option RawLine
+record_in text = raw_line (parts_at 44 text)
+
+abbrev pub with_sheet : Head → Result (List Line) Refusal → Option Act
+with_sheet h (Ok sheet) = Some (by_kind h.kind h.number sheet)
+with_sheet h (Err r) = None
+
+-- the act of a head and of lines, where they make a sheet
+abbrev pub act_from : List RawLine → Head → Option Act
+act_from lines h = with_sheet h (sheet_of (kind_of h.kind) lines)
+
+abbrev pub act_among : List (List ℕ) → Option Act
+act_among [] = None
+act_among (head ∷ lines) = option_and_then (act_from (filter_map record_in lines)) (head_in (parts_at 32 head))
+
+-- the act that a text looks like
+abbrev pub likely_act : List ℕ → Option Act
+likely_act text = act_among (parts_at 10 text)

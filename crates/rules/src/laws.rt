@@ -1,0 +1,51 @@
+//! Laws of replies and of registers: nothing runs, each contract is a law.
+ghost use Rattle.std.specs.Prelude.{◌≡◌, ◌++◌, ◌∷◌, ℕ, List, Some};
+ghost use Rattle.profile.specs.Accepted.{IsLegal, after, depositor_of, own_of, reply_to};
+ghost use Rattle.profile.specs.Header.{Who, isa};
+ghost use Rattle.profile.specs.Moments.{Moment};
+ghost use Rattle.profile.specs.Register.{Act, Clerk, Command, Entry, Interchange, Known, Performed, Received, interchange_mark, known, own, ticket_mark};
+ghost use Rattle.profile.specs.Reply.{Stored, stored};
+ghost use Rattle.profile.specs.Events.{Event};
+ghost use Rattle.profile.specs.Rows.{running_rows};
+ghost use Rattle.stock.specs.Pages.{PageFacts, IsSound};
+ghost use Rattle.stock.specs.Shows.{Shows};
+ghost use Rattle.stock.specs.Puts.{put};
+ghost use Rattle.stock.specs.declared.steps.Change.{Change};
+ghost use Rattle.rules.specs.Played.{CanFollow};
+ghost use Rattle.rules.specs.Tabled.{stock_part, stock_puts, with_rows};
+
+/// The reply to a command looks at the own entries of the depositor that it names, and at no other's.
+pub fn replies_look_at_own_entries()
+    ensures { (W : Who) (K L : List Entry) (c : Command) (t : Moment) → ((d : Who) → depositor_of c ≡ Some d → own K d ≡ own L d)
+        → reply_to W K c t ≡ reply_to W L c t }
+{}
+
+/// An interchange that is known with the same bytes is answered with the text that went out for it, and nothing comes of it.
+pub fn a_known_interchange_is_answered_again()
+    ensures { (W : Who) (L : List Entry) (text : List ℕ) (t : Moment) (k : Known) → known (interchange_mark (isa text 13)) (own_of L (Interchange text)) ≡ Some k
+        → k.entry.deed ≡ Received text
+        → (reply_to W L (Interchange text) t ≡ Stored (stored W k)) × (after W L (Interchange text, t) ≡ L) }
+{}
+
+/// An act that is known under its ticket is answered with its document, and nothing comes of it.
+pub fn a_known_act_is_answered_again()
+    ensures { (W : Who) (L : List Entry) (w : Who) (ticket : List ℕ) (act : Act) (t : Moment) (k : Known) → known (ticket_mark ticket) (own L w) ≡ Some k
+        → k.entry.deed ≡ Performed ticket act
+        → (reply_to W L (Clerk w ticket act) t ≡ Stored (stored W k)) × (after W L (Clerk w ticket act, t) ≡ L) }
+{}
+
+/// Each entry of a legal register can be replayed behind those of its depositor that stand before it.
+pub fn legal_entries_can_be_replayed()
+    ensures { (W : Who) (L before : List Entry) (e : Entry) (behind : List Entry) → IsLegal W L → L ≡ before ++ e ∷ behind → CanFollow (own before e.who) e }
+{}
+
+/// The rows of a page are those that the definitions give for the events that it stands for, by item and lot bytes.
+pub fn rows_are_the_running_rows()
+    ensures { (p : PageFacts) (es : List Event) → IsSound p → Shows p es → p.rows ≡ running_rows es }
+{}
+
+/// The rows of pairs among the changes of an event lead from a depositor's rows of the table `stock` to those of one event more.
+pub fn changed_rows_lead_on_in_the_table()
+    ensures { (w : Who) (p : PageFacts) (es fs : List Event) (cs : List Change) → IsSound p → Shows p es → IsSound (put cs p) → Shows (put cs p) fs
+        → with_rows (stock_part w (running_rows es)) (stock_puts w cs) ≡ stock_part w (running_rows fs) }
+{}

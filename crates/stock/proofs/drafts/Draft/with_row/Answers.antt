@@ -1,0 +1,12 @@
+use Rattle.std.proofs.Common.{ap, ◌∙◌}
+use Rattle.stock.specs.Keyed.{rises_by, key_before, row_key}
+use Rattle.stock.proofs.KeyLemmas.{put_sorted}
+use Rattle.stock.proofs.drafts.Draft.with_row.Goals as goal
+
+pub invariant_of-result : goal.invariant_of-result
+invariant_of-result c = record {
+  rows = ap (rises_by key_before row_key) c.in_ok-put_row.ensures ∙ put_sorted c.args.row c.self.inside.rows.items c.self.invariant.rows;
+  advices = c.self.invariant.advices;
+  orders = c.self.invariant.orders;
+  documents = c.self.invariant.documents;
+}

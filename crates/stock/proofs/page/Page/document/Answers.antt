@@ -1,0 +1,9 @@
+use Rattle.std.proofs.Common.{◌∙◌, ap, sym}
+use Rattle.stock.specs.Pages.{PageFacts, document_at, is_document}
+use Rattle.stock.proofs.Finds.{find_at}
+use Rattle.stock.proofs.page.Page.document.Goals as goal
+
+pub returns-in-Some : goal.returns-in-Some
+returns-in-Some c =
+    ap (λ (p : PageFacts). document_at c.args.n p.documents) (sym c.self.view_is)
+    ∙ find_at (is_document c.args.n) c.self.inside.documents.items c.in-Some.i c.index.result.now (rw c.deref.ensures.value at c.in-Some.ensures) c.index.ensures

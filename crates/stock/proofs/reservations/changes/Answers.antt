@@ -1,0 +1,63 @@
+use Rattle.std.proofs.Common.{◌≡◌, ◌∙◌, ◌∷◌, [], ◌++◌, map, arith, sym, subst}
+use Rattle.profile.specs.Movements.{Reservation}
+use Rattle.profile.specs.Page.{reserved_lines}
+use Rattle.stock.specs.declared.steps.Change.TheVariants as change
+use Rattle.stock.specs.Moved.{IsAdded}
+use Rattle.stock.specs.Steps.{opened_order}
+use Rattle.stock.specs.Told.{amount, changed_rows}
+use Rattle.stock.specs.Touched.{IsTouched}
+use Rattle.stock.proofs.Allots.{IsAllotted, allotted}
+use Rattle.stock.proofs.Leads.{touched_less}
+use Rattle.stock.proofs.Reserves.{reserved_fits, reserved_sound}
+use Rattle.stock.proofs.Steppings.{reserved_put}
+use Rattle.stock.proofs.reservations.changes.Goals as goal
+
+pub add_lines-requires-clause-fits : goal.add_lines-requires-clause-fits
+add_lines-requires-clause-fits c =
+    let p = c.args.page.now in
+    let o = c.args.order.now in
+    let shares = c.args.shares.now in
+    let t0 = c.in_ok-touched.touched.items in
+    let lines : c.deref.result.now ≡ reserved_lines shares = cc (c.in_ok-lines.ensures, c.deref.ensures.value) in
+    let lines2 : c.deref-2.result.now ≡ reserved_lines shares = cc (c.in_ok-lines.ensures, c.deref-2.ensures.value) in
+    let touched : IsTouched (reserved_lines shares) p.rows t0 = rw (lines, c.rows-rows.ensures.rows) at c.in_ok-touched.ensures in
+    let facts : IsAllotted p.rows shares = subst (IsAllotted p.rows) (sym c.requires.allotted) (allotted p.rows o.lines c.rows-rows.ensures.sound.distinct c.requires.once) in
+    rw lines2 (λ x y. omega (arith, touched_less (reserved_lines shares) p.rows t0 touched (amount Reservation) x y, reserved_fits p shares facts c.rows-rows.ensures.sound x y))
+
+pub returns-clause-made : goal.returns-clause-made
+returns-clause-made c =
+    let p = c.args.page.now in
+    let o = c.args.order.now in
+    let shares = c.args.shares.now in
+    let t0 = c.in_ok-touched.touched.items in
+    let lines : c.deref.result.now ≡ reserved_lines shares = cc (c.in_ok-lines.ensures, c.deref.ensures.value) in
+    let lines2 : c.deref-2.result.now ≡ reserved_lines shares = cc (c.in_ok-lines.ensures, c.deref-2.ensures.value) in
+    let touched : IsTouched (reserved_lines shares) p.rows t0 = rw (lines, c.rows-rows.ensures.rows) at c.in_ok-touched.ensures in
+    let t1 = c.add_lines.new.rows.items in
+    let moved : IsAdded Reservation (reserved_lines shares) t0 t1 = rw lines2 at c.in_ok-add_lines.ensures in
+    let changed : c.in_ok-changes.changes.items ≡ map change.Stock (changed_rows p.rows t1) = rw (c.rows-rows.ensures.rows, c.deref-3.ensures.value) at c.in_ok-changes.ensures in
+    let pushed : c.push.new.self.items ≡ map change.Stock (changed_rows p.rows t1) ++ change.Order (opened_order o shares) ∷ [] =
+    c.in_ok-push.ensures.items ∙ (λ i. changed i ++ change.Order (c.in_ok-opened.ensures i) ∷ []) in
+    rw pushed (reserved_put o shares p t0 t1 c.rows-rows.ensures.sound.sorted.rows touched moved).made
+
+pub returns-clause-exact : goal.returns-clause-exact
+returns-clause-exact c =
+    let p = c.args.page.now in
+    let o = c.args.order.now in
+    let shares = c.args.shares.now in
+    let t0 = c.in_ok-touched.touched.items in
+    let lines : c.deref.result.now ≡ reserved_lines shares = cc (c.in_ok-lines.ensures, c.deref.ensures.value) in
+    let lines2 : c.deref-2.result.now ≡ reserved_lines shares = cc (c.in_ok-lines.ensures, c.deref-2.ensures.value) in
+    let touched : IsTouched (reserved_lines shares) p.rows t0 = rw (lines, c.rows-rows.ensures.rows) at c.in_ok-touched.ensures in
+    let t1 = c.add_lines.new.rows.items in
+    let moved : IsAdded Reservation (reserved_lines shares) t0 t1 = rw lines2 at c.in_ok-add_lines.ensures in
+    let changed : c.in_ok-changes.changes.items ≡ map change.Stock (changed_rows p.rows t1) = rw (c.rows-rows.ensures.rows, c.deref-3.ensures.value) at c.in_ok-changes.ensures in
+    let pushed : c.push.new.self.items ≡ map change.Stock (changed_rows p.rows t1) ++ change.Order (opened_order o shares) ∷ [] =
+    c.in_ok-push.ensures.items ∙ (λ i. changed i ++ change.Order (c.in_ok-opened.ensures i) ∷ []) in
+    rw pushed (reserved_put o shares p t0 t1 c.rows-rows.ensures.sound.sorted.rows touched moved).exact
+
+pub returns-clause-sound : goal.returns-clause-sound
+returns-clause-sound c =
+    let p = c.args.page.now in
+    let facts : IsAllotted p.rows c.args.shares.now = subst (IsAllotted p.rows) (sym c.requires.allotted) (allotted p.rows c.args.order.now.lines c.rows-rows.ensures.sound.distinct c.requires.once) in
+    reserved_sound c.args.order.now c.args.shares.now p _ (returns-clause-made c) facts c.requires.unknown c.requires.room c.rows-rows.ensures.sound

@@ -1,0 +1,7 @@
+use Rattle.std.proofs.Common.{◌∙◌, ap, set}
+use Rattle.stock.proofs.KeyLemmas.{said_set}
+use Rattle.stock.proofs.searches.put_said.Goals as goal
+
+pub returns-in-Some : goal.returns-in-Some
+returns-in-Some c = ap (set c.args.documents.now.items c.in-Some.i) c.keep.ensures
+    ∙ said_set c.args.n c.in-Some.i c.args.accepts c.index_mut-document.result.now c.args.documents.now.items c.requires (rw c.deref.ensures.value at c.in-Some.ensures) c.index_mut-document.ensures.value

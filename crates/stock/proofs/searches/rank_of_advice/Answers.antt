@@ -1,0 +1,13 @@
+use Rattle.std.proofs.Common.{rules}
+use Rattle.std.proofs.lemmas.List.Sorted.{IsPartitionPoint-from_clause}
+use Rattle.profile.specs.Bytes.{comes_before}
+use Rattle.stock.specs.Keyed.{shipment_of}
+use Rattle.stock.proofs.Keys.{parted, ranked}
+use Rattle.stock.proofs.KeyLemmas.{texts_strict}
+use Rattle.stock.proofs.searches.rank_of_advice.Goals as goal
+
+pub returns : goal.returns
+returns c =
+    ranked comes_before texts_strict shipment_of c.args.advices.now c.args.shipment.now _ c.partition_point.ensures.bound
+    (IsPartitionPoint-from_clause (λ r. comes_before (shipment_of r) c.args.shipment.now) c.args.advices.now _ c.partition_point.ensures.partitioned (parted comes_before texts_strict shipment_of c.args.advices.now c.args.shipment.now c.requires)
+    (λ a r f called. search rules))

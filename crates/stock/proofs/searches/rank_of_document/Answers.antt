@@ -1,0 +1,13 @@
+use Rattle.std.proofs.Common.{rules}
+use Rattle.std.proofs.lemmas.List.Sorted.{IsPartitionPoint-from_clause}
+use Rattle.std.specs.Prelude.{nat_lt}
+use Rattle.stock.specs.Keyed.{entry_of}
+use Rattle.stock.proofs.Keys.{parted, ranked}
+use Rattle.stock.proofs.KeyLemmas.{numbers_strict}
+use Rattle.stock.proofs.searches.rank_of_document.Goals as goal
+
+pub returns : goal.returns
+returns c =
+    ranked nat_lt numbers_strict entry_of c.args.documents.now c.args.n _ c.partition_point.ensures.bound
+    (IsPartitionPoint-from_clause (λ r. nat_lt (entry_of r) c.args.n) c.args.documents.now _ c.partition_point.ensures.partitioned (parted nat_lt numbers_strict entry_of c.args.documents.now c.args.n c.requires)
+    (λ a r f called. search rules))

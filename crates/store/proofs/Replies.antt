@@ -1,0 +1,358 @@
+-- Replies and the registers that they leave.
+use Rattle.std.proofs.Common.{◌≡◌, ℕ, Bool, true, false, not, ◌&&◌, List, [], ◌∷◌, ◌++◌, length, refl, sym, ap, ◌∙◌, subst, arith, Option, Some, None, option_map, Result, Ok, Err, bytes_eq, take, get_or, suc, zero, ◌<◌, ◌+◌}
+use Rattle.std.specs.Prelude.{◌==◌, if◌then◌else◌, nat_lt}
+use Rattle.std.specs.List.{list_all}
+use Rattle.std.specs.Cmp.Derive.{both_true}
+use Rattle.std.proofs.lemmas.List.Folds.{list_all-append}
+use Rattle.std.proofs.lemmas.Bool.{eqb-true}
+use Rattle.profile.specs.Moments.{Moment, is_moment}
+use Rattle.profile.specs.Header.{Who, is_partner, sender, is_unreadable}
+use Rattle.profile.specs.Register.{Act, Command, Interchange, Enrol, Clerk, Entry, Deed, Enrolled, Received, Performed, Known, known, own, command_mark, ticket_mark, next_number, is_numbered, mark, canonical}
+use Rattle.profile.specs.Refusals.{Refusal, NumbersUsedUp, AlreadyEnrolled, TicketUsed, UnknownDepositor}
+use Rattle.profile.specs.Halt.{Halt, Refuses, Repeats, halt}
+use Rattle.profile.specs.Clerk.{performed}
+use Rattle.profile.specs.Events.{Event}
+use Rattle.profile.specs.History.{history, events}
+use Rattle.profile.specs.Reply.{Reply, Accepted, Stored, Refused, reply, accepted, accepted_act, out, numbers_used_up, reply_to_halt, interchange_entry, clerk_entry, by_ticket, known_ticket, enrol_reply, stored}
+use Rattle.profile.specs.Accepted.{depositor_of, subject, own_of, reply_to, is_accepted, entry_of, after, accepted_on, replies_on, is_command, IsLegal}
+use Rattle.std.specs.Borrow.{Bor}
+use Rattle.std.specs.Prelude.{option_copied}
+use Rattle.profile.specs.Decision as meant
+use Rattle.profile.specs.Decision.{recalled, standing, reply_by}
+use Rattle.profile.proofs.DecisionLaws.{reply-by}
+use Rattle.stock.specs.Pages.{PageFacts}
+use Rattle.rules.specs.Decided.{StandsFor, IsRecalled, IsGiven, IsReply, entries_of, IsPageOf}
+use Rattle.rules.specs.Written.{Recalled}
+use Rattle.rules.specs.declared.decisions.Decision.{Decision}
+use Rattle.profile.specs.History.{History}
+use Rattle.store.specs.Held.{IsHeldFor, IsDecided}
+use Rattle.store.specs.Standing.{Standing, IsNext, IsUsable, LeavesEither}
+use Rattle.store.specs.Runs.{all_asked, asked_at, can_be_given}
+use Rattle.rules.specs.Asked.{asked}
+use Rattle.rules.specs.declared.commands.Command.{Command as Asking}
+use Rattle.profile.specs.Tables.{number_of}
+use Rattle.profile.proofs.TextLaws.{text_is, both_parts}
+use Rattle.profile.proofs.RegisterLaws.{of_a_stranger}
+use Rattle.profile.proofs.HistoryLaws.{history-numbered}
+use Rattle.rules.specs.Decided.{number_behind, IsUnder}
+use Rattle.rules.specs.Written.{Written, written, written_as}
+
+-- Whose entries a command looks at.
+
+pub owner_none : (L : List Entry) (c : Command) → subject c ≡ None → own_of L c ≡ []
+owner_none L c h = by_depositor (depositor_of c) refl h
+  where
+    by_depositor : (o : Option Who) → depositor_of c ≡ o → subject c ≡ None → own_of L c ≡ []
+    by_depositor None e h = rw e refl
+    by_depositor (Some w) e h = let k : subject c ≡ Some (w, command_mark c) = rw e refl in absurd (cc)
+
+pub unnamed : (L : List Entry) (c : Command) → depositor_of c ≡ None → own_of L c ≡ []
+unnamed L c h = rw h refl
+
+pub none_named : (c : Command) → subject c ≡ None → depositor_of c ≡ None
+none_named c h = by_depositor (depositor_of c) refl h
+  where
+    by_depositor : (o : Option Who) → depositor_of c ≡ o → subject c ≡ None → depositor_of c ≡ None
+    by_depositor None e h = e
+    by_depositor (Some w) e h = let k : subject c ≡ Some (w, command_mark c) = rw e refl in absurd (cc)
+
+abbrev first_of_some : Option (Who × List ℕ) → Who → Who
+first_of_some None d = d
+first_of_some (Some p) d = p.0
+
+abbrev second_of_some : Option (Who × List ℕ) → List ℕ
+second_of_some None = []
+second_of_some (Some p) = p.1
+
+pub owner_some : (L : List Entry) (c : Command) (who : Who) (key : List ℕ) → subject c ≡ Some (who, key) → own_of L c ≡ own L who
+owner_some L c who key h = by_depositor (depositor_of c) refl h
+  where
+    by_depositor : (o : Option Who) → depositor_of c ≡ o → subject c ≡ Some (who, key) → own_of L c ≡ own L who
+    by_depositor None e h = let k : subject c ≡ None = rw e refl in absurd (cc)
+    by_depositor (Some w) e h =
+        let k : subject c ≡ Some (w, command_mark c) = rw e refl in
+        let same : w ≡ who = ap (λ o. first_of_some o who) (sym k ∙ h) in
+        rw e (ap (own L) same)
+
+pub named_key : (c : Command) (who : Who) (key : List ℕ) → subject c ≡ Some (who, key) → command_mark c ≡ key
+named_key c who key h = by_depositor (depositor_of c) refl h
+  where
+    by_depositor : (o : Option Who) → depositor_of c ≡ o → subject c ≡ Some (who, key) → command_mark c ≡ key
+    by_depositor None e h = let k : subject c ≡ None = rw e refl in absurd (cc)
+    by_depositor (Some w) e h =
+        let k : subject c ≡ Some (w, command_mark c) = rw e refl in
+        ap second_of_some (sym k ∙ h)
+
+-- Accepted commands.
+
+-- the depositor of an accepted interchange is its sender
+pub accepted_owner : (W : Who) (L : List Entry) (c : Command) (t : Moment) → is_accepted (reply_to W L c t) ≡ true → own_of L c ≡ own L (entry_of c t).who
+accepted_owner W L (Interchange text) t h = by_test (not (is_unreadable text) && is_partner (sender text)) refl
+  where
+    by_test : (b : Bool) → (not (is_unreadable text) && is_partner (sender text)) ≡ b → own_of L (Interchange text) ≡ own L (sender text)
+    by_test true e = rw e refl
+    by_test false e =
+        let alone : is_accepted (reply_to W L (Interchange text) t) ≡ false = rw e (of_a_stranger W text t) in
+        absurd (cc)
+accepted_owner W L (Enrol w) t h = refl
+accepted_owner W L (Clerk w ticket act) t h = refl
+
+number_is : (L : List Entry) (c : Command) (t : Moment) → number_of L (entry_of c t) ≡ number_behind ((history (own L (entry_of c t).who)).numbered) c
+number_is L (Interchange text) t = sym (history-numbered (own L (sender text)))
+number_is L (Enrol w) t = refl
+number_is L (Clerk w ticket act) t = sym (history-numbered (own L w))
+
+-- the entry of an accepted command as it is written down
+pub accepted_entry : (W : Who) (L : List Entry) (c : Command) (t : Moment) → is_accepted (reply_to W L c t) ≡ true
+    → written_as (number_behind ((history (own_of L c)).numbered) c) (entry_of c t) ≡ written L (entry_of c t)
+accepted_entry W L c t h =
+    ap (λ M. written_as (number_behind ((history M).numbered) c) (entry_of c t)) (accepted_owner W L c t h)
+    ∙ ap (λ n. written_as n (entry_of c t)) (sym (number_is L c t))
+
+-- the text of a reply
+abbrev text_in : Reply → List ℕ
+text_in (Accepted text) = text
+text_in (Stored text) = text
+text_in (Refused r text) = text
+
+accepted_out : (W : Who) (M : List Entry) (e : Entry) (text : List ℕ) → accepted W M e ≡ Accepted text → text ≡ out W M e
+accepted_out W M e text h = by_test (numbers_used_up M) refl
+  where
+    by_test : (b : Bool) → numbers_used_up M ≡ b → text ≡ out W M e
+    by_test true u = let k : accepted W M e ≡ Refused NumbersUsedUp [] = rw u refl in absurd (cc)
+    by_test false u = let k : accepted W M e ≡ Accepted (out W M e) = rw u refl in ap text_in (sym h ∙ k)
+
+halted_out : (W : Who) (M : List Entry) (text : List ℕ) (t : Moment) (o : Option Halt) (answer : List ℕ)
+    → reply_to_halt W M text t o ≡ Accepted answer → answer ≡ out W M (interchange_entry text t)
+halted_out W M text t None answer h = accepted_out W M (interchange_entry text t) answer h
+halted_out W M text t (Some (Repeats k)) answer h = absurd (cc)
+halted_out W M text t (Some (Refuses r)) answer h = absurd (cc)
+
+enrolled_out : (M : List Entry) (text : List ℕ) → enrol_reply M ≡ Accepted text → text ≡ []
+enrolled_out M text h = by_test (length M == 0) refl
+  where
+    by_test : (b : Bool) → (length M == 0) ≡ b → text ≡ []
+    by_test true u = let k : enrol_reply M ≡ Accepted [] = rw u refl in ap text_in (sym h ∙ k)
+    by_test false u = let k : enrol_reply M ≡ Refused AlreadyEnrolled [] = rw u refl in absurd (cc)
+
+performed_out : (W : Who) (M : List Entry) (e : Entry) (o : Result Event Refusal) (text : List ℕ) → accepted_act W M e o ≡ Accepted text → text ≡ out W M e
+performed_out W M e (Ok event) text h = accepted_out W M e text h
+performed_out W M e (Err r) text h = absurd (cc)
+
+known_out : (W : Who) (act : Act) (before : List Entry) (w : Who) (t : Moment) (d : Deed) (text : List ℕ)
+    → known_ticket W act (record { before = before; entry = record { who = w; moment = t; deed = d } }) ≡ Accepted text → ⊥
+known_out W act before w t Enrolled text h = absurd (cc)
+known_out W act before w t (Received bytes) text h = absurd (cc)
+known_out W act before w t (Performed ticket done) text h = by_test (bytes_eq (canonical done) (canonical act)) refl
+  where
+    by_test : (b : Bool) → bytes_eq (canonical done) (canonical act) ≡ b → ⊥
+    by_test true u =
+        let k : known_ticket W act (record { before = before; entry = record { who = w; moment = t; deed = Performed ticket done } })
+        ≡ Stored (stored W (record { before = before; entry = record { who = w; moment = t; deed = Performed ticket done } })) = rw u refl in absurd (cc)
+    by_test false u =
+        let k : known_ticket W act (record { before = before; entry = record { who = w; moment = t; deed = Performed ticket done } }) ≡ Refused TicketUsed [] = rw u refl in absurd (cc)
+
+ticket_out : (W : Who) (M : List Entry) (w : Who) (ticket : List ℕ) (act : Act) (t : Moment) (o : Option Known) (text : List ℕ)
+    → by_ticket W M w ticket act t o ≡ Accepted text → text ≡ out W M (clerk_entry w ticket act t)
+ticket_out W M w ticket act t (Some k) text h = absurd (known_out W act k.before k.entry.who k.entry.moment k.entry.deed text h)
+ticket_out W M w ticket act t None text h = performed_out W M (clerk_entry w ticket act t) (performed (events M) (next_number M) act) text h
+
+-- the answer to an accepted command is what goes out for its entry
+pub accepted_text : (W : Who) (M : List Entry) (c : Command) (t : Moment) (text : List ℕ) → reply W M c t ≡ Accepted text → text ≡ out W M (entry_of c t)
+accepted_text W M (Interchange bytes) t text h = halted_out W M bytes t (halt W M bytes) text h
+accepted_text W M (Enrol w) t text h = enrolled_out M text h
+accepted_text W M (Clerk w ticket act) t text h = by_test (length M == 0) refl
+  where
+    by_test : (b : Bool) → (length M == 0) ≡ b → text ≡ out W M (clerk_entry w ticket act t)
+    by_test true u = let k : reply W M (Clerk w ticket act) t ≡ Refused UnknownDepositor [] = rw u refl in absurd (cc)
+    by_test false u =
+        let k : reply W M (Clerk w ticket act) t ≡ by_ticket W M w ticket act t (known (ticket_mark ticket) M) = rw u refl in
+        ticket_out W M w ticket act t (known (ticket_mark ticket) M) text (sym k ∙ h)
+
+-- Registers.
+
+pub after_accepted : (W : Who) (L : List Entry) (c : Command) (t : Moment) → is_accepted (reply_to W L c t) ≡ true → after W L (c, t) ≡ L ++ entry_of c t ∷ []
+after_accepted W L c t h = rw h refl
+
+pub after_other : (W : Who) (L : List Entry) (c : Command) (t : Moment) → is_accepted (reply_to W L c t) ≡ false → after W L (c, t) ≡ L
+after_other W L c t h = rw h refl
+
+pub accepted_on-more : (W : Who) (L : List Entry) (cs : List (Command × Moment)) (c : Command × Moment)
+    → accepted_on W L (cs ++ c ∷ []) ≡ after W (accepted_on W L cs) c
+accepted_on-more W L [] c = refl
+accepted_on-more W L (d ∷ cs) c = accepted_on-more W (after W L d) cs c
+
+pub replies_on-more : (W : Who) (L : List Entry) (cs : List (Command × Moment)) (c : Command × Moment)
+    → replies_on W L (cs ++ c ∷ []) ≡ replies_on W L cs ++ reply_to W (accepted_on W L cs) c.0 c.1 ∷ []
+replies_on-more W L [] c = refl
+replies_on-more W L (d ∷ cs) c = ap (λ rs. reply_to W L d.0 d.1 ∷ rs) (replies_on-more W (after W L d) cs c)
+
+-- a register stays legal
+pub legal_after : (W : Who) (L : List Entry) (c : Command) (t : Moment) → (is_command c && is_moment t) ≡ true → IsLegal W L → IsLegal W (after W L (c, t))
+legal_after W L c t given l = record {
+  commands = l.commands ++ (c, t) ∷ [];
+  of_a_partner = l.of_a_partner;
+  can_be_given =
+      list_all-append (λ (d : Command × Moment). is_command d.0 && is_moment d.1) l.commands ((c, t) ∷ [])
+      ∙ both_true l.can_be_given (both_true given refl);
+  left = ap (λ (M : List Entry). after W M (c, t)) l.left ∙ sym (accepted_on-more W [] l.commands (c, t));
+}
+
+-- What is recalled under a key is known under it.
+
+abbrev IsFound : List ℕ → Option Known → Type 0
+IsFound key None = Unit {0}
+IsFound key (Some k) = mark k.entry ≡ key
+
+found_later : (key : List ℕ) (e : Entry) (o : Option Known) → IsFound key o → IsFound key (option_map (λ (k : Known). record { before = e ∷ k.before; entry = k.entry }) o)
+found_later key e None h = tt
+found_later key e (Some k) h = h
+
+found : (key : List ℕ) (M : List Entry) → IsFound key (known key M)
+found key [] = tt
+found key (e ∷ M) = by_test (bytes_eq (mark e) key) refl (found key M)
+  where
+    by_test : (b : Bool) → bytes_eq (mark e) key ≡ b → IsFound key (known key M) → IsFound key (known key (e ∷ M))
+    by_test true h later = rw h (text_is (mark e) key h)
+    by_test false h later = rw h (found_later key e (known key M) later)
+
+recalled_found : (W : Who) (key : List ℕ) (o : Option Known) → IsFound key o → IsUnder key (option_map (λ (k : Known). record { entry = k.entry; outgoing = stored W k }) o)
+recalled_found W key None h = tt
+recalled_found W key (Some k) h = h
+
+pub recalled_under : (W : Who) (key : List ℕ) (M : List Entry) → IsUnder key (recalled W key M)
+recalled_under W key M = recalled_found W key (known key M) (found key M)
+
+-- The decision that a page and what is recalled lead to.
+
+pub stands_from : (b : Option (Bor PageFacts)) (o : Option History) → IsHeldFor (option_copied b) o → StandsFor b o
+stands_from None None h = tt
+stands_from None (Some x) h = h
+stands_from (Some p) None h = h
+stands_from (Some p) (Some x) h = h
+
+-- the history of a depositor that has none is empty
+numbers_none : (M : List Entry) → (length M == 0) ≡ true → 0 ≡ (history M).numbered
+numbers_none [] h = refl
+numbers_none (e ∷ M) h = absurd (omega (arith, eqb-true (length (e ∷ M)) 0 h))
+
+numbered_by : (b : Option (Bor PageFacts)) (M : List Entry) (l : Bool) → (length M == 0) ≡ l → StandsFor b (if l then None else Some (history M)) → entries_of b ≡ (history M).numbered
+numbered_by None M true e h = numbers_none M e
+numbered_by None M false e h = absurd h
+numbered_by (Some p) M true e h = absurd h
+numbered_by (Some p) M false e h = h.entries
+
+numbered_is : (b : Option (Bor PageFacts)) (M : List Entry) → StandsFor b (standing M) → entries_of b ≡ (history M).numbered
+numbered_is b M h = numbered_by b M (length M == 0) refl h
+
+pub decided : (W : Who) (L : List Entry) (c : Command) (t : Moment) (d : Decision) (b : Option (Bor PageFacts)) (r : Option Recalled)
+    → IsHeldFor (option_copied b) (standing (own_of L c)) → IsRecalled r (recalled W (command_mark c) (own_of L c))
+    → ((h : Option History) (k : Option meant.Recalled) → IsGiven b r c h k → IsReply (entries_of b) c t (reply_by W h k c t) d)
+    → IsDecided W L c t d
+decided W L c t d b r page there decides =
+    let M = own_of L c in
+    let stands = stands_from b (standing M) page in
+    let given : IsGiven b r c (standing M) (recalled W (command_mark c) M) = record {
+      page = stands;
+      known = there;
+      under = recalled_under W (command_mark c) M;
+      stranger = λ none. ap standing (unnamed L c none);
+    } in
+    let replied = decides (standing M) (recalled W (command_mark c) M) given in
+    subst (λ n. IsReply n c t (reply_to W L c t) d) (numbered_is b M stands)
+    (subst (λ a. IsReply (entries_of b) c t a d) (sym (reply-by W M c t)) replied)
+
+-- what is recalled of the same entries, under the same key, in the same house
+pub recalled_at : {V W : Who} {k key : List ℕ} {M N : List Entry} (r : Option Recalled) → V ≡ W → key ≡ k → N ≡ M
+    → IsRecalled r (recalled V k M) → IsRecalled r (recalled W key N)
+recalled_at {V} {W} {k} {key} {M} {N} r house same whose h =
+    subst (λ X. IsRecalled r (recalled X key N)) house
+    (subst (λ x. IsRecalled r (recalled V x N)) (sym same) (subst (λ X. IsRecalled r (recalled V k X)) (sym whose) h))
+
+-- What is appended for an accepted command.
+
+accepted_is : (W : Who) (L : List Entry) (c : Command) (t : Moment) (text : List ℕ) → reply_to W L c t ≡ Accepted text → is_accepted (reply_to W L c t) ≡ true
+accepted_is W L c t text h = ap is_accepted h
+
+pub next_is : (W : Who) (L : List Entry) (c : Command) (t : Moment) (row : Written) (text : List ℕ) → IsLegal W L → (is_command c && is_moment t) ≡ true
+    → reply_to W L c t ≡ Accepted text → row ≡ written_as (number_behind ((history (own_of L c)).numbered) c) (entry_of c t) → IsNext W L (entry_of c t) row text
+next_is W L c t row text legal given accepts is =
+    let taken = accepted_is W L c t text accepts in
+    record {
+      entry = is ∙ accepted_entry W L c t taken;
+      legal = subst (IsLegal W) (after_accepted W L c t taken) (legal_after W L c t given legal);
+      outgoing = accepted_text W (own_of L c) c t text accepts ∙ ap (λ M. out W M (entry_of c t)) (accepted_owner W L c t taken);
+    }
+
+-- the register behind a command that was answered so
+pub behind_accepted : (W : Who) (L : List Entry) (c : Command) (t : Moment) (text : List ℕ) → reply_to W L c t ≡ Accepted text → L ++ entry_of c t ∷ [] ≡ after W L (c, t)
+behind_accepted W L c t text h = sym (after_accepted W L c t (accepted_is W L c t text h))
+
+pub behind_stored : (W : Who) (L : List Entry) (c : Command) (t : Moment) (text : List ℕ) → reply_to W L c t ≡ Stored text → L ≡ after W L (c, t)
+behind_stored W L c t text h = sym (after_other W L c t (ap is_accepted h))
+
+pub behind_refused : (W : Who) (L : List Entry) (c : Command) (t : Moment) (r : Refusal) (text : List ℕ) → reply_to W L c t ≡ Refused r text → L ≡ after W L (c, t)
+behind_refused W L c t r text h = sym (after_other W L c t (ap is_accepted h))
+
+pub next_at : {V W : Who} {L : List Entry} {e : Entry} {row : Written} {text said : List ℕ} → V ≡ W → text ≡ said → IsNext V L e row text → IsNext W L e row said
+next_at {V} {W} {L} {e} {row} {text} {said} house same h = subst (λ X. IsNext X L e row said) house (subst (λ x. IsNext V L e row x) same h)
+
+-- Commands in a list.
+
+given_at : (cs : List (Asking × Moment)) (i : ℕ) (d : Asking × Moment) → can_be_given cs ≡ true → i < length cs → is_command (asked (get_or cs i d).0) ≡ true
+given_at [] i d given lt = absurd (omega (arith, lt))
+given_at (c ∷ cs) zero d given lt = (both_parts (is_command (asked c.0)) (can_be_given cs) given).0
+given_at (c ∷ cs) (suc i) d given lt = given_at cs i d (both_parts (is_command (asked c.0)) (can_be_given cs) given).1 (omega (arith, lt))
+
+asked_suc : (cs : List (Asking × Moment)) (i : ℕ) (d : Asking × Moment) → i < length cs
+    → take (suc i) (all_asked cs) ≡ take i (all_asked cs) ++ asked_at (get_or cs i d) ∷ []
+asked_suc [] i d lt = absurd (omega (arith, lt))
+asked_suc (c ∷ cs) zero d lt = refl
+asked_suc (c ∷ cs) (suc i) d lt = ap (λ xs. asked_at c ∷ xs) (asked_suc cs i d (omega (arith, lt)))
+
+asked_more : (cs : List (Asking × Moment)) (i : ℕ) (d : Asking × Moment) → i < length cs
+    → take (i + 1) (all_asked cs) ≡ take i (all_asked cs) ++ asked_at (get_or cs i d) ∷ []
+asked_more cs i d lt = let one : i + 1 ≡ suc i = omega arith in ap (λ n. take n (all_asked cs)) one ∙ asked_suc cs i d lt
+
+-- the register and the replies behind one command more
+accepted_more : (W : Who) (L : List Entry) (cs : List (Asking × Moment)) (i : ℕ) (d : Asking × Moment) → i < length cs
+    → after W (accepted_on W L (take i (all_asked cs))) (asked_at (get_or cs i d)) ≡ accepted_on W L (take (i + 1) (all_asked cs))
+accepted_more W L cs i d lt = sym (ap (accepted_on W L) (asked_more cs i d lt) ∙ accepted_on-more W L (take i (all_asked cs)) (asked_at (get_or cs i d)))
+
+replies_more : (W : Who) (L : List Entry) (cs : List (Asking × Moment)) (i : ℕ) (d : Asking × Moment) → i < length cs
+    → replies_on W L (take i (all_asked cs)) ++ reply_to W (accepted_on W L (take i (all_asked cs))) (asked (get_or cs i d).0) ((get_or cs i d).1) ∷ []
+    ≡ replies_on W L (take (i + 1) (all_asked cs))
+replies_more W L cs i d lt = sym (ap (replies_on W L) (asked_more cs i d lt) ∙ replies_on-more W L (take i (all_asked cs)) (asked_at (get_or cs i d)))
+
+-- what one command more leaves, where another call names the house
+moved : (V W : Who) (L : List Entry) (cs : List (Asking × Moment)) (i : ℕ) (item : Asking × Moment) → i < length cs → item ≡ get_or cs i item → V ≡ W
+    → after V (accepted_on W L (take i (all_asked cs))) (asked_at item) ≡ accepted_on W L (take (i + 1) (all_asked cs))
+moved V W L cs i item lt is house =
+    ap (λ U. after U (accepted_on W L (take i (all_asked cs))) (asked_at item)) house
+    ∙ ap (λ x. after W (accepted_on W L (take i (all_asked cs))) (asked_at x)) is
+    ∙ accepted_more W L cs i item lt
+
+pub next_usable : (s : Standing) (V W : Who) (L : List Entry) (cs : List (Asking × Moment)) (i : ℕ) (item : Asking × Moment) → i < length cs → item ≡ get_or cs i item → V ≡ W
+    → IsUsable s (after V (accepted_on W L (take i (all_asked cs))) (asked_at item)) → IsUsable s (accepted_on W L (take (i + 1) (all_asked cs)))
+next_usable s V W L cs i item lt is house h =
+    subst (IsUsable s) (moved V W L cs i item lt is house) h
+
+pub next_left : (s : Standing) (V W : Who) (L : List Entry) (cs : List (Asking × Moment)) (i n : ℕ) (item : Asking × Moment) → i < length cs → item ≡ get_or cs i item → V ≡ W → n ≡ i
+    → LeavesEither s (accepted_on W L (take i (all_asked cs))) (after V (accepted_on W L (take i (all_asked cs))) (asked_at item))
+    → LeavesEither s (accepted_on W L (take n (all_asked cs))) (accepted_on W L (take (n + 1) (all_asked cs)))
+next_left s V W L cs i n item lt is house count h =
+    subst (λ m. LeavesEither s (accepted_on W L (take m (all_asked cs))) (accepted_on W L (take (m + 1) (all_asked cs)))) (sym count)
+    (subst (λ M. LeavesEither s (accepted_on W L (take i (all_asked cs))) M) (moved V W L cs i item lt is house) h)
+
+pub next_told : (old new : List Reply) (V W : Who) (L : List Entry) (cs : List (Asking × Moment)) (i : ℕ) (item : Asking × Moment) → i < length cs → item ≡ get_or cs i item → V ≡ W
+    → old ≡ replies_on W L (take i (all_asked cs))
+    → new ≡ old ++ reply_to V (accepted_on W L (take i (all_asked cs))) (asked item.0) (item.1) ∷ []
+    → new ≡ replies_on W L (take (i + 1) (all_asked cs))
+next_told old new V W L cs i item lt is house before h =
+    h ∙ ap (λ rs. rs ++ reply_to V (accepted_on W L (take i (all_asked cs))) (asked item.0) (item.1) ∷ []) before
+    ∙ ap (λ U. replies_on W L (take i (all_asked cs)) ++ reply_to U (accepted_on W L (take i (all_asked cs))) (asked item.0) (item.1) ∷ []) house
+    ∙ ap (λ (x : Asking × Moment). replies_on W L (take i (all_asked cs)) ++ reply_to W (accepted_on W L (take i (all_asked cs))) (asked x.0) (x.1) ∷ []) is
+    ∙ replies_more W L cs i item lt
+
+pub given_item : (cs : List (Asking × Moment)) (i : ℕ) (item : Asking × Moment) → can_be_given cs ≡ true → i < length cs → item ≡ get_or cs i item → is_command (asked item.0) ≡ true
+given_item cs i item given lt is = ap (λ (x : Asking × Moment). is_command (asked x.0)) is ∙ given_at cs i item given lt

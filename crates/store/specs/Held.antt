@@ -1,0 +1,21 @@
+-- The page that a book hands out, and the decision that it leads to.
+use Rattle.std.specs.Prelude.{List, Option, Some, None}
+use Rattle.profile.specs.History.{History, history}
+use Rattle.stock.specs.Pages.{PageFacts}
+use Rattle.profile.specs.Header.{Who}
+use Rattle.profile.specs.Moments.{Moment}
+use Rattle.profile.specs.Register.{Command, Entry}
+use Rattle.profile.specs.Accepted.{own_of, reply_to}
+use Rattle.rules.specs.Decided.{IsPageOf, IsReply}
+use Rattle.rules.specs.declared.decisions.Decision.{Decision}
+
+-- the page of a depositor with this history; a stranger has neither
+abbrev pub IsHeldFor : Option PageFacts → Option History → Type 0
+IsHeldFor None None = Unit {0}
+IsHeldFor None (Some h) = ⊥
+IsHeldFor (Some p) None = ⊥
+IsHeldFor (Some p) (Some h) = IsPageOf p h
+
+-- the decision that is the reply of a register
+abbrev pub IsDecided : Who → List Entry → Command → Moment → Decision → Type 0
+IsDecided W L c t d = IsReply ((history (own_of L c)).numbered) c t (reply_to W L c t) d

@@ -1,0 +1,42 @@
+-- Moments and numbers as the words of a line write them.
+use Rattle.std.specs.Prelude.{ℕ, ◌+◌, ◌*◌, Bool, ◌&&◌, List, length, take, drop, if◌then◌else◌, ◌==◌, Some, None, codes, bytes_eq, Option}
+use Rattle.std.specs.List.{list_all}
+use Rattle.profile.specs.Bytes.{is_between, is_digit, value}
+use Rattle.profile.specs.Limits.{most_entries}
+use Rattle.profile.specs.Moments.{Moment, is_moment}
+
+-- the two bytes at a place, and the one
+abbrev pub pair_at : ℕ → List ℕ → List ℕ
+pair_at i text = take 2 (drop i text)
+
+abbrev pub has_mark : ℕ → List ℕ → List ℕ → Bool
+has_mark i mark text = bytes_eq (take 1 (drop i text)) mark
+
+abbrev pub has_pair : ℕ → List ℕ → Bool
+has_pair i text = list_all is_digit (pair_at i text)
+
+-- YYYY-MM-DDTHH:MM
+abbrev pub is_form : List ℕ → Bool
+is_form text = length text == 16
+    && (has_pair 0 text && (has_pair 2 text
+    && (has_mark 4 (codes "-") text && (has_pair 5 text
+    && (has_mark 7 (codes "-") text && (has_pair 8 text
+    && (has_mark 10 (codes "T") text && (has_pair 11 text
+    && (has_mark 13 (codes ":") text && has_pair 14 text)))))))))
+
+abbrev pub moment_in : List ℕ → Moment
+moment_in text = record {
+  year = value (pair_at 0 text) * 100 + value (pair_at 2 text);
+  month = value (pair_at 5 text);
+  day = value (pair_at 8 text);
+  hour = value (pair_at 11 text);
+  minute = value (pair_at 14 text);
+}
+
+-- the moment that is written so, if one is
+abbrev pub moment_of : List ℕ → Option Moment
+moment_of text = if is_form text && is_moment (moment_in text) then Some (moment_in text) else None
+
+-- the number of an entry that is written so, in digits alone, with zeros in front or without, if one is
+abbrev pub number_of : List ℕ → Option ℕ
+number_of text = if list_all is_digit text && is_between 1 most_entries (value text) then Some (value text) else None

@@ -1,0 +1,47 @@
+//! Numbers as the words of a line write them.
+ghost use Rattle.std.specs.Prelude.{◌≡◌, ◌^◌, length, min, true};
+ghost use Rattle.std.specs.List.{list_all};
+ghost use Rattle.profile.specs.Bytes as bytes;
+ghost use Rattle.whx12.specs.Written as written;
+
+use profile::MOST_ENTRIES;
+
+/// Whether each byte is a digit.
+pub(crate) fn all_digits(text: &[u8]) -> bool
+    ensures { result ≡ list_all bytes.is_digit text.now }
+{
+    text.iter().all(|b| matches!(*b, b'0'..=b'9'))
+}
+
+/// The value of two digits.
+pub(crate) fn pair(text: &[u8]) -> u8
+    requires two { length text.now ≡ 2 }
+    requires digits { list_all bytes.is_digit text.now ≡ true }
+    ensures { result ≡ bytes.value text.now }
+{
+    (text[0] - b'0') * 10 + (text[1] - b'0')
+}
+
+// The value of digits, as far as a million, which no entry's number reaches.
+fn value(text: &[u8]) -> u32
+    ensures { result ≡ min (bytes.value text.now) (10 ^ 6) }
+{
+    let mut value: u32 = 0;
+    for b in text {
+        value = (value * 10 + u32::from(b.saturating_sub(b'0'))).min(1_000_000);
+    }
+    value
+}
+
+/// The number of an entry that the text writes: digits alone, with zeros in front or without; None where it is another text,
+/// or a number that no entry has.
+pub fn number_of(text: &[u8]) -> Option<u32>
+    ensures { result ≡ written.number_of text.now }
+{
+    let number = value(text);
+    if all_digits(text) && number >= 1 && number <= MOST_ENTRIES {
+        Some(number)
+    } else {
+        None
+    }
+}
