@@ -81,7 +81,7 @@ interchange_open W h k text t a = by_test (is_unreadable text) refl a
     by_test true e g = absurd (cc (g))
     by_test false e g = let o = known_open W h k text t g in (e, o.0, o.1)
 
-act_refused : (act : Act) (w : Who) (s : Moment) (d : Deed) (out : List ℕ) → is_accepted (known.act_again act (record { entry = record { who = w; moment = s; deed = d }; outgoing = out })) ≡ false
+pub act_refused : (act : Act) (w : Who) (s : Moment) (d : Deed) (out : List ℕ) → is_accepted (known.act_again act (record { entry = record { who = w; moment = s; deed = d }; outgoing = out })) ≡ false
 act_refused act w s Enrolled out = refl
 act_refused act w s (Received bytes) out = refl
 act_refused act w s (Performed ticket done) out = by_test (bytes_eq (canonical done) (canonical act))
@@ -125,7 +125,7 @@ standing_new M e = by_test (length M == 0) refl e
 by_little : (W : Who) (M : List Entry) (c : Command) (t : Moment) → is_accepted (reply W M c t) ≡ true → is_accepted (reply_by W (standing M) (recalled W (command_mark c) M) c t) ≡ true
 by_little W M c t a = ap is_accepted (sym (reply-by W M c t)) ∙ a
 
-own_sender : (L : List Entry) (text : List ℕ) → is_unreadable text ≡ false → is_partner (sender text) ≡ true → own_of L (Interchange text) ≡ own L (sender text)
+pub own_sender : (L : List Entry) (text : List ℕ) → is_unreadable text ≡ false → is_partner (sender text) ≡ true → own_of L (Interchange text) ≡ own L (sender text)
 own_sender L text readable partner = rw (readable, partner) refl
 
 pub can_follow : (W : Who) (L : List Entry) (c : Command) (t : Moment) → is_command c ≡ true → is_moment t ≡ true → is_accepted (reply_to W L c t) ≡ true

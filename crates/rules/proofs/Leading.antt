@@ -14,39 +14,48 @@ use Rattle.profile.specs.Texts.{Told}
 use Rattle.profile.specs.Register.{Act, Command, Received, Performed}
 use Rattle.profile.specs.Reply.{interchange_entry, clerk_entry}
 use Rattle.stock.specs.declared.steps.Change.{Change}
-use Rattle.stock.specs.Pages.{PageFacts, next_entry}
+use Rattle.stock.specs.Pages.{PageFacts, AreSorted, next_entry}
 use Rattle.stock.specs.Puts.{put}
 use Rattle.stock.specs.Shows.{Shows}
 use Rattle.stock.proofs.PageLemmas.{next_shows}
 use Rattle.rules.specs.Judging.{AreGroupsTaken, IsLed}
-use Rattle.rules.specs.Decided.{IsPageOf, IsNoEntry, LeadsOn, LeadsFrom, ChangesNothing, led_to}
+use Rattle.rules.specs.Proper.{AreProper}
+use Rattle.rules.specs.Decided.{IsPageOf, IsNoEntry, AreLeading, LeadsOn, LeadsFrom, ChangesNothing, led_to}
 use Rattle.rules.specs.declared.decisions.Decision.{Decision}
 use Rattle.rules.specs.declared.decisions.Decision.TheVariants.{Stored, Refused, Accepted}
 use Rattle.rules.proofs.Plays.{added_of}
 
 pub interchange_leads : (text : List ℕ) (t : Moment) (p new : PageFacts) (told : List Told) (cs : List Change) (h : History)
     → AreGroupsTaken (delims_of text) (groups_of ((cut (delims_of text) text).segments)) p new told → IsLed cs p new → IsPageOf p h
-    → IsPageOf (led_to cs p) (after_entry h (interchange_entry text t))
-interchange_leads text t p new told cs h taken led of =
+    → AreSorted p → AreLeading p cs (after_entry h (interchange_entry text t))
+interchange_leads text t p new told cs h taken led of sorted =
     let events = h.events ++ events_added h.events (h.numbered + 1) (Received text) in
     let there : Shows new events = subst (λ (k : ℕ). Shows new (h.events ++ events_added h.events (k + 1) (Received text))) of.entries (taken.shows h.events of.shows) in
-    let same : next_entry new ≡ led_to cs p = ap next_entry led in
+    let same : next_entry new ≡ led_to cs p = ap next_entry led.same in
     record {
-      shows = subst (λ (q : PageFacts). Shows q events) same (next_shows new events there);
-      entries = ap (λ n. n + 1) of.entries;
+      sorted = sorted;
+      page = record {
+        shows = subst (λ (q : PageFacts). Shows q events) same (next_shows new events there);
+        entries = ap (λ n. n + 1) of.entries;
+      };
+      proper = led.proper h.events of.shows;
     }
 
 pub act_leads : (w : Who) (ticket : List ℕ) (act : Act) (t : Moment) (p : PageFacts) (cs : List Change) (h : History)
-    → ((es : List Event) → Shows p es → (e : Event) × (performed es (p.entries + 1) act ≡ Ok e) × Shows (put cs p) (es ++ e ∷ [])) → IsPageOf p h
-    → IsPageOf (led_to cs p) (after_entry h (clerk_entry w ticket act t))
-act_leads w ticket act t p cs h steps of =
+    → ((es : List Event) → Shows p es → (e : Event) × (performed es (p.entries + 1) act ≡ Ok e) × Shows (put cs p) (es ++ e ∷ []) × AreProper p cs) → IsPageOf p h
+    → AreSorted p → AreLeading p cs (after_entry h (clerk_entry w ticket act t))
+act_leads w ticket act t p cs h steps of sorted =
     let found = steps h.events of.shows in
     let here : performed h.events (h.numbered + 1) act ≡ Ok found.0 = subst (λ (k : ℕ). performed h.events (k + 1) act ≡ Ok found.0) of.entries found.1 in
     let there : Shows (put cs p) (h.events ++ events_added h.events (h.numbered + 1) (Performed ticket act)) =
     subst (λ (o : Result Event Refusal). Shows (put cs p) (h.events ++ added_of o)) (sym here) found.2 in
     record {
-      shows = next_shows (put cs p) (h.events ++ events_added h.events (h.numbered + 1) (Performed ticket act)) there;
-      entries = ap (λ n. n + 1) of.entries;
+      sorted = sorted;
+      page = record {
+        shows = next_shows (put cs p) (h.events ++ events_added h.events (h.numbered + 1) (Performed ticket act)) there;
+        entries = ap (λ n. n + 1) of.entries;
+      };
+      proper = found.3;
     }
 
 -- what makes no entry leads nowhere

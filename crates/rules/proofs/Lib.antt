@@ -1,5 +1,6 @@
 pub mod Verdicts
 pub mod Judges
+pub mod Added
 pub mod Takes
 pub mod Loops
 pub mod Content
@@ -14,3 +15,19 @@ pub mod Rowed
 pub mod Led
 pub mod Leading
 pub mod Tables
+pub mod Registers
+pub mod SentUnder
+pub mod KeyedLists
+pub mod Once
+pub mod Paged
+pub mod Propers
+pub mod Blocks
+pub mod Portions
+pub mod TableSteps
+pub mod TableChanges
+pub mod Depositors
+pub mod SaidOf
+pub mod SentRows
+pub mod LeadsOn
+pub mod Defines
+pub mod RowsTabled

@@ -15,8 +15,8 @@ use Rattle.profile.proofs.TextLaws.{same_text}
 use Rattle.stock.specs.Told.{told, one, since, amount, is_row, named_by, positive, IsDistinct}
 use Rattle.stock.specs.Pages.{PageFacts, IsSound}
 use Rattle.stock.specs.Shows.{Shows}
-use Rattle.stock.specs.Keyed.{Pair, key_before, rises_by, row_key}
-use Rattle.stock.proofs.KeyLemmas.{pairs_strict}
+use Rattle.stock.specs.Keyed.{Pair, key_before, rises_by, row_key, IsSorted}
+use Rattle.stock.proofs.KeyLemmas.{pairs_strict, sorted_distinct}
 use Rattle.stock.proofs.Orders.{Has, Rises, in_order_rises, has_in_order, in_order_has, rising_same}
 use Rattle.stock.proofs.PageLaws.{balance_told}
 
@@ -190,13 +190,17 @@ some_named : (ls : List Line) (a : Pair) → list_any (is_pair a.0 a.1) ls ≡ t
 some_named ls a e = omega (arith, ap (λ (t : Bool). cond {A = ℕ} t 1 0) e)
 
 -- rows in order are the definition's
-pub rows_are : (p : PageFacts) (es : List Event) → IsSound p → Shows p es → p.rows ≡ running_rows es
-rows_are p es sound shows =
+pub rows_in_order : (p : PageFacts) (es : List Event) → IsSorted p.rows → Shows p es → p.rows ≡ running_rows es
+rows_in_order p es sorted shows =
+    let distinct = sorted_distinct p.rows sorted in
     let ls = flat_map named es in
     let keys : map row_key p.rows ≡ in_order key_before (map line_key ls) =
-    rising_same key_before pairs_strict (map row_key p.rows) (in_order key_before (map line_key ls)) (keys_rise p.rows sound.sorted.rows) (in_order_rises key_before pairs_strict (map line_key ls))
+    rising_same key_before pairs_strict (map row_key p.rows) (in_order key_before (map line_key ls)) (keys_rise p.rows sorted) (in_order_rises key_before pairs_strict (map line_key ls))
     (λ a h. in_order_has key_before pairs_strict a (map line_key ls) (has_line a ls (named_some ls a (omega (arith, row_has a p.rows h, shows.pairs a.0 a.1)))))
     (λ a h. has_row a p.rows (omega (arith, some_named ls a (line_has a ls (has_in_order key_before pairs_strict a (map line_key ls) h)), shows.pairs a.0 a.1))) in
-    rows_are_at p es p.rows (λ r h. row_is p es r shows sound.distinct h)
+    rows_are_at p es p.rows (λ r h. row_is p es r shows distinct h)
     ∙ ap (map (row_at es)) (keys ∙ sym (ordered_keys ls))
     ∙ sym (rows_at es (in_order pair_before ls))
+
+pub rows_are : (p : PageFacts) (es : List Event) → IsSound p → Shows p es → p.rows ≡ running_rows es
+rows_are p es sound shows = rows_in_order p es sound.sorted.rows shows

@@ -21,12 +21,12 @@ use Rattle.rules.proofs.Rowed.{rows_are}
 
 -- The keys of rows of one depositor are in the order of their pairs.
 
-last_cell : (a b : Bool) → (a || (not b && false)) ≡ a
+pub last_cell : (a b : Bool) → (a || (not b && false)) ≡ a
 last_cell true b = refl
 last_cell false true = refl
 last_cell false false = refl
 
-pairs_before : (i l j m : List ℕ) → (comes_before i j || (not (comes_before j i) && (comes_before l m || (not (comes_before m l) && false)))) ≡ key_before (i, l) (j, m)
+pub pairs_before : (i l j m : List ℕ) → (comes_before i j || (not (comes_before j i) && (comes_before l m || (not (comes_before m l) && false)))) ≡ key_before (i, l) (j, m)
 pairs_before i l j m =
     ap (λ (t : Bool). comes_before i j || (not (comes_before j i) && t)) (last_cell (comes_before l m) (comes_before m l)) ∙ by_tests (comes_before i j) (comes_before j i) refl refl
   where
@@ -43,7 +43,7 @@ pairs_before i l j m =
         let s : bytes_eq i j ≡ true = (bytes_eq-Decides i j).1 (texts_total i j e f) in
         rw (e, f, s) refl
 
-rows_before : (w : Who) (r q : LotRow) → cells_before (Text (who_text w) ∷ Text r.item ∷ Text r.lot ∷ []) (Text (who_text w) ∷ Text q.item ∷ Text q.lot ∷ []) ≡ key_before (row_key r) (row_key q)
+pub rows_before : (w : Who) (r q : LotRow) → cells_before (Text (who_text w) ∷ Text r.item ∷ Text r.lot ∷ []) (Text (who_text w) ∷ Text q.item ∷ Text q.lot ∷ []) ≡ key_before (row_key r) (row_key q)
 rows_before w r q =
     ap (λ (t : Bool). t || (not t && (comes_before r.item q.item || (not (comes_before q.item r.item) && (comes_before r.lot q.lot || (not (comes_before q.lot r.lot) && false)))))) (texts_never (who_text w))
     ∙ pairs_before r.item r.lot q.item q.lot

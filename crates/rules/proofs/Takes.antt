@@ -19,6 +19,7 @@ use Rattle.stock.specs.declared.steps.Step.{Step}
 use Rattle.tables.specs.Judged.{IsClosed}
 use Rattle.rules.specs.declared.judging.Verdict.{Verdict as Settled}
 use Rattle.rules.specs.declared.judging.Verdict.TheVariants.{Passed, Rejected}
+use Rattle.rules.specs.Proper.{AreProper}
 use Rattle.rules.specs.Judging.{passed, IsVerdict, AreTaken}
 use Rattle.rules.proofs.Verdicts.{verdicts_append}
 
@@ -166,6 +167,13 @@ pieces_closed ps s fault same framed closed none = ap (λ (ss : List Segment). e
 -- a set whose verdict is known, by the pieces that it holds
 abbrev IsJudgedAs : (d : Delims) (kind : SetKind) (p : PageFacts) (ps : List Piece) (v : Settled) → Type 0
 IsJudgedAs d kind p ps v = (e : Delims) → AreOf e ps → (es : List Event) → Shows p es → IsVerdict p es (by_segment (judged e es (p.entries + 1) kind (segments_of ps))) v
+
+pub judged_proper : (d : Delims) (kind : SetKind) (p : PageFacts) (ps : List Piece) (v : Settled) (step : Step) → AreOf d ps → IsJudgedAs d kind p ps v → v ≡ Passed step
+    → (es : List Event) → Shows p es → AreProper p step.changes.items
+judged_proper d kind p ps v step of is passes es shows =
+    let w : IsVerdict p es (by_segment (judged d es (p.entries + 1) kind (segments_of ps))) (Passed step) =
+    subst (λ (x : Settled). IsVerdict p es (by_segment (judged d es (p.entries + 1) kind (segments_of ps))) x) passes (is d of es shows) in
+    w.3
 
 pub take_passed : (d : Delims) (kind : SetKind) (p : PageFacts) (ps : List Piece) (s : Set) (fault : Option ℕ) (v : Settled) (step : Step) (page : PageFacts) (told : ToldSet)
     → segments_of ps ≡ s.segments → AreOf d ps → fault ≡ None → IsJudgedAs d kind p ps v → v ≡ Passed step → page ≡ put step.changes.items p → told ≡ told_as s None

@@ -7,10 +7,11 @@ use Rattle.profile.specs.History.{History, after_entry}
 use Rattle.profile.specs.Reply as replies
 use Rattle.profile.specs.Decision as known
 use Rattle.profile.specs.Accepted.{entry_of, depositor_of}
-use Rattle.stock.specs.Pages.{PageFacts, next_entry}
+use Rattle.stock.specs.Pages.{PageFacts, AreSorted, next_entry}
 use Rattle.stock.specs.Puts.{put}
 use Rattle.stock.specs.declared.steps.Change.{Change}
 use Rattle.stock.specs.Shows.{Shows}
+use Rattle.rules.specs.Proper.{AreProper}
 use Rattle.rules.specs.Told.{refusal_of}
 use Rattle.rules.specs.Written.{Recalled, written_as, unnumbered}
 use Rattle.rules.specs.declared.decisions.Decision.{Decision}
@@ -80,11 +81,17 @@ IsReply n c t reply (Accepted e changes text) = (reply ≡ replies.Accepted text
 abbrev pub led_to : List Change → PageFacts → PageFacts
 led_to cs p = next_entry (put cs p)
 
+-- proper changes lead from a page that stands in order to that of this history
+pub record AreLeading (p : PageFacts) (cs : List Change) (h : History) : Type 0 where
+  pub sorted : AreSorted p
+  pub page : IsPageOf (led_to cs p) h
+  pub proper : AreProper p cs
+
 -- the changes of an accepted command lead from the page of a history to that of the history with the command's entry
 abbrev pub LeadsOn : PageFacts → meant.Command → Moment → Decision → Type 0
 LeadsOn p c t (Stored text) = Unit {0}
 LeadsOn p c t (Refused r text) = Unit {0}
-LeadsOn p c t (Accepted e changes text) = (h : History) → IsPageOf p h → IsPageOf (led_to changes.items p) (after_entry h (entry_of c t))
+LeadsOn p c t (Accepted e changes text) = (h : History) → IsPageOf p h → AreLeading p changes.items (after_entry h (entry_of c t))
 
 -- a depositor that enrols has no page, and nothing changes on one
 abbrev pub ChangesNothing : Decision → Type 0

@@ -15,13 +15,14 @@ use Rattle.stock.specs.Puts.{put, put_change}
 use Rattle.stock.specs.declared.steps.Change.{Change}
 use Rattle.stock.specs.Shows.{Shows}
 use Rattle.stock.specs.declared.steps.Stop.{Stop}
+use Rattle.rules.specs.Proper.{AreProper}
 use Rattle.stock.specs.declared.steps.Stop.TheVariants as stopped
 use Rattle.rules.specs.declared.judging.Verdict.{Verdict}
 use Rattle.rules.specs.declared.judging.Verdict.TheVariants.{Passed, Rejected}
 
--- a step of this outcome: the page with the event
-abbrev pub IsStep : List Event → Result Event SetFault → PageFacts → Type 0
-IsStep es outcome new = (e : Event) × (outcome ≡ Ok e) × Shows new (es ++ e ∷ [])
+-- a step of this outcome: its changes are proper, and put in they are the page with the event
+abbrev pub IsStep : PageFacts → List Event → Result Event SetFault → List Change → Type 0
+IsStep p es outcome cs = (e : Event) × (outcome ≡ Ok e) × Shows (put cs p) (es ++ e ∷ []) × AreProper p cs
 
 -- the trade fault of this outcome, or want of memory
 abbrev pub IsStop : Result Event SetFault → Stop → Type 0
@@ -29,9 +30,13 @@ IsStop outcome (stopped.Set f) = outcome ≡ Err (told f)
 IsStop outcome (stopped.Refused n) = ⊥
 IsStop outcome stopped.OutOfMemory = Unit {0}
 
+-- changes of this outcome are proper, and put in they are the page with its event
+abbrev pub IsOutcome : PageFacts → List Event → Result Event Rejection → List Change → Type 0
+IsOutcome p es outcome cs = (e : Event) × (outcome ≡ Ok e) × Shows (put cs p) (es ++ e ∷ []) × AreProper p cs
+
 -- what a judged set came to over a page
 abbrev pub IsVerdict : PageFacts → List Event → Result Event Rejection → Verdict → Type 0
-IsVerdict p es outcome (Passed step) = (e : Event) × (outcome ≡ Ok e) × Shows (put step.changes.items p) (es ++ e ∷ [])
+IsVerdict p es outcome (Passed step) = IsOutcome p es outcome step.changes.items
 IsVerdict p es outcome (Rejected r) = outcome ≡ Err r
 
 -- the step can be put into the page
@@ -39,9 +44,10 @@ abbrev pub CanBePut : PageFacts → Verdict → Type 0
 CanBePut p (Passed step) = IsSound (put step.changes.items p)
 CanBePut p (Rejected r) = Unit {0}
 
--- what changes lead to in the same entry, however many events they are of
-abbrev pub IsLed : List Change → PageFacts → PageFacts → Type 0
-IsLed cs old new = new ≡ record (fold put_change old cs) { entries = old.entries; recent = new.recent }
+-- proper changes, and what they lead to in the same entry, however many events they are of
+pub record IsLed (cs : List Change) (old new : PageFacts) : Type 0 where
+  pub same : new ≡ record (fold put_change old cs) { entries = old.entries; recent = new.recent }
+  pub proper : (es : List Event) → Shows old es → AreProper old cs
 
 -- the events of verdicts, and of tellings
 abbrev pub passed : List Told → List Event

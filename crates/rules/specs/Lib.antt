@@ -7,3 +7,5 @@ pub mod Documents
 pub mod Likely
 pub mod Played
 pub mod Tabled
+pub mod Proper
+pub mod Defined

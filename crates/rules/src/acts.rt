@@ -15,7 +15,8 @@ ghost use Rattle.stock.specs.Stops.{StopsAct};
 ghost use Rattle.rules.specs.Asked.{act_of};
 ghost use Rattle.rules.specs.Told.{refusal_of, numbered};
 ghost use Rattle.rules.specs.Written.{written_as};
-ghost use Rattle.rules.specs.Decided.{IsNoEntry, Makes, IsPageOf, IsEntry, IsRecalled, IsUnder, IsReply, LeadsOn, led_to};
+ghost use Rattle.rules.specs.Decided.{IsNoEntry, Makes, IsPageOf, IsEntry, IsRecalled, IsUnder, IsReply, LeadsOn, AreLeading};
+ghost use Rattle.rules.specs.Proper.{AreProper};
 
 use crate::commands::{Act, Key};
 use crate::decisions::Decision;
@@ -31,7 +32,7 @@ use stock::{Change, Page, Step, Stop, pick, receive, recount};
 pub(crate) fn perform(alloc: Global, page: &Page, act: &Act<'_>) -> Result<Step, Stop>
     requires { page.now.recent < 1000 }
     ensures ok { IfOk result (λ step. (es : List Event) → Shows page.now es
-        → (e : Event) × (performed es (page.now.entries + 1) (act_of act.now) ≡ Ok e) × Shows (put step.changes.items page.now) (es ++ e ∷ [])) }
+        → (e : Event) × (performed es (page.now.entries + 1) (act_of act.now) ≡ Ok e) × Shows (put step.changes.items page.now) (es ++ e ∷ []) × AreProper page.now step.changes.items) }
     ensures err { IfErr result (λ stop. (es : List Event) → Shows page.now es → StopsAct (performed es (page.now.entries + 1) (act_of act.now)) stop) }
     ensures sound { IfOk result (λ step. IsSound (put step.changes.items page.now)) }
 {
@@ -99,7 +100,7 @@ fn accepted(
 ) -> Result<Decision, AllocError>
     requires number { envelope.now.number ≡ page.now.entries + 1 }
     requires led { (h : History) → IsPageOf page.now h
-        → IsPageOf (led_to changes.items page.now) (after_entry h (replies.clerk_entry envelope.now.depositor ticket.now (act_of act.now) envelope.now.moment)) }
+        → AreLeading page.now changes.items (after_entry h (replies.clerk_entry envelope.now.depositor ticket.now (act_of act.now) envelope.now.moment)) }
     ensures comes { IfOk result (Makes (register.Clerk envelope.now.depositor ticket.now (act_of act.now)) envelope.now.moment) }
     ensures leads { IfOk result (LeadsOn page.now (register.Clerk envelope.now.depositor ticket.now (act_of act.now)) envelope.now.moment) }
     ensures reply { IfOk result (λ d. (h : History) (e : Event) → IsPageOf page.now h → performed h.events (page.now.entries + 1) (act_of act.now) ≡ Ok e
@@ -134,6 +135,8 @@ fn fresh(
         → IsReply page.now.entries (register.Clerk envelope.now.depositor ticket.now (act_of act.now)) envelope.now.moment
         (recalled.act_new envelope.now.warehouse h (replies.clerk_entry envelope.now.depositor ticket.now (act_of act.now) envelope.now.moment) (act_of act.now)) d) }
 {
+    // what is known of every page
+    let _ = page.rows();
     match perform(alloc, page, act) {
         Ok(step) => accepted(alloc, envelope, page, ticket, act, step.changes),
         Err(stop) => refused(alloc, stop),

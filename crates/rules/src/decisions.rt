@@ -1,11 +1,14 @@
-ghost use Rattle.std.specs.Prelude.{◌≡◌, Option, IfOk, option_copied};
+ghost use Rattle.std.specs.Prelude.{◌≡◌, List, Option, IfOk, option_copied};
+ghost use Rattle.profile.specs.Accepted.{own_of};
 ghost use Rattle.profile.specs.Decision as meant;
+ghost use Rattle.profile.specs.Decision.{standing};
 ghost use Rattle.profile.specs.History.{History};
 ghost use Rattle.profile.specs.Reply.{enrolment_entry};
 ghost use Rattle.rules.specs.Asked.{act_of, asked};
 ghost use Rattle.profile.specs.Header.{Who as Partner};
 ghost use Rattle.profile.specs.Register as register;
 ghost use Rattle.rules.specs.Decided.{Makes, IsAtRest, IsGiven, StandsFor, IsReply, LeadsFrom, entries_of};
+ghost use Rattle.rules.specs.Tabled.{LeadsInTables};
 ghost use Rattle.rules.specs.Written.{written_as};
 
 use crate::acts::clerk;
@@ -102,7 +105,8 @@ fn perform(
 }
 
 /// What a command comes to, by the page of the depositor that it names, if that is enrolled, and what is known under its
-/// key: the defined reply, with the entry that is to be recorded. Only want of memory keeps it from being decided.
+/// key: the defined reply, with the entry that is to be recorded, and the changes that lead from the tables of every legal
+/// register with that page to those with the entry. Only want of memory keeps it from being decided.
 pub fn decide(
     alloc: Global,
     warehouse: &Warehouse,
@@ -114,6 +118,7 @@ pub fn decide(
     requires { IsAtRest page }
     ensures comes { IfOk result (Makes (asked command.now) moment) }
     ensures leads { IfOk result (LeadsFrom page.entry (asked command.now) moment) }
+    ensures tables { IfOk result (λ d. (W : Partner) (L : List register.Entry) → StandsFor page.entry (standing (own_of L (asked command.now))) → LeadsInTables W L (asked command.now) moment d) }
     ensures reply { IfOk result (λ d. (h : Option History) (k : Option meant.Recalled) → IsGiven page.entry (option_copied known.entry) (asked command.now) h k
         → IsReply (entries_of page.entry) (asked command.now) moment (meant.reply_by warehouse.now h k (asked command.now) moment) d) }
 {

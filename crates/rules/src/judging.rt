@@ -51,7 +51,7 @@ fn in_segment<'a>(fault: &SetFault<'a>) -> Rejection<'a>
 fn advised(alloc: Global, page: &Page, set: &Checked<'_>) -> Result<Step, Stop>
     requires kind { set.now.kind ≡ kinds.ShipmentAdvice }
     requires room { page.now.recent < 1000 }
-    ensures ok { IfOk result (λ step. (es : List Event) → Shows page.now es → IsStep es (meant.traded es (page.now.entries + 1) set.now.kind (segments_of set.now.pieces)) (put step.changes.items page.now)) }
+    ensures ok { IfOk result (λ step. (es : List Event) → Shows page.now es → IsStep page.now es (meant.traded es (page.now.entries + 1) set.now.kind (segments_of set.now.pieces)) step.changes.items) }
     ensures err { IfErr result (λ stop. (es : List Event) → Shows page.now es → IsStop (meant.traded es (page.now.entries + 1) set.now.kind (segments_of set.now.pieces)) stop) }
     ensures sound { IfOk result (λ step. IsSound (put step.changes.items page.now)) }
 {
@@ -63,7 +63,7 @@ fn advised(alloc: Global, page: &Page, set: &Checked<'_>) -> Result<Step, Stop>
 fn ordered(alloc: Global, page: &Page, set: &Checked<'_>) -> Result<Step, Stop>
     requires kind { set.now.kind ≡ kinds.ShippingOrder }
     requires room { page.now.recent < 1000 }
-    ensures ok { IfOk result (λ step. (es : List Event) → Shows page.now es → IsStep es (meant.traded es (page.now.entries + 1) set.now.kind (segments_of set.now.pieces)) (put step.changes.items page.now)) }
+    ensures ok { IfOk result (λ step. (es : List Event) → Shows page.now es → IsStep page.now es (meant.traded es (page.now.entries + 1) set.now.kind (segments_of set.now.pieces)) step.changes.items) }
     ensures err { IfErr result (λ stop. (es : List Event) → Shows page.now es → IsStop (meant.traded es (page.now.entries + 1) set.now.kind (segments_of set.now.pieces)) stop) }
     ensures sound { IfOk result (λ step. IsSound (put step.changes.items page.now)) }
 {
@@ -75,7 +75,7 @@ fn ordered(alloc: Global, page: &Page, set: &Checked<'_>) -> Result<Step, Stop>
 fn acknowledged(alloc: Global, page: &Page, set: &Checked<'_>) -> Result<Step, Stop>
     requires kind { set.now.kind ≡ kinds.FunctionalAcknowledgment }
     requires room { page.now.recent < 1000 }
-    ensures ok { IfOk result (λ step. (es : List Event) → Shows page.now es → IsStep es (meant.traded es (page.now.entries + 1) set.now.kind (segments_of set.now.pieces)) (put step.changes.items page.now)) }
+    ensures ok { IfOk result (λ step. (es : List Event) → Shows page.now es → IsStep page.now es (meant.traded es (page.now.entries + 1) set.now.kind (segments_of set.now.pieces)) step.changes.items) }
     ensures err { IfErr result (λ stop. (es : List Event) → Shows page.now es → IsStop (meant.traded es (page.now.entries + 1) set.now.kind (segments_of set.now.pieces)) stop) }
     ensures sound { IfOk result (λ step. IsSound (put step.changes.items page.now)) }
 {
@@ -86,7 +86,7 @@ fn acknowledged(alloc: Global, page: &Page, set: &Checked<'_>) -> Result<Step, S
 // The step of a set without a fault of its own, or its trade fault.
 fn traded(alloc: Global, page: &Page, set: &Checked<'_>) -> Result<Step, Stop>
     requires { page.now.recent < 1000 }
-    ensures ok { IfOk result (λ step. (es : List Event) → Shows page.now es → IsStep es (meant.traded es (page.now.entries + 1) set.now.kind (segments_of set.now.pieces)) (put step.changes.items page.now)) }
+    ensures ok { IfOk result (λ step. (es : List Event) → Shows page.now es → IsStep page.now es (meant.traded es (page.now.entries + 1) set.now.kind (segments_of set.now.pieces)) step.changes.items) }
     ensures err { IfErr result (λ stop. (es : List Event) → Shows page.now es → IsStop (meant.traded es (page.now.entries + 1) set.now.kind (segments_of set.now.pieces)) stop) }
     ensures sound { IfOk result (λ step. IsSound (put step.changes.items page.now)) }
 {

@@ -1,16 +1,20 @@
 //! Laws of replies and of registers: nothing runs, each contract is a law.
-ghost use Rattle.std.specs.Prelude.{◌≡◌, ◌++◌, ◌∷◌, ℕ, List, Some};
+ghost use Rattle.std.specs.Prelude.{◌≡◌, ◌++◌, ◌∷◌, ℕ, List, Some, None};
 ghost use Rattle.profile.specs.Accepted.{IsLegal, after, depositor_of, own_of, reply_to};
 ghost use Rattle.profile.specs.Header.{Who, isa};
 ghost use Rattle.profile.specs.Moments.{Moment};
-ghost use Rattle.profile.specs.Register.{Act, Clerk, Command, Entry, Interchange, Known, Performed, Received, interchange_mark, known, own, ticket_mark};
+ghost use Rattle.profile.specs.Register.{Act, Clerk, Command, Entry, Interchange, Known, Performed, Received, interchange_mark, known, next_number, own, ticket_mark};
+ghost use Rattle.profile.specs.History.{events, history};
+ghost use Rattle.profile.specs.Page.{page_of};
 ghost use Rattle.profile.specs.Reply.{Stored, stored};
 ghost use Rattle.profile.specs.Events.{Event};
-ghost use Rattle.profile.specs.Rows.{running_rows};
+ghost use Rattle.profile.specs.Rows.{act_function, running_rows};
 ghost use Rattle.stock.specs.Pages.{PageFacts, IsSound};
-ghost use Rattle.stock.specs.Shows.{Shows};
+ghost use Rattle.stock.specs.Shows.{Shows, sent_under};
 ghost use Rattle.stock.specs.Puts.{put};
 ghost use Rattle.stock.specs.declared.steps.Change.{Change};
+ghost use Rattle.rules.specs.Decided.{IsPageOf};
+ghost use Rattle.rules.specs.Defined.{IsDefined};
 ghost use Rattle.rules.specs.Played.{CanFollow};
 ghost use Rattle.rules.specs.Tabled.{stock_part, stock_puts, with_rows};
 
@@ -48,4 +52,18 @@ pub fn rows_are_the_running_rows()
 pub fn changed_rows_lead_on_in_the_table()
     ensures { (w : Who) (p : PageFacts) (es fs : List Event) (cs : List Change) → IsSound p → Shows p es → IsSound (put cs p) → Shows (put cs p) fs
         → with_rows (stock_part w (running_rows es)) (stock_puts w cs) ≡ stock_part w (running_rows fs) }
+{}
+
+/// In a legal register the events of a depositor say of an act's number which document it sent, and of any other entry's number
+/// that there is none.
+pub fn events_say_what_was_sent()
+    ensures acts { (W : Who) (L : List Entry) (w : Who) (before : List Entry) (e : Entry) (behind : List Entry) (ticket : List ℕ) (act : Act) → IsLegal W L
+        → own L w ≡ before ++ e ∷ behind → e.deed ≡ Performed ticket act → sent_under (next_number before) (events (own L w)) ≡ Some (act_function act) }
+    ensures others { (W : Who) (L : List Entry) (w : Who) (before : List Entry) (e : Entry) (behind : List Entry) (text : List ℕ) → IsLegal W L
+        → own L w ≡ before ++ e ∷ behind → e.deed ≡ Received text → sent_under (next_number before) (events (own L w)) ≡ None }
+{}
+
+/// A page that stands for the own entries of a depositor of a legal register is the one that the definitions give for them.
+pub fn pages_are_the_defined_ones()
+    ensures { (W : Who) (L : List Entry) (w : Who) (p : PageFacts) → IsLegal W L → IsSound p → IsPageOf p (history (own L w)) → IsDefined p (page_of (own L w)) }
 {}

@@ -1,8 +1,6 @@
 -- How changes of a book follow one another.
 use Rattle.std.proofs.Common.{◌≡◌, ◌∙◌, sym, refl, arith, List, ◌⊎◌, inl, inr}
 use Rattle.profile.specs.Register.{Entry}
-use Rattle.profile.specs.Header.{Who}
-use Rattle.profile.specs.Accepted.{IsLegal}
 use Rattle.store.specs.declared.fault.Fault.{Fault}
 use Rattle.std.proofs.Common.{Result, Ok, Err, OnErr}
 use Rattle.store.specs.Standing.{Standing, IsUsable, IsUnchanged, GoesOn, LeavesEither, IsFault, IsQueryFault, Refused}

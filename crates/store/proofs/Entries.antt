@@ -3,7 +3,7 @@ use Rattle.std.proofs.Common.{◌≡◌, ℕ, ◌<◌, ◌+◌, Bool, true, fals
 use Rattle.std.specs.Prelude.{◌&&◌, ◌==◌, if◌then◌else◌, find, bytes_eq}
 use Rattle.std.proofs.lemmas.Bool.{eqb-true}
 use Rattle.profile.specs.Header.{Who, who_eq}
-use Rattle.profile.specs.Register.{Entry, Known, known, own, mark, is_numbered, next_number}
+use Rattle.profile.specs.Register.{Entry, Known, known, own, mark, is_numbered}
 use Rattle.profile.specs.History.{history, after_entry}
 use Rattle.profile.specs.Decision as decided
 use Rattle.profile.specs.Decision.{standing, recalled}
@@ -34,7 +34,7 @@ use Rattle.rules.proofs.Rowed.{rows_are}
 use Rattle.std.specs.Prelude.{map, unwrap_or}
 use Rattle.rules.specs.Decided.{IsPageOf, IsRecalled}
 use Rattle.rules.specs.Written.{Written, written, written_as}
-use Rattle.rules.specs.Played.{IsBefore, IsReplayed, number_after, no_history, CanFollow}
+use Rattle.rules.specs.Played.{IsBefore, IsReplayed, number_after, no_history}
 use Rattle.store.specs.Held.{IsHeldFor}
 use Rattle.store.specs.Replayed.{written_on, all_written, is_under}
 

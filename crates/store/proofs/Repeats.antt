@@ -1,6 +1,6 @@
 -- A command that was accepted is accepted no more.
-use Rattle.std.proofs.Common.{◌≡◌, ℕ, Bool, true, false, List, [], ◌∷◌, ◌++◌, length, refl, sym, ap, ◌∙◌, subst, arith, Option, Some, None, option_map, bytes_eq}
-use Rattle.std.specs.Prelude.{◌==◌, ◌&&◌, not, if◌then◌else◌}
+use Rattle.std.proofs.Common.{◌≡◌, ℕ, Bool, true, false, List, [], ◌∷◌, ◌++◌, refl, sym, ap, ◌∙◌, Option, Some, option_map, bytes_eq}
+use Rattle.std.specs.Prelude.{◌&&◌, not}
 use Rattle.std.specs.Cmp.Derive.{both_true}
 use Rattle.profile.specs.Moments.{Moment}
 use Rattle.profile.specs.Header.{Who, who_eq, isa, is_unreadable, is_partner, sender}
@@ -9,7 +9,7 @@ use Rattle.profile.specs.History.{History, history}
 use Rattle.profile.specs.Reply.{reply, stored}
 use Rattle.profile.specs.Decision as decided
 use Rattle.profile.specs.Decision.{standing, recalled, reply_by}
-use Rattle.profile.specs.Accepted.{depositor_of, own_of, reply_to, is_accepted, entry_of, after}
+use Rattle.profile.specs.Accepted.{own_of, reply_to, is_accepted, entry_of, after}
 use Rattle.profile.proofs.DecisionLaws.{reply-by}
 use Rattle.profile.proofs.TextLaws.{same_text}
 use Rattle.profile.proofs.RegisterLaws.{of_a_stranger}

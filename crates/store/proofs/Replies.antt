@@ -1,13 +1,12 @@
 -- Replies and the registers that they leave.
 use Rattle.std.proofs.Common.{◌≡◌, ℕ, Bool, true, false, not, ◌&&◌, List, [], ◌∷◌, ◌++◌, length, refl, sym, ap, ◌∙◌, subst, arith, Option, Some, None, option_map, Result, Ok, Err, bytes_eq, take, get_or, suc, zero, ◌<◌, ◌+◌}
-use Rattle.std.specs.Prelude.{◌==◌, if◌then◌else◌, nat_lt}
-use Rattle.std.specs.List.{list_all}
+use Rattle.std.specs.Prelude.{◌==◌, if◌then◌else◌}
 use Rattle.std.specs.Cmp.Derive.{both_true}
 use Rattle.std.proofs.lemmas.List.Folds.{list_all-append}
 use Rattle.std.proofs.lemmas.Bool.{eqb-true}
 use Rattle.profile.specs.Moments.{Moment, is_moment}
 use Rattle.profile.specs.Header.{Who, is_partner, sender, is_unreadable}
-use Rattle.profile.specs.Register.{Act, Command, Interchange, Enrol, Clerk, Entry, Deed, Enrolled, Received, Performed, Known, known, own, command_mark, ticket_mark, next_number, is_numbered, mark, canonical}
+use Rattle.profile.specs.Register.{Act, Command, Interchange, Enrol, Clerk, Entry, Deed, Enrolled, Received, Performed, Known, known, own, command_mark, ticket_mark, next_number, mark, canonical}
 use Rattle.profile.specs.Refusals.{Refusal, NumbersUsedUp, AlreadyEnrolled, TicketUsed, UnknownDepositor}
 use Rattle.profile.specs.Halt.{Halt, Refuses, Repeats, halt}
 use Rattle.profile.specs.Clerk.{performed}
@@ -21,7 +20,7 @@ use Rattle.profile.specs.Decision as meant
 use Rattle.profile.specs.Decision.{recalled, standing, reply_by}
 use Rattle.profile.proofs.DecisionLaws.{reply-by}
 use Rattle.stock.specs.Pages.{PageFacts}
-use Rattle.rules.specs.Decided.{StandsFor, IsRecalled, IsGiven, IsReply, entries_of, IsPageOf}
+use Rattle.rules.specs.Decided.{StandsFor, IsRecalled, IsGiven, IsReply, entries_of}
 use Rattle.rules.specs.Written.{Recalled}
 use Rattle.rules.specs.declared.decisions.Decision.{Decision}
 use Rattle.profile.specs.History.{History}
@@ -34,6 +33,9 @@ use Rattle.profile.specs.Tables.{number_of}
 use Rattle.profile.proofs.TextLaws.{text_is, both_parts}
 use Rattle.profile.proofs.RegisterLaws.{of_a_stranger}
 use Rattle.profile.proofs.HistoryLaws.{history-numbered}
+use Rattle.profile.specs.Changes.{LeadOn}
+use Rattle.stock.specs.declared.steps.Change.{Change}
+use Rattle.rules.specs.Tabled.{table_changes}
 use Rattle.rules.specs.Decided.{number_behind, IsUnder}
 use Rattle.rules.specs.Written.{Written, written, written_as}
 
@@ -274,13 +276,17 @@ recalled_at {V} {W} {k} {key} {M} {N} r house same whose h =
 accepted_is : (W : Who) (L : List Entry) (c : Command) (t : Moment) (text : List ℕ) → reply_to W L c t ≡ Accepted text → is_accepted (reply_to W L c t) ≡ true
 accepted_is W L c t text h = ap is_accepted h
 
-pub next_is : (W : Who) (L : List Entry) (c : Command) (t : Moment) (row : Written) (text : List ℕ) → IsLegal W L → (is_command c && is_moment t) ≡ true
-    → reply_to W L c t ≡ Accepted text → row ≡ written_as (number_behind ((history (own_of L c)).numbered) c) (entry_of c t) → IsNext W L (entry_of c t) row text
-next_is W L c t row text legal given accepts is =
+pub next_is : (W : Who) (L : List Entry) (c : Command) (t : Moment) (row : Written) (changes : List Change) (text : List ℕ) → IsLegal W L → (is_command c && is_moment t) ≡ true
+    → reply_to W L c t ≡ Accepted text → row ≡ written_as (number_behind ((history (own_of L c)).numbered) c) (entry_of c t)
+    → (IsLegal W L → IsLegal W (L ++ entry_of c t ∷ []) → LeadOn W L (entry_of c t) (table_changes (entry_of c t).who changes))
+    → IsNext W L (entry_of c t) row changes text
+next_is W L c t row changes text legal given accepts is leads =
     let taken = accepted_is W L c t text accepts in
+    let behind : IsLegal W (L ++ entry_of c t ∷ []) = subst (IsLegal W) (after_accepted W L c t taken) (legal_after W L c t given legal) in
     record {
       entry = is ∙ accepted_entry W L c t taken;
-      legal = subst (IsLegal W) (after_accepted W L c t taken) (legal_after W L c t given legal);
+      legal = behind;
+      leads = leads legal behind;
       outgoing = accepted_text W (own_of L c) c t text accepts ∙ ap (λ M. out W M (entry_of c t)) (accepted_owner W L c t taken);
     }
 
@@ -294,8 +300,10 @@ behind_stored W L c t text h = sym (after_other W L c t (ap is_accepted h))
 pub behind_refused : (W : Who) (L : List Entry) (c : Command) (t : Moment) (r : Refusal) (text : List ℕ) → reply_to W L c t ≡ Refused r text → L ≡ after W L (c, t)
 behind_refused W L c t r text h = sym (after_other W L c t (ap is_accepted h))
 
-pub next_at : {V W : Who} {L : List Entry} {e : Entry} {row : Written} {text said : List ℕ} → V ≡ W → text ≡ said → IsNext V L e row text → IsNext W L e row said
-next_at {V} {W} {L} {e} {row} {text} {said} house same h = subst (λ X. IsNext X L e row said) house (subst (λ x. IsNext V L e row x) same h)
+pub next_at : {V W : Who} {L : List Entry} {e : Entry} {row : Written} {changes given : List Change} {text said : List ℕ} → V ≡ W → changes ≡ given → text ≡ said
+    → IsNext V L e row changes text → IsNext W L e row given said
+next_at {V} {W} {L} {e} {row} {changes} {given} {text} {said} house same_changes same h =
+    subst (λ X. IsNext X L e row given said) house (subst (λ cs. IsNext V L e row cs said) same_changes (subst (λ x. IsNext V L e row changes x) same h))
 
 -- Commands in a list.
 

@@ -1,7 +1,9 @@
 -- The rows of the outbox, by what a page says of its documents.
-use Rattle.std.specs.Prelude.{ℕ, Bool, List, codes, ◌==◌, find, Option, Some, None}
-use Rattle.profile.specs.Register.{Deed, Performed}
-use Rattle.profile.specs.Rows.{OutRow, act_kind, state_text}
+use Rattle.std.specs.Prelude.{ℕ, Bool, List, [], codes, ◌==◌, nat_lt, length, filter, find, Option, Some, None}
+use Rattle.profile.specs.Header.{Who}
+use Rattle.profile.specs.Register.{Deed, Performed, Entry}
+use Rattle.profile.specs.Events.{Event}
+use Rattle.profile.specs.Rows.{OutRow, act_kind, state_text, outgoing_on}
 use Rattle.profile.specs.Page.{PageDocument}
 use Rattle.store.specs.declared.rows.OutKind.{OutKind}
 use Rattle.store.specs.declared.rows.OutKind.TheVariants.{Answer, Receipt, Shipment, Adjustment}
@@ -38,3 +40,7 @@ abbrev pub sent_row : List PageDocument → Deed → ℕ → List ℕ → OutRow
 sent_row ds (Performed ticket act) n content =
     record { n = n; kind = act_kind act; content = content; state = state_text (said_under n ds) }
 sent_row ds d n content = record { n = n; kind = codes "ANS"; content = content; state = codes "-" }
+
+-- the rows of what a depositor's entries sent out, when these are all of its events
+abbrev pub sent_on : Who → List Event → List Entry → List OutRow
+sent_on W es M = filter (λ r. nat_lt 0 (length r.content)) (outgoing_on W es [] M)

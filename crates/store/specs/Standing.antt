@@ -4,6 +4,9 @@ use Rattle.profile.specs.Header.{Who}
 use Rattle.profile.specs.Register.{Entry, own}
 use Rattle.profile.specs.Reply.{out}
 use Rattle.profile.specs.Accepted.{IsLegal}
+use Rattle.profile.specs.Changes.{LeadOn}
+use Rattle.stock.specs.declared.steps.Change.{Change}
+use Rattle.rules.specs.Tabled.{table_changes}
 use Rattle.rules.specs.Written.{Written, written}
 use Rattle.store.specs.declared.fault.Fault.{Fault}
 use Rattle.store.specs.declared.fault.Fault.TheVariants.{OutOfMemory, Store, Reopen, NotThisBook, Device}
@@ -80,9 +83,10 @@ pub record IsRunFault (fault : Fault) (given : Bool) (old new : Standing) : Type
   pub not_this : fault ≡ NotThisBook → given ≡ true → new.doubt ≡ 0 → (L : List Entry) → IsUsable old L → ⊥
   pub device : fault ≡ Device → ⊥
 
--- what a book is given to append: the entry as it is written down behind the register, which stays legal with it, and the text
--- that goes out for it
-pub record IsNext (W : Who) (L : List Entry) (e : Entry) (row : Written) (text : List ℕ) : Type 0 where
+-- what a book is given to append: the entry as it is written down behind the register, which stays legal with it, the changes
+-- that lead from the tables of the register to those with the entry, and the text that goes out for it
+pub record IsNext (W : Who) (L : List Entry) (e : Entry) (row : Written) (changes : List Change) (text : List ℕ) : Type 0 where
   pub entry : row ≡ written L e
   pub legal : IsLegal W (L ++ e ∷ [])
+  pub leads : LeadOn W L e (table_changes e.who changes)
   pub outgoing : text ≡ out W (own L e.who) e

@@ -2,7 +2,7 @@ ghost use Rattle.std.specs.Prelude.{◌≡◌, ◌++◌, ◌∷◌, [], List, Bo
 ghost use Rattle.profile.specs.Register as register;
 ghost use Rattle.profile.specs.Accepted.{IsLegal};
 ghost use Rattle.profile.specs.Decision as decided;
-ghost use Rattle.profile.specs.Rows.{stock_of};
+ghost use Rattle.profile.specs.Rows.{stock_of, outbox_of};
 ghost use Rattle.rules.specs.Asked.{mark_of};
 ghost use Rattle.rules.specs.Decided.{IsHeldAtRest, IsRecalled};
 ghost use Rattle.store.specs.Held.{IsHeldFor};
@@ -43,9 +43,9 @@ pub trait Keeper {
     /// Appends an entry, with the rows that it changes and the text that goes out for it, in one transaction.
     fn commit(&mut self, entry: &Entry, changes: &[Change], outgoing: &[u8]) -> Result<(), Fault>
         ensures ok { (standing self.new).doubt ≡ 0 → (L : List register.Entry) (e : register.Entry) → IsUsable (standing self.old) L
-            → IsNext (standing self.old).warehouse L e entry.now outgoing.now → OnOk result (IsUsable (standing self.new) (L ++ e ∷ [])) }
+            → IsNext (standing self.old).warehouse L e entry.now changes.now outgoing.now → OnOk result (IsUsable (standing self.new) (L ++ e ∷ [])) }
         ensures left { (standing self.new).doubt ≡ 0 → (L : List register.Entry) (e : register.Entry) → IsUsable (standing self.old) L
-            → IsNext (standing self.old).warehouse L e entry.now outgoing.now → OnErr result (LeavesEither (standing self.new) L (L ++ e ∷ [])) }
+            → IsNext (standing self.old).warehouse L e entry.now changes.now outgoing.now → OnErr result (LeavesEither (standing self.new) L (L ++ e ∷ [])) }
         ensures opened { OnOk result ((standing self.new).shut ≡ false) }
         ensures fault { IfErr result (λ fault. IsFault fault (standing self.old) (standing self.new)) }
         ensures kinds { IfErr result IsCommitFault }
@@ -63,6 +63,8 @@ pub trait Keeper {
 
     /// The texts that went out to a depositor, by number; None for a stranger.
     fn outbox(&mut self, who: Who) -> Result<Option<Vec<OutRow>>, Fault>
+        ensures rows { (standing self.new).doubt ≡ 0 → (L : List register.Entry) → (standing self.old).keeps L → IsLegal (standing self.old).warehouse L
+            → IfOk result (λ rows. option_map (λ v. v.items) rows ≡ outbox_of (standing self.old).warehouse L who) }
         ensures same { IsUnchanged (standing self.old) (standing self.new) }
         ensures fault { IfErr result (λ fault. IsQueryFault fault (standing self.old) (standing self.new)) }
         ensures shut { (standing self.old).shut ≡ true → IsErrOf result Fault.Reopen };

@@ -1,16 +1,17 @@
-ghost use Rattle.std.specs.Prelude.{◌≡◌, [], ◌∷◌, ◌++◌, List, None, IfOk, OnOk, OnErr, MatchOption, find, map, option_map, ℕ, ◌<◌, ◌+◌, length, take, slice_index_or as get_or};
+ghost use Rattle.std.specs.Prelude.{◌≡◌, [], ◌∷◌, ◌++◌, List, None, IfOk, OnOk, OnErr, MatchOption, find, map, option_map, ℕ, ◌<◌, ◌+◌, length, take, slice_index_or as get_or, option_to_list};
 ghost use Rattle.profile.specs.Accepted.{IsLegal};
 ghost use Rattle.profile.specs.Decision.{standing as standing_of, recalled};
 ghost use Rattle.profile.specs.Register as register;
 ghost use Rattle.profile.specs.Reply.{out};
-ghost use Rattle.profile.specs.Rows.{stock_rows, stock_of};
-ghost use Rattle.profile.specs.History.{history};
+ghost use Rattle.profile.specs.Rows.{stock_rows, stock_of, outbox_rows, outbox_of};
+ghost use Rattle.profile.specs.History.{history, events};
 ghost use Rattle.profile.specs.Header.{Who as Partner};
 ghost use Rattle.rules.specs.Decided.{IsHeldAtRest, IsRecalled, IsPageOf};
 ghost use Rattle.rules.specs.Written.{written};
 ghost use Rattle.stock.specs.Pages.{IsAt};
 ghost use Rattle.store.specs.Held.{IsHeldFor};
 ghost use Rattle.store.specs.Replayed.{all_written, is_under};
+ghost use Rattle.store.specs.Sent.{sent_on};
 ghost use Rattle.store.specs.Standing.{IsUsable};
 
 use crate::fault::Fault;
@@ -164,6 +165,35 @@ fn rows_for(alloc: Global, page: Option<Page>) -> Result<Option<Vec<StockRow>>, 
     }
 }
 
+// What the entry at a place sent out, if it is a depositor's that counts, by the page of all of that depositor's entries; None
+// also where it sent nothing.
+fn sent_at(
+    alloc: Global,
+    warehouse: &Warehouse,
+    entries: &[Entry],
+    i: usize,
+    page: &Page,
+    who: &Who,
+) -> Result<Option<OutRow>, AllocError>
+    requires { i < length entries.now }
+    ensures { IfOk result (λ row. (L : List register.Entry) → entries.now ≡ all_written L → IsLegal warehouse.now L → IsPageOf page.now (history (register.own L who.now))
+        → sent_on warehouse.now (events (register.own L who.now)) (register.own (take (i + 1) L) who.now)
+        ≡ sent_on warehouse.now (events (register.own L who.now)) (register.own (take i L) who.now) ++ option_to_list row) }
+{
+    let entry = &entries[i];
+    if !entry.is_of(who) {
+        return Ok(None);
+    }
+    if !entry.is_numbered() {
+        return Ok(None);
+    }
+    let content = outgoing_behind(alloc, warehouse, &entries[..i], entry)?;
+    if content.is_empty() {
+        return Ok(None);
+    }
+    Ok(Some(OutRow::of(page, entry, content)))
+}
+
 // The texts that went out to a depositor with this page, by number: those of its numbered entries that aren't empty.
 fn sent(
     alloc: Global,
@@ -171,17 +201,34 @@ fn sent(
     entries: &[Entry],
     page: &Page,
     who: &Who,
-) -> Result<Vec<OutRow>, AllocError> {
+) -> Result<Vec<OutRow>, AllocError>
+    ensures { IfOk result (λ rows. (L : List register.Entry) → entries.now ≡ all_written L → IsLegal warehouse.now L → IsPageOf page.now (history (register.own L who.now))
+        → rows.items ≡ outbox_rows warehouse.now (register.own L who.now)) }
+{
     let mut rows = Vec::new(alloc);
-    for (i, entry) in entries.iter().enumerate() {
-        if entry.is_of(who) && entry.is_numbered() {
-            let content = outgoing_behind(alloc, warehouse, &entries[..i], entry)?;
-            if !content.is_empty() {
-                rows.push(OutRow::of(page, entry, content))?;
-            }
+    for i in 0..entries.len() {
+        if let Some(row) = sent_at(alloc, warehouse, entries, i, page, who)? {
+            rows.push(row)?;
         }
     }
     Ok(rows)
+}
+
+// The texts that went out to a depositor with this page; a stranger has none.
+fn sent_to(
+    alloc: Global,
+    warehouse: &Warehouse,
+    entries: &[Entry],
+    page: Option<Page>,
+    who: &Who,
+) -> Result<Option<Vec<OutRow>>, AllocError>
+    ensures { IfOk result (λ rows. (L : List register.Entry) → entries.now ≡ all_written L → IsLegal warehouse.now L → IsHeldFor page (standing_of (register.own L who.now))
+        → option_map (λ v. v.items) rows ≡ outbox_of warehouse.now L who.now) }
+{
+    match page {
+        Some(page) => Ok(Some(sent(alloc, warehouse, entries, &page, who)?)),
+        None => Ok(None),
+    }
 }
 
 impl Keeper for ReplayBook {
@@ -228,10 +275,8 @@ impl Keeper for ReplayBook {
     }
 
     fn outbox(&mut self, who: Who) -> Result<Option<Vec<OutRow>>, Fault> {
-        match self.load(who)? {
-            Some(page) => Ok(Some(sent(self.alloc, &self.warehouse, &self.entries, &page, &who)?)),
-            None => Ok(None),
-        }
+        let page = self.load(who)?;
+        Ok(sent_to(self.alloc, &self.warehouse, &self.entries, page, &who)?)
     }
 
     fn refused(&self) -> u64 {

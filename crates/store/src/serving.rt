@@ -4,9 +4,10 @@ ghost use Rattle.std.specs.List.{list_all};
 ghost use Rattle.profile.specs.Register as register;
 ghost use Rattle.profile.specs.Accepted.{IsLegal, is_command, own_of, reply_to, after, accepted_on, replies_on};
 ghost use Rattle.profile.specs.Decision.{standing as standing_of, recalled};
-ghost use Rattle.profile.specs.Rows.{stock_of};
+ghost use Rattle.profile.specs.Rows.{stock_of, outbox_of};
 ghost use Rattle.rules.specs.Asked.{asked};
 ghost use Rattle.rules.specs.Decided.{IsHeldAtRest, IsRecalled};
+ghost use Rattle.rules.specs.Tabled.{LeadsInTables};
 ghost use Rattle.store.specs.Held.{IsHeldFor, IsDecided};
 ghost use Rattle.store.specs.Runs.{told, all_asked, can_be_given, UnlessAccepted};
 ghost use Rattle.store.specs.Standing.{Standing, IsUsable, IsUnchanged, GoesOn, IsFault, IsQueryFault, IsRunFault, LeavesEither};
@@ -64,6 +65,8 @@ fn judge<K: Keeper>(
 ) -> Result<Decision, Fault>
     ensures decision { (K.standing keeper.new).doubt ≡ 0 → (L : List register.Entry) → (K.standing keeper.old).keeps L → IsLegal (K.standing keeper.old).warehouse L
         → IfOk result (IsDecided (K.standing keeper.old).warehouse L (asked command.now) moment) }
+    ensures tables { (K.standing keeper.new).doubt ≡ 0 → (L : List register.Entry) → (K.standing keeper.old).keeps L → IsLegal (K.standing keeper.old).warehouse L
+        → IfOk result (LeadsInTables (K.standing keeper.old).warehouse L (asked command.now) moment) }
     ensures same { IsUnchanged (K.standing keeper.old) (K.standing keeper.new) }
     ensures fault { IfErr result (λ fault. IsQueryFault fault (K.standing keeper.old) (K.standing keeper.new)) }
 {
@@ -130,6 +133,8 @@ pub fn stock<K: Keeper>(keeper: &mut K, who: Who) -> Result<Option<Vec<StockRow>
 
 /// The texts that went out to a depositor, by number; None for a stranger. The book is as before.
 pub fn outbox<K: Keeper>(keeper: &mut K, who: Who) -> Result<Option<Vec<OutRow>>, Fault>
+    ensures rows { (K.standing keeper.new).doubt ≡ 0 → (L : List register.Entry) → (K.standing keeper.old).keeps L → IsLegal (K.standing keeper.old).warehouse L
+        → IfOk result (λ rows. option_map (λ v. v.items) rows ≡ outbox_of (K.standing keeper.old).warehouse L who) }
     ensures same { IsUnchanged (K.standing keeper.old) (K.standing keeper.new) }
     ensures fault { IfErr result (λ fault. IsQueryFault fault (K.standing keeper.old) (K.standing keeper.new)) }
     ensures shut { (K.standing keeper.old).shut ≡ true → IsErrOf result Fault.Reopen }

@@ -1,3 +1,6 @@
+mod breaking;
+mod memory;
+
 use super::*;
 use std::alloc::{AllocError, Global};
 use std::test::Fail;

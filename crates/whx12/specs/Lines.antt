@@ -68,6 +68,9 @@ roster_shape = subcommand (codes "roster") (file_rule ∷ at_rule ∷ [])
 abbrev pub send_shape : Shape
 send_shape = subcommand (codes "send") (file_rule ∷ at_rule ∷ [])
 
+abbrev pub take_shape : Shape
+take_shape = subcommand (codes "take") (value_rule (codes "dir") ∷ at_rule ∷ [])
+
 abbrev pub count_shape : Shape
 count_shape = subcommand (codes "count") (who_rule ∷ ticket_rule ∷ number_rule ∷ sheet_rule ∷ at_rule ∷ [])
 
@@ -99,7 +102,7 @@ abbrev pub program_subcommands : List Shape
 program_subcommands = script_shape ∷ []
 
 abbrev pub script_subcommands : List Shape
-script_subcommands = init_shape ∷ enrol_shape ∷ roster_shape ∷ send_shape ∷ count_shape ∷ pick_shape ∷ recount_shape
+script_subcommands = init_shape ∷ enrol_shape ∷ roster_shape ∷ send_shape ∷ take_shape ∷ count_shape ∷ pick_shape ∷ recount_shape
     ∷ stock_shape ∷ orders_shape ∷ outbox_shape ∷ []
 
 -- the subcommands that may stand at a place
@@ -154,6 +157,7 @@ abbrev pub SaysAct : Found → Act → Type 0
 SaysAct f (act.Enrol who) = (f.0 ≡ codes "enrol") × Has f.1 (codes "who") who.now
 SaysAct f (act.Roster file) = (f.0 ≡ codes "roster") × Has f.1 (codes "file") file.now
 SaysAct f (act.Send file) = (f.0 ≡ codes "send") × Has f.1 (codes "file") file.now
+SaysAct f (act.Take dir) = (f.0 ≡ codes "take") × Has f.1 (codes "dir") dir.now
 SaysAct f (act.Clerk t) = (f.0 ≡ deed_name t.deed) × SaysTold f.1 t
 
 abbrev pub SaysShow : Found → Show → Type 0

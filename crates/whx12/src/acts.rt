@@ -5,14 +5,12 @@ use profile::{MOST_NUMBER, MOST_TICKET};
 use std::alloc::Global;
 use std::rt::Files;
 use std::{fs, io};
-use store::{
-    Act, Command, Ident, Moment, Refusal, ReplayBook, Reply, Sheet, SheetKind, Who, submit,
-};
+use store::{Act, Command, Ident, Keeper, Moment, Refusal, Reply, Sheet, SheetKind, Who, submit};
 
 /// Enrols a depositor.
-pub fn enrol<E: io::Write>(
+pub fn enrol<K: Keeper, E: io::Write>(
     alloc: Global,
-    book: &mut ReplayBook,
+    book: &mut K,
     who: &str,
     moment: Moment,
     err: &mut E,
@@ -27,9 +25,9 @@ pub fn enrol<E: io::Write>(
 }
 
 /// Submits the interchange in a file and prints its answer, a refused one's too.
-pub fn send<R: Files + AllocGlobal, W: io::Write, E: io::Write>(
+pub fn send<R: Files + AllocGlobal, K: Keeper, W: io::Write, E: io::Write>(
     rt: &R,
-    book: &mut ReplayBook,
+    book: &mut K,
     file: &str,
     moment: Moment,
     out: &mut W,
@@ -83,9 +81,9 @@ fn act<'a>(deed: Deed, number: &'a [u8], sheet: &'a Sheet) -> Act<'a> {
 }
 
 // Submits a clerk's act and prints its document.
-fn submit_act<W: io::Write, E: io::Write>(
+fn submit_act<K: Keeper, W: io::Write, E: io::Write>(
     alloc: Global,
-    book: &mut ReplayBook,
+    book: &mut K,
     command: &Command<'_>,
     moment: Moment,
     out: &mut W,
@@ -101,9 +99,9 @@ fn submit_act<W: io::Write, E: io::Write>(
 }
 
 /// Submits what a clerk did, with the sheet in a file, and prints the document.
-pub fn clerk<R: Files + AllocGlobal, W: io::Write, E: io::Write>(
+pub fn clerk<R: Files + AllocGlobal, K: Keeper, W: io::Write, E: io::Write>(
     rt: &R,
-    book: &mut ReplayBook,
+    book: &mut K,
     told: &Told<'_>,
     moment: Moment,
     out: &mut W,

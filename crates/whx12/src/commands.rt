@@ -5,7 +5,7 @@ use std::io;
 use std::rt::{Clock, Files};
 
 // Runs one line of words.
-fn run_line<R: Files + Clock + AllocGlobal, W: io::Write, E: io::Write>(
+fn run_line<R: Files + Clock + AllocGlobal + Clone + Drop, W: io::Write, E: io::Write>(
     rt: &R,
     words: &[&str],
     out: &mut W,
@@ -19,7 +19,7 @@ fn run_line<R: Files + Clock + AllocGlobal, W: io::Write, E: io::Write>(
 
 /// Runs one line of words, without the program's name: its output goes to `out`, its refusals and faults to `err`. The exit
 /// status is 0 where all was done, 1 where something was refused, 2 where the words can't be read, 3 at a fault.
-pub fn command<R: Files + Clock + AllocGlobal, W: io::Write, E: io::Write>(
+pub fn command<R: Files + Clock + AllocGlobal + Clone + Drop, W: io::Write, E: io::Write>(
     rt: &R,
     words: &[&str],
     out: &mut W,

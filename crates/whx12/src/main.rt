@@ -10,6 +10,7 @@ mod script;
 mod sheet_files;
 mod shows;
 mod subcommands;
+mod takes;
 mod told;
 mod words;
 

@@ -8,7 +8,7 @@ use crate::told::{Status, Stop, tell_refusal};
 use std::alloc::{AllocError, Global};
 use std::rt::Files;
 use std::{fs, io};
-use store::{Command, Moment, Refusal, ReplayBook, Reply, Who, submit};
+use store::{Command, Keeper, Moment, Refusal, Reply, Who, submit};
 use toml::{Table, Value};
 
 // The partner that a value names; None where it is no text that names one.
@@ -70,9 +70,9 @@ fn tell_partner<W: io::Write>(out: &mut W, who: &Who) -> Result<(), Stop> {
 }
 
 // Enrols a depositor and prints what became of it.
-fn enrol_one<W: io::Write>(
+fn enrol_one<K: Keeper, W: io::Write>(
     alloc: Global,
-    book: &mut ReplayBook,
+    book: &mut K,
     who: Who,
     moment: Moment,
     out: &mut W,
@@ -93,9 +93,9 @@ fn enrol_one<W: io::Write>(
 }
 
 // Enrols depositors in order.
-fn enrol_all<W: io::Write>(
+fn enrol_all<K: Keeper, W: io::Write>(
     alloc: Global,
-    book: &mut ReplayBook,
+    book: &mut K,
     partners: &[Who],
     moment: Moment,
     out: &mut W,
@@ -109,9 +109,9 @@ fn enrol_all<W: io::Write>(
 
 /// Enrols the depositors of the list in a file, and prints a line for each. A list that can't be read is 32, and nobody of it
 /// is enrolled.
-pub fn roster<R: Files + AllocGlobal, W: io::Write, E: io::Write>(
+pub fn roster<R: Files + AllocGlobal, K: Keeper, W: io::Write, E: io::Write>(
     rt: &R,
-    book: &mut ReplayBook,
+    book: &mut K,
     file: &str,
     moment: Moment,
     out: &mut W,

@@ -1,10 +1,10 @@
 use crate::clock::now;
 use crate::told::{Status, Stop, tell_refusal};
 use crate::words::{Act, Place, Show, Words, line};
-use crate::{acts, rosters, shows};
+use crate::{acts, rosters, shows, takes};
 use std::rt::{Clock, Files};
 use std::{fs, io};
-use store::{Moment, Refusal, ReplayBook, Warehouse, Who};
+use store::{Keeper, Moment, Refusal, ReplayBook, Warehouse, Who};
 
 // A usage fault of the script itself.
 fn misplaced<R: AllocGlobal>(rt: &R, text: &str) -> Stop {
@@ -23,9 +23,9 @@ fn moment_for<R: Clock + AllocGlobal>(rt: &R, at: Option<Moment>) -> Result<Mome
 }
 
 // Does to the book what a line says.
-fn perform<R: Files + Clock + AllocGlobal, W: io::Write, E: io::Write>(
+fn perform<R: Files + Clock + AllocGlobal + Clone + Drop, K: Keeper, W: io::Write, E: io::Write>(
     rt: &R,
-    book: &mut ReplayBook,
+    book: &mut K,
     act: &Act<'_>,
     at: Option<Moment>,
     out: &mut W,
@@ -36,14 +36,15 @@ fn perform<R: Files + Clock + AllocGlobal, W: io::Write, E: io::Write>(
         Act::Enrol { who } => acts::enrol(rt.alloc(), book, who, moment, err),
         Act::Roster { file } => rosters::roster(rt, book, file, moment, out, err),
         Act::Send { file } => acts::send(rt, book, file, moment, out, err),
+        Act::Take { dir } => takes::take(rt, book, dir, moment, out),
         Act::Clerk(told) => acts::clerk(rt, book, told, moment, out, err),
     }
 }
 
 // Shows of the book what a line asks for.
-fn show_it<W: io::Write, E: io::Write>(
+fn show_it<K: Keeper, W: io::Write, E: io::Write>(
     rt: &impl AllocGlobal,
-    book: &mut ReplayBook,
+    book: &mut K,
     show: &Show<'_>,
     out: &mut W,
     err: &mut E,
@@ -61,9 +62,9 @@ fn show_it<W: io::Write, E: io::Write>(
 }
 
 // Does what a line asks for, over the book.
-fn answer<R: Files + Clock + AllocGlobal, W: io::Write, E: io::Write>(
+fn answer<R: Files + Clock + AllocGlobal + Clone + Drop, K: Keeper, W: io::Write, E: io::Write>(
     rt: &R,
-    book: &mut ReplayBook,
+    book: &mut K,
     words: &Words<'_>,
     out: &mut W,
     err: &mut E,
@@ -94,7 +95,7 @@ fn made<R: AllocGlobal, E: io::Write>(
 }
 
 // Plays the lines of a script. A refusal goes on, but of the first line; anything else that isn't done stops it.
-fn play<R: Files + Clock + AllocGlobal, W: io::Write, E: io::Write>(
+fn play<R: Files + Clock + AllocGlobal + Clone + Drop, W: io::Write, E: io::Write>(
     rt: &R,
     text: &str,
     out: &mut W,
@@ -124,7 +125,7 @@ fn play<R: Files + Clock + AllocGlobal, W: io::Write, E: io::Write>(
 
 /// Runs the script in a file over a new book in memory. A script that can't be read as words is a usage fault, a file that
 /// can't be read a fault; what was printed before either stays.
-pub fn run_script<R: Files + Clock + AllocGlobal, W: io::Write, E: io::Write>(
+pub fn run_script<R: Files + Clock + AllocGlobal + Clone + Drop, W: io::Write, E: io::Write>(
     rt: &R,
     file: &str,
     out: &mut W,

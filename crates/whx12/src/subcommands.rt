@@ -102,7 +102,7 @@ fn script<'a>(alloc: Global) -> Result<Command<'a>, AllocError>
     Command::new(alloc, "script")
         .about("Runs the commands of a file, line by line, over a new book in memory")
         .after_help(
-            "Example: whx12 script morning.txt\n\nThe first line makes the book, as: init ZZ-WHSE1. Each other line is one of\n  enrol    roster    send    count    pick    recount    stock    orders    outbox\nwith single spaces between its words; empty lines are passed over. A line that is a name and --help stops the script and\nshows what that command wants. A refused command is told on standard error, and the script goes on; words that can't be\nread and faults stop it.",
+            "Example: whx12 script morning.txt\n\nThe first line makes the book, as: init ZZ-WHSE1. Each other line is one of\n  enrol   roster   send   take   count   pick   recount   stock   orders   outbox\nwith single spaces between its words; empty lines are passed over. A line that is a name and --help stops the script and\nshows what that command wants. A refused command is told on standard error, and the script goes on; words that can't be\nread and faults stop it.",
         )
         .arg(value(alloc, "file", "FILE", "The file with the commands"))
 }
@@ -153,6 +153,20 @@ fn send<'a>(alloc: Global) -> Result<Command<'a>, AllocError>
             "Example: send advice.x12\n\nThe same bytes sent again get the same answer, and nothing is taken twice.",
         )
         .arg(value(alloc, "file", "FILE", "The file with the interchange"))?
+        .arg(at(alloc))
+}
+
+fn take<'a>(alloc: Global) -> Result<Command<'a>, AllocError>
+    ensures { IfOk result (IsCommand meant.take_shape) }
+{
+    Command::new(alloc, "take")
+        .about(
+            "Hands in each file of a folder whose name ends .x12, and writes the answers beside them",
+        )
+        .after_help(
+            "Example: take inbox\n\nThe answer to inbox/a.x12 is written to inbox/a.x12.ans. What became of each file is printed. Taking the folder again\nis safe: the same bytes get the same answer, and nothing is taken twice.",
+        )
+        .arg(value(alloc, "dir", "DIR", "The folder with the interchanges"))?
         .arg(at(alloc))
 }
 
@@ -278,6 +292,7 @@ fn of_scripts<'a>(alloc: Global) -> Result<Command<'a>, AllocError>
         .subcommand(enrol(alloc)?)?
         .subcommand(roster(alloc)?)?
         .subcommand(send(alloc)?)?
+        .subcommand(take(alloc)?)?
         .subcommand(count(alloc)?)?
         .subcommand(pick(alloc)?)?
         .subcommand(recount(alloc)?)?

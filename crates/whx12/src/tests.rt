@@ -1,6 +1,8 @@
 mod day;
 mod envelopes;
+mod folders;
 mod goods;
+mod lots;
 mod sets;
 mod shown;
 mod usage;

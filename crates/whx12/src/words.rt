@@ -64,6 +64,11 @@ pub enum Act<'a> {
         /// The file that holds its bytes.
         file: &'a str,
     },
+    /// Submit each interchange of a folder.
+    Take {
+        /// The folder's name.
+        dir: &'a str,
+    },
     /// Tell what a clerk did.
     Clerk(Told<'a>),
 }
@@ -238,6 +243,9 @@ fn act_of<'a>(
         },
         "send" => Act::Send {
             file: given(alloc, values, "file")?,
+        },
+        "take" => Act::Take {
+            dir: given(alloc, values, "dir")?,
         },
         "count" => Act::Clerk(told_of(alloc, Deed::Count, values)?),
         "pick" => Act::Clerk(told_of(alloc, Deed::Pick, values)?),

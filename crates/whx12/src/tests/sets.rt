@@ -152,3 +152,46 @@ fn a_good_set_beside_a_bad_one_acts(rt: HostRuntime) -> Result<(), Fail> {
     assert_eq!(rt; ran.status, 1);
     Ok(())
 }
+
+// A 943 of so many lines of 99,999 BOLT, each of another lot, with this sum, alone in its interchange.
+fn long_advice(rt: &HostRuntime, lines: u32, sum: &str, segments: &str) -> Result<String, Fail> {
+    let alloc = rt.alloc();
+    let mut set = format!(in alloc; "ST*943*0001~W06*F*PO77*20250303*SHP1~")?;
+    for n in 1..=lines {
+        set.push_str(&format!(in alloc; "W04*99999*EA**SK*BOLT~N9*LT*L{n}~")?)?;
+    }
+    set.push_str(&format!(in alloc; "W03*{sum}~SE*{segments}*0001~")?)?;
+    received(rt, "AR", "000000001", "1", &set)
+}
+
+// As many lines as there may be, with their sum and with another; and one line more.
+#[test]
+fn an_advice_has_99_lines_at_most(rt: HostRuntime) -> Result<(), Fail> {
+    let cases = [
+        (99, "9899901", "202", "AK5*A~AK9*A*1*1*1~SE*6*0001~"),
+        (
+            99,
+            "9899900",
+            "202",
+            "AK3*W03*201**8~AK4*1**7~AK5*R*5~AK9*R*1*1*0~SE*8*0001~",
+        ),
+        (
+            100,
+            "9999900",
+            "204",
+            "AK3*W04*201**2~AK5*R*5~AK9*R*1*1*0~SE*7*0001~",
+        ),
+    ];
+    for (lines, sum, segments, fault) in cases {
+        let text = long_advice(&rt, lines, sum, segments)?;
+        fs::write(&rt, "long.x12", text.as_str())?;
+        let ran = play(&rt, "long", &["send long.x12"])?;
+        let set = format!(in rt.alloc(); "ST*997*0001~AK1*AR*1~AK2*943*0001~{fault}")?;
+        assert_eq!(rt;
+            ran.out,
+            sent(&rt, "FA", "000000001", "1", &set)?,
+            "at {sum}"
+        );
+    }
+    Ok(())
+}

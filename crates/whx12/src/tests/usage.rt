@@ -63,7 +63,7 @@ fn lines_are_read(rt: HostRuntime) -> Result<(), Fail> {
         "init ZZ-WHSE1",
         "script usage.script",
         "ship ZZ-ACME",
-        "take in",
+        "take",
         "serve",
         "verify",
         "help",

@@ -1,7 +1,8 @@
-use Rattle.std.proofs.Common.{◌+◌}
+use Rattle.std.proofs.Common.{rules, ◌+◌}
 use Rattle.std.proofs.lemmas.Result.{IfOk-weaker}
 use Rattle.profile.specs.Register.{Clerk}
 use Rattle.profile.specs.Reply.{clerk_entry}
+use Rattle.stock.specs.Pages.{IsSound}
 use Rattle.rules.specs.Asked.{act_of}
 use Rattle.rules.proofs.Performs.{act_done, act_told_of}
 use Rattle.rules.proofs.Leading.{act_leads, nowhere}
@@ -28,7 +29,8 @@ returns-in-Err-clause-reply c =
 pub accepted-requires-clause-led : goal.accepted-requires-clause-led
 accepted-requires-clause-led c =
     let e = c.args.envelope.now in
-    λ h of. act_leads e.depositor c.args.ticket.now (act_of c.args.act.now) e.moment c.args.page.now c.in-Ok.step.changes.items h c.in-Ok.ensures.ok of
+    let sound : IsSound c.args.page.now = search rules in
+    λ h of. act_leads e.depositor c.args.ticket.now (act_of c.args.act.now) e.moment c.args.page.now c.in-Ok.step.changes.items h c.in-Ok.ensures.ok of sound.sorted
 
 pub returns-in-Err-clause-leads : goal.returns-in-Err-clause-leads
 returns-in-Err-clause-leads c =

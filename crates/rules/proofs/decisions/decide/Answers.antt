@@ -2,6 +2,7 @@ use Rattle.std.proofs.Common.{sym, subst}
 use Rattle.std.specs.Prelude.{Option, IfOk, option_copied}
 use Rattle.std.proofs.lemmas.Result.{IfOk-weaker}
 use Rattle.profile.specs.Decision as meant
+use Rattle.rules.proofs.LeadsOn.{all_lead}
 use Rattle.profile.specs.History.{History}
 use Rattle.rules.specs.Asked.{asked}
 use Rattle.rules.specs.Decided.{IsGiven, IsReply, LeadsFrom, entries_of}
@@ -29,3 +30,12 @@ returns-in-Enrol-clause-leads c = subst (λ (x : Command). IfOk c.enrol.result (
 
 pub returns-in-Clerk-clause-leads : goal.returns-in-Clerk-clause-leads
 returns-in-Clerk-clause-leads c = subst (λ (x : Command). IfOk c.perform.result (LeadsFrom c.args.page (asked x) c.args.moment)) (sym c.in-Clerk.is) c.perform.ensures.leads
+
+pub returns-in-Interchange-clause-tables : goal.returns-in-Interchange-clause-tables
+returns-in-Interchange-clause-tables c = all_lead c.args.page c.interchange.result (asked c.args.command.now) c.args.moment (returns-in-Interchange-clause-leads c)
+
+pub returns-in-Enrol-clause-tables : goal.returns-in-Enrol-clause-tables
+returns-in-Enrol-clause-tables c = all_lead c.args.page c.enrol.result (asked c.args.command.now) c.args.moment (returns-in-Enrol-clause-leads c)
+
+pub returns-in-Clerk-clause-tables : goal.returns-in-Clerk-clause-tables
+returns-in-Clerk-clause-tables c = all_lead c.args.page c.perform.result (asked c.args.command.now) c.args.moment (returns-in-Clerk-clause-leads c)

@@ -1,8 +1,8 @@
-use Rattle.std.proofs.Common.{List, ap, ◌∙◌, sym, subst, arith, length}
+use Rattle.std.proofs.Common.{rules, List, ap, ◌∙◌, sym, subst, arith, length}
 use Rattle.profile.specs.Texts.{Told}
 use Rattle.sets_out.specs.Headings.{heading_of}
 use Rattle.sets_out.specs.Interchanges.{answer_of}
-use Rattle.stock.specs.Pages.{PageFacts}
+use Rattle.stock.specs.Pages.{PageFacts, IsSound}
 use Rattle.std.specs.Prelude.{sum_by}
 use Rattle.std.specs.List.{AllByRecursion}
 use Rattle.profile.specs.Structure.{Group, groups_of}
@@ -40,9 +40,10 @@ returns-clause-reply c = λ h of.
 
 pub returns-clause-leads : goal.returns-clause-leads
 returns-clause-leads c = λ h of.
+    let sound : IsSound c.args.page.now = search rules in
     let told = c.in_ok-groups.groups.told.items in
     let taken : AreGroupsTaken (delims_of c.args.text.now) (groups_of ((cut (delims_of c.args.text.now) c.args.text.now).segments)) c.args.page.now c.in_ok-groups.groups.page told =
     subst (λ (i : GroupsOf). AreGroupsTaken i.delims i.groups c.args.page.now c.in_ok-groups.groups.page told) c.requires.parts
     (subst (λ (p : PageFacts). AreGroupsTaken c.args.interchange.now.delims c.args.interchange.now.groups p c.in_ok-groups.groups.page told) c.in_ok-copy.ensures c.in_ok-groups.ensures.taken) in
     interchange_leads c.args.text.now c.args.envelope.moment c.args.page.now c.in_ok-groups.groups.page told c.in_ok-groups.groups.changes.items h taken
-    (subst (λ (p : PageFacts). IsLed c.in_ok-groups.groups.changes.items p c.in_ok-groups.groups.page) c.in_ok-copy.ensures c.in_ok-groups.ensures.led) of
+    (subst (λ (p : PageFacts). IsLed c.in_ok-groups.groups.changes.items p c.in_ok-groups.groups.page) c.in_ok-copy.ensures c.in_ok-groups.ensures.led) of sound.sorted

@@ -1,20 +1,22 @@
 use Rattle.std.proofs.Common.{◌+◌}
-use Rattle.std.proofs.lemmas.Result.{IfOk-weaker, IfErr-weaker}
+use Rattle.std.proofs.lemmas.Result.{IfErr-weaker}
 use Rattle.profile.specs.Cut.{segments_of}
 use Rattle.profile.specs.Allotment.{order_shares}
 use Rattle.profile.specs.Events.{Ordered}
 use Rattle.rules.proofs.Judges.{ordered_ok, ordered_stops}
+use Rattle.rules.proofs.Propers.{ordered_proper, both_ok}
 use Rattle.rules.proofs.judging.ordered.Goals as goal
 
 pub returns-clause-ok : goal.returns-clause-ok
-returns-clause-ok c = IfOk-weaker c.reserve.result _ _ (λ step h es shows.
+returns-clause-ok c = both_ok c.reserve.result _ _ _ (λ step h is es shows.
     let n = c.args.page.now.entries + 1 in
     let ss = segments_of c.args.set.now.pieces in
     let found = h es shows in (
       Ordered c.in_ok-order.order (order_shares es c.in_ok-order.order),
       ordered_ok es n c.args.set.now.kind ss c.in_ok-order.order c.requires.kind c.in_ok-order.ensures.value found.0,
       found.1,
-    )) c.reserve.ensures.ok
+      ordered_proper c.args.page.now es c.in_ok-order.order (order_shares es c.in_ok-order.order) step.changes.items shows found.0 found.1 is,
+    )) c.reserve.ensures.ok c.reserve.ensures.changes
 
 pub returns-clause-err : goal.returns-clause-err
 returns-clause-err c = IfErr-weaker c.reserve.result _ _ (λ stop h es shows.

@@ -29,5 +29,5 @@ loop-group-preserved c = record {
       c.args.start c.loop-group.page c.in_ok-taken.taken.page c.loop-group.told.items c.in_ok-taken.taken.told.items
       c.groups-group-items.ensures c.loop-group-test.true c.group-item.is c.loop-group.invariant.taken c.in_ok-taken.ensures.taken);
   led = subst (λ (cs : List Change). IsLed cs c.args.start c.in_ok-taken.taken.page) (sym c.in_ok-append.ensures.items)
-      (led_both c.loop-group.changes.items c.in_ok-taken.taken.changes.items c.args.start c.loop-group.page c.in_ok-taken.taken.page c.loop-group.invariant.led c.in_ok-taken.ensures.led);
+      (led_both c.loop-group.changes.items c.in_ok-taken.taken.changes.items c.args.start c.loop-group.page c.in_ok-taken.taken.page c.loop-group.invariant.led c.in_ok-taken.ensures.led (λ es shows. (_, c.loop-group.invariant.taken.shows es shows)));
 }

@@ -3,7 +3,7 @@ use Rattle.std.proofs.lemmas.Result.{IfOk-weaker}
 use Rattle.tables.specs.Kinds.{kind_of}
 use Rattle.rules.specs.Judging.{CanBePut}
 use Rattle.rules.proofs.Led.{led_put}
-use Rattle.rules.proofs.Takes.{pieces_closed, take_passed, take_rejected}
+use Rattle.rules.proofs.Takes.{pieces_closed, take_passed, take_rejected, judged_proper}
 use Rattle.rules.proofs.taking.take_set.Goals as goal
 
 pub judged-requires-clause-closed : goal.judged-requires-clause-closed
@@ -20,7 +20,8 @@ returns-in-Passed-clause-taken c = IfOk-weaker c.passed.result _ _ (λ t done.
 
 pub returns-in-Passed-clause-led : goal.returns-in-Passed-clause-led
 returns-in-Passed-clause-led c = IfOk-weaker c.passed.result _ _ (λ t done.
-    rw (done.0, done.1) (led_put c.in-Passed.step.changes.items c.args.page)) c.passed.ensures
+    rw (done.0, done.1) (led_put c.in-Passed.step.changes.items c.args.page
+    (judged_proper c.args.set.now.delims (kind_of c.args.kind) c.args.page c.segments.result.now c.in_ok-step.field-0 c.in-Passed.step c.segments.ensures.same c.in_ok-step.ensures.value c.in-Passed.is))) c.passed.ensures
 
 pub returns-in-Rejected-clause-taken : goal.returns-in-Rejected-clause-taken
 returns-in-Rejected-clause-taken c =

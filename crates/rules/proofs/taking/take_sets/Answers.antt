@@ -21,7 +21,7 @@ loop-i-preserved c = record {
       c.args.start c.loop-i.page c.in_ok-taken.taken.page c.loop-i.told.items c.in_ok-taken.taken.told c.push.new.self.items
       c.sets-set-items.ensures c.in_ok-faults.ensures c.loop-i-test.true c.set-item.is c.index.ensures c.loop-i.invariant.taken c.in_ok-taken.ensures.taken c.in_ok-push.ensures.items;
   led = subst (λ (cs : List Change). IsLed cs c.args.start c.in_ok-taken.taken.page) (sym c.in_ok-append.ensures.items)
-      (led_both c.loop-i.changes.items c.in_ok-taken.taken.changes.items c.args.start c.loop-i.page c.in_ok-taken.taken.page c.loop-i.invariant.led c.in_ok-taken.ensures.led);
+      (led_both c.loop-i.changes.items c.in_ok-taken.taken.changes.items c.args.start c.loop-i.page c.in_ok-taken.taken.page c.loop-i.invariant.led c.in_ok-taken.ensures.led (λ es shows. (_, c.loop-i.invariant.taken.shows es shows)));
 }
 
 pub returns-clause-taken : goal.returns-clause-taken

@@ -1,4 +1,4 @@
-use Rattle.std.proofs.Common.{sym, ap, refl, ◌∙◌, ◌∷◌, List}
+use Rattle.std.proofs.Common.{sym, ap, ◌∙◌, ◌∷◌}
 use Rattle.rules.specs.Written.{Written}
 use Rattle.store.proofs.Entries.{text_at}
 use Rattle.store.proofs.replaying.outgoing_behind.Goals as goal

@@ -1,6 +1,6 @@
 use Rattle.std.proofs.Common.{ap, ◌∙◌, arith, map, take, length, ◌≡◌}
 use Rattle.std.proofs.Math.Seq.{take-length}
-use Rattle.profile.specs.Rows.{LotRow, shown_row}
+use Rattle.profile.specs.Rows.{shown_row}
 use Rattle.store.proofs.Entries.{rows_of_page}
 use Rattle.store.proofs.replaying.shown.Goals as goal
 

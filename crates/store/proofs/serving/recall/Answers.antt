@@ -1,8 +1,7 @@
-use Rattle.std.proofs.Common.{rules, sym, ap, ◌∙◌, subst, List, ◌≡◌, Some}
-use Rattle.profile.specs.Register.{own}
-use Rattle.profile.specs.Accepted.{own_of, subject, IsLegal}
-use Rattle.profile.specs.Decision.{standing, recalled}
-use Rattle.rules.specs.Asked.{asked, mark_of}
+use Rattle.std.proofs.Common.{sym, subst}
+use Rattle.profile.specs.Accepted.{IsLegal}
+use Rattle.profile.specs.Decision.{standing}
+use Rattle.rules.specs.Asked.{asked}
 use Rattle.store.specs.Held.{IsHeldFor}
 use Rattle.store.proofs.Changes.{clean_before, unchanged_trans}
 use Rattle.store.proofs.Replies.{recalled_at, owner_none, owner_some, named_key}

@@ -1,10 +1,7 @@
-use Rattle.std.proofs.Common.{◌∙◌, List, arith, sym, refl, ap, subst, length, take, ◌++◌, ◌∷◌, []}
-use Rattle.profile.specs.Register.{Entry}
-use Rattle.profile.specs.Header.{Who}
-use Rattle.profile.specs.Accepted.{accepted_on, after, reply_to, IsLegal}
-use Rattle.profile.specs.Reply as replies
-use Rattle.store.specs.Runs.{all_asked, asked_at}
-use Rattle.store.specs.Standing.{IsUsable, LeavesEither}
+use Rattle.std.proofs.Common.{◌∙◌, arith, sym, refl, ap, subst, length, take}
+use Rattle.profile.specs.Accepted.{accepted_on}
+use Rattle.store.specs.Runs.{all_asked}
+use Rattle.store.specs.Standing.{IsUsable}
 use Rattle.store.proofs.Changes.{clean_before, goes_trans, usable_stays, refused_after}
 use Rattle.store.proofs.Replies.{given_item, next_usable, next_left, next_told}
 use Rattle.store.proofs.serving.run.Goals as goal

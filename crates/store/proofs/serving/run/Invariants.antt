@@ -1,5 +1,4 @@
 use Rattle.std.proofs.Common.{◌≡◌, List, length, map, take, true}
-use Rattle.std.specs.List.{list_all}
 use Rattle.profile.specs.Register.{Entry}
 use Rattle.profile.specs.Accepted.{accepted_on, replies_on}
 use Rattle.store.specs.Runs.{told, all_asked, can_be_given}

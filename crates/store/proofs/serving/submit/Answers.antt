@@ -1,11 +1,12 @@
-use Rattle.std.proofs.Common.{rules, subst, sym, ap, ◌∙◌, List, ◌≡◌, ◌++◌, ◌∷◌, [], true}
+use Rattle.std.proofs.Common.{rules, subst, sym, List, ◌≡◌, true}
 use Rattle.std.specs.Cmp.Derive.{both_true}
 use Rattle.profile.specs.Moments.{is_moment}
 use Rattle.profile.specs.Register.{Entry}
 use Rattle.profile.specs.Accepted.{after, entry_of}
 use Rattle.rules.specs.Asked.{asked}
+use Rattle.rules.specs.Tabled.{LeadsInTables}
 use Rattle.store.specs.Held.{IsDecided}
-use Rattle.store.specs.Standing.{IsUsable, IsNext, LeavesEither}
+use Rattle.store.specs.Standing.{IsUsable, LeavesEither}
 use Rattle.store.proofs.Changes.{clean_before, usable_stays, fault_after, leaves_first, at_fault}
 use Rattle.store.proofs.Replies.{next_at, next_is, behind_accepted, behind_stored, behind_refused}
 use Rattle.store.proofs.serving.submit.Goals as goal
@@ -24,12 +25,13 @@ returns-in_err-commit-in-Accepted-clause-left g c = λ clean L u given.
     let t = c.args.moment in
     let early = clean_before mid new c.commit.ensures.goes clean in
     let is = subst (IsDecided old.warehouse L asking t) c.in-Accepted.is (c.in_ok-text.ensures.decision early L u.keeps u.legal) in
-    let next = next_is old.warehouse L asking t c.in-Accepted.entry c.in-Accepted.outgoing.items u.legal (both_true given (let m : is_moment c.args.moment ≡ true = search rules in m)) is.0 is.1 in
+    let next = next_is old.warehouse L asking t c.in-Accepted.entry c.in-Accepted.changes.items c.in-Accepted.outgoing.items u.legal (both_true given (let m : is_moment c.args.moment ≡ true = search rules in m)) is.0 is.1
+    (subst (LeadsInTables old.warehouse L asking t) c.in-Accepted.is (c.in_ok-text.ensures.tables early L u.keeps u.legal)) in
     let house = c.judge.ensures.same.goes.warehouse in
     at_fault c.from_residual-in_err-commit-in-Accepted.result
     (subst (λ (M : List Entry). LeavesEither new L M) (behind_accepted old.warehouse L asking t c.in-Accepted.outgoing.items is.0)
     (c.in_err-commit-in-Accepted.ensures.left clean L (entry_of asking t) (usable_stays old mid c.judge.ensures.same early L u)
-    (next_at (sym house) (sym c.deref-in-Accepted.ensures.value) next)))
+    (next_at (sym house) (sym c.deref.ensures.value) (sym c.deref-in-Accepted.ensures.value) next)))
 
 pub returns-in_err-commit-in-Accepted-clause-fault : goal.returns-in_err-commit-in-Accepted-clause-fault
 returns-in_err-commit-in-Accepted-clause-fault g c =
@@ -67,8 +69,9 @@ returns-in_ok-commit-in-Accepted-clause-ok g c = λ clean L u given.
     let t = c.args.moment in
     let early = clean_before mid new c.commit.ensures.goes clean in
     let is = subst (IsDecided old.warehouse L asking t) c.in-Accepted.is (c.in_ok-text.ensures.decision early L u.keeps u.legal) in
-    let next = next_is old.warehouse L asking t c.in-Accepted.entry c.in-Accepted.outgoing.items u.legal (both_true given (let m : is_moment c.args.moment ≡ true = search rules in m)) is.0 is.1 in
+    let next = next_is old.warehouse L asking t c.in-Accepted.entry c.in-Accepted.changes.items c.in-Accepted.outgoing.items u.legal (both_true given (let m : is_moment c.args.moment ≡ true = search rules in m)) is.0 is.1
+    (subst (LeadsInTables old.warehouse L asking t) c.in-Accepted.is (c.in_ok-text.ensures.tables early L u.keeps u.legal)) in
     let house = c.judge.ensures.same.goes.warehouse in
     subst (IsUsable new) (behind_accepted old.warehouse L asking t c.in-Accepted.outgoing.items is.0)
     (c.in_ok-commit-in-Accepted.ensures.ok clean L (entry_of asking t) (usable_stays old mid c.judge.ensures.same early L u)
-    (next_at (sym house) (sym c.deref-in-Accepted.ensures.value) next))
+    (next_at (sym house) (sym c.deref.ensures.value) (sym c.deref-in-Accepted.ensures.value) next))

@@ -1,6 +1,6 @@
 use Rattle.std.proofs.Common.{subst, sym, ap, refl, ◌≡◌, ◌∙◌, ◌++◌, ◌∷◌, [], List}
 use Rattle.profile.specs.Accepted.{IsLegal}
-use Rattle.rules.specs.Written.{Written, written}
+use Rattle.rules.specs.Written.{Written}
 use Rattle.store.specs.Replayed.{Replayed, all_written}
 use Rattle.store.proofs.Entries.{written_more, one_register}
 use Rattle.store.proofs.replaying.ReplayBookKeeper.commit.Goals as goal

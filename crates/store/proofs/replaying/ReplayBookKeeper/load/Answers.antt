@@ -1,6 +1,5 @@
-use Rattle.std.proofs.Common.{append-nil, sym, ap, ◌∙◌, ◌++◌, [], subst, List}
+use Rattle.std.proofs.Common.{append-nil, sym, ap, ◌∙◌, ◌++◌, [], subst}
 use Rattle.profile.specs.Accepted.{IsLegal}
-use Rattle.profile.specs.Register.{Entry}
 use Rattle.store.specs.Replayed.{Replayed}
 use Rattle.store.proofs.replaying.ReplayBookKeeper.load.Goals as goal
 

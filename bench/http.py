@@ -1,0 +1,193 @@
+#!/usr/bin/env python3
+"""Asks the server by curl, and measures it on loopback. Not part of the gate.
+
+Usage: bench/http.py [PROGRAM]        (default: crates/whx12/out/whx12, which `rt run` in that folder leaves)
+       bench/http.py --at HOST:PORT   (a server that runs already, over a new book of ZZ-WHSE1 with ZZ-ACME enrolled)
+
+PROGRAM makes a book in a new folder and serves it: `init`, `enrol`, and `serve --listen 127.0.0.1:PORT --count N`. First each
+request of REQUESTS is sent by curl and its response compared, head and body, with what the rules of the house give; a date and
+a time that the clock gave are passed over. Then the same requests are sent over and over, a connection each and one after the
+other: the stock report of a depositor, and an interchange that was accepted before. Python's http.server serves a file of
+the report's bytes in the same way. Printed are requests a second, and the median and the 99th percentile of the time from the
+connection to its end. The status is 1 where a response differs.
+"""
+import os
+import re
+import socket
+import subprocess
+import sys
+import tempfile
+import time
+
+HERE = os.path.dirname(os.path.abspath(__file__))
+ROUNDS = 2000
+PLAIN, X12 = "text/plain", "application/EDI-X12"
+STOCK = ("item                 lot                 expected         on hand        reserved         shipped\n"
+         "BOLT                 L1                       100               0               0               0\n")
+
+
+def header(sender, receiver, control, wanted):
+    """ISA of 2025-03-04, 09:15."""
+    return (f"ISA*00*          *00*          *ZZ*{sender:15}*ZZ*{receiver:15}*250304*0915*U*00401*{control}*{wanted}*P*>~")
+
+
+def advice(quantity):
+    """A 943 of one line under control number 1: 255 bytes."""
+    return (header("ACME", "WHSE1", "000000001", 1) + "GS*AR*ACME*WHSE1*20250304*0915*1*X*004010~ST*943*0001~"
+            f"W06*F*PO77*20250303*SHP1~W04*{quantity}*EA**SK*BOLT~N9*LT*L1~W03*{quantity}~SE*6*0001~GE*1*1~IEA*1*000000001~")
+
+
+ANSWER = (header("WHSE1", "ACME", "000000001", 0) + "TA1*000000001*250304*0915*A*000~"
+          "GS*FA*WHSE1*ACME*20250304*0915*1*X*004010~ST*997*0001~AK1*AR*1~AK2*943*0001~AK5*A~AK9*A*1*1*1~SE*6*0001~"
+          "GE*1*1~IEA*1*000000001~")
+REFUSAL = header("WHSE1", "ACME", "000000000", 0) + "TA1*000000001*250304*0915*R*025~IEA*0*000000000~"
+ACKNOWLEDGMENT = (header("ACME", "WHSE1", "000000003", 0) + "GS*FA*ACME*WHSE1*20250304*0915*3*X*004010~ST*997*0001~"
+                  "AK1*SW*4~AK2*945*0001~AK5*A~AK9*A*1*1*1~SE*6*0001~GE*1*3~IEA*1*000000003~")
+
+
+def response(status, kind, body, allow=""):
+    """A response with a body."""
+    return (f"HTTP/1.1 {status}\r\nContent-Type: {kind}\r\nContent-Length: {len(body)}\r\n{allow}Connection: close\r\n\r\n{body}")
+
+
+def told(status, allow=""):
+    """A response that says its status and no more."""
+    return response(status, PLAIN, status + "\n", allow)
+
+
+# A name, curl's words, the body that is posted, and the response.
+REQUESTS = [
+    ("no length of its own", ["-H", "Content-Length:", "-X", "POST"], None, told("411 Length Required")),
+    ("the first 105 bytes", [], advice(100)[:105], response("400 Bad Request", PLAIN, "1 Unreadable\n")),
+    ("an advice", [], advice(100), response("200 OK", X12, ANSWER)),
+    ("the same again", [], advice(100), response("200 OK", X12, ANSWER)),
+    ("another under its number", [], advice(101), response("409 Conflict", X12, REFUSAL)),
+    ("an acknowledgment", [], ACKNOWLEDGMENT, "HTTP/1.1 204 No Content\r\nConnection: close\r\n\r\n"),
+    ("a body in chunks", ["-H", "Transfer-Encoding: chunked"], advice(100), told("501 Not Implemented")),
+    ("another method", "/x12", None, told("405 Method Not Allowed", "Allow: POST\r\n")),
+    ("stock", "/stock/ZZ-ACME", None, response("200 OK", PLAIN, STOCK)),
+    ("outbox", "/outbox/ZZ-ACME", None, response("200 OK", PLAIN, "     1 ANS -\n")),
+    ("a text of the outbox", "/outbox/ZZ-ACME/1", None, response("200 OK", X12, ANSWER)),
+    ("a number with a zero", "/outbox/ZZ-ACME/01", None, told("404 Not Found")),
+    ("a stranger", "/stock/ZZ-NONE", None, told("404 Not Found")),
+    ("no route", "/", None, told("404 Not Found")),
+]
+
+
+def undated(text):
+    """The text without the dates and times that a clock gave."""
+    text = re.sub(r"\*\d{6}\*\d{4}\*U\*", "*DATE*TIME*U*", text)
+    return re.sub(r"(GS\*FA\*WHSE1\*ACME)\*\d{8}\*\d{4}\*", r"\1*DATE*TIME*", text)
+
+
+def ask(address, words, body):
+    """What curl gets."""
+    path = words if isinstance(words, str) else "/x12"
+    command = ["curl", "--silent", "--include", "--http1.1", "--max-time", "20", "--header", "Expect:"]
+    if not isinstance(words, str):
+        command += words
+    if body is not None:
+        command += ["--data-binary", "@-"]
+    command.append(f"http://{address}{path}")
+    got = subprocess.run(command, input=(body or "").encode(), capture_output=True, check=False)
+    return got.stdout.decode("latin-1")
+
+
+def once(host, port, request):
+    """One request on a connection of its own: the seconds that it took, and the response."""
+    start, pieces = time.perf_counter(), []
+    with socket.create_connection((host, port), 20) as stream:
+        stream.sendall(request)
+        while piece := stream.recv(65536):
+            pieces.append(piece)
+    return time.perf_counter() - start, b"".join(pieces)
+
+
+def measure(name, address, request, rounds):
+    """Requests a second, and the times of the middle and of the slowest hundredth."""
+    host, port = address.split(":")
+    times, start = [], time.perf_counter()
+    for _ in range(rounds):
+        times.append(once(host, int(port), request)[0])
+    whole = time.perf_counter() - start
+    times.sort()
+    print(f"{name:28} {rounds / whole:9.0f} a second   {times[rounds // 2] * 1e3:7.2f} ms   {times[rounds * 99 // 100] * 1e3:7.2f} ms")
+
+
+def free_port():
+    """A port that nobody listens on."""
+    with socket.socket() as one:
+        one.bind(("127.0.0.1", 0))
+        return one.getsockname()[1]
+
+
+def wait_for(address):
+    """Waits until somebody accepts; the connection counts as a request of the server."""
+    host, port = address.split(":")
+    for _ in range(200):
+        try:
+            socket.create_connection((host, int(port)), 1).close()
+            return
+        except OSError:
+            time.sleep(0.05)
+    sys.exit(f"nobody listens at {address}")
+
+
+def compare(address):
+    """Whether each response is the one that is wanted."""
+    good = True
+    for name, words, body, wanted in REQUESTS:
+        got = ask(address, words, body)
+        if undated(got) != undated(wanted):
+            good = False
+            print(f"{name}: wanted {wanted!r}, got {got!r}")
+    print(f"{len(REQUESTS)} requests by curl: {'as wanted' if good else 'NOT as wanted'}")
+    return good
+
+
+def load(address, folder):
+    """Times of the server, and of Python's own."""
+    body = advice(100).encode()
+    measure("stock report", address, b"GET /stock/ZZ-ACME HTTP/1.1\r\nHost: localhost\r\n\r\n", ROUNDS)
+    measure("interchange, known", address, b"POST /x12 HTTP/1.1\r\nHost: localhost\r\nContent-Length: 255\r\n\r\n" + body, ROUNDS)
+    with open(os.path.join(folder, "stock"), "w", encoding="ascii") as file:
+        file.write(STOCK)
+    port = free_port()
+    python = subprocess.Popen([sys.executable, "-m", "http.server", "--bind", "127.0.0.1", "--directory", folder, str(port)],
+                              stdout=subprocess.DEVNULL, stderr=subprocess.DEVNULL)
+    try:
+        wait_for(f"127.0.0.1:{port}")
+        measure("Python's http.server, a file", f"127.0.0.1:{port}", b"GET /stock HTTP/1.1\r\nHost: localhost\r\n\r\n", ROUNDS)
+    finally:
+        python.terminate()
+        python.wait()
+
+
+def main():
+    """Serves a new book, or asks the server that is given."""
+    with tempfile.TemporaryDirectory() as folder:
+        if sys.argv[1:2] == ["--at"]:
+            good = compare(sys.argv[2])
+            load(sys.argv[2], folder)
+            sys.exit(0 if good else 1)
+        program = os.path.abspath(sys.argv[1] if len(sys.argv) > 1 else os.path.join(HERE, "../crates/whx12/out/whx12"))
+        book = ["--book", os.path.join(folder, "book")]
+        for words in (["init", "ZZ-WHSE1"], ["enrol", "ZZ-ACME"]):
+            subprocess.run([program, *words, *book, "--at", "2025-03-04T09:15"], check=True)
+        address = f"127.0.0.1:{free_port()}"
+        count = 1 + len(REQUESTS) + 2 * ROUNDS
+        server = subprocess.Popen([program, "serve", *book, "--listen", address, "--count", str(count)],
+                                  stdout=subprocess.DEVNULL)
+        try:
+            wait_for(address)
+            good = compare(address)
+            load(address, folder)
+        finally:
+            if server.poll() is None:
+                server.terminate()
+            server.wait()
+        sys.exit(0 if good else 1)
+
+
+if __name__ == "__main__":
+    main()

@@ -1,0 +1,21 @@
+use Rattle.std.proofs.Common.{rules, ◌≡◌, sym, ap, ◌∙◌}
+use Rattle.std.specs.Prelude.{nat_lt}
+use Rattle.rules.specs.Written.{Written}
+use Rattle.sqlite.specs.Held.{state}
+use Rattle.books.proofs.StepLemmas.{on_ok}
+use Rattle.books.proofs.AppendingLemmas.{sent_led, numbered}
+use Rattle.books.proofs.appending.insert_sent.Goals as goal
+
+pub returns-clause-leads : goal.returns-clause-leads
+returns-clause-leads g c clean inside =
+    on_ok c.insert_outgoing.result (λ led W L e is written sent.
+    let counts = sym (numbered L e) ∙ sym (ap (λ (w : Written). nat_lt 0 w.n) written) ∙ sym c.is_numbered.ensures ∙ c.if-not-is_numbered.false in
+    let key : c.deref.result.now ≡ c.args.entry.now.key = search rules in
+    let again : c.deref-2.result.now ≡ c.args.entry.now.key = search rules in
+    let its = ap (λ (w : Written). w.key) written in
+    sent_led W L e c.args.who.now c.number.result c.kind_text-kind.result.now c.args.outgoing.now c.new_state_text-state_text.result.now
+    (state g.S.Store c.args.tx.now.conn.now).now (state g.S.Store c.insert_outgoing.new.tx.conn.now).now counts is
+    (c.number.ensures ∙ ap (λ (w : Written). w.n) written)
+    (c.kind_text-kind.ensures e.deed (key ∙ its) (c.body.ensures ∙ ap (λ (w : Written). w.body) written)) sent
+    (c.new_state_text-state_text.ensures e.deed (again ∙ its)) led)
+    (c.insert_outgoing.ensures.leads clean inside)

@@ -1,0 +1,33 @@
+-- What appending an entry changes in the tables, besides what its command changes.
+use Rattle.std.specs.Prelude.{◌≡◌, ℕ, ◌+◌, List, [], ◌∷◌, length, codes, if◌then◌else◌}
+use Rattle.profile.specs.Header.{Who}
+use Rattle.profile.specs.Register.{Deed, Performed, Entry, is_numbered, own}
+use Rattle.profile.specs.Reply.{out}
+use Rattle.profile.specs.Rows.{new_out_row}
+use Rattle.profile.specs.Tables.{entry_row, outgoing_row}
+use Rattle.profile.specs.Changes as tables
+use Rattle.rules.specs.Written.{Written, written}
+use Rattle.rules.specs.Tabled.{table_changes}
+use Rattle.stock.specs.declared.steps.Change.{Change}
+
+-- the state of what has just gone out for a deed
+abbrev pub first_state : Deed → List ℕ
+first_state (Performed ticket act) = codes "open"
+first_state d = codes "-"
+
+-- the row of a numbered entry's text
+abbrev pub sent_changes : Who → List Entry → Entry → List tables.Change
+sent_changes W L e =
+    if is_numbered e then tables.Puts (codes "outgoing") (outgoing_row e.who (new_out_row W (own L e.who) e)) ∷ [] else []
+
+-- the entry's row, and that
+abbrev pub entry_changes : Who → List Entry → Entry → List tables.Change
+entry_changes W L e = tables.Puts (codes "entry") (entry_row L e) ∷ sent_changes W L e
+
+-- what is given to be appended: the entry as it is written down behind the register, under the next number, with the text that
+-- goes out for it, and with changes that lead from the register's tables to those with the entry
+pub record Appends (W : Who) (L : List Entry) (e : Entry) (n : ℕ) (row : Written) (changes : List Change) (text : List ℕ) : Type 0 where
+  pub next : n ≡ length L + 1
+  pub entry : row ≡ written L e
+  pub outgoing : text ≡ out W (own L e.who) e
+  pub leads : tables.LeadOn W L e (table_changes e.who changes)

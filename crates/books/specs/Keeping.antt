@@ -1,0 +1,27 @@
+-- How a book in tables stands.
+use Rattle.std.specs.Prelude.{◌≡◌, ℕ, Bool, List, length}
+use Rattle.sqlite.specs.State.{State}
+use Rattle.sqlite_trees.specs.View.{doubt}
+use Rattle.profile.specs.Header.{Who}
+use Rattle.profile.specs.Register.{Entry}
+use Rattle.store.specs.Standing.{Standing}
+use Rattle.books.specs.Standing.{AreOrdered, filled}
+use Rattle.books.specs.Exits.{AllStand, LeavesStanding, StandsWhileOpen}
+
+-- the register has so many entries, its rows are in the order of their keys, and the tables stand for it while the store is open
+pub record IsKept (s : State) (W : Who) (entries : ℕ) (L : List Entry) : Type 0 where
+  pub count : entries ≡ length L
+  pub ordered : AreOrdered (filled W L)
+  pub stands : StandsWhileOpen s W L
+
+-- how a book of the warehouse stands, which knows of so many entries
+abbrev pub standing_in : State → Who → ℕ → ℕ → Bool → Standing
+standing_in s W entries refused shut = record {
+  warehouse = W;
+  keeps = IsKept s W entries;
+  left = LeavesStanding s W;
+  all_stand = AllStand s W;
+  doubt = doubt s.is_clean;
+  refusals = refused;
+  shut = shut;
+}

@@ -1,0 +1,12 @@
+pub mod Layout
+pub mod Steps
+pub mod Held
+pub mod Standing
+pub mod Leading
+pub mod Rises
+pub mod Appending
+pub mod Kept
+pub mod Exits
+pub mod Making
+pub mod Keeping
+pub mod Opened

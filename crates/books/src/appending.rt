@@ -1,0 +1,74 @@
+ghost use Rattle.std.specs.Prelude.{◌≡◌, ◌⊎◌, ◌++◌, List, IsTrue, IfErr, OnOk, OnErr};
+ghost use Rattle.profile.specs.Header.{Who as Partner, who_text};
+ghost use Rattle.profile.specs.Register as register;
+ghost use Rattle.profile.specs.Reply.{out};
+ghost use Rattle.rules.specs.Written.{written};
+ghost use Rattle.rules.specs.Tabled.{table_changes};
+ghost use Rattle.sqlite.specs.State.{HasCleanDisk, Survives, KeepsCommit};
+ghost use Rattle.sqlite.specs.Held.{state};
+ghost use Rattle.books.specs.Appending.{Appends, sent_changes, entry_changes};
+ghost use Rattle.books.specs.Leading.{Leads};
+ghost use Rattle.books.specs.Rises.{Rises};
+
+use crate::calls::Calls;
+use crate::changing::apply_all;
+use crate::texts::{kind_text, moment_text, new_state_text};
+use crate::writing::{insert_entry, insert_outgoing};
+use rules::{Change, Entry};
+use sqlite::{Alter, Transaction};
+use store::Fault;
+
+/// Adds the text that goes out for a numbered entry.
+fn insert_sent<'a, S: Alter>(
+    tx: &mut Transaction<'_, S>,
+    calls: &mut Calls,
+    who: &'a [u8],
+    entry: &'a Entry,
+    outgoing: &'a [u8],
+) -> Result<(), Fault>
+    ensures same_reference { tx.new.conn.ghost_name ≡ tx.old.conn.ghost_name }
+    ensures leads { HasCleanDisk (state S.Store tx.new.conn.now) → IsTrue (state S.Store tx.old.conn.now).in_transaction
+        → OnOk result ((W : Partner) (L : List register.Entry) (e : register.Entry) → who.now ≡ who_text e.who → entry.now ≡ written L e → outgoing.now ≡ out W (register.own L e.who) e
+        → Leads (sent_changes W L e) (state S.Store tx.old.conn.now).now (state S.Store tx.new.conn.now).now) }
+    ensures inside { HasCleanDisk (state S.Store tx.new.conn.now) → IsTrue (state S.Store tx.old.conn.now).in_transaction → OnOk result (IsTrue (state S.Store tx.new.conn.now).in_transaction) }
+    ensures kept { HasCleanDisk (state S.Store tx.new.conn.now) → KeepsCommit (state S.Store tx.old.conn.now) (state S.Store tx.new.conn.now) }
+    ensures survives { Survives (state S.Store tx.old.conn.now) (state S.Store tx.new.conn.now) (λ _. ⊥) }
+    ensures ok { OnOk result (calls.new.refused ≡ calls.old.refused) }
+    ensures counted { OnErr result (Rises calls.old.refused calls.new.refused) }
+    ensures named { IfErr result (λ f. (f ≡ Fault.OutOfMemory) ⊎ (f ≡ Fault.Store)) }
+{
+    if !entry.is_numbered() {
+        return Ok(());
+    }
+    let kind = kind_text(&entry.key, entry.body());
+    let state_text = new_state_text(&entry.key);
+    insert_outgoing(tx, calls, who, entry.number(), kind, outgoing, state_text)
+}
+
+/// Adds an entry under the next number, with the text that goes out for it and the changes that its command makes.
+pub(crate) fn write_entry<'a, S: Alter>(
+    tx: &mut Transaction<'_, S>,
+    calls: &mut Calls,
+    seq: u32,
+    who: &'a [u8],
+    entry: &'a Entry,
+    changes: &'a [Change],
+    outgoing: &'a [u8],
+) -> Result<(), Fault>
+    ensures same_reference { tx.new.conn.ghost_name ≡ tx.old.conn.ghost_name }
+    ensures leads { HasCleanDisk (state S.Store tx.new.conn.now) → IsTrue (state S.Store tx.old.conn.now).in_transaction
+        → OnOk result ((W : Partner) (L : List register.Entry) (e : register.Entry) → who.now ≡ who_text e.who → Appends W L e seq entry.now changes.now outgoing.now
+        → Leads (entry_changes W L e ++ table_changes e.who changes.now) (state S.Store tx.old.conn.now).now (state S.Store tx.new.conn.now).now) }
+    ensures inside { HasCleanDisk (state S.Store tx.new.conn.now) → IsTrue (state S.Store tx.old.conn.now).in_transaction → OnOk result (IsTrue (state S.Store tx.new.conn.now).in_transaction) }
+    ensures opened { HasCleanDisk (state S.Store tx.new.conn.now) → IsTrue (state S.Store tx.old.conn.now).in_transaction → OnOk result (IsTrue (state S.Store tx.old.conn.now).is_open) }
+    ensures kept { HasCleanDisk (state S.Store tx.new.conn.now) → KeepsCommit (state S.Store tx.old.conn.now) (state S.Store tx.new.conn.now) }
+    ensures survives { Survives (state S.Store tx.old.conn.now) (state S.Store tx.new.conn.now) (λ _. ⊥) }
+    ensures ok { OnOk result (calls.new.refused ≡ calls.old.refused) }
+    ensures counted { OnErr result (Rises calls.old.refused calls.new.refused) }
+    ensures named { IfErr result (λ f. (f ≡ Fault.OutOfMemory) ⊎ (f ≡ Fault.Store)) }
+{
+    let moment = moment_text(entry.moment());
+    insert_entry(tx, calls, seq, who, entry, &moment)?;
+    insert_sent(tx, calls, who, entry, outgoing)?;
+    apply_all(tx, calls, who, changes)
+}

@@ -1,0 +1,136 @@
+ghost use Rattle.std.specs.Prelude.{◌≡◌, ◌⊎◌, ◌++◌, ◌∷◌, [], List, false, IsTrue, IfErr, OnOk, OnErr};
+ghost use Rattle.profile.specs.Accepted.{IsLegal};
+ghost use Rattle.profile.specs.Header.{Who as Partner};
+ghost use Rattle.profile.specs.Register as register;
+ghost use Rattle.sqlite.specs.State.{HasCleanDisk, Survives};
+ghost use Rattle.sqlite.specs.Held.{state};
+ghost use Rattle.books.specs.Exits.{IsAppended, HasGrown, Extends, IsAsBefore, LeavesIt};
+ghost use Rattle.books.specs.Layout.{no_layout};
+ghost use Rattle.books.specs.Making.{Makes};
+ghost use Rattle.books.specs.Rises.{Rises};
+ghost use Rattle.books.specs.Standing.{StandsIn};
+
+use crate::appending::write_entry;
+use crate::calls::Calls;
+use crate::making::make_all;
+use rules::{Change, Entry, Warehouse};
+use sqlite::{Alter, Connection};
+use std::marker::Model;
+use store::Fault;
+
+/// A connection to the tables of a book, with the count of its calls that were refused.
+#[derive(Drop)]
+pub struct Tables<S: Alter + Drop> {
+    conn: Connection<S>,
+    calls: Calls,
+}
+
+impl<S: Alter + Drop> Model for Tables<S> {
+    ghost use Rattle.std.specs.Prelude.{◌≡◌, false};
+    ghost use Rattle.books.specs.Kept.{Kept, kept_code};
+
+    ghost Value = { Kept S };
+
+    ghost coded = { kept_code S.code };
+
+    ghost view = { λ t. record { conn = t.conn; refused = t.calls.refused } };
+
+    ghost invariant = { λ t. t.conn.in_transaction ≡ false };
+}
+
+impl<S: Alter + Drop> Tables<S> {
+    /// The tables of a connection that is in no transaction. No call is refused yet, and any number may be made.
+    pub fn new(conn: Connection<S>) -> Tables<S>
+        requires { conn.in_transaction ≡ false }
+        ensures conn { result.conn ≡ conn }
+        ensures refused { result.refused ≡ 0 }
+    {
+        Tables {
+            conn,
+            calls: Calls::new(),
+        }
+    }
+
+    /// How many calls the store refused. At its greatest number the count stays.
+    pub fn refused(&self) -> u64
+        ensures { result ≡ self.now.refused }
+    {
+        self.calls.refused
+    }
+
+    /// After that many more calls each, but the giving up of a transaction, is refused unmade and counted; None lifts that.
+    pub fn limit_calls(&mut self, limit: Option<u64>)
+        ensures conn { self.new.conn ≡ self.old.conn }
+        ensures refused { self.new.refused ≡ self.old.refused }
+    {
+        self.calls.limit = limit;
+    }
+
+    /// The connection.
+    pub fn into_inner(self) -> Connection<S>
+        ensures { result ≡ self.conn }
+    {
+        let Tables { conn, calls: _ } = self;
+        conn
+    }
+
+    /// The numbers of entries are used up: the call that would have taken one is refused.
+    pub(crate) fn use_up(&mut self) -> Fault
+        ensures told { result ≡ Fault.Store }
+        ensures conn { self.new.conn ≡ self.old.conn }
+        ensures counted { Rises self.old.refused self.new.refused }
+    {
+        self.calls.refuse()
+    }
+
+    /// Appends an entry under the next number, with what its command changes and what goes out for it, in one transaction.
+    pub(crate) fn append<'a>(
+        &mut self,
+        seq: u32,
+        who: &'a [u8],
+        entry: &'a Entry,
+        changes: &'a [Change],
+        outgoing: &'a [u8],
+    ) -> Result<(), Fault>
+        ensures ok { HasCleanDisk (state S.Store self.new.conn) → OnOk result ((W : Partner) (L : List register.Entry) (e : register.Entry)
+            → IsAppended (state S.Store self.old.conn) W L e seq who.now entry.now changes.now outgoing.now → HasGrown (state S.Store self.new.conn) W (L ++ e ∷ [])) }
+        ensures left { HasCleanDisk (state S.Store self.new.conn) → OnOk result (LeavesIt (state S.Store self.new.conn)) }
+        ensures err { HasCleanDisk (state S.Store self.new.conn) → OnErr result (IsAsBefore (state S.Store self.old.conn) (state S.Store self.new.conn)) }
+        ensures crash { Survives (state S.Store self.old.conn) (state S.Store self.new.conn) (Extends (state S.Store self.old.conn) seq who.now entry.now changes.now outgoing.now) }
+        ensures named { IfErr result (λ f. (f ≡ Fault.OutOfMemory) ⊎ (f ≡ Fault.Store)) }
+        ensures counted { OnErr result (Rises self.old.refused self.new.refused) }
+        ensures uncounted { OnOk result (self.new.refused ≡ self.old.refused) }
+    {
+        let settled = self.conn.is_autocommit();
+        prove!(settled);
+        let _schema = self.conn.schema();
+        let mut tx = self.conn.transaction();
+        write_entry(&mut tx, &mut self.calls, seq, who, entry, changes, outgoing)?;
+        self.calls.allow()?;
+        match tx.commit() {
+            Ok(()) => Ok(()),
+            Err(error) => Err(self.calls.told(error)),
+        }
+    }
+
+    /// Makes the tables of an empty register of the warehouse, in one transaction.
+    pub(crate) fn make(&mut self, warehouse: &Warehouse) -> Result<(), Fault>
+        ensures ok { HasCleanDisk (state S.Store self.new.conn) → OnOk result (Makes (state S.Store self.old.conn) (state S.Store self.new.conn) warehouse.now) }
+        ensures left { HasCleanDisk (state S.Store self.new.conn) → OnOk result (LeavesIt (state S.Store self.new.conn)) }
+        ensures err { HasCleanDisk (state S.Store self.new.conn) → OnErr result (IsAsBefore (state S.Store self.old.conn) (state S.Store self.new.conn)) }
+        ensures crash { Survives (state S.Store self.old.conn) (state S.Store self.new.conn) (λ db. IsLegal warehouse.now [] → (state S.Store self.old.conn).now.schema ≡ no_layout → StandsIn warehouse.now [] db) }
+        ensures named { IfErr result (λ f. (f ≡ Fault.OutOfMemory) ⊎ (f ≡ Fault.Store)) }
+        ensures counted { OnErr result (Rises self.old.refused self.new.refused) }
+        ensures uncounted { OnOk result (self.new.refused ≡ self.old.refused) }
+    {
+        let settled = self.conn.is_autocommit();
+        prove!(settled);
+        let mut tx = self.conn.transaction();
+        make_all(&mut tx, &mut self.calls, warehouse)?;
+        self.calls.allow()?;
+        match tx.commit() {
+            Ok(()) => Ok(()),
+            Err(error) => Err(self.calls.told(error)),
+        }
+    }
+}

@@ -1,0 +1,145 @@
+use super::*;
+use rules::{Act, Command, Decision, Moment, SheetKind, Warehouse, Who, decide, subject};
+use sheets::{Line, Sheet};
+use sqlite::types::ValueRef;
+use sqlite::{Alter, Connection};
+use std::alloc::{AllocError, Global};
+use std::test::Fail;
+use store::{Fault, Keeper, ReplayBook};
+
+// 943 of one line, from ZZ ACME under control number 1: 255 bytes.
+const ADVICE: &[u8] =
+    b"ISA*00*          *00*          *ZZ*ACME           *ZZ*WHSE1          *250304*0915*U*00401*000000001*1*P*>~GS*AR*ACME*WHSE1*20250304*0915*1*X*004010~ST*943*0001~W06*F*PO77*20250303*SHP1~W04*100*EA**SK*BOLT~N9*LT*L1~W03*100~SE*6*0001~GE*1*1~IEA*1*000000001~";
+
+// The sheet of a count of BOLT L1.
+fn sheet(alloc: Global, quantity: &[u8]) -> Result<Option<Sheet>, AllocError> {
+    let item = Vec::from_slice(alloc, b"BOLT")?;
+    let lot = Vec::from_slice(alloc, b"L1")?;
+    let mut lines = Vec::new(alloc);
+    lines.push(Line::new(item, lot, Vec::from_slice(alloc, quantity)?))?;
+    Ok(Sheet::new(SheetKind::Count, lines).ok())
+}
+
+// Decides on a command by a book in memory, and commits what it comes to to both.
+fn take<S: Alter + Drop>(
+    alloc: Global,
+    memory: &mut ReplayBook,
+    book: &mut Book<S>,
+    command: &Command<'_>,
+    moment: Moment,
+) -> Result<(), Fault> {
+    let Some(named) = subject(command) else {
+        return Err(Fault::NotThisBook);
+    };
+    let page = memory.load(named.0)?;
+    let known = memory.known(named.0, &named.1)?;
+    let warehouse = memory.warehouse();
+    match decide(
+        alloc,
+        &warehouse,
+        page.as_ref(),
+        known.as_ref(),
+        command,
+        moment,
+    )? {
+        Decision::Accepted {
+            entry,
+            changes,
+            outgoing,
+        } => {
+            book.commit(&entry, &changes, &outgoing)?;
+            memory.commit(&entry, &changes, &outgoing)
+        }
+        _ => Err(Fault::NotThisBook),
+    }
+}
+
+// The number that a query of one depositor shows.
+fn shown<S: Alter>(conn: &mut Connection<S>, sql: &str) -> Option<u64> {
+    let row = conn.query_row(sql, &[ValueRef::Text(b"ZZ-ACME")]).ok()?;
+    row.get::<u64>(0).ok()
+}
+
+#[test]
+fn a_count_is_in_the_tables(rt: HostRuntime) -> Result<(), Fail> {
+    let alloc = rt.alloc();
+    let house = Who::new(b"ZZ-WHSE1").ok_or("a warehouse")?;
+    let acme = Who::new(b"ZZ-ACME").ok_or("a depositor")?;
+    let moment = Moment::new(2025, 3, 4, 9, 15).ok_or("a moment")?;
+    let counted = sheet(alloc, b"90")?.ok_or("a sheet")?;
+    let warehouse = Warehouse::new(house);
+    let mut memory = ReplayBook::new(alloc, warehouse);
+    let conn = Connection::open_in_memory(alloc).ok().ok_or("memory")?;
+    let mut book = Book::create(alloc, Tables::new(conn), warehouse)
+        .ok()
+        .ok_or("a book")?;
+    let enrol = Command::Enrol(acme);
+    let advice = Command::Interchange(ADVICE);
+    let count = Command::Clerk {
+        who: acme,
+        ticket: b"T1",
+        act: Act::Count {
+            shipment: b"SHP1",
+            sheet: &counted,
+        },
+    };
+    assert!(rt; take(alloc, &mut memory, &mut book, &enrol, moment).is_ok());
+    assert!(rt; take(alloc, &mut memory, &mut book, &advice, moment).is_ok());
+    assert!(rt; take(alloc, &mut memory, &mut book, &count, moment).is_ok());
+    let tables = book.close();
+    assert_eq!(rt; tables.refused(), 0);
+    let mut conn = tables.into_inner();
+    assert!(rt; shown(&mut conn, "SELECT on_hand FROM stock WHERE who = ?1") == Some(90));
+    assert!(rt; shown(&mut conn, "SELECT expected FROM stock WHERE who = ?1") == Some(0));
+    assert!(rt; shown(&mut conn, "SELECT is_open FROM advice WHERE who = ?1") == Some(0));
+    assert!(rt; shown(&mut conn, "SELECT quantity FROM advice_line WHERE who = ?1") == Some(100));
+    assert!(rt;
+        shown(
+            &mut conn,
+            "SELECT length(content) FROM outgoing WHERE who = ?1 AND kind = '944' AND state = 'open'"
+        ) == Some(259)
+    );
+    assert!(rt;
+        shown(
+            &mut conn,
+            "SELECT seq FROM entry WHERE who = ?1 AND mark = 'TT1' AND n = 2 AND moment = '202503040915'"
+        ) == Some(3)
+    );
+    Ok(())
+}
+
+#[test]
+fn a_refused_call_shuts_the_book(rt: HostRuntime) -> Result<(), Fail> {
+    let alloc = rt.alloc();
+    let house = Who::new(b"ZZ-WHSE1").ok_or("a warehouse")?;
+    let acme = Who::new(b"ZZ-ACME").ok_or("a depositor")?;
+    let moment = Moment::new(2025, 3, 4, 9, 15).ok_or("a moment")?;
+    let warehouse = Warehouse::new(house);
+    let mut memory = ReplayBook::new(alloc, warehouse);
+    let conn = Connection::open_in_memory(alloc).ok().ok_or("memory")?;
+    let mut tables = Tables::new(conn);
+    // nine tables, the row of `book` and the commit; then one call of the next commit
+    tables.limit_calls(Some(12));
+    let mut book = Book::create(alloc, tables, warehouse).ok().ok_or("a book")?;
+    let counted = sheet(alloc, b"90")?.ok_or("a sheet")?;
+    let enrol = Command::Enrol(acme);
+    let count = Command::Clerk {
+        who: acme,
+        ticket: b"T1",
+        act: Act::Count {
+            shipment: b"SHP1",
+            sheet: &counted,
+        },
+    };
+    // a stranger's act is refused before the book is asked
+    assert!(rt; take(alloc, &mut memory, &mut book, &count, moment) == Err(Fault::NotThisBook));
+    assert!(rt; !book.must_reopen());
+    assert!(rt; take(alloc, &mut memory, &mut book, &enrol, moment) == Err(Fault::Store));
+    assert!(rt; book.must_reopen());
+    assert!(rt; take(alloc, &mut memory, &mut book, &enrol, moment) == Err(Fault::Reopen));
+    let tables = book.close();
+    assert_eq!(rt; tables.refused(), 1);
+    let mut conn = tables.into_inner();
+    assert!(rt; shown(&mut conn, "SELECT count(*) FROM entry WHERE who = ?1") == Some(0));
+    Ok(())
+}

@@ -1,0 +1,67 @@
+-- what was read so far, and the heads that it may begin with
+use Rattle.std.proofs.Common.{◌≡◌, ℕ, ◌+◌, ◌<◌, ◌≤◌, List, [], ◌++◌, take, drop, Option, Some, None, sym, subst, length, ◌∙◌, ap, take-append-drop, arith, length-append, append-nil, unwrap_or}
+use Rattle.std.proofs.lemmas.List.{take-append-le}
+use Rattle.std.proofs.Math.Seq.{take-append_seam}
+use Rattle.std.proofs.KnownBytes.{Consumes-trans}
+use Rattle.std.specs.Io.KnownBytes.{Consumes, IsAtEnd}
+use Rattle.httparse.specs.Grammar.{RequestHead, ReadsRequest, HasNoRequest, print_request}
+use Rattle.httparse.specs.Spans.{RequestOverflows}
+use Rattle.intake.specs.Requests.{HasHead, HasNoHead}
+use Rattle.httparse.specs.Spans.{IsRequestWithin, IsRequestAt, header_bytes, name_and_value}
+use Rattle.httparse.specs.declared.spans.HeaderSpan.{HeaderSpan}
+use Rattle.httparse.specs.declared.spans.RequestSpans.{RequestSpans}
+use Rattle.std.proofs.lemmas.List.{length-take-le, length-map}
+use Rattle.std.proofs.Common.{append_assoc}
+use Rattle.intake.proofs.Sends.{take_two}
+
+pub taken_more : (a b c : Option (List ℕ)) (old new : List ℕ) (at n : ℕ) → Consumes a b (take at old) → take at new ≡ take at old → Consumes b c (take n (drop at new)) → Consumes a c (take (at + n) new)
+taken_more a b c old new at n p same q =
+    subst (Consumes a c) (sym (take_two new at n ∙ ap (λ l. l ++ take n (drop at new)) same)) (Consumes-trans a b c _ _ p q)
+
+some_bytes : (h : RequestHead) → 0 < length (print_request h)
+unfolding print_request
+some_bytes h = simp length-append (omega arith)
+
+pub none_in_nothing : HasNoRequest []
+none_in_nothing h rest reads =
+    let e : 0 ≡ length (print_request h) + length rest = ap length reads.1 ∙ length-append (print_request h) rest in
+    let some = some_bytes h in
+    absurd (omega arith)
+
+pub none_refused : (got more : List ℕ) → RequestOverflows 32 got → HasNoHead (got ++ more)
+none_refused got more over h rest found =
+    let many = over more h rest found.reads in
+    let few = found.fields in
+    absurd (omega arith)
+
+-- a head that fits what was read begins that
+within_read : (got more : List ℕ) (h : RequestHead) (rest : List ℕ) → length (print_request h) ≤ length got → ReadsRequest (got ++ more) h rest → ReadsRequest got h (drop (length (print_request h)) got)
+within_read got more h rest fits reads =
+    let p : List ℕ = print_request h in
+    let front : take (length p) got ≡ p = sym (take-append-le (length p) got more fits) ∙ ap (take (length p)) reads.1 ∙ take-append_seam p rest in
+    (reads.0, sym (take-append-drop (length p) got) ∙ ap (λ l. l ++ drop (length p) got) front)
+
+pub none_too_large : (got more : List ℕ) → length got ≡ 8192 → HasNoRequest got → HasNoHead (got ++ more)
+none_too_large got more full none h rest found =
+    let size = found.size in
+    none h _ (within_read got more h rest (omega arith) found.reads)
+
+pub none_cut_off : (got : List ℕ) (new : Option (List ℕ)) → HasNoRequest got → IsAtEnd new → HasNoHead (got ++ unwrap_or new [])
+none_cut_off got None none end h rest found = none h rest (rw (append-nil got) at found.reads)
+none_cut_off got (Some more) none end h rest found = none h rest (rw (end, append-nil got) at found.reads)
+
+-- the head that the spans cover is one of an input that begins with those bytes
+pub head_within : (got more : List ℕ) (fields : List HeaderSpan) (spans : RequestSpans) (h : RequestHead) → length got ≤ 8192 → length fields ≤ 32
+    → IsRequestWithin got fields spans → IsRequestAt got fields spans h → HasHead (got ++ more) h (drop spans.len got ++ more)
+head_within got more fields spans h room many within at =
+    let fits = within.section.len_fits in
+    let count = within.section.count_fits in
+    let len = at.len in
+    let taken : length (take spans.headers fields) ≡ spans.headers = length-take-le spans.headers fields count in
+    let as_many : length (take spans.headers fields) ≡ length h.fields =
+    simp length-map at (ap length at.fields) in
+    record {
+      reads = (at.reads.0, ap (λ l. l ++ more) at.reads.1 ∙ append_assoc (print_request h) (drop spans.len got) more);
+      size = omega arith;
+      fields = omega arith;
+    }

@@ -1,0 +1,14 @@
+pub mod Sends
+pub mod Written
+pub mod Seeking
+pub mod Slashes
+pub mod Paths
+pub mod Heads
+pub mod Lengths
+pub mod Filling
+pub mod Replied
+pub mod Found
+pub mod Posted
+pub mod Served
+pub mod Answering
+pub mod Beginnings

@@ -1,0 +1,10 @@
+use Rattle.std.proofs.Common.{◌≡◌, ◌<◌, false}
+use Rattle.store.specs.Standing.{GoesOn}
+use Rattle.intake.proofs.listening.serve_count.Given as goal
+
+abbrev pub invariant-loop : goal.invariant-loop
+invariant-loop g l = record {
+  goes : GoesOn (g.K.Keeper.standing l.fn.keeper) (g.K.Keeper.standing l.keeper);
+  clock : goal.C-IsAlwaysCallable g l.clock;
+  told : goal.T-IsAlwaysCallable g l.told;
+}

@@ -1,0 +1,82 @@
+-- What a request is answered, and what it leaves of the book.
+use Rattle.std.specs.Prelude.{◌≡◌, ◌⊎◌, ℕ, Bool, false, List, ◌++◌, if◌then◌else◌, Option, Some, None, option_map}
+use Rattle.httparse.specs.Grammar.{RequestHead}
+use Rattle.profile.specs.Moments.{Moment}
+use Rattle.profile.specs.Register.{Entry, Interchange}
+use Rattle.profile.specs.Accepted.{IsLegal, is_accepted, reply_to, after}
+use Rattle.profile.specs.Response.{Response, Method, Route, Head, is_exchange, fault_response, response_to, submitted, response_bytes}
+use Rattle.store.specs.Faults.{fault_of}
+use Rattle.store.specs.Standing.{Standing, IsUsable, IsUnchanged, IsFault, LeavesEither}
+use Rattle.store.specs.declared.fault.Fault.{Fault}
+use Rattle.std.specs.Io.KnownBytes.{Appends}
+use Rattle.intake.specs.Gauges.{Grew, AppendsBeginning}
+use Rattle.intake.specs.Requests.{HasHead, HasNoHead, IsInput}
+use Rattle.intake.specs.Fields.{head_of}
+
+-- the interchange that a request hands in, if it does
+abbrev pub handed_in : Method → Route → List ℕ → Option (List ℕ)
+handed_in method route body = if is_exchange method route then Some body else None
+
+-- The response of the definitions, over a register that the book keeps. The book is left as the interchange that was handed in
+-- leaves it; where none was, or it isn't accepted now, the book is as it was.
+pub record IsServed (old new : Standing) (t : Moment) (body : Option (List ℕ)) (meant : List Entry → Response) (r : Response) : Type 0 where
+  pub response : new.doubt ≡ 0 → (L : List Entry) → old.keeps L → IsLegal old.warehouse L → r ≡ meant L
+  pub kept : body ≡ None → IsUnchanged old new
+  pub taken : (text : List ℕ) → body ≡ Some text → new.doubt ≡ 0 → (L : List Entry) → IsUsable old L
+      → IsUsable new (after old.warehouse L (Interchange text, t))
+  pub repeated : (text : List ℕ) → body ≡ Some text → new.doubt ≡ 0 → (L : List Entry) → old.keeps L → IsLegal old.warehouse L
+      → is_accepted (reply_to old.warehouse L (Interchange text) t) ≡ false → IsUnchanged old new
+  pub opened : (text : List ℕ) → body ≡ Some text → new.shut ≡ false
+
+-- The 503 of a fault that happened. The book is as it was, or it has to be opened again; then a crash leaves the register as it
+-- was, or with the interchange that was handed in.
+pub record IsFaulted (old new : Standing) (t : Moment) (body : Option (List ℕ)) (r : Response) : Type 0 where
+  pub fault : Fault
+  pub response : r ≡ fault_response (fault_of fault)
+  pub why : IsFault fault old new
+  pub kept : body ≡ None → IsUnchanged old new
+  pub left : (text : List ℕ) → body ≡ Some text → new.doubt ≡ 0 → (L : List Entry) → IsUsable old L
+      → LeavesEither new L (after old.warehouse L (Interchange text, t))
+
+abbrev pub IsAnswered : Standing → Standing → Moment → Option (List ℕ) → (List Entry → Response) → Response → Type 0
+IsAnswered old new t body meant r = IsServed old new t body meant r ⊎ IsFaulted old new t body r
+
+-- what an input begins with: a head, and what is behind it; or none
+abbrev pub BeginsWith : List ℕ → Option RequestHead → List ℕ → Type 0
+BeginsWith input None rest = HasNoHead input
+BeginsWith input (Some h) rest = HasHead input h rest
+
+-- the response to what a reader has, with what became of the book
+pub record IsExchange (old new : Standing) (known : Option (List ℕ)) (t : Moment) (r : Response) : Type 0 where
+  pub input : List ℕ
+  pub is_input : IsInput known input
+  pub head : Option RequestHead
+  pub rest : List ℕ
+  pub begins : BeginsWith input head rest
+  pub answered : IsAnswered old new t (submitted (option_map head_of head) rest) (λ L. response_to old.warehouse L (option_map head_of head) rest t) r
+
+-- the same of a request whose head was read, with the first bytes of what is behind it
+pub record IsExchangeBehind (old new : Standing) (known : Option (List ℕ)) (t : Moment) (h : Head) (start : List ℕ) (r : Response) : Type 0 where
+  pub input : List ℕ
+  pub is_input : IsInput known input
+  pub answered : IsAnswered old new t (submitted (Some h) (start ++ input)) (λ L. response_to old.warehouse L (Some h) (start ++ input) t) r
+
+-- A response was written: it was that to what the reader had.
+pub record IsWritten (old new : Standing) (known : Option (List ℕ)) (t : Moment) (before behind : Option (List ℕ)) (status : ℕ) : Type 0 where
+  pub response : Response
+  pub exchange : IsExchange old new known t response
+  pub status_of : status ≡ response.status
+  pub whole : Appends before behind (response_bytes response)
+
+-- The reader failed: nothing was written, and the book is as it was.
+pub record IsUnread (old new : Standing) (before behind : Option (List ℕ)) (errors more : ℕ) : Type 0 where
+  pub book : IsUnchanged old new
+  pub nothing : behind ≡ before
+  pub grew : Grew errors more
+
+-- The writer failed: a beginning of the response was written, and the book is as the request left it.
+pub record IsUnwritten (old new : Standing) (known : Option (List ℕ)) (t : Moment) (before behind : Option (List ℕ)) (errors more : ℕ) : Type 0 where
+  pub response : Response
+  pub exchange : IsExchange old new known t response
+  pub beginning : AppendsBeginning before behind (response_bytes response)
+  pub grew : Grew errors more

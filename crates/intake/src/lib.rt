@@ -1,0 +1,27 @@
+//! How interchanges come in: over HTTP on loopback, one request a connection, and from a folder.
+#![tactic(auto)]
+
+mod folder;
+mod gauge;
+mod heading;
+pub mod laws;
+mod listening;
+mod queries;
+mod reading;
+mod replies;
+mod responding;
+mod response;
+mod routes;
+mod sending;
+mod serving;
+mod texts;
+
+pub use folder::{Outcome, Taken, take_folder};
+pub use gauge::Gauge;
+pub use listening::serve_count;
+pub use responding::respond;
+pub use response::{Allow, Body, MediaType, Response, Status};
+pub use serving::serve_one;
+
+#[cfg(test)]
+mod tests;

@@ -1,0 +1,140 @@
+ghost use Rattle.std.specs.Prelude.{◌≡◌, ◌≤◌, ◌+◌, ◌-◌, ◌*◌, ◌==◌, ℕ, List, Some, None, IfOk, IfErr, if◌then◌else◌, find, option_map, unwrap_or};
+ghost use Rattle.profile.specs.Accepted.{IsLegal};
+ghost use Rattle.profile.specs.Bytes.{value};
+ghost use Rattle.profile.specs.Header.{Who as Partner};
+ghost use Rattle.profile.specs.Moments.{Moment as Minute};
+ghost use Rattle.profile.specs.Register.{Entry};
+ghost use Rattle.profile.specs.Reports as reports;
+ghost use Rattle.profile.specs.Response.{Get, OtherMethod, is_plain_number, content_response, found_for, resp, with_body, plain_type, x12_type, bare};
+ghost use Rattle.profile.specs.Rows.{stock_of, outbox_of};
+ghost use Rattle.store.specs.Standing.{IsUnchanged, IsQueryFault};
+ghost use Rattle.intake.specs.Answers.{seen};
+ghost use Rattle.intake.specs.Routes.{seen_route};
+
+use crate::replies::with_text;
+use crate::response::{Allow, MediaType, Response, Status, bare_response, not_allowed_response};
+use crate::routes::Route;
+use reports::{outbox_list, stock_report};
+use std::alloc::Global;
+use store::{Fault, Keeper, OutRow, Who};
+
+// The stock report of the depositor that a part of a path names.
+fn stock_at<K: Keeper>(alloc: Global, keeper: &mut K, who: &str) -> Result<Response, Fault>
+    ensures response { (K.standing keeper.new).doubt ≡ 0 → (L : List Entry) → (K.standing keeper.old).keeps L → IsLegal (K.standing keeper.old).warehouse L
+        → IfOk result (λ r. seen r ≡ found_for who.now (stock_of L) (λ rows. with_body 200 plain_type (reports.stock_report rows))) }
+    ensures same { IsUnchanged (K.standing keeper.old) (K.standing keeper.new) }
+    ensures fault { IfErr result (λ fault. IsQueryFault fault (K.standing keeper.old) (K.standing keeper.new)) }
+{
+    let Some(who) = Who::new(who.as_bytes()) else {
+        return Ok(bare_response(Status::NotFound));
+    };
+    match store::stock(keeper, who)? {
+        Some(rows) => Ok(with_text(Status::Okay, MediaType::Plain, stock_report(alloc, &rows)?)),
+        None => Ok(bare_response(Status::NotFound)),
+    }
+}
+
+// The list of what went out to the depositor that a part of a path names.
+fn outbox_at<K: Keeper>(alloc: Global, keeper: &mut K, who: &str) -> Result<Response, Fault>
+    ensures response { (K.standing keeper.new).doubt ≡ 0 → (L : List Entry) → (K.standing keeper.old).keeps L → IsLegal (K.standing keeper.old).warehouse L
+        → IfOk result (λ r. seen r ≡ found_for who.now (outbox_of (K.standing keeper.old).warehouse L) (λ rows. with_body 200 plain_type (reports.outbox_list rows))) }
+    ensures same { IsUnchanged (K.standing keeper.old) (K.standing keeper.new) }
+    ensures fault { IfErr result (λ fault. IsQueryFault fault (K.standing keeper.old) (K.standing keeper.new)) }
+{
+    let Some(who) = Who::new(who.as_bytes()) else {
+        return Ok(bare_response(Status::NotFound));
+    };
+    match store::outbox(keeper, who)? {
+        Some(rows) => Ok(with_text(Status::Okay, MediaType::Plain, outbox_list(alloc, &rows)?)),
+        None => Ok(bare_response(Status::NotFound)),
+    }
+}
+
+// One more digit of a number.
+fn with_digit(number: u32, digit: u8) -> u32
+    requires few { number ≤ 99999 }
+    requires low { 48 ≤ digit }
+    requires high { digit ≤ 57 }
+    ensures { result ≡ number * 10 + (digit - 48) }
+{
+    number * 10 + u32::from(digit - b'0')
+}
+
+// The number that is written so: 1 to 6 digits without a leading zero.
+fn plain_number(text: &[u8]) -> Option<u32>
+    ensures { result ≡ (if is_plain_number text.now then Some (value text.now) else None) }
+{
+    if text.is_empty() || text.len() > 6 || text[0] == b'0' {
+        return None;
+    }
+    let mut number = 0;
+    for byte in text {
+        if *byte < b'0' || b'9' < *byte {
+            return None;
+        }
+        number = with_digit(number, *byte);
+    }
+    Some(number)
+}
+
+// The text that went out under a number, or 404.
+fn content_in(rows: Vec<OutRow>, number: u32) -> Response
+    ensures { seen result ≡ unwrap_or (option_map (λ r. with_body 200 x12_type r.content) (find (λ r. r.n == number) rows.items)) (bare 404) }
+{
+    for row in rows {
+        if row.n == number {
+            return with_text(Status::Okay, MediaType::Interchange, row.content);
+        }
+    }
+    bare_response(Status::NotFound)
+}
+
+// The text that went out under the number that a part of a path names, to the depositor that another names.
+fn content_at<K: Keeper>(keeper: &mut K, who: &str, n: &str) -> Result<Response, Fault>
+    ensures response { (K.standing keeper.new).doubt ≡ 0 → (L : List Entry) → (K.standing keeper.old).keeps L → IsLegal (K.standing keeper.old).warehouse L
+        → IfOk result (λ r. seen r ≡ found_for who.now (outbox_of (K.standing keeper.old).warehouse L) (content_response n.now)) }
+    ensures same { IsUnchanged (K.standing keeper.old) (K.standing keeper.new) }
+    ensures fault { IfErr result (λ fault. IsQueryFault fault (K.standing keeper.old) (K.standing keeper.new)) }
+{
+    let Some(who) = Who::new(who.as_bytes()) else {
+        return Ok(bare_response(Status::NotFound));
+    };
+    let Some(number) = plain_number(n.as_bytes()) else {
+        return Ok(bare_response(Status::NotFound));
+    };
+    match store::outbox(keeper, who)? {
+        Some(rows) => Ok(content_in(rows, number)),
+        None => Ok(bare_response(Status::NotFound)),
+    }
+}
+
+/// The response to a request by GET. The book is as before. A fault is that of the query, or want of memory for the response.
+pub(crate) fn got<K: Keeper>(
+    alloc: Global,
+    keeper: &mut K,
+    route: &Route<'_>,
+) -> Result<Response, Fault>
+    ensures response { (K.standing keeper.new).doubt ≡ 0 → (L : List Entry) → (K.standing keeper.old).keeps L → IsLegal (K.standing keeper.old).warehouse L
+        → (body : List ℕ) (t : Minute) → IfOk result (λ r. seen r ≡ resp (K.standing keeper.old).warehouse L Get (seen_route route.now) body t) }
+    ensures same { IsUnchanged (K.standing keeper.old) (K.standing keeper.new) }
+    ensures fault { IfErr result (λ fault. IsQueryFault fault (K.standing keeper.old) (K.standing keeper.new)) }
+{
+    match *route {
+        Route::Stock(who) => stock_at(alloc, keeper, who),
+        Route::Outbox(who) => outbox_at(alloc, keeper, who),
+        Route::Content(who, n) => content_at(keeper, who, n),
+        Route::Exchange => Ok(not_allowed_response(Allow::Post)),
+        Route::Nowhere => Ok(bare_response(Status::NotFound)),
+    }
+}
+
+/// The response to a request by a method that no path allows.
+pub(crate) fn not_served(route: &Route<'_>) -> Response
+    ensures { (W : Partner) (L : List Entry) (body : List ℕ) (t : Minute) → seen result ≡ resp W L OtherMethod (seen_route route.now) body t }
+{
+    match *route {
+        Route::Exchange => not_allowed_response(Allow::Post),
+        Route::Nowhere => bare_response(Status::NotFound),
+        _ => not_allowed_response(Allow::Get),
+    }
+}

@@ -1,0 +1,129 @@
+ghost use Rattle.std.specs.Prelude.{◌≡◌, ◌⊎◌, length, drop, OnErr, IfOk, IfErr};
+ghost use Rattle.httparse.specs.Grammar.{RequestHead};
+ghost use Rattle.httparse.specs.Spans.{IsRequestWithin, IsRequestAt};
+ghost use Rattle.store.specs.Standing.{IsUnchanged, GoesOn};
+ghost use Rattle.intake.specs.Answers.{seen};
+ghost use Rattle.intake.specs.Fields.{head_of};
+ghost use Rattle.intake.specs.Gauges.{Grew};
+ghost use Rattle.intake.specs.Serving.{IsExchange, IsExchangeBehind, IsWritten, IsUnread, IsUnwritten};
+
+use crate::gauge::Gauge;
+use crate::heading::{is_among, length_of, read_method, values_of};
+use crate::reading::{Content, Unread, read_body, read_head};
+use crate::replies::of_fault;
+use crate::responding::respond_at;
+use crate::response::{Response, Status, bare_response};
+use crate::routes::{find_route, is_handed_in};
+use crate::texts::write_response;
+use http::StatusCode;
+use httparse::spans::{EMPTY_HEADER_SPAN, HeaderSpan, RequestSpans};
+use std::alloc::Global;
+use std::io::{Read, Write};
+use store::{Fault, Keeper, Moment};
+
+// Answers a request whose head was read, by the first test that it fails, or by what it asks for.
+fn answer<R: Read, K: Keeper>(
+    alloc: Global,
+    reader: &mut Gauge<R>,
+    keeper: &mut K,
+    got: &[u8],
+    fields: &[HeaderSpan],
+    spans: &RequestSpans,
+    moment: Moment,
+) -> Result<Response, Unread>
+    requires { IsRequestWithin got.now fields.now spans.now }
+    ensures answered { IfOk result (λ response. (h : RequestHead) → IsRequestAt got.now fields.now spans.now h
+        → IsExchangeBehind (K.standing keeper.old) (K.standing keeper.new) (R.remaining reader.old.inner) moment (head_of h) (drop spans.now.len got.now) (seen response)) }
+    ensures same { OnErr result (IsUnchanged (K.standing keeper.old) (K.standing keeper.new)) }
+    ensures count { OnErr result (Grew reader.old.errors reader.new.errors) }
+    ensures goes { GoesOn (K.standing keeper.old) (K.standing keeper.new) }
+{
+    let named = &fields[..spans.headers];
+    if is_among(got, named, b"Transfer-Encoding") {
+        return Ok(bare_response(Status::NotImplemented));
+    }
+    let Ok(route) = find_route(alloc, spans.path.of(got)) else {
+        return Ok(of_fault(Fault::OutOfMemory));
+    };
+    let method = read_method(spans.method.of(got));
+    if !is_handed_in(method, &route) {
+        return Ok(respond_at(alloc, keeper, method, &route, &[], moment));
+    }
+    let size = match length_of(&values_of(got, named, b"Content-Length")) {
+        Ok(size) => size,
+        Err(status) => return Ok(bare_response(status)),
+    };
+    match read_body(alloc, reader, &got[spans.len..], size)? {
+        Content::Whole(body) => Ok(respond_at(
+            alloc,
+            keeper,
+            method,
+            &route,
+            body.as_slice(),
+            moment,
+        )),
+        Content::CutOff => Ok(bare_response(Status::BadRequest)),
+        Content::NoMemory => Ok(of_fault(Fault::OutOfMemory)),
+    }
+}
+
+// Reads one request, and answers it.
+fn receive<R: Read, K: Keeper>(
+    alloc: Global,
+    reader: &mut Gauge<R>,
+    keeper: &mut K,
+    moment: Moment,
+) -> Result<Response, Unread>
+    ensures answered { IfOk result (λ response. IsExchange (K.standing keeper.old) (K.standing keeper.new) (R.remaining reader.old.inner) moment (seen response)) }
+    ensures same { OnErr result (IsUnchanged (K.standing keeper.old) (K.standing keeper.new)) }
+    ensures count { OnErr result (Grew reader.old.errors reader.new.errors) }
+    ensures goes { GoesOn (K.standing keeper.old) (K.standing keeper.new) }
+{
+    let mut buf = [0u8; 8192];
+    let mut fields = [EMPTY_HEADER_SPAN; 32];
+    let begun = read_head(reader, &mut buf, &mut fields)?;
+    match &begun.head {
+        Some(spans) => answer(
+            alloc,
+            reader,
+            keeper,
+            &buf[..begun.filled],
+            &fields,
+            spans,
+            moment,
+        ),
+        None => Ok(bare_response(Status::BadRequest)),
+    }
+}
+
+/// Reads one request and writes its response; the result is the response's status. The tests of a request come in this order: a
+/// head that is refused, cut off or too large, over 8,192 bytes or 32 fields, is 400; a Transfer-Encoding field 501; no route 404;
+/// another method 405; for an interchange no Content-Length 411, more than one, an empty one or not all digits 400, above
+/// 1,048,576 413, and a body that is cut off 400. A growth that is refused gives the 503 of 40.
+///
+/// The one fault is Device (44): the reader or the writer gave an error, or took 0 bytes. Where the reader did, nothing was
+/// written and the book is as it was; where the writer did, a beginning of the response was, and the book is as the request left
+/// it. No call is made again, an interrupted one neither.
+pub fn serve_one<R: Read, W: Write, K: Keeper>(
+    alloc: Global,
+    reader: &mut Gauge<R>,
+    writer: &mut Gauge<W>,
+    keeper: &mut K,
+    moment: Moment,
+) -> Result<StatusCode, Fault>
+    ensures written { IfOk result (λ status. IsWritten (K.standing keeper.old) (K.standing keeper.new) (R.remaining reader.old.inner) moment
+        (W.contents writer.old.inner) (W.contents writer.new.inner) status) }
+    ensures stopped { OnErr result (
+        IsUnread (K.standing keeper.old) (K.standing keeper.new) (W.contents writer.old.inner) (W.contents writer.new.inner) reader.old.errors reader.new.errors
+        ⊎ IsUnwritten (K.standing keeper.old) (K.standing keeper.new) (R.remaining reader.old.inner) moment (W.contents writer.old.inner) (W.contents writer.new.inner) writer.old.errors writer.new.errors) }
+    ensures fault { IfErr result (λ fault. fault ≡ Fault.Device) }
+    ensures goes { GoesOn (K.standing keeper.old) (K.standing keeper.new) }
+{
+    let Ok(response) = receive(alloc, reader, keeper, moment) else {
+        return Err(Fault::Device);
+    };
+    match write_response(writer, &response) {
+        Ok(()) => Ok(response.status.code()),
+        Err(_) => Err(Fault::Device),
+    }
+}
