@@ -1,6 +1,68 @@
 //! Commands that are given again where there was no memory: run with each allocation failing in turn (bench/allocations.py).
 use super::*;
 
+// The advice under the same control number, with another quantity, and what it is answered.
+const OTHER: &[u8] =
+    b"ISA*00*          *00*          *ZZ*ACME           *ZZ*WHSE1          *250304*0915*U*00401*000000001*1*P*>~GS*AR*ACME*WHSE1*20250304*0915*1*X*004010~ST*943*0001~W06*F*PO77*20250303*SHP1~W04*101*EA**SK*BOLT~N9*LT*L1~W03*101~SE*6*0001~GE*1*1~IEA*1*000000001~";
+
+const DUPLICATE: &[u8] =
+    b"ISA*00*          *00*          *ZZ*WHSE1          *ZZ*ACME           *250304*0915*U*00401*000000000*0*P*>~TA1*000000001*250304*0915*R*025~IEA*0*000000000~";
+
+// An order of 120 BOLT under control number 2, and its answer under number 3.
+const ORDER: &[u8] =
+    b"ISA*00*          *00*          *ZZ*ACME           *ZZ*WHSE1          *250304*0915*U*00401*000000002*0*P*>~GS*OW*ACME*WHSE1*20250304*0915*2*X*004010~ST*940*0001~W05*N*ORD1~LX*1~W01*120*EA**SK*BOLT~W76*120~SE*6*0001~GE*1*2~IEA*1*000000002~";
+
+const ORDERED: &[u8] =
+    b"ISA*00*          *00*          *ZZ*WHSE1          *ZZ*ACME           *250304*0915*U*00401*000000003*0*P*>~GS*FA*WHSE1*ACME*20250304*0915*3*X*004010~ST*997*0001~AK1*OW*2~AK2*940*0001~AK5*A~AK9*A*1*1*1~SE*6*0001~GE*1*3~IEA*1*000000003~";
+
+// The 945 of the pick of 90 of them, under number 4.
+const SHIPPED: &[u8] =
+    b"ISA*00*          *00*          *ZZ*WHSE1          *ZZ*ACME           *250304*0915*U*00401*000000004*0*P*>~GS*SW*WHSE1*ACME*20250304*0915*4*X*004010~ST*945*0001~W06*F*ORD1*20250304*4~LX*1~W12*CP*120*90*30*EA**SK*BOLT~N9*LT*L1*90~W03*90~SE*7*0001~GE*1*4~IEA*1*000000004~";
+
+// A 997 that accepts it, under control number 3.
+const TAKEN: &[u8] =
+    b"ISA*00*          *00*          *ZZ*ACME           *ZZ*WHSE1          *250304*0915*U*00401*000000003*0*P*>~GS*FA*ACME*WHSE1*20250304*0915*3*X*004010~ST*997*0001~AK1*SW*4~AK2*945*0001~AK5*A~AK9*A*1*1*1~SE*6*0001~GE*1*3~IEA*1*000000003~";
+
+// How a command is answered.
+#[derive(Clone, Copy)]
+enum Want {
+    Accepted,
+    Stored,
+    Refused(u8),
+}
+
+// Whether the reply is the one that is wanted, with this text.
+fn is_wanted(reply: &Reply, want: Want, text: &[u8]) -> bool {
+    match want {
+        Want::Accepted => is_accepted(reply, text),
+        Want::Stored => is_stored(reply, text),
+        Want::Refused(number) => match reply {
+            Reply::Refused { refusal, answer } => {
+                refusal.number() == number && answer.as_slice() == text
+            }
+            _ => false,
+        },
+    }
+}
+
+// The sheet of a pick of 90 BOLT of lot L1.
+fn picked(alloc: Global) -> Result<Option<Sheet>, AllocError> {
+    let item = Vec::from_slice(alloc, b"BOLT")?;
+    let lot = Vec::from_slice(alloc, b"L1")?;
+    let mut lines = Vec::new(alloc);
+    lines.push(Line::new(item, lot, Vec::from_slice(alloc, b"90")?))?;
+    Ok(Sheet::new(SheetKind::Pick, lines).ok())
+}
+
+// The pick of an order.
+fn pick<'a>(who: Who, ticket: &'a [u8], order: &'a [u8], sheet: &'a Sheet) -> Command<'a> {
+    Command::Clerk {
+        who,
+        ticket,
+        act: Act::Pick { order, sheet },
+    }
+}
+
 // Gives a command, and once more where there was no memory.
 fn given(
     alloc: Global,
@@ -19,35 +81,23 @@ fn given(
     }
 }
 
-// Whether each command is answered by its text, if not at once then when it is given again: accepted, or stored.
+// Whether each command is answered as wanted, if not at once then when it is given again.
 fn are_answered(
     alloc: Global,
     book: &mut ReplayBook,
-    wanted: &[(Command<'_>, &[u8], bool)],
+    wanted: &[(Command<'_>, &[u8], Want)],
     moment: Moment,
 ) -> Result<bool, Fail> {
-    for (command, text, is_new) in wanted {
+    for (command, text, want) in wanted {
         let reply = given(alloc, book, command, moment)?;
-        let as_wanted = if *is_new {
-            is_accepted(&reply, text)
-        } else {
-            is_stored(&reply, text)
-        };
-        if !as_wanted {
+        if !is_wanted(&reply, *want, text) {
             return Ok(false);
         }
     }
     Ok(true)
 }
 
-// The rows of stock, and of the outbox, asked for once more where there was no memory.
-fn stock_given(book: &mut ReplayBook, who: Who) -> Result<Option<Vec<StockRow>>, Fail> {
-    match stock(book, who) {
-        Ok(rows) => Ok(rows),
-        Err(_) => stock_in(book, who),
-    }
-}
-
+// What went out, asked for once more where there was no memory.
 fn outbox_given(book: &mut ReplayBook, who: Who) -> Result<Vec<OutRow>, Fail> {
     match outbox(book, who) {
         Ok(rows) => Ok(rows.ok_or("a depositor")?),
@@ -55,7 +105,30 @@ fn outbox_given(book: &mut ReplayBook, who: Who) -> Result<Vec<OutRow>, Fail> {
     }
 }
 
-// What is kept is the same as with enough memory.
+// A worked day: an advice, resends of it, its count, an order, its pick, the acknowledgment of that, and the count once more.
+fn worked_day<'a>(
+    acme: Who,
+    counted: &'a Sheet,
+    goods: &'a Sheet,
+) -> [(Command<'a>, &'a [u8], Want); 9] {
+    [
+        (Command::Enrol(acme), b"".as_slice(), Want::Accepted),
+        (Command::Interchange(ADVICE), ANSWER, Want::Accepted),
+        (Command::Interchange(ADVICE), ANSWER, Want::Stored),
+        (Command::Interchange(OTHER), DUPLICATE, Want::Refused(3)),
+        (
+            count(acme, b"T1", b"SHP1", counted),
+            RECEIPT,
+            Want::Accepted,
+        ),
+        (Command::Interchange(ORDER), ORDERED, Want::Accepted),
+        (pick(acme, b"T2", b"ORD1", goods), SHIPPED, Want::Accepted),
+        (Command::Interchange(TAKEN), b"".as_slice(), Want::Accepted),
+        (count(acme, b"T1", b"SHP1", counted), RECEIPT, Want::Stored),
+    ]
+}
+
+// What is kept of the day is the same as with enough memory.
 #[test]
 fn want_of_memory_loses_nothing(rt: HostRuntime) -> Result<(), Fail> {
     let alloc = rt.alloc();
@@ -63,17 +136,21 @@ fn want_of_memory_loses_nothing(rt: HostRuntime) -> Result<(), Fail> {
     let acme = Who::new(b"ZZ-ACME").ok_or("a depositor")?;
     let moment = Moment::new(2025, 3, 4, 9, 15).ok_or("a moment")?;
     let counted = sheet(alloc, b"90")?.ok_or("a sheet")?;
+    let goods = picked(alloc)?.ok_or("a sheet")?;
     let mut book = ReplayBook::new(alloc, Warehouse::new(house));
-    let wanted = [
-        (Command::Enrol(acme), b"".as_slice(), true),
-        (Command::Interchange(ADVICE), ANSWER, true),
-        (count(acme, b"T1", b"SHP1", &counted), RECEIPT, true),
-        (count(acme, b"T1", b"SHP1", &counted), RECEIPT, false),
-        (Command::Interchange(ACCEPTANCE), b"".as_slice(), true),
-        (Command::Interchange(ADVICE), ANSWER, false),
-    ];
+    let wanted = worked_day(acme, &counted, &goods);
     assert!(rt; are_answered(alloc, &mut book, &wanted, moment)?);
-    assert!(rt; is_stock(&stock_given(&mut book, acme)?, 0, 90));
-    assert_eq!(rt; outbox_given(&mut book, acme)?.len(), 2);
+    let sent = outbox_given(&mut book, acme)?;
+    assert_eq!(rt; sent.len(), 4);
+    assert!(rt; is_row(&sent[1], 2, OutKind::Receipt, RECEIPT, DocumentState::Open));
+    assert!(rt;
+        is_row(
+            &sent[3],
+            4,
+            OutKind::Shipment,
+            SHIPPED,
+            DocumentState::Accepted
+        )
+    );
     Ok(())
 }
