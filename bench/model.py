@@ -611,10 +611,9 @@ class Book:
 
     def count(self, page, number, shipment, sheet, moment):
         advice = page.advice(shipment)
-        if advice is None:
-            return 22
-        if page.counted(shipment):
-            return 23
+        refusal = unless_open(advice, page.counted(shipment), 22)
+        if refusal:
+            return refusal
         page.events.append(("counted", number, advice, sheet))
         pairs = sorted(set(sheet) | {(item, lot) for item, lot, _ in advice["lines"]})
         lines_out = [b"W17*F*%s*%d*%s*%s" % (moment[:10].replace("-", "").encode(), number, advice["order"], shipment)]
@@ -624,10 +623,9 @@ class Book:
 
     def pick(self, page, number, target, sheet, moment):
         found = page.order(target)
-        if found is None:
-            return 24
-        if page.picked(target):
-            return 25
+        refusal = unless_open(found, page.picked(target), 24)
+        if refusal:
+            return refusal
         if any(quantity > sum(q for p, q in found["shares"] if p == pair) for pair, quantity in sheet.items()):
             return 26
         page.events.append(("picked", number, found, sheet))
@@ -694,10 +692,9 @@ class Book:
         if isinstance(page, int):
             return b"", told(page), 1
         found = page.order(number)
-        if found is None:
-            return b"", told(24), 1
-        if page.picked(number):
-            return b"", told(25), 1
+        refusal = unless_open(found, page.picked(number), 24)
+        if refusal:
+            return b"", told(refusal), 1
         text = b"ORDER " + number + b"\n"
         if found["to"]:
             name, lines = found["to"]
@@ -710,6 +707,11 @@ class Book:
             if short:
                 text += b"%-20s %-12s %6d\n" % (item, b"(short)", short)
         return text, "", 0
+
+
+def unless_open(found, is_closed, unknown):
+    """The refusal of an act on what isn't there, or the one behind it on what is closed; or None."""
+    return unknown if found is None else unknown + 1 if is_closed else None
 
 
 def read_sheet(deed, text):

@@ -680,3 +680,80 @@ fn a_refused_interchange_takes_no_number(rt: HostRuntime) -> Result<(), Fail> {
     assert!(rt; book.answers(&good, Answered::Accepted, &want)?);
     Ok(())
 }
+
+// A book with BOLT L1 5 and L2 7, both of one count, that took this order.
+fn shared(alloc: Global, order: &str) -> Result<Book, Fail> {
+    let mut book = Book::new(alloc)?;
+    let advice =
+        "ST*943*0001~W06*F*PO77*20250303*SHP1~W04*5*EA**SK*BOLT~N9*LT*L1~W04*7*EA**SK*BOLT~N9*LT*L2~W03*12~SE*8*0001~";
+    let text = sent(alloc, ["000000001", "0", "AR", "1"], advice, "1")?;
+    book.ask(&Asked::Text(&text))?;
+    let set =
+        "ST*944*0001~W17*F*20250304*2*PO77*SHP1~W07*5*EA**SK*BOLT~N9*LT*L1~W07*7*EA**SK*BOLT~N9*LT*L2~W14*12*12~SE*8*0001~";
+    let want = told(alloc, ["000000002", "", "RE", "2"], set)?;
+    let found = [["BOLT", "L1", "5"], ["BOLT", "L2", "7"]];
+    if !book.does(["T1", "count", "SHP1"], &found, Answered::Accepted, &want)? {
+        return Err("the count".into());
+    }
+    let text = sent(alloc, ["000000002", "0", "OW", "2"], order, "1")?;
+    let want = told(alloc, ["000000003", "", "FA", "3"], ORDERED)?;
+    if !book.answers(&text, Answered::Accepted, &want)? {
+        return Err("the order".into());
+    }
+    Ok(book)
+}
+
+// How much the first order has reserved of the two lots.
+fn reserved_of(book: &Book) -> Result<[u32; 2], Fail> {
+    let page = book.page(&book.acme)?.ok_or("a page")?;
+    let order = page.order(b"ORD1").ok_or("an order")?;
+    let mut found = [0, 0];
+    for line in order.reserved() {
+        if line.lot() == b"L1".as_slice() {
+            found[0] = line.quantity();
+        } else {
+            found[1] = line.quantity();
+        }
+    }
+    Ok(found)
+}
+
+#[test]
+fn takes_the_first_lot_first(rt: HostRuntime) -> Result<(), Fail> {
+    let alloc = rt.alloc();
+    let order = "ST*940*0001~W05*N*ORD1~LX*1~W01*6*EA**SK*BOLT~W76*6~SE*6*0001~";
+    let mut book = shared(alloc, order)?;
+    assert!(rt; reserved_of(&book)? == [5, 1]);
+    let more = [["BOLT", "L2", "2"]];
+    assert!(rt; book.does(["T2", "pick", "ORD1"], &more, Answered::Refused(26), b"")?);
+    assert!(rt; reserved_of(&book)? == [5, 1]);
+    let pinned = "ST*940*0001~W05*N*ORD1~LX*1~W01*6*EA**SK*BOLT~N9*LT*L2~W76*6~SE*7*0001~";
+    let book = shared(alloc, pinned)?;
+    assert!(rt; reserved_of(&book)? == [0, 6]);
+    Ok(())
+}
+
+// An advice of so many lines of 99,999 BOLT, each of another lot, with this sum.
+fn of_lines(alloc: Global, lines: u32, sum: &str, segments: &str) -> Result<String, Fail> {
+    let mut set = "ST*943*0001~W06*F*PO77*20250303*SHP1~".to_string(alloc)?;
+    for lot in 0..lines {
+        set.push_str(&format!(in alloc; "W04*99999*EA**SK*BOLT~N9*LT*{lot}~")?)?;
+    }
+    set.push_str(&format!(in alloc; "W03*{sum}~SE*{segments}*0001~")?)?;
+    Ok(set)
+}
+
+#[test]
+fn takes_99_lines(rt: HostRuntime) -> Result<(), Fail> {
+    let alloc = rt.alloc();
+    let mut book = Book::new(alloc)?;
+    let set = of_lines(alloc, 99, "9899901", "202")?;
+    let text = sent(alloc, ["000000001", "1", "AR", "1"], &set, "1")?;
+    let want = told(alloc, ["000000001", TA1, "FA", "1"], TAKEN)?;
+    assert!(rt; book.answers(&text, Answered::Accepted, &want)?);
+    let other = of_lines(alloc, 99, "9899900", "202")?;
+    assert!(rt; is_rejected(alloc, &other, "AK3*W03*201**8~AK4*1**7~AK5*R*5~", "8")?);
+    let more = of_lines(alloc, 100, "9999900", "204")?;
+    assert!(rt; is_rejected(alloc, &more, "AK3*W04*201**2~AK5*R*5~", "7")?);
+    Ok(())
+}

@@ -35,6 +35,11 @@ fn faults_of_groups_are_told(rt: HostRuntime) -> Result<(), Fail> {
             "GE*2*1~",
             "ST*997*0001~AK1*AR*1~AK9*R*2*1*0*5~SE*4*0001~",
         ),
+        (
+            "*X*004010~ST*943*0001~W06*F*PO77*20250303*SHP1~W04*100*EA**SK*BOLT~N9*LT*L1~W03*100~SE*6*0001~GE*1*1~",
+            "*X*004020~ST*943*0001~W06*F*PO77*20250303*SHP1~W04*100*EA**SK*BOLT~N9*LT*L1~W03*100~SE*6*0001~",
+            "ST*997*0001~AK1*AR*1~AK9*R*1*1*0*2~SE*4*0001~",
+        ),
     ];
     for (from, to, set) in cases {
         assert_eq!(rt; answer_to(&rt, from, to)?, answered(&rt, set)?, "at {to}");
@@ -54,6 +59,11 @@ fn faults_of_sets_are_told(rt: HostRuntime) -> Result<(), Fail> {
             "SE*6*0001~",
             "",
             "ST*997*0001~AK1*AR*1~AK2*943*0001~AK5*R*2~AK9*R*1*1*0~SE*6*0001~",
+        ),
+        (
+            "ST*943*0001~W06*F*PO77*20250303*SHP1~W04*100*EA**SK*BOLT~N9*LT*L1~W03*100~SE*6*0001~",
+            "ST*940*0001~W06*F*PO77*20250303*SHP1~W04*100*EA**SK*BOLT~N9*LT*L1~W03*100~",
+            "ST*997*0001~AK1*AR*1~AK2*940*0001~AK5*R*2~AK9*R*1*1*0~SE*6*0001~",
         ),
         (
             "SE*6*0001~",
