@@ -10,7 +10,7 @@ ghost use Rattle.stock.specs.Stops.{StopsFor, advice_changes};
 
 use crate::changes::row_changes;
 use crate::faults::advice_fault;
-use crate::known::KnownAdvice;
+use crate::known_advices::KnownAdvice;
 use crate::lines::advised;
 use crate::page::Page;
 use crate::rows::{Column, add_lines, touched};

@@ -4,7 +4,8 @@ ghost use Rattle.stock.specs.Puts.{put_change};
 ghost use Rattle.stock.specs.declared.steps.Change.TheVariants as changed;
 
 use crate::documents::{Document, Function};
-use crate::known::{KnownAdvice, KnownOrder};
+use crate::known_advices::KnownAdvice;
+use crate::known_orders::KnownOrder;
 use crate::rows::{Row, put_row};
 use crate::searches::{put_advice, put_order, put_said, send};
 use crate::steps::Change;

@@ -5,7 +5,7 @@ ghost use Rattle.profile.specs.Lists.{placed};
 ghost use Rattle.profile.specs.Page.{page_line, reserved_lines};
 ghost use Rattle.stock.specs.Steps.{exceeds};
 
-use crate::known::KnownLine;
+use crate::known_orders::KnownLine;
 use sets_in::{AdviceLine, Line, OrderLine};
 use std::alloc::{AllocError, Global};
 

@@ -9,7 +9,8 @@ ghost use Rattle.stock.specs.Told.{told, amount};
 
 use crate::documents::Document;
 use crate::drafts::Draft;
-use crate::known::{KnownAdvice, KnownOrder};
+use crate::known_advices::KnownAdvice;
+use crate::known_orders::KnownOrder;
 use crate::rows::{Column, Row, amount_of};
 use crate::searches::{place_of_advice, place_of_document, place_of_order};
 use crate::steps::Step;
@@ -64,13 +65,14 @@ impl Page {
         requires { IsSound (record { rows = rows.items; advices = advices.items; orders = orders.items; documents = documents.items; entries = entries; recent = 0 }) }
         ensures { result ≡ record { rows = rows.items; advices = advices.items; orders = orders.items; documents = documents.items; entries = entries; recent = 0 } }
     {
+        let recent = 0;
         Page {
             rows,
             advices,
             orders,
             documents,
             entries,
-            recent: 0,
+            recent,
         }
     }
 

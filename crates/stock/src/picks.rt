@@ -12,7 +12,7 @@ ghost use Rattle.stock.specs.declared.steps.Change.TheVariants.{Sent};
 
 use crate::changes::row_changes;
 use crate::documents::Function;
-use crate::known::KnownOrder;
+use crate::known_orders::KnownOrder;
 use crate::lines::{exceeds, joined};
 use crate::page::Page;
 use crate::rows::{ship, touched};

@@ -11,7 +11,7 @@ ghost use Rattle.stock.specs.declared.steps.Change.TheVariants.{Sent};
 
 use crate::changes::row_changes;
 use crate::documents::Function;
-use crate::known::KnownAdvice;
+use crate::known_advices::KnownAdvice;
 use crate::lines::joined;
 use crate::page::Page;
 use crate::rows::{count, touched};

@@ -11,7 +11,7 @@ ghost use Rattle.stock.specs.Stops.{StopsFor, order_changes};
 
 use crate::changes::row_changes;
 use crate::faults::order_fault;
-use crate::known::KnownOrder;
+use crate::known_orders::KnownOrder;
 use crate::lines::{known_lines, reserved};
 use crate::lots::all_shares;
 use crate::page::Page;

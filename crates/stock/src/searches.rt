@@ -6,7 +6,8 @@ ghost use Rattle.stock.specs.Pages.{IsAt, is_shipment, is_number, is_document, a
 ghost use Rattle.stock.specs.Steps.{with_sent, with_said};
 
 use crate::documents::{Document, Function};
-use crate::known::{KnownAdvice, KnownOrder};
+use crate::known_advices::KnownAdvice;
+use crate::known_orders::KnownOrder;
 use std::alloc::AllocError;
 
 // How many advices come before a shipment number.

@@ -1,7 +1,8 @@
 ghost use Rattle.std.specs.Prelude.{◌≡◌};
 
 use crate::documents::Function;
-use crate::known::{KnownAdvice, KnownOrder};
+use crate::known_advices::KnownAdvice;
+use crate::known_orders::KnownOrder;
 use crate::rows::Row;
 use std::alloc::AllocError;
 use tables::SetFault;

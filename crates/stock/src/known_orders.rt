@@ -1,122 +1,12 @@
-ghost use Rattle.std.specs.Prelude.{◌≡◌, ◌≤◌, length, sum_by, IfOk, MatchOption, None, Some, option_map};
+ghost use Rattle.std.specs.Prelude.{◌≡◌, IfOk, MatchOption, None, Some, option_map};
 ghost use Rattle.profile.specs.Bytes.{comes_before};
-ghost use Rattle.profile.specs.Limits.{most_lines};
-ghost use Rattle.profile.specs.Page.{PageAdvice, PageLine, PageOrder};
-ghost use Rattle.stock.specs.Pages.{is_shipment, is_number};
-ghost use Rattle.stock.specs.Steps.{closed_advice, closed_order};
+ghost use Rattle.profile.specs.Page.{PageLine, PageOrder};
+ghost use Rattle.stock.specs.Pages.{is_number};
+ghost use Rattle.stock.specs.Steps.{closed_order};
 
 use sets_in::{Address, Line};
 use std::alloc::AllocError;
 use std::marker::Model;
-
-/// An advice as a page has it.
-#[derive(Clone, Debug, Drop)]
-pub struct KnownAdvice {
-    shipment: Vec<u8>,
-    order: Vec<u8>,
-    lines: Vec<Line>,
-    is_open: bool,
-}
-
-impl Model for KnownAdvice {
-    ghost Value = { PageAdvice };
-
-    ghost view = { λ k. record { shipment = k.shipment.items; order = k.order.items; lines = k.lines.items; is_open = k.is_open } };
-
-    ghost invariant = { λ k. length k.lines.items ≤ most_lines };
-}
-
-impl KnownAdvice {
-    /// An advice of these numbers and at most 99 lines; it is open until it is counted.
-    pub fn new(shipment: Vec<u8>, order: Vec<u8>, lines: Vec<Line>, is_open: bool) -> KnownAdvice
-        requires { length lines.items ≤ most_lines }
-        ensures { result ≡ record { shipment = shipment.items; order = order.items; lines = lines.items; is_open = is_open } }
-    {
-        KnownAdvice {
-            shipment,
-            order,
-            lines,
-            is_open,
-        }
-    }
-
-    // A copy of it.
-    pub(crate) fn copy(&self) -> Result<KnownAdvice, AllocError>
-        ensures { IfOk result (λ known. known ≡ self.now) }
-    {
-        self.clone()
-    }
-
-    /// Its shipment number, 1 to 22 bytes.
-    pub fn shipment(&self) -> &[u8]
-        ensures { result.now ≡ self.now.shipment }
-    {
-        &self.shipment
-    }
-
-    /// The number of the order that it belongs to.
-    pub fn order(&self) -> &[u8]
-        ensures { result.now ≡ self.now.order }
-    {
-        &self.order
-    }
-
-    /// Whether it is under this shipment number.
-    pub(crate) fn is_under(&self, shipment: &[u8]) -> bool
-        ensures { result ≡ is_shipment shipment.now self.now }
-    {
-        self.shipment.as_slice() == shipment
-    }
-
-    // Whether it comes before a shipment number.
-    pub(crate) fn is_before(&self, shipment: &[u8]) -> bool
-        ensures { result ≡ comes_before self.now.shipment shipment.now }
-    {
-        self.shipment.as_slice().cmp(&shipment).is_lt()
-    }
-
-    /// What is advised, in the order of its set.
-    pub fn lines(&self) -> &[Line]
-        ensures { result.now ≡ self.now.lines }
-    {
-        &self.lines
-    }
-
-    // A copy of it that is closed.
-    pub(crate) fn closed(&self) -> Result<KnownAdvice, AllocError>
-        ensures { IfOk result (λ known. known ≡ closed_advice self.now) }
-    {
-        let mut known = self.copy()?;
-        known.is_open = false;
-        Ok(known)
-    }
-
-    /// Whether it hasn't been counted yet.
-    pub fn is_open(&self) -> bool
-        ensures { result ≡ self.now.is_open }
-    {
-        self.is_open
-    }
-
-    /// The sum of what is advised, in the unit EA.
-    pub fn total(&self) -> u64
-        ensures { result ≡ sum_by (λ l. l.quantity) self.now.lines }
-    {
-        total(&self.lines)
-    }
-}
-
-// The sum of the quantities of lines.
-fn total(lines: &[Line]) -> u64
-    requires { length lines.now ≤ most_lines }
-    ensures { result ≡ sum_by (λ l. l.quantity) lines.now }
-{
-    let mut total: u64 = 0;
-    for line in lines {
-        total += u64::from(line.quantity());
-    }
-    total
-}
 
 /// A line of an order as a page has it.
 #[derive(Clone, Debug, Drop)]
