@@ -1,7 +1,7 @@
 -- a buffer filled from two sources
-use Rattle.std.proofs.Common.{◌≡◌, ℕ, ◌+◌, ◌-◌, ◌<◌, ◌≤◌, List, [], ◌∷◌, ◌++◌, take, drop, Option, Some, None, sym, subst, length, ◌∙◌, ap, refl, arith, length-append, append-nil, append_assoc, unwrap_or, min, true, false, nat_le}
+use Rattle.std.proofs.Common.{◌≡◌, ℕ, ◌+◌, ◌<◌, ◌≤◌, List, [], ◌∷◌, ◌++◌, take, Option, Some, None, sym, subst, length, ◌∙◌, ap, refl, arith, length-append, append-nil, append_assoc, unwrap_or, min, true, false, nat_le}
 use Rattle.std.proofs.lemmas.List.{take-append-le, take_all, length-take-le}
-use Rattle.std.proofs.Math.Seq.{take-append_seam, take-length}
+use Rattle.std.proofs.Math.Seq.{take-append_seam}
 use Rattle.std.proofs.lemmas.Bool.Decides.{nat_tests}
 use Rattle.std.specs.Io.KnownBytes.{Consumes, IsAtEnd}
 use Rattle.intake.specs.Requests.{IsInput, IsFilled}

@@ -1,5 +1,5 @@
 -- what is found of a depositor, and under a number
-use Rattle.std.proofs.Common.{◌≡◌, ℕ, List, Option, Some, None, Bool, true, false, refl, sym, find, ◌==◌, if◌then◌else◌}
+use Rattle.std.proofs.Common.{◌≡◌, ℕ, List, Option, Some, None, Bool, true, false, refl, find, ◌==◌, if◌then◌else◌}
 use Rattle.std.specs.Prelude.{unwrap_or, option_map}
 use Rattle.profile.specs.Bytes.{value}
 use Rattle.profile.specs.Header.{Who, who_of}

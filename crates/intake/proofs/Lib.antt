@@ -12,3 +12,4 @@ pub mod Posted
 pub mod Served
 pub mod Answering
 pub mod Beginnings
+pub mod Taking

@@ -1,5 +1,5 @@
 -- paths and their parts, as text
-use Rattle.std.proofs.Common.{◌≡◌, ℕ, ◌+◌, ◌-◌, ◌<◌, ◌≤◌, List, [], ◌∷◌, ◌++◌, length, take, drop, get_or, Option, Some, true, false, cond, ltb, leb, ◌&&◌, inl, inr, subst, refl, sym, ◌∙◌, ap, arith, codes, Bool, if◌then◌else◌}
+use Rattle.std.proofs.Common.{◌≡◌, ℕ, ◌+◌, ◌-◌, ◌<◌, List, [], ◌∷◌, ◌++◌, length, take, drop, get_or, Some, true, false, cond, ltb, leb, ◌&&◌, inl, inr, subst, refl, sym, ◌∙◌, ap, arith, codes, Bool, if◌then◌else◌}
 use Rattle.std.proofs.lemmas.Bool.Decides.{nat_tests}
 use Rattle.std.specs.Str.{IsUtf8, is_utf8, IsCharBoundary}
 use Rattle.std.proofs.lemmas.Str.{is_utf8-from_IsUtf8, IsUtf8-from_is_utf8, IsUtf8-between, IsUtf8-nil, IsCharBoundary-after_ascii, IsCharBoundary-before_ascii, IsCharBoundary-end}
@@ -11,7 +11,7 @@ use Rattle.matchit.specs.Router.{RouteOf}
 use Rattle.std.specs.List.{list_all}
 use Rattle.std.proofs.lemmas.List.{get_or-append-add}
 use Rattle.matchit.specs.Seek.{first, has_slash, segment}
-use Rattle.profile.specs.Response.{Nowhere, Route}
+use Rattle.profile.specs.Response.{Nowhere}
 use Rattle.intake.specs.declared.routes.Place.{Place}
 use Rattle.intake.specs.Routes.{table, route_of, route_by_row}
 

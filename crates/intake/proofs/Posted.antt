@@ -4,7 +4,7 @@ use Rattle.profile.specs.Header.{Who}
 use Rattle.profile.specs.Moments.{Moment}
 use Rattle.profile.specs.Register.{Entry, Interchange}
 use Rattle.profile.specs.Accepted.{reply_to}
-use Rattle.profile.specs.Response.{Response, Route, ToExchange, ToStock, ToOutbox, ToContent, Nowhere, Post, OtherMethod, is_exchange, resp, reply_response}
+use Rattle.profile.specs.Response.{Route, ToExchange, ToStock, ToOutbox, ToContent, Nowhere, Post, OtherMethod, is_exchange, resp, reply_response}
 
 module _ (W : Who) (L : List Entry) (body : List ℕ) (t : Moment) where
   -- anywhere else POST is as any other method but GET

@@ -1,5 +1,5 @@
 -- texts of refusals and faults, and what a reply says of the book
-use Rattle.std.proofs.Common.{◌≡◌, ◌≢◌, ℕ, List, ◌++◌, codes, refl, true, false}
+use Rattle.std.proofs.Common.{◌≡◌, ◌≢◌, ℕ, List, ◌++◌, codes, refl, false}
 use Rattle.std.specs.Fmt.{digits}
 use Rattle.profile.specs.Refusals as meant
 use Rattle.profile.specs.Accepted.{is_accepted}

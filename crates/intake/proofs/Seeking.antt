@@ -2,7 +2,7 @@
 use Rattle.std.proofs.Common.{◌≡◌, ℕ, zero, suc, ◌-◌, ◌<◌, List, [], ◌∷◌, drop, Option, Some, None, Bool, true, false, cond, refl, sym, ap, ◌∙◌, ◌⊎◌, inl, inr, arith, ltb, length, ◌==◌}
 use Rattle.std.proofs.lemmas.Bool.Decides.{nat_tests}
 use Rattle.matchit.specs.Rows.{RowsOf, param_token, catch_all_token}
-use Rattle.matchit.specs.Seek.{own, step, or_else, seek, first, param_step, has_slash, with_suffix, longest_suffix, segment, same_text}
+use Rattle.matchit.specs.Seek.{own, step, or_else, seek, param_step, has_slash, with_suffix, longest_suffix, segment, same_text}
 
 -- the pattern's bytes stand in the path as they are, and a parameter stands for some of the path's bytes
 abbrev pub Fits : List ℕ → List ℕ → Type 0

@@ -1,5 +1,5 @@
 -- a response that is served, or the 503 of a fault
-use Rattle.std.proofs.Common.{◌≡◌, ℕ, List, Bool, true, false, refl, sym, ◌∙◌, Option, Some, None, subst, ap, inl, inr, if◌then◌else◌}
+use Rattle.std.proofs.Common.{◌≡◌, ℕ, List, Bool, true, false, refl, Option, Some, None, subst, inl, inr, if◌then◌else◌}
 use Rattle.profile.specs.Moments.{Moment}
 use Rattle.profile.specs.Register.{Entry, Interchange}
 use Rattle.profile.specs.Accepted.{IsLegal, is_accepted, reply_to, after}
@@ -9,7 +9,7 @@ use Rattle.store.specs.Standing.{Standing, IsUsable, IsUnchanged, IsFault, Leave
 use Rattle.store.specs.declared.fault.Fault.{Fault}
 use Rattle.store.specs.declared.fault.Fault.TheVariants.{OutOfMemory}
 use Rattle.store.proofs.Changes.{unchanged_refl, leaves_first}
-use Rattle.intake.specs.Serving.{handed_in, IsServed, IsFaulted, IsAnswered}
+use Rattle.intake.specs.Serving.{handed_in, IsAnswered}
 
 pub none_handed_in : (m : Method) (r : Route) (body : List ℕ) → handed_in m r body ≡ None → is_exchange m r ≡ false
 none_handed_in m r body e = by (is_exchange m r) e

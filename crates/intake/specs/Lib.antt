@@ -5,3 +5,4 @@ pub mod Requests
 pub mod Fields
 pub mod Told
 pub mod Serving
+pub mod Folders

@@ -1,5 +1,5 @@
 -- What a request is answered, and what it leaves of the book.
-use Rattle.std.specs.Prelude.{◌≡◌, ◌⊎◌, ℕ, Bool, false, List, ◌++◌, if◌then◌else◌, Option, Some, None, option_map}
+use Rattle.std.specs.Prelude.{◌≡◌, ◌⊎◌, ℕ, false, List, ◌++◌, if◌then◌else◌, Option, Some, None, option_map}
 use Rattle.httparse.specs.Grammar.{RequestHead}
 use Rattle.profile.specs.Moments.{Moment}
 use Rattle.profile.specs.Register.{Entry, Interchange}

@@ -1,4 +1,6 @@
-ghost use Rattle.std.specs.Prelude.{◌≡◌, false, OnOk};
+ghost use Rattle.std.specs.Prelude.{◌≡◌, ◌∷◌, [], ℕ, List, false, map, IfOk, IfErr, OnOk};
+ghost use Rattle.intake.specs.Folders.{became, became_of, IsDeviceFault, AreTaken, IsStopped, IsUntaken};
+ghost use Rattle.store.specs.Runs.{told};
 ghost use Rattle.store.specs.Standing.{GoesOn};
 
 use std::alloc::AllocError;
@@ -46,7 +48,9 @@ impl fmt::Display for Taken {
 }
 
 // The fault that an error of a file or a folder is.
-fn fault_of(error: &io::Error) -> Fault {
+fn fault_of(error: &io::Error) -> Fault
+    ensures { IsDeviceFault result }
+{
     if error.kind() == io::ErrorKind::OutOfMemory {
         Fault::OutOfMemory
     } else {
@@ -71,13 +75,39 @@ fn listed<R: Files + AllocGlobal + Clone + Drop>(rt: &R, dir: &str) -> io::Resul
     Ok(names)
 }
 
+// The bytes of a file.
+fn bytes_of<R: Files + AllocGlobal>(rt: &R, path: &str) -> Result<Vec<u8>, Fault>
+    ensures { IfErr result IsDeviceFault }
+{
+    match fs::read(rt, path) {
+        Ok(bytes) => Ok(bytes),
+        Err(error) => Err(fault_of(&error)),
+    }
+}
+
 // Writes an answer beside its file, if there is one.
-fn leave_answer<R: Files + AllocGlobal>(rt: &R, path: &str, answer: &[u8]) -> Result<(), Fault> {
+fn leave_answer<R: Files + AllocGlobal>(rt: &R, path: &str, answer: &[u8]) -> Result<(), Fault>
+    ensures { IfErr result IsDeviceFault }
+{
     if answer.is_empty() {
         return Ok(());
     }
     let beside = format!(in rt.alloc(); "{path}.ans")?;
-    fs::write(rt, beside.as_str(), answer).map_err(|error| fault_of(&error))
+    match fs::write(rt, beside.as_str(), answer) {
+        Ok(()) => Ok(()),
+        Err(error) => Err(fault_of(&error)),
+    }
+}
+
+// What became of an interchange with this reply, and its answer.
+fn outcome_of(reply: Reply) -> (Outcome, Vec<u8>)
+    ensures { became_of result.0 ≡ became (told reply) }
+{
+    match reply {
+        Reply::Accepted(text) => (Outcome::Accepted, text),
+        Reply::Stored(text) => (Outcome::Stored, text),
+        Reply::Refused { refusal, answer } => (Outcome::Refused(refusal), answer),
+    }
 }
 
 // Takes one file.
@@ -87,32 +117,29 @@ fn take_file<R: Files + AllocGlobal, K: Keeper>(
     keeper: &mut K,
     moment: Moment,
 ) -> Result<Outcome, Fault>
-    ensures opened { OnOk result ((K.standing keeper.new).shut ≡ false) }
+    ensures taken { IfOk result (λ outcome. (text : List ℕ) × AreTaken (K.standing keeper.old) (K.standing keeper.new) moment (text ∷ []) (became_of outcome ∷ [])) }
+    ensures stopped { IfErr result (λ fault. IsUntaken fault (K.standing keeper.old) (K.standing keeper.new) moment) }
+    ensures opened { OnOk result ((K.standing keeper.old).shut ≡ (K.standing keeper.new).shut) }
     ensures goes { GoesOn (K.standing keeper.old) (K.standing keeper.new) }
 {
-    let bytes = fs::read(rt, path).map_err(|error| fault_of(&error))?;
-    let (outcome, answer) = match submit(
-        rt.alloc(),
-        keeper,
-        &Command::Interchange(&bytes),
-        moment,
-    )? {
-        Reply::Accepted(text) => (Outcome::Accepted, text),
-        Reply::Stored(text) => (Outcome::Stored, text),
-        Reply::Refused { refusal, answer } => (Outcome::Refused(refusal), answer),
-    };
+    let bytes = bytes_of(rt, path)?;
+    let reply = submit(rt.alloc(), keeper, &Command::Interchange(&bytes), moment)?;
+    let (outcome, answer) = outcome_of(reply);
     leave_answer(rt, path, &answer)?;
     Ok(outcome)
 }
 
 // The names in order of their bytes.
-fn in_order<R: Files + AllocGlobal + Clone + Drop>(
-    rt: &R,
-    dir: &str,
-) -> Result<Vec<String>, Fault> {
-    let mut names = listed(rt, dir).map_err(|error| fault_of(&error))?;
-    names.sort_unstable();
-    Ok(names)
+fn in_order<R: Files + AllocGlobal + Clone + Drop>(rt: &R, dir: &str) -> Result<Vec<String>, Fault>
+    ensures { IfErr result IsDeviceFault }
+{
+    match listed(rt, dir) {
+        Ok(mut names) => {
+            names.sort_unstable();
+            Ok(names)
+        }
+        Err(error) => Err(fault_of(&error)),
+    }
 }
 
 // The path of a file in a folder.
@@ -131,7 +158,9 @@ pub fn take_folder<R: Files + AllocGlobal + Clone + Drop, K: Keeper>(
     keeper: &mut K,
     moment: Moment,
 ) -> Result<Vec<Taken>, Fault>
-    ensures opened { OnOk result ((K.standing keeper.old).shut ≡ false → (K.standing keeper.new).shut ≡ false) }
+    ensures taken { IfOk result (λ files. (texts : List (List ℕ)) × AreTaken (K.standing keeper.old) (K.standing keeper.new) moment texts (map (λ file. became_of file.outcome) files.items)) }
+    ensures stopped { IfErr result (λ fault. IsStopped fault (K.standing keeper.old) (K.standing keeper.new) moment) }
+    ensures opened { OnOk result ((K.standing keeper.old).shut ≡ (K.standing keeper.new).shut) }
     ensures goes { GoesOn (K.standing keeper.old) (K.standing keeper.new) }
 {
     let mut taken = Vec::new(rt.alloc());

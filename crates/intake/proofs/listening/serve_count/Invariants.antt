@@ -1,4 +1,3 @@
-use Rattle.std.proofs.Common.{◌≡◌, ◌<◌, false}
 use Rattle.store.specs.Standing.{GoesOn}
 use Rattle.intake.proofs.listening.serve_count.Given as goal
 

@@ -1,8 +1,7 @@
 use Rattle.std.proofs.Common.{◌∙◌, ◌≡◌, sym, ap, Some, List, ℕ}
-use Rattle.std.specs.Prelude.{option_map}
 use Rattle.profile.specs.Header.{who_of}
 use Rattle.profile.specs.Response.{content_response}
-use Rattle.profile.specs.Rows.{OutRow, outbox_of}
+use Rattle.profile.specs.Rows.{outbox_of}
 use Rattle.intake.proofs.Found.{found, content_under}
 use Rattle.intake.proofs.queries.content_at.Goals as goal
 

@@ -1,8 +1,5 @@
-use Rattle.std.proofs.Common.{◌≡◌, ◌∙◌, sym, ap, subst, List, true, false, IfOk, OnOk, OnErr}
-use Rattle.profile.specs.Accepted.{IsLegal, is_accepted, reply_to, after}
-use Rattle.profile.specs.Register.{Entry, Interchange}
+use Rattle.std.proofs.Common.{◌≡◌, sym, ap, subst, true, IfOk}
 use Rattle.profile.specs.Response.{Method, is_exchange, resp}
-use Rattle.store.specs.Standing.{IsUsable, IsUnchanged, LeavesEither}
 use Rattle.intake.specs.Answers.{seen}
 use Rattle.intake.specs.Fields.{seen_method}
 use Rattle.intake.specs.Routes.{seen_route}

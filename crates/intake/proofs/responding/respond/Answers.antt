@@ -3,7 +3,7 @@ use Rattle.profile.specs.Register.{Entry}
 use Rattle.profile.specs.Response.{Method, Route, resp}
 use Rattle.intake.specs.Answers.{seen}
 use Rattle.intake.specs.Fields.{seen_method, method_of}
-use Rattle.intake.specs.Routes.{seen_route, route_of}
+use Rattle.intake.specs.Routes.{route_of}
 use Rattle.intake.specs.Serving.{handed_in, IsAnswered}
 use Rattle.intake.proofs.Served.{no_memory}
 use Rattle.intake.proofs.responding.respond.Goals as goal

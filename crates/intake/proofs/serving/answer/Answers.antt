@@ -1,7 +1,7 @@
 use Rattle.std.proofs.Common.{◌≡◌, true, false, sym, ◌∙◌, subst, List, ℕ, codes}
 use Rattle.profile.specs.Response.{is_exchange}
 use Rattle.intake.specs.Fields.{head_of, seen_method, IsValues, values}
-use Rattle.intake.specs.Routes.{seen_route, route_of}
+use Rattle.intake.specs.Routes.{seen_route}
 use Rattle.intake.proofs.Sends.{tail_is}
 use Rattle.intake.proofs.Answering.{encoded, refused, cut_off, wanting, queried, handed, at_head}
 use Rattle.intake.proofs.serving.answer.Goals as goal

@@ -1,4 +1,4 @@
-use Rattle.std.proofs.Common.{arith, ◌≡◌, ◌≤◌, length, take}
+use Rattle.std.proofs.Common.{arith, ◌≤◌, length, take}
 use Rattle.std.proofs.lemmas.Grind.{common_steps}
 use Rattle.std.proofs.lemmas.Result.{IfOk-weaker}
 use Rattle.intake.proofs.Answering.{whole_answer, headless_answer}
