@@ -4,9 +4,7 @@ use Rattle.sqlite.specs.Order.{Row}
 use Rattle.sqlite.specs.Tree.{Trees}
 use Rattle.sqlite.specs.State.{State, HasCleanDisk, Survives}
 use Rattle.profile.specs.Header.{Who, who_text}
-use Rattle.profile.specs.Changes.{LeadOn}
 use Rattle.rules.specs.Written.{Written}
-use Rattle.rules.specs.Tabled.{table_changes}
 use Rattle.stock.specs.declared.steps.Change as stock
 use Rattle.profile.specs.Register.{Entry}
 use Rattle.profile.specs.Tables.{TableRow, entry_table}
@@ -21,6 +19,7 @@ use Rattle.books.specs.Standing.{StandsIn}
 use Rattle.books.specs.Exits.{IsAppended, HasGrown, LeavesIt}
 use Rattle.books.specs.Keeping.{standing_in}
 use Rattle.books.proofs.Growing.{stands_in}
+use Rattle.books.proofs.Ordered.{legal_ordered}
 use Rattle.books.proofs.HoldsLemmas.{same_cells, same_cell}
 
 -- the rows of `entry` are stored as they are
@@ -52,7 +51,7 @@ pub usable_now : (s : State) (W : Who) (n refused : ℕ) (L : List Entry) → n 
 usable_now s W n refused L count h only = record {
   opened = refl;
   legal = let a = h.stands in a.legal;
-  keeps = record { count = count; ordered = h.ordered; stands = λ _. h.stands };
+  keeps = record { count = count; stands = λ _. h.stands };
   stand = λ db may. (L, stands_in db s W L (only db may) h);
   only = λ M left. stands_once W left.0 M L left.2 (stands_in left.0 s W L (only left.0 left.1) h);
 }
@@ -104,7 +103,7 @@ is_appended s W n refused L e seq who row cs text u more named next =
     let kept = u.keeps in
     record {
       stood = kept.stands;
-      ordered = kept.ordered;
+      ordered = legal_ordered W L u.legal;
       legal = next.legal;
       whose = named ∙ ap (λ (w : Written). who_text w.who) next.entry;
       appends = record { next = more ∙ ap (λ (k : ℕ). k + 1) kept.count; entry = next.entry; outgoing = next.outgoing; leads = next.leads };

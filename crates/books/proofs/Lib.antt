@@ -1,3 +1,13 @@
+mod Owned
+mod Rising
+mod Ordered
+mod Parts
+mod Sorts
+mod ShowingTexts
+mod Showing
+mod ShownRows
+mod Places
+mod Sendings
 mod MakingTexts
 mod Values
 mod PutLemmas
@@ -23,3 +33,13 @@ mod AppendingLemmas
 mod Growing
 mod CreateLemmas
 mod KeepingLemmas
+mod InOrder
+mod Asked
+mod ReadingTexts
+mod Found
+mod ReadLemmas
+mod OwnEntries
+mod AskedBooks
+mod FoundRows
+mod HasEntries
+mod AskedLater

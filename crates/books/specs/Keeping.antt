@@ -4,14 +4,13 @@ use Rattle.sqlite.specs.State.{State}
 use Rattle.sqlite_trees.specs.View.{doubt}
 use Rattle.profile.specs.Header.{Who}
 use Rattle.profile.specs.Register.{Entry}
+use Rattle.profile.specs.Accepted.{IsLegal}
 use Rattle.store.specs.Standing.{Standing}
-use Rattle.books.specs.Standing.{AreOrdered, filled}
 use Rattle.books.specs.Exits.{AllStand, LeavesStanding, StandsWhileOpen}
 
--- the register has so many entries, its rows are in the order of their keys, and the tables stand for it while the store is open
+-- the register has so many entries, and the tables stand for it while the store is open
 pub record IsKept (s : State) (W : Who) (entries : ℕ) (L : List Entry) : Type 0 where
   pub count : entries ≡ length L
-  pub ordered : AreOrdered (filled W L)
   pub stands : StandsWhileOpen s W L
 
 -- how a book of the warehouse stands, which knows of so many entries
@@ -25,3 +24,10 @@ standing_in s W entries refused shut = record {
   refusals = refused;
   shut = shut;
 }
+
+-- the tables stand for the legal register while the store is open, and a crash leaves what stands for it alone
+pub record IsSettled (s : State) (W : Who) (L : List Entry) : Type 0 where
+  pub legal : IsLegal W L
+  pub stands : StandsWhileOpen s W L
+  pub stand : AllStand s W
+  pub only : (M : List Entry) → LeavesStanding s W M → M ≡ L

@@ -1,3 +1,4 @@
+pub mod Showing
 pub mod Layout
 pub mod Steps
 pub mod Held
@@ -7,6 +8,9 @@ pub mod Rises
 pub mod Appending
 pub mod Kept
 pub mod Exits
+pub mod Asking
+pub mod Recorded
+pub mod Taken
 pub mod Making
 pub mod Keeping
 pub mod Opened

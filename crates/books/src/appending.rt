@@ -1,4 +1,4 @@
-ghost use Rattle.std.specs.Prelude.{◌≡◌, ◌⊎◌, ◌++◌, List, IsTrue, IfErr, OnOk, OnErr};
+ghost use Rattle.std.specs.Prelude.{◌≡◌, ◌⊎◌, ◌<◌, ◌^◌, ◌++◌, List, IsTrue, IfErr, OnOk, OnErr};
 ghost use Rattle.profile.specs.Header.{Who as Partner, who_text};
 ghost use Rattle.profile.specs.Register as register;
 ghost use Rattle.profile.specs.Reply.{out};
@@ -49,12 +49,13 @@ fn insert_sent<'a, S: Alter>(
 pub(crate) fn write_entry<'a, S: Alter>(
     tx: &mut Transaction<'_, S>,
     calls: &mut Calls,
-    seq: u32,
+    seq: u64,
     who: &'a [u8],
     entry: &'a Entry,
     changes: &'a [Change],
     outgoing: &'a [u8],
 ) -> Result<(), Fault>
+    requires { seq < 2 ^ 63 }
     ensures same_reference { tx.new.conn.ghost_name ≡ tx.old.conn.ghost_name }
     ensures leads { HasCleanDisk (state S.Store tx.new.conn.now) → IsTrue (state S.Store tx.old.conn.now).in_transaction
         → OnOk result ((W : Partner) (L : List register.Entry) (e : register.Entry) → who.now ≡ who_text e.who → Appends W L e seq entry.now changes.now outgoing.now

@@ -1,21 +1,31 @@
-ghost use Rattle.std.specs.Prelude.{◌≡◌, ◌++◌, ◌∷◌, [], List, true, false, IfErr, IfOk, OnOk, OnErr, IsErrOf};
+ghost use Rattle.std.specs.Prelude.{◌≡◌, ◌≢◌, ◌⊎◌, ◌++◌, ◌∷◌, [], List, true, false, IfErr, IfOk, OnOk, OnErr, IsErrOf, IsErrAnd};
+ghost use Rattle.profile.specs.Header.{Who as Partner};
 ghost use Rattle.profile.specs.Register as register;
 ghost use Rattle.sqlite.specs.State.{HasCleanDisk, Survives};
 ghost use Rattle.sqlite.specs.Held.{state};
-ghost use Rattle.store.specs.Standing.{IsUsable, IsNext, IsUnchanged, GoesOn, LeavesEither, IsFault, IsCommitFault};
-ghost use Rattle.books.specs.Exits.{IsAsBefore};
+ghost use Rattle.sqlite.specs.Order.{Row as Cells};
+ghost use Rattle.store.specs.Replayed.{all_written};
+ghost use Rattle.store.specs.Standing.{IsUsable, IsUnchanged, IsQueryFault};
+ghost use Rattle.books.specs.Asking.{Finds, IsAsked, house_text};
+ghost use Rattle.books.specs.Exits.{IsAsBefore, StandsWhileOpen};
+ghost use Rattle.books.specs.Keeping.{IsKept, IsSettled};
 ghost use Rattle.books.specs.Layout.{no_layout};
 ghost use Rattle.books.specs.Opened.{standing_of};
+ghost use Rattle.books.specs.Recorded.{IsHouse};
 ghost use Rattle.books.specs.Rises.{Rises};
 ghost use Rattle.books.specs.Standing.{StandsIn};
+ghost use Rattle.books.specs.Taken.{has_book_table};
 
 use crate::connected::Tables;
 use crate::texts::partner_text;
-use rules::{Change, Entry, Warehouse};
+use rules::{Change, Entry, Key, Known, Page, Warehouse, Who};
 use sqlite::Alter;
 use std::alloc::Global;
 use std::marker::Model;
-use store::Fault;
+use store::{Fault, Keeper, OutRow, ReplayBook, StockRow};
+
+// The greatest number that SQLite holds.
+const GREATEST: u64 = 9_223_372_036_854_775_807;
 
 /// A book of a warehouse in SQLite tables.
 #[derive(Drop)]
@@ -23,7 +33,7 @@ pub struct Book<S: Alter + Drop> {
     alloc: Global,
     tables: Tables<S>,
     warehouse: Warehouse,
-    entries: u32,
+    entries: u64,
     shut: bool,
 }
 
@@ -38,7 +48,8 @@ impl<S: Alter + Drop> Model for Book<S> {
 }
 
 impl<S: Alter + Drop> Book<S> {
-    /// Makes the tables of an empty register of the warehouse. A fault, 40 or 41, hands the tables back.
+    /// Makes the tables of an empty register of the warehouse. A fault hands the tables back: 43 where the store has a table with
+    /// the name of a table of the book already, which leaves it as it is, and 40 or 41 where a call was refused.
     pub fn create(
         alloc: Global,
         mut tables: Tables<S>,
@@ -48,15 +59,47 @@ impl<S: Alter + Drop> Book<S> {
         ensures warehouse { IfOk result (λ b. b.warehouse ≡ warehouse) }
         ensures before { IfErr result (λ e. HasCleanDisk (state S.Store e.1.conn) → IsAsBefore (state S.Store tables.conn) (state S.Store e.1.conn)) }
         ensures crash { IfErr result (λ e. Survives (state S.Store tables.conn) (state S.Store e.1.conn) (λ db. (state S.Store tables.conn).now.schema ≡ no_layout → StandsIn warehouse [] db)) }
-        ensures counted { IfErr result (λ e. Rises tables.refused e.1.refused) }
-        ensures kinds { IfErr result (λ e. IsCommitFault e.0) }
+        ensures taken { has_book_table (state S.Store tables.conn).now.schema.tables ≡ true → IsErrAnd result (λ e. (e.0 ≡ Fault.NotThisBook) × (e.1 ≡ tables)) }
+        ensures free { IfErr result (λ e. e.0 ≡ Fault.NotThisBook → has_book_table (state S.Store tables.conn).now.schema.tables ≡ true) }
+        ensures counted { IfErr result (λ e. e.0 ≢ Fault.NotThisBook → Rises tables.refused e.1.refused) }
+        ensures named { IfErr result (λ e. (e.0 ≡ Fault.NotThisBook) ⊎ ((e.0 ≡ Fault.OutOfMemory) ⊎ (e.0 ≡ Fault.Store))) }
     {
+        if tables.are_taken() {
+            return Err((Fault::NotThisBook, tables));
+        }
         match tables.make(&warehouse) {
             Ok(()) => Ok(Book {
                 alloc,
                 tables,
                 warehouse,
                 entries: 0,
+                shut: false,
+            }),
+            Err(fault) => Err((fault, tables)),
+        }
+    }
+
+    /// Opens the book that tables hold. A fault hands the tables back as they were: 40 or 41 where a call was refused, 43 where
+    /// `book` hasn't one row, or that row has another version than 1 or no warehouse.
+    pub fn open_from(alloc: Global, mut tables: Tables<S>) -> Result<Book<S>, (Fault, Tables<S>)>
+        ensures usable { IfOk result (λ b. HasCleanDisk (state S.Store b.tables.conn) → (W : Partner) (L : List register.Entry) → IsSettled (state S.Store tables.conn) W L → IsUsable (standing_of S.Store b) L) }
+        ensures keeps { IfOk result (λ b. HasCleanDisk (state S.Store b.tables.conn) → (W : Partner) (L : List register.Entry) → StandsWhileOpen (state S.Store tables.conn) W L
+            → (b.warehouse ≡ W) × IsKept (state S.Store b.tables.conn) W b.entries L) }
+        ensures opened { IfOk result (λ b. b.shut ≡ false) }
+        ensures house { IfOk result (λ b. HasCleanDisk (state S.Store b.tables.conn) → (rows : List Cells) × Finds house_text [] (state S.Store tables.conn).now rows × IsHouse rows b.warehouse) }
+        ensures not_this { IfErr result (λ e. e.0 ≡ Fault.NotThisBook → HasCleanDisk (state S.Store e.1.conn) → (rows : List Cells) × Finds house_text [] (state S.Store tables.conn).now rows × ((W : Partner) → IsHouse rows W → ⊥)) }
+        ensures this { IfErr result (λ e. HasCleanDisk (state S.Store e.1.conn) → (W : Partner) (L : List register.Entry) → StandsWhileOpen (state S.Store tables.conn) W L → e.0 ≢ Fault.NotThisBook) }
+        ensures asked { IfErr result (λ e. IsAsked (state S.Store tables.conn) (state S.Store e.1.conn)) }
+        ensures counted { IfErr result (λ e. e.0 ≢ Fault.NotThisBook → Rises tables.refused e.1.refused) }
+        ensures uncounted { IfErr result (λ e. e.0 ≡ Fault.NotThisBook → e.1.refused ≡ tables.refused) }
+        ensures named { IfErr result (λ e. (e.0 ≡ Fault.NotThisBook) ⊎ ((e.0 ≡ Fault.OutOfMemory) ⊎ (e.0 ≡ Fault.Store))) }
+    {
+        match tables.found() {
+            Ok(found) => Ok(Book {
+                alloc,
+                tables,
+                warehouse: found.0,
+                entries: found.1,
                 shut: false,
             }),
             Err(fault) => Err((fault, tables)),
@@ -77,54 +120,53 @@ impl<S: Alter + Drop> Book<S> {
         tables
     }
 
-    /// The warehouse that keeps the book.
-    pub fn warehouse(&self) -> Warehouse
-        ensures { result ≡ self.now.warehouse }
-    {
-        self.warehouse
-    }
-
-    /// How many calls the store refused.
-    pub fn refused(&self) -> u64
-        ensures { result ≡ self.now.tables.refused }
-    {
-        self.tables.refused()
-    }
-
-    /// Whether the book has to be opened again.
-    pub fn must_reopen(&self) -> bool
-        ensures { result ≡ self.now.shut }
-    {
-        self.shut
-    }
-
-    /// Appends an entry, with the rows that it changes and the text that goes out for it, in one transaction. After a fault of
-    /// the store the book has to be opened again, and answers 42 until then.
-    pub fn commit(
-        &mut self,
-        entry: &Entry,
-        changes: &[Change],
-        outgoing: &[u8],
-    ) -> Result<(), Fault>
-        ensures ok { (standing_of S.Store self.new).doubt ≡ 0 → (L : List register.Entry) (e : register.Entry) → IsUsable (standing_of S.Store self.old) L
-            → IsNext self.old.warehouse L e entry.now changes.now outgoing.now → OnOk result (IsUsable (standing_of S.Store self.new) (L ++ e ∷ [])) }
-        ensures left { (standing_of S.Store self.new).doubt ≡ 0 → (L : List register.Entry) (e : register.Entry) → IsUsable (standing_of S.Store self.old) L
-            → IsNext self.old.warehouse L e entry.now changes.now outgoing.now → OnErr result (LeavesEither (standing_of S.Store self.new) L (L ++ e ∷ [])) }
-        ensures opened { OnOk result ((standing_of S.Store self.new).shut ≡ false) }
-        ensures fault { IfErr result (λ fault. IsFault fault (standing_of S.Store self.old) (standing_of S.Store self.new)) }
-        ensures kinds { IfErr result IsCommitFault }
-        ensures store { IsErrOf result Fault.Store → (standing_of S.Store self.new).shut ≡ true }
-        ensures shut { (standing_of S.Store self.old).shut ≡ true → IsErrOf result Fault.Reopen × IsUnchanged (standing_of S.Store self.old) (standing_of S.Store self.new) }
-        ensures goes { GoesOn (standing_of S.Store self.old) (standing_of S.Store self.new) }
+    // A depositor's entries, as a book in memory that replays them.
+    fn own_book(&mut self, who: Who) -> Result<ReplayBook, Fault>
+        ensures own { (standing_of S.Store self.new).doubt ≡ 0 → (L : List register.Entry) → (standing_of S.Store self.old).keeps L → IfOk result (λ book. book.entries ≡ all_written (register.own L who)) }
+        ensures warehouse { IfOk result (λ book. book.warehouse ≡ self.old.warehouse) }
+        ensures same { IsUnchanged (standing_of S.Store self.old) (standing_of S.Store self.new) }
+        ensures fault { IfErr result (λ fault. IsQueryFault fault (standing_of S.Store self.old) (standing_of S.Store self.new)) }
+        ensures shut { (standing_of S.Store self.old).shut ≡ true → IsErrOf result Fault.Reopen }
     {
         if self.shut {
             return Err(Fault::Reopen);
         }
+        let entries = self.tables.own_entries(self.alloc, who)?;
+        Ok(ReplayBook::of(self.alloc, self.warehouse, entries))
+    }
+}
+
+impl<S: Alter + Drop> Keeper for Book<S> {
+    ghost use Rattle.books.specs.Opened.{standing_of};
+
+    ghost standing = { λ b. standing_of S.Store b };
+
+    fn warehouse(&self) -> Warehouse {
+        self.warehouse
+    }
+
+    fn load(&mut self, who: Who) -> Result<Option<Page>, Fault> {
+        let mut own = self.own_book(who)?;
+        own.load(who)
+    }
+
+    fn known(&mut self, who: Who, key: &Key<'_>) -> Result<Option<Known>, Fault> {
+        let mut own = self.own_book(who)?;
+        own.known(who, key)
+    }
+
+    /// Appends an entry, with the rows that it changes and the text that goes out for it, in one transaction. After a fault of
+    /// the store the book has to be opened again, and answers 42 until then.
+    fn commit(&mut self, entry: &Entry, changes: &[Change], outgoing: &[u8]) -> Result<(), Fault> {
+        if self.shut {
+            return Err(Fault::Reopen);
+        }
         let who = partner_text(self.alloc, &entry.who())?;
-        let Some(seq) = self.entries.checked_add(1) else {
+        if self.entries >= GREATEST {
             self.shut = true;
             return Err(self.tables.use_up());
-        };
+        }
+        let seq = self.entries + 1;
         match self.tables.append(seq, &who, entry, changes, outgoing) {
             Ok(()) => {
                 self.entries = seq;
@@ -135,5 +177,27 @@ impl<S: Alter + Drop> Book<S> {
                 Err(fault)
             }
         }
+    }
+
+    fn stock_rows(&mut self, who: Who) -> Result<Option<Vec<StockRow>>, Fault> {
+        if self.shut {
+            return Err(Fault::Reopen);
+        }
+        self.tables.stock_of(self.alloc, who)
+    }
+
+    fn outbox(&mut self, who: Who) -> Result<Option<Vec<OutRow>>, Fault> {
+        if self.shut {
+            return Err(Fault::Reopen);
+        }
+        self.tables.outbox_of(self.alloc, who)
+    }
+
+    fn refused(&self) -> u64 {
+        self.tables.refused()
+    }
+
+    fn must_reopen(&self) -> bool {
+        self.shut
     }
 }

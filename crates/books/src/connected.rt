@@ -1,11 +1,15 @@
-ghost use Rattle.std.specs.Prelude.{◌≡◌, ◌⊎◌, ◌++◌, ◌∷◌, [], List, false, IsTrue, IfErr, OnOk, OnErr};
+ghost use Rattle.std.specs.Prelude.{◌≡◌, ◌⊎◌, ◌<◌, ◌^◌, ◌++◌, ◌∷◌, [], List, false, IsTrue, IfErr, IfOk, OnOk, OnErr};
 ghost use Rattle.profile.specs.Accepted.{IsLegal};
 ghost use Rattle.profile.specs.Header.{Who as Partner};
 ghost use Rattle.profile.specs.Register as register;
-ghost use Rattle.sqlite.specs.State.{HasCleanDisk, Survives};
+ghost use Rattle.sqlite.specs.State.{HasCleanDisk, IsLive, Survives};
 ghost use Rattle.sqlite.specs.Held.{state};
+ghost use Rattle.sqlite.specs.Given.{IsPlain};
+ghost use Rattle.sqlite.specs.Listing.{understood};
+ghost use Rattle.sqlite.specs.Values.{bound};
+ghost use Rattle.books.specs.Asking.{Finds, IsAsked};
 ghost use Rattle.books.specs.Exits.{IsAppended, HasGrown, Extends, IsAsBefore, LeavesIt};
-ghost use Rattle.books.specs.Layout.{no_layout};
+ghost use Rattle.books.specs.Layout.{layout, no_layout};
 ghost use Rattle.books.specs.Making.{Makes};
 ghost use Rattle.books.specs.Rises.{Rises};
 ghost use Rattle.books.specs.Standing.{StandsIn};
@@ -14,7 +18,9 @@ use crate::appending::write_entry;
 use crate::calls::Calls;
 use crate::making::make_all;
 use rules::{Change, Entry, Warehouse};
-use sqlite::{Alter, Connection};
+use sqlite::types::ValueRef;
+use sqlite::{Alter, Connection, Row};
+use sqlite_schema::schema::Schema;
 use std::marker::Model;
 use store::Fault;
 
@@ -74,6 +80,13 @@ impl<S: Alter + Drop> Tables<S> {
         conn
     }
 
+    /// What tables the store has.
+    pub(crate) fn schema(&self) -> &Schema
+        ensures { result.now ≡ (state S.Store self.now.conn).now.schema }
+    {
+        self.conn.schema()
+    }
+
     /// The numbers of entries are used up: the call that would have taken one is refused.
     pub(crate) fn use_up(&mut self) -> Fault
         ensures told { result ≡ Fault.Store }
@@ -83,15 +96,41 @@ impl<S: Alter + Drop> Tables<S> {
         self.calls.refuse()
     }
 
+    /// The rows that a text answers which only reads the book's tables. A refused call is 40 or 41, and counts.
+    pub(crate) fn ask(&mut self, sql: &str, params: &[ValueRef<'_>]) -> Result<Vec<Row>, Fault>
+        requires { IsPlain (understood layout sql.now) }
+        ensures finds { HasCleanDisk (state S.Store self.new.conn) → IfOk result (λ rows. IsTrue (state S.Store self.old.conn).is_open × Finds sql.now (bound params.now) (state S.Store self.old.conn).now rows.items) }
+        ensures live { IsLive (state S.Store self.old.conn) }
+        ensures asked { IsAsked (state S.Store self.old.conn) (state S.Store self.new.conn) }
+        ensures named { IfErr result (λ f. (f ≡ Fault.OutOfMemory) ⊎ (f ≡ Fault.Store)) }
+        ensures counted { OnErr result (Rises self.old.refused self.new.refused) }
+        ensures uncounted { OnOk result (self.new.refused ≡ self.old.refused) }
+    {
+        let settled = self.conn.is_autocommit();
+        prove!(settled);
+        let _live = self.conn.schema();
+        self.calls.allow()?;
+        let statement = match self.conn.prepare(sql) {
+            Ok(statement) => statement,
+            Err(error) => return Err(self.calls.told(error)),
+        };
+        self.calls.allow()?;
+        match statement.query_all(&mut self.conn, params) {
+            Ok(rows) => Ok(rows),
+            Err(error) => Err(self.calls.told(error)),
+        }
+    }
+
     /// Appends an entry under the next number, with what its command changes and what goes out for it, in one transaction.
     pub(crate) fn append<'a>(
         &mut self,
-        seq: u32,
+        seq: u64,
         who: &'a [u8],
         entry: &'a Entry,
         changes: &'a [Change],
         outgoing: &'a [u8],
     ) -> Result<(), Fault>
+        requires { seq < 2 ^ 63 }
         ensures ok { HasCleanDisk (state S.Store self.new.conn) → OnOk result ((W : Partner) (L : List register.Entry) (e : register.Entry)
             → IsAppended (state S.Store self.old.conn) W L e seq who.now entry.now changes.now outgoing.now → HasGrown (state S.Store self.new.conn) W (L ++ e ∷ [])) }
         ensures left { HasCleanDisk (state S.Store self.new.conn) → OnOk result (LeavesIt (state S.Store self.new.conn)) }

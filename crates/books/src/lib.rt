@@ -2,12 +2,19 @@
 #![tactic(auto)]
 
 mod appending;
+mod asking;
 mod book;
 mod calls;
 mod changing;
 mod connected;
+mod enrolled;
 mod making;
+mod reading;
 mod running;
+mod sent;
+mod shown;
+mod stocked;
+mod taken;
 mod texts;
 mod writing;
 

@@ -5,7 +5,7 @@ use sqlite::types::ValueRef;
 use sqlite::{Alter, Connection};
 use std::alloc::{AllocError, Global};
 use std::test::Fail;
-use store::{Fault, Keeper, ReplayBook};
+use store::{Fault, Keeper, ReplayBook, Reply, submit};
 
 // 943 of one line, from ZZ ACME under control number 1: 255 bytes.
 const ADVICE: &[u8] =
@@ -141,5 +141,69 @@ fn a_refused_call_shuts_the_book(rt: HostRuntime) -> Result<(), Fail> {
     assert_eq!(rt; tables.refused(), 1);
     let mut conn = tables.into_inner();
     assert!(rt; shown(&mut conn, "SELECT count(*) FROM entry WHERE who = ?1") == Some(0));
+    Ok(())
+}
+
+// The book opened again from its tables, none of whose calls was refused.
+fn reopened<S: Alter + Drop>(alloc: Global, book: Book<S>) -> Option<Book<S>> {
+    let tables = book.close();
+    if tables.refused() > 0 {
+        return None;
+    }
+    Book::open_from(alloc, tables).ok()
+}
+
+// The book that is opened again and takes a command.
+fn accepted<S: Alter + Drop>(
+    alloc: Global,
+    book: Book<S>,
+    command: &Command<'_>,
+    moment: Moment,
+) -> Option<Book<S>> {
+    let mut book = reopened(alloc, book)?;
+    match submit(alloc, &mut book, command, moment) {
+        Ok(Reply::Accepted(_)) => Some(book),
+        _ => None,
+    }
+}
+
+#[test]
+fn a_book_is_opened_before_each_command(rt: HostRuntime) -> Result<(), Fail> {
+    let alloc = rt.alloc();
+    let house = Who::new(b"ZZ-WHSE1").ok_or("a warehouse")?;
+    let acme = Who::new(b"ZZ-ACME").ok_or("a depositor")?;
+    let moment = Moment::new(2025, 3, 4, 9, 15).ok_or("a moment")?;
+    let counted = sheet(alloc, b"90")?.ok_or("a sheet")?;
+    let conn = Connection::open_in_memory(alloc).ok().ok_or("memory")?;
+    let mut book = Book::create(alloc, Tables::new(conn), Warehouse::new(house))
+        .ok()
+        .ok_or("a book")?;
+    let enrol = Command::Enrol(acme);
+    let advice = Command::Interchange(ADVICE);
+    let count = Command::Clerk {
+        who: acme,
+        ticket: b"T1",
+        act: Act::Count {
+            shipment: b"SHP1",
+            sheet: &counted,
+        },
+    };
+    book = accepted(alloc, book, &enrol, moment).ok_or("enrolled")?;
+    book = accepted(alloc, book, &advice, moment).ok_or("announced")?;
+    book = accepted(alloc, book, &count, moment).ok_or("counted")?;
+    book = reopened(alloc, book).ok_or("opened")?;
+    assert!(rt;
+        matches!(
+            submit(alloc, &mut book, &advice, moment),
+            Ok(Reply::Stored(_))
+        )
+    );
+    assert!(rt; book.warehouse().who().is(&house));
+    let rows = book.stock_rows(acme).ok().ok_or("stock")?.ok_or("rows")?;
+    assert!(rt; rows.len() == 1 && rows[0].on_hand == 90 && rows[0].expected == 0);
+    let sent = book.outbox(acme).ok().ok_or("outbox")?.ok_or("texts")?;
+    assert!(rt; sent.len() == 2 && sent[0].n == 1 && sent[1].n == 2);
+    let again = Book::create(alloc, book.close(), Warehouse::new(house));
+    assert!(rt; matches!(again, Err((Fault::NotThisBook, _))));
     Ok(())
 }

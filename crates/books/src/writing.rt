@@ -1,4 +1,4 @@
-ghost use Rattle.std.specs.Prelude.{◌≡◌, ◌⊎◌, ℕ, [], ◌∷◌, codes, if◌then◌else◌, IsTrue, IfErr, OnOk, OnErr, IfSome, Option, Some, pos};
+ghost use Rattle.std.specs.Prelude.{◌≡◌, ◌⊎◌, ◌<◌, ◌^◌, ℕ, [], ◌∷◌, codes, if◌then◌else◌, IsTrue, IfErr, OnOk, OnErr, IfSome, Option, Some, pos};
 ghost use Rattle.profile.specs.Changes.{Puts, SetsState, Frees};
 ghost use Rattle.profile.specs.Tables as cells;
 ghost use Rattle.profile.specs.Rows.{state_text};
@@ -338,15 +338,16 @@ pub(crate) fn put_reservation<'a, S: Alter>(
 
 // The columns of a row of `entry`.
 fn entry_params<'a>(
-    seq: u32,
+    seq: u64,
     who: &'a [u8],
     entry: &'a Entry,
     moment: &'a [u8],
 ) -> [ValueRef<'a>; 6]
+    requires { seq < 2 ^ 63 }
     ensures { bound result ≡ values (cells.Number seq ∷ cells.Text who.now ∷ cells.Text entry.now.key ∷ cells.Number entry.now.n ∷ cells.Text moment.now ∷ cells.Blob entry.now.body ∷ []) }
 {
     [
-        ValueRef::Int(i64::from(seq)),
+        ValueRef::Int(seq as i64),
         ValueRef::Text(who),
         ValueRef::Text(&entry.key),
         ValueRef::Int(i64::from(entry.number())),
@@ -355,15 +356,16 @@ fn entry_params<'a>(
     ]
 }
 
-/// Adds a row to `entry`.
+/// Adds a row to `entry`, under a number that SQLite can hold.
 pub(crate) fn insert_entry<'a, S: Alter>(
     tx: &mut Transaction<'_, S>,
     calls: &mut Calls,
-    seq: u32,
+    seq: u64,
     who: &'a [u8],
     entry: &'a Entry,
     moment: &'a [u8],
 ) -> Result<(), Fault>
+    requires { seq < 2 ^ 63 }
     ensures same_reference { tx.new.conn.ghost_name ≡ tx.old.conn.ghost_name }
     ensures leads { HasCleanDisk (state S.Store tx.new.conn.now) → IsTrue (state S.Store tx.old.conn.now).in_transaction
         → OnOk result (Leads (Puts (codes "entry") (cells.Number seq ∷ cells.Text who.now ∷ cells.Text entry.now.key ∷ cells.Number entry.now.n ∷ cells.Text moment.now ∷ cells.Blob entry.now.body ∷ []) ∷ []) (state S.Store tx.old.conn.now).now (state S.Store tx.new.conn.now).now) }

@@ -49,6 +49,18 @@ impl ReplayBook {
             entries: Vec::new(alloc),
         }
     }
+
+    /// A book that keeps these entries, in their order.
+    pub fn of(alloc: Global, warehouse: Warehouse, entries: Vec<Entry>) -> ReplayBook
+        ensures warehouse { result.warehouse ≡ warehouse }
+        ensures entries { result.entries ≡ entries.items }
+    {
+        ReplayBook {
+            alloc,
+            warehouse,
+            entries,
+        }
+    }
 }
 
 // The page of a depositor with one entry of the register more; another depositor's adds nothing.

@@ -1,0 +1,72 @@
+-- What asking a book's tables leaves of the book, and what opening makes of them.
+use Rattle.std.proofs.Common.{◌≡◌, ◌≤◌, inl, inr, ℕ, List, Bool, false, Result, Ok, Err, IfErr, length, None, Some, ◌==◌, refl, sym, subst, ap}
+use Rattle.std.specs.Prelude.{IsErrAnd, if◌then◌else◌}
+use Rattle.sqlite.specs.Tree.{Trees}
+use Rattle.sqlite.specs.State.{State, HasCleanDisk}
+use Rattle.profile.specs.Header.{Who}
+use Rattle.profile.specs.Register.{Entry, own}
+use Rattle.profile.specs.Rows.{stock_rows, stock_of, outbox_rows, outbox_of}
+use Rattle.store.specs.declared.fault.Fault.{Fault}
+use Rattle.store.specs.Standing.{IsUnchanged, IsUsable, IsQueryFault}
+use Rattle.books.specs.Asking.{IsAsked, IsAskFault}
+use Rattle.books.specs.Exits.{StandsWhileOpen}
+use Rattle.books.specs.Keeping.{IsKept, IsSettled, standing_in}
+use Rattle.books.specs.Standing.{Stands}
+use Rattle.books.proofs.Owned.{own_own}
+
+-- no more is left than was
+no_new : (old new : State) (W : Who) (L : List Entry) → HasCleanDisk new → IsAsked old new → StandsWhileOpen old W L → (db : Trees) → new.may_leave db → old.may_leave db
+no_new old new W L clean asked stands db may = elim (asked.crash.crash clean db may) [ inl before ↦ before | inr none ↦ absurd (none (λ o. let here = stands o in here.schema)) ]
+
+pub stands_still : (old new : State) (W : Who) (L : List Entry) → HasCleanDisk new → IsAsked old new → StandsWhileOpen old W L → StandsWhileOpen new W L
+stands_still old new W L clean asked stands =
+    let before = asked.same clean (λ o. let here = stands o in here.schema) in
+    (λ o. subst (Stands W L) (sym (before.now o)) (stands (before.was_open o)))
+
+-- a query leaves the book as it was
+pub asked_unchanged : (old new : State) (W : Who) (n refused more : ℕ) (shut : Bool) → refused ≤ more → IsAsked old new → IsUnchanged (standing_in old W n refused shut) (standing_in new W n more shut)
+asked_unchanged old new W n refused more shut grew asked = record {
+  goes = record { warehouse = refl; doubt = asked.crash.clean; refusals = grew };
+  shut = refl;
+  keeps = λ clean L k. record { count = k.count; stands = stands_still old new W L clean asked k.stands };
+  stand = λ clean L k was db may. was db (no_new old new W L clean asked k.stands db may);
+  no_more = λ clean L k M left. (left.0, no_new old new W L clean asked k.stands left.0 left.1, left.2);
+}
+
+-- why a query of the tables failed is why that of the book did
+pub asked_fault_at : (f : Fault) (old new : State) (W : Who) (n refused more : ℕ) (shut : Bool) → IsAskFault f old new refused more → IsQueryFault f (standing_in old W n refused shut) (standing_in new W n more shut)
+asked_fault_at f old new W n refused more shut h = record {
+  store = λ is. let rises = h.store is in rises.grew;
+  reopen = λ is. absurd (h.reopen is);
+  not_this = λ is clean L k. h.not_this is clean W L k.stands;
+  device = h.device;
+}
+
+-- an error that is handed on
+pub err_as : {T E : Type 0} (P : E → Type 0) (r : Result T E) (e : E) → IsErrAnd r (λ f. f ≡ e) → P e → IfErr r P
+err_as P (Ok x) e h p = tt
+err_as P (Err f) e h p = subst P (sym h) p
+
+-- asking for one depositor's entries
+
+pub stock_own : (L : List Entry) (who : Who) → stock_of (own L who) who ≡ stock_of L who
+stock_own L who = ap (λ (M : List Entry). if length M == 0 then None else Some (stock_rows M)) (own_own L who)
+
+pub outbox_own : (W : Who) (L : List Entry) (who : Who) → outbox_of W (own L who) who ≡ outbox_of W L who
+outbox_own W L who = ap (λ (M : List Entry). if length M == 0 then None else Some (outbox_rows W M)) (own_own L who)
+
+-- Opening.
+
+pub opened_kept : (old new : State) (W : Who) (n : ℕ) (L : List Entry) → HasCleanDisk new → IsAsked old new → n ≡ length L → StandsWhileOpen old W L → IsKept new W n L
+opened_kept old new W n L clean asked count was =
+    record { count = count; stands = stands_still old new W L clean asked was }
+
+pub opened_usable : (old new : State) (W : Who) (n refused : ℕ) (L : List Entry) → HasCleanDisk new → IsAsked old new → n ≡ length L → (house : Who) → house ≡ W → IsSettled old W L → IsUsable (standing_in new house n refused false) L
+opened_usable old new W n refused L clean asked count house same was =
+    subst (λ (V : Who). IsUsable (standing_in new V n refused false) L) (sym same) (record {
+      opened = refl;
+      legal = was.legal;
+      keeps = opened_kept old new W n L clean asked count was.stands;
+      stand = λ db may. was.stand db (no_new old new W L clean asked was.stands db may);
+      only = λ M left. was.only M (left.0, no_new old new W L clean asked was.stands left.0 left.1, left.2);
+    })

@@ -1,0 +1,44 @@
+-- The rows of an answer at their places, where they are what a model's rows show.
+use Rattle.std.proofs.Common.{◌≡◌, ◌<◌, ℕ, zero, suc, ◌+◌, Bool, true, false, cond, List, [], ◌∷◌, ◌++◌, length, map, filter, take, get_or, refl, ap, subst, ◌∙◌, inl, inr, arith, append-nil}
+use Rattle.std.specs.Prelude.{nat_lt, ◌==◌}
+use Rattle.std.proofs.lemmas.Bool.{eqb-true, lt-ltb, le-ltb}
+use Rattle.std.proofs.lemmas.List.Elements.{filter-append}
+use Rattle.sqlite_rules.specs.Lists.{Has}
+
+module _ {M X : Type 0} (f : M → X) where
+  -- what is shown at a place, and the first rows with it
+  pub record IsAtPlace (x : X) (ms : List M) (i : ℕ) : Type 0 where
+    pub row : M
+    pub there : Has ms row
+    pub shows : x ≡ f row
+    pub more : take (i + 1) ms ≡ take i ms ++ row ∷ []
+
+  at_mapped : (ms : List M) (i : ℕ) (d : X) → i < length (map f ms) → (m : M) × Has ms m × (get_or (map f ms) i d ≡ f m) × (take (suc i) ms ≡ take i ms ++ m ∷ [])
+  at_mapped [] i d within = absurd (omega (arith, within))
+  at_mapped (m ∷ ms) zero d within = (m, inl refl, refl, refl)
+  at_mapped (m ∷ ms) (suc i) d within = let later = at_mapped ms i d (omega (arith, within)) in (later.0, inr later.1, later.2, ap (λ (ns : List M). m ∷ ns) later.3)
+
+  pub at_place : (rows : List X) (ms : List M) (i : ℕ) (x : X) → rows ≡ map f ms → i < length rows → x ≡ get_or rows i x → IsAtPlace x ms i
+  at_place rows ms i x is within here =
+      let at = at_mapped ms i x (subst (λ (rs : List X). i < length rs) is within) in
+      let one : i + 1 ≡ suc i = omega arith in
+      record {
+        row = at.0;
+        there = at.1;
+        shows = here ∙ ap (λ (rs : List X). get_or rs i x) is ∙ at.2;
+        more = ap (λ (n : ℕ). take n ms) one ∙ at.3;
+      }
+
+-- one more that passes a test is kept, and one that doesn't isn't
+pub kept_more : {M : Type 0} (p : M → Bool) (ms : List M) (m : M) → p m ≡ true → filter p (ms ++ m ∷ []) ≡ filter p ms ++ m ∷ []
+kept_more {M} p ms m h = filter-append p ms (m ∷ []) ∙ ap (λ (b : Bool). filter p ms ++ cond b (m ∷ []) []) h
+
+pub passed_more : {M : Type 0} (p : M → Bool) (ms : List M) (m : M) → p m ≡ false → filter p (ms ++ m ∷ []) ≡ filter p ms
+passed_more {M} p ms m h = filter-append p ms (m ∷ []) ∙ ap (λ (b : Bool). filter p ms ++ cond b (m ∷ []) []) h ∙ append-nil (filter p ms)
+
+pub not_none : (n : ℕ) → (n == 0) ≡ false → nat_lt 0 n ≡ true
+not_none zero h = absurd (let e : ◌≡◌ {A = Bool} true false = h in cc)
+not_none (suc n) h = lt-ltb 0 (suc n) (omega arith)
+
+pub none_at_all : (n : ℕ) → (n == 0) ≡ true → nat_lt 0 n ≡ false
+none_at_all n h = le-ltb 0 n (omega (arith, eqb-true n 0 h))

@@ -1,0 +1,20 @@
+use Rattle.std.proofs.Common.{rules, arith, ◌≡◌, ◌≢◌}
+use Rattle.std.specs.Prelude.{IsErrAnd}
+use Rattle.sqlite.specs.State.{HasCleanDisk}
+use Rattle.sqlite.specs.Held.{state}
+use Rattle.store.specs.declared.fault.Fault.{Fault}
+use Rattle.store.specs.declared.fault.Fault.TheVariants.{NotThisBook}
+use Rattle.books.proofs.AskedBooks.{err_as, stands_still}
+use Rattle.books.proofs.connected.Tables.found.Goals as goal
+
+pub returns-in_err-warehouse-clause-this : goal.returns-in_err-warehouse-clause-this
+returns-in_err-warehouse-clause-this g c = λ clean W L stands.
+    let same : IsErrAnd c.from_residual.result (λ (f : Fault). f ≡ c.in_err-warehouse.field-0.0) = search rules in
+    err_as (λ (f : Fault). f ≢ NotThisBook) c.from_residual.result c.in_err-warehouse.field-0.0 same (c.in_err-warehouse.ensures.this clean W L stands)
+
+pub returns-clause-count : goal.returns-clause-count
+returns-clause-count g c = λ clean W L stands.
+    let early : HasCleanDisk (state g.S.Store c.house.new.self.conn) = omega (arith, c.count.ensures.asked.crash.clean, clean) in (
+      c.in_ok-warehouse.ensures.whose early W L stands,
+      c.in_ok-entries.ensures.count clean W L (stands_still (state g.S.Store c.args.self.now.conn) (state g.S.Store c.house.new.self.conn) W L early c.house.ensures.asked stands),
+    )

@@ -1,0 +1,59 @@
+ghost use Rattle.std.specs.Prelude.{◌≡◌, ◌≤◌, List, IfOk, IfErr, option_map};
+ghost use Rattle.profile.specs.Header.{Who as Partner};
+ghost use Rattle.profile.specs.Register as register;
+ghost use Rattle.profile.specs.Rows as meant;
+ghost use Rattle.sqlite.specs.Held.{state};
+ghost use Rattle.sqlite.specs.State.{HasCleanDisk};
+ghost use Rattle.books.specs.Asking.{IsAsked, IsAskFault};
+ghost use Rattle.books.specs.Exits.{StandsWhileOpen};
+
+use crate::connected::Tables;
+use rules::Who;
+use sqlite::Alter;
+use std::alloc::Global;
+use store::{Fault, OutRow, StockRow};
+
+impl<S: Alter + Drop> Tables<S> {
+    /// What a depositor has, by item and lot, as its running rows say; None of a stranger.
+    pub(crate) fn stock_of(
+        &mut self,
+        alloc: Global,
+        who: Who,
+    ) -> Result<Option<Vec<StockRow>>, Fault>
+        ensures rows { HasCleanDisk (state S.Store self.new.conn) → (W : Partner) (L : List register.Entry) → StandsWhileOpen (state S.Store self.old.conn) W L
+            → IfOk result (λ rows. option_map (λ v. v.items) rows ≡ meant.stock_of L who) }
+        ensures asked { IsAsked (state S.Store self.old.conn) (state S.Store self.new.conn) }
+        ensures fault { IfErr result (λ f. IsAskFault f (state S.Store self.old.conn) (state S.Store self.new.conn) self.old.refused self.new.refused) }
+        ensures counts { self.old.refused ≤ self.new.refused }
+    {
+        if !self.is_enrolled(alloc, who)? {
+            return Ok(None);
+        }
+        match self.stock_rows(alloc, who) {
+            Ok(rows) => Ok(Some(rows)),
+            Err(fault) => Err(fault),
+        }
+    }
+
+    /// The texts that went out to a depositor, by number, but for the empty ones, as the rows of `outgoing` say; None of a
+    /// stranger.
+    pub(crate) fn outbox_of(
+        &mut self,
+        alloc: Global,
+        who: Who,
+    ) -> Result<Option<Vec<OutRow>>, Fault>
+        ensures rows { HasCleanDisk (state S.Store self.new.conn) → (W : Partner) (L : List register.Entry) → StandsWhileOpen (state S.Store self.old.conn) W L
+            → IfOk result (λ rows. option_map (λ v. v.items) rows ≡ meant.outbox_of W L who) }
+        ensures asked { IsAsked (state S.Store self.old.conn) (state S.Store self.new.conn) }
+        ensures fault { IfErr result (λ f. IsAskFault f (state S.Store self.old.conn) (state S.Store self.new.conn) self.old.refused self.new.refused) }
+        ensures counts { self.old.refused ≤ self.new.refused }
+    {
+        if !self.is_enrolled(alloc, who)? {
+            return Ok(None);
+        }
+        match self.sent_rows(alloc, who) {
+            Ok(rows) => Ok(Some(rows)),
+            Err(fault) => Err(fault),
+        }
+    }
+}
