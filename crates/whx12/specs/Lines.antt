@@ -1,15 +1,20 @@
 -- What may stand in a line of words, as `clap` reads commands, and what each line asks for.
-use Rattle.std.specs.Prelude.{◌≡◌, ℕ, Bool, true, false, List, [], ◌∷◌, Option, Some, option_map, codes, bytes_eq}
+use Rattle.std.specs.Prelude.{◌≡◌, ℕ, Bool, true, false, List, [], ◌∷◌, ◌++◌, Option, Some, option_map, map, codes, bytes_eq}
+use Rattle.std.specs.Borrow.{Bor}
+use Rattle.std.specs.Net.Grammar.{IsSocketText}
 use Rattle.std.specs.Option.{option_map_or}
 use Rattle.clap.specs.Walk.{Row, Rule, Text, first_of}
-use Rattle.clap.specs.Simple.{App, Shape, new_rule, new_shape, subcommand_of}
+use Rattle.clap.specs.Simple.{App, Shape, new_rule, new_shape, with_subcommand, subcommand_of}
 use Rattle.clap.specs.declared.builder.action.ArgAction.TheVariants.{Set, SetTrue}
 use Rattle.profile.specs.Moments.{Moment}
-use Rattle.whx12.specs.Written.{moment_of, number_of}
+use Rattle.whx12.specs.Written.{moment_of, number_of, count_of}
 use Rattle.whx12.specs.declared.words.Place.{Place}
 use Rattle.whx12.specs.declared.words.Place.TheVariants as place
 use Rattle.whx12.specs.declared.words.Words.{Words}
 use Rattle.whx12.specs.declared.words.Words.TheVariants as words
+use Rattle.whx12.specs.declared.words.Task.{Task}
+use Rattle.whx12.specs.declared.words.Task.TheVariants as task
+use Rattle.whx12.specs.declared.words.Service.{Service}
 use Rattle.whx12.specs.declared.words.Act.{Act}
 use Rattle.whx12.specs.declared.words.Act.TheVariants as act
 use Rattle.whx12.specs.declared.words.Show.{Show}
@@ -27,6 +32,10 @@ value_rule id = record (new_rule id) { action = Some Set; value_names = 1; requi
 -- an option with a value
 abbrev pub option_rule : Text → Rule
 option_rule id = record (new_rule id) { long = Some id; action = Some Set; value_names = 1 }
+
+-- an option that must be there
+abbrev pub wanted_rule : Text → Rule
+wanted_rule id = record (option_rule id) { required = true }
 
 -- an option without
 abbrev pub flag_rule : Text → Rule
@@ -89,6 +98,13 @@ orders_shape = subcommand (codes "orders") (who_rule ∷ number_rule ∷ at_rule
 abbrev pub outbox_shape : Shape
 outbox_shape = subcommand (codes "outbox") (who_rule ∷ option_rule (codes "number") ∷ at_rule ∷ [])
 
+abbrev pub serve_shape : Shape
+serve_shape = subcommand (codes "serve") (wanted_rule (codes "listen") ∷ wanted_rule (codes "count") ∷ at_rule ∷ [])
+
+-- a subcommand over the book in a file
+abbrev pub over_book : Shape → Shape
+over_book s = record s { rules = s.rules ++ wanted_rule (codes "book") ∷ [] }
+
 abbrev pub top_shape : Shape
 top_shape = record (new_shape (codes "whx12")) {
   is_leaf = false;
@@ -98,12 +114,24 @@ top_shape = record (new_shape (codes "whx12")) {
   subcommand_required = true;
 }
 
-abbrev pub program_subcommands : List Shape
-program_subcommands = script_shape ∷ []
+-- those that change a book, and those that show something of it
+abbrev pub act_subcommands : List Shape
+act_subcommands = enrol_shape ∷ roster_shape ∷ send_shape ∷ take_shape ∷ count_shape ∷ pick_shape ∷ recount_shape ∷ []
+
+abbrev pub show_subcommands : List Shape
+show_subcommands = stock_shape ∷ orders_shape ∷ outbox_shape ∷ []
 
 abbrev pub script_subcommands : List Shape
-script_subcommands = init_shape ∷ enrol_shape ∷ roster_shape ∷ send_shape ∷ take_shape ∷ count_shape ∷ pick_shape ∷ recount_shape
-    ∷ stock_shape ∷ orders_shape ∷ outbox_shape ∷ []
+script_subcommands = init_shape ∷ act_subcommands ++ show_subcommands
+
+-- the program has those of a script over the book in a file, and two of its own
+abbrev pub program_subcommands : List Shape
+program_subcommands = script_shape ∷ map over_book script_subcommands ++ over_book serve_shape ∷ []
+
+-- with further subcommands, each over the book in a file
+abbrev pub with_over : App → List Shape → App
+with_over a [] = a
+with_over a (s ∷ ss) = with_over (with_subcommand a (over_book s)) ss
 
 -- the subcommands that may stand at a place
 abbrev pub subcommands_at : Place → List Shape
@@ -166,9 +194,22 @@ SaysShow f (show.Stock who is_csv) = (f.0 ≡ codes "stock") × Has f.1 (codes "
 SaysShow f (show.Order who number) = (f.0 ≡ codes "orders") × Has f.1 (codes "who") who.now × Has f.1 (codes "number") number.now
 SaysShow f (show.Outbox who number) = (f.0 ≡ codes "outbox") × Has f.1 (codes "who") who.now × SaysNumber f.1 number
 
+-- an address is written as std's grammar has it: an IP address, a colon and a port
+abbrev pub SaysService : List Row → Service → Type 0
+SaysService rows s = ((text : Text) × Has rows (codes "listen") text × IsSocketText text s.address)
+    × ((text : Text) × Has rows (codes "count") text × (count_of text ≡ Some s.count))
+
+abbrev pub SaysTask : Found → Task → Type 0
+SaysTask f (task.Init who) = (f.0 ≡ codes "init") × Has f.1 (codes "who") who.now
+SaysTask f (task.Act a at) = SaysAct f a × SaysMoment f.1 at
+SaysTask f (task.Show s) = SaysShow f s
+SaysTask f (task.Serve s at) = (f.0 ≡ codes "serve") × SaysService f.1 s × SaysMoment f.1 at
+
+-- the line names this file with a book, or none
+abbrev pub SaysBook : List Row → Option (Bor Text) → Type 0
+SaysBook rows book = first_of (codes "book") rows ≡ option_map (λ b. b.now) book
+
 -- the line asks for this
 abbrev pub Says : Found → Words → Type 0
 Says f (words.Script file) = (f.0 ≡ codes "script") × Has f.1 (codes "file") file.now
-Says f (words.Init who) = (f.0 ≡ codes "init") × Has f.1 (codes "who") who.now
-Says f (words.Act a at) = SaysAct f a × SaysMoment f.1 at
-Says f (words.Show s) = SaysShow f s
+Says f (words.Over book t) = SaysBook f.1 book × SaysTask f t

@@ -37,6 +37,14 @@ moment_in text = record {
 abbrev pub moment_of : List ℕ → Option Moment
 moment_of text = if is_form text && is_moment (moment_in text) then Some (moment_in text) else None
 
+-- how many connections a server may be told to serve
+abbrev pub most_connections : ℕ
+most_connections = 65535
+
+-- how many connections are written so, in digits alone, with zeros in front or without, if that many may be
+abbrev pub count_of : List ℕ → Option ℕ
+count_of text = if list_all is_digit text && is_between 1 most_connections (value text) then Some (value text) else None
+
 -- the number of an entry that is written so, in digits alone, with zeros in front or without, if one is
 abbrev pub number_of : List ℕ → Option ℕ
 number_of text = if list_all is_digit text && is_between 1 most_entries (value text) then Some (value text) else None

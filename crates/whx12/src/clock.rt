@@ -3,6 +3,7 @@ ghost use Rattle.std.specs.Prelude.{◌≡◌, Some, option_map};
 ghost use Rattle.whx12.specs.Written as written;
 
 use crate::numbers::{all_digits, pair};
+use crate::told::{Stop, usage};
 use jiff::Timestamp;
 use jiff::tz::Offset;
 use std::rt::Clock;
@@ -41,6 +42,17 @@ pub fn moment_of(text: &[u8]) -> Option<Moment>
         pair(&text[11..13]),
         pair(&text[14..16]),
     )
+}
+
+/// The moment of a command: the one that its line says, or the clock's. A clock outside the years 2000 to 2099 is a usage fault.
+pub fn moment_for<R: Clock + AllocGlobal>(rt: &R, at: Option<Moment>) -> Result<Moment, Stop> {
+    if let Some(moment) = at {
+        return Ok(moment);
+    }
+    match now(rt) {
+        Some(moment) => Ok(moment),
+        None => Err(usage(rt.alloc(), "the clock is not in the years 2000 to 2099\n")),
+    }
 }
 
 /// The clock's moment in UTC; None where the clock can't be read, or isn't in the years 2000 to 2099.

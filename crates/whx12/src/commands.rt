@@ -1,26 +1,30 @@
+use crate::over_file::run_over_file;
 use crate::script::run_script;
-use crate::told::{Status, Stop, tell_stop};
+use crate::told::{Status, Stop, tell_stop, usage};
 use crate::words::{Place, Words, line};
 use std::io;
-use std::rt::{Clock, Files};
 
 // Runs one line of words.
-fn run_line<R: Files + Clock + AllocGlobal + Clone + Drop, W: io::Write, E: io::Write>(
-    rt: &R,
+fn run_line<W: io::Write, E: io::Write>(
+    rt: &HostRuntime,
     words: &[&str],
     out: &mut W,
     err: &mut E,
 ) -> Result<Status, Stop> {
     match line(rt.alloc(), Place::Program, words)? {
         Words::Script { file } => run_script(rt, file, out, err),
-        _ => Ok(Status::Usage),
+        Words::Over {
+            book: Some(file),
+            task,
+        } => run_over_file(rt, file, &task, out, err),
+        Words::Over { book: None, .. } => Err(usage(rt.alloc(), "--book is missing\n")),
     }
 }
 
 /// Runs one line of words, without the program's name: its output goes to `out`, its refusals and faults to `err`. The exit
 /// status is 0 where all was done, 1 where something was refused, 2 where the words can't be read, 3 at a fault.
-pub fn command<R: Files + Clock + AllocGlobal + Clone + Drop, W: io::Write, E: io::Write>(
-    rt: &R,
+pub fn command<W: io::Write, E: io::Write>(
+    rt: &HostRuntime,
     words: &[&str],
     out: &mut W,
     err: &mut E,

@@ -2,11 +2,14 @@
 #![tactic(auto)]
 
 mod acts;
+mod book_files;
 mod clock;
 mod commands;
 mod numbers;
+mod over_file;
 mod rosters;
 mod script;
+mod serving;
 mod sheet_files;
 mod shows;
 mod subcommands;

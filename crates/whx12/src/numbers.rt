@@ -33,6 +33,22 @@ fn value(text: &[u8]) -> u32
     value
 }
 
+// The most connections that a server may be told to serve.
+const MOST_CONNECTIONS: u32 = 65_535;
+
+/// How many connections the text writes: digits alone, with zeros in front or without; None where it is another text, 0, or
+/// over 65535.
+pub fn count_of(text: &[u8]) -> Option<u16>
+    ensures { result ≡ written.count_of text.now }
+{
+    let number = value(text);
+    if all_digits(text) && number >= 1 && number <= MOST_CONNECTIONS {
+        Some(number as u16)
+    } else {
+        None
+    }
+}
+
 /// The number of an entry that the text writes: digits alone, with zeros in front or without; None where it is another text,
 /// or a number that no entry has.
 pub fn number_of(text: &[u8]) -> Option<u32>

@@ -4,11 +4,11 @@ ghost use Rattle.toml.specs.Data.{get_member};
 ghost use Rattle.toml.specs.View.{items_view, table_view, view};
 ghost use Rattle.whx12.specs.Rosters as meant;
 
-use crate::told::{Status, Stop, tell_refusal};
+use crate::told::{Status, Stop};
 use std::alloc::{AllocError, Global};
 use std::rt::Files;
 use std::{fs, io};
-use store::{Command, Keeper, Moment, Refusal, Reply, Who, submit};
+use store::{Command, Keeper, Moment, Reply, Who, submit};
 use toml::{Table, Value};
 
 // The partner that a value names; None where it is no text that names one.
@@ -92,8 +92,8 @@ fn enrol_one<K: Keeper, W: io::Write>(
     }
 }
 
-// Enrols depositors in order.
-fn enrol_all<K: Keeper, W: io::Write>(
+/// Enrols depositors in order, and prints a line for each.
+pub fn enrol_all<K: Keeper, W: io::Write>(
     alloc: Global,
     book: &mut K,
     partners: &[Who],
@@ -107,19 +107,8 @@ fn enrol_all<K: Keeper, W: io::Write>(
     Ok(status)
 }
 
-/// Enrols the depositors of the list in a file, and prints a line for each. A list that can't be read is 32, and nobody of it
-/// is enrolled.
-pub fn roster<R: Files + AllocGlobal, K: Keeper, W: io::Write, E: io::Write>(
-    rt: &R,
-    book: &mut K,
-    file: &str,
-    moment: Moment,
-    out: &mut W,
-    err: &mut E,
-) -> Result<Status, Stop> {
+/// The depositors of the list in a file; None where it is no such list. A file that can't be read is Device (44).
+pub fn read_roster<R: Files + AllocGlobal>(rt: &R, file: &str) -> Result<Option<Vec<Who>>, Stop> {
     let text = fs::read(rt, file)?;
-    match depositors(rt.alloc(), &text)? {
-        Some(partners) => enrol_all(rt.alloc(), book, &partners, moment, out),
-        None => tell_refusal(rt.alloc(), err, Refusal::BadText),
-    }
+    Ok(depositors(rt.alloc(), &text)?)
 }

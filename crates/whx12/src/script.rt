@@ -1,29 +1,14 @@
-use crate::clock::now;
-use crate::told::{Status, Stop, tell_refusal};
-use crate::words::{Act, Place, Show, Words, line};
-use crate::{acts, rosters, shows, takes};
+use crate::acts::{make_ready, perform};
+use crate::clock::moment_for;
+use crate::shows::{ask, show};
+use crate::told::{Status, Stop, tell_refusal, usage};
+use crate::words::{Act, Place, Show, Task, Words, line};
 use std::rt::{Clock, Files};
 use std::{fs, io};
 use store::{Keeper, Moment, Refusal, ReplayBook, Warehouse, Who};
 
-// A usage fault of the script itself.
-fn misplaced<R: AllocGlobal>(rt: &R, text: &str) -> Stop {
-    match text.to_string(rt.alloc()) {
-        Ok(text) => Stop::Usage(text),
-        Err(error) => Stop::from(error),
-    }
-}
-
-// The moment of a command: the one that its line says, or the clock's.
-fn moment_for<R: Clock + AllocGlobal>(rt: &R, at: Option<Moment>) -> Result<Moment, Stop> {
-    match at {
-        Some(moment) => Ok(moment),
-        None => now(rt).ok_or(misplaced(rt, "the clock is not in the years 2000 to 2099\n")),
-    }
-}
-
-// Does to the book what a line says.
-fn perform<R: Files + Clock + AllocGlobal + Clone + Drop, K: Keeper, W: io::Write, E: io::Write>(
+// Changes the book as a line says.
+fn change<R: Files + Clock + AllocGlobal + Clone + Drop, K: Keeper, W: io::Write, E: io::Write>(
     rt: &R,
     book: &mut K,
     act: &Act<'_>,
@@ -32,32 +17,23 @@ fn perform<R: Files + Clock + AllocGlobal + Clone + Drop, K: Keeper, W: io::Writ
     err: &mut E,
 ) -> Result<Status, Stop> {
     let moment = moment_for(rt, at)?;
-    match act {
-        Act::Enrol { who } => acts::enrol(rt.alloc(), book, who, moment, err),
-        Act::Roster { file } => rosters::roster(rt, book, file, moment, out, err),
-        Act::Send { file } => acts::send(rt, book, file, moment, out, err),
-        Act::Take { dir } => takes::take(rt, book, dir, moment, out),
-        Act::Clerk(told) => acts::clerk(rt, book, told, moment, out, err),
+    match make_ready(rt, act)? {
+        Ok(ready) => perform(rt, book, &ready, moment, out, err),
+        Err(refusal) => tell_refusal(rt.alloc(), err, refusal),
     }
 }
 
 // Shows of the book what a line asks for.
-fn show_it<K: Keeper, W: io::Write, E: io::Write>(
+fn look<K: Keeper, W: io::Write, E: io::Write>(
     rt: &impl AllocGlobal,
     book: &mut K,
-    show: &Show<'_>,
+    what: &Show<'_>,
     out: &mut W,
     err: &mut E,
 ) -> Result<Status, Stop> {
-    let alloc = rt.alloc();
-    match show {
-        Show::Stock { who, is_csv } => shows::stock(alloc, book, who, *is_csv, out, err),
-        Show::Order { who, number } => shows::order(alloc, book, who, number, out, err),
-        Show::Outbox { who, number: None } => shows::outbox(alloc, book, who, out, err),
-        Show::Outbox {
-            who,
-            number: Some(number),
-        } => shows::content(alloc, book, who, *number, out, err),
+    match ask(what) {
+        Ok(asked) => show(rt.alloc(), book, &asked, out, err),
+        Err(refusal) => tell_refusal(rt.alloc(), err, refusal),
     }
 }
 
@@ -70,9 +46,15 @@ fn answer<R: Files + Clock + AllocGlobal + Clone + Drop, K: Keeper, W: io::Write
     err: &mut E,
 ) -> Result<Status, Stop> {
     match words {
-        Words::Act { act, at } => perform(rt, book, act, *at, out, err),
-        Words::Show(show) => show_it(rt, book, show, out, err),
-        _ => Err(misplaced(rt, "init stands in the first line alone\n")),
+        Words::Over {
+            task: Task::Act { act, at },
+            ..
+        } => change(rt, book, act, *at, out, err),
+        Words::Over {
+            task: Task::Show(what),
+            ..
+        } => look(rt, book, what, out, err),
+        _ => Err(usage(rt.alloc(), "init stands in the first line alone\n")),
     }
 }
 
@@ -82,8 +64,12 @@ fn made<R: AllocGlobal, E: io::Write>(
     words: &Words<'_>,
     err: &mut E,
 ) -> Result<Option<ReplayBook>, Stop> {
-    let Words::Init { who } = words else {
-        return Err(misplaced(rt, "the first line is init\n"));
+    let Words::Over {
+        task: Task::Init { who },
+        ..
+    } = words
+    else {
+        return Err(usage(rt.alloc(), "the first line is init\n"));
     };
     match Who::new(who.as_bytes()) {
         Some(who) => Ok(Some(ReplayBook::new(rt.alloc(), Warehouse::new(who)))),
@@ -119,7 +105,7 @@ fn play<R: Files + Clock + AllocGlobal + Clone + Drop, W: io::Write, E: io::Writ
     }
     match book {
         Some(_) => Ok(status),
-        None => Err(misplaced(rt, "a script begins with init\n")),
+        None => Err(usage(rt.alloc(), "a script begins with init\n")),
     }
 }
 
@@ -134,6 +120,6 @@ pub fn run_script<R: Files + Clock + AllocGlobal + Clone + Drop, W: io::Write, E
     let bytes = fs::read(rt, file)?;
     match std::str::from_utf8(&bytes) {
         Ok(text) => play(rt, text, out, err),
-        Err(_) => Err(misplaced(rt, "a script is UTF-8 text\n")),
+        Err(_) => Err(usage(rt.alloc(), "a script is UTF-8 text\n")),
     }
 }

@@ -2,27 +2,44 @@
 ghost use Rattle.store.specs.Standing.{IsUnchanged};
 
 use crate::told::{Status, Stop, tell_refusal, tell_text};
+use crate::words::Show;
 use profile::MOST_NUMBER;
 use reports::{NoSheet, outbox_list, pick_list, stock_csv, stock_report};
 use std::alloc::Global;
 use std::io;
 use store::{Fault, Ident, Keeper, OutRow, Refusal, Who};
 
-/// Prints what a depositor has: the stock report, or its export as CSV. Refused are 32, who can't be read, and 20, an unknown
-/// depositor.
-pub fn stock<K: Keeper, W: io::Write, E: io::Write>(
+/// What is to be shown, its words tested.
+#[derive(Clone, Copy)]
+pub struct Asked<'a> {
+    who: Who,
+    show: Show<'a>,
+}
+
+/// What a line asks to be shown. Refused is 32, a word that can't be read.
+pub fn ask<'a>(show: &Show<'a>) -> Result<Asked<'a>, Refusal> {
+    let (who, number) = match show {
+        Show::Order { who, number } => (*who, Some(*number)),
+        Show::Stock { who, .. } | Show::Outbox { who, .. } => (*who, None),
+    };
+    let who = Who::new(who.as_bytes()).ok_or(Refusal::BadText)?;
+    if let Some(number) = number {
+        Ident::new(number.as_bytes(), MOST_NUMBER).ok_or(Refusal::BadText)?;
+    }
+    Ok(Asked { who, show: *show })
+}
+
+// Prints what a depositor has: the stock report, or its export as CSV. Refused is 20, an unknown depositor.
+fn stock<K: Keeper, W: io::Write, E: io::Write>(
     alloc: Global,
     book: &mut K,
-    who: &str,
+    who: Who,
     is_csv: bool,
     out: &mut W,
     err: &mut E,
 ) -> Result<Status, Stop>
     ensures { IsUnchanged (K.standing book.old) (K.standing book.new) }
 {
-    let Some(who) = Who::new(who.as_bytes()) else {
-        return tell_refusal(alloc, err, Refusal::BadText);
-    };
     let Some(rows) = store::stock(book, who)? else {
         return tell_refusal(alloc, err, Refusal::UnknownDepositor);
     };
@@ -44,24 +61,18 @@ fn tell_no_sheet<E: io::Write>(alloc: Global, err: &mut E, why: NoSheet) -> Resu
     }
 }
 
-/// Prints the picking sheet of an order. Refused are 32, a word that can't be read, 20, an unknown depositor, 24, an unknown
-/// order, and 25, an order that was picked.
-pub fn order<K: Keeper, W: io::Write, E: io::Write>(
+// Prints the picking sheet of an order. Refused are 20, an unknown depositor, 24, an unknown order, and 25, an order that was
+// picked.
+fn order<K: Keeper, W: io::Write, E: io::Write>(
     alloc: Global,
     book: &mut K,
-    who: &str,
+    who: Who,
     number: &str,
     out: &mut W,
     err: &mut E,
 ) -> Result<Status, Stop>
     ensures { IsUnchanged (K.standing book.old) (K.standing book.new) }
 {
-    let Some(who) = Who::new(who.as_bytes()) else {
-        return tell_refusal(alloc, err, Refusal::BadText);
-    };
-    if Ident::new(number.as_bytes(), MOST_NUMBER).is_none() {
-        return tell_refusal(alloc, err, Refusal::BadText);
-    }
     let Some(page) = book.load(who)? else {
         return tell_refusal(alloc, err, Refusal::UnknownDepositor);
     };
@@ -74,19 +85,16 @@ pub fn order<K: Keeper, W: io::Write, E: io::Write>(
     }
 }
 
-/// Prints the list of what went out to a depositor. Refused are 32, who can't be read, and 20, an unknown depositor.
-pub fn outbox<K: Keeper, W: io::Write, E: io::Write>(
+// Prints the list of what went out to a depositor. Refused is 20, an unknown depositor.
+fn outbox<K: Keeper, W: io::Write, E: io::Write>(
     alloc: Global,
     book: &mut K,
-    who: &str,
+    who: Who,
     out: &mut W,
     err: &mut E,
 ) -> Result<Status, Stop>
     ensures { IsUnchanged (K.standing book.old) (K.standing book.new) }
 {
-    let Some(who) = Who::new(who.as_bytes()) else {
-        return tell_refusal(alloc, err, Refusal::BadText);
-    };
     match store::outbox(book, who)? {
         Some(rows) => {
             out.write_all(&outbox_list(alloc, &rows)?)?;
@@ -107,23 +115,43 @@ fn tell_content<W: io::Write>(rows: &[OutRow], number: u32, out: &mut W) -> Resu
     }
 }
 
-/// Prints the text of a number that went out to a depositor, and LF. Refused are 32, who can't be read, and 20, an unknown
-/// depositor; where nothing went out under the number nothing is told, and the status says so.
-pub fn content<K: Keeper, W: io::Write, E: io::Write>(
+// Prints the text of a number that went out to a depositor, and LF. Refused is 20, an unknown depositor; where nothing went out
+// under the number nothing is told, and the status says so.
+fn content<K: Keeper, W: io::Write, E: io::Write>(
     alloc: Global,
     book: &mut K,
-    who: &str,
+    who: Who,
     number: u32,
     out: &mut W,
     err: &mut E,
 ) -> Result<Status, Stop>
     ensures { IsUnchanged (K.standing book.old) (K.standing book.new) }
 {
-    let Some(who) = Who::new(who.as_bytes()) else {
-        return tell_refusal(alloc, err, Refusal::BadText);
-    };
     match store::outbox(book, who)? {
         Some(rows) => tell_content(&rows, number, out),
         None => tell_refusal(alloc, err, Refusal::UnknownDepositor),
+    }
+}
+
+/// Shows of a book what is asked for. Refused are 20, an unknown depositor, and of a picking sheet 24, an unknown order, and 25,
+/// one that was picked; a number without a text is told by the status alone.
+pub fn show<K: Keeper, W: io::Write, E: io::Write>(
+    alloc: Global,
+    book: &mut K,
+    asked: &Asked<'_>,
+    out: &mut W,
+    err: &mut E,
+) -> Result<Status, Stop>
+    ensures { IsUnchanged (K.standing book.old) (K.standing book.new) }
+{
+    let who = asked.who;
+    match asked.show {
+        Show::Stock { is_csv, .. } => stock(alloc, book, who, is_csv, out, err),
+        Show::Order { number, .. } => order(alloc, book, who, number, out, err),
+        Show::Outbox { number: None, .. } => outbox(alloc, book, who, out, err),
+        Show::Outbox {
+            number: Some(number),
+            ..
+        } => content(alloc, book, who, number, out, err),
     }
 }

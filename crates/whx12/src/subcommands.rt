@@ -1,6 +1,6 @@
 //! What may stand in a line of words: the subcommands, their values and options, and the help that each shows.
-ghost use Rattle.std.specs.Prelude.{◌≡◌, IfOk, true, []};
-ghost use Rattle.clap.specs.Simple.{app_of};
+ghost use Rattle.std.specs.Prelude.{◌≡◌, ◌∷◌, IfOk, true, []};
+ghost use Rattle.clap.specs.Simple.{App, Shape, app_of};
 ghost use Rattle.clap.specs.Walk.{rule_of};
 ghost use Rattle.whx12.specs.Lines as meant;
 ghost use Rattle.whx12.specs.Parsers.{IsRule, IsCommand};
@@ -28,6 +28,18 @@ fn option<'a>(alloc: Global, id: &'a str, name: &'a str, help: &'a str) -> Arg<'
         .long(id)
         .value_name(name)
         .help(help)
+        .action(ArgAction::Set)
+}
+
+// An option with a value that must be there.
+fn wanted<'a>(alloc: Global, id: &'a str, name: &'a str, help: &'a str) -> Arg<'a>
+    ensures { IsRule (meant.wanted_rule id.now) result }
+{
+    Arg::new(alloc, id)
+        .long(id)
+        .value_name(name)
+        .help(help)
+        .required(true)
         .action(ArgAction::Set)
 }
 
@@ -261,6 +273,62 @@ fn outbox<'a>(alloc: Global) -> Result<Command<'a>, AllocError>
         .arg(at(alloc))
 }
 
+fn serve<'a>(alloc: Global) -> Result<Command<'a>, AllocError>
+    ensures { IfOk result (IsCommand meant.serve_shape) }
+{
+    Command::new(alloc, "serve")
+        .about("Serves the book over HTTP, one connection after the other")
+        .after_help(
+            "Example: whx12 serve --book harbor.book --listen 127.0.0.1:8080 --count 1000\n\nA depositor posts its interchanges to /x12. GET /stock/ZZ-ACME shows stock, /outbox/ZZ-ACME what went out. Printed is the\nstatus of each response, or: fault 44 Device. While it serves, no other command can open the book.",
+        )
+        .arg(wanted(
+            alloc,
+            "listen",
+            "ADDR",
+            "The IP address and port to listen at, as 127.0.0.1:8080",
+        ))?
+        .arg(wanted(
+            alloc,
+            "count",
+            "N",
+            "How many connections are served, from 1 to 65535",
+        ))?
+        .arg(at(alloc))
+}
+
+// With a subcommand more, over the book in a file.
+fn with_over<'a>(
+    alloc: Global,
+    parser: Command<'a>,
+    command: Command<'a>,
+) -> Result<Command<'a>, AllocError>
+    ensures { (a : App) (s : Shape) → app_of parser.entry ≡ a → IsCommand s command.entry → IfOk result (λ c. app_of c ≡ meant.with_over a (s ∷ [])) }
+{
+    parser.subcommand(command.arg(wanted(alloc, "book", "FILE", "The file with the book"))?)
+}
+
+// With the subcommands that change the book in a file.
+fn with_acts<'a>(alloc: Global, parser: Command<'a>) -> Result<Command<'a>, AllocError>
+    ensures { (a : App) → app_of parser.entry ≡ a → IfOk result (λ c. app_of c ≡ meant.with_over a meant.act_subcommands) }
+{
+    let parser = with_over(alloc, parser, enrol(alloc)?)?;
+    let parser = with_over(alloc, parser, roster(alloc)?)?;
+    let parser = with_over(alloc, parser, send(alloc)?)?;
+    let parser = with_over(alloc, parser, take(alloc)?)?;
+    let parser = with_over(alloc, parser, count(alloc)?)?;
+    let parser = with_over(alloc, parser, pick(alloc)?)?;
+    with_over(alloc, parser, recount(alloc)?)
+}
+
+// With the subcommands that show something of the book in a file.
+fn with_shows<'a>(alloc: Global, parser: Command<'a>) -> Result<Command<'a>, AllocError>
+    ensures { (a : App) → app_of parser.entry ≡ a → IfOk result (λ c. app_of c ≡ meant.with_over a meant.show_subcommands) }
+{
+    let parser = with_over(alloc, parser, stock(alloc)?)?;
+    let parser = with_over(alloc, parser, orders(alloc)?)?;
+    with_over(alloc, parser, outbox(alloc)?)
+}
+
 // The program, without its subcommands.
 fn top<'a>(alloc: Global) -> Command<'a>
     ensures { IsCommand (record meant.top_shape { is_leaf = true }) result }
@@ -268,7 +336,7 @@ fn top<'a>(alloc: Global) -> Command<'a>
     Command::new(alloc, "whx12")
         .about("The book of a third-party warehouse that takes its orders as X12 interchanges")
         .after_help(
-            "Example: whx12 script morning.txt\n\nThe exit status is 0 where all was done, 1 where something was refused, 2 where words can't be read, 3 at a fault.",
+            "Example: whx12 init ZZ-WHSE1 --book harbor.book\nExample: whx12 enrol ZZ-ACME --book harbor.book\nExample: whx12 send advice.x12 --book harbor.book\nExample: whx12 script morning.txt\n\nThe exit status is 0 where all was done, 1 where something was refused, 2 where words can't be read, 3 at a fault.",
         )
         .no_binary_name(true)
         .subcommand_required(true)
@@ -280,7 +348,10 @@ fn top<'a>(alloc: Global) -> Command<'a>
 fn of_programs<'a>(alloc: Global) -> Result<Command<'a>, AllocError>
     ensures { IfOk result (λ c. app_of c ≡ record { top = meant.top_shape; subs = meant.program_subcommands }) }
 {
-    top(alloc).subcommand(script(alloc)?)
+    let parser = with_over(alloc, top(alloc).subcommand(script(alloc)?)?, init(alloc)?)?;
+    let parser = with_acts(alloc, parser)?;
+    let parser = with_shows(alloc, parser)?;
+    with_over(alloc, parser, serve(alloc)?)
 }
 
 // The words that may stand in a script.

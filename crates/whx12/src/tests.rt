@@ -3,6 +3,8 @@ mod envelopes;
 mod folders;
 mod goods;
 mod lots;
+mod on_disk;
+mod served;
 mod sets;
 mod shown;
 mod usage;

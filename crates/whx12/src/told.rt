@@ -83,6 +83,14 @@ impl From<io::Error> for Stop {
     }
 }
 
+/// A usage fault with a text.
+pub fn usage(alloc: Global, text: &str) -> Stop {
+    match text.to_string(alloc) {
+        Ok(text) => Stop::Usage(text),
+        Err(error) => Stop::from(error),
+    }
+}
+
 /// Writes a text that goes out and LF, where there is one.
 pub fn tell_text<W: io::Write>(out: &mut W, text: &[u8]) -> Result<(), Stop> {
     if !text.is_empty() {

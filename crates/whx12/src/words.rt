@@ -1,16 +1,19 @@
 //! A line of words, and what it asks for.
 ghost use Rattle.std.specs.Prelude.{◌≡◌, Some, true, false, IfOk, IfSome, map, codes, bytes_eq};
+ghost use Rattle.std.specs.Net.Grammar.{IsSocketText};
 ghost use Rattle.std.specs.Option.{option_map_or};
 ghost use Rattle.clap.specs.Matches.{found_of};
 ghost use Rattle.clap.specs.Walk.{first_of, rows_of};
 ghost use Rattle.whx12.specs.Lines as meant;
+ghost use Rattle.whx12.specs.Written as written;
 
 use crate::clock::moment_of;
-use crate::numbers::number_of;
+use crate::numbers::{count_of, number_of};
 use crate::subcommands::parser;
 use clap::ArgMatches;
 use clap::error::ErrorKind;
 use std::alloc::{AllocError, Global};
+use std::net::SocketAddr;
 use store::Moment;
 
 /// Where a line of words stands.
@@ -30,6 +33,18 @@ pub enum Words<'a> {
         /// The file's name.
         file: &'a str,
     },
+    /// Do something over a book.
+    Over {
+        /// The file with the book; None in a script, which has a book of its own.
+        book: Option<&'a str>,
+        /// What is done.
+        task: Task<'a>,
+    },
+}
+
+/// What is done over a book.
+#[derive(Clone, Copy)]
+pub enum Task<'a> {
     /// Make the book of a warehouse.
     Init {
         /// The warehouse, as `QQ-ID`.
@@ -44,6 +59,22 @@ pub enum Words<'a> {
     },
     /// Show something of the book.
     Show(Show<'a>),
+    /// Serve the book over HTTP.
+    Serve {
+        /// Where, and for how long.
+        service: Service,
+        /// The moment of each request, if the line says one.
+        at: Option<Moment>,
+    },
+}
+
+/// Where a book is served, and for how long.
+#[derive(Clone, Copy)]
+pub struct Service {
+    /// The IP address and port to listen at.
+    pub address: SocketAddr,
+    /// How many connections are served, 1 to 65535.
+    pub count: u16,
 }
 
 /// What changes a book.
@@ -198,6 +229,41 @@ fn given<'a>(alloc: Global, values: &ArgMatches<'a>, id: &str) -> Result<&'a str
     }
 }
 
+// The address that a line says.
+fn address(alloc: Global, values: &ArgMatches<'_>) -> Result<SocketAddr, LineFault>
+    ensures { IfOk result (λ address. (text : _) × meant.Has (rows_of (found_of values.now)) (codes "listen") text × IsSocketText text address) }
+{
+    let text = given(alloc, values, "listen")?;
+    match SocketAddr::parse_ascii(text.as_bytes()) {
+        Ok(address) => Ok(address),
+        Err(_) => Err(usage(
+            alloc,
+            "--listen wants an IP address and a port, as 127.0.0.1:8080\n",
+        )),
+    }
+}
+
+// How many connections a line says.
+fn connections(alloc: Global, values: &ArgMatches<'_>) -> Result<u16, LineFault>
+    ensures { IfOk result (λ count. (text : _) × meant.Has (rows_of (found_of values.now)) (codes "count") text × (written.count_of text ≡ Some count)) }
+{
+    let text = given(alloc, values, "count")?;
+    match count_of(text.as_bytes()) {
+        Some(count) => Ok(count),
+        None => Err(usage(alloc, "--count wants a number from 1 to 65535\n")),
+    }
+}
+
+// Where a line says that a book is served, and for how long.
+fn service_of(alloc: Global, values: &ArgMatches<'_>) -> Result<Service, LineFault>
+    ensures { IfOk result (meant.SaysService (rows_of (found_of values.now))) }
+{
+    Ok(Service {
+        address: address(alloc, values)?,
+        count: connections(alloc, values)?,
+    })
+}
+
 // Whether the line has an option without a value.
 fn has_flag(values: &ArgMatches<'_>, id: &str) -> bool
     ensures { result ≡ option_map_or (λ text. bytes_eq text (codes "true")) (first_of id.now (rows_of (found_of values.now))) false }
@@ -281,6 +347,35 @@ fn show_of<'a>(
     Ok(Some(show))
 }
 
+// What a subcommand does over a book with its values.
+fn task_of<'a>(alloc: Global, name: &str, values: &ArgMatches<'a>) -> Result<Task<'a>, LineFault>
+    ensures { IfOk result (meant.SaysTask (name.now, rows_of (found_of values.now))) }
+{
+    let at = moment(alloc, values)?;
+    if name == "init" {
+        let who = given(alloc, values, "who")?;
+        return Ok(Task::Init { who });
+    }
+    if name == "serve" {
+        let service = service_of(alloc, values)?;
+        return Ok(Task::Serve { service, at });
+    }
+    if let Some(act) = act_of(alloc, name, values)? {
+        return Ok(Task::Act { act, at });
+    }
+    match show_of(alloc, name, values)? {
+        Some(show) => Ok(Task::Show(show)),
+        None => Err(usage(alloc, "there is no such command\n")),
+    }
+}
+
+// The file with a book that a line names, if it names one.
+fn book_of<'a>(values: &ArgMatches<'a>) -> Option<&'a str>
+    ensures { meant.SaysBook (rows_of (found_of values.now)) result }
+{
+    values.get_str("book")
+}
+
 // What a subcommand asks for with its values.
 fn asked<'a>(alloc: Global, name: &str, values: &ArgMatches<'a>) -> Result<Words<'a>, LineFault>
     ensures { IfOk result (meant.Says (name.now, rows_of (found_of values.now))) }
@@ -289,18 +384,10 @@ fn asked<'a>(alloc: Global, name: &str, values: &ArgMatches<'a>) -> Result<Words
         let file = given(alloc, values, "file")?;
         return Ok(Words::Script { file });
     }
-    let at = moment(alloc, values)?;
-    if name == "init" {
-        let who = given(alloc, values, "who")?;
-        return Ok(Words::Init { who });
-    }
-    if let Some(act) = act_of(alloc, name, values)? {
-        return Ok(Words::Act { act, at });
-    }
-    match show_of(alloc, name, values)? {
-        Some(show) => Ok(Words::Show(show)),
-        None => Err(usage(alloc, "there is no such command\n")),
-    }
+    Ok(Words::Over {
+        book: book_of(values),
+        task: task_of(alloc, name, values)?,
+    })
 }
 
 // Whether a word stands first.

@@ -29,6 +29,31 @@ fn words_of_the_program_are_read(rt: HostRuntime) -> Result<(), Fail> {
         assert_eq!(rt; ran.out.as_str(), "", "of {count} words");
         assert!(rt; !ran.err.is_empty(), "of {count} words");
     }
+    let lines = [
+        "script a --book b.book",
+        "verify --book b.book",
+        "init --book b.book",
+        "enrol ZZ-A --book",
+        "enrol ZZ-A --book b.book --book b.book",
+        "enrol ZZ-A --book b.book --at 2025-03-04",
+        "serve --book b.book",
+        "serve --book b.book --listen 127.0.0.1:8080",
+        "serve --listen 127.0.0.1:8080 --count 1",
+        "serve --book b.book --listen localhost:8080 --count 1",
+        "serve --book b.book --listen 127.0.0.1 --count 1",
+        "serve --book b.book --listen 127.0.0.1:65536 --count 1",
+        "serve --book b.book --listen 127.0.0.1:8080 --count 0",
+        "serve --book b.book --listen 127.0.0.1:8080 --count 65536",
+        "serve --book b.book --listen 127.0.0.1:8080 --count +1",
+    ];
+    for line in lines {
+        let words: Vec<&str> = line.split(' ').collect(rt.alloc())?;
+        let ran = run(&rt, &words)?;
+        assert_eq!(rt; ran.status, 2, "at {line}");
+        assert_eq!(rt; ran.out.as_str(), "", "at {line}");
+        assert!(rt; !ran.err.is_empty(), "at {line}");
+    }
+    assert!(rt; !fs::exists(&rt, "b.book")?);
     let ran = run(&rt, &["script", "nowhere.script"])?;
     assert_eq!(rt; ran.status, 3);
     assert_eq!(rt; ran.err.as_str(), "fault 44 Device\n");
@@ -64,8 +89,9 @@ fn lines_are_read(rt: HostRuntime) -> Result<(), Fail> {
         "script usage.script",
         "ship ZZ-ACME",
         "take",
-        "serve",
+        "serve --listen 127.0.0.1:8080 --count 1",
         "verify",
+        "enrol ZZ-ACME --book a.book",
         "help",
         "--version",
         "enrol",

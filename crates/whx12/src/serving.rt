@@ -1,0 +1,84 @@
+//! A book served over HTTP.
+
+use crate::clock::now;
+use crate::told::{Status, Stop};
+use crate::words::Service;
+use http::StatusCode;
+use intake::serve_count;
+use std::io;
+use std::net::TcpListener;
+use store::{Fault, Keeper, Moment};
+
+// Prints what became of a connection at once: the status that was answered, or the fault.
+fn tell_outcome<W: io::Write>(out: &mut W, outcome: &Result<StatusCode, Fault>) -> io::Result<()> {
+    match outcome {
+        Ok(status) => {
+            let number = status.as_u16();
+            write!(out, "{number}\n")?;
+        }
+        Err(fault) => {
+            let (number, name) = (fault.number(), fault.name());
+            write!(out, "fault {number} {name}\n")?;
+        }
+    }
+    out.flush()
+}
+
+// The clock's moment; the one before where the clock can't be used now.
+fn moment_behind(rt: &HostRuntime, last: Moment) -> Moment {
+    match now(rt) {
+        Some(moment) => moment,
+        None => last,
+    }
+}
+
+/// Serves that many connections of a listener, and prints what became of each. The moment of each is `first`, or the clock's if
+/// `has_clock`; where the clock can't be used, the last good one. Device (44) where an outcome couldn't be printed, which is
+/// told at the end; Reopen (42) where the book has to be opened again.
+pub fn serve_on<K: Keeper, W: io::Write>(
+    rt: &HostRuntime,
+    listener: &TcpListener,
+    count: u16,
+    book: &mut K,
+    first: Moment,
+    has_clock: bool,
+    out: &mut W,
+) -> Result<Status, Stop> {
+    let mut last = first;
+    let mut is_told = true;
+    serve_count(
+        rt.alloc(),
+        listener,
+        count,
+        book,
+        || {
+            if has_clock {
+                last = moment_behind(rt, last);
+            }
+            last
+        },
+        |outcome: Result<StatusCode, Fault>| {
+            if tell_outcome(out, &outcome).is_err() {
+                is_told = false;
+            }
+        },
+    )?;
+    if is_told {
+        Ok(Status::Done)
+    } else {
+        Err(Stop::Fault(Fault::Device))
+    }
+}
+
+/// Serves a book at an address. Beyond the faults of `serve_on` it is Device (44) where nobody can listen there.
+pub fn serve<K: Keeper, W: io::Write>(
+    rt: &HostRuntime,
+    book: &mut K,
+    service: &Service,
+    first: Moment,
+    has_clock: bool,
+    out: &mut W,
+) -> Result<Status, Stop> {
+    let listener = TcpListener::bind(rt, service.address)?;
+    serve_on(rt, &listener, service.count, book, first, has_clock, out)
+}
