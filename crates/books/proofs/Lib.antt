@@ -1,3 +1,4 @@
+mod Limited
 mod Owned
 mod Rising
 mod Ordered
@@ -43,3 +44,7 @@ mod AskedBooks
 mod FoundRows
 mod HasEntries
 mod AskedLater
+mod KnownTexts
+mod UnderKey
+mod SentUnder
+mod Looked

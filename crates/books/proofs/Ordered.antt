@@ -52,7 +52,7 @@ entries_are before (e ∷ L) row h = elim h [
 
 -- What went out.
 
-row_number : (W : Who) (es : List Event) (before : List Entry) (e : Entry) → (out_row W es before e).n ≡ next_number before
+pub row_number : (W : Who) (es : List Event) (before : List Entry) (e : Entry) → (out_row W es before e).n ≡ next_number before
 row_number W es before e = by e.who e.moment e.deed
   where
     by : (w : Who) (t : Moment) (d : Deed) → (out_row W es before (record { who = w; moment = t; deed = d })).n ≡ next_number before
@@ -63,7 +63,7 @@ row_number W es before e = by e.who e.moment e.deed
 next_over : (n : ℕ) (before : List Entry) (e : Entry) → n < next_number before → n < next_number (before ++ e ∷ [])
 next_over n before e h = omega (arith, h, next_snoc before e)
 
-numbers_over : (W : Who) (es : List Event) (n : ℕ) (before M : List Entry) → n < next_number before → list_all (λ (q : OutRow). nat_lt n q.n) (outgoing_on W es before M) ≡ true
+pub numbers_over : (W : Who) (es : List Event) (n : ℕ) (before M : List Entry) → n < next_number before → list_all (λ (q : OutRow). nat_lt n q.n) (outgoing_on W es before M) ≡ true
 numbers_over W es n before [] h = refl
 numbers_over W es n before (e ∷ M) h = by (is_numbered e) (numbers_over W es n (before ++ e ∷ []) M (next_over n before e h))
   where

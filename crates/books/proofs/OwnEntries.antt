@@ -51,6 +51,9 @@ recorded_on W M front (e ∷ rest) who legal is its =
       recorded_on W M (front ++ e ∷ []) rest who legal (is ∙ sym (append_assoc front (e ∷ []) rest)) its.1,
     )
 
+pub each_recorded : (W : Who) (L : List Entry) (who : Who) → IsLegal W L → AllByRecursion (IsRecorded who) (all_written (own L who))
+each_recorded W L who legal = recorded_on W (own L who) [] (own L who) who (own_legal W L who legal) refl (all_of L who)
+
 all_recorded : (W : Who) (L : List Entry) (who : Who) → IsLegal W L → All (IsRecorded who) (all_written (own L who))
 all_recorded W L who legal = All-from_recursion (IsRecorded who) (all_written (own L who)) (recorded_on W (own L who) [] (own L who) who (own_legal W L who legal) refl (all_of L who))
 

@@ -38,7 +38,7 @@ use Rattle.books.proofs.ShowingTexts.{stock_columns, stock_order, stock_rows_que
 use Rattle.books.proofs.UpsertLemmas.{only_row}
 
 -- each row of a table of depositors begins with a text
-begun : (L : List Entry) (rows : List Entry → List TableRow) (row : TableRow) → Has (for_each L rows) row → (s : List ℕ) × (r : TableRow) × (row ≡ Text s ∷ r)
+pub begun : (L : List Entry) (rows : List Entry → List TableRow) (row : TableRow) → Has (for_each L rows) row → (s : List ℕ) × (r : TableRow) × (row ≡ Text s ∷ r)
 begun L rows = each_block (λ row. (s : List ℕ) × (r : TableRow) × (row ≡ Text s ∷ r)) who_text (λ w. rows (own L w)) (depositors L) (λ w r there. (who_text w, r, refl))
 
 -- The order of a pair of texts.

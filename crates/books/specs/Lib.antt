@@ -5,9 +5,11 @@ pub mod Held
 pub mod Standing
 pub mod Leading
 pub mod Rises
+pub mod Limits
 pub mod Appending
 pub mod Kept
 pub mod Exits
+pub mod Contents
 pub mod Asking
 pub mod Recorded
 pub mod Taken

@@ -1,4 +1,4 @@
-ghost use Rattle.std.specs.Prelude.{◌≡◌, ◌⊎◌, ◌<◌, ◌^◌, ◌++◌, List, IsTrue, IfErr, OnOk, OnErr};
+ghost use Rattle.std.specs.Prelude.{◌≡◌, ◌≢◌, ◌⊎◌, ◌<◌, ◌^◌, ◌++◌, List, IsTrue, IfErr, OnOk, OnErr, Some};
 ghost use Rattle.profile.specs.Header.{Who as Partner, who_text};
 ghost use Rattle.profile.specs.Register as register;
 ghost use Rattle.profile.specs.Reply.{out};
@@ -8,6 +8,7 @@ ghost use Rattle.sqlite.specs.State.{HasCleanDisk, Survives, KeepsCommit};
 ghost use Rattle.sqlite.specs.Held.{state};
 ghost use Rattle.books.specs.Appending.{Appends, sent_changes, entry_changes};
 ghost use Rattle.books.specs.Leading.{Leads};
+ghost use Rattle.books.specs.Limits.{NoMore};
 ghost use Rattle.books.specs.Rises.{Rises};
 
 use crate::calls::Calls;
@@ -19,6 +20,7 @@ use sqlite::{Alter, Transaction};
 use store::Fault;
 
 /// Adds the text that goes out for a numbered entry.
+#[tactic(auto, using(crate::proofs::Limited::no_more_trans, crate::proofs::Limited::no_more_same))]
 fn insert_sent<'a, S: Alter>(
     tx: &mut Transaction<'_, S>,
     calls: &mut Calls,
@@ -35,6 +37,7 @@ fn insert_sent<'a, S: Alter>(
     ensures survives { Survives (state S.Store tx.old.conn.now) (state S.Store tx.new.conn.now) (λ _. ⊥) }
     ensures ok { OnOk result (calls.new.refused ≡ calls.old.refused) }
     ensures counted { OnErr result (Rises calls.old.refused calls.new.refused) }
+    ensures limit { NoMore calls.old.limit calls.new.limit }
     ensures named { IfErr result (λ f. (f ≡ Fault.OutOfMemory) ⊎ (f ≡ Fault.Store)) }
 {
     if !entry.is_numbered() {
@@ -46,6 +49,7 @@ fn insert_sent<'a, S: Alter>(
 }
 
 /// Adds an entry under the next number, with the text that goes out for it and the changes that its command makes.
+#[tactic(auto, using(crate::proofs::Limited::no_more_trans, crate::proofs::Limited::no_more_same))]
 pub(crate) fn write_entry<'a, S: Alter>(
     tx: &mut Transaction<'_, S>,
     calls: &mut Calls,
@@ -66,6 +70,8 @@ pub(crate) fn write_entry<'a, S: Alter>(
     ensures survives { Survives (state S.Store tx.old.conn.now) (state S.Store tx.new.conn.now) (λ _. ⊥) }
     ensures ok { OnOk result (calls.new.refused ≡ calls.old.refused) }
     ensures counted { OnErr result (Rises calls.old.refused calls.new.refused) }
+    ensures limit { NoMore calls.old.limit calls.new.limit }
+    ensures allowed { OnOk result (calls.old.limit ≢ Some 0) }
     ensures named { IfErr result (λ f. (f ≡ Fault.OutOfMemory) ⊎ (f ≡ Fault.Store)) }
 {
     let moment = moment_text(entry.moment());

@@ -1,14 +1,21 @@
-ghost use Rattle.std.specs.Prelude.{◌≡◌, ◌≢◌, ◌⊎◌, ◌++◌, ◌∷◌, [], List, true, false, IfErr, IfOk, OnOk, OnErr, IsErrOf, IsErrAnd};
+ghost use Rattle.std.specs.Prelude.{◌≡◌, ◌≢◌, ◌⊎◌, ◌++◌, ◌∷◌, [], List, true, false, IfErr, IfOk, OnOk, OnErr, IsErrOf, IsErrAnd, Some, option_map};
 ghost use Rattle.profile.specs.Header.{Who as Partner};
+ghost use Rattle.profile.specs.Accepted.{IsLegal};
+ghost use Rattle.profile.specs.Decision as decided;
 ghost use Rattle.profile.specs.Register as register;
+ghost use Rattle.profile.specs.Rows.{stock_of, outbox_of};
+ghost use Rattle.rules.specs.Asked.{mark_of};
+ghost use Rattle.rules.specs.Decided.{IsHeldAtRest, IsRecalled};
 ghost use Rattle.sqlite.specs.State.{HasCleanDisk, Survives};
 ghost use Rattle.sqlite.specs.Held.{state};
 ghost use Rattle.sqlite.specs.Order.{Row as Cells};
 ghost use Rattle.store.specs.Replayed.{all_written};
-ghost use Rattle.store.specs.Standing.{IsUsable, IsUnchanged, IsQueryFault};
+ghost use Rattle.store.specs.Held.{IsHeldFor};
+ghost use Rattle.store.specs.Standing.{IsUsable, IsUnchanged, IsQueryFault, IsNext, IsFault, IsCommitFault, LeavesEither, GoesOn};
 ghost use Rattle.books.specs.Asking.{Finds, IsAsked, house_text};
 ghost use Rattle.books.specs.Exits.{IsAsBefore, StandsWhileOpen};
 ghost use Rattle.books.specs.Keeping.{IsKept, IsSettled};
+ghost use Rattle.books.specs.Limits.{NoMore};
 ghost use Rattle.books.specs.Layout.{no_layout};
 ghost use Rattle.books.specs.Opened.{standing_of};
 ghost use Rattle.books.specs.Recorded.{IsHouse};
@@ -50,6 +57,7 @@ impl<S: Alter + Drop> Model for Book<S> {
 impl<S: Alter + Drop> Book<S> {
     /// Makes the tables of an empty register of the warehouse. A fault hands the tables back: 43 where the store has a table with
     /// the name of a table of the book already, which leaves it as it is, and 40 or 41 where a call was refused.
+    #[tactic(auto, using(crate::proofs::Limited::no_more_trans, crate::proofs::Limited::no_more_same))]
     pub fn create(
         alloc: Global,
         mut tables: Tables<S>,
@@ -63,6 +71,9 @@ impl<S: Alter + Drop> Book<S> {
         ensures free { IfErr result (λ e. e.0 ≡ Fault.NotThisBook → has_book_table (state S.Store tables.conn).now.schema.tables ≡ true) }
         ensures counted { IfErr result (λ e. e.0 ≢ Fault.NotThisBook → Rises tables.refused e.1.refused) }
         ensures named { IfErr result (λ e. (e.0 ≡ Fault.NotThisBook) ⊎ ((e.0 ≡ Fault.OutOfMemory) ⊎ (e.0 ≡ Fault.Store))) }
+        ensures limit { IfOk result (λ b. NoMore tables.limit b.tables.limit) }
+        ensures limit_back { IfErr result (λ e. NoMore tables.limit e.1.limit) }
+        ensures allowed { OnOk result (tables.limit ≢ Some 0) }
     {
         if tables.are_taken() {
             return Err((Fault::NotThisBook, tables));
@@ -81,6 +92,7 @@ impl<S: Alter + Drop> Book<S> {
 
     /// Opens the book that tables hold. A fault hands the tables back as they were: 40 or 41 where a call was refused, 43 where
     /// `book` hasn't one row, or that row has another version than 1 or no warehouse.
+    #[tactic(auto, using(crate::proofs::Limited::no_more_trans, crate::proofs::Limited::no_more_same))]
     pub fn open_from(alloc: Global, mut tables: Tables<S>) -> Result<Book<S>, (Fault, Tables<S>)>
         ensures usable { IfOk result (λ b. HasCleanDisk (state S.Store b.tables.conn) → (W : Partner) (L : List register.Entry) → IsSettled (state S.Store tables.conn) W L → IsUsable (standing_of S.Store b) L) }
         ensures keeps { IfOk result (λ b. HasCleanDisk (state S.Store b.tables.conn) → (W : Partner) (L : List register.Entry) → StandsWhileOpen (state S.Store tables.conn) W L
@@ -93,6 +105,9 @@ impl<S: Alter + Drop> Book<S> {
         ensures counted { IfErr result (λ e. e.0 ≢ Fault.NotThisBook → Rises tables.refused e.1.refused) }
         ensures uncounted { IfErr result (λ e. e.0 ≡ Fault.NotThisBook → e.1.refused ≡ tables.refused) }
         ensures named { IfErr result (λ e. (e.0 ≡ Fault.NotThisBook) ⊎ ((e.0 ≡ Fault.OutOfMemory) ⊎ (e.0 ≡ Fault.Store))) }
+        ensures limit { IfOk result (λ b. NoMore tables.limit b.tables.limit) }
+        ensures limit_back { IfErr result (λ e. NoMore tables.limit e.1.limit) }
+        ensures allowed { OnOk result (tables.limit ≢ Some 0) }
     {
         match tables.found() {
             Ok(found) => Ok(Book {
@@ -121,12 +136,15 @@ impl<S: Alter + Drop> Book<S> {
     }
 
     // A depositor's entries, as a book in memory that replays them.
+    #[tactic(auto, using(crate::proofs::Limited::no_more_trans, crate::proofs::Limited::no_more_same))]
     fn own_book(&mut self, who: Who) -> Result<ReplayBook, Fault>
         ensures own { (standing_of S.Store self.new).doubt ≡ 0 → (L : List register.Entry) → (standing_of S.Store self.old).keeps L → IfOk result (λ book. book.entries ≡ all_written (register.own L who)) }
         ensures warehouse { IfOk result (λ book. book.warehouse ≡ self.old.warehouse) }
         ensures same { IsUnchanged (standing_of S.Store self.old) (standing_of S.Store self.new) }
         ensures fault { IfErr result (λ fault. IsQueryFault fault (standing_of S.Store self.old) (standing_of S.Store self.new)) }
         ensures shut { (standing_of S.Store self.old).shut ≡ true → IsErrOf result Fault.Reopen }
+        ensures limit { NoMore self.old.tables.limit self.new.tables.limit }
+        ensures allowed { OnOk result (self.old.tables.limit ≢ Some 0) }
     {
         if self.shut {
             return Err(Fault::Reopen);
@@ -145,19 +163,56 @@ impl<S: Alter + Drop> Keeper for Book<S> {
         self.warehouse
     }
 
-    fn load(&mut self, who: Who) -> Result<Option<Page>, Fault> {
+    #[tactic(auto, using(crate::proofs::Limited::no_more_trans, crate::proofs::Limited::no_more_same))]
+    fn load(&mut self, who: Who) -> Result<Option<Page>, Fault>
+        ensures page { (standing_of S.Store self.new).doubt ≡ 0 → (L : List register.Entry) → (standing_of S.Store self.old).keeps L → IsLegal (standing_of S.Store self.old).warehouse L
+            → IfOk result (λ page. IsHeldFor page (decided.standing (register.own L who))) }
+        ensures rest { IfOk result IsHeldAtRest }
+        ensures same { IsUnchanged (standing_of S.Store self.old) (standing_of S.Store self.new) }
+        ensures fault { IfErr result (λ fault. IsQueryFault fault (standing_of S.Store self.old) (standing_of S.Store self.new)) }
+        ensures shut { (standing_of S.Store self.old).shut ≡ true → IsErrOf result Fault.Reopen }
+        ensures limit { NoMore self.old.tables.limit self.new.tables.limit }
+        ensures allowed { OnOk result (self.old.tables.limit ≢ Some 0) }
+    {
         let mut own = self.own_book(who)?;
         own.load(who)
     }
 
-    fn known(&mut self, who: Who, key: &Key<'_>) -> Result<Option<Known>, Fault> {
-        let mut own = self.own_book(who)?;
-        own.known(who, key)
+    #[tactic(auto, using(crate::proofs::Limited::no_more_trans, crate::proofs::Limited::no_more_same))]
+    fn known(&mut self, who: Who, key: &Key<'_>) -> Result<Option<Known>, Fault>
+        ensures entry { (standing_of S.Store self.new).doubt ≡ 0 → (L : List register.Entry) → (standing_of S.Store self.old).keeps L → IsLegal (standing_of S.Store self.old).warehouse L
+            → IfOk result (λ known. IsRecalled known (decided.recalled (standing_of S.Store self.old).warehouse (mark_of key.now) (register.own L who))) }
+        ensures same { IsUnchanged (standing_of S.Store self.old) (standing_of S.Store self.new) }
+        ensures fault { IfErr result (λ fault. IsQueryFault fault (standing_of S.Store self.old) (standing_of S.Store self.new)) }
+        ensures shut { (standing_of S.Store self.old).shut ≡ true → IsErrOf result Fault.Reopen }
+        ensures limit { NoMore self.old.tables.limit self.new.tables.limit }
+        ensures allowed { OnOk result (self.old.tables.limit ≢ Some 0) }
+    {
+        if self.shut {
+            return Err(Fault::Reopen);
+        }
+        let text = partner_text(self.alloc, &who)?;
+        let mark = key.text(self.alloc)?;
+        self.tables.known_of(self.alloc, who, &text, &mark)
     }
 
     /// Appends an entry, with the rows that it changes and the text that goes out for it, in one transaction. After a fault of
     /// the store the book has to be opened again, and answers 42 until then.
-    fn commit(&mut self, entry: &Entry, changes: &[Change], outgoing: &[u8]) -> Result<(), Fault> {
+    #[tactic(auto, using(crate::proofs::Limited::no_more_trans, crate::proofs::Limited::no_more_same))]
+    fn commit(&mut self, entry: &Entry, changes: &[Change], outgoing: &[u8]) -> Result<(), Fault>
+        ensures ok { (standing_of S.Store self.new).doubt ≡ 0 → (L : List register.Entry) (e : register.Entry) → IsUsable (standing_of S.Store self.old) L
+            → IsNext (standing_of S.Store self.old).warehouse L e entry.now changes.now outgoing.now → OnOk result (IsUsable (standing_of S.Store self.new) (L ++ e ∷ [])) }
+        ensures left { (standing_of S.Store self.new).doubt ≡ 0 → (L : List register.Entry) (e : register.Entry) → IsUsable (standing_of S.Store self.old) L
+            → IsNext (standing_of S.Store self.old).warehouse L e entry.now changes.now outgoing.now → OnErr result (LeavesEither (standing_of S.Store self.new) L (L ++ e ∷ [])) }
+        ensures opened { OnOk result ((standing_of S.Store self.new).shut ≡ false) }
+        ensures fault { IfErr result (λ fault. IsFault fault (standing_of S.Store self.old) (standing_of S.Store self.new)) }
+        ensures kinds { IfErr result IsCommitFault }
+        ensures store { IsErrOf result Fault.Store → (standing_of S.Store self.new).shut ≡ true }
+        ensures shut { (standing_of S.Store self.old).shut ≡ true → IsErrOf result Fault.Reopen × IsUnchanged (standing_of S.Store self.old) (standing_of S.Store self.new) }
+        ensures goes { GoesOn (standing_of S.Store self.old) (standing_of S.Store self.new) }
+        ensures limit { NoMore self.old.tables.limit self.new.tables.limit }
+        ensures allowed { OnOk result (self.old.tables.limit ≢ Some 0) }
+    {
         if self.shut {
             return Err(Fault::Reopen);
         }
@@ -179,14 +234,32 @@ impl<S: Alter + Drop> Keeper for Book<S> {
         }
     }
 
-    fn stock_rows(&mut self, who: Who) -> Result<Option<Vec<StockRow>>, Fault> {
+    #[tactic(auto, using(crate::proofs::Limited::no_more_trans, crate::proofs::Limited::no_more_same))]
+    fn stock_rows(&mut self, who: Who) -> Result<Option<Vec<StockRow>>, Fault>
+        ensures rows { (standing_of S.Store self.new).doubt ≡ 0 → (L : List register.Entry) → (standing_of S.Store self.old).keeps L → IsLegal (standing_of S.Store self.old).warehouse L
+            → IfOk result (λ rows. option_map (λ v. v.items) rows ≡ stock_of L who) }
+        ensures same { IsUnchanged (standing_of S.Store self.old) (standing_of S.Store self.new) }
+        ensures fault { IfErr result (λ fault. IsQueryFault fault (standing_of S.Store self.old) (standing_of S.Store self.new)) }
+        ensures shut { (standing_of S.Store self.old).shut ≡ true → IsErrOf result Fault.Reopen }
+        ensures limit { NoMore self.old.tables.limit self.new.tables.limit }
+        ensures allowed { OnOk result (self.old.tables.limit ≢ Some 0) }
+    {
         if self.shut {
             return Err(Fault::Reopen);
         }
         self.tables.stock_of(self.alloc, who)
     }
 
-    fn outbox(&mut self, who: Who) -> Result<Option<Vec<OutRow>>, Fault> {
+    #[tactic(auto, using(crate::proofs::Limited::no_more_trans, crate::proofs::Limited::no_more_same))]
+    fn outbox(&mut self, who: Who) -> Result<Option<Vec<OutRow>>, Fault>
+        ensures rows { (standing_of S.Store self.new).doubt ≡ 0 → (L : List register.Entry) → (standing_of S.Store self.old).keeps L → IsLegal (standing_of S.Store self.old).warehouse L
+            → IfOk result (λ rows. option_map (λ v. v.items) rows ≡ outbox_of (standing_of S.Store self.old).warehouse L who) }
+        ensures same { IsUnchanged (standing_of S.Store self.old) (standing_of S.Store self.new) }
+        ensures fault { IfErr result (λ fault. IsQueryFault fault (standing_of S.Store self.old) (standing_of S.Store self.new)) }
+        ensures shut { (standing_of S.Store self.old).shut ≡ true → IsErrOf result Fault.Reopen }
+        ensures limit { NoMore self.old.tables.limit self.new.tables.limit }
+        ensures allowed { OnOk result (self.old.tables.limit ≢ Some 0) }
+    {
         if self.shut {
             return Err(Fault::Reopen);
         }

@@ -5,6 +5,7 @@ ghost use Rattle.profile.specs.Tables as cells;
 ghost use Rattle.sqlite.specs.State.{HasCleanDisk, Survives, KeepsCommit};
 ghost use Rattle.sqlite.specs.Held.{state};
 ghost use Rattle.books.specs.Leading.{Leads, puts_of};
+ghost use Rattle.books.specs.Limits.{NoMore};
 ghost use Rattle.books.specs.Rises.{Rises};
 ghost use Rattle.books.specs.Steps.{GoesOn};
 
@@ -19,6 +20,7 @@ use stock::{KnownAdvice, KnownOrder};
 use store::Fault;
 
 /// Puts the lines of an advice.
+#[tactic(auto, using(crate::proofs::Limited::no_more_trans, crate::proofs::Limited::no_more_same))]
 fn put_advice_lines<'a, S: Alter>(
     tx: &mut Transaction<'_, S>,
     calls: &mut Calls,
@@ -33,6 +35,7 @@ fn put_advice_lines<'a, S: Alter>(
     ensures survives { Survives (state S.Store tx.old.conn.now) (state S.Store tx.new.conn.now) (λ _. ⊥) }
     ensures ok { OnOk result (calls.new.refused ≡ calls.old.refused) }
     ensures counted { OnErr result (Rises calls.old.refused calls.new.refused) }
+    ensures limit { NoMore calls.old.limit calls.new.limit }
     ensures named { IfErr result (λ f. (f ≡ Fault.OutOfMemory) ⊎ (f ≡ Fault.Store)) }
 {
     let shipment = advice.shipment();
@@ -48,6 +51,7 @@ fn put_advice_lines<'a, S: Alter>(
 }
 
 /// Puts the lines of an order.
+#[tactic(auto, using(crate::proofs::Limited::no_more_trans, crate::proofs::Limited::no_more_same))]
 fn put_order_lines<'a, S: Alter>(
     tx: &mut Transaction<'_, S>,
     calls: &mut Calls,
@@ -62,6 +66,7 @@ fn put_order_lines<'a, S: Alter>(
     ensures survives { Survives (state S.Store tx.old.conn.now) (state S.Store tx.new.conn.now) (λ _. ⊥) }
     ensures ok { OnOk result (calls.new.refused ≡ calls.old.refused) }
     ensures counted { OnErr result (Rises calls.old.refused calls.new.refused) }
+    ensures limit { NoMore calls.old.limit calls.new.limit }
     ensures named { IfErr result (λ f. (f ≡ Fault.OutOfMemory) ⊎ (f ≡ Fault.Store)) }
 {
     let key = order.number();
@@ -77,6 +82,7 @@ fn put_order_lines<'a, S: Alter>(
 }
 
 /// Puts what is reserved for an order.
+#[tactic(auto, using(crate::proofs::Limited::no_more_trans, crate::proofs::Limited::no_more_same))]
 fn put_reservations<'a, S: Alter>(
     tx: &mut Transaction<'_, S>,
     calls: &mut Calls,
@@ -91,6 +97,7 @@ fn put_reservations<'a, S: Alter>(
     ensures survives { Survives (state S.Store tx.old.conn.now) (state S.Store tx.new.conn.now) (λ _. ⊥) }
     ensures ok { OnOk result (calls.new.refused ≡ calls.old.refused) }
     ensures counted { OnErr result (Rises calls.old.refused calls.new.refused) }
+    ensures limit { NoMore calls.old.limit calls.new.limit }
     ensures named { IfErr result (λ f. (f ≡ Fault.OutOfMemory) ⊎ (f ≡ Fault.Store)) }
 {
     let key = order.number();
@@ -101,6 +108,7 @@ fn put_reservations<'a, S: Alter>(
 }
 
 /// Puts an advice, and its lines where it is opened.
+#[tactic(auto, using(crate::proofs::Limited::no_more_trans, crate::proofs::Limited::no_more_same))]
 fn apply_advice<'a, S: Alter>(
     tx: &mut Transaction<'_, S>,
     calls: &mut Calls,
@@ -115,6 +123,7 @@ fn apply_advice<'a, S: Alter>(
     ensures survives { Survives (state S.Store tx.old.conn.now) (state S.Store tx.new.conn.now) (λ _. ⊥) }
     ensures ok { OnOk result (calls.new.refused ≡ calls.old.refused) }
     ensures counted { OnErr result (Rises calls.old.refused calls.new.refused) }
+    ensures limit { NoMore calls.old.limit calls.new.limit }
     ensures named { IfErr result (λ f. (f ≡ Fault.OutOfMemory) ⊎ (f ≡ Fault.Store)) }
 {
     put_advice(tx, calls, who, advice)?;
@@ -125,6 +134,7 @@ fn apply_advice<'a, S: Alter>(
 }
 
 /// Puts an order: where it is opened with its lines and what is reserved for it, else nothing is reserved for it any more.
+#[tactic(auto, using(crate::proofs::Limited::no_more_trans, crate::proofs::Limited::no_more_same))]
 fn apply_order<'a, S: Alter>(
     tx: &mut Transaction<'_, S>,
     calls: &mut Calls,
@@ -139,6 +149,7 @@ fn apply_order<'a, S: Alter>(
     ensures survives { Survives (state S.Store tx.old.conn.now) (state S.Store tx.new.conn.now) (λ _. ⊥) }
     ensures ok { OnOk result (calls.new.refused ≡ calls.old.refused) }
     ensures counted { OnErr result (Rises calls.old.refused calls.new.refused) }
+    ensures limit { NoMore calls.old.limit calls.new.limit }
     ensures named { IfErr result (λ f. (f ≡ Fault.OutOfMemory) ⊎ (f ≡ Fault.Store)) }
 {
     put_order(tx, calls, who, order)?;
@@ -151,6 +162,7 @@ fn apply_order<'a, S: Alter>(
 }
 
 /// Puts one change into the tables.
+#[tactic(auto, using(crate::proofs::Limited::no_more_trans, crate::proofs::Limited::no_more_same))]
 fn apply_change<'a, S: Alter>(
     tx: &mut Transaction<'_, S>,
     calls: &mut Calls,
@@ -165,6 +177,7 @@ fn apply_change<'a, S: Alter>(
     ensures survives { Survives (state S.Store tx.old.conn.now) (state S.Store tx.new.conn.now) (λ _. ⊥) }
     ensures ok { OnOk result (calls.new.refused ≡ calls.old.refused) }
     ensures counted { OnErr result (Rises calls.old.refused calls.new.refused) }
+    ensures limit { NoMore calls.old.limit calls.new.limit }
     ensures named { IfErr result (λ f. (f ≡ Fault.OutOfMemory) ⊎ (f ≡ Fault.Store)) }
 {
     match change {
@@ -177,6 +190,7 @@ fn apply_change<'a, S: Alter>(
 }
 
 /// Puts changes into the tables, one after another.
+#[tactic(auto, using(crate::proofs::Limited::no_more_trans, crate::proofs::Limited::no_more_same))]
 pub(crate) fn apply_all<'a, S: Alter>(
     tx: &mut Transaction<'_, S>,
     calls: &mut Calls,
@@ -191,6 +205,7 @@ pub(crate) fn apply_all<'a, S: Alter>(
     ensures survives { Survives (state S.Store tx.old.conn.now) (state S.Store tx.new.conn.now) (λ _. ⊥) }
     ensures ok { OnOk result (calls.new.refused ≡ calls.old.refused) }
     ensures counted { OnErr result (Rises calls.old.refused calls.new.refused) }
+    ensures limit { NoMore calls.old.limit calls.new.limit }
     ensures named { IfErr result (λ f. (f ≡ Fault.OutOfMemory) ⊎ (f ≡ Fault.Store)) }
 {
     for change in changes {

@@ -1,4 +1,4 @@
-ghost use Rattle.std.specs.Prelude.{◌≡◌, ◌⊎◌, ◌<◌, ◌^◌, ◌++◌, ◌∷◌, [], List, false, IsTrue, IfErr, IfOk, OnOk, OnErr};
+ghost use Rattle.std.specs.Prelude.{◌≡◌, ◌⊎◌, ◌<◌, ◌^◌, ◌++◌, ◌∷◌, [], List, false, IsTrue, IfErr, IfOk, OnOk, OnErr, None, Some, ◌≢◌};
 ghost use Rattle.profile.specs.Accepted.{IsLegal};
 ghost use Rattle.profile.specs.Header.{Who as Partner};
 ghost use Rattle.profile.specs.Register as register;
@@ -9,6 +9,7 @@ ghost use Rattle.sqlite.specs.Listing.{understood};
 ghost use Rattle.sqlite.specs.Values.{bound};
 ghost use Rattle.books.specs.Asking.{Finds, IsAsked};
 ghost use Rattle.books.specs.Exits.{IsAppended, HasGrown, Extends, IsAsBefore, LeavesIt};
+ghost use Rattle.books.specs.Limits.{NoMore};
 ghost use Rattle.books.specs.Layout.{layout, no_layout};
 ghost use Rattle.books.specs.Making.{Makes};
 ghost use Rattle.books.specs.Rises.{Rises};
@@ -39,7 +40,7 @@ impl<S: Alter + Drop> Model for Tables<S> {
 
     ghost coded = { kept_code S.code };
 
-    ghost view = { λ t. record { conn = t.conn; refused = t.calls.refused } };
+    ghost view = { λ t. record { conn = t.conn; refused = t.calls.refused; limit = t.calls.limit } };
 
     ghost invariant = { λ t. t.conn.in_transaction ≡ false };
 }
@@ -50,6 +51,7 @@ impl<S: Alter + Drop> Tables<S> {
         requires { conn.in_transaction ≡ false }
         ensures conn { result.conn ≡ conn }
         ensures refused { result.refused ≡ 0 }
+        ensures limit { result.limit ≡ None }
     {
         Tables {
             conn,
@@ -68,6 +70,7 @@ impl<S: Alter + Drop> Tables<S> {
     pub fn limit_calls(&mut self, limit: Option<u64>)
         ensures conn { self.new.conn ≡ self.old.conn }
         ensures refused { self.new.refused ≡ self.old.refused }
+        ensures limit { self.new.limit ≡ limit }
     {
         self.calls.limit = limit;
     }
@@ -91,12 +94,14 @@ impl<S: Alter + Drop> Tables<S> {
     pub(crate) fn use_up(&mut self) -> Fault
         ensures told { result ≡ Fault.Store }
         ensures conn { self.new.conn ≡ self.old.conn }
+        ensures limit { self.new.limit ≡ self.old.limit }
         ensures counted { Rises self.old.refused self.new.refused }
     {
         self.calls.refuse()
     }
 
     /// The rows that a text answers which only reads the book's tables. A refused call is 40 or 41, and counts.
+    #[tactic(auto, using(crate::proofs::Limited::no_more_trans, crate::proofs::Limited::no_more_same))]
     pub(crate) fn ask(&mut self, sql: &str, params: &[ValueRef<'_>]) -> Result<Vec<Row>, Fault>
         requires { IsPlain (understood layout sql.now) }
         ensures finds { HasCleanDisk (state S.Store self.new.conn) → IfOk result (λ rows. IsTrue (state S.Store self.old.conn).is_open × Finds sql.now (bound params.now) (state S.Store self.old.conn).now rows.items) }
@@ -105,6 +110,8 @@ impl<S: Alter + Drop> Tables<S> {
         ensures named { IfErr result (λ f. (f ≡ Fault.OutOfMemory) ⊎ (f ≡ Fault.Store)) }
         ensures counted { OnErr result (Rises self.old.refused self.new.refused) }
         ensures uncounted { OnOk result (self.new.refused ≡ self.old.refused) }
+        ensures limit { NoMore self.old.limit self.new.limit }
+        ensures allowed { OnOk result (self.old.limit ≢ Some 0) }
     {
         let settled = self.conn.is_autocommit();
         prove!(settled);
@@ -122,6 +129,7 @@ impl<S: Alter + Drop> Tables<S> {
     }
 
     /// Appends an entry under the next number, with what its command changes and what goes out for it, in one transaction.
+    #[tactic(auto, using(crate::proofs::Limited::no_more_trans, crate::proofs::Limited::no_more_same))]
     pub(crate) fn append<'a>(
         &mut self,
         seq: u64,
@@ -139,6 +147,8 @@ impl<S: Alter + Drop> Tables<S> {
         ensures named { IfErr result (λ f. (f ≡ Fault.OutOfMemory) ⊎ (f ≡ Fault.Store)) }
         ensures counted { OnErr result (Rises self.old.refused self.new.refused) }
         ensures uncounted { OnOk result (self.new.refused ≡ self.old.refused) }
+        ensures limit { NoMore self.old.limit self.new.limit }
+        ensures allowed { OnOk result (self.old.limit ≢ Some 0) }
     {
         let settled = self.conn.is_autocommit();
         prove!(settled);
@@ -153,6 +163,7 @@ impl<S: Alter + Drop> Tables<S> {
     }
 
     /// Makes the tables of an empty register of the warehouse, in one transaction.
+    #[tactic(auto, using(crate::proofs::Limited::no_more_trans, crate::proofs::Limited::no_more_same))]
     pub(crate) fn make(&mut self, warehouse: &Warehouse) -> Result<(), Fault>
         ensures ok { HasCleanDisk (state S.Store self.new.conn) → OnOk result (Makes (state S.Store self.old.conn) (state S.Store self.new.conn) warehouse.now) }
         ensures left { HasCleanDisk (state S.Store self.new.conn) → OnOk result (LeavesIt (state S.Store self.new.conn)) }
@@ -161,6 +172,8 @@ impl<S: Alter + Drop> Tables<S> {
         ensures named { IfErr result (λ f. (f ≡ Fault.OutOfMemory) ⊎ (f ≡ Fault.Store)) }
         ensures counted { OnErr result (Rises self.old.refused self.new.refused) }
         ensures uncounted { OnOk result (self.new.refused ≡ self.old.refused) }
+        ensures limit { NoMore self.old.limit self.new.limit }
+        ensures allowed { OnOk result (self.old.limit ≢ Some 0) }
     {
         let settled = self.conn.is_autocommit();
         prove!(settled);

@@ -1,4 +1,4 @@
-ghost use Rattle.std.specs.Prelude.{◌≡◌, ◌≤◌, ◌==◌, not, List, IfOk, IfErr, length, option_map};
+ghost use Rattle.std.specs.Prelude.{◌≡◌, ◌≤◌, ◌==◌, not, List, IfOk, IfErr, length, option_map, ◌≢◌, OnOk, Some};
 ghost use Rattle.profile.specs.Header.{Who as Partner};
 ghost use Rattle.profile.specs.Register as register;
 ghost use Rattle.profile.specs.Rows as meant;
@@ -6,6 +6,7 @@ ghost use Rattle.sqlite.specs.Held.{state};
 ghost use Rattle.sqlite.specs.State.{HasCleanDisk};
 ghost use Rattle.books.specs.Asking.{IsAsked, IsAskFault};
 ghost use Rattle.books.specs.Exits.{StandsWhileOpen};
+ghost use Rattle.books.specs.Limits.{NoMore};
 
 use crate::connected::Tables;
 use crate::texts::partner_text;
@@ -17,12 +18,15 @@ use store::Fault;
 
 impl<S: Alter + Drop> Tables<S> {
     /// Whether a depositor has entries: a stranger has none.
+    #[tactic(auto, using(crate::proofs::Limited::no_more_trans, crate::proofs::Limited::no_more_same))]
     pub(crate) fn is_enrolled(&mut self, alloc: Global, who: Who) -> Result<bool, Fault>
         ensures enrolled { HasCleanDisk (state S.Store self.new.conn) → (W : Partner) (L : List register.Entry) → StandsWhileOpen (state S.Store self.old.conn) W L
             → IfOk result (λ enrolled. enrolled ≡ not (length (register.own L who) == 0)) }
         ensures asked { IsAsked (state S.Store self.old.conn) (state S.Store self.new.conn) }
         ensures fault { IfErr result (λ f. IsAskFault f (state S.Store self.old.conn) (state S.Store self.new.conn) self.old.refused self.new.refused) }
         ensures counts { self.old.refused ≤ self.new.refused }
+        ensures limit { NoMore self.old.limit self.new.limit }
+        ensures allowed { OnOk result (self.old.limit ≢ Some 0) }
     {
         let text = partner_text(alloc, &who)?;
         let rows = self.ask(

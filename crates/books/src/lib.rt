@@ -10,6 +10,7 @@ mod connected;
 mod enrolled;
 mod making;
 mod reading;
+mod recalled;
 mod running;
 mod sent;
 mod shown;
@@ -20,6 +21,3 @@ mod writing;
 
 pub use book::Book;
 pub use connected::Tables;
-
-#[cfg(test)]
-mod tests;

@@ -1,8 +1,9 @@
-ghost use Rattle.std.specs.Prelude.{◌≡◌, ◌⊎◌, IsTrue, IfErr, OnOk, OnErr};
+ghost use Rattle.std.specs.Prelude.{◌≡◌, ◌≢◌, ◌⊎◌, IsTrue, IfErr, OnOk, OnErr, Some};
 ghost use Rattle.sqlite.specs.State.{HasCleanDisk, Survives, KeepsCommit};
 ghost use Rattle.sqlite.specs.Held.{state};
 ghost use Rattle.books.specs.Layout.{no_layout};
 ghost use Rattle.books.specs.Making.{HasMade, HasBook};
+ghost use Rattle.books.specs.Limits.{NoMore};
 ghost use Rattle.books.specs.Rises.{Rises};
 ghost use Rattle.books.specs.Steps.{GoesOn};
 
@@ -14,6 +15,7 @@ use sqlite::{Alter, Transaction};
 use store::Fault;
 
 /// Makes `book`, `entry` and `outgoing`.
+#[tactic(auto, using(crate::proofs::Limited::no_more_trans, crate::proofs::Limited::no_more_same))]
 pub(crate) fn make_first<S: Alter>(
     tx: &mut Transaction<'_, S>,
     calls: &mut Calls,
@@ -26,6 +28,8 @@ pub(crate) fn make_first<S: Alter>(
     ensures survives { Survives (state S.Store tx.old.conn.now) (state S.Store tx.new.conn.now) (λ _. ⊥) }
     ensures ok { OnOk result (calls.new.refused ≡ calls.old.refused) }
     ensures counted { OnErr result (Rises calls.old.refused calls.new.refused) }
+    ensures limit { NoMore calls.old.limit calls.new.limit }
+    ensures allowed { OnOk result (calls.old.limit ≢ Some 0) }
     ensures named { IfErr result (λ f. (f ≡ Fault.OutOfMemory) ⊎ (f ≡ Fault.Store)) }
 {
     run(
@@ -49,6 +53,7 @@ pub(crate) fn make_first<S: Alter>(
 }
 
 /// Makes `stock`, `advice` and `advice_line`.
+#[tactic(auto, using(crate::proofs::Limited::no_more_trans, crate::proofs::Limited::no_more_same))]
 pub(crate) fn make_second<S: Alter>(
     tx: &mut Transaction<'_, S>,
     calls: &mut Calls,
@@ -61,6 +66,7 @@ pub(crate) fn make_second<S: Alter>(
     ensures survives { Survives (state S.Store tx.old.conn.now) (state S.Store tx.new.conn.now) (λ _. ⊥) }
     ensures ok { OnOk result (calls.new.refused ≡ calls.old.refused) }
     ensures counted { OnErr result (Rises calls.old.refused calls.new.refused) }
+    ensures limit { NoMore calls.old.limit calls.new.limit }
     ensures named { IfErr result (λ f. (f ≡ Fault.OutOfMemory) ⊎ (f ≡ Fault.Store)) }
 {
     run(
@@ -84,6 +90,7 @@ pub(crate) fn make_second<S: Alter>(
 }
 
 /// Makes `orders`, `order_line` and `reservation`.
+#[tactic(auto, using(crate::proofs::Limited::no_more_trans, crate::proofs::Limited::no_more_same))]
 pub(crate) fn make_third<S: Alter>(
     tx: &mut Transaction<'_, S>,
     calls: &mut Calls,
@@ -96,6 +103,7 @@ pub(crate) fn make_third<S: Alter>(
     ensures survives { Survives (state S.Store tx.old.conn.now) (state S.Store tx.new.conn.now) (λ _. ⊥) }
     ensures ok { OnOk result (calls.new.refused ≡ calls.old.refused) }
     ensures counted { OnErr result (Rises calls.old.refused calls.new.refused) }
+    ensures limit { NoMore calls.old.limit calls.new.limit }
     ensures named { IfErr result (λ f. (f ≡ Fault.OutOfMemory) ⊎ (f ≡ Fault.Store)) }
 {
     run(
@@ -133,6 +141,7 @@ pub(crate) fn insert_book<'a, S: Alter>(
     ensures survives { Survives (state S.Store tx.old.conn.now) (state S.Store tx.new.conn.now) (λ _. ⊥) }
     ensures ok { OnOk result (calls.new.refused ≡ calls.old.refused) }
     ensures counted { OnErr result (Rises calls.old.refused calls.new.refused) }
+    ensures limit { NoMore calls.old.limit calls.new.limit }
     ensures named { IfErr result (λ f. (f ≡ Fault.OutOfMemory) ⊎ (f ≡ Fault.Store)) }
 {
     run(
@@ -148,6 +157,7 @@ pub(crate) fn insert_book<'a, S: Alter>(
 }
 
 /// Makes the nine tables of an empty register, where there was no table.
+#[tactic(auto, using(crate::proofs::Limited::no_more_trans, crate::proofs::Limited::no_more_same))]
 pub(crate) fn make_all<S: Alter>(
     tx: &mut Transaction<'_, S>,
     calls: &mut Calls,
@@ -161,6 +171,8 @@ pub(crate) fn make_all<S: Alter>(
     ensures survives { Survives (state S.Store tx.old.conn.now) (state S.Store tx.new.conn.now) (λ _. ⊥) }
     ensures ok { OnOk result (calls.new.refused ≡ calls.old.refused) }
     ensures counted { OnErr result (Rises calls.old.refused calls.new.refused) }
+    ensures limit { NoMore calls.old.limit calls.new.limit }
+    ensures allowed { OnOk result (calls.old.limit ≢ Some 0) }
     ensures named { IfErr result (λ f. (f ≡ Fault.OutOfMemory) ⊎ (f ≡ Fault.Store)) }
 {
     make_first(tx, calls)?;

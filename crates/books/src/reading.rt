@@ -122,8 +122,8 @@ pub(crate) fn moment_of(text: &[u8]) -> Option<Moment>
     }
 }
 
-// The entry of a depositor that a row of mark, n, moment and body shows; None where it shows none.
-fn entry_in(alloc: Global, who: &Who, row: &Row) -> Result<Option<Entry>, AllocError>
+/// The entry of a depositor that a row of mark, n, moment and body shows; None where it shows none.
+pub(crate) fn entry_in(alloc: Global, who: &Who, row: &Row) -> Result<Option<Entry>, AllocError>
     ensures { (w : Written) → IsRecorded who.now w → row.now ≡ entry_shown w → IfOk result (λ entry. entry ≡ Some w) }
 {
     let Some(key) = text_at(row, 0) else {

@@ -1,7 +1,8 @@
-ghost use Rattle.std.specs.Prelude.{◌≡◌, ◌⊎◌, ℕ, IsTrue, IfErr, OnOk, OnErr, Ok};
+ghost use Rattle.std.specs.Prelude.{◌≡◌, ◌≢◌, ◌⊎◌, ℕ, IsTrue, IfErr, OnOk, OnErr, Ok, Some};
 ghost use Rattle.sqlite.specs.Values.{bound};
 ghost use Rattle.sqlite.specs.State.{HasCleanDisk, Survives, KeepsCommit, Executes};
 ghost use Rattle.sqlite.specs.Held.{state};
+ghost use Rattle.books.specs.Limits.{NoMore};
 ghost use Rattle.books.specs.Rises.{Rises};
 ghost use Rattle.books.specs.Steps.{GoesOn};
 
@@ -11,6 +12,7 @@ use sqlite::{Alter, Transaction};
 use store::Fault;
 
 /// Runs one text inside a transaction.
+#[tactic(auto, using(crate::proofs::Limited::no_more_trans, crate::proofs::Limited::no_more_same))]
 pub(crate) fn run<S: Alter>(
     tx: &mut Transaction<'_, S>,
     calls: &mut Calls,
@@ -25,6 +27,8 @@ pub(crate) fn run<S: Alter>(
     ensures survives { Survives (state S.Store tx.old.conn.now) (state S.Store tx.new.conn.now) (λ _. ⊥) }
     ensures ok { OnOk result (calls.new.refused ≡ calls.old.refused) }
     ensures counted { OnErr result (Rises calls.old.refused calls.new.refused) }
+    ensures limit { NoMore calls.old.limit calls.new.limit }
+    ensures allowed { OnOk result (calls.old.limit ≢ Some 0) }
     ensures named { IfErr result (λ f. (f ≡ Fault.OutOfMemory) ⊎ (f ≡ Fault.Store)) }
 {
     calls.allow()?;

@@ -1,4 +1,4 @@
-ghost use Rattle.std.specs.Prelude.{◌≡◌, ◌≤◌, List, IfOk, IfErr, option_map};
+ghost use Rattle.std.specs.Prelude.{◌≡◌, ◌≤◌, List, IfOk, IfErr, option_map, ◌≢◌, OnOk, Some};
 ghost use Rattle.profile.specs.Header.{Who as Partner};
 ghost use Rattle.profile.specs.Register as register;
 ghost use Rattle.profile.specs.Rows as meant;
@@ -6,6 +6,7 @@ ghost use Rattle.sqlite.specs.Held.{state};
 ghost use Rattle.sqlite.specs.State.{HasCleanDisk};
 ghost use Rattle.books.specs.Asking.{IsAsked, IsAskFault};
 ghost use Rattle.books.specs.Exits.{StandsWhileOpen};
+ghost use Rattle.books.specs.Limits.{NoMore};
 
 use crate::connected::Tables;
 use rules::Who;
@@ -15,6 +16,7 @@ use store::{Fault, OutRow, StockRow};
 
 impl<S: Alter + Drop> Tables<S> {
     /// What a depositor has, by item and lot, as its running rows say; None of a stranger.
+    #[tactic(auto, using(crate::proofs::Limited::no_more_trans, crate::proofs::Limited::no_more_same))]
     pub(crate) fn stock_of(
         &mut self,
         alloc: Global,
@@ -25,6 +27,8 @@ impl<S: Alter + Drop> Tables<S> {
         ensures asked { IsAsked (state S.Store self.old.conn) (state S.Store self.new.conn) }
         ensures fault { IfErr result (λ f. IsAskFault f (state S.Store self.old.conn) (state S.Store self.new.conn) self.old.refused self.new.refused) }
         ensures counts { self.old.refused ≤ self.new.refused }
+        ensures limit { NoMore self.old.limit self.new.limit }
+        ensures allowed { OnOk result (self.old.limit ≢ Some 0) }
     {
         if !self.is_enrolled(alloc, who)? {
             return Ok(None);
@@ -37,6 +41,7 @@ impl<S: Alter + Drop> Tables<S> {
 
     /// The texts that went out to a depositor, by number, but for the empty ones, as the rows of `outgoing` say; None of a
     /// stranger.
+    #[tactic(auto, using(crate::proofs::Limited::no_more_trans, crate::proofs::Limited::no_more_same))]
     pub(crate) fn outbox_of(
         &mut self,
         alloc: Global,
@@ -47,6 +52,8 @@ impl<S: Alter + Drop> Tables<S> {
         ensures asked { IsAsked (state S.Store self.old.conn) (state S.Store self.new.conn) }
         ensures fault { IfErr result (λ f. IsAskFault f (state S.Store self.old.conn) (state S.Store self.new.conn) self.old.refused self.new.refused) }
         ensures counts { self.old.refused ≤ self.new.refused }
+        ensures limit { NoMore self.old.limit self.new.limit }
+        ensures allowed { OnOk result (self.old.limit ≢ Some 0) }
     {
         if !self.is_enrolled(alloc, who)? {
             return Ok(None);

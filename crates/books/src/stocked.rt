@@ -1,4 +1,4 @@
-ghost use Rattle.std.specs.Prelude.{◌≡◌, ◌≤◌, List, Some, IfOk, IfErr, map, option_map};
+ghost use Rattle.std.specs.Prelude.{◌≡◌, ◌≤◌, List, Some, IfOk, IfErr, map, option_map, ◌≢◌, OnOk};
 ghost use Rattle.profile.specs.Header.{Who as Partner};
 ghost use Rattle.profile.specs.Register as register;
 ghost use Rattle.profile.specs.Rows as meant;
@@ -6,6 +6,7 @@ ghost use Rattle.sqlite.specs.Held.{state};
 ghost use Rattle.sqlite.specs.State.{HasCleanDisk};
 ghost use Rattle.books.specs.Asking.{IsAsked, IsAskFault};
 ghost use Rattle.books.specs.Exits.{StandsWhileOpen};
+ghost use Rattle.books.specs.Limits.{NoMore};
 ghost use Rattle.books.specs.Showing.{stock_shown};
 
 use crate::connected::Tables;
@@ -68,12 +69,15 @@ pub(crate) fn stock_rows_in(
 
 impl<S: Alter + Drop> Tables<S> {
     /// What a depositor has, by item and lot, as its running rows say; nothing of a stranger. 43 where a row shows no stock.
+    #[tactic(auto, using(crate::proofs::Limited::no_more_trans, crate::proofs::Limited::no_more_same))]
     pub(crate) fn stock_rows(&mut self, alloc: Global, who: Who) -> Result<Vec<StockRow>, Fault>
         ensures rows { HasCleanDisk (state S.Store self.new.conn) → (W : Partner) (L : List register.Entry) → StandsWhileOpen (state S.Store self.old.conn) W L
             → IfOk result (λ rows. rows.items ≡ meant.stock_rows (register.own L who)) }
         ensures asked { IsAsked (state S.Store self.old.conn) (state S.Store self.new.conn) }
         ensures fault { IfErr result (λ f. IsAskFault f (state S.Store self.old.conn) (state S.Store self.new.conn) self.old.refused self.new.refused) }
         ensures counts { self.old.refused ≤ self.new.refused }
+        ensures limit { NoMore self.old.limit self.new.limit }
+        ensures allowed { OnOk result (self.old.limit ≢ Some 0) }
     {
         let text = partner_text(alloc, &who)?;
         let rows = self.ask(

@@ -1,4 +1,4 @@
-ghost use Rattle.std.specs.Prelude.{◌≡◌, ◌⊎◌, ◌<◌, ◌^◌, ℕ, [], ◌∷◌, codes, if◌then◌else◌, IsTrue, IfErr, OnOk, OnErr, IfSome, Option, Some, pos};
+ghost use Rattle.std.specs.Prelude.{◌≡◌, ◌≢◌, ◌⊎◌, ◌<◌, ◌^◌, ℕ, [], ◌∷◌, codes, if◌then◌else◌, IsTrue, IfErr, OnOk, OnErr, IfSome, Option, Some, pos};
 ghost use Rattle.profile.specs.Changes.{Puts, SetsState, Frees};
 ghost use Rattle.profile.specs.Tables as cells;
 ghost use Rattle.profile.specs.Rows.{state_text};
@@ -8,6 +8,7 @@ ghost use Rattle.sqlite.specs.State.{HasCleanDisk, Survives, KeepsCommit};
 ghost use Rattle.sqlite.specs.Held.{state};
 ghost use Rattle.books.specs.Held.{values};
 ghost use Rattle.books.specs.Leading.{Leads};
+ghost use Rattle.books.specs.Limits.{NoMore};
 ghost use Rattle.books.specs.Rises.{Rises};
 ghost use Rattle.books.specs.Steps.{GoesOn};
 
@@ -86,6 +87,7 @@ fn stock_params<'a>(who: &'a [u8], row: &'a Row, amounts: Amounts) -> [ValueRef<
 }
 
 /// Puts a row of `stock`.
+#[tactic(auto, using(crate::proofs::Limited::no_more_trans, crate::proofs::Limited::no_more_same))]
 pub(crate) fn put_stock<'a, S: Alter>(
     tx: &mut Transaction<'_, S>,
     calls: &mut Calls,
@@ -100,6 +102,7 @@ pub(crate) fn put_stock<'a, S: Alter>(
     ensures survives { Survives (state S.Store tx.old.conn.now) (state S.Store tx.new.conn.now) (λ _. ⊥) }
     ensures ok { OnOk result (calls.new.refused ≡ calls.old.refused) }
     ensures counted { OnErr result (Rises calls.old.refused calls.new.refused) }
+    ensures limit { NoMore calls.old.limit calls.new.limit }
     ensures named { IfErr result (λ f. (f ≡ Fault.OutOfMemory) ⊎ (f ≡ Fault.Store)) }
 {
     let Some(amounts) = Amounts::of(row) else {
@@ -140,6 +143,7 @@ pub(crate) fn put_advice<'a, S: Alter>(
     ensures survives { Survives (state S.Store tx.old.conn.now) (state S.Store tx.new.conn.now) (λ _. ⊥) }
     ensures ok { OnOk result (calls.new.refused ≡ calls.old.refused) }
     ensures counted { OnErr result (Rises calls.old.refused calls.new.refused) }
+    ensures limit { NoMore calls.old.limit calls.new.limit }
     ensures named { IfErr result (λ f. (f ≡ Fault.OutOfMemory) ⊎ (f ≡ Fault.Store)) }
 {
     run(
@@ -186,6 +190,7 @@ pub(crate) fn put_advice_line<'a, S: Alter>(
     ensures survives { Survives (state S.Store tx.old.conn.now) (state S.Store tx.new.conn.now) (λ _. ⊥) }
     ensures ok { OnOk result (calls.new.refused ≡ calls.old.refused) }
     ensures counted { OnErr result (Rises calls.old.refused calls.new.refused) }
+    ensures limit { NoMore calls.old.limit calls.new.limit }
     ensures named { IfErr result (λ f. (f ≡ Fault.OutOfMemory) ⊎ (f ≡ Fault.Store)) }
 {
     run(
@@ -237,6 +242,7 @@ pub(crate) fn put_order<'a, S: Alter>(
     ensures survives { Survives (state S.Store tx.old.conn.now) (state S.Store tx.new.conn.now) (λ _. ⊥) }
     ensures ok { OnOk result (calls.new.refused ≡ calls.old.refused) }
     ensures counted { OnErr result (Rises calls.old.refused calls.new.refused) }
+    ensures limit { NoMore calls.old.limit calls.new.limit }
     ensures named { IfErr result (λ f. (f ≡ Fault.OutOfMemory) ⊎ (f ≡ Fault.Store)) }
 {
     run(
@@ -287,6 +293,7 @@ pub(crate) fn put_order_line<'a, S: Alter>(
     ensures survives { Survives (state S.Store tx.old.conn.now) (state S.Store tx.new.conn.now) (λ _. ⊥) }
     ensures ok { OnOk result (calls.new.refused ≡ calls.old.refused) }
     ensures counted { OnErr result (Rises calls.old.refused calls.new.refused) }
+    ensures limit { NoMore calls.old.limit calls.new.limit }
     ensures named { IfErr result (λ f. (f ≡ Fault.OutOfMemory) ⊎ (f ≡ Fault.Store)) }
 {
     run(
@@ -326,6 +333,7 @@ pub(crate) fn put_reservation<'a, S: Alter>(
     ensures survives { Survives (state S.Store tx.old.conn.now) (state S.Store tx.new.conn.now) (λ _. ⊥) }
     ensures ok { OnOk result (calls.new.refused ≡ calls.old.refused) }
     ensures counted { OnErr result (Rises calls.old.refused calls.new.refused) }
+    ensures limit { NoMore calls.old.limit calls.new.limit }
     ensures named { IfErr result (λ f. (f ≡ Fault.OutOfMemory) ⊎ (f ≡ Fault.Store)) }
 {
     run(
@@ -374,6 +382,8 @@ pub(crate) fn insert_entry<'a, S: Alter>(
     ensures survives { Survives (state S.Store tx.old.conn.now) (state S.Store tx.new.conn.now) (λ _. ⊥) }
     ensures ok { OnOk result (calls.new.refused ≡ calls.old.refused) }
     ensures counted { OnErr result (Rises calls.old.refused calls.new.refused) }
+    ensures limit { NoMore calls.old.limit calls.new.limit }
+    ensures allowed { OnOk result (calls.old.limit ≢ Some 0) }
     ensures named { IfErr result (λ f. (f ≡ Fault.OutOfMemory) ⊎ (f ≡ Fault.Store)) }
 {
     run(
@@ -421,6 +431,7 @@ pub(crate) fn insert_outgoing<'a, S: Alter>(
     ensures survives { Survives (state S.Store tx.old.conn.now) (state S.Store tx.new.conn.now) (λ _. ⊥) }
     ensures ok { OnOk result (calls.new.refused ≡ calls.old.refused) }
     ensures counted { OnErr result (Rises calls.old.refused calls.new.refused) }
+    ensures limit { NoMore calls.old.limit calls.new.limit }
     ensures named { IfErr result (λ f. (f ≡ Fault.OutOfMemory) ⊎ (f ≡ Fault.Store)) }
 {
     run(
@@ -458,6 +469,7 @@ pub(crate) fn set_state<'a, S: Alter>(
     ensures survives { Survives (state S.Store tx.old.conn.now) (state S.Store tx.new.conn.now) (λ _. ⊥) }
     ensures ok { OnOk result (calls.new.refused ≡ calls.old.refused) }
     ensures counted { OnErr result (Rises calls.old.refused calls.new.refused) }
+    ensures limit { NoMore calls.old.limit calls.new.limit }
     ensures named { IfErr result (λ f. (f ≡ Fault.OutOfMemory) ⊎ (f ≡ Fault.Store)) }
 {
     run(
@@ -490,6 +502,7 @@ pub(crate) fn free_reservations<'a, S: Alter>(
     ensures survives { Survives (state S.Store tx.old.conn.now) (state S.Store tx.new.conn.now) (λ _. ⊥) }
     ensures ok { OnOk result (calls.new.refused ≡ calls.old.refused) }
     ensures counted { OnErr result (Rises calls.old.refused calls.new.refused) }
+    ensures limit { NoMore calls.old.limit calls.new.limit }
     ensures named { IfErr result (λ f. (f ≡ Fault.OutOfMemory) ⊎ (f ≡ Fault.Store)) }
 {
     run(

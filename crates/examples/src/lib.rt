@@ -1,5 +1,6 @@
-//! Worked examples: what the rules make of whole texts, byte by byte. There is nothing here but tests; they are no part of the
-//! rules' own crate, which would be proved twice for them.
+//! Worked examples: days of a warehouse, command by command, with each answer byte for byte and what is left behind it, over a
+//! book in memory and over a book in SQLite tables. There is nothing here but tests; they are no part of the crates that they
+//! try, which would be proved twice for them.
 #![tactic(auto)]
 
 #[cfg(test)]

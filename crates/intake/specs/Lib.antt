@@ -6,3 +6,4 @@ pub mod Fields
 pub mod Told
 pub mod Serving
 pub mod Folders
+pub mod Connections

@@ -34,7 +34,8 @@ impl<T> Gauge<T> {
     pub fn errors(&self) -> u64
         ensures { result ≡ self.now.errors }
     {
-        self.errors
+        let Gauge { errors, .. } = self;
+        *errors
     }
 }
 

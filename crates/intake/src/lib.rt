@@ -22,6 +22,3 @@ pub use listening::serve_count;
 pub use responding::respond;
 pub use response::{Allow, Body, MediaType, Response, Status};
 pub use serving::serve_one;
-
-#[cfg(test)]
-mod tests;

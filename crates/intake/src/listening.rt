@@ -1,5 +1,6 @@
-ghost use Rattle.std.specs.Prelude.{◌≡◌, true, false, OnOk, OnErr, IfErr};
+ghost use Rattle.std.specs.Prelude.{◌≡◌, ◌≤◌, ℕ, true, false, OnOk, OnErr, IfErr};
 ghost use Rattle.store.specs.Standing.{GoesOn};
+ghost use Rattle.intake.specs.Connections.{HasTold};
 
 use crate::gauge::Gauge;
 use crate::serving::serve_one;
@@ -26,7 +27,7 @@ fn serve_on<K: Keeper>(
 /// Serves that many connections, one after the other, each at the moment that `clock` gives once it is accepted, and hands each
 /// outcome to `told`: the status that was answered, or Device (44). An accept that fails is such an outcome, and counts as a
 /// connection. The one fault is Reopen (42), and comes where the book has to be opened again; no more connections are served
-/// then.
+/// then. Else `told` is handed exactly that many outcomes.
 pub fn serve_count<K: Keeper, C: FnMut() -> Moment, T: FnMut(Result<StatusCode, Fault>)>(
     alloc: Global,
     listener: &TcpListener,
@@ -41,6 +42,8 @@ pub fn serve_count<K: Keeper, C: FnMut() -> Moment, T: FnMut(Result<StatusCode, 
     ensures fault { IfErr result (λ fault. fault ≡ Fault.Reopen) }
     ensures opened { OnOk result ((K.standing keeper.new).shut ≡ false) }
     ensures shut { OnErr result ((K.standing keeper.new).shut ≡ true) }
+    ensures served { OnOk result ((last : T) × HasTold (λ p x q. T.step p x tt q) told last count) }
+    ensures ended { OnErr result ((n : ℕ) × (n ≤ count) × ((last : T) × HasTold (λ p x q. T.step p x tt q) told last n)) }
 {
     for _ in 0..count {
         let outcome = match listener.accept() {

@@ -37,6 +37,3 @@ pub use reservations::reserve;
 pub use rows::Row;
 pub use sheets::{Line, Sheet, SheetKind};
 pub use steps::{Change, Step, Stop};
-
-#[cfg(test)]
-mod tests;

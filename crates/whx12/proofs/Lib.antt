@@ -1,3 +1,4 @@
 pub mod Parsing
 pub mod RosterLaws
 pub mod LineLaws
+pub mod TellingLaws

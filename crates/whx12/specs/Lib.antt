@@ -3,3 +3,4 @@ pub mod Statuses
 pub mod Lines
 pub mod Parsers
 pub mod Rosters
+pub mod Telling

@@ -2,6 +2,8 @@
 use Rattle.std.specs.Prelude.{ℕ}
 use Rattle.whx12.specs.declared.told.Status.{Status}
 use Rattle.whx12.specs.declared.told.Status.TheVariants.{Done, Refused, Usage, Fault}
+use Rattle.whx12.specs.declared.told.Stop.{Stop}
+use Rattle.whx12.specs.declared.told.Stop.TheVariants as stops
 
 abbrev pub code_of : Status → ℕ
 code_of Done = 0
@@ -13,3 +15,8 @@ code_of Fault = 3
 abbrev pub and_then : Status → Status → Status
 and_then first Done = first
 and_then first next = next
+
+-- the status of what stopped a command
+abbrev pub status_of : Stop → Status
+status_of (stops.Usage text) = Usage
+status_of (stops.Fault fault) = Fault

@@ -1,3 +1,11 @@
+ghost use Rattle.std.specs.Prelude.{◌≡◌, List, true, IfOk, OnOk};
+ghost use Rattle.profile.specs.Accepted.{IsLegal, is_command, reply_to, after};
+ghost use Rattle.profile.specs.Register.{Entry};
+ghost use Rattle.rules.specs.Asked.{asked};
+ghost use Rattle.store.specs.Runs.{told};
+ghost use Rattle.store.specs.Standing.{IsUsable, GoesOn};
+ghost use Rattle.whx12.specs.Telling.{IsPrinted};
+
 use crate::rosters::{enrol_all, read_roster};
 use crate::sheet_files::sheet;
 use crate::takes::take;
@@ -95,39 +103,43 @@ pub fn make_ready<'a, R: Files + AllocGlobal>(
     }
 }
 
-// Enrols a depositor.
-fn enrol<K: Keeper, E: io::Write>(
+// Prints the text of a reply, and tells a refusal.
+fn tell_reply<W: io::Write, E: io::Write>(
     alloc: Global,
-    book: &mut K,
-    who: Who,
-    moment: Moment,
+    reply: &Reply,
+    out: &mut W,
     err: &mut E,
-) -> Result<Status, Stop> {
-    match submit(alloc, book, &Command::Enrol(who), moment)? {
-        Reply::Refused { refusal, .. } => tell_refusal(alloc, err, refusal),
-        _ => Ok(Status::Done),
+) -> Result<Status, Stop>
+    ensures { IfOk result (λ status. IsPrinted (told reply.now) (W.contents out.old) (W.contents out.new) status) }
+{
+    match reply {
+        Reply::Accepted(text) => tell_text(out, text)?,
+        Reply::Stored(text) => tell_text(out, text)?,
+        Reply::Refused { refusal, answer } => {
+            tell_text(out, answer)?;
+            return tell_refusal(alloc, err, *refusal);
+        }
     }
+    Ok(Status::Done)
 }
 
-// Submits an interchange and prints its answer, a refused one's too.
-fn send<K: Keeper, W: io::Write, E: io::Write>(
+// Submits a command, prints the text of its reply, a refused one's too, and tells a refusal.
+fn hand_in<K: Keeper, W: io::Write, E: io::Write>(
     alloc: Global,
     book: &mut K,
-    bytes: &[u8],
+    command: &Command<'_>,
     moment: Moment,
     out: &mut W,
     err: &mut E,
-) -> Result<Status, Stop> {
-    match submit(alloc, book, &Command::Interchange(bytes), moment)? {
-        Reply::Accepted(text) | Reply::Stored(text) => {
-            tell_text(out, &text)?;
-            Ok(Status::Done)
-        }
-        Reply::Refused { refusal, answer } => {
-            tell_text(out, &answer)?;
-            tell_refusal(alloc, err, refusal)
-        }
-    }
+) -> Result<Status, Stop>
+    ensures printed { (K.standing book.new).doubt ≡ 0 → (L : List Entry) → (K.standing book.old).keeps L → IsLegal (K.standing book.old).warehouse L
+        → IfOk result (λ status. IsPrinted (reply_to (K.standing book.old).warehouse L (asked command.now) moment) (W.contents out.old) (W.contents out.new) status) }
+    ensures done { (K.standing book.new).doubt ≡ 0 → (L : List Entry) → IsUsable (K.standing book.old) L → is_command (asked command.now) ≡ true
+        → OnOk result (IsUsable (K.standing book.new) (after (K.standing book.old).warehouse L (asked command.now, moment))) }
+    ensures goes { GoesOn (K.standing book.old) (K.standing book.new) }
+{
+    let reply = submit(alloc, book, command, moment)?;
+    tell_reply(alloc, &reply, out, err)
 }
 
 // The act, with its sheet.
@@ -145,27 +157,13 @@ fn act<'a>(deed: Deed, number: &'a [u8], sheet: &'a Sheet) -> ClerkAct<'a> {
     }
 }
 
-// Submits what a clerk did and prints the document.
-fn clerk<K: Keeper, W: io::Write, E: io::Write>(
-    alloc: Global,
-    book: &mut K,
-    slip: &Slip<'_>,
-    moment: Moment,
-    out: &mut W,
-    err: &mut E,
-) -> Result<Status, Stop> {
+// What a clerk did, as a command.
+fn clerk<'a>(slip: &'a Slip<'_>) -> Command<'a> {
     let told = &slip.told;
-    let command = Command::Clerk {
+    Command::Clerk {
         who: slip.who,
         ticket: told.ticket.as_bytes(),
         act: act(told.deed, told.number.as_bytes(), &slip.sheet),
-    };
-    match submit(alloc, book, &command, moment)? {
-        Reply::Accepted(text) | Reply::Stored(text) => {
-            tell_text(out, &text)?;
-            Ok(Status::Done)
-        }
-        Reply::Refused { refusal, .. } => tell_refusal(alloc, err, refusal),
     }
 }
 
@@ -180,10 +178,13 @@ pub fn perform<R: Files + AllocGlobal + Clone + Drop, K: Keeper, W: io::Write, E
 ) -> Result<Status, Stop> {
     let alloc = rt.alloc();
     match ready {
-        Ready::Enrol(who) => enrol(alloc, book, *who, moment, err),
+        Ready::Enrol(who) => hand_in(alloc, book, &Command::Enrol(*who), moment, out, err),
         Ready::Roster(partners) => enrol_all(alloc, book, partners, moment, out),
-        Ready::Send(bytes) => send(alloc, book, bytes, moment, out, err),
+        Ready::Send(bytes) => {
+            let command = Command::Interchange(bytes);
+            hand_in(alloc, book, &command, moment, out, err)
+        }
         Ready::Take(dir) => take(rt, book, *dir, moment, out),
-        Ready::Clerk(slip) => clerk(alloc, book, slip, moment, out, err),
+        Ready::Clerk(slip) => hand_in(alloc, book, &clerk(slip), moment, out, err),
     }
 }

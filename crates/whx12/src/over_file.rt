@@ -1,21 +1,74 @@
 //! What a line says, done over the book in a file: words are tested and files read before the book is opened, and it is closed
 //! before the line is done.
+ghost use Rattle.std.specs.Prelude.{◌≡◌, false};
 
-use crate::acts::{make_ready, perform};
-use crate::book_files::{FileBook, close, make, open};
+use crate::acts::{Ready, make_ready, perform};
+use crate::book_files::{close, connect, disconnect, make, open};
 use crate::clock::moment_for;
 use crate::serving::serve;
-use crate::shows::{ask, show};
+use crate::shows::{Asked, ask, show};
 use crate::told::{Status, Stop, tell_refusal};
 use crate::words::{Act, Service, Show, Task};
-use std::io;
-use store::{Moment, Refusal, Warehouse, Who};
+use sqlite::{Alter, Connection};
+use std::{fs, io};
+use store::{Keeper, Moment, Refusal, Warehouse, Who};
 
-// Closes a book over which all was done. At a fault it is let go as it is: its log has all that was answered, and nothing more
-// is written to a store that has just failed.
-fn closed(book: FileBook, outcome: Result<Status, Stop>) -> Result<Status, Stop> {
-    let status = outcome?;
-    close(book)?;
+// What is to be done over a book, its words tested and its files read.
+#[derive(Drop)]
+enum Job<'a> {
+    // change the book
+    Change(Ready<'a>, Moment),
+    // show something of it
+    Look(Asked<'a>),
+    // serve it over HTTP, from a first moment on, and by the clock or not
+    Listen(Service, Moment, bool),
+}
+
+// Does a job over a book.
+fn work<K: Keeper, W: io::Write, E: io::Write>(
+    rt: &HostRuntime,
+    book: &mut K,
+    job: &Job<'_>,
+    out: &mut W,
+    err: &mut E,
+) -> Result<Status, Stop> {
+    match job {
+        Job::Change(ready, moment) => perform(rt, book, ready, *moment, out, err),
+        Job::Look(asked) => show(rt.alloc(), book, asked, out, err),
+        Job::Listen(service, first, has_clock) => serve(rt, book, service, *first, *has_clock, out),
+    }
+}
+
+// Opens the book in a database, does a job over it, and closes it. At a fault the database is let go as it is: its log has all
+// that was answered, and nothing more is written to a store that has just failed.
+fn work_over<S: Alter + Drop, W: io::Write, E: io::Write>(
+    rt: &HostRuntime,
+    database: Connection<S>,
+    job: &Job<'_>,
+    out: &mut W,
+    err: &mut E,
+) -> Result<(Status, Connection<S>), Stop>
+    requires { database.in_transaction ≡ false }
+{
+    let mut book = open(rt.alloc(), database)?;
+    match work(rt, &mut book, job, out, err) {
+        Ok(status) => Ok((status, close(book))),
+        Err(stop) => Err(stop),
+    }
+}
+
+// Does a job over the book in a file. Device (44) where the file is missing, which it stays.
+fn over<W: io::Write, E: io::Write>(
+    rt: &HostRuntime,
+    file: &str,
+    job: &Job<'_>,
+    out: &mut W,
+    err: &mut E,
+) -> Result<Status, Stop> {
+    // A database that is opened is made where its file is missing.
+    fs::metadata(rt, file)?;
+    let (status, database) = work_over(rt, connect(rt, file)?, job, out, err)?;
+    disconnect(database)?;
     Ok(status)
 }
 
@@ -26,10 +79,11 @@ fn init<E: io::Write>(
     who: &str,
     err: &mut E,
 ) -> Result<Status, Stop> {
-    match Who::new(who.as_bytes()) {
-        Some(who) => closed(make(rt, file, Warehouse::new(who))?, Ok(Status::Done)),
-        None => tell_refusal(rt.alloc(), err, Refusal::BadText),
-    }
+    let Some(who) = Who::new(who.as_bytes()) else {
+        return tell_refusal(rt.alloc(), err, Refusal::BadText);
+    };
+    disconnect(make(rt.alloc(), connect(rt, file)?, Warehouse::new(who))?)?;
+    Ok(Status::Done)
 }
 
 // Changes the book.
@@ -43,11 +97,7 @@ fn change<W: io::Write, E: io::Write>(
 ) -> Result<Status, Stop> {
     let moment = moment_for(rt, at)?;
     match make_ready(rt, act)? {
-        Ok(ready) => {
-            let mut book = open(rt, file)?;
-            let outcome = perform(rt, &mut book, &ready, moment, out, err);
-            closed(book, outcome)
-        }
+        Ok(ready) => over(rt, file, &Job::Change(ready, moment), out, err),
         Err(refusal) => tell_refusal(rt.alloc(), err, refusal),
     }
 }
@@ -61,30 +111,12 @@ fn look<W: io::Write, E: io::Write>(
     err: &mut E,
 ) -> Result<Status, Stop> {
     match ask(what) {
-        Ok(asked) => {
-            let mut book = open(rt, file)?;
-            let outcome = show(rt.alloc(), &mut book, &asked, out, err);
-            closed(book, outcome)
-        }
+        Ok(asked) => over(rt, file, &Job::Look(asked), out, err),
         Err(refusal) => tell_refusal(rt.alloc(), err, refusal),
     }
 }
 
-// Serves the book over HTTP. A clock that can't be used is told before the book is opened.
-fn listen<W: io::Write>(
-    rt: &HostRuntime,
-    file: &str,
-    service: &Service,
-    at: Option<Moment>,
-    out: &mut W,
-) -> Result<Status, Stop> {
-    let first = moment_for(rt, at)?;
-    let mut book = open(rt, file)?;
-    let outcome = serve(rt, &mut book, service, first, at.is_none(), out);
-    closed(book, outcome)
-}
-
-/// Does over the book in a file what a line says.
+/// Does over the book in a file what a line says. A clock that can't be used is told before the book is opened.
 pub fn run_over_file<W: io::Write, E: io::Write>(
     rt: &HostRuntime,
     file: &str,
@@ -95,7 +127,16 @@ pub fn run_over_file<W: io::Write, E: io::Write>(
     match task {
         Task::Init { who } => init(rt, file, who, err),
         Task::Act { act, at } => change(rt, file, act, *at, out, err),
-        Task::Show(show) => look(rt, file, show, out, err),
-        Task::Serve { service, at } => listen(rt, file, service, *at, out),
+        Task::Show(what) => look(rt, file, what, out, err),
+        Task::Serve { service, at } => {
+            let first = moment_for(rt, *at)?;
+            over(
+                rt,
+                file,
+                &Job::Listen(*service, first, at.is_none()),
+                out,
+                err,
+            )
+        }
     }
 }

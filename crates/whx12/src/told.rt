@@ -1,5 +1,7 @@
-ghost use Rattle.std.specs.Prelude.{◌≡◌};
+ghost use Rattle.std.specs.Prelude.{◌≡◌, IfOk, OnOk};
+ghost use Rattle.std.specs.Io.KnownBytes.{Appends};
 ghost use Rattle.whx12.specs.Statuses as meant;
+ghost use Rattle.whx12.specs.Telling.{line_of};
 
 use crate::words::LineFault;
 use std::alloc::{AllocError, Global};
@@ -92,7 +94,9 @@ pub fn usage(alloc: Global, text: &str) -> Stop {
 }
 
 /// Writes a text that goes out and LF, where there is one.
-pub fn tell_text<W: io::Write>(out: &mut W, text: &[u8]) -> Result<(), Stop> {
+pub fn tell_text<W: io::Write>(out: &mut W, text: &[u8]) -> Result<(), Stop>
+    ensures { OnOk result (Appends (W.contents out.old) (W.contents out.new) (line_of text.now)) }
+{
     if !text.is_empty() {
         out.write_all(text)?;
         out.write_all(b"\n")?;
@@ -105,7 +109,9 @@ pub fn tell_refusal<E: io::Write>(
     alloc: Global,
     err: &mut E,
     refusal: Refusal,
-) -> Result<Status, Stop> {
+) -> Result<Status, Stop>
+    ensures { IfOk result (λ status. status ≡ Status.Refused) }
+{
     let number = refusal.number();
     let name = refusal.name(alloc)?;
     write!(err, "refused {number} ")?;
@@ -130,7 +136,9 @@ fn told<E: io::Write>(err: &mut E, stop: &Stop) -> io::Result<()> {
 
 /// Tells what stopped a command on standard error: a fault as `fault 44 Device`. Where standard error fails too, the status
 /// alone tells it.
-pub fn tell_stop<E: io::Write>(err: &mut E, stop: &Stop) -> Status {
+pub fn tell_stop<E: io::Write>(err: &mut E, stop: &Stop) -> Status
+    ensures { result ≡ meant.status_of stop.now }
+{
     let status = match stop {
         Stop::Usage(_) => Status::Usage,
         Stop::Fault(_) => Status::Fault,

@@ -23,29 +23,20 @@ fn each_connection_is_told(rt: HostRuntime) -> Result<(), Fail> {
     Ok(())
 }
 
+const IN_USE: Wanted<'static> = Wanted {
+    printed: "",
+    told: "fault 44 Device\n",
+    status: 3,
+};
+
 // Nobody can listen where somebody listens.
 #[test]
 fn an_address_in_use(rt: HostRuntime) -> Result<(), Fail> {
     let listener = TcpListener::bind(&rt, "127.0.0.1:0")?;
     let at = listener.local_addr()?;
-    let address = format!(in rt.alloc(); "{at}")?;
-    if fs::exists(&rt, "served.book")? {
-        fs::remove_file(&rt, "served.book")?;
-    }
-    run(&rt, &["init", "ZZ-WHSE1", "--book", "served.book"])?;
-    let ran = run(
-        &rt,
-        &[
-            "serve",
-            "--book",
-            "served.book",
-            "--listen",
-            address.as_str(),
-            "--count",
-            "1",
-        ],
-    )?;
-    assert_eq!(rt; ran.err.as_str(), "fault 44 Device\n");
-    assert_eq!(rt; ran.status, 3);
+    let line = format!(in rt.alloc(); "serve --listen {at} --count 1")?;
+    remove_book(&rt, "served.book", "served.book-wal")?;
+    run_lines(&rt, "served.book", "init ZZ-WHSE1")?;
+    run_lines(&rt, "served.book", &line)?.compare("in use", &IN_USE)?;
     Ok(())
 }

@@ -1,203 +1,221 @@
-//! Reports, the texts that went out, picking sheets and lists of depositors.
+//! Reports, texts that went out, and picking sheets.
 use super::*;
 
-#[test]
-fn stock_is_shown(rt: HostRuntime) -> Result<(), Fail> {
-    write_files(&rt, &[("shown.x12", ADVICE), ("shown.csv", "BOLT,L1,90\n")])?;
-    let ran = run_text(
-        &rt,
-        "shown",
-        "init ZZ-WHSE1\nenrol ZZ-ACME --at 2025-03-04T09:15\nsend shown.x12 --at 2025-03-04T09:15\ncount ZZ-ACME C-1 SHP1 shown.csv --at 2025-03-04T09:15\nstock ZZ-ACME\nstock ZZ-ACME --csv\nstock --csv ZZ-ACME --at 2025-03-04T09:15\nstock ZZ-NONE\nstock ACME\n",
-    )?;
-    assert!(rt;
-        ran.out.ends_with(
-            "\nitem                 lot                 expected         on hand        reserved         shipped\nBOLT                 L1                         0              90               0               0\nitem,lot,expected,on_hand,reserved,shipped\nBOLT,L1,0,90,0,0\nitem,lot,expected,on_hand,reserved,shipped\nBOLT,L1,0,90,0,0\n"
-        )
-    );
-    assert_eq!(rt;
-        ran.err.as_str(),
-        "refused 20 UnknownDepositor\nrefused 32 BadText\n"
-    );
-    assert_eq!(rt; ran.status, 1);
-    Ok(())
-}
+const CASES: [Case; 7] = [
+    Case {
+        name: "stock, as a report and as CSV",
+        files: &[("goods.x12", ADVICE), ("count.csv", "BOLT,L1,90\n")],
+        script: "\
+init ZZ-WHSE1
+enrol ZZ-ACME --at 2025-03-04T09:15
+send goods.x12 --at 2025-03-04T09:15
+count ZZ-ACME C-1 SHP1 count.csv --at 2025-03-04T09:15
+stock ZZ-ACME
+stock ZZ-ACME --csv
+stock --csv ZZ-ACME --at 2025-03-04T09:15
+stock ZZ-NONE
+stock ACME
+",
+        printed: "\
+ISA*00*          *00*          *ZZ*WHSE1          *ZZ*ACME           *250304*0915*U*00401*000000001*0*P*>~TA1*000000001*250304*0915*A*000~GS*FA*WHSE1*ACME*20250304*0915*1*X*004010~ST*997*0001~AK1*AR*1~AK2*943*0001~AK5*A~AK9*A*1*1*1~SE*6*0001~GE*1*1~IEA*1*000000001~
+ISA*00*          *00*          *ZZ*WHSE1          *ZZ*ACME           *250304*0915*U*00401*000000002*0*P*>~GS*RE*WHSE1*ACME*20250304*0915*2*X*004010~ST*944*0001~W17*F*20250304*2*PO77*SHP1~W07*90*EA**SK*BOLT~N9*LT*L1~W14*90*100~SE*6*0001~GE*1*2~IEA*1*000000002~
+item                 lot                 expected         on hand        reserved         shipped
+BOLT                 L1                         0              90               0               0
+item,lot,expected,on_hand,reserved,shipped
+BOLT,L1,0,90,0,0
+item,lot,expected,on_hand,reserved,shipped
+BOLT,L1,0,90,0,0
+",
+        told: "\
+refused 20 UnknownDepositor
+refused 32 BadText
+",
+        status: 1,
+    },
+    Case {
+        name: "texts that went out, and an empty one, which isn't listed",
+        files: &[
+            ("goods.x12", ADVICE),
+            (
+                "silent.x12",
+                "\
+ISA*00*          *00*          *ZZ*ACME           *ZZ*WHSE1          *250304*0915*U*00401*000000009*0*P*>~
+IEA*0*000000009~
+",
+            ),
+        ],
+        script: "\
+init ZZ-WHSE1
+enrol ZZ-ACME --at 2025-03-04T09:15
+outbox ZZ-ACME --at 2025-03-04T09:15
+send goods.x12 --at 2025-03-04T09:15
+send silent.x12 --at 2025-03-04T09:15
+outbox ZZ-ACME --at 2025-03-04T09:15
+outbox ZZ-ACME --number 1 --at 2025-03-04T09:15
+outbox --number 01 ZZ-ACME --at 2025-03-04T09:15
+",
+        printed: "\
+ISA*00*          *00*          *ZZ*WHSE1          *ZZ*ACME           *250304*0915*U*00401*000000001*0*P*>~TA1*000000001*250304*0915*A*000~GS*FA*WHSE1*ACME*20250304*0915*1*X*004010~ST*997*0001~AK1*AR*1~AK2*943*0001~AK5*A~AK9*A*1*1*1~SE*6*0001~GE*1*1~IEA*1*000000001~
+     1 ANS -
+ISA*00*          *00*          *ZZ*WHSE1          *ZZ*ACME           *250304*0915*U*00401*000000001*0*P*>~TA1*000000001*250304*0915*A*000~GS*FA*WHSE1*ACME*20250304*0915*1*X*004010~ST*997*0001~AK1*AR*1~AK2*943*0001~AK5*A~AK9*A*1*1*1~SE*6*0001~GE*1*1~IEA*1*000000001~
+ISA*00*          *00*          *ZZ*WHSE1          *ZZ*ACME           *250304*0915*U*00401*000000001*0*P*>~TA1*000000001*250304*0915*A*000~GS*FA*WHSE1*ACME*20250304*0915*1*X*004010~ST*997*0001~AK1*AR*1~AK2*943*0001~AK5*A~AK9*A*1*1*1~SE*6*0001~GE*1*1~IEA*1*000000001~
+",
+        told: "",
+        status: 0,
+    },
+    Case {
+        name: "an empty text is told by the status alone",
+        files: &[
+            ("goods.x12", ADVICE),
+            (
+                "silent.x12",
+                "\
+ISA*00*          *00*          *ZZ*ACME           *ZZ*WHSE1          *250304*0915*U*00401*000000009*0*P*>~
+IEA*0*000000009~
+",
+            ),
+        ],
+        script: "\
+init ZZ-WHSE1
+enrol ZZ-ACME --at 2025-03-04T09:15
+send goods.x12 --at 2025-03-04T09:15
+send silent.x12 --at 2025-03-04T09:15
+outbox ZZ-ACME --number 2 --at 2025-03-04T09:15
+",
+        printed: ANSWER,
+        told: "",
+        status: 1,
+    },
+    Case {
+        name: "a number without a text is told by the status alone",
+        files: &[
+            ("goods.x12", ADVICE),
+            (
+                "silent.x12",
+                "\
+ISA*00*          *00*          *ZZ*ACME           *ZZ*WHSE1          *250304*0915*U*00401*000000009*0*P*>~
+IEA*0*000000009~
+",
+            ),
+        ],
+        script: "\
+init ZZ-WHSE1
+enrol ZZ-ACME --at 2025-03-04T09:15
+send goods.x12 --at 2025-03-04T09:15
+send silent.x12 --at 2025-03-04T09:15
+outbox ZZ-ACME --number 3 --at 2025-03-04T09:15
+",
+        printed: ANSWER,
+        told: "",
+        status: 1,
+    },
+    Case {
+        name: "what went out to a stranger",
+        files: &[],
+        script: "\
+init ZZ-WHSE1
+enrol ZZ-ACME --at 2025-03-04T09:15
+outbox ZZ-NONE --at 2025-03-04T09:15
+outbox ZZ-NONE --number 1 --at 2025-03-04T09:15
+outbox zz --at 2025-03-04T09:15
+",
+        printed: "",
+        told: "\
+refused 20 UnknownDepositor
+refused 20 UnknownDepositor
+refused 32 BadText
+",
+        status: 1,
+    },
+    Case {
+        name: "the picking sheet of an order with an address",
+        files: &[
+            (
+                "lots.x12",
+                "ISA*00*          *00*          *ZZ*ACME           *ZZ*WHSE1          *250304*0915*U*00401*000000001*1*P*>~GS*AR*ACME*WHSE1*20250304*0915*1*X*004010~ST*943*0001~W06*F*PO77*20250303*SHP1~W04*5*EA**SK*BOLT~N9*LT*L1~W04*7*EA**SK*BOLT~N9*LT*L2~W03*12~SE*8*0001~GE*1*1~IEA*1*000000001~",
+            ),
+            (
+                "lots.csv",
+                "\
+BOLT,L1,5
+BOLT,L2,7
+",
+            ),
+            (
+                "ship-to.x12",
+                "ISA*00*          *00*          *ZZ*ACME           *ZZ*WHSE1          *250304*0915*U*00401*000000002*0*P*>~GS*OW*ACME*WHSE1*20250304*0915*2*X*004010~ST*940*0001~W05*N*ORD1~N1*ST*Jo Shop~N3*5 Quay Road~N4*Ulm**89073~LX*1~W01*6*EA**SK*BOLT~W76*6~SE*9*0001~GE*1*2~IEA*1*000000002~",
+            ),
+        ],
+        script: "\
+init ZZ-WHSE1
+enrol ZZ-ACME --at 2025-03-04T09:15
+send lots.x12 --at 2025-03-04T09:15
+count ZZ-ACME C-1 SHP1 lots.csv --at 2025-03-04T09:15
+send ship-to.x12 --at 2025-03-04T09:15
+orders ZZ-ACME ORD1 --at 2025-03-04T09:15
+orders ZZ-ACME ORD2 --at 2025-03-04T09:15
+orders ZZ-NONE ORD1 --at 2025-03-04T09:15
+orders ZZ-NONE ORD# --at 2025-03-04T09:15
+",
+        printed: "\
+ISA*00*          *00*          *ZZ*WHSE1          *ZZ*ACME           *250304*0915*U*00401*000000001*0*P*>~TA1*000000001*250304*0915*A*000~GS*FA*WHSE1*ACME*20250304*0915*1*X*004010~ST*997*0001~AK1*AR*1~AK2*943*0001~AK5*A~AK9*A*1*1*1~SE*6*0001~GE*1*1~IEA*1*000000001~
+ISA*00*          *00*          *ZZ*WHSE1          *ZZ*ACME           *250304*0915*U*00401*000000002*0*P*>~GS*RE*WHSE1*ACME*20250304*0915*2*X*004010~ST*944*0001~W17*F*20250304*2*PO77*SHP1~W07*5*EA**SK*BOLT~N9*LT*L1~W07*7*EA**SK*BOLT~N9*LT*L2~W14*12*12~SE*8*0001~GE*1*2~IEA*1*000000002~
+ISA*00*          *00*          *ZZ*WHSE1          *ZZ*ACME           *250304*0915*U*00401*000000003*0*P*>~GS*FA*WHSE1*ACME*20250304*0915*3*X*004010~ST*997*0001~AK1*OW*2~AK2*940*0001~AK5*A~AK9*A*1*1*1~SE*6*0001~GE*1*3~IEA*1*000000003~
+ORDER ORD1
+TO Jo Shop
+   5 Quay Road
+   Ulm 89073
+BOLT                 L1                5
+BOLT                 L2                1
+",
+        told: "\
+refused 24 UnknownOrder
+refused 20 UnknownDepositor
+refused 32 BadText
+",
+        status: 1,
+    },
+    Case {
+        name: "an order that was picked has no picking sheet",
+        files: &[
+            (
+                "lots.x12",
+                "ISA*00*          *00*          *ZZ*ACME           *ZZ*WHSE1          *250304*0915*U*00401*000000001*1*P*>~GS*AR*ACME*WHSE1*20250304*0915*1*X*004010~ST*943*0001~W06*F*PO77*20250303*SHP1~W04*5*EA**SK*BOLT~N9*LT*L1~W04*7*EA**SK*BOLT~N9*LT*L2~W03*12~SE*8*0001~GE*1*1~IEA*1*000000001~",
+            ),
+            (
+                "lots.csv",
+                "\
+BOLT,L1,5
+BOLT,L2,7
+",
+            ),
+            (
+                "ship-to.x12",
+                "ISA*00*          *00*          *ZZ*ACME           *ZZ*WHSE1          *250304*0915*U*00401*000000002*0*P*>~GS*OW*ACME*WHSE1*20250304*0915*2*X*004010~ST*940*0001~W05*N*ORD1~N1*ST*Jo Shop~N3*5 Quay Road~N4*Ulm**89073~LX*1~W01*6*EA**SK*BOLT~W76*6~SE*9*0001~GE*1*2~IEA*1*000000002~",
+            ),
+            ("none.csv", ""),
+        ],
+        script: "\
+init ZZ-WHSE1
+enrol ZZ-ACME --at 2025-03-04T09:15
+send lots.x12 --at 2025-03-04T09:15
+count ZZ-ACME C-1 SHP1 lots.csv --at 2025-03-04T09:15
+send ship-to.x12 --at 2025-03-04T09:15
+pick ZZ-ACME P-1 ORD1 none.csv --at 2025-03-04T09:15
+orders ZZ-ACME ORD1 --at 2025-03-04T09:15
+",
+        printed: "\
+ISA*00*          *00*          *ZZ*WHSE1          *ZZ*ACME           *250304*0915*U*00401*000000001*0*P*>~TA1*000000001*250304*0915*A*000~GS*FA*WHSE1*ACME*20250304*0915*1*X*004010~ST*997*0001~AK1*AR*1~AK2*943*0001~AK5*A~AK9*A*1*1*1~SE*6*0001~GE*1*1~IEA*1*000000001~
+ISA*00*          *00*          *ZZ*WHSE1          *ZZ*ACME           *250304*0915*U*00401*000000002*0*P*>~GS*RE*WHSE1*ACME*20250304*0915*2*X*004010~ST*944*0001~W17*F*20250304*2*PO77*SHP1~W07*5*EA**SK*BOLT~N9*LT*L1~W07*7*EA**SK*BOLT~N9*LT*L2~W14*12*12~SE*8*0001~GE*1*2~IEA*1*000000002~
+ISA*00*          *00*          *ZZ*WHSE1          *ZZ*ACME           *250304*0915*U*00401*000000003*0*P*>~GS*FA*WHSE1*ACME*20250304*0915*3*X*004010~ST*997*0001~AK1*OW*2~AK2*940*0001~AK5*A~AK9*A*1*1*1~SE*6*0001~GE*1*3~IEA*1*000000003~
+ISA*00*          *00*          *ZZ*WHSE1          *ZZ*ACME           *250304*0915*U*00401*000000004*0*P*>~GS*SW*WHSE1*ACME*20250304*0915*4*X*004010~ST*945*0001~W06*F*ORD1*20250304*4~LX*1~W12*CP*6*0*6*EA**SK*BOLT~W03*0~SE*6*0001~GE*1*4~IEA*1*000000004~
+",
+        told: "refused 25 OrderClosed\n",
+        status: 1,
+    },
+];
 
 #[test]
-fn texts_that_went_out_are_shown(rt: HostRuntime) -> Result<(), Fail> {
-    let silent = changed(
-        &rt,
-        "ISA*00*          *00*          *ZZ*ACME           *ZZ*WHSE1          *250304*0915*U*00401*000000009*0*P*>~IEA*0*000000009~",
-        "~",
-        "~\n",
-    )?;
-    write_files(
-        &rt,
-        &[
-            ("out.x12", ADVICE),
-            ("out.csv", "BOLT,L1,90\n"),
-            ("out-silent.x12", silent.as_str()),
-        ],
-    )?;
-    let ran = play(
-        &rt,
-        "out",
-        &[
-            "outbox ZZ-ACME",
-            "send out.x12",
-            "send out-silent.x12",
-            "outbox ZZ-ACME",
-            "outbox ZZ-ACME --number 1",
-            "outbox --number 01 ZZ-ACME",
-        ],
-    )?;
-    let told = format!(in rt.alloc(); "{ANSWER}     1 ANS -\n{ANSWER}{ANSWER}")?;
-    assert_eq!(rt;
-        (ran.status, ran.out, ran.err),
-        (0, told, String::new(rt.alloc()))
-    );
-    for line in ["outbox ZZ-ACME --number 2", "outbox ZZ-ACME --number 3"] {
-        let ran = play(&rt, "out", &["send out.x12", "send out-silent.x12", line])?;
-        assert_eq!(rt; ran.status, 1, "at {line}");
-        assert_eq!(rt; ran.out.as_str(), ANSWER, "at {line}");
-        assert_eq!(rt; ran.err.as_str(), "", "at {line}");
-    }
-    let ran = play(
-        &rt,
-        "out",
-        &["outbox ZZ-NONE", "outbox ZZ-NONE --number 1", "outbox zz"],
-    )?;
-    assert_eq!(rt;
-        ran.err.as_str(),
-        "refused 20 UnknownDepositor\nrefused 20 UnknownDepositor\nrefused 32 BadText\n"
-    );
-    Ok(())
-}
-
-#[test]
-fn picking_sheets_are_shown(rt: HostRuntime) -> Result<(), Fail> {
-    let advice = changed(
-        &rt,
-        ADVICE,
-        "W04*100*EA**SK*BOLT~N9*LT*L1~W03*100~SE*6*",
-        "W04*5*EA**SK*BOLT~N9*LT*L1~W04*7*EA**SK*BOLT~N9*LT*L2~W03*12~SE*8*",
-    )?;
-    let order = changed(
-        &rt,
-        ORDER,
-        "W05*N*ORD1~LX*1~W01*120*EA**SK*BOLT~W76*120~SE*6*",
-        "W05*N*ORD1~N1*ST*Jo Shop~N3*5 Quay Road~N4*Ulm**89073~LX*1~W01*6*EA**SK*BOLT~W76*6~SE*9*",
-    )?;
-    write_files(
-        &rt,
-        &[
-            ("paper.x12", advice.as_str()),
-            ("paper-order.x12", order.as_str()),
-            ("paper.csv", "BOLT,L1,5\nBOLT,L2,7\n"),
-            ("paper-none.csv", ""),
-        ],
-    )?;
-    let ran = play(
-        &rt,
-        "paper",
-        &[
-            "send paper.x12",
-            "count ZZ-ACME C-1 SHP1 paper.csv",
-            "send paper-order.x12",
-            "orders ZZ-ACME ORD1",
-            "orders ZZ-ACME ORD2",
-            "orders ZZ-NONE ORD1",
-            "orders ZZ-NONE ORD#",
-        ],
-    )?;
-    assert!(rt;
-        ran.out.ends_with(
-            "\nORDER ORD1\nTO Jo Shop\n   5 Quay Road\n   Ulm 89073\nBOLT                 L1                5\nBOLT                 L2                1\n"
-        )
-    );
-    assert_eq!(rt;
-        ran.err.as_str(),
-        "refused 24 UnknownOrder\nrefused 20 UnknownDepositor\nrefused 32 BadText\n"
-    );
-    let ran = play(
-        &rt,
-        "paper",
-        &[
-            "send paper.x12",
-            "count ZZ-ACME C-1 SHP1 paper.csv",
-            "send paper-order.x12",
-            "pick ZZ-ACME P-1 ORD1 paper-none.csv",
-            "orders ZZ-ACME ORD1",
-        ],
-    )?;
-    assert_eq!(rt; ran.err.as_str(), "refused 25 OrderClosed\n");
-    Ok(())
-}
-
-// Plays a list of depositors over a book without any.
-fn enrol_list(rt: &HostRuntime, list: &str) -> Result<Ran, Fail> {
-    fs::write(rt, "list.toml", list)?;
-    run_text(
-        rt,
-        "list",
-        "init ZZ-WHSE1\nroster list.toml --at 2025-03-04T09:15\n",
-    )
-}
-
-#[test]
-fn lists_of_depositors_are_enrolled(rt: HostRuntime) -> Result<(), Fail> {
-    let cases = [
-        (
-            "depositors = [\"ZZ-ACME\", \"ZZ-ACME\"]",
-            1,
-            "ZZ-ACME enrolled\nZZ-ACME refused 35\n",
-            "",
-        ),
-        (
-            "season = 3\ndepositors = [\n  \"01-BOLTCO\",\n  \"ZZ-ACME\",\n]\n[house]\nname = \"x\"\n",
-            0,
-            "01-BOLTCO enrolled\nZZ-ACME enrolled\n",
-            "",
-        ),
-        ("depositors = []", 0, "", ""),
-        ("", 1, "", "refused 32 BadText\n"),
-        ("depositors = \"ZZ-ACME\"", 1, "", "refused 32 BadText\n"),
-        (
-            "depositors = [\"ZZ-ACME\", 7]",
-            1,
-            "",
-            "refused 32 BadText\n",
-        ),
-        (
-            "depositors = [\"ZZ-ACME\", \"zz-acme\"]",
-            1,
-            "",
-            "refused 32 BadText\n",
-        ),
-        ("depositors = [\"ZZ-ACME\"", 1, "", "refused 32 BadText\n"),
-    ];
-    for (list, status, printed, told) in cases {
-        let ran = enrol_list(&rt, list)?;
-        assert_eq!(rt; ran.status, status, "at {list}");
-        assert_eq!(rt; ran.out.as_str(), printed, "at {list}");
-        assert_eq!(rt; ran.err.as_str(), told, "at {list}");
-    }
-    Ok(())
-}
-
-// Nobody of a list is enrolled that can't be read, also none in front of the name that can't.
-#[test]
-fn a_refused_list_enrols_nobody(rt: HostRuntime) -> Result<(), Fail> {
-    fs::write(&rt, "bad.toml", "depositors = [\"ZZ-ACME\", \"ACME\"]")?;
-    let ran = run_text(
-        &rt,
-        "bad-list",
-        "init ZZ-WHSE1\nroster bad.toml\nstock ZZ-ACME\n",
-    )?;
-    assert_eq!(rt; ran.status, 1);
-    assert_eq!(rt; ran.out.as_str(), "");
-    assert_eq!(rt;
-        ran.err.as_str(),
-        "refused 32 BadText\nrefused 20 UnknownDepositor\n"
-    );
-    Ok(())
+fn what_a_book_shows(rt: HostRuntime) -> Result<(), Fail> {
+    play_all(&rt, &CASES)
 }

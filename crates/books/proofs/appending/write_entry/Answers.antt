@@ -2,6 +2,7 @@ use Rattle.std.proofs.Common.{arith, ap, ◌∙◌}
 use Rattle.profile.specs.Moments.{stamp}
 use Rattle.sqlite.specs.Held.{state}
 use Rattle.sqlite.specs.State.{HasCleanDisk}
+use Rattle.books.proofs.Limited.{no_more_trans}
 use Rattle.books.proofs.StepLemmas.{on_ok}
 use Rattle.books.proofs.AppendingLemmas.{entry_led_on}
 use Rattle.books.proofs.appending.write_entry.Goals as goal
@@ -18,3 +19,6 @@ returns-clause-leads g c clean inside =
     (state g.S.Store c.args.tx.now.conn.now).now (state g.S.Store c.insert_entry.new.tx.conn.now).now (state g.S.Store c.insert_sent.new.tx.conn.now).now (state g.S.Store c.apply_all.new.tx.conn.now).now
     is (c.moment_text-moment.ensures ∙ ap stamp c.moment.ensures) next (entry.leads first inside) (sent.leads second begun W L e is next.entry next.outgoing) (changed e.who is))
     (c.apply_all.ensures.leads clean (sent.inside second begun))
+
+pub returns-clause-limit : goal.returns-clause-limit
+returns-clause-limit g c = no_more_trans _ _ _ (no_more_trans _ _ _ c.insert_entry.ensures.limit c.insert_sent.ensures.limit) c.apply_all.ensures.limit

@@ -4,6 +4,7 @@ use Rattle.sqlite.specs.State.{HasCleanDisk}
 use Rattle.sqlite.specs.Held.{state}
 use Rattle.sqlite.proofs.StateLemmas.{survives_then}
 use Rattle.books.specs.Leading.{Leads}
+use Rattle.books.proofs.Limited.{no_more_trans}
 use Rattle.books.proofs.LeadingLemmas.{left_more, left_nothing}
 use Rattle.books.proofs.changing.apply_all.Goals as goal
 
@@ -23,6 +24,7 @@ loop-change-preserved g c =
       kept = search rules;
       survives = survives_then _ _ _ _ _ _ (λ _ db none. none) (λ _ db none. none) was.survives c.apply_change.ensures.survives;
       counted = search rules;
+      limit = no_more_trans _ _ _ was.limit c.apply_change.ensures.limit;
     }
 
 pub returns-clause-leads : goal.returns-clause-leads

@@ -5,6 +5,7 @@ use Rattle.sqlite.specs.Effect.{Database}
 use Rattle.profile.specs.Header.{Who, who_text}
 use Rattle.rules.specs.Tabled.{table_changes, table_changes_of}
 use Rattle.books.specs.Leading.{Leads}
+use Rattle.books.specs.Limits.{NoMore}
 use Rattle.books.proofs.changing.apply_all.Given as goal
 
 -- the changes that are left lead on from here
@@ -18,4 +19,5 @@ invariant-loop-change g l = record {
   kept : HasCleanDisk (state g.S.Store l.tx.conn.now) → KeepsCommit (state g.S.Store l.fn.tx.conn.now) (state g.S.Store l.tx.conn.now);
   survives : Survives (state g.S.Store l.fn.tx.conn.now) (state g.S.Store l.tx.conn.now) (λ _. ⊥);
   counted : l.calls.refused ≡ l.fn.calls.refused;
+  limit : NoMore l.fn.calls.limit l.calls.limit;
 }

@@ -5,6 +5,7 @@ use Rattle.sqlite.specs.State.{HasCleanDisk}
 use Rattle.sqlite.specs.Held.{state}
 use Rattle.sqlite.proofs.StateLemmas.{survives_then}
 use Rattle.books.specs.Leading.{Leads}
+use Rattle.books.proofs.Limited.{no_more_trans}
 use Rattle.books.proofs.LeadingLemmas.{left_on, left_none}
 use Rattle.books.proofs.Lines.{advice_line_change, advice_lines_are}
 use Rattle.books.proofs.changing.put_advice_lines.Goals as goal
@@ -27,6 +28,7 @@ loop-line-preserved g c =
       kept = search rules;
       survives = survives_then _ _ _ _ _ _ (λ _ db none. none) (λ _ db none. none) was.survives c.put_advice_line.ensures.survives;
       counted = search rules;
+      limit = no_more_trans _ _ _ was.limit c.put_advice_line.ensures.limit;
     }
 
 pub returns-clause-leads : goal.returns-clause-leads

@@ -4,6 +4,7 @@ use Rattle.sqlite.specs.State.{HasCleanDisk, Survives, KeepsCommit}
 use Rattle.sqlite.specs.Held.{state}
 use Rattle.sqlite.specs.Effect.{Database}
 use Rattle.books.specs.Leading.{Leads}
+use Rattle.books.specs.Limits.{NoMore}
 use Rattle.books.proofs.Lines.{order_line_change}
 use Rattle.books.proofs.changing.put_order_lines.Given as goal
 
@@ -19,4 +20,5 @@ invariant-loop-line g l = record {
   kept : HasCleanDisk (state g.S.Store l.tx.conn.now) → KeepsCommit (state g.S.Store l.fn.tx.conn.now) (state g.S.Store l.tx.conn.now);
   survives : Survives (state g.S.Store l.fn.tx.conn.now) (state g.S.Store l.tx.conn.now) (λ _. ⊥);
   counted : l.calls.refused ≡ l.fn.calls.refused;
+  limit : NoMore l.fn.calls.limit l.calls.limit;
 }

@@ -4,6 +4,7 @@ use Rattle.sqlite.specs.State.{HasCleanDisk}
 use Rattle.sqlite.specs.Held.{state}
 use Rattle.sqlite.proofs.StateLemmas.{survives_then}
 use Rattle.books.specs.Leading.{Leads}
+use Rattle.books.proofs.Limited.{no_more_trans}
 use Rattle.books.proofs.LeadingLemmas.{left_of, left_empty}
 use Rattle.books.proofs.Lines.{reservation_change, reservations_are}
 use Rattle.books.proofs.changing.put_reservations.Goals as goal
@@ -24,6 +25,7 @@ loop-line-preserved g c =
       kept = search rules;
       survives = survives_then _ _ _ _ _ _ (λ _ db none. none) (λ _ db none. none) was.survives c.put_reservation.ensures.survives;
       counted = search rules;
+      limit = no_more_trans _ _ _ was.limit c.put_reservation.ensures.limit;
     }
 
 pub returns-clause-leads : goal.returns-clause-leads

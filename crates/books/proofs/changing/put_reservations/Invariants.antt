@@ -3,6 +3,7 @@ use Rattle.sqlite.specs.State.{HasCleanDisk, Survives, KeepsCommit}
 use Rattle.sqlite.specs.Held.{state}
 use Rattle.sqlite.specs.Effect.{Database}
 use Rattle.books.specs.Leading.{Leads}
+use Rattle.books.specs.Limits.{NoMore}
 use Rattle.books.proofs.Lines.{reservation_change}
 use Rattle.books.proofs.changing.put_reservations.Given as goal
 
@@ -17,4 +18,5 @@ invariant-loop-line g l = record {
   kept : HasCleanDisk (state g.S.Store l.tx.conn.now) → KeepsCommit (state g.S.Store l.fn.tx.conn.now) (state g.S.Store l.tx.conn.now);
   survives : Survives (state g.S.Store l.fn.tx.conn.now) (state g.S.Store l.tx.conn.now) (λ _. ⊥);
   counted : l.calls.refused ≡ l.fn.calls.refused;
+  limit : NoMore l.fn.calls.limit l.calls.limit;
 }

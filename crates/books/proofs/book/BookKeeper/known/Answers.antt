@@ -1,14 +1,23 @@
-use Rattle.std.proofs.Common.{List, IfOk, sym, subst, subst₂, refl}
-use Rattle.profile.specs.Accepted.{IsLegal}
+use Rattle.std.proofs.Common.{◌∙◌, ℕ, List, IfOk, subst}
 use Rattle.profile.specs.Decision.{recalled}
-use Rattle.profile.specs.Header.{Who}
-use Rattle.profile.specs.Register.{Entry, own}
-use Rattle.rules.specs.Asked.{mark_of}
+use Rattle.profile.specs.Register.{own}
 use Rattle.rules.specs.Decided.{IsRecalled}
-use Rattle.books.proofs.Owned.{own_own, own_legal}
+use Rattle.sqlite.specs.Held.{state}
+use Rattle.books.proofs.AskedBooks.{asked_unchanged}
+use Rattle.books.proofs.AskedLater.{asked_faults}
 use Rattle.books.proofs.book.BookKeeper.known.Goals as goal
 
 pub returns-clause-entry : goal.returns-clause-entry
-returns-clause-entry g c = λ clean L k legal.
-    subst₂ (λ (V : Who) (M : List Entry). IfOk c.known.result (λ known. IsRecalled known (recalled V (mark_of c.args.key.now) M))) c.in_ok-own.ensures.warehouse (own_own L c.args.who)
-    (c.known.ensures.entry refl (own L c.args.who) (c.in_ok-own.ensures.own clean L k) (subst (λ (V : Who). IsLegal V (own L c.args.who)) (sym c.in_ok-own.ensures.warehouse) (own_legal c.args.self.now.warehouse L c.args.who legal)))
+returns-clause-entry g c = rw (← c.self.view_is) (λ clean L k legal.
+    subst (λ (mark : List ℕ). IfOk c.known_of.result (λ known. IsRecalled known (recalled c.self.inside.warehouse mark (own L c.args.who)))) (c.deref-2.ensures.value ∙ c.in_ok-mark.ensures)
+    (c.known_of.ensures.known clean c.self.inside.warehouse L k.stands (c.deref.ensures.value ∙ c.in_ok-text.ensures)))
+
+pub returns-clause-same : goal.returns-clause-same
+returns-clause-same g c = rw (← c.self.view_is) (
+    let b = c.self.inside in
+    asked_unchanged (state g.S.Store b.tables.conn) (state g.S.Store c.known_of.new.self.conn) b.warehouse b.entries b.tables.refused c.known_of.new.self.refused b.shut c.known_of.ensures.counts c.known_of.ensures.asked)
+
+pub returns-clause-fault : goal.returns-clause-fault
+returns-clause-fault g c = rw (← c.self.view_is) (
+    let b = c.self.inside in
+    asked_faults c.known_of.result (state g.S.Store b.tables.conn) (state g.S.Store c.known_of.new.self.conn) b.warehouse b.entries b.tables.refused c.known_of.new.self.refused b.shut (c.known_of.ensures.fault (c.deref.ensures.value ∙ c.in_ok-text.ensures)))

@@ -2,8 +2,8 @@ mod devices;
 mod folders;
 mod texts;
 
-use super::*;
 use http::{Method, StatusCode};
+use intake::{Gauge, Status, respond, serve_count, serve_one, take_folder};
 use std::alloc::{AllocError, Global};
 use std::io::{Read, Write};
 use std::net::{TcpListener, TcpStream};
@@ -194,5 +194,32 @@ fn two_clients_on_loopback(rt: HostRuntime) -> Result<(), Fail> {
     let mut other = Vec::new(alloc);
     second.read_to_end(&mut other)?;
     assert!(rt; other.as_slice() == CONFLICT);
+    Ok(())
+}
+
+// A listener that doesn't wait has no client: each accept fails, is told as 44 and counts as a connection.
+#[test]
+fn accepts_that_fail(rt: HostRuntime) -> Result<(), Fail> {
+    let mut book = enrolled(rt.alloc())?;
+    let listener = TcpListener::bind(&rt, "127.0.0.1:0")?;
+    listener.set_nonblocking(true)?;
+    let moment = morning()?;
+    let mut told = 0u8;
+    let mut faults = 0u8;
+    let ended = serve_count(
+        rt.alloc(),
+        &listener,
+        2,
+        &mut book,
+        || moment,
+        |outcome: Result<StatusCode, Fault>| {
+            told = told.saturating_add(1);
+            if matches!(outcome, Err(Fault::Device)) {
+                faults = faults.saturating_add(1);
+            }
+        },
+    );
+    assert!(rt; ended.is_ok());
+    assert_eq!(rt; (told, faults), (2, 2));
     Ok(())
 }

@@ -125,3 +125,34 @@ fn a_byte_a_call(rt: HostRuntime) -> Result<(), Fail> {
     assert!(rt; writer.into_inner().bytes.as_slice() == RESPONSE);
     Ok(())
 }
+
+// A writer that counts how often it is flushed, of which the second fails.
+#[derive(Drop)]
+struct Flushed {
+    count: u8,
+}
+
+impl Write for Flushed {
+    fn write(&mut self, buf: &[u8]) -> io::Result<usize> {
+        Ok(buf.len())
+    }
+
+    fn flush(&mut self) -> io::Result<()> {
+        self.count = self.count.saturating_add(1);
+        if self.count > 1 {
+            return Err(io::Error::from(ErrorKind::Interrupted));
+        }
+        Ok(())
+    }
+}
+
+// A flush of a gauge flushes its device once, and has its answer.
+#[test]
+fn a_flush_goes_through(rt: HostRuntime) {
+    let mut writer = Gauge::new(Flushed { count: 0 });
+    assert!(rt; writer.flush().is_ok());
+    assert_eq!(rt; writer.errors(), 0);
+    assert!(rt; writer.flush().is_err());
+    assert_eq!(rt; writer.errors(), 1);
+    assert_eq!(rt; writer.into_inner().count, 2);
+}

@@ -1,4 +1,6 @@
-use super::*;
+mod cut;
+
+use books::{Book, Tables};
 use rules::{Act, Command, Decision, Moment, SheetKind, Warehouse, Who, decide, subject};
 use sheets::{Line, Sheet};
 use sqlite::types::ValueRef;

@@ -1,11 +1,14 @@
 ghost use Rattle.stock.specs.Pages.{IsSound};
 ghost use Rattle.stock.specs.Puts.{put};
 
-use super::*;
 use segments::{Delims, Segment, cut};
 use sets_in::{AckIn, Advice, Order, ack, advice, order};
 use std::alloc::{AllocError, Global};
 use std::test::Fail;
+use stock::{
+    Change, Document, Function, Line, Page, Sheet, SheetKind, Step, Stop, acknowledge, allot,
+    announce, pick, receive, recount, reserve,
+};
 use tables::{SetFault, SetKind as Set, is_closed, judge};
 
 // The segments of a text.

@@ -1,0 +1,153 @@
+//! Depositors that are enrolled, and strangers; two that use the same numbers and tickets.
+
+pub(crate) const STORIES: &str = "\
+text ADVICE ISA*00*          *00*          *ZZ*ACME           *ZZ*WHSE1          *250304*0915*U*00401*000000001*1*P*>~GS*AR*ACME*WHSE1*20250304*0915*1*X*004010~ST*943*0001~W06*F*PO77*20250303*SHP1~W04*100*EA**SK*BOLT~N9*LT*L1~W03*100~SE*6*0001~GE*1*1~IEA*1*000000001~
+text TAKEN ISA*00*          *00*          *ZZ*WHSE1          *ZZ*ACME           *250304*0915*U*00401*000000001*0*P*>~TA1*000000001*250304*0915*A*000~GS*FA*WHSE1*ACME*20250304*0915*1*X*004010~ST*997*0001~AK1*AR*1~AK2*943*0001~AK5*A~AK9*A*1*1*1~SE*6*0001~GE*1*1~IEA*1*000000001~
+text BETA-ADVICE ISA*00*          *00*          *ZZ*BETA           *ZZ*WHSE1          *250304*0915*U*00401*000000001*0*P*>~GS*AR*BETA*WHSE1*20250304*0915*1*X*004010~ST*943*0001~W06*F*PO9*20250303*SHP1~W04*5*EA**SK*BOLT~N9*LT*L1~W04*7*EA**SK*BOLT~N9*LT*L2~W03*12~SE*8*0001~GE*1*1~IEA*1*000000001~
+text BETA-TAKEN ISA*00*          *00*          *ZZ*WHSE1          *ZZ*BETA           *250304*0915*U*00401*000000001*0*P*>~GS*FA*WHSE1*BETA*20250304*0915*1*X*004010~ST*997*0001~AK1*AR*1~AK2*943*0001~AK5*A~AK9*A*1*1*1~SE*6*0001~GE*1*1~IEA*1*000000001~
+
+story two depositors
+# ZZ BETA's advice stands under the control number and the shipment number of ZZ ACME's, and is counted under the same ticket. An order doesn't
+# reserve what another depositor has on hand.
+
+enrol ZZ-ACME
+accepted
+-
+
+look ZZ-BETA
+stranger
+
+enrol ZZ-ACME
+refused 35
+-
+
+look ZZ-BETA
+stranger
+
+send ZZ-BETA
+BETA-ADVICE
+refused 2
+ISA*00*          *00*          *ZZ*WHSE1          *ZZ*BETA           *250304*0915*U*00401*000000000*0*P*>~TA1*000000001*250304*0915*R*006~IEA*0*000000000~
+stranger
+
+look ZZ-ACME
+
+count ZZ-BETA T1 SHP1 BOLT,L1,91
+refused 20
+-
+stranger
+
+look ZZ-ACME
+
+enrol ZZ-BETA
+accepted
+-
+
+look ZZ-ACME
+
+send ZZ-ACME
+ADVICE
+accepted
+TAKEN
+BOLT L1 100 0 0 0
+1 ANS -
+
+look ZZ-BETA
+
+send ZZ-BETA
+BETA-ADVICE
+accepted
+BETA-TAKEN
+BOLT L1 5 0 0 0
+BOLT L2 7 0 0 0
+1 ANS -
+
+look ZZ-ACME
+BOLT L1 100 0 0 0
+1 ANS -
+
+count ZZ-BETA T1 SHP1 BOLT,L1,5 BOLT,L2,7
+accepted
+ISA*00*          *00*          *ZZ*WHSE1          *ZZ*BETA           *250304*0915*U*00401*000000002*0*P*>~GS*RE*WHSE1*BETA*20250304*0915*2*X*004010~ST*944*0001~W17*F*20250304*2*PO9*SHP1~W07*5*EA**SK*BOLT~N9*LT*L1~W07*7*EA**SK*BOLT~N9*LT*L2~W14*12*12~SE*8*0001~GE*1*2~IEA*1*000000002~
+BOLT L1 0 5 0 0
+BOLT L2 0 7 0 0
+1 ANS -
+2 944 open
+
+look ZZ-ACME
+BOLT L1 100 0 0 0
+1 ANS -
+
+send ZZ-ACME
+ISA*00*          *00*          *ZZ*ACME           *ZZ*WHSE1          *250304*0915*U*00401*000000002*0*P*>~GS*OW*ACME*WHSE1*20250304*0915*2*X*004010~ST*940*0001~W05*N*ORD1~LX*1~W01*120*EA**SK*BOLT~W76*120~SE*6*0001~GE*1*2~IEA*1*000000002~
+accepted
+ISA*00*          *00*          *ZZ*WHSE1          *ZZ*ACME           *250304*0915*U*00401*000000002*0*P*>~GS*FA*WHSE1*ACME*20250304*0915*2*X*004010~ST*997*0001~AK1*OW*2~AK2*940*0001~AK5*A~AK9*A*1*1*1~SE*6*0001~GE*1*2~IEA*1*000000002~
+BOLT L1 100 0 0 0
+1 ANS -
+2 ANS -
+
+look ZZ-BETA
+BOLT L1 0 5 0 0
+BOLT L2 0 7 0 0
+1 ANS -
+2 944 open
+
+count ZZ-ACME T1 SHP1 BOLT,L1,90
+accepted
+ISA*00*          *00*          *ZZ*WHSE1          *ZZ*ACME           *250304*0915*U*00401*000000003*0*P*>~GS*RE*WHSE1*ACME*20250304*0915*3*X*004010~ST*944*0001~W17*F*20250304*3*PO77*SHP1~W07*90*EA**SK*BOLT~N9*LT*L1~W14*90*100~SE*6*0001~GE*1*3~IEA*1*000000003~
+BOLT L1 0 90 0 0
+1 ANS -
+2 ANS -
+3 944 open
+
+look ZZ-BETA
+BOLT L1 0 5 0 0
+BOLT L2 0 7 0 0
+1 ANS -
+2 944 open
+
+send ZZ-BETA
+BETA-ADVICE
+stored
+BETA-TAKEN
+BOLT L1 0 5 0 0
+BOLT L2 0 7 0 0
+1 ANS -
+2 944 open
+
+look ZZ-ACME
+BOLT L1 0 90 0 0
+1 ANS -
+2 ANS -
+3 944 open
+
+story a stranger
+
+enrol ZZ-ACME
+accepted
+-
+
+send ZZ-ACME
+ADVICE
+accepted
+TAKEN
+BOLT L1 100 0 0 0
+1 ANS -
+
+count ZZ-ACME T1 SHP1 BOLT,L1,90
+accepted
+ISA*00*          *00*          *ZZ*WHSE1          *ZZ*ACME           *250304*0915*U*00401*000000002*0*P*>~GS*RE*WHSE1*ACME*20250304*0915*2*X*004010~ST*944*0001~W17*F*20250304*2*PO77*SHP1~W07*90*EA**SK*BOLT~N9*LT*L1~W14*90*100~SE*6*0001~GE*1*2~IEA*1*000000002~
+BOLT L1 0 90 0 0
+1 ANS -
+2 944 open
+
+count ZZ-NONE T9 SHP1 BOLT,L1,91
+refused 20
+-
+stranger
+
+look ZZ-ACME
+BOLT L1 0 90 0 0
+1 ANS -
+2 944 open
+";

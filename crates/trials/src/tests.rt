@@ -1,0 +1,3 @@
+mod in_tables;
+mod over_http;
+mod pages;
