@@ -31,6 +31,7 @@ HERE = os.path.dirname(os.path.abspath(__file__))
 sys.path.insert(0, HERE)
 import compare  # noqa: E402
 import model  # noqa: E402
+import tables  # noqa: E402
 
 WHO = [b"ZZ-ACME", b"ZZ-BETA"]
 compare.NUMBERS = [b"N%d" % n for n in range(1, 400)]
@@ -232,9 +233,6 @@ class Run:
 
     # sqlite3
 
-    def sqlite(self, path, text):
-        return subprocess.run(["sqlite3", path, text], capture_output=True, text=True, check=True).stdout
-
     def entries(self):
         """How many entries the files hold, log and all, which have to be a sound database to sqlite3 as well."""
         path = os.path.join(self.folder, "copy")
@@ -243,8 +241,8 @@ class Run:
                 os.remove(path + end)
             if end != "-shm" and os.path.exists(self.book + end):
                 shutil.copyfile(self.book + end, path + end)
-        same("integrity of a copy", self.sqlite(path, "PRAGMA integrity_check"), "ok\n")
-        return int(self.sqlite(path, "SELECT count(*) FROM entry"))
+        same("integrity of a copy", tables.sqlite(path, "PRAGMA integrity_check"), "ok\n")
+        return int(tables.sqlite(path, "SELECT count(*) FROM entry"))
 
     def end(self, candidates):
         """All that was answered is sent once more, and sqlite3 looks at the closed book."""
@@ -257,9 +255,9 @@ class Run:
         finally:
             server.kill()
         self.settle([self.day.book], self.by_command)
-        same("integrity", self.sqlite(self.book, "PRAGMA integrity_check"), "ok\n")
+        same("integrity", tables.sqlite(self.book, "PRAGMA integrity_check"), "ok\n")
         for who in WHO:
-            rows = self.sqlite(self.book, "SELECT item, lot, expected, on_hand, reserved, shipped FROM stock "
+            rows = tables.sqlite(self.book, "SELECT item, lot, expected, on_hand, reserved, shipped FROM stock "
                                f"WHERE who = '{who.decode()}' ORDER BY item, lot")
             page = self.day.book.pages[model.partner(who)]
             wanted = "".join("|".join([item.decode(), lot.decode(), *map(str, page.amounts((item, lot)))]) + "\n" for item, lot in page.pairs())
