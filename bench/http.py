@@ -9,11 +9,13 @@ request of REQUESTS is sent by curl and its response compared, head and body, wi
 a time that the clock gave are passed over. Then the same requests are sent over and over, a connection each and one after the
 other: the stock report of a depositor, and an interchange that was accepted before. Python's http.server serves a file of
 the report's bytes in the same way. Printed are requests a second, and the median and the 99th percentile of the time from the
-connection to its end. The status is 1 where a response differs.
+connection to its end. At last a peer is reset in the middle of its request, which is told as fault 44, and the server goes on. The
+status is 1 where something differs.
 """
 import os
 import re
 import socket
+import struct
 import subprocess
 import sys
 import tempfile
@@ -163,6 +165,34 @@ def load(address, folder):
         python.wait()
 
 
+def reset(address):
+    """A peer that is reset in the middle of its request. The server may still be starting."""
+    host, port = address.split(":")
+    for _ in range(200):
+        try:
+            with socket.create_connection((host, int(port)), 1) as peer:
+                peer.sendall(b"POST /x12 HTTP/1.1\r\nContent-Length: 255\r\n\r\nISA")
+                peer.setsockopt(socket.SOL_SOCKET, socket.SO_LINGER, struct.pack("ii", 1, 0))
+            return
+        except ConnectionRefusedError:
+            time.sleep(0.05)
+    sys.exit(f"nobody listens at {address}")
+
+
+def tells_a_reset(program, book):
+    """Whether a server tells a peer that is reset, and serves on."""
+    address = f"127.0.0.1:{free_port()}"
+    words = [program, "serve", *book, "--listen", address, "--count", "2"]
+    with subprocess.Popen(words, stdout=subprocess.PIPE, text=True) as server:
+        reset(address)
+        host, port = address.split(":")
+        once(host, int(port), b"GET /stock/ZZ-ACME HTTP/1.1\r\nHost: localhost\r\n\r\n")
+        told = server.communicate(timeout=20)[0]
+    good = told == "fault 44 Device\n200\n"
+    print("a peer that is reset is told as fault 44" if good else f"a peer that is reset: {told!r}")
+    return good
+
+
 def main():
     """Serves a new book, or asks the server that is given."""
     with tempfile.TemporaryDirectory() as folder:
@@ -186,6 +216,7 @@ def main():
             if server.poll() is None:
                 server.terminate()
             server.wait()
+        good = tells_a_reset(program, book) and good
         sys.exit(0 if good else 1)
 
 
