@@ -11,7 +11,8 @@ use Rattle.sqlite.specs.declared.error.Error.{Error}
 use Rattle.sqlite_schema.specs.declared.command.Returning.{Returning}
 use Rattle.sqlite.proofs.StateLemmas.{survives_then, survives_weaker}
 use Rattle.sqlite.proofs.Callers.{command_of, never_commits}
-use Rattle.books.specs.Layout.{layout}
+use Rattle.books.specs.Layout.{Others, beside, IsLayout}
+use Rattle.books.proofs.Beside.{still_lies}
 use Rattle.books.specs.Exits.{IsAsBefore}
 use Rattle.books.specs.Asking.{Finds, IsAsked}
 
@@ -24,10 +25,10 @@ before_trans a b c p q = record { was_open = λ _. p.0.was_open; now = λ o. q.n
 undone_before : (old new : State) → (IsTrue old.is_open → old.now ≡ old.committed) → IsRolledBack old new → IsAsBefore old new
 undone_before old new settled h = record { was_open = h.was_open; now = λ still. (h.undone still).0 ∙ sym (settled (h.was_open still)); committed = λ still. (h.undone still).1 }
 
-shown_before : (sql : List ℕ) (given : Row) (old new : State) (rows : List Row) → IsPlain (understood layout sql) → old.now.schema ≡ layout → Shown sql given old new rows → IsAsBefore old new
+shown_before : (sql : List ℕ) (given : Row) (old new : State) (rows : List Row) → ((others : Others) → IsPlain (understood (beside others) sql)) → IsLayout old.now.schema → Shown sql given old new rows → IsAsBefore old new
 unfolding Shown
 shown_before sql given old new rows text has h =
-    let plain = subst IsPlain (ap (λ s. understood s sql) (sym has) ∙ h.1.is) text in
+    let plain = subst IsPlain (ap (λ s. understood s sql) (sym has.is) ∙ h.1.is) (text has.others) in
     unchanged_before old new (subst (ShowsRows old new sql h.0 (timed given h.0.formats h.1.now) rows) plain.0 h.2).3
 
 fails_before : (sql : List ℕ) (given : Row) (old new : State) (e : Error) → (IsTrue old.is_open → old.now ≡ old.committed) → FailsToQuery sql given old new e → IsAsBefore old new
@@ -57,20 +58,20 @@ prepared_asked old mid prepared survives = record {
 }
 
 -- A text that was prepared is over an open store; under the book's schema it commits nothing.
-module _ (sql : List ℕ) (text : IsPlain (understood layout sql)) (given : Row) (prepared_text : List ℕ) (old mid new : State) (prepared : HasCleanDisk mid → (prepared_text ≡ sql) × IsUnchanged old mid) (first : Survives old mid (λ _. ⊥)) (second : Survives mid new (CommitsShowing prepared_text given mid)) where
+module _ (sql : List ℕ) (text : (others : Others) → IsPlain (understood (beside others) sql)) (given : Row) (prepared_text : List ℕ) (old mid new : State) (prepared : HasCleanDisk mid → (prepared_text ≡ sql) × IsUnchanged old mid) (first : Survives old mid (λ _. ⊥)) (second : Survives mid new (CommitsShowing prepared_text given mid)) where
   early : HasCleanDisk new → HasCleanDisk mid
   early clean = omega (arith, second.clean, clean)
 
-  crash : Survives old new (λ _. (IsTrue old.is_open → old.now.schema ≡ layout) → ⊥)
+  crash : Survives old new (λ _. (IsTrue old.is_open → IsLayout old.now.schema) → ⊥)
   crash = survives_then old mid new _ _ _ (λ _ db none. absurd none) (λ clean db may.
       let p = prepared (early clean) in
-      (λ has. never_commits sql given mid db (subst (λ s. IsPlain (understood s sql)) (sym (ap (λ (d : Database). d.schema) p.1.0.now_is ∙ has p.1.0.was_open)) text) (subst (λ t. CommitsShowing t given mid db) p.0 may))) first second
+      (λ has. let lies = has p.1.0.was_open in never_commits sql given mid db (subst (λ s. IsPlain (understood s sql)) (sym (ap (λ (d : Database). d.schema) p.1.0.now_is ∙ lies.is)) (text lies.others)) (subst (λ t. CommitsShowing t given mid db) p.0 may))) first second
 
   pub shown_asked : (rows : List Row) → (HasCleanDisk new → Shown prepared_text given mid new rows) → IsAsked old new
   shown_asked rows shown = record {
     same = λ clean has.
         let p = prepared (early clean) in
-        before_trans old mid new p.1 (shown_before sql given mid new rows text (ap (λ (d : Database). d.schema) p.1.0.now_is ∙ has p.1.0.was_open) (subst (λ t. Shown t given mid new rows) p.0 (shown clean)));
+        before_trans old mid new p.1 (shown_before sql given mid new rows text (still_lies old.now.schema mid.now.schema (ap (λ (d : Database). d.schema) p.1.0.now_is) (has p.1.0.was_open)) (subst (λ t. Shown t given mid new rows) p.0 (shown clean)));
     crash = crash;
   }
 
@@ -96,11 +97,14 @@ module _ (sql : List ℕ) (text : IsPlain (understood layout sql)) (given : Row)
       (p.1.0.was_open, subst (λ (d : Database). Finds sql given d rows) p.1.0.now_is finds)
 
 -- under the book's schema the rows are those of the command that the text is
-pub found : (sql : List ℕ) (params : Row) (db : Database) (rows : List Row) (command : Command) → db.schema ≡ layout → IsPlain (understood layout sql) → (command_of (understood layout sql) ≡ command) × (reads_listing layout sql ≡ false)
+pub found : (sql : List ℕ) (params : Row) (db : Database) (rows : List Row) (command : Command) → IsLayout db.schema → ((others : Others) → IsPlain (understood (beside others) sql))
+    → ((others : Others) → (command_of (understood (beside others) sql) ≡ command) × (reads_listing (beside others) sql ≡ false))
     → Finds sql params db rows → Reads command db params rows
-found sql params db rows command has text is h =
+found sql params db rows command lies text text_is h =
+    let has = lies.is in
+    let is = text_is lies.others in
     let known = sym h.is ∙ ap (λ s. understood s sql) has in
-    let bare = subst IsPlain (sym known) text in
+    let bare = subst IsPlain (sym known) (text lies.others) in
     let it = h.answer bare.0 in
     let source : it.0 ≡ db = subst (λ b. IsSourceOf b db it.0) (ap (λ s. reads_listing s sql) has ∙ is.1) it.1 in
     let given : timed params h.compiled.formats h.moment ≡ params = ap (λ formats. timed params formats h.moment) bare.1 ∙ append-nil params in
@@ -119,5 +123,5 @@ asked_twice old mid new first second = record {
     early : HasCleanDisk new → HasCleanDisk mid
     early clean = omega (arith, second.crash.clean, clean)
 
-    schema_still : HasCleanDisk new → (IsTrue old.is_open → old.now.schema ≡ layout) → IsTrue mid.is_open → mid.now.schema ≡ layout
-    schema_still clean has o = let a = first.same (early clean) has in ap (λ (d : Database). d.schema) (a.now o) ∙ has (a.was_open o)
+    schema_still : HasCleanDisk new → (IsTrue old.is_open → IsLayout old.now.schema) → IsTrue mid.is_open → IsLayout mid.now.schema
+    schema_still clean has o = let a = first.same (early clean) has in still_lies old.now.schema mid.now.schema (ap (λ (d : Database). d.schema) (a.now o)) (has (a.was_open o))

@@ -27,6 +27,7 @@ use Rattle.books.specs.Making.{HasMade, HasBook}
 use Rattle.books.proofs.MakingTexts.{at_first}
 use Rattle.books.proofs.MakingTexts.{book_is, book_runs, book_plain, entry_is, entry_runs, entry_plain, outgoing_is, outgoing_runs, outgoing_plain, stock_is, stock_runs, stock_plain, advice_is, advice_runs, advice_plain, advice_line_is, advice_line_runs, advice_line_plain, orders_is, orders_runs, orders_plain, order_line_is, order_line_runs, order_line_plain, reservation_is, reservation_runs, reservation_plain}
 use Rattle.books.proofs.WritingTexts.{insert_book_text}
+use Rattle.books.proofs.Beside.{lies_alone}
 use Rattle.books.proofs.Inserts.{inserts_book}
 use Rattle.books.proofs.LeadsLemmas.{apart}
 use Rattle.sqlite.specs.Edit.{next_rowid}
@@ -96,8 +97,8 @@ made_third a b c d m n o was p q r =
 -- the row of `book`
 pub made_book : (a b : State) (m : ℕ) (qualifier id : List ℕ) → HasMade 9 9 a.now → Executes insert_book_text (value.Int (pos 1) ∷ value.Text qualifier ∷ value.Text id ∷ []) a b (Ok m) → HasBook qualifier id b.now
 made_book a b m qualifier id was h =
-    let it = inserts_book (pos 1) qualifier id a b m was.schema h in
-    record { schema = it.schema; sound = it.sound; book = it.rows ∙ ap (λ (rows : List Row). put_row (value.Int (next_rowid rows) ∷ value.Int (pos 1) ∷ value.Text qualifier ∷ value.Text id ∷ []) rows) (let all = was.empty in all.0); empty = (it.others.1.0 (apart 1 0 refl) ∙ was.empty.1.0, (it.others.1.1.0 (apart 4 0 refl) ∙ was.empty.1.1.0, (it.others.1.1.1.0 (apart 6 0 refl) ∙ was.empty.1.1.1.0, (it.others.1.1.1.1.0 (apart 8 0 refl) ∙ was.empty.1.1.1.1.0, (it.others.1.1.1.1.1.0 (apart 10 0 refl) ∙ was.empty.1.1.1.1.1.0, (it.others.1.1.1.1.1.1.0 (apart 12 0 refl) ∙ was.empty.1.1.1.1.1.1.0, (it.others.1.1.1.1.1.1.1.0 (apart 14 0 refl) ∙ was.empty.1.1.1.1.1.1.1.0, (it.others.1.1.1.1.1.1.1.1.0 (apart 16 0 refl) ∙ was.empty.1.1.1.1.1.1.1.1.0, tt)))))))) }
+    let it = inserts_book (pos 1) qualifier id a b m (lies_alone a.now.schema was.schema) h in
+    record { schema = it.schema ∙ was.schema; sound = it.sound; book = it.rows ∙ ap (λ (rows : List Row). put_row (value.Int (next_rowid rows) ∷ value.Int (pos 1) ∷ value.Text qualifier ∷ value.Text id ∷ []) rows) (let all = was.empty in all.0); empty = (it.others.1.0 (apart 1 0 refl) ∙ was.empty.1.0, (it.others.1.1.0 (apart 4 0 refl) ∙ was.empty.1.1.0, (it.others.1.1.1.0 (apart 6 0 refl) ∙ was.empty.1.1.1.0, (it.others.1.1.1.1.0 (apart 8 0 refl) ∙ was.empty.1.1.1.1.0, (it.others.1.1.1.1.1.0 (apart 10 0 refl) ∙ was.empty.1.1.1.1.1.0, (it.others.1.1.1.1.1.1.0 (apart 12 0 refl) ∙ was.empty.1.1.1.1.1.1.0, (it.others.1.1.1.1.1.1.1.0 (apart 14 0 refl) ∙ was.empty.1.1.1.1.1.1.1.0, (it.others.1.1.1.1.1.1.1.1.0 (apart 16 0 refl) ∙ was.empty.1.1.1.1.1.1.1.1.0, tt)))))))) }
 
 -- the tables of an empty register
 holds_none : Holds [] []
@@ -112,7 +113,7 @@ stands_empty W s legal h =
     record {
       stands = record {
         legal = legal;
-        schema = h.schema;
+        schema = lies_alone s.now.schema h.schema;
         rows = record {
           book = h.book;
           entry = rows.0;

@@ -12,7 +12,7 @@ use Rattle.profile.specs.Header.{Who, is_partner, who_text}
 use Rattle.profile.specs.Register.{Entry, own}
 use Rattle.profile.specs.Rows.{StockRow, OutRow, stock_rows, outgoing_rows, outbox_rows}
 use Rattle.books.specs.Asking.{Finds}
-use Rattle.books.specs.Layout.{layout}
+use Rattle.books.specs.Layout.{beside, IsLayout}
 use Rattle.books.specs.Exits.{StandsWhileOpen}
 use Rattle.books.specs.Showing.{stock_shown, out_shown, IsSent}
 use Rattle.books.specs.Standing.{Stands}
@@ -21,22 +21,22 @@ use Rattle.books.proofs.Sendings.{legal_sent}
 use Rattle.books.proofs.ShowingTexts.{stock_rows_text, stock_rows_is, stock_rows_plain, outbox_text, outbox_is, outbox_plain}
 use Rattle.books.proofs.ShownRows.{stock_rows_shown, outgoing_rows_shown}
 
-sound_layout : (db : Database) → db.schema ≡ layout → IsDatabase db → IsSound layout db.trees
-sound_layout db has sound = subst (λ (s : Schema). IsSound s db.trees) has sound
+sound_layout : (db : Database) (lies : IsLayout db.schema) → IsDatabase db → IsSound (beside lies.others) db.trees
+sound_layout db lies sound = subst (λ (s : Schema). IsSound s db.trees) lies.is sound
 
 stock_found : (W : Who) (L : List Entry) (who : Who) (db : Database) (rows : List Row) → is_partner who ≡ true → IsDatabase db → Stands W L db
     → Finds stock_rows_text (value.Text (who_text who) ∷ []) db rows → rows ≡ map stock_shown (stock_rows (own L who))
 stock_found W L who db rows partner sound stands h =
     let read = found stock_rows_text (value.Text (who_text who) ∷ []) db rows _ stands.schema stock_rows_plain stock_rows_is h in
     let held = stands.rows in
-    stock_rows_shown W L who db.trees rows stands.legal partner (sound_layout db stands.schema sound) held.stock (read.answer value.Null)
+    stock_rows_shown (let lies = stands.schema in lies.others) W L who db.trees rows stands.legal partner (sound_layout db stands.schema sound) held.stock (read.answer value.Null)
 
 outgoing_found : (W : Who) (L : List Entry) (who : Who) (db : Database) (rows : List Row) → is_partner who ≡ true → IsDatabase db → Stands W L db
     → Finds outbox_text (value.Text (who_text who) ∷ []) db rows → rows ≡ map out_shown (outgoing_rows W (own L who))
 outgoing_found W L who db rows partner sound stands h =
     let read = found outbox_text (value.Text (who_text who) ∷ []) db rows _ stands.schema outbox_plain outbox_is h in
     let held = stands.rows in
-    outgoing_rows_shown W L who db.trees rows stands.legal partner (sound_layout db stands.schema sound) held.outgoing (read.answer value.Null)
+    outgoing_rows_shown (let lies = stands.schema in lies.others) W L who db.trees rows stands.legal partner (sound_layout db stands.schema sound) held.outgoing (read.answer value.Null)
 
 -- Rows that are read back of tables that stand while they are open.
 module _ (old : State) (W : Who) (L : List Entry) (who : Who) (partner : IsTrue (is_partner who)) (live : IsLive old) (stands : StandsWhileOpen old W L) (text : List ℕ) (told : text ≡ who_text who) (rows : List Row) where

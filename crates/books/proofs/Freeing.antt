@@ -1,5 +1,5 @@
 -- What the DELETE from `reservation` does.
-use Rattle.std.proofs.Common.{◌≡◌, inl, inr, ℕ, ℤ, List, [], ◌∷◌, map, filter, not, Bool, true, false, None, Ok, refl, sym, ap, subst, ◌∙◌}
+use Rattle.std.proofs.Common.{◌≡◌, ◌≢◌, inl, inr, ℕ, ℤ, List, [], ◌∷◌, map, filter, not, Bool, true, false, None, Ok, refl, sym, ap, subst, ◌∙◌}
 use Rattle.std.specs.Ordering.{is_eq}
 use Rattle.sqlite.specs.declared.types.Value.{Value}
 use Rattle.sqlite.specs.declared.types.Value.TheVariants.{Null, Int, Text}
@@ -13,22 +13,24 @@ use Rattle.sqlite.specs.Rowids.TheVariants.{Given}
 use Rattle.sqlite.specs.Does.{Tally, Does}
 use Rattle.sqlite.specs.Rows.{Written}
 use Rattle.sqlite.specs.Tree.{Trees, IsTable, rowid, has_rowid, without_rowid}
+use Rattle.sqlite.specs.Table.{Table}
 use Rattle.sqlite.specs.Listing.{understood}
 use Rattle.sqlite.specs.Effect.{Database}
 use Rattle.sqlite.specs.Query.{IsAnswer, output}
 use Rattle.sqlite.specs.Program.{overlay}
 use Rattle.sqlite.specs.State.{State, mode_of, Executes}
-use Rattle.sqlite.proofs.Callers.{statement_of, runs_as, one_step}
+use Rattle.sqlite.proofs.Callers.{statement_of, runs_as}
 use Rattle.sqlite_rules.proofs.ListLemmas.{has_filtered}
 use Rattle.sqlite_rules.proofs.TableLemmas.{without_all_has}
 use Rattle.sqlite_rules.proofs.PlaceLemmas.{left_or_taken, row_at_is}
 use Rattle.sqlite_rules.proofs.ProbeLemmas.{has_mapped, mapped_has}
-use Rattle.books.specs.Layout.{layout, reservation_layout}
+use Rattle.books.specs.Layout.{beside, IsLayout, book_tables, reservation_layout}
 use Rattle.books.specs.Steps.{WritesInto, TakenByKey, AreKeyed, key_of}
 use Rattle.books.proofs.WritingTexts.{free_text, free_query, free_is, free_plain}
 use Rattle.books.proofs.PutLemmas.{filter_table}
 use Rattle.books.proofs.KeyLemmas.{itself}
 use Rattle.books.proofs.Passing.{flat_map-cond, from_row, to_row, fewer, whose, whose_key, key_whose}
+use Rattle.books.proofs.Beside.{all_first, one_write}
 use Rattle.books.proofs.Values.{went, same_value}
 
 without_table : (ids : List ℤ) (rows : List Row) → IsTable rows → IsTable (without_all rows ids)
@@ -102,23 +104,25 @@ module _ (who order : List ℕ) where
       (from_row free_query params test (db 16) out a.kept a.ordered is a.same a.shown)
       (to_row free_query params test (db 16) out a.kept a.ordered is a.same a.shown)
 
-  pub frees : (old new : State) (count : ℕ) → old.now.schema ≡ layout → AreKeyed 4 (old.now.trees 16) → Executes free_text params old new (Ok count)
+  pub frees : (old new : State) (count : ℕ) → IsLayout old.now.schema → AreKeyed 4 (old.now.trees 16) → Executes free_text params old new (Ok count)
       → WritesInto 16 (TakenByKey 2 params) old.now new.now
-  frees old new count has tidy h =
+  frees old new count lies tidy h =
+      let others = lies.others in
+      let has = lies.is in
       let db = old.now.trees in
       let command = Delete 8 (record { lets = []; body = free_query }) in
-      let w = runs_as free_text params old new layout has command free_is free_plain count h in
-      let text = statement_of free_text (understood layout free_text) in
+      let w = runs_as free_text params old new (beside others) has command (free_is others) (free_plain others) count h in
+      let text = statement_of free_text (understood (beside others) free_text) in
       let done = went (subst (λ s. Does old.step_limit (mode_of old) params (record old.now { schema = s }) text None command (Ok (w.tally, new.now))) has w.changed) in
       let now = ap (λ (p : Tally × Database). p.1) (same_value (went (went done.2).2).2) in
       let asked = went done.1 in
       let written = went asked.2 in
       let trees : new.now.trees ≡ written.0 = ap (λ (d : Database). d.trees) now ∙ ap (λ (it : Written). it.trees) (same_value written.2) in
       let step : Edit = edit_of db reservation_layout (ids_of asked.0) Given 0 [] in
-      let applied = subst (Applies layout (mode_of old).keys db step) (sym trees) (one_step layout _ db written.0 step refl written.1) in
+      let applied = subst (Applies (beside others) (mode_of old).keys db step) (sym trees) (one_write others lies.apart _ db written.0 step (inr (inr (inr (inr (inr (inr (inr (inr (inl refl))))))))) written.1) in
       record {
         sound = w.sound;
-        schema = ap (λ (d : Database). d.schema) now;
-        others = applied.tables;
+        schema = ap (λ (d : Database). d.schema) now ∙ sym has;
+        others = all_first (λ (t : Table). t.tree ≢ 16 → new.now.trees t.tree ≡ db t.tree) book_tables others.tables applied.tables;
         rows = subst (TakenByKey 2 params (db 16)) (sym applied.rows) (found db tidy asked.0 (let a = asked.1 in a.answer Null));
       }

@@ -11,7 +11,7 @@ use Rattle.sqlite_tied.specs.Compute.{everything}
 use Rattle.sqlite.specs.Listing.{understood, reads_listing}
 use Rattle.sqlite.specs.Given.{IsPlain}
 use Rattle.sqlite.proofs.Callers.{command_of}
-use Rattle.books.specs.Layout.{layout}
+use Rattle.books.specs.Layout.{Others, beside}
 use Rattle.books.proofs.ReadingTexts.{ordered_from}
 use Rattle.books.proofs.WritingTexts.{where_key}
 
@@ -23,13 +23,13 @@ under_text = codes "SELECT mark, n, moment, body FROM entry WHERE who = ?1 AND m
 abbrev pub under_query : Query
 under_query = ordered_from 1 (op2 (Compare Eq Binary) (col 1 2) (col 0 0) ∷ op2 (Compare Eq Binary) (col 1 3) (col 0 1) ∷ []) (col 1 3 ∷ col 1 4 ∷ col 1 5 ∷ col 1 6 ∷ []) ((col 1 0, ascending Binary) ∷ [])
 
-pub under_is : (command_of (understood layout under_text) ≡ Select (record { lets = []; body = under_query }) (codes "mark" ∷ codes "n" ∷ codes "moment" ∷ codes "body" ∷ [])) × (reads_listing layout under_text ≡ false)
+pub under_is : (others : Others) → (command_of (understood (beside others) under_text) ≡ Select (record { lets = []; body = under_query }) (codes "mark" ∷ codes "n" ∷ codes "moment" ∷ codes "body" ∷ [])) × (reads_listing (beside others) under_text ≡ false)
 unfolding understood everything
-under_is = (refl, refl)
+under_is others = (refl, refl)
 
-pub under_plain : IsPlain (understood layout under_text)
+pub under_plain : (others : Others) → IsPlain (understood (beside others) under_text)
 unfolding understood everything
-under_plain = (refl, refl)
+under_plain others = (refl, refl)
 
 -- What an entry sent out.
 
@@ -39,10 +39,10 @@ content_text = codes "SELECT content FROM outgoing WHERE who = ?1 AND n = ?2"
 abbrev pub content_query : Query
 content_query = ordered_from 4 (where_key 0 2) (col 1 4 ∷ []) []
 
-pub content_is : (command_of (understood layout content_text) ≡ Select (record { lets = []; body = content_query }) (codes "content" ∷ [])) × (reads_listing layout content_text ≡ false)
+pub content_is : (others : Others) → (command_of (understood (beside others) content_text) ≡ Select (record { lets = []; body = content_query }) (codes "content" ∷ [])) × (reads_listing (beside others) content_text ≡ false)
 unfolding understood everything
-content_is = (refl, refl)
+content_is others = (refl, refl)
 
-pub content_plain : IsPlain (understood layout content_text)
+pub content_plain : (others : Others) → IsPlain (understood (beside others) content_text)
 unfolding understood everything
-content_plain = (refl, refl)
+content_plain others = (refl, refl)

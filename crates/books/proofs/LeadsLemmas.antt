@@ -15,6 +15,7 @@ use Rattle.books.specs.Held.{values, entry_values, Holds}
 use Rattle.books.specs.Leading.{Keeps}
 use Rattle.books.specs.Standing.{Filled, named, HasKey, IsOutgoing, IsEntry}
 use Rattle.books.specs.Steps.{WritesInto, PutByKey, TakenByKey, SetsState}
+use Rattle.books.proofs.Beside.{still_lies}
 use Rattle.books.proofs.PutRows.{put_old}
 use Rattle.books.proofs.HoldsLemmas.{put_ordered, put_holds, freed_ordered, freed_holds, stated_each, stated_ordered, stated_holds, entry_put}
 use Rattle.std.specs.Prelude.{Option}
@@ -32,7 +33,7 @@ leads_stock row f old new has k did =
       g,
       refl,
       record {
-        schema = did.schema;
+        schema = still_lies old.schema new.schema did.schema k.schema;
         sound = did.sound;
         rows = record {
           book = did.others.0 (apart 0 6 refl) ∙ k.rows.book;
@@ -66,7 +67,7 @@ leads_advice row f old new has k did =
       g,
       refl,
       record {
-        schema = did.schema;
+        schema = still_lies old.schema new.schema did.schema k.schema;
         sound = did.sound;
         rows = record {
           book = did.others.0 (apart 0 8 refl) ∙ k.rows.book;
@@ -100,7 +101,7 @@ leads_advice_line row f old new has k did =
       g,
       refl,
       record {
-        schema = did.schema;
+        schema = still_lies old.schema new.schema did.schema k.schema;
         sound = did.sound;
         rows = record {
           book = did.others.0 (apart 0 10 refl) ∙ k.rows.book;
@@ -134,7 +135,7 @@ leads_orders row f old new has k did =
       g,
       refl,
       record {
-        schema = did.schema;
+        schema = still_lies old.schema new.schema did.schema k.schema;
         sound = did.sound;
         rows = record {
           book = did.others.0 (apart 0 12 refl) ∙ k.rows.book;
@@ -168,7 +169,7 @@ leads_order_line row f old new has k did =
       g,
       refl,
       record {
-        schema = did.schema;
+        schema = still_lies old.schema new.schema did.schema k.schema;
         sound = did.sound;
         rows = record {
           book = did.others.0 (apart 0 14 refl) ∙ k.rows.book;
@@ -202,7 +203,7 @@ leads_reservation row f old new has k did =
       g,
       refl,
       record {
-        schema = did.schema;
+        schema = still_lies old.schema new.schema did.schema k.schema;
         sound = did.sound;
         rows = record {
           book = did.others.0 (apart 0 16 refl) ∙ k.rows.book;
@@ -236,7 +237,7 @@ leads_outgoing row f old new has is k did =
       g,
       refl,
       record {
-        schema = did.schema;
+        schema = still_lies old.schema new.schema did.schema k.schema;
         sound = did.sound;
         rows = record {
           book = did.others.0 (apart 0 4 refl) ∙ k.rows.book;
@@ -270,7 +271,7 @@ leads_entry row f old new is k did =
       g,
       refl,
       record {
-        schema = did.schema;
+        schema = still_lies old.schema new.schema did.schema k.schema;
         sound = did.sound;
         rows = record {
           book = did.others.0 (apart 0 1 refl) ∙ k.rows.book;
@@ -304,7 +305,7 @@ leads_state who n said f old new k did =
       g,
       refl,
       record {
-        schema = did.schema;
+        schema = still_lies old.schema new.schema did.schema k.schema;
         sound = did.sound;
         rows = record {
           book = did.others.0 (apart 0 4 refl) ∙ k.rows.book;
@@ -338,7 +339,7 @@ leads_free who order f old new k did =
       g,
       refl,
       record {
-        schema = did.schema;
+        schema = still_lies old.schema new.schema did.schema k.schema;
         sound = did.sound;
         rows = record {
           book = did.others.0 (apart 0 16 refl) ∙ k.rows.book;

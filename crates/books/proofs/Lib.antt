@@ -15,6 +15,7 @@ mod PutLemmas
 mod KeyLemmas
 mod UpsertLemmas
 mod WritingTexts
+mod Beside
 mod Upserts
 mod KeyedInserts
 mod Inserts

@@ -13,7 +13,7 @@ use Rattle.sqlite_tied.specs.Compute.{everything}
 use Rattle.sqlite.specs.Listing.{understood, reads_listing}
 use Rattle.sqlite.specs.Given.{IsPlain}
 use Rattle.sqlite.proofs.Callers.{command_of}
-use Rattle.books.specs.Layout.{layout}
+use Rattle.books.specs.Layout.{Others, beside}
 use Rattle.books.specs.Asking.{house_text}
 
 -- the rows of a table that pass, as these terms, in an order
@@ -38,13 +38,13 @@ own_text = codes "SELECT mark, n, moment, body FROM entry WHERE who = ?1 ORDER B
 abbrev pub own_query : Query
 own_query = ordered_from 1 (op2 (Compare Eq Binary) (col 1 2) (col 0 0) ∷ []) (col 1 3 ∷ col 1 4 ∷ col 1 5 ∷ col 1 6 ∷ []) ((col 1 0, ascending Binary) ∷ [])
 
-pub own_is : (command_of (understood layout own_text) ≡ Select (record { lets = []; body = own_query }) (codes "mark" ∷ codes "n" ∷ codes "moment" ∷ codes "body" ∷ [])) × (reads_listing layout own_text ≡ false)
+pub own_is : (others : Others) → (command_of (understood (beside others) own_text) ≡ Select (record { lets = []; body = own_query }) (codes "mark" ∷ codes "n" ∷ codes "moment" ∷ codes "body" ∷ [])) × (reads_listing (beside others) own_text ≡ false)
 unfolding understood everything
-own_is = (refl, refl)
+own_is others = (refl, refl)
 
-pub own_plain : IsPlain (understood layout own_text)
+pub own_plain : (others : Others) → IsPlain (understood (beside others) own_text)
 unfolding understood everything
-own_plain = (refl, refl)
+own_plain others = (refl, refl)
 
 -- The numbers of the entries.
 
@@ -54,23 +54,23 @@ count_text = codes "SELECT seq FROM entry"
 abbrev pub count_query : Query
 count_query = ordered_from 1 [] (col 1 0 ∷ []) []
 
-pub count_is : (command_of (understood layout count_text) ≡ Select (record { lets = []; body = count_query }) (codes "seq" ∷ [])) × (reads_listing layout count_text ≡ false)
+pub count_is : (others : Others) → (command_of (understood (beside others) count_text) ≡ Select (record { lets = []; body = count_query }) (codes "seq" ∷ [])) × (reads_listing (beside others) count_text ≡ false)
 unfolding understood everything
-count_is = (refl, refl)
+count_is others = (refl, refl)
 
-pub count_plain : IsPlain (understood layout count_text)
+pub count_plain : (others : Others) → IsPlain (understood (beside others) count_text)
 unfolding understood everything
-count_plain = (refl, refl)
+count_plain others = (refl, refl)
 
 -- The warehouse.
 
 abbrev pub house_query : Query
 house_query = ordered_from 0 [] (col 1 1 ∷ col 1 2 ∷ col 1 3 ∷ []) []
 
-pub house_is : (command_of (understood layout house_text) ≡ Select (record { lets = []; body = house_query }) (codes "version" ∷ codes "qualifier" ∷ codes "id" ∷ [])) × (reads_listing layout house_text ≡ false)
+pub house_is : (others : Others) → (command_of (understood (beside others) house_text) ≡ Select (record { lets = []; body = house_query }) (codes "version" ∷ codes "qualifier" ∷ codes "id" ∷ [])) × (reads_listing (beside others) house_text ≡ false)
 unfolding understood everything
-house_is = (refl, refl)
+house_is others = (refl, refl)
 
-pub house_plain : IsPlain (understood layout house_text)
+pub house_plain : (others : Others) → IsPlain (understood (beside others) house_text)
 unfolding understood everything
-house_plain = (refl, refl)
+house_plain others = (refl, refl)

@@ -13,7 +13,7 @@ use Rattle.sqlite_tied.specs.Compute.{everything}
 use Rattle.sqlite.specs.Listing.{understood, reads_listing}
 use Rattle.sqlite.specs.Given.{IsPlain}
 use Rattle.sqlite.proofs.Callers.{command_of}
-use Rattle.books.specs.Layout.{layout}
+use Rattle.books.specs.Layout.{Others, beside}
 use Rattle.books.proofs.WritingTexts.{where_key}
 
 -- a column of the row, from the least to the greatest
@@ -51,13 +51,13 @@ stock_rows_query = shown_where 6 stock_columns stock_order
 abbrev pub stock_rows_names : List (List ℕ)
 stock_rows_names = codes "item" ∷ codes "lot" ∷ codes "expected" ∷ codes "on_hand" ∷ codes "reserved" ∷ codes "shipped" ∷ []
 
-pub stock_rows_is : (command_of (understood layout stock_rows_text) ≡ Select (record { lets = []; body = stock_rows_query }) stock_rows_names) × (reads_listing layout stock_rows_text ≡ false)
+pub stock_rows_is : (others : Others) → (command_of (understood (beside others) stock_rows_text) ≡ Select (record { lets = []; body = stock_rows_query }) stock_rows_names) × (reads_listing (beside others) stock_rows_text ≡ false)
 unfolding understood everything
-stock_rows_is = (refl, refl)
+stock_rows_is others = (refl, refl)
 
-pub stock_rows_plain : IsPlain (understood layout stock_rows_text)
+pub stock_rows_plain : (others : Others) → IsPlain (understood (beside others) stock_rows_text)
 unfolding understood everything
-stock_rows_plain = (refl, refl)
+stock_rows_plain others = (refl, refl)
 
 -- What went out.
 
@@ -76,13 +76,13 @@ outbox_query = shown_where 4 outbox_columns outbox_order
 abbrev pub outbox_names : List (List ℕ)
 outbox_names = codes "n" ∷ codes "kind" ∷ codes "content" ∷ codes "state" ∷ []
 
-pub outbox_is : (command_of (understood layout outbox_text) ≡ Select (record { lets = []; body = outbox_query }) outbox_names) × (reads_listing layout outbox_text ≡ false)
+pub outbox_is : (others : Others) → (command_of (understood (beside others) outbox_text) ≡ Select (record { lets = []; body = outbox_query }) outbox_names) × (reads_listing (beside others) outbox_text ≡ false)
 unfolding understood everything
-outbox_is = (refl, refl)
+outbox_is others = (refl, refl)
 
-pub outbox_plain : IsPlain (understood layout outbox_text)
+pub outbox_plain : (others : Others) → IsPlain (understood (beside others) outbox_text)
 unfolding understood everything
-outbox_plain = (refl, refl)
+outbox_plain others = (refl, refl)
 
 -- Whether a depositor has an entry.
 
@@ -102,10 +102,10 @@ has_query = record {
   offset = lit (Int (pos 0));
 }
 
-pub has_is : (command_of (understood layout has_text) ≡ Select (record { lets = []; body = has_query }) (codes "seq" ∷ [])) × (reads_listing layout has_text ≡ false)
+pub has_is : (others : Others) → (command_of (understood (beside others) has_text) ≡ Select (record { lets = []; body = has_query }) (codes "seq" ∷ [])) × (reads_listing (beside others) has_text ≡ false)
 unfolding understood everything
-has_is = (refl, refl)
+has_is others = (refl, refl)
 
-pub has_plain : IsPlain (understood layout has_text)
+pub has_plain : (others : Others) → IsPlain (understood (beside others) has_text)
 unfolding understood everything
-has_plain = (refl, refl)
+has_plain others = (refl, refl)

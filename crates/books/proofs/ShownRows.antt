@@ -26,7 +26,7 @@ use Rattle.profile.specs.Schema.{stock_schema, outgoing_schema}
 use Rattle.stock.specs.Keyed.{row_key, key_before as pairs_in_order}
 use Rattle.stock.proofs.KeyLemmas.{numbers_strict}
 use Rattle.books.specs.Held.{Holds}
-use Rattle.books.specs.Layout.{layout, stock_layout, outgoing_layout}
+use Rattle.books.specs.Layout.{Others, beside, stock_layout, outgoing_layout}
 use Rattle.books.specs.Showing.{stock_shown, out_shown}
 use Rattle.books.specs.Standing.{AreOrdered, filled}
 use Rattle.books.proofs.HoldsLemmas.{are_keyed}
@@ -92,12 +92,12 @@ map_map f g [] = refl
 map_map f g (x ∷ xs) = ap (λ ys. g (f x) ∷ ys) (map_map f g xs)
 
 -- the answer of a partner's stock is its stock rows
-pub stock_rows_shown : (W : Who) (L : List Entry) (who : Who) (db : Trees) (rows : List Row) → IsLegal W L → is_partner who ≡ true → IsSound layout db → Holds (stock_table L) (db 6)
+pub stock_rows_shown : (others : Others) (W : Who) (L : List Entry) (who : Who) (db : Trees) (rows : List Row) → IsLegal W L → is_partner who ≡ true → IsSound (beside others) db → Holds (stock_table L) (db 6)
     → IsAnswer stock_rows_query (overlay db []) (value.Text (who_text who) ∷ []) rows → rows ≡ map stock_shown (stock_rows (own L who))
-stock_rows_shown W L who db rows legal partner sound held a =
+stock_rows_shown others W L who db rows legal partner sound held a =
     let ordered : AreOrdered (filled W L) = all_ordered W L in
     shown_rows pairs_in_order row_key stock_cells 6 3 stock_columns stock_order stock_out (who_text who) (stock_table L) (running_rows (events (own L who))) (stock_is W L who legal partner) db held
-    (only_row stock_layout.name 6 3 stock_layout.checks stock_layout.columns db (inr (inr (inr (inl refl)))) sound (are_keyed stock_schema 3 (stock_table L) (db 6) ordered.stock held)) rows a
+    (only_row others stock_layout.name 6 3 stock_layout.checks stock_layout.columns db (inr (inr (inr (inl refl)))) sound (are_keyed stock_schema 3 (stock_table L) (db 6) ordered.stock held)) rows a
     ∙ sym (map_map shown_row stock_shown (running_rows (events (own L who))))
 
 -- What went out.
@@ -134,9 +134,9 @@ outgoing_is W L who legal partner = record {
 }
 
 -- the answer of what went out to a partner is all of its outgoing rows
-pub outgoing_rows_shown : (W : Who) (L : List Entry) (who : Who) (db : Trees) (rows : List Row) → IsLegal W L → is_partner who ≡ true → IsSound layout db → Holds (outgoing_table W L) (db 4)
+pub outgoing_rows_shown : (others : Others) (W : Who) (L : List Entry) (who : Who) (db : Trees) (rows : List Row) → IsLegal W L → is_partner who ≡ true → IsSound (beside others) db → Holds (outgoing_table W L) (db 4)
     → IsAnswer outbox_query (overlay db []) (value.Text (who_text who) ∷ []) rows → rows ≡ map out_shown (outgoing_rows W (own L who))
-outgoing_rows_shown W L who db rows legal partner sound held a =
+outgoing_rows_shown others W L who db rows legal partner sound held a =
     let ordered : AreOrdered (filled W L) = all_ordered W L in
     shown_rows nat_lt (λ (r : OutRow). r.n) outgoing_cells 4 2 outbox_columns outbox_order out_out (who_text who) (outgoing_table W L) (outgoing_rows W (own L who)) (outgoing_is W L who legal partner) db held
-    (only_row outgoing_layout.name 4 2 outgoing_layout.checks outgoing_layout.columns db (inr (inr (inl refl))) sound (are_keyed outgoing_schema 2 (outgoing_table W L) (db 4) ordered.outgoing held)) rows a
+    (only_row others outgoing_layout.name 4 2 outgoing_layout.checks outgoing_layout.columns db (inr (inr (inl refl))) sound (are_keyed outgoing_schema 2 (outgoing_table W L) (db 4) ordered.outgoing held)) rows a

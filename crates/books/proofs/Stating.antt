@@ -1,5 +1,5 @@
 -- What the UPDATE of a document's state does.
-use Rattle.std.proofs.Common.{◌≡◌, inl, inr, ℕ, ℤ, List, [], ◌∷◌, map, Bool, true, false, None, Ok, refl, sym, ap, subst, ◌∙◌}
+use Rattle.std.proofs.Common.{◌≡◌, ◌≢◌, inl, inr, ℕ, ℤ, List, [], ◌∷◌, map, Bool, true, false, None, Ok, refl, sym, ap, subst, ◌∙◌}
 use Rattle.std.specs.List.Sorted.{IsPermutation}
 use Rattle.std.specs.declared.cmp.Ordering.TheVariants.{Equal}
 use Rattle.std.proofs.lemmas.List.Sorted.{length_permutation}
@@ -16,6 +16,7 @@ use Rattle.sqlite_schema.specs.declared.schema.Keys.{Keys}
 use Rattle.sqlite.specs.Does.{Tally, Does}
 use Rattle.sqlite.specs.Rows.{Written}
 use Rattle.sqlite.specs.Tree.{Trees, rowid}
+use Rattle.sqlite.specs.Table.{Table}
 use Rattle.sqlite.specs.Listing.{understood}
 use Rattle.sqlite.specs.Effect.{Database, IsDatabase}
 use Rattle.sqlite.specs.Query.{IsAnswer, output, Output, page}
@@ -23,14 +24,15 @@ use Rattle.sqlite.specs.Term.{eval_all}
 use Rattle.sqlite.specs.Program.{overlay}
 use Rattle.sqlite_catalog.specs.Listing.{IsSound}
 use Rattle.sqlite.specs.State.{State, mode_of, Executes}
-use Rattle.sqlite.proofs.Callers.{statement_of, runs_as, one_step, one_permutation}
-use Rattle.books.specs.Layout.{layout, outgoing_layout}
+use Rattle.sqlite.proofs.Callers.{statement_of, runs_as, one_permutation}
+use Rattle.books.specs.Layout.{beside, Others, IsLayout, AreApart, book_tables, outgoing_layout}
 use Rattle.books.specs.Steps.{WritesInto, SetsState, AreOutgoing, AreKeyed, PutByKey, key_of, outgoing_cells}
 use Rattle.books.proofs.WritingTexts.{set_state_text, set_state_query, set_state_is, set_state_plain}
 use Rattle.books.proofs.PutLemmas.{put_over}
 use Rattle.books.proofs.KeyLemmas.{itself, is_equal}
 use Rattle.books.proofs.UpsertLemmas.{no_match, one_match, only_row}
 use Rattle.books.proofs.Passing.{find_row, whose, whose_key, key_whose}
+use Rattle.books.proofs.Beside.{all_first, one_write}
 use Rattle.books.proofs.Values.{cast_int, went, same_value}
 
 empty_permutation : (ys : List Output) → IsPermutation [] ys → ys ≡ []
@@ -47,7 +49,7 @@ module _ (who : List ℕ) (n : ℤ) (state : List ℕ) where
   abbrev test : Row → Bool
   test = whose (Text who) (Int n)
 
-  module _ (db : Trees) (live : IsSound layout db) (tidy : AreKeyed 2 (db 4)) (shaped : AreOutgoing (db 4)) (out : List Row) (a : IsAnswer set_state_query (overlay db []) params out) where
+  module _ (others : Others) (db : Trees) (live : IsSound (beside others) db) (tidy : AreKeyed 2 (db 4)) (shaped : AreOutgoing (db 4)) (out : List Row) (a : IsAnswer set_state_query (overlay db []) params out) where
     abbrev rows : List Row
     rows = db 4
 
@@ -67,7 +69,7 @@ module _ (who : List ℕ) (n : ℤ) (state : List ℕ) where
         (λ r has h.
         let it = shaped r has in
         let key : key_of 2 r ≡ Text who ∷ Int n ∷ [] = subst (λ (x : Row). key_of 2 x ≡ Text who ∷ Int n ∷ []) (sym it.6) (whose_key (Int it.0) (Text who) (Int n) (outgoing_cells it.1 it.2 it.3 it.4 it.5) refl refl (subst (λ (x : Row). test x ≡ true) it.6 h)) in
-        let same = only_row outgoing_layout.name 4 2 outgoing_layout.checks outgoing_layout.columns db (inr (inr (inl refl))) live tidy r r0 has there key in
+        let same = only_row others outgoing_layout.name 4 2 outgoing_layout.checks outgoing_layout.columns db (inr (inr (inl refl))) live tidy r r0 has there key in
         subst (λ (v : Value). value_cmp v (Int id) ≡ Equal) (sym (ap rowid same)) (tied (Int id))) in
         let o : Output = ([], eval_all set_state_query.project (params ∷ r0 ∷ [])) in
         let kept : a.kept ≡ o ∷ [] = a.distinct ∙ ap (map (output set_state_query)) staged in
@@ -77,12 +79,12 @@ module _ (who : List ℕ) (n : ℤ) (state : List ℕ) where
         tied v = is_equal _ (itself v)
 
   -- what the step leaves
-  stated : (keys : Keys) (db next : Trees) → IsSound layout db → AreKeyed 2 (db 4) → AreOutgoing (db 4) → (out : List Row) → IsAnswer set_state_query (overlay db []) params out
-      → Applies layout keys db (edit_of db outgoing_layout (ids_of out) Given 1 out) next → SetsState who n state (db 4) (next 4)
-  stated keys db next live tidy shaped out a applied = elim (find_row test (db 4)) [
+  stated : (others : Others) (keys : Keys) (db next : Trees) → IsSound (beside others) db → AreKeyed 2 (db 4) → AreOutgoing (db 4) → (out : List Row) → IsAnswer set_state_query (overlay db []) params out
+      → Applies (beside others) keys db (edit_of db outgoing_layout (ids_of out) Given 1 out) next → SetsState who n state (db 4) (next 4)
+  stated others keys db next live tidy shaped out a applied = elim (find_row test (db 4)) [
     | inl found ↦ some found.0 found.1 found.2
     | inr none ↦
-        let shown = none_shown db live tidy shaped out a none in
+        let shown = none_shown others db live tidy shaped out a none in
         inl (
           λ row there same.
               let it = shaped row there in
@@ -99,11 +101,11 @@ module _ (who : List ℕ) (n : ℤ) (state : List ℕ) where
           let names = key_names it.1 who it.2 n (sym (ap (key_of 2) it.6) ∙ key) in
           let is : row ≡ Int it.0 ∷ outgoing_cells who n it.3 it.4 it.5 = it.6 ∙ (λ i. Int it.0 ∷ outgoing_cells (names.0 i) (names.1 i) it.3 it.4 it.5) in
           let here = subst (Has (db 4)) is there in
-          let shown = one_shown db live tidy shaped out a it.0 it.3 it.4 it.5 here in
+          let shown = one_shown others db live tidy shaped out a it.0 it.3 it.4 it.5 here in
           let shows : List Row = (Int it.0 ∷ Int it.0 ∷ outgoing_cells who n it.3 it.4 state) ∷ [] in
           let step : Edit = record { table = outgoing_layout; gone = it.0 ∷ []; news = (Int it.0 ∷ outgoing_cells who n it.3 it.4 state) ∷ [] } in
           let cast : edit_of db outgoing_layout (ids_of shows) Given 1 shows ≡ step = rw (cast_int it.0, cast_int n) refl in
-          let done = subst (λ e. Applies layout keys db e next) (ap (λ rs. edit_of db outgoing_layout (ids_of rs) Given 1 rs) shown ∙ cast) applied in
+          let done = subst (λ e. Applies (beside others) keys db e next) (ap (λ rs. edit_of db outgoing_layout (ids_of rs) Given 1 rs) shown ∙ cast) applied in
           let r0 : Row = Int it.0 ∷ outgoing_cells who n it.3 it.4 it.5 in
           inr (
             it.0,
@@ -113,27 +115,29 @@ module _ (who : List ℕ) (n : ℤ) (state : List ℕ) where
             here,
             subst (PutByKey 2 (outgoing_cells who n it.3 it.4 state) (db 4)) (sym done.rows)
                 (put_over 2 (outgoing_cells who n it.3 it.4 state) (db 4) tidy.rise it.0 r0 here refl refl
-                (λ r has met. only_row outgoing_layout.name 4 2 outgoing_layout.checks outgoing_layout.columns db (inr (inr (inl refl))) live tidy r r0 has here met) done.fresh (itself (Int it.0))),
+                (λ r has met. only_row others outgoing_layout.name 4 2 outgoing_layout.checks outgoing_layout.columns db (inr (inr (inl refl))) live tidy r r0 has here met) done.fresh (itself (Int it.0))),
           )
 
-  pub sets_state : (old new : State) (count : ℕ) → old.now.schema ≡ layout → IsDatabase old.now → AreKeyed 2 (old.now.trees 4) → AreOutgoing (old.now.trees 4) → Executes set_state_text params old new (Ok count)
+  pub sets_state : (old new : State) (count : ℕ) → IsLayout old.now.schema → IsDatabase old.now → AreKeyed 2 (old.now.trees 4) → AreOutgoing (old.now.trees 4) → Executes set_state_text params old new (Ok count)
       → WritesInto 4 (SetsState who n state) old.now new.now
-  sets_state old new count has live tidy shaped h =
+  sets_state old new count lies live tidy shaped h =
+      let others = lies.others in
+      let has = lies.is in
       let db = old.now.trees in
       let keys = (mode_of old).keys in
       let command = Update 2 (record { lets = []; body = set_state_query }) in
-      let w = runs_as set_state_text params old new layout has command set_state_is set_state_plain count h in
-      let text = statement_of set_state_text (understood layout set_state_text) in
+      let w = runs_as set_state_text params old new (beside others) has command (set_state_is others) (set_state_plain others) count h in
+      let text = statement_of set_state_text (understood (beside others) set_state_text) in
       let done = went (subst (λ s. Does old.step_limit (mode_of old) params (record old.now { schema = s }) text None command (Ok (w.tally, new.now))) has w.changed) in
       let now = ap (λ (p : Tally × Database). p.1) (same_value (went (went done.2).2).2) in
       let asked = went done.1 in
       let written = went asked.2 in
       let trees : new.now.trees ≡ written.0 = ap (λ (d : Database). d.trees) now ∙ ap (λ (it : Written). it.trees) (same_value written.2) in
       let step : Edit = edit_of db outgoing_layout (ids_of asked.0) Given 1 asked.0 in
-      let applied = subst (Applies layout keys db step) (sym trees) (one_step layout _ db written.0 step refl written.1) in
+      let applied = subst (Applies (beside others) keys db step) (sym trees) (one_write others lies.apart _ db written.0 step (inr (inr (inl refl))) written.1) in
       record {
         sound = w.sound;
-        schema = ap (λ (d : Database). d.schema) now;
-        others = applied.tables;
-        rows = stated keys db new.now.trees (subst (λ s. IsSound s db) has live) tidy shaped asked.0 (let a = asked.1 in a.answer Null) applied;
+        schema = ap (λ (d : Database). d.schema) now ∙ sym has;
+        others = all_first (λ (t : Table). t.tree ≢ 4 → new.now.trees t.tree ≡ db t.tree) book_tables others.tables applied.tables;
+        rows = stated others keys db new.now.trees (subst (λ s. IsSound s db) has live) tidy shaped asked.0 (let a = asked.1 in a.answer Null) applied;
       }

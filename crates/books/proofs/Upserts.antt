@@ -6,7 +6,7 @@ use Rattle.sqlite.specs.Kind.TheVariants as kind
 use Rattle.sqlite.specs.Cast.{cast}
 use Rattle.sqlite.specs.Effect.{IsDatabase}
 use Rattle.sqlite.specs.State.{State, Executes}
-use Rattle.books.specs.Layout.{layout, stock_layout, advice_layout, advice_line_layout, orders_layout, order_line_layout, reservation_layout}
+use Rattle.books.specs.Layout.{IsLayout, stock_layout, advice_layout, advice_line_layout, orders_layout, order_line_layout, reservation_layout}
 use Rattle.books.specs.Steps.{PutByKey, AreKeyed, WritesInto}
 use Rattle.books.proofs.WritingTexts.{put_stock_text, put_stock_is, put_stock_plain, put_advice_text, put_advice_is, put_advice_plain, put_advice_line_text, put_advice_line_is, put_advice_line_plain, put_orders_text, put_orders_is, put_orders_plain, put_order_line_text, put_order_line_is, put_order_line_plain, put_reservation_text, put_reservation_is, put_reservation_plain}
 use Rattle.books.proofs.UpsertLemmas.{IsUpsert, puts}
@@ -16,7 +16,7 @@ use Rattle.books.proofs.Values.{cast_int}
 module _ (who item lot : List ℕ) (since expected on_hand reserved shipped : ℤ) where
   stock_known : IsUpsert stock_layout.name 3 stock_layout.tree 3 8 stock_layout.checks stock_layout.columns (Text who ∷ Text item ∷ Text lot ∷ Int since ∷ Int expected ∷ Int on_hand ∷ Int reserved ∷ Int shipped ∷ [])
   stock_known = record {
-    spot = refl;
+    spot = λ more. refl;
     listed = inr (inr (inr (inl refl)));
     guarded = λ new r. refl;
     read = λ db. refl;
@@ -27,7 +27,7 @@ module _ (who item lot : List ℕ) (since expected on_hand reserved shipped : �
     projects = λ id param rest more. refl;
   }
 
-  pub puts_stock : (old new : State) (count : ℕ) → old.now.schema ≡ layout → IsDatabase old.now → AreKeyed 3 (old.now.trees 6)
+  pub puts_stock : (old new : State) (count : ℕ) → IsLayout old.now.schema → IsDatabase old.now → AreKeyed 3 (old.now.trees 6)
       → Executes put_stock_text (Text who ∷ Text item ∷ Text lot ∷ Int since ∷ Int expected ∷ Int on_hand ∷ Int reserved ∷ Int shipped ∷ []) old new (Ok count) → WritesInto 6 (PutByKey 3 (Text who ∷ Text item ∷ Text lot ∷ Int since ∷ Int expected ∷ Int on_hand ∷ Int reserved ∷ Int shipped ∷ [])) old.now new.now
   puts_stock = puts stock_layout.name 3 stock_layout.tree 3 8 stock_layout.checks stock_layout.columns (Text who ∷ Text item ∷ Text lot ∷ Int since ∷ Int expected ∷ Int on_hand ∷ Int reserved ∷ Int shipped ∷ []) stock_known put_stock_text put_stock_is put_stock_plain
 
@@ -35,7 +35,7 @@ module _ (who item lot : List ℕ) (since expected on_hand reserved shipped : �
 module _ (who shipment ord : List ℕ) (is_open : ℤ) where
   advice_known : IsUpsert advice_layout.name 4 advice_layout.tree 2 4 advice_layout.checks advice_layout.columns (Text who ∷ Text shipment ∷ Text ord ∷ Int is_open ∷ [])
   advice_known = record {
-    spot = refl;
+    spot = λ more. refl;
     listed = inr (inr (inr (inr (inl refl))));
     guarded = λ new r. refl;
     read = λ db. refl;
@@ -46,7 +46,7 @@ module _ (who shipment ord : List ℕ) (is_open : ℤ) where
     projects = λ id param rest more. refl;
   }
 
-  pub puts_advice : (old new : State) (count : ℕ) → old.now.schema ≡ layout → IsDatabase old.now → AreKeyed 2 (old.now.trees 8)
+  pub puts_advice : (old new : State) (count : ℕ) → IsLayout old.now.schema → IsDatabase old.now → AreKeyed 2 (old.now.trees 8)
       → Executes put_advice_text (Text who ∷ Text shipment ∷ Text ord ∷ Int is_open ∷ []) old new (Ok count) → WritesInto 8 (PutByKey 2 (Text who ∷ Text shipment ∷ Text ord ∷ Int is_open ∷ [])) old.now new.now
   puts_advice = puts advice_layout.name 4 advice_layout.tree 2 4 advice_layout.checks advice_layout.columns (Text who ∷ Text shipment ∷ Text ord ∷ Int is_open ∷ []) advice_known put_advice_text put_advice_is put_advice_plain
 
@@ -54,7 +54,7 @@ module _ (who shipment ord : List ℕ) (is_open : ℤ) where
 module _ (who shipment : List ℕ) (line : ℤ) (item lot : List ℕ) (quantity : ℤ) where
   advice_line_known : IsUpsert advice_line_layout.name 5 advice_line_layout.tree 3 6 advice_line_layout.checks advice_line_layout.columns (Text who ∷ Text shipment ∷ Int line ∷ Text item ∷ Text lot ∷ Int quantity ∷ [])
   advice_line_known = record {
-    spot = refl;
+    spot = λ more. refl;
     listed = inr (inr (inr (inr (inr (inl refl)))));
     guarded = λ new r. refl;
     read = λ db. refl;
@@ -65,7 +65,7 @@ module _ (who shipment : List ℕ) (line : ℤ) (item lot : List ℕ) (quantity 
     projects = λ id param rest more. refl;
   }
 
-  pub puts_advice_line : (old new : State) (count : ℕ) → old.now.schema ≡ layout → IsDatabase old.now → AreKeyed 3 (old.now.trees 10)
+  pub puts_advice_line : (old new : State) (count : ℕ) → IsLayout old.now.schema → IsDatabase old.now → AreKeyed 3 (old.now.trees 10)
       → Executes put_advice_line_text (Text who ∷ Text shipment ∷ Int line ∷ Text item ∷ Text lot ∷ Int quantity ∷ []) old new (Ok count) → WritesInto 10 (PutByKey 3 (Text who ∷ Text shipment ∷ Int line ∷ Text item ∷ Text lot ∷ Int quantity ∷ [])) old.now new.now
   puts_advice_line = puts advice_line_layout.name 5 advice_line_layout.tree 3 6 advice_line_layout.checks advice_line_layout.columns (Text who ∷ Text shipment ∷ Int line ∷ Text item ∷ Text lot ∷ Int quantity ∷ []) advice_line_known put_advice_line_text put_advice_line_is put_advice_line_plain
 
@@ -73,7 +73,7 @@ module _ (who shipment : List ℕ) (line : ℤ) (item lot : List ℕ) (quantity 
 module _ (who ord : List ℕ) (is_open : ℤ) (to_name : Value) (to_one to_two to_place : List ℕ) (to_name_kept : cast kind.Text to_name ≡ to_name) where
   orders_known : IsUpsert orders_layout.name 6 orders_layout.tree 2 7 orders_layout.checks orders_layout.columns (Text who ∷ Text ord ∷ Int is_open ∷ to_name ∷ Text to_one ∷ Text to_two ∷ Text to_place ∷ [])
   orders_known = record {
-    spot = refl;
+    spot = λ more. refl;
     listed = inr (inr (inr (inr (inr (inr (inl refl))))));
     guarded = λ new r. refl;
     read = λ db. refl;
@@ -84,7 +84,7 @@ module _ (who ord : List ℕ) (is_open : ℤ) (to_name : Value) (to_one to_two t
     projects = λ id param rest more. refl;
   }
 
-  pub puts_orders : (old new : State) (count : ℕ) → old.now.schema ≡ layout → IsDatabase old.now → AreKeyed 2 (old.now.trees 12)
+  pub puts_orders : (old new : State) (count : ℕ) → IsLayout old.now.schema → IsDatabase old.now → AreKeyed 2 (old.now.trees 12)
       → Executes put_orders_text (Text who ∷ Text ord ∷ Int is_open ∷ to_name ∷ Text to_one ∷ Text to_two ∷ Text to_place ∷ []) old new (Ok count) → WritesInto 12 (PutByKey 2 (Text who ∷ Text ord ∷ Int is_open ∷ to_name ∷ Text to_one ∷ Text to_two ∷ Text to_place ∷ [])) old.now new.now
   puts_orders = puts orders_layout.name 6 orders_layout.tree 2 7 orders_layout.checks orders_layout.columns (Text who ∷ Text ord ∷ Int is_open ∷ to_name ∷ Text to_one ∷ Text to_two ∷ Text to_place ∷ []) orders_known put_orders_text put_orders_is put_orders_plain
 
@@ -92,7 +92,7 @@ module _ (who ord : List ℕ) (is_open : ℤ) (to_name : Value) (to_one to_two t
 module _ (who ord : List ℕ) (line : ℤ) (item : List ℕ) (lot : Value) (quantity : ℤ) (lot_kept : cast kind.Text lot ≡ lot) where
   order_line_known : IsUpsert order_line_layout.name 7 order_line_layout.tree 3 6 order_line_layout.checks order_line_layout.columns (Text who ∷ Text ord ∷ Int line ∷ Text item ∷ lot ∷ Int quantity ∷ [])
   order_line_known = record {
-    spot = refl;
+    spot = λ more. refl;
     listed = inr (inr (inr (inr (inr (inr (inr (inl refl)))))));
     guarded = λ new r. refl;
     read = λ db. refl;
@@ -103,7 +103,7 @@ module _ (who ord : List ℕ) (line : ℤ) (item : List ℕ) (lot : Value) (quan
     projects = λ id param rest more. refl;
   }
 
-  pub puts_order_line : (old new : State) (count : ℕ) → old.now.schema ≡ layout → IsDatabase old.now → AreKeyed 3 (old.now.trees 14)
+  pub puts_order_line : (old new : State) (count : ℕ) → IsLayout old.now.schema → IsDatabase old.now → AreKeyed 3 (old.now.trees 14)
       → Executes put_order_line_text (Text who ∷ Text ord ∷ Int line ∷ Text item ∷ lot ∷ Int quantity ∷ []) old new (Ok count) → WritesInto 14 (PutByKey 3 (Text who ∷ Text ord ∷ Int line ∷ Text item ∷ lot ∷ Int quantity ∷ [])) old.now new.now
   puts_order_line = puts order_line_layout.name 7 order_line_layout.tree 3 6 order_line_layout.checks order_line_layout.columns (Text who ∷ Text ord ∷ Int line ∷ Text item ∷ lot ∷ Int quantity ∷ []) order_line_known put_order_line_text put_order_line_is put_order_line_plain
 
@@ -111,7 +111,7 @@ module _ (who ord : List ℕ) (line : ℤ) (item : List ℕ) (lot : Value) (quan
 module _ (who ord item lot : List ℕ) (quantity : ℤ) where
   reservation_known : IsUpsert reservation_layout.name 8 reservation_layout.tree 4 5 reservation_layout.checks reservation_layout.columns (Text who ∷ Text ord ∷ Text item ∷ Text lot ∷ Int quantity ∷ [])
   reservation_known = record {
-    spot = refl;
+    spot = λ more. refl;
     listed = inr (inr (inr (inr (inr (inr (inr (inr (inl refl))))))));
     guarded = λ new r. refl;
     read = λ db. refl;
@@ -122,6 +122,6 @@ module _ (who ord item lot : List ℕ) (quantity : ℤ) where
     projects = λ id param rest more. refl;
   }
 
-  pub puts_reservation : (old new : State) (count : ℕ) → old.now.schema ≡ layout → IsDatabase old.now → AreKeyed 4 (old.now.trees 16)
+  pub puts_reservation : (old new : State) (count : ℕ) → IsLayout old.now.schema → IsDatabase old.now → AreKeyed 4 (old.now.trees 16)
       → Executes put_reservation_text (Text who ∷ Text ord ∷ Text item ∷ Text lot ∷ Int quantity ∷ []) old new (Ok count) → WritesInto 16 (PutByKey 4 (Text who ∷ Text ord ∷ Text item ∷ Text lot ∷ Int quantity ∷ [])) old.now new.now
   puts_reservation = puts reservation_layout.name 8 reservation_layout.tree 4 5 reservation_layout.checks reservation_layout.columns (Text who ∷ Text ord ∷ Text item ∷ Text lot ∷ Int quantity ∷ []) reservation_known put_reservation_text put_reservation_is put_reservation_plain

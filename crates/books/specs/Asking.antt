@@ -11,7 +11,7 @@ use Rattle.profile.specs.Register.{Entry}
 use Rattle.store.specs.declared.fault.Fault.{Fault}
 use Rattle.store.specs.declared.fault.Fault.TheVariants.{Store, Reopen, NotThisBook, Device}
 use Rattle.books.specs.Exits.{IsAsBefore, StandsWhileOpen}
-use Rattle.books.specs.Layout.{layout}
+use Rattle.books.specs.Layout.{IsLayout}
 use Rattle.books.specs.Rises.{Rises}
 
 -- the text is a statement under the schema that is there, and where it is a query these rows are its answer
@@ -27,8 +27,8 @@ house_text = codes "SELECT version, qualifier, id FROM book"
 
 -- a book's tables are as before, and a crash leaves no more
 pub record IsAsked (old new : State) : Type 0 where
-  pub same : HasCleanDisk new → (IsTrue old.is_open → old.now.schema ≡ layout) → IsAsBefore old new
-  pub crash : Survives old new (λ _. (IsTrue old.is_open → old.now.schema ≡ layout) → ⊥)
+  pub same : HasCleanDisk new → (IsTrue old.is_open → IsLayout old.now.schema) → IsAsBefore old new
+  pub crash : Survives old new (λ _. (IsTrue old.is_open → IsLayout old.now.schema) → ⊥)
 
 -- Why a query failed: 41 where a call was refused, 43 only where the tables stand for no register, and neither 42 nor 44.
 pub record IsAskFault (fault : Fault) (old new : State) (refused more : ℕ) : Type 0 where

@@ -1,5 +1,6 @@
 -- The tables of the book in SQLite, version 1, and the texts that make them.
-use Rattle.std.specs.Prelude.{Bool, true, false, [], ◌∷◌, Some, None, codes, List, ℕ, take, ◌+◌, pos}
+use Rattle.std.specs.Prelude.{◌≡◌, Bool, true, false, [], ◌∷◌, ◌++◌, ◌==◌, Option, Some, None, codes, List, ℕ, take, ◌+◌, pos}
+use Rattle.std.specs.List.{list_any}
 use Rattle.sqlite.specs.Collation.TheVariants.{Binary}
 use Rattle.sqlite.specs.declared.types.Value.TheVariants as value
 use Rattle.sqlite.specs.Table.{Table}
@@ -9,6 +10,8 @@ use Rattle.sqlite_sql.specs.declared.ops.CompareOp.TheVariants.{Ge, Le}
 use Rattle.sqlite_schema.specs.declared.schema.Column.{Column}
 use Rattle.sqlite_schema.specs.declared.schema.Kind.{Kind}
 use Rattle.sqlite_schema.specs.declared.schema.Index.{Index}
+use Rattle.sqlite_schema.specs.declared.schema.View.{View}
+use Rattle.sqlite_schema.specs.Rules.{ParentKey, parent_key}
 use Rattle.sqlite.specs.Schema.{Schema}
 use Rattle.sqlite.specs.Kind.TheVariants.{Integer, Text, Blob}
 use Rattle.sqlite_value.specs.Keys.{plain}
@@ -177,3 +180,38 @@ no_layout = record { tables = []; indexes = []; views = [] }
 -- the nine tables, and nothing else
 abbrev pub layout : Schema
 layout = record { tables = book_tables; indexes = book_indexes; views = [] }
+
+-- Others beside them.
+
+-- tables that stand behind the book's in a schema, with their indexes, and views
+pub record Others : Type 0 where
+  pub tables : List Table
+  pub indexes : List Index
+  pub views : List View
+
+-- the nine tables, and then these
+abbrev pub beside : Others → Schema
+beside others = record { tables = book_tables ++ others.tables; indexes = book_indexes ++ others.indexes; views = others.views }
+
+-- the tree is a table's of the book
+abbrev pub is_of_book : ℕ → Bool
+is_of_book tree = list_any (λ (t : Table). t.tree == tree) book_tables
+
+abbrev pub is_key_of_book : Option ParentKey → Bool
+is_key_of_book None = false
+is_key_of_book (Some key) = is_of_book key.0
+
+-- a foreign key of the table refers to a table of the book
+abbrev pub refers_to_book : List Table → Table → Bool
+refers_to_book tables child = list_any (λ ref. is_key_of_book (parent_key tables ref)) child.references
+
+-- none of their indexes is on a table of the book, and none of their foreign keys refers to one
+pub record AreApart (others : Others) : Type 0 where
+  pub indexes : list_any (λ (i : Index). is_of_book i.table) others.indexes ≡ false
+  pub references : list_any (refers_to_book (book_tables ++ others.tables)) others.tables ≡ false
+
+-- the schema is the book's nine tables, behind which others may stand
+pub record IsLayout (schema : Schema) : Type 0 where
+  pub others : Others
+  pub is : schema ≡ beside others
+  pub apart : AreApart others

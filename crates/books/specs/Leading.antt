@@ -3,12 +3,12 @@ use Rattle.std.specs.Prelude.{◌≡◌, ℕ, List, ◌∷◌, map}
 use Rattle.sqlite.specs.Effect.{Database, IsDatabase}
 use Rattle.profile.specs.Changes.{Change, changed_by, Puts}
 use Rattle.profile.specs.Tables.{Text, TableRow}
-use Rattle.books.specs.Layout.{layout}
+use Rattle.books.specs.Layout.{IsLayout}
 use Rattle.books.specs.Standing.{Filled, named, AreHeld, AreOrdered}
 
 -- the book's tables hold these rows, which are in the order of their keys
 pub record Keeps (f : Filled) (db : Database) : Type 0 where
-  pub schema : db.schema ≡ layout
+  pub schema : IsLayout db.schema
   pub sound : IsDatabase db
   pub rows : AreHeld f db.trees
   pub ordered : AreOrdered f

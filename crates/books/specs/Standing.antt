@@ -10,7 +10,7 @@ use Rattle.profile.specs.Register.{Entry}
 use Rattle.profile.specs.Accepted.{IsLegal}
 use Rattle.profile.specs.Tables.{Null, Number, Text, Blob, TableRow, AllTables, book_table, entry_table, outgoing_table, stock_table, advice_table, advice_line_table, orders_table, order_line_table, reservation_table}
 use Rattle.profile.specs.Schema.{Schema, is_by_key, key_in, outgoing_schema, entry_schema, stock_schema, advice_schema, advice_line_schema, orders_schema, order_line_schema, reservation_schema}
-use Rattle.books.specs.Layout.{layout}
+use Rattle.books.specs.Layout.{IsLayout}
 use Rattle.books.specs.Held.{Holds, first_row, entry_values}
 
 -- the rows of the nine tables
@@ -65,10 +65,10 @@ pub record AreHeld (f : Filled) (db : Trees) : Type 0 where
   pub order_line : Holds f.order_line (db 14)
   pub reservation : Holds f.reservation (db 16)
 
--- the register is legal, and the schema is the book's nine tables, which hold the rows that the warehouse's register has
+-- the register is legal, and the schema begins with the book's nine tables, which hold the rows that the warehouse's register has
 pub record Stands (W : Who) (L : List Entry) (db : Database) : Type 0 where
   pub legal : IsLegal W L
-  pub schema : db.schema ≡ layout
+  pub schema : IsLayout db.schema
   pub rows : AreHeld (filled W L) db.trees
 
 -- the same of the trees that a crash leaves or an opening reads

@@ -8,7 +8,7 @@ use Rattle.sqlite.specs.Tree.{IsTable}
 use Rattle.sqlite.specs.Effect.{Database, IsDatabase}
 use Rattle.sqlite.specs.State.{State, Shows}
 use Rattle.sqlite_rules.specs.Lists.{Has}
-use Rattle.books.specs.Layout.{layout, book_tables}
+use Rattle.books.specs.Layout.{book_tables}
 
 -- the transaction goes on, and nothing of it is committed
 abbrev pub GoesOn : State → State → Type 0
@@ -53,7 +53,7 @@ Spares tree old new = AllByRecursion (λ (t : Table). t.tree ≢ tree → new.tr
 -- a statement wrote into one table, and its rows became what `Rows` says
 pub record WritesInto (tree : ℕ) (Rows : List Row → List Row → Type 0) (old new : Database) : Type 0 where
   pub sound : IsDatabase new
-  pub schema : new.schema ≡ layout
+  pub schema : new.schema ≡ old.schema
   pub others : Spares tree old new
   pub rows : Rows (old.trees tree) (new.trees tree)
 

@@ -10,7 +10,7 @@ ghost use Rattle.sqlite.specs.Values.{bound};
 ghost use Rattle.books.specs.Asking.{Finds, IsAsked};
 ghost use Rattle.books.specs.Exits.{IsAppended, HasGrown, Extends, IsAsBefore, LeavesIt};
 ghost use Rattle.books.specs.Limits.{NoMore};
-ghost use Rattle.books.specs.Layout.{layout, no_layout};
+ghost use Rattle.books.specs.Layout.{Others, beside, no_layout};
 ghost use Rattle.books.specs.Making.{Makes};
 ghost use Rattle.books.specs.Rises.{Rises};
 ghost use Rattle.books.specs.Standing.{StandsIn};
@@ -103,7 +103,7 @@ impl<S: Alter + Drop> Tables<S> {
     /// The rows that a text answers which only reads the book's tables. A refused call is 40 or 41, and counts.
     #[tactic(auto, using(crate::proofs::Limited::no_more_trans, crate::proofs::Limited::no_more_same))]
     pub(crate) fn ask(&mut self, sql: &str, params: &[ValueRef<'_>]) -> Result<Vec<Row>, Fault>
-        requires { IsPlain (understood layout sql.now) }
+        requires { (others : Others) → IsPlain (understood (beside others) sql.now) }
         ensures finds { HasCleanDisk (state S.Store self.new.conn) → IfOk result (λ rows. IsTrue (state S.Store self.old.conn).is_open × Finds sql.now (bound params.now) (state S.Store self.old.conn).now rows.items) }
         ensures live { IsLive (state S.Store self.old.conn) }
         ensures asked { IsAsked (state S.Store self.old.conn) (state S.Store self.new.conn) }

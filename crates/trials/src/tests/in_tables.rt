@@ -1,3 +1,4 @@
+mod beside;
 mod cut;
 
 use books::{Book, Tables};

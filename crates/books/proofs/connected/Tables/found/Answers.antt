@@ -4,7 +4,9 @@ use Rattle.sqlite.specs.State.{HasCleanDisk}
 use Rattle.sqlite.specs.Held.{state}
 use Rattle.store.specs.declared.fault.Fault.{Fault}
 use Rattle.store.specs.declared.fault.Fault.TheVariants.{NotThisBook}
+use Rattle.books.proofs.Asked.{asked_twice}
 use Rattle.books.proofs.AskedBooks.{err_as, stands_still}
+use Rattle.books.proofs.Limited.{no_more_trans}
 use Rattle.books.proofs.connected.Tables.found.Goals as goal
 
 pub returns-in_err-warehouse-clause-this : goal.returns-in_err-warehouse-clause-this
@@ -18,3 +20,10 @@ returns-clause-count g c = λ clean W L stands.
       c.in_ok-warehouse.ensures.whose early W L stands,
       c.in_ok-entries.ensures.count clean W L (stands_still (state g.S.Store c.args.self.now.conn) (state g.S.Store c.house.new.self.conn) W L early c.house.ensures.asked stands),
     )
+
+pub returns-in_err-entries-clause-asked : goal.returns-in_err-entries-clause-asked
+returns-in_err-entries-clause-asked g c =
+    asked_twice (state g.S.Store c.args.self.now.conn) (state g.S.Store c.house.new.self.conn) (state g.S.Store c.count.new.self.conn) c.house.ensures.asked c.count.ensures.asked
+
+pub returns-clause-limit : goal.returns-clause-limit
+returns-clause-limit g c = no_more_trans c.args.self.now.limit c.house.new.self.limit c.count.new.self.limit c.house.ensures.limit c.count.ensures.limit

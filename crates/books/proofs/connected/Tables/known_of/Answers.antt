@@ -1,5 +1,7 @@
 use Rattle.std.proofs.Common.{◌∙◌, sym}
 use Rattle.sqlite.specs.Held.{state}
+use Rattle.books.proofs.Asked.{asked_twice}
+use Rattle.books.proofs.Limited.{no_more_trans}
 use Rattle.books.proofs.AskedLater.{stands_later, clean_before, fault_later}
 use Rattle.books.proofs.Looked.{known_there, nothing_known}
 use Rattle.books.proofs.connected.Tables.known_of.Goals as goal
@@ -21,3 +23,19 @@ pub returns-in-Err-clause-fault : goal.returns-in-Err-clause-fault
 returns-in-Err-clause-fault g c = λ told.
     fault_later c.in-Err.fault (state g.S.Store c.args.self.now.conn) (state g.S.Store c.entry_under.new.self.conn) (state g.S.Store c.content_under.new.self.conn)
     c.args.self.now.refused c.entry_under.new.self.refused c.content_under.new.self.refused c.entry_under.ensures.asked c.content_under.ensures.asked c.entry_under.ensures.counts (c.in-Err.ensures.fault told)
+
+pub returns-in-Ok-clause-asked : goal.returns-in-Ok-clause-asked
+returns-in-Ok-clause-asked g c =
+    asked_twice (state g.S.Store c.args.self.now.conn) (state g.S.Store c.entry_under.new.self.conn) (state g.S.Store c.content_under.new.self.conn) c.entry_under.ensures.asked c.content_under.ensures.asked
+
+pub returns-in-Ok-clause-limit : goal.returns-in-Ok-clause-limit
+returns-in-Ok-clause-limit g c =
+    no_more_trans c.args.self.now.limit c.entry_under.new.self.limit c.content_under.new.self.limit c.entry_under.ensures.limit c.content_under.ensures.limit
+
+pub returns-in-Err-clause-asked : goal.returns-in-Err-clause-asked
+returns-in-Err-clause-asked g c =
+    asked_twice (state g.S.Store c.args.self.now.conn) (state g.S.Store c.entry_under.new.self.conn) (state g.S.Store c.content_under.new.self.conn) c.entry_under.ensures.asked c.content_under.ensures.asked
+
+pub returns-in-Err-clause-limit : goal.returns-in-Err-clause-limit
+returns-in-Err-clause-limit g c =
+    no_more_trans c.args.self.now.limit c.entry_under.new.self.limit c.content_under.new.self.limit c.entry_under.ensures.limit c.content_under.ensures.limit
