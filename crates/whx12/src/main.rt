@@ -1,21 +1,5 @@
-//! The program: one line of words at a time, over a book.
+//! The program: one line of words, over a book in a file or as a script.
 #![tactic(auto)]
-
-mod acts;
-mod book_files;
-mod clock;
-mod commands;
-mod numbers;
-mod over_file;
-mod rosters;
-mod script;
-mod serving;
-mod sheet_files;
-mod shows;
-mod subcommands;
-mod takes;
-mod told;
-mod words;
 
 use commands::command;
 use std::process::ExitCode;
@@ -38,6 +22,3 @@ fn main(rt: HostRuntime) -> ExitCode {
         Err(_) => ExitCode::from(3),
     }
 }
-
-#[cfg(test)]
-mod tests;

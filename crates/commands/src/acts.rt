@@ -1,0 +1,190 @@
+ghost use Rattle.std.specs.Prelude.{◌≡◌, List, true, IfOk, OnOk};
+ghost use Rattle.profile.specs.Accepted.{IsLegal, is_command, reply_to, after};
+ghost use Rattle.profile.specs.Register.{Entry};
+ghost use Rattle.rules.specs.Asked.{asked};
+ghost use Rattle.store.specs.Runs.{told};
+ghost use Rattle.store.specs.Standing.{IsUsable, GoesOn};
+ghost use Rattle.commands.specs.Telling.{IsPrinted};
+
+use crate::rosters::{enrol_all, read_roster};
+use crate::sheet_files::sheet;
+use crate::takes::take;
+use crate::told::{Status, Stop, tell_refusal, tell_text};
+use crate::words::{Act, Deed, Told};
+use profile::{MOST_NUMBER, MOST_TICKET};
+use std::alloc::Global;
+use std::rt::Files;
+use std::{fs, io};
+use store::{
+    Act as ClerkAct, Command, Ident, Keeper, Moment, Refusal, Reply, Sheet, SheetKind, Who, submit,
+};
+
+/// What is to be done to a book, its words tested and its files read, so that only the book and the devices can keep it from
+/// being done.
+#[derive(Drop)]
+pub enum Ready<'a> {
+    /// Enrol a depositor.
+    Enrol(Who),
+    /// Enrol the depositors of a list.
+    Roster(Vec<Who>),
+    /// Submit an interchange.
+    Send(Vec<u8>),
+    /// Submit each interchange of the folder with this name.
+    Take(&'a str),
+    /// Submit what a clerk did.
+    Clerk(Slip<'a>),
+}
+
+/// What a clerk did, with its sheet.
+#[derive(Drop)]
+pub struct Slip<'a> {
+    who: Who,
+    told: Told<'a>,
+    sheet: Sheet,
+}
+
+// The depositor of a clerk's words; None where a word can't be read.
+fn depositor(told: &Told<'_>) -> Option<Who> {
+    let who = Who::new(told.who.as_bytes())?;
+    Ident::new(told.ticket.as_bytes(), MOST_TICKET)?;
+    if told.deed != Deed::Recount {
+        Ident::new(told.number.as_bytes(), MOST_NUMBER)?;
+    }
+    Some(who)
+}
+
+// The kind of the sheet.
+fn kind(deed: Deed) -> SheetKind {
+    match deed {
+        Deed::Count => SheetKind::Count,
+        Deed::Pick => SheetKind::Pick,
+        Deed::Recount => SheetKind::Recount,
+    }
+}
+
+// What a clerk's words and the file with its sheet come to.
+fn slip_of<'a, R: Files + AllocGlobal>(
+    rt: &R,
+    told: &Told<'a>,
+) -> Result<Result<Ready<'a>, Refusal>, Stop> {
+    let Some(who) = depositor(told) else {
+        return Ok(Err(Refusal::BadText));
+    };
+    let text = fs::read(rt, told.sheet)?;
+    match sheet(rt.alloc(), kind(told.deed), &text)? {
+        Ok(sheet) => Ok(Ok(Ready::Clerk(Slip {
+            who,
+            told: *told,
+            sheet,
+        }))),
+        Err(refusal) => Ok(Err(refusal)),
+    }
+}
+
+/// What a line says is to be done, made ready: its words are tested from left to right, then its file is read, then a sheet or
+/// a list is tested. Refused are 32, a word or a list that can't be read, and what keeps a sheet from being one (30 to 33);
+/// a file that can't be read is Device (44).
+pub fn make_ready<'a, R: Files + AllocGlobal>(
+    rt: &R,
+    act: &Act<'a>,
+) -> Result<Result<Ready<'a>, Refusal>, Stop> {
+    match act {
+        Act::Enrol { who } => match Who::new(who.as_bytes()) {
+            Some(who) => Ok(Ok(Ready::Enrol(who))),
+            None => Ok(Err(Refusal::BadText)),
+        },
+        Act::Roster { file } => match read_roster(rt, file)? {
+            Some(partners) => Ok(Ok(Ready::Roster(partners))),
+            None => Ok(Err(Refusal::BadText)),
+        },
+        Act::Send { file } => Ok(Ok(Ready::Send(fs::read(rt, *file)?))),
+        Act::Take { dir } => Ok(Ok(Ready::Take(*dir))),
+        Act::Clerk(told) => slip_of(rt, told),
+    }
+}
+
+// Prints the text of a reply, and tells a refusal.
+fn tell_reply<W: io::Write, E: io::Write>(
+    alloc: Global,
+    reply: &Reply,
+    out: &mut W,
+    err: &mut E,
+) -> Result<Status, Stop>
+    ensures { IfOk result (λ status. IsPrinted (told reply.now) (W.contents out.old) (W.contents out.new) status) }
+{
+    match reply {
+        Reply::Accepted(text) => tell_text(out, text)?,
+        Reply::Stored(text) => tell_text(out, text)?,
+        Reply::Refused { refusal, answer } => {
+            tell_text(out, answer)?;
+            return tell_refusal(alloc, err, *refusal);
+        }
+    }
+    Ok(Status::Done)
+}
+
+// Submits a command, prints the text of its reply, a refused one's too, and tells a refusal.
+fn hand_in<K: Keeper, W: io::Write, E: io::Write>(
+    alloc: Global,
+    book: &mut K,
+    command: &Command<'_>,
+    moment: Moment,
+    out: &mut W,
+    err: &mut E,
+) -> Result<Status, Stop>
+    ensures printed { (K.standing book.new).doubt ≡ 0 → (L : List Entry) → (K.standing book.old).keeps L → IsLegal (K.standing book.old).warehouse L
+        → IfOk result (λ status. IsPrinted (reply_to (K.standing book.old).warehouse L (asked command.now) moment) (W.contents out.old) (W.contents out.new) status) }
+    ensures done { (K.standing book.new).doubt ≡ 0 → (L : List Entry) → IsUsable (K.standing book.old) L → is_command (asked command.now) ≡ true
+        → OnOk result (IsUsable (K.standing book.new) (after (K.standing book.old).warehouse L (asked command.now, moment))) }
+    ensures goes { GoesOn (K.standing book.old) (K.standing book.new) }
+{
+    let reply = submit(alloc, book, command, moment)?;
+    tell_reply(alloc, &reply, out, err)
+}
+
+// The act, with its sheet.
+fn act<'a>(deed: Deed, number: &'a [u8], sheet: &'a Sheet) -> ClerkAct<'a> {
+    match deed {
+        Deed::Count => ClerkAct::Count {
+            shipment: number,
+            sheet,
+        },
+        Deed::Pick => ClerkAct::Pick {
+            order: number,
+            sheet,
+        },
+        Deed::Recount => ClerkAct::Recount { sheet },
+    }
+}
+
+// What a clerk did, as a command.
+fn clerk<'a>(slip: &'a Slip<'_>) -> Command<'a> {
+    let told = &slip.told;
+    Command::Clerk {
+        who: slip.who,
+        ticket: told.ticket.as_bytes(),
+        act: act(told.deed, told.number.as_bytes(), &slip.sheet),
+    }
+}
+
+/// Does to a book what was made ready, prints what comes of it, and tells a refusal on standard error.
+pub fn perform<R: Files + AllocGlobal + Clone + Drop, K: Keeper, W: io::Write, E: io::Write>(
+    rt: &R,
+    book: &mut K,
+    ready: &Ready<'_>,
+    moment: Moment,
+    out: &mut W,
+    err: &mut E,
+) -> Result<Status, Stop> {
+    let alloc = rt.alloc();
+    match ready {
+        Ready::Enrol(who) => hand_in(alloc, book, &Command::Enrol(*who), moment, out, err),
+        Ready::Roster(partners) => enrol_all(alloc, book, partners, moment, out),
+        Ready::Send(bytes) => {
+            let command = Command::Interchange(bytes);
+            hand_in(alloc, book, &command, moment, out, err)
+        }
+        Ready::Take(dir) => take(rt, book, *dir, moment, out),
+        Ready::Clerk(slip) => hand_in(alloc, book, &clerk(slip), moment, out, err),
+    }
+}

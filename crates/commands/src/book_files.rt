@@ -1,0 +1,62 @@
+//! The book in a file, and its log beside it. A book is opened and closed over any store, and a database closed over any disk, since what
+//! owns a store on disk is dear to prove.
+
+ghost use Rattle.std.specs.Prelude.{◌≡◌, false};
+
+use crate::told::Stop;
+use books::{Book, Tables};
+use sqlite::{Alter, Connection, Error, ErrorCode, FileStore};
+use sqlite_disk::Disk;
+use std::alloc::Global;
+use store::{Fault, Warehouse};
+
+/// The fault of a file that can't be opened or closed as a database. One that holds anything else, or is damaged, is not this
+/// book; one that is in use, or can't be read or written, is a device that failed.
+pub fn fault(error: &Error) -> Fault {
+    match error {
+        Error::SqliteFailure(ErrorCode::OutOfMemory) => Fault::OutOfMemory,
+        Error::SqliteFailure(ErrorCode::NotADatabase | ErrorCode::DatabaseCorrupt) => {
+            Fault::NotThisBook
+        }
+        _ => Fault::Device,
+    }
+}
+
+/// Closes a database: its log is copied into the file. Where that fails (40, 43 or 44), the log still holds what isn't copied, and
+/// the next opening finds it there.
+pub fn disconnect<D: Disk + Drop>(database: Connection<FileStore<D>>) -> Result<(), Stop> {
+    match database.close() {
+        Ok(()) => Ok(()),
+        Err(error) => Err(Stop::Fault(fault(&error))),
+    }
+}
+
+/// Makes the book of a warehouse in a database that is in no transaction. NotThisBook (43) where the database holds tables of a book.
+/// What is left at a fault can be given to `make` again.
+pub fn make<S: Alter + Drop>(
+    alloc: Global,
+    database: Connection<S>,
+    warehouse: Warehouse,
+) -> Result<Book<S>, Stop>
+    requires { database.in_transaction ≡ false }
+{
+    match Book::create(alloc, Tables::new(database), warehouse) {
+        Ok(book) => Ok(book),
+        Err((fault, _)) => Err(Stop::Fault(fault)),
+    }
+}
+
+/// Opens the book in a database that is in no transaction. NotThisBook (43) where its tables are no book; Store (41) where they can't be read.
+pub fn open<S: Alter + Drop>(alloc: Global, database: Connection<S>) -> Result<Book<S>, Stop>
+    requires { database.in_transaction ≡ false }
+{
+    match Book::open_from(alloc, Tables::new(database)) {
+        Ok(book) => Ok(book),
+        Err((fault, _)) => Err(Stop::Fault(fault)),
+    }
+}
+
+/// Closes a book.
+pub fn close<S: Alter + Drop>(book: Book<S>) -> Connection<S> {
+    book.close().into_inner()
+}

@@ -1,0 +1,181 @@
+//! What a line says, done over the book in a file: words are tested and files read before the book is opened, and it is closed
+//! before the line is done.
+ghost use Rattle.std.specs.Prelude.{◌≡◌, false};
+
+use crate::acts::{Ready, make_ready, perform};
+use crate::book_files::{close, disconnect, fault, make, open};
+use crate::clock::moment_for;
+use crate::serving::serve;
+use crate::shows::{Asked, ask, show};
+use crate::told::{Status, Stop, tell_refusal};
+use crate::words::{Act, Service, Show, Task};
+use books::Book;
+use sqlite::{Alter, Connection, FileStore};
+use sqlite_disk::Disk;
+use std::alloc::Global;
+use std::{fs, io};
+use store::{Keeper, Moment, Refusal, Warehouse, Who};
+
+// What is to be done over a book, its words tested and its files read.
+#[derive(Drop)]
+enum Job<'a> {
+    // make it
+    Make(Warehouse),
+    // change the book
+    Change(Ready<'a>, Moment),
+    // show something of it
+    Look(Asked<'a>),
+    // serve it over HTTP, from a first moment on, and by the clock or not
+    Listen(Service, Moment, bool),
+}
+
+// Does a job over a book; what is to be made is made by then.
+fn work<K: Keeper, W: io::Write, E: io::Write>(
+    rt: &HostRuntime,
+    book: &mut K,
+    job: &Job<'_>,
+    out: &mut W,
+    err: &mut E,
+) -> Result<Status, Stop> {
+    match job {
+        Job::Make(_) => Ok(Status::Done),
+        Job::Change(ready, moment) => perform(rt, book, ready, *moment, out, err),
+        Job::Look(asked) => show(rt.alloc(), book, asked, out, err),
+        Job::Listen(service, first, has_clock) => serve(rt, book, service, *first, *has_clock, out),
+    }
+}
+
+// Opens the book in a database, or makes it where that is the job.
+fn begin<S: Alter + Drop>(
+    alloc: Global,
+    database: Connection<S>,
+    job: &Job<'_>,
+) -> Result<Book<S>, Stop>
+    requires { database.in_transaction ≡ false }
+{
+    match job {
+        Job::Make(warehouse) => make(alloc, database, *warehouse),
+        _ => open(alloc, database),
+    }
+}
+
+// Opens the book in a database, or makes it, does a job over it, and closes it. At a fault the database is let go as it is: its log has all
+// that was answered, and nothing more is written to a store that has just failed.
+fn work_over<S: Alter + Drop, W: io::Write, E: io::Write>(
+    rt: &HostRuntime,
+    database: Connection<S>,
+    job: &Job<'_>,
+    out: &mut W,
+    err: &mut E,
+) -> Result<(Status, Connection<S>), Stop>
+    requires { database.in_transaction ≡ false }
+{
+    let mut book = begin(rt.alloc(), database, job)?;
+    match work(rt, &mut book, job, out, err) {
+        Ok(status) => Ok((status, close(book))),
+        Err(stop) => Err(stop),
+    }
+}
+
+// Does a job over the book in a database on any disk, and closes the database.
+fn over_disk<D: Disk + Drop, W: io::Write, E: io::Write>(
+    rt: &HostRuntime,
+    database: Connection<FileStore<D>>,
+    job: &Job<'_>,
+    out: &mut W,
+    err: &mut E,
+) -> Result<Status, Stop>
+    requires { database.in_transaction ≡ false }
+{
+    let (status, database) = work_over(rt, database, job, out, err)?;
+    disconnect(database)?;
+    Ok(status)
+}
+
+// Does a job over the book in a file. NotThisBook (43) where the file holds no database; Device (44) where it can't be made, read or
+// written, is in use, or is missing and isn't to be made. This function alone names a database on disk.
+fn over<W: io::Write, E: io::Write>(
+    rt: &HostRuntime,
+    file: &str,
+    job: &Job<'_>,
+    out: &mut W,
+    err: &mut E,
+) -> Result<Status, Stop> {
+    if !matches!(job, Job::Make(_)) {
+        // A database that is opened is made where its file is missing.
+        fs::metadata(rt, file)?;
+    }
+    match Connection::open(rt, file) {
+        Ok(database) => over_disk(rt, database, job, out, err),
+        Err(error) => Err(Stop::Fault(fault(&error))),
+    }
+}
+
+// Makes the book of a warehouse.
+fn init<W: io::Write, E: io::Write>(
+    rt: &HostRuntime,
+    file: &str,
+    who: &str,
+    out: &mut W,
+    err: &mut E,
+) -> Result<Status, Stop> {
+    match Who::new(who.as_bytes()) {
+        Some(who) => over(rt, file, &Job::Make(Warehouse::new(who)), out, err),
+        None => tell_refusal(rt.alloc(), err, Refusal::BadText),
+    }
+}
+
+// Changes the book.
+fn change<W: io::Write, E: io::Write>(
+    rt: &HostRuntime,
+    file: &str,
+    act: &Act<'_>,
+    at: Option<Moment>,
+    out: &mut W,
+    err: &mut E,
+) -> Result<Status, Stop> {
+    let moment = moment_for(rt, at)?;
+    match make_ready(rt, act)? {
+        Ok(ready) => over(rt, file, &Job::Change(ready, moment), out, err),
+        Err(refusal) => tell_refusal(rt.alloc(), err, refusal),
+    }
+}
+
+// Shows something of the book.
+fn look<W: io::Write, E: io::Write>(
+    rt: &HostRuntime,
+    file: &str,
+    what: &Show<'_>,
+    out: &mut W,
+    err: &mut E,
+) -> Result<Status, Stop> {
+    match ask(what) {
+        Ok(asked) => over(rt, file, &Job::Look(asked), out, err),
+        Err(refusal) => tell_refusal(rt.alloc(), err, refusal),
+    }
+}
+
+/// Does over the book in a file what a line says. A clock that can't be used is told before the book is opened.
+pub fn run_over_file<W: io::Write, E: io::Write>(
+    rt: &HostRuntime,
+    file: &str,
+    task: &Task<'_>,
+    out: &mut W,
+    err: &mut E,
+) -> Result<Status, Stop> {
+    match task {
+        Task::Init { who } => init(rt, file, who, out, err),
+        Task::Act { act, at } => change(rt, file, act, *at, out, err),
+        Task::Show(what) => look(rt, file, what, out, err),
+        Task::Serve { service, at } => {
+            let first = moment_for(rt, *at)?;
+            over(
+                rt,
+                file,
+                &Job::Listen(*service, first, at.is_none()),
+                out,
+                err,
+            )
+        }
+    }
+}

@@ -1,0 +1,114 @@
+//! Lists of depositors.
+ghost use Rattle.std.specs.Prelude.{◌≡◌, IfOk, option_map, codes, map};
+ghost use Rattle.toml.specs.Data.{get_member};
+ghost use Rattle.toml.specs.View.{items_view, table_view, view};
+ghost use Rattle.commands.specs.Rosters as meant;
+
+use crate::told::{Status, Stop};
+use std::alloc::{AllocError, Global};
+use std::rt::Files;
+use std::{fs, io};
+use store::{Command, Keeper, Moment, Reply, Who, submit};
+use toml::{Table, Value};
+
+// The partner that a value names; None where it is no text that names one.
+fn partner(value: &Value) -> Option<Who>
+    ensures { result ≡ meant.partner_in (view value.now) }
+{
+    match value.as_str() {
+        Some(text) => Who::new(text.as_bytes()),
+        None => None,
+    }
+}
+
+// The depositors that the values name; None where one of them is no text that names one.
+fn partners(alloc: Global, values: &[Value]) -> Result<Option<Vec<Who>>, AllocError>
+    ensures { IfOk result (λ found. option_map (λ v. v.items) found ≡ meant.partners_in (items_view values.now)) }
+{
+    let mut found = Vec::new(alloc);
+    for value in values {
+        match partner(value) {
+            Some(who) => found.push(who)?,
+            None => return Ok(None),
+        }
+    }
+    Ok(Some(found))
+}
+
+// The depositors that a table's key `depositors` names; None where that is no array of partners.
+fn listed(alloc: Global, table: &Table) -> Result<Option<Vec<Who>>, AllocError>
+    ensures { IfOk result (λ found. option_map (λ v. v.items) found ≡ meant.listed (get_member (codes "depositors") (table_view table.now))) }
+{
+    let Some(value) = table.get("depositors") else {
+        return Ok(None);
+    };
+    match value.as_array() {
+        Some(values) => partners(alloc, values),
+        None => Ok(None),
+    }
+}
+
+/// The depositors that a list names, in its order: a TOML text whose key `depositors` is an array of partners as `ZZ-ACME`;
+/// its other keys say nothing. None where it is another text. The one error is want of memory.
+pub fn depositors(alloc: Global, text: &[u8]) -> Result<Option<Vec<Who>>, AllocError>
+    ensures { IfOk result (λ found. meant.IsRead text.now (option_map (λ v. v.items) found)) }
+{
+    match toml::table_from_slice(alloc, text) {
+        Ok(table) => listed(alloc, &table),
+        Err(error) if error.is_memory() => Err(AllocError),
+        Err(_) => Ok(None),
+    }
+}
+
+// Prints a partner as `ZZ-ACME`, and a space.
+fn tell_partner<W: io::Write>(out: &mut W, who: &Who) -> Result<(), Stop> {
+    out.write_all(who.qualifier())?;
+    out.write_all(b"-")?;
+    out.write_all(who.id())?;
+    out.write_all(b" ")?;
+    Ok(())
+}
+
+// Enrols a depositor and prints what became of it.
+fn enrol_one<K: Keeper, W: io::Write>(
+    alloc: Global,
+    book: &mut K,
+    who: Who,
+    moment: Moment,
+    out: &mut W,
+) -> Result<Status, Stop> {
+    let reply = submit(alloc, book, &Command::Enrol(who), moment)?;
+    tell_partner(out, &who)?;
+    match reply {
+        Reply::Refused { refusal, .. } => {
+            let number = refusal.number();
+            write!(out, "refused {number}\n")?;
+            Ok(Status::Refused)
+        }
+        _ => {
+            out.write_all(b"enrolled\n")?;
+            Ok(Status::Done)
+        }
+    }
+}
+
+/// Enrols depositors in order, and prints a line for each.
+pub fn enrol_all<K: Keeper, W: io::Write>(
+    alloc: Global,
+    book: &mut K,
+    partners: &[Who],
+    moment: Moment,
+    out: &mut W,
+) -> Result<Status, Stop> {
+    let mut status = Status::Done;
+    for who in partners {
+        status = status.and(enrol_one(alloc, book, *who, moment, out)?);
+    }
+    Ok(status)
+}
+
+/// The depositors of the list in a file; None where it is no such list. A file that can't be read is Device (44).
+pub fn read_roster<R: Files + AllocGlobal>(rt: &R, file: &str) -> Result<Option<Vec<Who>>, Stop> {
+    let text = fs::read(rt, file)?;
+    Ok(depositors(rt.alloc(), &text)?)
+}

@@ -1,0 +1,150 @@
+ghost use Rattle.std.specs.Prelude.{◌≡◌, IfOk, OnOk};
+ghost use Rattle.std.specs.Io.KnownBytes.{Appends};
+ghost use Rattle.commands.specs.Statuses as meant;
+ghost use Rattle.commands.specs.Telling.{line_of};
+
+use crate::words::LineFault;
+use std::alloc::{AllocError, Global};
+use std::io;
+use store::{Fault, Refusal};
+
+/// How a command, or a whole script, ended.
+#[derive(Clone, Copy, Debug, PartialEq, Eq)]
+pub enum Status {
+    /// All was done.
+    Done,
+    /// Something was refused.
+    Refused,
+    /// The words couldn't be read.
+    Usage,
+    /// A fault stopped it.
+    Fault,
+}
+
+impl Status {
+    /// The exit status.
+    pub fn code(self) -> u8
+        ensures { result ≡ meant.code_of self }
+    {
+        match self {
+            Status::Done => 0,
+            Status::Refused => 1,
+            Status::Usage => 2,
+            Status::Fault => 3,
+        }
+    }
+
+    /// The status of what ended so, and then so.
+    pub fn and(self, next: Status) -> Status
+        ensures { result ≡ meant.and_then self next }
+    {
+        match next {
+            Status::Done => self,
+            _ => next,
+        }
+    }
+}
+
+/// What stops a command, and a script with it.
+#[derive(Drop)]
+pub enum Stop {
+    /// Words that can't be read, with the text to show.
+    Usage(String),
+    /// A fault.
+    Fault(Fault),
+}
+
+impl From<AllocError> for Stop {
+    fn from(_error: AllocError) -> Stop {
+        Stop::Fault(Fault::OutOfMemory)
+    }
+}
+
+impl From<Fault> for Stop {
+    fn from(fault: Fault) -> Stop {
+        Stop::Fault(fault)
+    }
+}
+
+impl From<LineFault> for Stop {
+    fn from(fault: LineFault) -> Stop {
+        match fault {
+            LineFault::Usage(text) => Stop::Usage(text),
+            LineFault::OutOfMemory => Stop::Fault(Fault::OutOfMemory),
+        }
+    }
+}
+
+impl From<io::Error> for Stop {
+    fn from(error: io::Error) -> Stop {
+        if error.kind() == io::ErrorKind::OutOfMemory {
+            Stop::Fault(Fault::OutOfMemory)
+        } else {
+            Stop::Fault(Fault::Device)
+        }
+    }
+}
+
+/// A usage fault with a text.
+pub fn usage(alloc: Global, text: &str) -> Stop {
+    match text.to_string(alloc) {
+        Ok(text) => Stop::Usage(text),
+        Err(error) => Stop::from(error),
+    }
+}
+
+/// Writes a text that goes out and LF, where there is one.
+pub fn tell_text<W: io::Write>(out: &mut W, text: &[u8]) -> Result<(), Stop>
+    ensures { OnOk result (Appends (W.contents out.old) (W.contents out.new) (line_of text.now)) }
+{
+    if !text.is_empty() {
+        out.write_all(text)?;
+        out.write_all(b"\n")?;
+    }
+    Ok(())
+}
+
+/// Tells a refusal on standard error, as `refused 35 AlreadyEnrolled` or `refused 2 Note(006)`.
+pub fn tell_refusal<E: io::Write>(
+    alloc: Global,
+    err: &mut E,
+    refusal: Refusal,
+) -> Result<Status, Stop>
+    ensures { IfOk result (λ status. status ≡ Status.Refused) }
+{
+    let number = refusal.number();
+    let name = refusal.name(alloc)?;
+    write!(err, "refused {number} ")?;
+    err.write_all(&name)?;
+    err.write_all(b"\n")?;
+    Ok(Status::Refused)
+}
+
+// What of a stop can be told.
+fn told<E: io::Write>(err: &mut E, stop: &Stop) -> io::Result<()> {
+    match stop {
+        Stop::Usage(text) => {
+            let text = text.as_str();
+            write!(err, "{text}")
+        }
+        Stop::Fault(fault) => {
+            let (number, name) = (fault.number(), fault.name());
+            write!(err, "fault {number} {name}\n")
+        }
+    }
+}
+
+/// Tells what stopped a command on standard error: a fault as `fault 44 Device`. Where standard error fails too, the status
+/// alone tells it.
+pub fn tell_stop<E: io::Write>(err: &mut E, stop: &Stop) -> Status
+    ensures { result ≡ meant.status_of stop.now }
+{
+    let status = match stop {
+        Stop::Usage(_) => Status::Usage,
+        Stop::Fault(_) => Status::Fault,
+    };
+    match told(err, stop) {
+        Ok(()) => status,
+        Err(_) => status,
+    }
+}
