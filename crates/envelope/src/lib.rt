@@ -23,6 +23,3 @@ pub use notes::header_note;
 pub use parts::{Group, Interchange, Set};
 pub use reading::isa;
 pub use whole::structure;
-
-#[cfg(test)]
-mod tests;

@@ -11,6 +11,3 @@ pub use balances::stock_report;
 pub use exports::stock_csv;
 pub use outboxes::outbox_list;
 pub use picking::{NoSheet, pick_list};
-
-#[cfg(test)]
-mod tests;

@@ -137,7 +137,7 @@ fn picking_sheet(alloc: Global, order: &KnownOrder) -> Result<Vec<u8>, AllocErro
 }
 
 // The picking sheet of an order, if it is open.
-pub(crate) fn sheet_of(alloc: Global, order: &KnownOrder) -> Result<Vec<u8>, NoSheet>
+fn sheet_of(alloc: Global, order: &KnownOrder) -> Result<Vec<u8>, NoSheet>
     ensures ok { IfOk result (λ text. listed (Some order.now) ≡ Ok text.items) }
     ensures err { IfErr result (λ why. Explains (listed (Some order.now)) why) }
 {

@@ -17,6 +17,3 @@ pub use idents::Ident;
 pub use moments::{Moment, is_day};
 pub use partners::Who;
 pub use writing::write_segment;
-
-#[cfg(test)]
-mod tests;

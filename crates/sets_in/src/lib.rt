@@ -19,6 +19,3 @@ pub use orders::order;
 pub use reading::number;
 pub use sets::{Address, Advice};
 pub use shipping::{Order, OrderLine};
-
-#[cfg(test)]
-mod tests;

@@ -24,6 +24,3 @@ pub use receipts::write_944;
 pub use sheets::{AdjustedLine, Document, Line, PickedLot, Receipt, Shipment, ShippedLine};
 pub use shipments::write_945;
 pub use told::{ElementFault, Rejection, SetFault, Told, ToldSet};
-
-#[cfg(test)]
-mod tests;

@@ -9,6 +9,3 @@ mod writing;
 pub use kinds::SheetKind;
 pub use lines::Line;
 pub use making::Sheet;
-
-#[cfg(test)]
-mod tests;

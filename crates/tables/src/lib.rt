@@ -15,6 +15,3 @@ mod stages;
 pub use checked::{Checked, is_closed, judge};
 pub use faults::SetFault;
 pub use kinds::SetKind;
-
-#[cfg(test)]
-mod tests;
