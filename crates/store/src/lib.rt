@@ -17,6 +17,3 @@ pub use rules::{
     Sheet, SheetKind, Warehouse, Who, decide, subject,
 };
 pub use serving::{Outcome, Reply, outbox, run, stock, submit};
-
-#[cfg(test)]
-mod tests;

@@ -1,3 +1,5 @@
+mod in_memory;
 mod in_tables;
 mod over_http;
 mod pages;
+mod worked;

@@ -1,27 +1,14 @@
 mod beside;
 mod cut;
 
+use super::worked::{ADVICE, acme, house, morning, sheet};
 use books::{Book, Tables};
-use rules::{Act, Command, Decision, Moment, SheetKind, Warehouse, Who, decide, subject};
-use sheets::{Line, Sheet};
+use rules::{Act, Command, Decision, Moment, SheetKind, Warehouse, decide, subject};
 use sqlite::types::ValueRef;
 use sqlite::{Alter, Connection};
-use std::alloc::{AllocError, Global};
+use std::alloc::Global;
 use std::test::Fail;
 use store::{Fault, Keeper, ReplayBook, Reply, submit};
-
-// 943 of one line, from ZZ ACME under control number 1: 255 bytes.
-const ADVICE: &[u8] =
-    b"ISA*00*          *00*          *ZZ*ACME           *ZZ*WHSE1          *250304*0915*U*00401*000000001*1*P*>~GS*AR*ACME*WHSE1*20250304*0915*1*X*004010~ST*943*0001~W06*F*PO77*20250303*SHP1~W04*100*EA**SK*BOLT~N9*LT*L1~W03*100~SE*6*0001~GE*1*1~IEA*1*000000001~";
-
-// The sheet of a count of BOLT L1.
-fn sheet(alloc: Global, quantity: &[u8]) -> Result<Option<Sheet>, AllocError> {
-    let item = Vec::from_slice(alloc, b"BOLT")?;
-    let lot = Vec::from_slice(alloc, b"L1")?;
-    let mut lines = Vec::new(alloc);
-    lines.push(Line::new(item, lot, Vec::from_slice(alloc, quantity)?))?;
-    Ok(Sheet::new(SheetKind::Count, lines).ok())
-}
 
 // Decides on a command by a book in memory, and commits what it comes to to both.
 fn take<S: Alter + Drop>(
@@ -66,10 +53,10 @@ fn shown<S: Alter>(conn: &mut Connection<S>, sql: &str) -> Option<u64> {
 #[test]
 fn a_count_is_in_the_tables(rt: HostRuntime) -> Result<(), Fail> {
     let alloc = rt.alloc();
-    let house = Who::new(b"ZZ-WHSE1").ok_or("a warehouse")?;
-    let acme = Who::new(b"ZZ-ACME").ok_or("a depositor")?;
-    let moment = Moment::new(2025, 3, 4, 9, 15).ok_or("a moment")?;
-    let counted = sheet(alloc, b"90")?.ok_or("a sheet")?;
+    let house = house()?;
+    let acme = acme()?;
+    let moment = morning()?;
+    let counted = sheet(alloc, SheetKind::Count, b"90")?;
     let warehouse = Warehouse::new(house);
     let mut memory = ReplayBook::new(alloc, warehouse);
     let conn = Connection::open_in_memory(alloc).ok().ok_or("memory")?;
@@ -114,9 +101,9 @@ fn a_count_is_in_the_tables(rt: HostRuntime) -> Result<(), Fail> {
 #[test]
 fn a_refused_call_shuts_the_book(rt: HostRuntime) -> Result<(), Fail> {
     let alloc = rt.alloc();
-    let house = Who::new(b"ZZ-WHSE1").ok_or("a warehouse")?;
-    let acme = Who::new(b"ZZ-ACME").ok_or("a depositor")?;
-    let moment = Moment::new(2025, 3, 4, 9, 15).ok_or("a moment")?;
+    let house = house()?;
+    let acme = acme()?;
+    let moment = morning()?;
     let warehouse = Warehouse::new(house);
     let mut memory = ReplayBook::new(alloc, warehouse);
     let conn = Connection::open_in_memory(alloc).ok().ok_or("memory")?;
@@ -124,7 +111,7 @@ fn a_refused_call_shuts_the_book(rt: HostRuntime) -> Result<(), Fail> {
     // nine tables, the row of `book` and the commit; then one call of the next commit
     tables.limit_calls(Some(12));
     let mut book = Book::create(alloc, tables, warehouse).ok().ok_or("a book")?;
-    let counted = sheet(alloc, b"90")?.ok_or("a sheet")?;
+    let counted = sheet(alloc, SheetKind::Count, b"90")?;
     let enrol = Command::Enrol(acme);
     let count = Command::Clerk {
         who: acme,
@@ -173,10 +160,10 @@ fn accepted<S: Alter + Drop>(
 #[test]
 fn a_book_is_opened_before_each_command(rt: HostRuntime) -> Result<(), Fail> {
     let alloc = rt.alloc();
-    let house = Who::new(b"ZZ-WHSE1").ok_or("a warehouse")?;
-    let acme = Who::new(b"ZZ-ACME").ok_or("a depositor")?;
-    let moment = Moment::new(2025, 3, 4, 9, 15).ok_or("a moment")?;
-    let counted = sheet(alloc, b"90")?.ok_or("a sheet")?;
+    let house = house()?;
+    let acme = acme()?;
+    let moment = morning()?;
+    let counted = sheet(alloc, SheetKind::Count, b"90")?;
     let conn = Connection::open_in_memory(alloc).ok().ok_or("memory")?;
     let mut book = Book::create(alloc, Tables::new(conn), Warehouse::new(house))
         .ok()

@@ -2,22 +2,15 @@ mod devices;
 mod folders;
 mod texts;
 
+use super::worked::{acme, house, morning, sheet};
 use http::{Method, StatusCode};
 use intake::{Gauge, Status, respond, serve_count, serve_one, take_folder};
-use std::alloc::{AllocError, Global};
+use std::alloc::Global;
 use std::io::{Read, Write};
 use std::net::{TcpListener, TcpStream};
 use std::test::Fail;
-use store::{
-    Act, Command, Fault, Keeper, Line, Moment, ReplayBook, Sheet, SheetKind, Warehouse, Who, stock,
-    submit,
-};
+use store::{Act, Command, Fault, Keeper, Moment, ReplayBook, SheetKind, Warehouse, Who, submit};
 use texts::*;
-
-// The moment of each row.
-fn morning() -> Result<Moment, Fail> {
-    Ok(Moment::new(2025, 3, 4, 9, 15).ok_or("a moment")?)
-}
 
 // Enrols a depositor.
 fn enrol<K: Keeper>(alloc: Global, book: &mut K, who: Who, moment: Moment) -> bool {
@@ -26,8 +19,8 @@ fn enrol<K: Keeper>(alloc: Global, book: &mut K, who: Who, moment: Moment) -> bo
 
 // The book of ZZ WHSE1, in which ZZ ACME is enrolled.
 fn enrolled(alloc: Global) -> Result<ReplayBook, Fail> {
-    let house = Who::new(b"ZZ-WHSE1").ok_or("a warehouse")?;
-    let acme = Who::new(b"ZZ-ACME").ok_or("a depositor")?;
+    let house = house()?;
+    let acme = acme()?;
     let moment = morning()?;
     let mut book = ReplayBook::new(alloc, Warehouse::new(house));
     if !enrol(alloc, &mut book, acme, moment) {
@@ -36,29 +29,18 @@ fn enrolled(alloc: Global) -> Result<ReplayBook, Fail> {
     Ok(book)
 }
 
-// The sheet of a count of 90 BOLT of lot L1.
-fn sheet(alloc: Global) -> Result<Option<Sheet>, AllocError> {
-    let item = Vec::from_slice(alloc, b"BOLT")?;
-    let lot = Vec::from_slice(alloc, b"L1")?;
-    let mut lines = Vec::new(alloc);
-    lines.push(Line::new(item, lot, Vec::from_slice(alloc, b"90")?))?;
-    Ok(Sheet::new(SheetKind::Count, lines).ok())
-}
-
 // Counts 90 of the advice.
 fn count(alloc: Global, book: &mut ReplayBook) -> Result<(), Fail> {
-    let sheet = sheet(alloc)?.ok_or("a sheet")?;
-    let moment = morning()?;
-    let who = Who::new(b"ZZ-ACME").ok_or("a depositor")?;
+    let sheet = sheet(alloc, SheetKind::Count, b"90")?;
     let command = Command::Clerk {
-        who,
+        who: acme()?,
         ticket: b"T1",
         act: Act::Count {
             shipment: b"SHP1",
             sheet: &sheet,
         },
     };
-    let reply = submit(alloc, book, &command, moment);
+    let reply = submit(alloc, book, &command, morning()?);
     reply.ok().ok_or("counted")?;
     Ok(())
 }

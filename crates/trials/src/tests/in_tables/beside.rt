@@ -1,6 +1,7 @@
-use super::{ADVICE, accepted, reopened, sheet, shown};
+use super::super::worked::{ADVICE, acme, house, morning, sheet};
+use super::{accepted, reopened, shown};
 use books::{Book, Tables};
-use rules::{Act, Command, Moment, Warehouse, Who};
+use rules::{Act, Command, SheetKind, Warehouse};
 use sqlite::types::ValueRef;
 use sqlite::{Alter, Connection};
 use std::alloc::Global;
@@ -34,12 +35,11 @@ fn beside_notes<S: Alter + Drop>(alloc: Global, book: Book<S>) -> Option<Book<S>
 #[test]
 fn a_book_works_beside_other_tables(rt: HostRuntime) -> Result<(), Fail> {
     let alloc = rt.alloc();
-    let house = Who::new(b"ZZ-WHSE1").ok_or("a warehouse")?;
-    let acme = Who::new(b"ZZ-ACME").ok_or("a depositor")?;
-    let moment = Moment::new(2025, 3, 4, 9, 15).ok_or("a moment")?;
-    let counted = sheet(alloc, b"90")?.ok_or("a sheet")?;
+    let acme = acme()?;
+    let moment = morning()?;
+    let counted = sheet(alloc, SheetKind::Count, b"90")?;
     let conn = Connection::open_in_memory(alloc).ok().ok_or("memory")?;
-    let mut book = Book::create(alloc, Tables::new(conn), Warehouse::new(house))
+    let mut book = Book::create(alloc, Tables::new(conn), Warehouse::new(house()?))
         .ok()
         .ok_or("a book")?;
     let enrol = Command::Enrol(acme);

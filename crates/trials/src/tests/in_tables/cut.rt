@@ -1,10 +1,7 @@
 //! Books whose calls of the store end after so many: each call and all later ones are refused, for each of them in turn.
 use super::*;
-use rules::Key;
-
-// The 944 of the count of 90, under number 2 at the same moment: 259 bytes.
-const RECEIPT: &[u8] =
-    b"ISA*00*          *00*          *ZZ*WHSE1          *ZZ*ACME           *250304*0915*U*00401*000000002*0*P*>~GS*RE*WHSE1*ACME*20250304*0915*2*X*004010~ST*944*0001~W17*F*20250304*2*PO77*SHP1~W07*90*EA**SK*BOLT~N9*LT*L1~W14*90*100~SE*6*0001~GE*1*2~IEA*1*000000002~";
+use crate::tests::worked::RECEIPT;
+use rules::{Key, Who};
 
 // The calls that make a book: nine tables, the row of `book`, and the commit.
 const MAKING: u64 = 11;
@@ -147,10 +144,10 @@ fn is_done<S: Alter + Drop>(
 #[test]
 fn a_count_is_cut_at_each_call(rt: HostRuntime) -> Result<(), Fail> {
     let alloc = rt.alloc();
-    let house = Who::new(b"ZZ-WHSE1").ok_or("a warehouse")?;
-    let acme = Who::new(b"ZZ-ACME").ok_or("a depositor")?;
-    let moment = Moment::new(2025, 3, 4, 9, 15).ok_or("a moment")?;
-    let counted = sheet(alloc, b"90")?.ok_or("a sheet")?;
+    let house = house()?;
+    let acme = acme()?;
+    let moment = morning()?;
+    let counted = sheet(alloc, SheetKind::Count, b"90")?;
     let count = Command::Clerk {
         who: acme,
         ticket: b"T1",
@@ -198,7 +195,7 @@ fn is_made_within<S: Alter + Drop>(
 #[test]
 fn a_making_is_cut_at_each_call(rt: HostRuntime) -> Result<(), Fail> {
     let alloc = rt.alloc();
-    let house = Who::new(b"ZZ-WHSE1").ok_or("a warehouse")?;
+    let house = house()?;
     for calls in 0..MAKING + 1 {
         let conn = Connection::open_in_memory(alloc).ok().ok_or("memory")?;
         let is_well = is_made_within(alloc, Tables::new(conn), Warehouse::new(house), calls);
@@ -235,9 +232,9 @@ fn is_opened_within<S: Alter + Drop>(alloc: Global, book: Book<S>, who: Who, cal
 #[test]
 fn an_opening_is_cut_at_each_call(rt: HostRuntime) -> Result<(), Fail> {
     let alloc = rt.alloc();
-    let house = Who::new(b"ZZ-WHSE1").ok_or("a warehouse")?;
-    let acme = Who::new(b"ZZ-ACME").ok_or("a depositor")?;
-    let moment = Moment::new(2025, 3, 4, 9, 15).ok_or("a moment")?;
+    let house = house()?;
+    let acme = acme()?;
+    let moment = morning()?;
     for calls in 0..OPENING + 1 {
         let mut memory = ReplayBook::new(alloc, Warehouse::new(house));
         let conn = Connection::open_in_memory(alloc).ok().ok_or("memory")?;

@@ -46,7 +46,7 @@ impl Write for Taking {
 
 // Whether nothing came into the book.
 fn is_as_before(book: &mut ReplayBook) -> Result<bool, Fail> {
-    let acme = Who::new(b"ZZ-ACME").ok_or("a depositor")?;
+    let acme = acme()?;
     let rows = store::outbox(book, acme).ok().ok_or("outbox")?;
     Ok(rows.ok_or("a depositor")?.is_empty())
 }

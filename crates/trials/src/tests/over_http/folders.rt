@@ -1,5 +1,6 @@
 //! A folder that is taken, and taken again.
 use super::*;
+use crate::tests::worked::{ADVICE, ANSWER, DUPLICATE, OTHER};
 use std::fs;
 
 const FOLDER: &str = "taken-by-a-test";
@@ -53,7 +54,7 @@ fn a_folder_is_taken_twice(rt: HostRuntime) -> Result<(), Fail> {
         "a.x12 accepted\nb.x12 refused 025\nc.x12 unreadable\n"
     );
     assert!(rt; bytes_of(&rt, "a.x12.ans")?.as_slice() == ANSWER);
-    assert!(rt; bytes_of(&rt, "b.x12.ans")?.as_slice() == REFUSAL);
+    assert!(rt; bytes_of(&rt, "b.x12.ans")?.as_slice() == DUPLICATE);
     let mut files = 0u64;
     for entry in fs::read_dir(&rt, FOLDER)? {
         entry?;

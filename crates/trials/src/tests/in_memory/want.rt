@@ -1,12 +1,15 @@
 //! Commands that are given again where there was no memory: run with each allocation failing in turn (bench/allocations.py).
-use super::*;
-
-// The advice under the same control number, with another quantity, and what it is answered.
-const OTHER: &[u8] =
-    b"ISA*00*          *00*          *ZZ*ACME           *ZZ*WHSE1          *250304*0915*U*00401*000000001*1*P*>~GS*AR*ACME*WHSE1*20250304*0915*1*X*004010~ST*943*0001~W06*F*PO77*20250303*SHP1~W04*101*EA**SK*BOLT~N9*LT*L1~W03*101~SE*6*0001~GE*1*1~IEA*1*000000001~";
-
-const DUPLICATE: &[u8] =
-    b"ISA*00*          *00*          *ZZ*WHSE1          *ZZ*ACME           *250304*0915*U*00401*000000000*0*P*>~TA1*000000001*250304*0915*R*025~IEA*0*000000000~";
+use super::{empty, is_accepted, is_row, is_stored, outbox_in};
+use crate::tests::worked::{
+    ADVICE, ANSWER, DUPLICATE, OTHER, RECEIPT, acme, count, morning, sheet,
+};
+use sheets::Sheet;
+use std::alloc::Global;
+use std::test::Fail;
+use store::{
+    Act, Command, DocumentState, Fault, Moment, OutKind, OutRow, ReplayBook, Reply, SheetKind, Who,
+    outbox, submit,
+};
 
 // An order of 120 BOLT under control number 2, and its answer under number 3.
 const ORDER: &[u8] =
@@ -43,15 +46,6 @@ fn is_wanted(reply: &Reply, want: Want, text: &[u8]) -> bool {
             _ => false,
         },
     }
-}
-
-// The sheet of a pick of 90 BOLT of lot L1.
-fn picked(alloc: Global) -> Result<Option<Sheet>, AllocError> {
-    let item = Vec::from_slice(alloc, b"BOLT")?;
-    let lot = Vec::from_slice(alloc, b"L1")?;
-    let mut lines = Vec::new(alloc);
-    lines.push(Line::new(item, lot, Vec::from_slice(alloc, b"90")?))?;
-    Ok(Sheet::new(SheetKind::Pick, lines).ok())
 }
 
 // The pick of an order.
@@ -98,10 +92,10 @@ fn are_answered(
 }
 
 // What went out, asked for once more where there was no memory.
-fn outbox_given(book: &mut ReplayBook, who: Who) -> Result<Vec<OutRow>, Fail> {
-    match outbox(book, who) {
+fn outbox_given(book: &mut ReplayBook) -> Result<Vec<OutRow>, Fail> {
+    match outbox(book, acme()?) {
         Ok(rows) => Ok(rows.ok_or("a depositor")?),
-        Err(_) => outbox_in(book, who),
+        Err(_) => outbox_in(book),
     }
 }
 
@@ -116,15 +110,11 @@ fn worked_day<'a>(
         (Command::Interchange(ADVICE), ANSWER, Want::Accepted),
         (Command::Interchange(ADVICE), ANSWER, Want::Stored),
         (Command::Interchange(OTHER), DUPLICATE, Want::Refused(3)),
-        (
-            count(acme, b"T1", b"SHP1", counted),
-            RECEIPT,
-            Want::Accepted,
-        ),
+        (count(acme, b"T1", counted), RECEIPT, Want::Accepted),
         (Command::Interchange(ORDER), ORDERED, Want::Accepted),
         (pick(acme, b"T2", b"ORD1", goods), SHIPPED, Want::Accepted),
         (Command::Interchange(TAKEN), b"".as_slice(), Want::Accepted),
-        (count(acme, b"T1", b"SHP1", counted), RECEIPT, Want::Stored),
+        (count(acme, b"T1", counted), RECEIPT, Want::Stored),
     ]
 }
 
@@ -132,20 +122,19 @@ fn worked_day<'a>(
 #[test]
 fn want_of_memory_loses_nothing(rt: HostRuntime) -> Result<(), Fail> {
     let alloc = rt.alloc();
-    let house = Who::new(b"ZZ-WHSE1").ok_or("a warehouse")?;
-    let acme = Who::new(b"ZZ-ACME").ok_or("a depositor")?;
-    let moment = Moment::new(2025, 3, 4, 9, 15).ok_or("a moment")?;
-    let counted = sheet(alloc, b"90")?.ok_or("a sheet")?;
-    let goods = picked(alloc)?.ok_or("a sheet")?;
-    let mut book = ReplayBook::new(alloc, Warehouse::new(house));
-    let wanted = worked_day(acme, &counted, &goods);
-    assert!(rt; are_answered(alloc, &mut book, &wanted, moment)?);
-    let sent = outbox_given(&mut book, acme)?;
+    let counted = sheet(alloc, SheetKind::Count, b"90")?;
+    let goods = sheet(alloc, SheetKind::Pick, b"90")?;
+    let mut book = empty(alloc)?;
+    let wanted = worked_day(acme()?, &counted, &goods);
+    assert!(rt; are_answered(alloc, &mut book, &wanted, morning()?)?);
+    let sent = outbox_given(&mut book)?;
     assert_eq!(rt; sent.len(), 4);
-    assert!(rt; is_row(&sent[1], 2, OutKind::Receipt, RECEIPT, DocumentState::Open));
+    let receipt = sent.get(1);
+    assert!(rt; is_row(receipt, 2, OutKind::Receipt, RECEIPT, DocumentState::Open));
+    let shipment = sent.get(3);
     assert!(rt;
         is_row(
-            &sent[3],
+            shipment,
             4,
             OutKind::Shipment,
             SHIPPED,
