@@ -168,21 +168,20 @@ fn write_files(rt: &HostRuntime, case: &str) -> Result<(), Fail> {
     Ok(())
 }
 
-// Plays each case of a text.
+// Plays each case of a text, behind the files that they have in common.
 fn play_all(rt: &HostRuntime, text: &str) -> Result<(), Fail> {
-    for case in text.split("@case ") {
+    let (before, cases) = text.split_once("@case ").ok_or("a case")?;
+    write_files(rt, before)?;
+    for case in cases.split("@case ") {
         write_files(rt, case)?;
         let (name, _) = case.split_once('\n').unwrap_or((case, ""));
-        let (_, script) = section_of(case, "script");
-        if !script.is_empty() {
-            let (status, told) = section_of(case, "ends");
-            let wanted = Wanted {
-                printed: section_of(case, "printed").1,
-                told,
-                status: status.parse()?,
-            };
-            play(rt, name, script, &wanted)?;
-        }
+        let (status, told) = section_of(case, "ends");
+        let wanted = Wanted {
+            printed: section_of(case, "printed").1,
+            told,
+            status: status.parse()?,
+        };
+        play(rt, name, section_of(case, "script").1, &wanted)?;
     }
     Ok(())
 }
