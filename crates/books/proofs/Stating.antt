@@ -25,7 +25,7 @@ use Rattle.sqlite.specs.Program.{overlay}
 use Rattle.sqlite_catalog.specs.Listing.{IsSound}
 use Rattle.sqlite.specs.State.{State, mode_of, Executes}
 use Rattle.sqlite.proofs.Callers.{statement_of, runs_as, one_permutation}
-use Rattle.books.specs.Layout.{beside, Others, IsLayout, AreApart, book_tables, outgoing_layout}
+use Rattle.books.specs.Layout.{beside, Others, IsLayout, book_tables, outgoing_layout}
 use Rattle.books.specs.Steps.{WritesInto, SetsState, AreOutgoing, AreKeyed, PutByKey, key_of, outgoing_cells}
 use Rattle.books.proofs.WritingTexts.{set_state_text, set_state_query, set_state_is, set_state_plain}
 use Rattle.books.proofs.PutLemmas.{put_over}

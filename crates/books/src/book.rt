@@ -1,4 +1,4 @@
-ghost use Rattle.std.specs.Prelude.{◌≡◌, ◌≢◌, ◌⊎◌, ◌++◌, ◌∷◌, [], List, true, false, IfErr, IfOk, OnOk, OnErr, IsErrOf, IsErrAnd, Some, option_map};
+ghost use Rattle.std.specs.Prelude.{◌≡◌, ◌≢◌, ◌⊎◌, ◌≤◌, ◌^◌, ◌-◌, ◌++◌, ◌∷◌, [], List, true, false, IfErr, IfOk, OnOk, OnErr, IsErrOf, IsErrAnd, Some, option_map};
 ghost use Rattle.profile.specs.Header.{Who as Partner};
 ghost use Rattle.profile.specs.Accepted.{IsLegal};
 ghost use Rattle.profile.specs.Decision as decided;
@@ -71,6 +71,7 @@ impl<S: Alter + Drop> Book<S> {
         ensures free { IfErr result (λ e. e.0 ≡ Fault.NotThisBook → has_book_table (state S.Store tables.conn).now.schema.tables ≡ true) }
         ensures counted { IfErr result (λ e. e.0 ≢ Fault.NotThisBook → Rises tables.refused e.1.refused) }
         ensures named { IfErr result (λ e. (e.0 ≡ Fault.NotThisBook) ⊎ ((e.0 ≡ Fault.OutOfMemory) ⊎ (e.0 ≡ Fault.Store))) }
+        ensures uncounted_ok { IfOk result (λ b. b.tables.refused ≡ tables.refused) }
         ensures limit { IfOk result (λ b. NoMore tables.limit b.tables.limit) }
         ensures limit_back { IfErr result (λ e. NoMore tables.limit e.1.limit) }
         ensures allowed { OnOk result (tables.limit ≢ Some 0) }
@@ -105,6 +106,7 @@ impl<S: Alter + Drop> Book<S> {
         ensures counted { IfErr result (λ e. e.0 ≢ Fault.NotThisBook → Rises tables.refused e.1.refused) }
         ensures uncounted { IfErr result (λ e. e.0 ≡ Fault.NotThisBook → e.1.refused ≡ tables.refused) }
         ensures named { IfErr result (λ e. (e.0 ≡ Fault.NotThisBook) ⊎ ((e.0 ≡ Fault.OutOfMemory) ⊎ (e.0 ≡ Fault.Store))) }
+        ensures uncounted_ok { IfOk result (λ b. b.tables.refused ≡ tables.refused) }
         ensures limit { IfOk result (λ b. NoMore tables.limit b.tables.limit) }
         ensures limit_back { IfErr result (λ e. NoMore tables.limit e.1.limit) }
         ensures allowed { OnOk result (tables.limit ≢ Some 0) }
@@ -143,6 +145,7 @@ impl<S: Alter + Drop> Book<S> {
         ensures same { IsUnchanged (standing_of S.Store self.old) (standing_of S.Store self.new) }
         ensures fault { IfErr result (λ fault. IsQueryFault fault (standing_of S.Store self.old) (standing_of S.Store self.new)) }
         ensures shut { (standing_of S.Store self.old).shut ≡ true → IsErrOf result Fault.Reopen }
+        ensures uncounted { OnOk result (self.new.tables.refused ≡ self.old.tables.refused) }
         ensures limit { NoMore self.old.tables.limit self.new.tables.limit }
         ensures allowed { OnOk result (self.old.tables.limit ≢ Some 0) }
     {
@@ -171,6 +174,7 @@ impl<S: Alter + Drop> Keeper for Book<S> {
         ensures same { IsUnchanged (standing_of S.Store self.old) (standing_of S.Store self.new) }
         ensures fault { IfErr result (λ fault. IsQueryFault fault (standing_of S.Store self.old) (standing_of S.Store self.new)) }
         ensures shut { (standing_of S.Store self.old).shut ≡ true → IsErrOf result Fault.Reopen }
+        ensures uncounted { OnOk result (self.new.tables.refused ≡ self.old.tables.refused) }
         ensures limit { NoMore self.old.tables.limit self.new.tables.limit }
         ensures allowed { OnOk result (self.old.tables.limit ≢ Some 0) }
     {
@@ -185,6 +189,7 @@ impl<S: Alter + Drop> Keeper for Book<S> {
         ensures same { IsUnchanged (standing_of S.Store self.old) (standing_of S.Store self.new) }
         ensures fault { IfErr result (λ fault. IsQueryFault fault (standing_of S.Store self.old) (standing_of S.Store self.new)) }
         ensures shut { (standing_of S.Store self.old).shut ≡ true → IsErrOf result Fault.Reopen }
+        ensures uncounted { OnOk result (self.new.tables.refused ≡ self.old.tables.refused) }
         ensures limit { NoMore self.old.tables.limit self.new.tables.limit }
         ensures allowed { OnOk result (self.old.tables.limit ≢ Some 0) }
     {
@@ -197,7 +202,7 @@ impl<S: Alter + Drop> Keeper for Book<S> {
     }
 
     /// Appends an entry, with the rows that it changes and the text that goes out for it, in one transaction. After a fault of
-    /// the store the book has to be opened again, and answers 42 until then.
+    /// the store the book has to be opened again, and answers 42 until then. 41 where the numbers that SQLite has for entries are used up.
     #[tactic(auto, using(crate::proofs::Limited::no_more_trans, crate::proofs::Limited::no_more_same))]
     fn commit(&mut self, entry: &Entry, changes: &[Change], outgoing: &[u8]) -> Result<(), Fault>
         ensures ok { (standing_of S.Store self.new).doubt ≡ 0 → (L : List register.Entry) (e : register.Entry) → IsUsable (standing_of S.Store self.old) L
@@ -208,19 +213,21 @@ impl<S: Alter + Drop> Keeper for Book<S> {
         ensures fault { IfErr result (λ fault. IsFault fault (standing_of S.Store self.old) (standing_of S.Store self.new)) }
         ensures kinds { IfErr result IsCommitFault }
         ensures store { IsErrOf result Fault.Store → (standing_of S.Store self.new).shut ≡ true }
+        ensures used_up { self.old.shut ≡ false → 2 ^ 63 - 1 ≤ self.old.entries → IsErrOf result Fault.Store }
         ensures shut { (standing_of S.Store self.old).shut ≡ true → IsErrOf result Fault.Reopen × IsUnchanged (standing_of S.Store self.old) (standing_of S.Store self.new) }
         ensures goes { GoesOn (standing_of S.Store self.old) (standing_of S.Store self.new) }
+        ensures uncounted { OnOk result (self.new.tables.refused ≡ self.old.tables.refused) }
         ensures limit { NoMore self.old.tables.limit self.new.tables.limit }
         ensures allowed { OnOk result (self.old.tables.limit ≢ Some 0) }
     {
         if self.shut {
             return Err(Fault::Reopen);
         }
-        let who = partner_text(self.alloc, &entry.who())?;
         if self.entries >= GREATEST {
             self.shut = true;
             return Err(self.tables.use_up());
         }
+        let who = partner_text(self.alloc, &entry.who())?;
         let seq = self.entries + 1;
         match self.tables.append(seq, &who, entry, changes, outgoing) {
             Ok(()) => {
@@ -241,6 +248,7 @@ impl<S: Alter + Drop> Keeper for Book<S> {
         ensures same { IsUnchanged (standing_of S.Store self.old) (standing_of S.Store self.new) }
         ensures fault { IfErr result (λ fault. IsQueryFault fault (standing_of S.Store self.old) (standing_of S.Store self.new)) }
         ensures shut { (standing_of S.Store self.old).shut ≡ true → IsErrOf result Fault.Reopen }
+        ensures uncounted { OnOk result (self.new.tables.refused ≡ self.old.tables.refused) }
         ensures limit { NoMore self.old.tables.limit self.new.tables.limit }
         ensures allowed { OnOk result (self.old.tables.limit ≢ Some 0) }
     {
@@ -257,6 +265,7 @@ impl<S: Alter + Drop> Keeper for Book<S> {
         ensures same { IsUnchanged (standing_of S.Store self.old) (standing_of S.Store self.new) }
         ensures fault { IfErr result (λ fault. IsQueryFault fault (standing_of S.Store self.old) (standing_of S.Store self.new)) }
         ensures shut { (standing_of S.Store self.old).shut ≡ true → IsErrOf result Fault.Reopen }
+        ensures uncounted { OnOk result (self.new.tables.refused ≡ self.old.tables.refused) }
         ensures limit { NoMore self.old.tables.limit self.new.tables.limit }
         ensures allowed { OnOk result (self.old.tables.limit ≢ Some 0) }
     {

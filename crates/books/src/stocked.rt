@@ -76,6 +76,7 @@ impl<S: Alter + Drop> Tables<S> {
         ensures asked { IsAsked (state S.Store self.old.conn) (state S.Store self.new.conn) }
         ensures fault { IfErr result (λ f. IsAskFault f (state S.Store self.old.conn) (state S.Store self.new.conn) self.old.refused self.new.refused) }
         ensures counts { self.old.refused ≤ self.new.refused }
+        ensures uncounted { OnOk result (self.new.refused ≡ self.old.refused) }
         ensures limit { NoMore self.old.limit self.new.limit }
         ensures allowed { OnOk result (self.old.limit ≢ Some 0) }
     {
