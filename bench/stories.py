@@ -3,8 +3,8 @@
 
 Usage: bench/stories.py [PROGRAM]     (default: crates/whx12/out/whx12, which `rt run` in that folder leaves)
 
-The stories are those of crates/examples, read from their texts; their form is told in crates/examples/src/tests/reading.rt. Each command is a process
-that opens the book and closes it, and so is each look behind it: at the stock, at the list of what went out, and at the texts themselves. What is
+The stories are those of crates/tests, read from their texts; their form is told in crates/tests/src/tests/stories/reading.rt. Each command is a process
+that opens the book and closes it, and so is each look after it: at the stock, at the list of what went out, and at the texts themselves. What is
 printed and told and the exit status are compared; the status is 1 where one differs.
 """
 import glob
@@ -14,7 +14,7 @@ import sys
 import tempfile
 
 HERE = os.path.dirname(os.path.abspath(__file__))
-TESTS = os.path.join(HERE, "..", "crates", "examples", "src", "tests")
+TESTS = os.path.join(HERE, "..", "crates", "tests", "src", "tests", "stories")
 ISA = "ISA"
 
 

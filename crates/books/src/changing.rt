@@ -69,9 +69,9 @@ fn put_order_lines<'a, S: Alter>(
     ensures limit { NoMore calls.old.limit calls.new.limit }
     ensures named { IfErr result (λ f. (f ≡ Fault.OutOfMemory) ⊎ (f ≡ Fault.Store)) }
 {
-    let key = order.number();
+    let key = order.number.as_slice();
     let mut n: u32 = 0;
-    for line in order.lines() {
+    for line in &order.lines {
         let Some(next) = n.checked_add(1) else {
             return Err(calls.refuse());
         };
@@ -100,8 +100,8 @@ fn put_reservations<'a, S: Alter>(
     ensures limit { NoMore calls.old.limit calls.new.limit }
     ensures named { IfErr result (λ f. (f ≡ Fault.OutOfMemory) ⊎ (f ≡ Fault.Store)) }
 {
-    let key = order.number();
-    for line in order.reserved() {
+    let key = order.number.as_slice();
+    for line in &order.reserved {
         put_reservation(tx, calls, who, key, line)?;
     }
     Ok(())
@@ -153,11 +153,11 @@ fn apply_order<'a, S: Alter>(
     ensures named { IfErr result (λ f. (f ≡ Fault.OutOfMemory) ⊎ (f ≡ Fault.Store)) }
 {
     put_order(tx, calls, who, order)?;
-    if order.is_open() {
+    if order.is_open {
         put_order_lines(tx, calls, who, order)?;
         put_reservations(tx, calls, who, order)
     } else {
-        free_reservations(tx, calls, who, order.number())
+        free_reservations(tx, calls, who, &order.number)
     }
 }
 

@@ -167,9 +167,9 @@ fn advice_line_params<'a>(
         ValueRef::Text(who),
         ValueRef::Text(shipment),
         ValueRef::Int(i64::from(n)),
-        ValueRef::Text(line.item()),
-        ValueRef::Text(line.lot()),
-        ValueRef::Int(i64::from(line.quantity())),
+        ValueRef::Text(&line.item),
+        ValueRef::Text(&line.lot),
+        ValueRef::Int(i64::from(line.quantity)),
     ]
 }
 
@@ -205,11 +205,11 @@ pub(crate) fn put_advice_line<'a, S: Alter>(
 fn orders_params<'a>(who: &'a [u8], order: &'a KnownOrder) -> [ValueRef<'a>; 7]
     ensures { bound result ≡ values (cells.Text who.now ∷ cells.orders_cells order.now) }
 {
-    match order.address() {
+    match &order.address {
         None => [
             ValueRef::Text(who),
-            ValueRef::Text(order.number()),
-            ValueRef::Int(flag(order.is_open())),
+            ValueRef::Text(&order.number),
+            ValueRef::Int(flag(order.is_open)),
             ValueRef::Null,
             ValueRef::Text(b""),
             ValueRef::Text(b""),
@@ -217,12 +217,12 @@ fn orders_params<'a>(who: &'a [u8], order: &'a KnownOrder) -> [ValueRef<'a>; 7]
         ],
         Some(address) => [
             ValueRef::Text(who),
-            ValueRef::Text(order.number()),
-            ValueRef::Int(flag(order.is_open())),
-            ValueRef::Text(address.name()),
-            ValueRef::Text(address.one()),
-            ValueRef::Text(address.two()),
-            ValueRef::Text(address.place()),
+            ValueRef::Text(&order.number),
+            ValueRef::Int(flag(order.is_open)),
+            ValueRef::Text(&address.name),
+            ValueRef::Text(&address.one),
+            ValueRef::Text(&address.two),
+            ValueRef::Text(&address.place),
         ],
     }
 }
@@ -262,7 +262,7 @@ fn order_line_params<'a>(
 ) -> [ValueRef<'a>; 6]
     ensures { bound result ≡ values (cells.Text who.now ∷ cells.Text order.now ∷ cells.Number n ∷ cells.Text line.now.item ∷ cells.text_or_null line.now.pin ∷ cells.Number line.now.quantity ∷ []) }
 {
-    let lot = match line.pin() {
+    let lot = match &line.pin {
         None => ValueRef::Null,
         Some(lot) => ValueRef::Text(lot),
     };
@@ -270,9 +270,9 @@ fn order_line_params<'a>(
         ValueRef::Text(who),
         ValueRef::Text(order),
         ValueRef::Int(i64::from(n)),
-        ValueRef::Text(line.item()),
+        ValueRef::Text(&line.item),
         lot,
-        ValueRef::Int(i64::from(line.quantity())),
+        ValueRef::Int(i64::from(line.quantity)),
     ]
 }
 
@@ -311,9 +311,9 @@ fn reservation_params<'a>(who: &'a [u8], order: &'a [u8], line: &'a Line) -> [Va
     [
         ValueRef::Text(who),
         ValueRef::Text(order),
-        ValueRef::Text(line.item()),
-        ValueRef::Text(line.lot()),
-        ValueRef::Int(i64::from(line.quantity())),
+        ValueRef::Text(&line.item),
+        ValueRef::Text(&line.lot),
+        ValueRef::Int(i64::from(line.quantity)),
     ]
 }
 

@@ -12,4 +12,3 @@ pub mod Posted
 pub mod Served
 pub mod Answering
 pub mod Beginnings
-pub mod Taking

@@ -5,5 +5,4 @@ pub mod Requests
 pub mod Fields
 pub mod Told
 pub mod Serving
-pub mod Folders
 pub mod Connections

@@ -1,7 +1,6 @@
 //! How interchanges come in: over HTTP on loopback, one request a connection, and from a folder.
 #![tactic(auto)]
 
-mod folder;
 mod gauge;
 mod heading;
 pub mod laws;
@@ -16,7 +15,7 @@ mod sending;
 mod serving;
 mod texts;
 
-pub use folder::{Outcome, Taken, take_folder};
+pub use folders::{Outcome, Taken, take_folder};
 pub use gauge::Gauge;
 pub use listening::serve_count;
 pub use responding::respond;

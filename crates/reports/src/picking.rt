@@ -58,17 +58,17 @@ fn append_address_line(out: &mut Vec<u8>, text: &[u8]) -> Result<(), AllocError>
 fn append_address(out: &mut Vec<u8>, address: &Address) -> Result<(), AllocError>
     ensures { OnOk result (out.new.items ≡ out.old.items ++ meant.address_lines address.now) }
 {
-    append_ended(out, b"TO ", address.name())?;
-    append_address_line(out, address.one())?;
-    append_address_line(out, address.two())?;
-    append_address_line(out, address.place())
+    append_ended(out, b"TO ", &address.name)?;
+    append_address_line(out, &address.one)?;
+    append_address_line(out, &address.two)?;
+    append_address_line(out, &address.place)
 }
 
 // Appends where an order goes, if it says so.
 fn append_destination(out: &mut Vec<u8>, order: &KnownOrder) -> Result<(), AllocError>
     ensures { OnOk result (out.new.items ≡ out.old.items ++ flat_map meant.address_lines (option_to_list order.now.address)) }
 {
-    match order.address() {
+    match &order.address {
         None => Ok(()),
         Some(address) => append_address(out, address),
     }
@@ -100,9 +100,9 @@ fn append_held(
 {
     let mut short = quantity;
     for line in reserved {
-        if line.item() == item {
-            append_line(out, line.item(), line.lot(), line.quantity())?;
-            short = short.saturating_sub(line.quantity());
+        if line.item.as_slice() == item {
+            append_line(out, &line.item, &line.lot, line.quantity)?;
+            short = short.saturating_sub(line.quantity);
         }
     }
     Ok(short)
@@ -116,11 +116,11 @@ fn append_order_line(
 ) -> Result<(), AllocError>
     ensures { OnOk result (out.new.items ≡ out.old.items ++ order_lines reserved.now line.now) }
 {
-    let short = append_held(out, reserved, line.item(), line.quantity())?;
+    let short = append_held(out, reserved, &line.item, line.quantity)?;
     if short == 0 {
         return Ok(());
     }
-    append_line(out, line.item(), b"(short)", short)
+    append_line(out, &line.item, b"(short)", short)
 }
 
 // The picking sheet of an order.
@@ -128,10 +128,10 @@ fn picking_sheet(alloc: Global, order: &KnownOrder) -> Result<Vec<u8>, AllocErro
     ensures { IfOk result (λ text. text.items ≡ order_sheet order.now) }
 {
     let mut text = Vec::new(alloc);
-    append_ended(&mut text, b"ORDER ", order.number())?;
+    append_ended(&mut text, b"ORDER ", &order.number)?;
     append_destination(&mut text, order)?;
-    for line in order.lines() {
-        append_order_line(&mut text, order.reserved(), line)?;
+    for line in &order.lines {
+        append_order_line(&mut text, &order.reserved, line)?;
     }
     Ok(text)
 }
@@ -141,7 +141,7 @@ fn sheet_of(alloc: Global, order: &KnownOrder) -> Result<Vec<u8>, NoSheet>
     ensures ok { IfOk result (λ text. listed (Some order.now) ≡ Ok text.items) }
     ensures err { IfErr result (λ why. Explains (listed (Some order.now)) why) }
 {
-    if !order.is_open() {
+    if !order.is_open {
         return Err(NoSheet::OrderClosed);
     }
     Ok(picking_sheet(alloc, order)?)

@@ -101,9 +101,9 @@ fn lend<'a>(lines: &mut Vec<Pair<'a>>, goods: &'a [Goods]) -> Result<(), AllocEr
 {
     for line in goods {
         lines.push(Pair {
-            item: line.item(),
-            lot: line.lot(),
-            quantity: line.quantity(),
+            item: &line.item,
+            lot: &line.lot,
+            quantity: line.quantity,
         })?;
     }
     Ok(())
@@ -116,8 +116,8 @@ fn quantity(goods: &[Goods], item: &[u8], lot: &[u8]) -> u64
 {
     let mut quantity: u64 = 0;
     for line in goods {
-        if line.item() == item && line.lot() == lot {
-            quantity += u64::from(line.quantity());
+        if line.item.as_slice() == item && line.lot.as_slice() == lot {
+            quantity += u64::from(line.quantity);
         }
     }
     quantity
@@ -130,7 +130,7 @@ fn total(goods: &[Goods]) -> u64
 {
     let mut total: u64 = 0;
     for line in goods {
-        total += u64::from(line.quantity());
+        total += u64::from(line.quantity);
     }
     total
 }
@@ -272,11 +272,11 @@ fn shipped_line<'a>(
     requires { length sheet.now ≤ most_lines }
     ensures { IfOk result (λ l. l ≡ shipped_of sheet.now line.now) }
 {
-    let pairs = of_item(alloc, sheet, line.item())?;
+    let pairs = of_item(alloc, sheet, &line.item)?;
     let lots = sorted(alloc, &pairs)?;
     Ok(Shipped {
-        item: line.item(),
-        ordered: u64::from(line.quantity()),
+        item: &line.item,
+        ordered: u64::from(line.quantity),
         shipped: sum(&lots),
         lots: picked(alloc, &lots)?,
     })
@@ -309,7 +309,7 @@ fn shipped_of<'a>(
 {
     let mut pairs = Vec::new(alloc);
     lend(&mut pairs, goods)?;
-    shipped_lines(alloc, order.lines(), &pairs)
+    shipped_lines(alloc, &order.lines, &pairs)
 }
 
 // The same lines, as they are written.
@@ -341,7 +341,7 @@ fn shipment(
     let shipped = shipped_of(alloc, order, &goods)?;
     let lines = lent(alloc, &shipped)?;
     let shipment = Shipment {
-        order: order.number(),
+        order: &order.number,
         lines: &lines,
         shipped: total(&goods),
     };
@@ -360,10 +360,10 @@ fn adjusted<'a>(
     let mut lines = Vec::new(alloc);
     for line in sheet {
         lines.push(AdjustedLine {
-            item: line.item(),
-            lot: line.lot(),
-            before: page.on_hand(line.item(), line.lot()),
-            after: u64::from(line.quantity()),
+            item: &line.item,
+            lot: &line.lot,
+            before: page.on_hand(&line.item, &line.lot),
+            after: u64::from(line.quantity),
         })?;
     }
     Ok(lines)

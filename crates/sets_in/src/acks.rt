@@ -14,38 +14,18 @@ use tables::Checked;
 /// What a functional acknowledgment (997) says of one of our documents.
 #[derive(Debug, Drop)]
 pub struct AckIn {
-    function: Vec<u8>,
-    document: u32,
-    accepts: bool,
+    /// The functional identifier of the document's group (AK101).
+    pub function: Vec<u8>,
+    /// The number of the document (AK102).
+    pub document: u32,
+    /// Whether it is accepted (AK901 is A).
+    pub accepts: bool,
 }
 
 impl Model for AckIn {
     ghost Value = { meant.Acknowledgment };
 
     ghost view = { λ a. record { function = a.function.items; document = a.document; accepts = a.accepts } };
-}
-
-impl AckIn {
-    /// The functional identifier of the document's group (AK101).
-    pub fn function(&self) -> &[u8]
-        ensures { result.now ≡ self.now.function }
-    {
-        &self.function
-    }
-
-    /// The number of the document (AK102).
-    pub fn document(&self) -> u32
-        ensures { result ≡ self.now.document }
-    {
-        self.document
-    }
-
-    /// Whether it is accepted (AK901 is A).
-    pub fn accepts(&self) -> bool
-        ensures { result ≡ self.now.accepts }
-    {
-        self.accepts
-    }
 }
 
 // The segments of an acknowledgment, with what is known of the document's number.

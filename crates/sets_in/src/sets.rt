@@ -65,56 +65,18 @@ impl Advice {
 /// there is empty.
 #[derive(Clone, Debug, Drop)]
 pub struct Address {
-    pub(crate) name: Vec<u8>,
-    pub(crate) one: Vec<u8>,
-    pub(crate) two: Vec<u8>,
-    pub(crate) place: Vec<u8>,
+    /// The name (N102).
+    pub name: Vec<u8>,
+    /// The first line of the street (N301).
+    pub one: Vec<u8>,
+    /// The second line of the street (N302).
+    pub two: Vec<u8>,
+    /// City, state and postal code (N401 to N403): those that aren't empty, with a space between each two.
+    pub place: Vec<u8>,
 }
 
 impl Model for Address {
     ghost Value = { meant.Address };
 
     ghost view = { λ a. record { name = a.name.items; one = a.one.items; two = a.two.items; place = a.place.items } };
-}
-
-impl Address {
-    /// An address of these texts: the name, the two lines of the street, and city, state and postal code on one line.
-    pub fn new(name: Vec<u8>, one: Vec<u8>, two: Vec<u8>, place: Vec<u8>) -> Address
-        ensures { result ≡ record { name = name.items; one = one.items; two = two.items; place = place.items } }
-    {
-        Address {
-            name,
-            one,
-            two,
-            place,
-        }
-    }
-
-    /// The name (N102).
-    pub fn name(&self) -> &[u8]
-        ensures { result.now ≡ self.now.name }
-    {
-        &self.name
-    }
-
-    /// The first line of the street (N301).
-    pub fn one(&self) -> &[u8]
-        ensures { result.now ≡ self.now.one }
-    {
-        &self.one
-    }
-
-    /// The second line of the street (N302).
-    pub fn two(&self) -> &[u8]
-        ensures { result.now ≡ self.now.two }
-    {
-        &self.two
-    }
-
-    /// City, state and postal code (N401 to N403): those that aren't empty, with a space between each two.
-    pub fn place(&self) -> &[u8]
-        ensures { result.now ≡ self.now.place }
-    {
-        &self.place
-    }
 }

@@ -8,49 +8,20 @@ use std::marker::Model;
 /// A line of an order: of one lot alone where it is pinned to that.
 #[derive(Debug, Drop)]
 pub struct OrderLine {
-    pub(crate) item: Vec<u8>,
-    pub(crate) pin: Option<Vec<u8>>,
-    pub(crate) quantity: u32,
-    pub(crate) position: u32,
+    /// The item (W01, element 5).
+    pub item: Vec<u8>,
+    /// The lot that it is pinned to (element 2 of the N9 behind its W01), if there is one.
+    pub pin: Option<Vec<u8>>,
+    /// How much, in the unit EA (W01, element 1).
+    pub quantity: u32,
+    /// The position of its W01 in the set, ST at 1.
+    pub position: u32,
 }
 
 impl Model for OrderLine {
     ghost Value = { meant.OrderLine };
 
     ghost view = { λ l. record { item = l.item.items; pin = option_map (λ v. v.items) l.pin; quantity = l.quantity; position = l.position } };
-}
-
-impl OrderLine {
-    /// The item (W01, element 5).
-    pub fn item(&self) -> &[u8]
-        ensures { result.now ≡ self.now.item }
-    {
-        &self.item
-    }
-
-    /// The lot that it is pinned to (element 2 of the N9 behind its W01), if there is one.
-    pub fn pin(&self) -> Option<&[u8]>
-        ensures { MatchOption result (self.now.pin ≡ None) (λ lot. self.now.pin ≡ Some lot.now) }
-    {
-        match &self.pin {
-            Some(lot) => Some(lot.as_slice()),
-            None => None,
-        }
-    }
-
-    /// How much, in the unit EA (W01, element 1).
-    pub fn quantity(&self) -> u32
-        ensures { result ≡ self.now.quantity }
-    {
-        self.quantity
-    }
-
-    /// The position of its W01 in the set, ST at 1.
-    pub fn position(&self) -> u32
-        ensures { result ≡ self.now.position }
-    {
-        self.position
-    }
 }
 
 /// What a shipping order (940) says.

@@ -143,6 +143,10 @@ impl Line {
     {
         let item = self.item.clone()?;
         let lot = self.lot.clone()?;
-        Ok(sets_in::Line::new(item, lot, self.amount()))
+        Ok(sets_in::Line {
+            item,
+            lot,
+            quantity: self.amount(),
+        })
     }
 }

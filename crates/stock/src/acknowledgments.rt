@@ -18,7 +18,7 @@ fn is_decisive(page: &Page, ack: &AckIn) -> bool
 {
     // what is known of every page
     let _ = page.rows();
-    match page.document(ack.document()) {
+    match page.document(ack.document) {
         None => false,
         Some(document) => document.is_decided_by(page.entries(), ack),
     }
@@ -35,8 +35,8 @@ pub fn acknowledge(alloc: Global, page: &Page, ack: &AckIn) -> Result<Step, Allo
     let mut changes = Vec::new(alloc);
     if is_decisive(page, ack) {
         changes.push(Change::Document {
-            n: ack.document(),
-            accepts: ack.accepts(),
+            n: ack.document,
+            accepts: ack.accepts,
         })?;
     }
     // what is known of every page

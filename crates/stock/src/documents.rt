@@ -34,9 +34,11 @@ impl Function {
 #[derive(Clone, Debug, Drop)]
 pub struct Document {
     /// The number of its entry, 1 to 999,999.
-    n: u32,
-    function: Function,
-    said: Option<bool>,
+    pub n: u32,
+    /// What kind of document it is.
+    pub function: Function,
+    /// What the first acknowledgment of it said, whether it is accepted; None before there is one.
+    pub said: Option<bool>,
 }
 
 impl Model for Document {
@@ -49,20 +51,6 @@ impl Model for Document {
 }
 
 impl Document {
-    /// A document of the entry `n`, and what the first acknowledgment of it said.
-    pub fn new(n: u32, function: Function, said: Option<bool>) -> Document
-        ensures { result ≡ record { n = n; function = function_text function; said = said } }
-    {
-        Document { n, function, said }
-    }
-
-    /// The number of its entry.
-    pub fn n(&self) -> u32
-        ensures { result ≡ self.now.n }
-    {
-        self.n
-    }
-
     // Whether it is under this number.
     pub(crate) fn is_under(&self, n: u32) -> bool
         ensures { result ≡ is_document n self.now }
@@ -75,8 +63,8 @@ impl Document {
         ensures { result ≡ decides entries ack.now self.now }
     {
         self.n <= entries
-            && ack.document() == self.n
-            && ack.function() == self.function.text()
+            && ack.document == self.n
+            && ack.function.as_slice() == self.function.text()
             && self.said.is_none()
     }
 
@@ -85,19 +73,5 @@ impl Document {
         ensures { self.new ≡ record self.old { said = Some accepts } }
     {
         self.said = Some(accepts);
-    }
-
-    /// What kind of document it is.
-    pub fn function(&self) -> Function
-        ensures { function_text result ≡ self.now.function }
-    {
-        self.function
-    }
-
-    /// What the first acknowledgment of it said, whether it is accepted; None before there is one.
-    pub fn said(&self) -> Option<bool>
-        ensures { result ≡ self.now.said }
-    {
-        self.said
     }
 }

@@ -24,7 +24,7 @@ fn trade_fault(segment: &'static [u8], position: u32, place: u32) -> SetFault<'s
 fn has_pair_of(line: &AdviceLine, other: &AdviceLine) -> bool
     ensures { result ≡ events.same_advice_pair line.now other.now }
 {
-    other.line().item() == line.line().item() && other.line().lot() == line.line().lot()
+    other.line.item == line.line.item && other.line.lot == line.line.lot
 }
 
 // Whether one of the lines is of the line's pair.
@@ -47,7 +47,7 @@ fn repeated_pair(lines: &[AdviceLine]) -> Option<u32>
 {
     for (i, line) in lines.iter().enumerate() {
         if is_pair_among(line, &lines[..i]) {
-            return Some(line.position());
+            return Some(line.position);
         }
     }
     None
@@ -60,7 +60,8 @@ fn advice_total(lines: &[AdviceLine]) -> u64
 {
     let mut total: u64 = 0;
     for line in lines {
-        total += u64::from(line.line().quantity());
+        let line = &line.line;
+        total += u64::from(line.quantity);
     }
     total
 }
@@ -88,7 +89,7 @@ fn is_item_among(line: &OrderLine, others: &[OrderLine]) -> bool
     ensures { result ≡ list_any (events.same_order_item line.now) others.now }
 {
     for other in others {
-        if line.item() == other.item() {
+        if line.item == other.item {
             return true;
         }
     }
@@ -101,7 +102,7 @@ fn repeated_item(lines: &[OrderLine]) -> Option<u32>
 {
     for (i, line) in lines.iter().enumerate() {
         if is_item_among(line, &lines[..i]) {
-            return Some(line.position());
+            return Some(line.position);
         }
     }
     None
@@ -114,7 +115,7 @@ fn order_total(lines: &[OrderLine]) -> u64
 {
     let mut total: u64 = 0;
     for line in lines {
-        total += u64::from(line.quantity());
+        total += u64::from(line.quantity);
     }
     total
 }

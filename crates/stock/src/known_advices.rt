@@ -113,7 +113,7 @@ fn total(lines: &[Line]) -> u64
 {
     let mut total: u64 = 0;
     for line in lines {
-        total += u64::from(line.quantity());
+        total += u64::from(line.quantity);
     }
     total
 }

@@ -46,7 +46,7 @@ pub(crate) fn advised(alloc: Global, lines: &[AdviceLine]) -> Result<Vec<Line>, 
 {
     let mut copy = Vec::new(alloc);
     for line in lines {
-        copy.push(copied(line.line())?)?;
+        copy.push(copied(&line.line)?)?;
     }
     Ok(copy)
 }
@@ -55,12 +55,16 @@ pub(crate) fn advised(alloc: Global, lines: &[AdviceLine]) -> Result<Vec<Line>, 
 fn known_line(alloc: Global, line: &OrderLine) -> Result<KnownLine, AllocError>
     ensures { IfOk result (λ known. known ≡ page_line line.now) }
 {
-    let item = line.item().to_vec(alloc)?;
-    let pin = match line.pin() {
+    let item = line.item.to_vec(alloc)?;
+    let pin = match &line.pin {
         Some(lot) => Some(lot.to_vec(alloc)?),
         None => None,
     };
-    Ok(KnownLine::new(item, pin, line.quantity()))
+    Ok(KnownLine {
+        item,
+        pin,
+        quantity: line.quantity,
+    })
 }
 
 // The lines of an order as a page has them.
@@ -78,10 +82,10 @@ pub(crate) fn known_lines(alloc: Global, lines: &[OrderLine]) -> Result<Vec<Know
 fn comes_before(line: &Line, other: &Line) -> bool
     ensures { result ≡ pair_before line.now other.now }
 {
-    if line.item() == other.item() {
-        return line.lot().cmp(&other.lot()).is_lt();
+    if line.item == other.item {
+        return line.lot.as_slice().cmp(other.lot.as_slice()).is_lt();
     }
-    line.item().cmp(&other.item()).is_lt()
+    line.item.as_slice().cmp(other.item.as_slice()).is_lt()
 }
 
 // Where a line belongs, if its pair isn't there.
@@ -113,7 +117,7 @@ fn place(lines: &mut Vec<Line>, new: Line) -> Result<(), AllocError>
 fn reserve_share(lines: &mut Vec<Line>, share: &Line) -> Result<(), AllocError>
     ensures { OnOk result (lines.new.items ≡ (if nat_lt 0 share.now.quantity then placed pair_before share.now lines.old.items else lines.old.items)) }
 {
-    if share.quantity() > 0 {
+    if share.quantity > 0 {
         place(lines, copied(share)?)?;
     }
     Ok(())
@@ -134,7 +138,7 @@ pub(crate) fn reserved(alloc: Global, shares: &[Line]) -> Result<Vec<Line>, Allo
 fn is_of(line: &Line, item: &[u8], lot: &[u8]) -> bool
     ensures { result ≡ is_pair item.now lot.now line.now }
 {
-    line.item() == item && line.lot() == lot
+    line.item.as_slice() == item && line.lot.as_slice() == lot
 }
 
 // The quantity that lines give a pair.
@@ -145,7 +149,7 @@ fn quantity_of(lines: &[Line], item: &[u8], lot: &[u8]) -> u64
     let mut quantity: u64 = 0;
     for line in lines {
         if is_of(line, item, lot) {
-            quantity += u64::from(line.quantity());
+            quantity += u64::from(line.quantity);
         }
     }
     quantity
@@ -157,7 +161,7 @@ pub(crate) fn exceeds(reserved: &[Line], lines: &[Line]) -> bool
     ensures { result ≡ list_any (exceeds reserved.now) lines.now }
 {
     for line in lines {
-        if quantity_of(reserved, line.item(), line.lot()) < u64::from(line.quantity()) {
+        if quantity_of(reserved, &line.item, &line.lot) < u64::from(line.quantity) {
             return true;
         }
     }

@@ -128,7 +128,11 @@ fn lots(alloc: Global, rows: &[Row], item: &[u8]) -> Result<Vec<Ranked>, AllocEr
 fn new_line(alloc: Global, item: &[u8], lot: &[u8], quantity: u32) -> Result<Line, AllocError>
     ensures { IfOk result (λ line. line ≡ record { item = item.now; lot = lot.now; quantity = quantity }) }
 {
-    Ok(Line::new(item.to_vec(alloc)?, lot.to_vec(alloc)?, quantity))
+    Ok(Line {
+        item: item.to_vec(alloc)?,
+        lot: lot.to_vec(alloc)?,
+        quantity,
+    })
 }
 
 // What is free of a pair: on hand and not reserved.
@@ -144,9 +148,9 @@ fn free(rows: &[Row], item: &[u8], lot: &[u8]) -> u64
 fn may_have(line: &OrderLine, lot: &[u8]) -> bool
     ensures { result ≡ may_have line.now.pin lot.now }
 {
-    match line.pin() {
+    match &line.pin {
         None => true,
-        Some(pin) => pin == lot,
+        Some(pin) => pin.as_slice() == lot,
     }
 }
 
@@ -162,13 +166,13 @@ fn shares(alloc: Global, rows: &[Row], line: &OrderLine) -> Result<Vec<Line>, Al
     requires { IsSorted rows.now }
     ensures { IfOk result (λ shares. shares.items ≡ shares_in rows.now line.now) }
 {
-    let lots = lots(alloc, rows, line.item())?;
-    let mut left = line.quantity();
+    let lots = lots(alloc, rows, &line.item)?;
+    let mut left = line.quantity;
     let mut shares = Vec::new(alloc);
     for ranked in &lots {
         if may_have(line, ranked.lot()) {
-            let share = share_of(left, free(rows, line.item(), ranked.lot()));
-            shares.push(new_line(alloc, line.item(), ranked.lot(), share)?)?;
+            let share = share_of(left, free(rows, &line.item, ranked.lot()));
+            shares.push(new_line(alloc, &line.item, ranked.lot(), share)?)?;
             left -= share;
         }
     }

@@ -37,9 +37,9 @@ fn changes(
 {
     let goods = sheet.lines(alloc)?;
     let rows = page.rows();
-    let lines = joined(alloc, order.reserved(), &goods)?;
+    let lines = joined(alloc, &order.reserved, &goods)?;
     let mut touched = touched(alloc, rows, &lines)?;
-    ship(&mut touched, order.reserved(), &goods);
+    ship(&mut touched, &order.reserved, &goods);
     let mut changes = row_changes(alloc, rows, &touched)?;
     changes.push(Change::Order(order.closed()?))?;
     changes.push(Change::Sent {
@@ -65,11 +65,11 @@ pub fn pick(alloc: Global, page: &Page, number: &[u8], sheet: &Sheet) -> Result<
     let Some(order) = page.order(number) else {
         return Err(Stop::Refused(24));
     };
-    if !order.is_open() {
+    if !order.is_open {
         return Err(Stop::Refused(25));
     }
     let goods = sheet.lines(alloc)?;
-    if exceeds(order.reserved(), &goods) {
+    if exceeds(&order.reserved, &goods) {
         return Err(Stop::Refused(26));
     }
     let changes = changes(alloc, page, order, sheet)?;

@@ -26,7 +26,7 @@ fn has_unknown(rows: &[Row], lines: &[Line]) -> bool
     ensures { result ≡ list_any (is_unknown rows.now) lines.now }
 {
     for line in lines {
-        if since_of(rows, line.item(), line.lot()) == 0 {
+        if since_of(rows, &line.item, &line.lot) == 0 {
             return true;
         }
     }
@@ -38,7 +38,7 @@ fn is_below(rows: &[Row], line: &Line) -> bool
     requires { IsSorted rows.now }
     ensures { result ≡ is_below rows.now line.now }
 {
-    u64::from(line.quantity()) < amount_of(rows, Column::Reservation, line.item(), line.lot())
+    u64::from(line.quantity) < amount_of(rows, Column::Reservation, &line.item, &line.lot)
 }
 
 // Whether one of the lines is below what is reserved of its pair.
@@ -59,7 +59,7 @@ fn is_on_hand(rows: &[Row], line: &Line) -> bool
     requires { IsSorted rows.now }
     ensures { result ≡ is_on_hand rows.now line.now }
 {
-    u64::from(line.quantity()) == amount_of(rows, Column::OnHand, line.item(), line.lot())
+    u64::from(line.quantity) == amount_of(rows, Column::OnHand, &line.item, &line.lot)
 }
 
 // Whether each line is what is on hand of its pair.

@@ -43,7 +43,13 @@ fn opened(
     let number = order.number().to_vec(alloc)?;
     let address = copied_address(order)?;
     let known = known_lines(alloc, order.lines())?;
-    Ok(KnownOrder::new(number, address, known, lines, true))
+    Ok(KnownOrder {
+        number,
+        address,
+        lines: known,
+        reserved: lines,
+        is_open: true,
+    })
 }
 
 // What an order that is opened changes, with its shares reserved.

@@ -62,7 +62,7 @@ impl Row {
     pub fn is_for(&self, line: &Line) -> bool
         ensures { result ≡ is_row line.now.item line.now.lot self.now }
     {
-        self.is_of(line.item(), line.lot())
+        self.is_of(&line.item, &line.lot)
     }
 
     // Whether it comes before the row of a pair.
@@ -114,8 +114,8 @@ impl Row {
         ensures { IfOk result (λ row. row ≡ blank line.now) }
     {
         Ok(Row {
-            item: line.item().to_vec(alloc)?,
-            lot: line.lot().to_vec(alloc)?,
+            item: line.item.to_vec(alloc)?,
+            lot: line.lot.to_vec(alloc)?,
             since: 0,
             expected: 0,
             on_hand: 0,
@@ -236,7 +236,7 @@ fn touch(rows: &[Row], touched: &mut Vec<Row>, line: &Line) -> Result<(), AllocE
     requires touched { IsSorted touched.old.items }
     ensures { OnOk result (IsTouchedBy line.now rows.now touched.old.items touched.new.items) }
 {
-    if let Some(i) = place_of(rows, line.item(), line.lot()) {
+    if let Some(i) = place_of(rows, &line.item, &line.lot) {
         put_row(touched, rows[i].copy()?)?;
     }
     Ok(())
@@ -269,10 +269,10 @@ fn placed(alloc: Global, rows: &mut Vec<Row>, line: &Line) -> Result<usize, Allo
     requires { IsSorted rows.old.items }
     ensures { IfOk result (λ i. IsPlaced rows.old.items rows.new.items line.now i) }
 {
-    if let Some(i) = place_of(rows, line.item(), line.lot()) {
+    if let Some(i) = place_of(rows, &line.item, &line.lot) {
         return Ok(i);
     }
-    let i = rank_of(rows, line.item(), line.lot());
+    let i = rank_of(rows, &line.item, &line.lot);
     rows.insert(i, Row::blank(alloc, line)?)?;
     Ok(i)
 }
@@ -290,7 +290,7 @@ fn add_line(
 {
     let i = placed(alloc, rows, line)?;
     let row = &mut rows[i];
-    row.add(column, line.quantity());
+    row.add(column, line.quantity);
     Ok(())
 }
 
@@ -300,9 +300,9 @@ fn take_line(rows: &mut Vec<Row>, column: Column, line: &Line)
     requires there { line.now.quantity ≤ told (amount (column_of column)) line.now.item line.now.lot rows.old.items }
     ensures { IsTaken (column_of column) (line.now ∷ []) rows.old.items rows.new.items }
 {
-    if let Some(i) = place_of(rows, line.item(), line.lot()) {
+    if let Some(i) = place_of(rows, &line.item, &line.lot) {
         let row = &mut rows[i];
-        row.take(column, line.quantity());
+        row.take(column, line.quantity);
     }
 }
 
@@ -313,9 +313,9 @@ fn raise_line(rows: &mut Vec<Row>, column: Column, line: &Line)
     requires there { told one line.now.item line.now.lot rows.old.items ≡ 0 → line.now.quantity ≡ 0 }
     ensures { IsRaised (column_of column) (line.now ∷ []) rows.old.items rows.new.items }
 {
-    if let Some(i) = place_of(rows, line.item(), line.lot()) {
+    if let Some(i) = place_of(rows, &line.item, &line.lot) {
         let row = &mut rows[i];
-        row.add(column, line.quantity());
+        row.add(column, line.quantity);
     }
 }
 
@@ -350,9 +350,9 @@ fn set_line(rows: &mut Vec<Row>, line: &Line)
     requires there { 1 ≤ told one line.now.item line.now.lot rows.old.items }
     ensures { IsSet (line.now ∷ []) rows.old.items rows.new.items }
 {
-    if let Some(i) = place_of(rows, line.item(), line.lot()) {
+    if let Some(i) = place_of(rows, &line.item, &line.lot) {
         let row = &mut rows[i];
-        row.set_on_hand(line.quantity());
+        row.set_on_hand(line.quantity);
     }
 }
 
@@ -401,7 +401,7 @@ fn mark_line(rows: &mut Vec<Row>, n: u32, line: &Line)
     requires there { 1 ≤ told one line.now.item line.now.lot rows.old.items }
     ensures { IsMarked n (line.now ∷ []) rows.old.items rows.new.items }
 {
-    if let Some(i) = place_of(rows, line.item(), line.lot()) {
+    if let Some(i) = place_of(rows, &line.item, &line.lot) {
         let row = &mut rows[i];
         row.mark(n);
     }

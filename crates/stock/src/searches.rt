@@ -78,11 +78,11 @@ pub(crate) fn put_order(orders: &mut Vec<KnownOrder>, order: KnownOrder) -> Resu
     requires { rises_by comes_before number_of orders.old.items ≡ true }
     ensures { OnOk result (orders.new.items ≡ put_order order orders.old.items) }
 {
-    if let Some(i) = place_of_order(orders, order.number()) {
+    if let Some(i) = place_of_order(orders, &order.number) {
         orders[i] = order;
         return Ok(());
     }
-    let i = rank_of_order(orders, order.number());
+    let i = rank_of_order(orders, &order.number);
     orders.insert(i, order)?;
     Ok(())
 }
@@ -92,7 +92,7 @@ fn rank_of_document(documents: &[Document], n: u32) -> usize
     requires { rises_by nat_lt entry_of documents.now ≡ true }
     ensures { IsRank nat_lt entry_of documents.now n result }
 {
-    documents.partition_point(|document| document.n() < n)
+    documents.partition_point(|document| document.n < n)
 }
 
 /// The place of the document with a number.
@@ -123,7 +123,14 @@ pub(crate) fn send(
         return Ok(());
     }
     let i = rank_of_document(documents, n);
-    documents.insert(i, Document::new(n, function, None))?;
+    documents.insert(
+        i,
+        Document {
+            n,
+            function,
+            said: None,
+        },
+    )?;
     Ok(())
 }
 

@@ -145,8 +145,8 @@ fn said_of(page: &Page, n: u32) -> Option<bool>
 {
     let documents = page.documents();
     for document in documents {
-        if document.n() == n {
-            return document.said();
+        if document.n == n {
+            return document.said;
         }
     }
     None

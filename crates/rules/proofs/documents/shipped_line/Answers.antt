@@ -7,6 +7,6 @@ use Rattle.rules.proofs.documents.shipped_line.Goals as goal
 
 pub sum-requires : goal.sum-requires
 sum-requires c =
-    let lots = ap (λ (ls : List Line). length ls) (c.deref-2.ensures.value ∙ c.in_ok-lots.ensures) in
-    let pairs = ap (λ (ls : List Line). length ls) (c.deref.ensures.value ∙ c.in_ok-pairs.ensures) in
-    omega (arith, lots, pairs, in_order_length pair_before c.deref.result.now, filter_length (λ (k : Line). bytes_eq k.item c.item.result.now) c.args.sheet.now, c.requires)
+    let lots = ap (λ (ls : List Line). length ls) (c.deref-4.ensures.value ∙ c.in_ok-lots.ensures) in
+    let pairs = ap (λ (ls : List Line). length ls) (c.deref-2.ensures.value ∙ c.in_ok-pairs.ensures) in
+    omega (arith, lots, pairs, in_order_length pair_before c.deref-2.result.now, filter_length (λ (k : Line). bytes_eq k.item c.deref.result.now) c.args.sheet.now, c.requires)

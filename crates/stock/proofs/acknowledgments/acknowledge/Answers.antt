@@ -14,7 +14,7 @@ returns-clause-changes c =
     elim c.if-is_decisive.branch [
       | then-is_decisive+in_ok-push w ↦
           let pushed : c.if-is_decisive.changes.items ≡ Document a.document a.accepts ∷ [] =
-          ap (λ v. v.items) w.changes-is ∙ w.in_ok-push.ensures.items ∙ (λ i. c.new-changes.ensures.items i ++ Document (w.document.ensures i) (w.accepts.ensures i) ∷ []) in
+          ap (λ v. v.items) w.changes-is ∙ w.in_ok-push.ensures.items ∙ (λ i. c.new-changes.ensures.items i ++ Document (c.ack.view_is i).document (c.ack.view_is i).accepts ∷ []) in
           pushed ∙ ap listed w.if-is_decisive.ensures
       | else-is_decisive w ↦ ap (λ v. v.items) w.changes-is ∙ c.new-changes.ensures.items ∙ ap listed w.if-is_decisive.ensures
     ]

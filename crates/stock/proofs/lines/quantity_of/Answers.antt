@@ -1,4 +1,5 @@
-use Rattle.std.proofs.Common.{arith, sym}
+use Rattle.std.proofs.Common.{arith, sym, ap}
+use Rattle.profile.specs.Means.{Line}
 use Rattle.stock.proofs.Sums.{pair_next}
 use Rattle.stock.proofs.lines.quantity_of.Goals as goal
 
@@ -8,6 +9,6 @@ overflow_add-quantity c = omega (
   c.requires,
   c.loop-line.invariant,
   c.from-quantity.ensures,
-  c.quantity.ensures,
+  ap (λ (l : Line). l.quantity) c.line.view_is,
   pair_next c.args.lines.now c.loop-line.line-index c.line-item.result c.args.item.now c.args.lot.now c.loop-line-test.true c.line-item.is (sym c.if-is_of.ensures),
 )

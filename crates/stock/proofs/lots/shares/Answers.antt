@@ -1,5 +1,5 @@
 use Rattle.std.proofs.Common.{◌≡◌, ◌++◌, ◌∷◌, [], ◌-◌, min, ◌∙◌, ap, ℕ, true, false}
-use Rattle.profile.specs.Means.{Line}
+use Rattle.profile.specs.Means.{Line, OrderLine}
 use Rattle.profile.specs.Allotment.{may_have}
 use Rattle.stock.specs.Lots.{free_in, shares_in}
 use Rattle.stock.proofs.Shares.{shares_more, shares_none}
@@ -13,10 +13,11 @@ loop-ranked-preserved c = elim c.if-may_have.branch [
       let lot = c.ranked-item.result.lot in
       let share = min c.loop-ranked.left (free_in c.args.rows.now item lot) in
       let may : may_have c.args.line.now.pin lot ≡ true = cc (w.if-may_have.ensures, c.lot.ensures) in
-      let free : w.free.result ≡ free_in c.args.rows.now item lot = cc (w.free.ensures, w.item-then-may_have.ensures, w.lot-then-may_have.ensures) in
+      let same : c.line.inside.item.items ≡ item = ap (λ (l : OrderLine). l.item) c.line.view_is in
+      let free : w.free.result ≡ free_in c.args.rows.now item lot = w.free.ensures ∙ (λ i. free_in c.args.rows.now ((w.deref-then-may_have.ensures.value ∙ same) i) (w.lot-then-may_have.ensures i)) in
       let is : w.share_of-share.result ≡ share = w.share_of-share.ensures ∙ ap (min c.loop-ranked.left) free in
       let made : Line = record { item = item; lot = lot; quantity = share } in
-      let line : w.in_ok-new_line.field-0 ≡ made = cc (w.in_ok-new_line.ensures, w.item-then-may_have-2.ensures, w.lot-then-may_have-2.ensures, is) in
+      let line : w.in_ok-new_line.field-0 ≡ made = w.in_ok-new_line.ensures ∙ (λ i. record { item = (w.deref-then-may_have-2.ensures.value ∙ same) i; lot = w.lot-then-may_have-2.ensures i; quantity = is i }) in
       let shares : c.if-may_have.shares.items ≡ c.loop-ranked.shares.items ++ made ∷ [] =
       ap (λ v. v.items) w.shares-is ∙ w.in_ok-push.ensures.items ∙ ap (λ (l : Line). c.loop-ranked.shares.items ++ l ∷ []) line in
       let left : c.if-may_have.left ≡ c.loop-ranked.left - share = w.left-is ∙ ap (λ (n : ℕ). c.loop-ranked.left - n) is in

@@ -1,5 +1,6 @@
 use Rattle.std.proofs.Common.{◌≡◌, ◌∙◌, ◌∷◌, [], ◌++◌, ◌+◌, ◌≤◌, ℕ, List, map, arith, ap}
 use Rattle.profile.specs.Events.{quantity_of}
+use Rattle.profile.specs.Page.{PageOrder}
 use Rattle.profile.specs.Movements.{OnHand, Reservation, Shipped}
 use Rattle.stock.specs.declared.documents.Function.TheVariants.{Shipment}
 use Rattle.stock.specs.declared.steps.Change.{Change}
@@ -20,16 +21,17 @@ ship-requires-clause-on_hand c =
     let k = c.args.order.now in
     let sheet = c.args.sheet.now in
     let t0 = c.in_ok-touched.touched.items in
+    let reserved : c.order.inside.reserved.items ≡ k.reserved = ap (λ (k : PageOrder). k.reserved) c.order.view_is in
     let goods : c.in_ok-goods.goods.items ≡ sheet = c.in_ok-goods.ensures.lines in
-    let lines : c.in_ok-lines.lines.items ≡ k.reserved ++ sheet = rw (c.reserved.ensures, c.deref.ensures.value, goods) at c.in_ok-lines.ensures in
-    let touched : IsTouched (k.reserved ++ sheet) p.rows t0 = rw (c.deref-2.ensures.value, lines, c.rows-rows.ensures.rows) at c.in_ok-touched.ensures in
+    let lines : c.in_ok-lines.lines.items ≡ k.reserved ++ sheet = rw (c.deref.ensures.value, reserved, c.deref-2.ensures.value, goods) at c.in_ok-lines.ensures in
+    let touched : IsTouched (k.reserved ++ sheet) p.rows t0 = rw (c.deref-3.ensures.value, lines, c.rows-rows.ensures.rows) at c.in_ok-touched.ensures in
     let enough : (a b : List ℕ) → quantity_of sheet a b ≤ told (amount OnHand) a b p.rows = λ a b. omega (
       arith,
       within_reserved k.reserved sheet a b c.requires.covered ((sheet_facts sheet c.lines.ensures.sheet).once a b),
       held_there p k.number k c.rows-rows.ensures.sound c.requires.known c.requires.is_open a b,
       c.rows-rows.ensures.sound.covered a b,
     ) in
-    rw (c.deref-3.ensures.value, goods) (touched_there sheet (k.reserved ++ sheet) p.rows t0 (among_second k.reserved sheet) touched (amount OnHand) enough)
+    rw (c.deref-5.ensures.value, goods) (touched_there sheet (k.reserved ++ sheet) p.rows t0 (among_second k.reserved sheet) touched (amount OnHand) enough)
 
 pub ship-requires-clause-fits : goal.ship-requires-clause-fits
 ship-requires-clause-fits c =
@@ -37,10 +39,11 @@ ship-requires-clause-fits c =
     let k = c.args.order.now in
     let sheet = c.args.sheet.now in
     let t0 = c.in_ok-touched.touched.items in
+    let reserved : c.order.inside.reserved.items ≡ k.reserved = ap (λ (k : PageOrder). k.reserved) c.order.view_is in
     let goods : c.in_ok-goods.goods.items ≡ sheet = c.in_ok-goods.ensures.lines in
-    let lines : c.in_ok-lines.lines.items ≡ k.reserved ++ sheet = rw (c.reserved.ensures, c.deref.ensures.value, goods) at c.in_ok-lines.ensures in
-    let touched : IsTouched (k.reserved ++ sheet) p.rows t0 = rw (c.deref-2.ensures.value, lines, c.rows-rows.ensures.rows) at c.in_ok-touched.ensures in
-    rw (c.deref-3.ensures.value, goods) (λ a b. omega (
+    let lines : c.in_ok-lines.lines.items ≡ k.reserved ++ sheet = rw (c.deref.ensures.value, reserved, c.deref-2.ensures.value, goods) at c.in_ok-lines.ensures in
+    let touched : IsTouched (k.reserved ++ sheet) p.rows t0 = rw (c.deref-3.ensures.value, lines, c.rows-rows.ensures.rows) at c.in_ok-touched.ensures in
+    rw (c.deref-5.ensures.value, goods) (λ a b. omega (
       arith,
       touched_less (k.reserved ++ sheet) p.rows t0 touched (amount Shipped) a b,
       (sheet_facts sheet c.lines.ensures.sheet).little a b,
@@ -55,10 +58,11 @@ ship-requires-clause-there c =
     let k = c.args.order.now in
     let sheet = c.args.sheet.now in
     let t0 = c.in_ok-touched.touched.items in
+    let reserved : c.order.inside.reserved.items ≡ k.reserved = ap (λ (k : PageOrder). k.reserved) c.order.view_is in
     let goods : c.in_ok-goods.goods.items ≡ sheet = c.in_ok-goods.ensures.lines in
-    let lines : c.in_ok-lines.lines.items ≡ k.reserved ++ sheet = rw (c.reserved.ensures, c.deref.ensures.value, goods) at c.in_ok-lines.ensures in
-    let touched : IsTouched (k.reserved ++ sheet) p.rows t0 = rw (c.deref-2.ensures.value, lines, c.rows-rows.ensures.rows) at c.in_ok-touched.ensures in
-    rw c.reserved-2.ensures (touched_there k.reserved (k.reserved ++ sheet) p.rows t0 (among_first k.reserved sheet) touched (amount Reservation)
+    let lines : c.in_ok-lines.lines.items ≡ k.reserved ++ sheet = rw (c.deref.ensures.value, reserved, c.deref-2.ensures.value, goods) at c.in_ok-lines.ensures in
+    let touched : IsTouched (k.reserved ++ sheet) p.rows t0 = rw (c.deref-3.ensures.value, lines, c.rows-rows.ensures.rows) at c.in_ok-touched.ensures in
+    rw (c.deref-4.ensures.value, reserved) (touched_there k.reserved (k.reserved ++ sheet) p.rows t0 (among_first k.reserved sheet) touched (amount Reservation)
     (held_there p k.number k c.rows-rows.ensures.sound c.requires.known c.requires.is_open))
 
 pub returns-clause-made : goal.returns-clause-made
@@ -67,12 +71,13 @@ returns-clause-made c =
     let k = c.args.order.now in
     let sheet = c.args.sheet.now in
     let t0 = c.in_ok-touched.touched.items in
+    let reserved : c.order.inside.reserved.items ≡ k.reserved = ap (λ (k : PageOrder). k.reserved) c.order.view_is in
     let goods : c.in_ok-goods.goods.items ≡ sheet = c.in_ok-goods.ensures.lines in
-    let lines : c.in_ok-lines.lines.items ≡ k.reserved ++ sheet = rw (c.reserved.ensures, c.deref.ensures.value, goods) at c.in_ok-lines.ensures in
-    let touched : IsTouched (k.reserved ++ sheet) p.rows t0 = rw (c.deref-2.ensures.value, lines, c.rows-rows.ensures.rows) at c.in_ok-touched.ensures in
+    let lines : c.in_ok-lines.lines.items ≡ k.reserved ++ sheet = rw (c.deref.ensures.value, reserved, c.deref-2.ensures.value, goods) at c.in_ok-lines.ensures in
+    let touched : IsTouched (k.reserved ++ sheet) p.rows t0 = rw (c.deref-3.ensures.value, lines, c.rows-rows.ensures.rows) at c.in_ok-touched.ensures in
     let t1 = c.ship.new.rows.items in
-    let moved : IsShipped k.reserved sheet t0 t1 = rw (c.reserved-2.ensures, c.deref-3.ensures.value, goods) at c.ship.ensures in
-    let changed : c.in_ok-changes.changes.items ≡ map change.Stock (changed_rows p.rows t1) = rw (c.rows-rows.ensures.rows, c.deref-4.ensures.value) at c.in_ok-changes.ensures in
+    let moved : IsShipped k.reserved sheet t0 t1 = rw (c.deref-4.ensures.value, reserved, c.deref-5.ensures.value, goods) at c.ship.ensures in
+    let changed : c.in_ok-changes.changes.items ≡ map change.Stock (changed_rows p.rows t1) = rw (c.rows-rows.ensures.rows, c.deref-6.ensures.value) at c.in_ok-changes.ensures in
     let pushed : c.push-2.new.self.items ≡ (map change.Stock (changed_rows p.rows t1) ++ change.Order (closed_order k) ∷ []) ++ change.Sent (p.entries + 1) Shipment ∷ [] =
     c.in_ok-push-2.ensures.items ∙ ap (λ (cs : List Change). cs ++ change.Sent c.next_number.result Shipment ∷ []) (c.in_ok-push.ensures.items ∙ (λ i. changed i ++ change.Order (c.in_ok-closed.ensures i) ∷ []))
     ∙ ap (λ (n : ℕ). (map change.Stock (changed_rows p.rows t1) ++ change.Order (closed_order k) ∷ []) ++ change.Sent n Shipment ∷ []) c.next_number.ensures in
@@ -84,12 +89,13 @@ returns-clause-exact c =
     let k = c.args.order.now in
     let sheet = c.args.sheet.now in
     let t0 = c.in_ok-touched.touched.items in
+    let reserved : c.order.inside.reserved.items ≡ k.reserved = ap (λ (k : PageOrder). k.reserved) c.order.view_is in
     let goods : c.in_ok-goods.goods.items ≡ sheet = c.in_ok-goods.ensures.lines in
-    let lines : c.in_ok-lines.lines.items ≡ k.reserved ++ sheet = rw (c.reserved.ensures, c.deref.ensures.value, goods) at c.in_ok-lines.ensures in
-    let touched : IsTouched (k.reserved ++ sheet) p.rows t0 = rw (c.deref-2.ensures.value, lines, c.rows-rows.ensures.rows) at c.in_ok-touched.ensures in
+    let lines : c.in_ok-lines.lines.items ≡ k.reserved ++ sheet = rw (c.deref.ensures.value, reserved, c.deref-2.ensures.value, goods) at c.in_ok-lines.ensures in
+    let touched : IsTouched (k.reserved ++ sheet) p.rows t0 = rw (c.deref-3.ensures.value, lines, c.rows-rows.ensures.rows) at c.in_ok-touched.ensures in
     let t1 = c.ship.new.rows.items in
-    let moved : IsShipped k.reserved sheet t0 t1 = rw (c.reserved-2.ensures, c.deref-3.ensures.value, goods) at c.ship.ensures in
-    let changed : c.in_ok-changes.changes.items ≡ map change.Stock (changed_rows p.rows t1) = rw (c.rows-rows.ensures.rows, c.deref-4.ensures.value) at c.in_ok-changes.ensures in
+    let moved : IsShipped k.reserved sheet t0 t1 = rw (c.deref-4.ensures.value, reserved, c.deref-5.ensures.value, goods) at c.ship.ensures in
+    let changed : c.in_ok-changes.changes.items ≡ map change.Stock (changed_rows p.rows t1) = rw (c.rows-rows.ensures.rows, c.deref-6.ensures.value) at c.in_ok-changes.ensures in
     let pushed : c.push-2.new.self.items ≡ (map change.Stock (changed_rows p.rows t1) ++ change.Order (closed_order k) ∷ []) ++ change.Sent (p.entries + 1) Shipment ∷ [] =
     c.in_ok-push-2.ensures.items ∙ ap (λ (cs : List Change). cs ++ change.Sent c.next_number.result Shipment ∷ []) (c.in_ok-push.ensures.items ∙ (λ i. changed i ++ change.Order (c.in_ok-closed.ensures i) ∷ []))
     ∙ ap (λ (n : ℕ). (map change.Stock (changed_rows p.rows t1) ++ change.Order (closed_order k) ∷ []) ++ change.Sent n Shipment ∷ []) c.next_number.ensures in

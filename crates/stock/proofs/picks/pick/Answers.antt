@@ -3,6 +3,7 @@ use Rattle.std.proofs.lemmas.Slice.Eq.{bytes_eq-Decides}
 use Rattle.std.specs.List.{list_any}
 use Rattle.profile.specs.Refusals.{UnknownOrder, OrderClosed, NotReserved}
 use Rattle.profile.specs.Events.{Picked}
+use Rattle.profile.specs.Page.{PageOrder}
 use Rattle.stock.specs.declared.documents.Function.TheVariants.{Shipment}
 use Rattle.stock.specs.declared.steps.Change.TheVariants.{Sent}
 use Rattle.stock.specs.Pages.{order_at, is_number}
@@ -17,18 +18,18 @@ pub returns-in_default-clause-err : goal.returns-in_default-clause-err
 returns-in_default-clause-err c = λ es shows.
     (UnknownOrder, picked_unknown c.args.page.now es (c.args.page.now.entries + 1) c.args.number.now c.args.sheet.now shows c.in_default.ensures, refl)
 
-pub returns-then-not-is_open-clause-err : goal.returns-then-not-is_open-clause-err
-returns-then-not-is_open-clause-err c = λ es shows.
-    (OrderClosed, picked_closed c.args.page.now es (c.args.page.now.entries + 1) c.args.number.now c.in-Some.order.now c.args.sheet.now shows c.in-Some.ensures (sym c.if-not-is_open.ensures), refl)
+pub returns-then-not-order-clause-err : goal.returns-then-not-order-clause-err
+returns-then-not-order-clause-err c = λ es shows.
+    (OrderClosed, picked_closed c.args.page.now es (c.args.page.now.entries + 1) c.args.number.now c.in-Some.order.now c.args.sheet.now shows c.in-Some.ensures (ap (λ (k : PageOrder). k.is_open) (sym c.order-2.view_is) ∙ c.if-not-order.true), refl)
 
 pub exceeds-requires : goal.exceeds-requires
-exceeds-requires c = rw c.reserved.ensures (held_fits c.args.page.now c.args.number.now c.in-Some.order.now c.rows.ensures.sound c.in-Some.ensures (sym c.if-not-is_open.ensures))
+exceeds-requires c = rw (c.deref.ensures.value, ap (λ (k : PageOrder). k.reserved) c.order-2.view_is) (held_fits c.args.page.now c.args.number.now c.in-Some.order.now c.rows.ensures.sound c.in-Some.ensures (ap (λ (k : PageOrder). k.is_open) (sym c.order-2.view_is) ∙ c.if-not-order.false))
 
 pub returns-then-exceeds-clause-err : goal.returns-then-exceeds-clause-err
 returns-then-exceeds-clause-err c = λ es shows.
     let k = c.in-Some.order.now in
-    let over : list_any (exceeds k.reserved) c.args.sheet.now ≡ true = rw (c.reserved.ensures, c.deref.ensures.value, c.in_ok-goods.ensures.lines) at (sym c.if-exceeds.ensures) in
-    (NotReserved, picked_excess c.args.page.now es (c.args.page.now.entries + 1) c.args.number.now k c.args.sheet.now shows c.in-Some.ensures (sym c.if-not-is_open.ensures) over, refl)
+    let over : list_any (exceeds k.reserved) c.args.sheet.now ≡ true = rw (c.deref.ensures.value, ap (λ (k : PageOrder). k.reserved) c.order-2.view_is, c.deref-2.ensures.value, c.in_ok-goods.ensures.lines) at (sym c.if-exceeds.ensures) in
+    (NotReserved, picked_excess c.args.page.now es (c.args.page.now.entries + 1) c.args.number.now k c.args.sheet.now shows c.in-Some.ensures (ap (λ (k : PageOrder). k.is_open) (sym c.order-2.view_is) ∙ c.if-not-order.false) over, refl)
 
 pub changes-requires-clause-known : goal.changes-requires-clause-known
 changes-requires-clause-known c =
@@ -37,20 +38,20 @@ changes-requires-clause-known c =
     ap (λ (s : List ℕ). order_at s c.args.page.now.orders) key ∙ c.in-Some.ensures
 
 pub changes-requires-clause-is_open : goal.changes-requires-clause-is_open
-changes-requires-clause-is_open c = sym c.if-not-is_open.ensures
+changes-requires-clause-is_open c = ap (λ (k : PageOrder). k.is_open) (sym c.order-2.view_is) ∙ c.if-not-order.false
 
 pub changes-requires-clause-covered : goal.changes-requires-clause-covered
-changes-requires-clause-covered c = rw (c.reserved.ensures, c.deref.ensures.value, c.in_ok-goods.ensures.lines) at (sym c.if-exceeds.ensures)
+changes-requires-clause-covered c = rw (c.deref.ensures.value, ap (λ (k : PageOrder). k.reserved) c.order-2.view_is, c.deref-2.ensures.value, c.in_ok-goods.ensures.lines) at (sym c.if-exceeds.ensures)
 
 pub returns-clause-ok : goal.returns-clause-ok
 returns-clause-ok c = λ es shows.
     let n = c.args.page.now.entries + 1 in
     let k = c.in-Some.order.now in
-    let covers : list_any (exceeds k.reserved) c.args.sheet.now ≡ false = rw (c.reserved.ensures, c.deref.ensures.value, c.in_ok-goods.ensures.lines) at (sym c.if-exceeds.ensures) in
+    let covers : list_any (exceeds k.reserved) c.args.sheet.now ≡ false = rw (c.deref.ensures.value, ap (λ (k : PageOrder). k.reserved) c.order-2.view_is, c.deref-2.ensures.value, c.in_ok-goods.ensures.lines) at (sym c.if-exceeds.ensures) in
     let r = order_known c.args.page.now es c.args.number.now k shows c.in-Some.ensures in (
       Picked n r.0.order r.0.shares c.args.sheet.now,
-      picked_ok c.args.page.now es n c.args.number.now r.0 k c.args.sheet.now shows r.1 r.2 (sym c.if-not-is_open.ensures) covers,
-      picked_shows n k r.0 c.args.sheet.now c.args.number.now c.args.page.now _ es refl c.in_ok-changes.ensures.made c.in-Some.ensures r.1 r.2 (sym c.if-not-is_open.ensures) shows,
+      picked_ok c.args.page.now es n c.args.number.now r.0 k c.args.sheet.now shows r.1 r.2 (ap (λ (k : PageOrder). k.is_open) (sym c.order-2.view_is) ∙ c.if-not-order.false) covers,
+      picked_shows n k r.0 c.args.sheet.now c.args.number.now c.args.page.now _ es refl c.in_ok-changes.ensures.made c.in-Some.ensures r.1 r.2 (ap (λ (k : PageOrder). k.is_open) (sym c.order-2.view_is) ∙ c.if-not-order.false) shows,
     )
 
 pub returns-clause-changes : goal.returns-clause-changes

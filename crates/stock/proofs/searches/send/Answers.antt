@@ -1,5 +1,4 @@
-use Rattle.std.proofs.Common.{◌∙◌, ap}
-use Rattle.std.specs.List.{insert}
+use Rattle.std.proofs.Common.{◌∙◌}
 use Rattle.stock.specs.Functions.{function_text}
 use Rattle.stock.proofs.KeyLemmas.{sent_there, sent_insert}
 use Rattle.stock.proofs.searches.send.Goals as goal
@@ -9,6 +8,5 @@ returns-in-Some c = sent_there c.args.n c.in-Some.field-0 (function_text c.args.
 
 pub returns : goal.returns
 returns c = c.in_ok-insert.ensures.items
-    ∙ ap (insert c.args.documents.now.items c.rank_of_document-i.result) c.new.ensures
     ∙ sent_insert c.args.n c.rank_of_document-i.result (function_text c.args.function) c.args.documents.now.items (rw c.deref-2.ensures.value at c.rank_of_document-i.ensures)
     (rw c.deref.ensures.value at c.in_default.ensures)

@@ -1,0 +1,181 @@
+-- Files that are taken one after the other.
+use Rattle.std.proofs.Common.{◌≡◌, ◌∙◌, sym, refl, ap, subst, ℕ, true, false, List, [], ◌∷◌, ◌++◌, map, ◌⊎◌, inl, inr, Result, Ok, Err, IfErr}
+use Rattle.std.specs.Result.{IsErr, IsErrAnd}
+use Rattle.std.proofs.lemmas.List.{map-append}
+use Rattle.profile.specs.Header.{Who}
+use Rattle.profile.specs.Moments.{Moment}
+use Rattle.profile.specs.Register.{Entry, Command, Interchange}
+use Rattle.profile.specs.Reply as replies
+use Rattle.profile.specs.Accepted.{accepted_on, replies_on, after, reply_to}
+use Rattle.store.specs.Standing.{Standing, IsUsable, IsFault, GoesOn, LeavesEither}
+use Rattle.store.specs.declared.fault.Fault.{Fault}
+use Rattle.store.specs.declared.fault.Fault.TheVariants.{OutOfMemory, Store, Reopen, NotThisBook, Device}
+use Rattle.store.proofs.Changes.{clean_before, leaves_first, refused_after, usable_stays}
+use Rattle.store.proofs.Replies.{accepted_on-more, replies_on-more}
+use Rattle.folders.specs.Folders.{Became, became, handed, IsDeviceFault, AreTaken, IsFolderFault, IsStopped, IsUntaken, became_of}
+use Rattle.folders.specs.declared.folder.Taken.{Taken}
+
+handed_more : (t : Moment) (texts : List (List ℕ)) (text : List ℕ) → handed t (texts ++ text ∷ []) ≡ handed t texts ++ (Interchange text, t) ∷ []
+handed_more t [] text = refl
+handed_more t (x ∷ texts) text = ap (λ (cs : List (Command × Moment)). (Interchange x, t) ∷ cs) (handed_more t texts text)
+
+became_more : (rs : List replies.Reply) (r : replies.Reply) → map became (rs ++ r ∷ []) ≡ map became rs ++ became r ∷ []
+became_more [] r = refl
+became_more (x ∷ rs) r = ap (λ (bs : List Became). became x ∷ bs) (became_more rs r)
+
+-- the register and the replies behind one text more
+behind_more : (W : Who) (L : List Entry) (t : Moment) (texts : List (List ℕ)) (text : List ℕ)
+    → accepted_on W L (handed t (texts ++ text ∷ [])) ≡ after W (accepted_on W L (handed t texts)) (Interchange text, t)
+behind_more W L t texts text = ap (accepted_on W L) (handed_more t texts text) ∙ accepted_on-more W L (handed t texts) (Interchange text, t)
+
+told_more : (W : Who) (L : List Entry) (t : Moment) (texts : List (List ℕ)) (text : List ℕ)
+    → map became (replies_on W L (handed t (texts ++ text ∷ [])))
+    ≡ map became (replies_on W L (handed t texts)) ++ became (reply_to W (accepted_on W L (handed t texts)) (Interchange text) t) ∷ []
+told_more W L t texts text =
+    ap (λ cs. map became (replies_on W L cs)) (handed_more t texts text)
+    ∙ ap (map became) (replies_on-more W L (handed t texts) (Interchange text, t))
+    ∙ became_more (replies_on W L (handed t texts)) (reply_to W (accepted_on W L (handed t texts)) (Interchange text) t)
+
+-- Nothing was taken yet.
+
+pub none_taken : (a : Standing) (t : Moment) → AreTaken a a t [] []
+none_taken a t = record { told_is = λ clean L u. refl; usable = λ clean L u. u }
+
+-- One file more.
+
+pub taken_more : (a b c : Standing) (t : Moment) (texts : List (List ℕ)) (text : List ℕ) (told : List Became) (one : Became) → GoesOn a b → GoesOn b c
+    → AreTaken a b t texts told → AreTaken b c t (text ∷ []) (one ∷ []) → AreTaken a c t (texts ++ text ∷ []) (told ++ one ∷ [])
+taken_more a b c t texts text told one p q before file = record {
+  told_is = λ clean L u.
+      let early = clean_before b c q clean in
+      let mid = before.usable early L u in
+      ap (λ (bs : List Became). bs ++ one ∷ []) (before.told_is early L u)
+      ∙ ap (λ (bs : List Became). map became (replies_on a.warehouse L (handed t texts)) ++ bs) (file.told_is clean _ mid)
+      ∙ ap (λ W. map became (replies_on a.warehouse L (handed t texts)) ++ became (reply_to W (accepted_on a.warehouse L (handed t texts)) (Interchange text) t) ∷ []) p.warehouse
+      ∙ sym (told_more a.warehouse L t texts text);
+  usable = λ clean L u.
+      let mid = before.usable (clean_before b c q clean) L u in
+      subst (IsUsable c)
+      (ap (λ W. after W (accepted_on a.warehouse L (handed t texts)) (Interchange text, t)) p.warehouse ∙ sym (behind_more a.warehouse L t texts text))
+      (file.usable clean _ mid);
+}
+
+-- Stops.
+
+-- the one text of a file that stopped, behind those that were taken
+last_behind : (a b : Standing) (t : Moment) (texts : List (List ℕ)) (last : List ℕ) (L : List Entry) → GoesOn a b
+    → after b.warehouse (accepted_on a.warehouse L (handed t texts)) (Interchange last, t) ≡ accepted_on a.warehouse L (handed t (texts ++ last ∷ []))
+last_behind a b t texts last L p =
+    ap (λ W. after W (accepted_on a.warehouse L (handed t texts)) (Interchange last, t)) p.warehouse ∙ sym (behind_more a.warehouse L t texts last)
+
+pub fault_behind : (a b c : Standing) (fault : Fault) (t : Moment) (texts : List (List ℕ)) (told : List Became) → GoesOn a b → a.shut ≡ b.shut → GoesOn b c
+    → AreTaken a b t texts told → IsFolderFault fault b c → IsFolderFault fault a c
+fault_behind a b c fault t texts told p same q before why = record {
+  grew = λ was is. refused_after a b c p (why.grew (sym same ∙ was) is);
+  store = λ h. refused_after a b c p (why.store h);
+  reopen = λ h. same ∙ why.reopen h;
+  not_this = λ h clean L u. why.not_this h clean _ (before.usable (clean_before b c q clean) L u);
+}
+
+either_usable : (s : Standing) (M first second last : List Entry) → M ≡ first → last ≡ second → IsUsable s M ⊎ IsUsable s last → IsUsable s first ⊎ IsUsable s second
+either_usable s M first second last p q (inl u) = inl (subst (IsUsable s) p u)
+either_usable s M first second last p q (inr u) = inr (subst (IsUsable s) q u)
+
+-- a file at which the folder stops, behind those that were taken
+pub stopped_behind : (a b c : Standing) (fault : Fault) (t : Moment) (texts : List (List ℕ)) (told : List Became) → GoesOn a b → a.shut ≡ b.shut → GoesOn b c
+    → AreTaken a b t texts told → IsUntaken fault b c t → IsStopped fault a c t
+stopped_behind a b c fault t texts told p same q before file = record {
+  texts = texts;
+  last = file.last;
+  taken = record {
+    usable = λ clean opened L u.
+        let mid = before.usable (clean_before b c q clean) L u in
+        either_usable c _ _ _ _ refl (last_behind a b t texts file.last L p) (file.taken.usable clean opened _ mid);
+    left = λ clean L u.
+        let mid = before.usable (clean_before b c q clean) L u in
+        subst (LeavesEither c (accepted_on a.warehouse L (handed t texts))) (last_behind a b t texts file.last L p) (file.taken.left clean _ mid);
+  };
+  why = fault_behind a b c fault t texts told p same q before file.why;
+}
+
+-- a fault of a device, or want of memory, behind which the book is as it was
+pub device_fault : (fault : Fault) (a : Standing) (b : Standing) → b.shut ≡ a.shut → IsDeviceFault fault → IsFolderFault fault a b
+device_fault fault a b same (inl h) = record {
+  grew = λ was is. absurd (let k : true ≡ false = sym is ∙ same ∙ was in cc (k));
+  store = λ g. absurd (let k : OutOfMemory ≡ Store = sym h ∙ g in cc (k));
+  reopen = λ g. absurd (let k : OutOfMemory ≡ Reopen = sym h ∙ g in cc (k));
+  not_this = λ g clean L u. let k : OutOfMemory ≡ NotThisBook = sym h ∙ g in absurd (cc (k));
+}
+device_fault fault a b same (inr h) = record {
+  grew = λ was is. absurd (let k : true ≡ false = sym is ∙ same ∙ was in cc (k));
+  store = λ g. absurd (let k : Device ≡ Store = sym h ∙ g in cc (k));
+  reopen = λ g. absurd (let k : Device ≡ Reopen = sym h ∙ g in cc (k));
+  not_this = λ g clean L u. let k : Device ≡ NotThisBook = sym h ∙ g in absurd (cc (k));
+}
+
+-- the folder stops between two files
+pub stopped_between : (a b : Standing) (fault : Fault) (t : Moment) (texts : List (List ℕ)) (told : List Became) → GoesOn a b → a.shut ≡ b.shut
+    → AreTaken a b t texts told → IsDeviceFault fault → IsStopped fault a b t
+stopped_between a b fault t texts told p same before why = record {
+  texts = texts;
+  last = [];
+  taken = record {
+    usable = λ clean opened L u. inl (before.usable clean L u);
+    left = λ clean L u. leaves_first b _ _ (before.usable clean L u);
+  };
+  why = device_fault fault a b (sym same) why;
+}
+
+-- What one file comes to.
+
+-- a reply to the text of a file
+pub file_taken : (a b : Standing) (t : Moment) (text : List ℕ) (reply : replies.Reply) (told : Became) → told ≡ became reply
+    → (b.doubt ≡ 0 → (L : List Entry) → IsUsable a L → reply ≡ reply_to a.warehouse L (Interchange text) t)
+    → (b.doubt ≡ 0 → (L : List Entry) → IsUsable a L → IsUsable b (after a.warehouse L (Interchange text, t))) → AreTaken a b t (text ∷ []) (told ∷ [])
+file_taken a b t text reply told is said goes = record {
+  told_is = λ clean L u. ap (λ (x : Became). x ∷ []) (is ∙ ap became (said clean L u));
+  usable = goes;
+}
+
+-- a file that can't be read
+pub unread : (a : Standing) (fault : Fault) (t : Moment) → IsDeviceFault fault → IsUntaken fault a a t
+unread a fault t why = record {
+  last = [];
+  taken = record { usable = λ clean opened L u. inl u; left = λ clean L u. leaves_first a L _ u };
+  why = device_fault fault a a refl why;
+}
+
+-- a fault of the book when a file is handed in
+pub unsubmitted : (a b : Standing) (fault : Fault) (t : Moment) (text : List ℕ) → IsFault fault a b
+    → (b.doubt ≡ 0 → (L : List Entry) → IsUsable a L → LeavesEither b L (after a.warehouse L (Interchange text, t))) → IsUntaken fault a b t
+unsubmitted a b fault t text f left = record {
+  last = text;
+  taken = record {
+    usable = λ clean opened L u. inl (usable_stays a b (f.clean (opened ∙ sym u.opened)) clean L u);
+    left = left;
+  };
+  why = record { grew = f.broken; store = f.why.store; reopen = f.why.reopen; not_this = λ h clean L u. f.why.not_this h clean L u.keeps };
+}
+
+-- an answer that can't be written
+pub unanswered : (a b : Standing) (fault : Fault) (t : Moment) (text : List ℕ) → (b.doubt ≡ 0 → (L : List Entry) → IsUsable a L → IsUsable b (after a.warehouse L (Interchange text, t)))
+    → a.shut ≡ b.shut → IsDeviceFault fault → IsUntaken fault a b t
+unanswered a b fault t text goes same why = record {
+  last = text;
+  taken = record {
+    usable = λ clean opened L u. inr (goes clean L u);
+    left = λ clean L u. let v = goes clean L u in record { stand = v.stand; each = λ M h. inr (v.only M h) };
+  };
+  why = device_fault fault a b (sym same) why;
+}
+
+-- a fault that is handed on
+pub handed_on : {T : Type 0} (r : Result T Fault) (P Q : Fault → Type 0) → IsErr r × IsErrAnd r Q → ((fault : Fault) → Q fault → P fault) → IfErr r P
+handed_on (Ok x) P Q h k = tt
+handed_on (Err e) P Q h k = k e h.1
+
+-- what is told of one file more
+pub taken_kept : (xs ys zs : List Taken) (file : Taken) → ys ≡ xs → zs ≡ ys ++ file ∷ []
+    → map (λ (k : Taken). became_of k.outcome) xs ++ became_of file.outcome ∷ [] ≡ map (λ (k : Taken). became_of k.outcome) zs
+taken_kept xs ys zs file kept grown =
+    sym (ap (map (λ (k : Taken). became_of k.outcome)) (grown ∙ ap (λ (ts : List Taken). ts ++ file ∷ []) kept) ∙ map-append (λ (k : Taken). became_of k.outcome) xs (file ∷ []))

@@ -1,0 +1,70 @@
+-- What taking the files of a folder comes to.
+use Rattle.std.specs.Prelude.{◌≡◌, ◌⊎◌, ◌∷◌, ◌++◌, [], true, false, ℕ, List, map}
+use Rattle.profile.specs.Moments.{Moment}
+use Rattle.profile.specs.Register.{Entry, Command, Interchange}
+use Rattle.profile.specs.Reply as replies
+use Rattle.profile.specs.Refusals.{Refusal}
+use Rattle.profile.specs.Accepted.{accepted_on, replies_on}
+use Rattle.rules.specs.Told.{refusal_of}
+use Rattle.store.specs.Standing.{Standing, IsUsable, LeavesEither, Refused}
+use Rattle.store.specs.declared.fault.Fault.{Fault}
+use Rattle.store.specs.declared.fault.Fault.TheVariants.{OutOfMemory, Store, Reopen, NotThisBook, Device}
+use Rattle.folders.specs.declared.folder.Outcome.{Outcome}
+use Rattle.folders.specs.declared.folder.Outcome.TheVariants as outcomes
+
+-- what became of an interchange
+pub data Became : Type 0 where
+  WasAccepted : Became
+  WasStored : Became
+  WasRefused : Refusal → Became
+
+abbrev pub became : replies.Reply → Became
+became (replies.Accepted text) = WasAccepted
+became (replies.Stored text) = WasStored
+became (replies.Refused r text) = WasRefused r
+
+abbrev pub became_of : Outcome → Became
+became_of outcomes.Accepted = WasAccepted
+became_of outcomes.Stored = WasStored
+became_of (outcomes.Refused r) = WasRefused (refusal_of r)
+
+-- interchanges of these texts, handed in at the moment
+abbrev pub handed : Moment → List (List ℕ) → List (Command × Moment)
+handed t texts = map (λ (text : List ℕ). (Interchange text, t)) texts
+
+-- a device that doesn't serve, or want of memory
+abbrev pub IsDeviceFault : Fault → Type 0
+IsDeviceFault fault = (fault ≡ OutOfMemory) ⊎ (fault ≡ Device)
+
+-- The texts were handed in one after the other: this became of them, and the register is the one behind them.
+pub record AreTaken (old new : Standing) (t : Moment) (texts : List (List ℕ)) (told : List Became) : Type 0 where
+  pub told_is : new.doubt ≡ 0 → (L : List Entry) → IsUsable old L → told ≡ map became (replies_on old.warehouse L (handed t texts))
+  pub usable : new.doubt ≡ 0 → (L : List Entry) → IsUsable old L → IsUsable new (accepted_on old.warehouse L (handed t texts))
+
+-- The texts were handed in, and one more perhaps. The register is the one behind those, or behind that one too; a crash leaves
+-- one of the two, also where the book has to be opened again.
+pub record AreTakenUntil (old new : Standing) (t : Moment) (texts : List (List ℕ)) (last : List ℕ) : Type 0 where
+  pub usable : new.doubt ≡ 0 → new.shut ≡ false → (L : List Entry) → IsUsable old L
+      → IsUsable new (accepted_on old.warehouse L (handed t texts)) ⊎ IsUsable new (accepted_on old.warehouse L (handed t (texts ++ last ∷ [])))
+  pub left : new.doubt ≡ 0 → (L : List Entry) → IsUsable old L
+      → LeavesEither new (accepted_on old.warehouse L (handed t texts)) (accepted_on old.warehouse L (handed t (texts ++ last ∷ [])))
+
+-- Why the rest of a folder wasn't taken.
+pub record IsFolderFault (fault : Fault) (old new : Standing) : Type 0 where
+  pub grew : old.shut ≡ false → new.shut ≡ true → Refused old new
+  pub store : fault ≡ Store → Refused old new
+  pub reopen : fault ≡ Reopen → old.shut ≡ true
+  pub not_this : fault ≡ NotThisBook → new.doubt ≡ 0 → (L : List Entry) → IsUsable old L → ⊥
+
+-- A file that wasn't taken.
+pub record IsUntaken (fault : Fault) (old new : Standing) (t : Moment) : Type 0 where
+  pub last : List ℕ
+  pub taken : AreTakenUntil old new t [] last
+  pub why : IsFolderFault fault old new
+
+-- A folder that wasn't taken to its end.
+pub record IsStopped (fault : Fault) (old new : Standing) (t : Moment) : Type 0 where
+  pub texts : List (List ℕ)
+  pub last : List ℕ
+  pub taken : AreTakenUntil old new t texts last
+  pub why : IsFolderFault fault old new

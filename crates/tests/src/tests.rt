@@ -1,0 +1,4 @@
+mod calls;
+mod program;
+mod stories;
+mod texts;

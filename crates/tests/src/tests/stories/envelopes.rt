@@ -1,0 +1,306 @@
+//! Interchanges that can't be read, that are refused with a note, or that come again; delimiters.
+
+pub(crate) const STORIES: &str = "\
+text ADVICE ISA*00*          *00*          *ZZ*ACME           *ZZ*WHSE1          *250304*0915*U*00401*000000001*1*P*>~GS*AR*ACME*WHSE1*20250304*0915*1*X*004010~ST*943*0001~W06*F*PO77*20250303*SHP1~W04*100*EA**SK*BOLT~N9*LT*L1~W03*100~SE*6*0001~GE*1*1~IEA*1*000000001~
+text TAKEN ISA*00*          *00*          *ZZ*WHSE1          *ZZ*ACME           *250304*0915*U*00401*000000001*0*P*>~TA1*000000001*250304*0915*A*000~GS*FA*WHSE1*ACME*20250304*0915*1*X*004010~ST*997*0001~AK1*AR*1~AK2*943*0001~AK5*A~AK9*A*1*1*1~SE*6*0001~GE*1*1~IEA*1*000000001~
+text KNOWN ISA*00*          *00*          *ZZ*WHSE1          *ZZ*ACME           *250304*0915*U*00401*000000000*0*P*>~TA1*000000001*250304*0915*R*025~IEA*0*000000000~
+
+story beginnings
+
+enrol ZZ-ACME
+accepted
+-
+
+send ZZ-ACME
+first 0 ADVICE
+refused 1
+-
+
+send ZZ-ACME
+first 105 ADVICE
+refused 1
+-
+
+send ZZ-ACME
+first 106 ADVICE
+refused 2
+ISA*00*          *00*          *ZZ*WHSE1          *ZZ*ACME           *250304*0915*U*00401*000000000*0*P*>~TA1*000000001*250304*0915*R*023~IEA*0*000000000~
+
+send ZZ-ACME
+first 239 ADVICE
+refused 2
+ISA*00*          *00*          *ZZ*WHSE1          *ZZ*ACME           *250304*0915*U*00401*000000000*0*P*>~TA1*000000001*250304*0915*R*023~IEA*0*000000000~
+
+send ZZ-ACME
+first 254 ADVICE
+refused 2
+ISA*00*          *00*          *ZZ*WHSE1          *ZZ*ACME           *250304*0915*U*00401*000000000*0*P*>~TA1*000000001*250304*0915*R*023~IEA*0*000000000~
+
+send ZZ-ACME
+ADVICE
+accepted
+TAKEN
+BOLT L1 100 0 0 0
+1 ANS -
+
+story headers
+
+enrol ZZ-ACME
+accepted
+-
+
+send ZZ-ACME
+with 3 - ADVICE
+refused 1
+-
+
+send ZZ-ACME
+with 104 * ADVICE
+refused 1
+-
+
+send ZZ-ACME
+with 105 > ADVICE
+refused 1
+-
+
+send ZZ-ACME
+with 32 Y ADVICE
+refused 2
+ISA*00*          *00*          *ZZ*WHSE1          *YZ*ACME           *250304*0915*U*00401*000000000*0*P*>~TA1*000000001*250304*0915*R*006~IEA*0*000000000~
+
+send ZZ-ACME
+with 38 2 ADVICE
+refused 2
+ISA*00*          *00*          *ZZ*WHSE1          *ZZ*ACM2           *250304*0915*U*00401*000000000*0*P*>~TA1*000000001*250304*0915*R*006~IEA*0*000000000~
+
+send ZZ-ACME
+with 51 Y ADVICE
+refused 2
+ISA*00*          *00*          *ZZ*WHSE1          *ZZ*ACME           *250304*0915*U*00401*000000000*0*P*>~TA1*000000001*250304*0915*R*009~IEA*0*000000000~
+
+send ZZ-ACME
+with 58 2 ADVICE
+refused 2
+ISA*00*          *00*          *ZZ*WHSE1          *ZZ*ACME           *250304*0915*U*00401*000000000*0*P*>~TA1*000000001*250304*0915*R*009~IEA*0*000000000~
+
+send ZZ-ACME
+with 4 1 ADVICE
+refused 2
+ISA*00*          *00*          *ZZ*WHSE1          *ZZ*ACME           *250304*0915*U*00401*000000000*0*P*>~TA1*000000001*250304*0915*R*010~IEA*0*000000000~
+
+send ZZ-ACME
+with 7 X ADVICE
+refused 2
+ISA*00*          *00*          *ZZ*WHSE1          *ZZ*ACME           *250304*0915*U*00401*000000000*0*P*>~TA1*000000001*250304*0915*R*011~IEA*0*000000000~
+
+send ZZ-ACME
+with 18 1 ADVICE
+refused 2
+ISA*00*          *00*          *ZZ*WHSE1          *ZZ*ACME           *250304*0915*U*00401*000000000*0*P*>~TA1*000000001*250304*0915*R*012~IEA*0*000000000~
+
+send ZZ-ACME
+with 21 X ADVICE
+refused 2
+ISA*00*          *00*          *ZZ*WHSE1          *ZZ*ACME           *250304*0915*U*00401*000000000*0*P*>~TA1*000000001*250304*0915*R*013~IEA*0*000000000~
+
+send ZZ-ACME
+with 70 A ADVICE
+refused 2
+ISA*00*          *00*          *ZZ*WHSE1          *ZZ*ACME           *250304*0915*U*00401*000000000*0*P*>~TA1*000000001*A50304*0915*R*014~IEA*0*000000000~
+
+send ZZ-ACME
+with 70 251301*0915*U*00402 ADVICE
+refused 2
+ISA*00*          *00*          *ZZ*WHSE1          *ZZ*ACME           *250304*0915*U*00401*000000000*0*P*>~TA1*000000001*251301*0915*R*014~IEA*0*000000000~
+
+send ZZ-ACME
+with 77 3 ADVICE
+refused 2
+ISA*00*          *00*          *ZZ*WHSE1          *ZZ*ACME           *250304*0915*U*00401*000000000*0*P*>~TA1*000000001*250304*3915*R*015~IEA*0*000000000~
+
+send ZZ-ACME
+with 82 V ADVICE
+refused 2
+ISA*00*          *00*          *ZZ*WHSE1          *ZZ*ACME           *250304*0915*U*00401*000000000*0*P*>~TA1*000000001*250304*0915*R*002~IEA*0*000000000~
+
+send ZZ-ACME
+with 88 2 ADVICE
+refused 2
+ISA*00*          *00*          *ZZ*WHSE1          *ZZ*ACME           *250304*0915*U*00401*000000000*0*P*>~TA1*000000001*250304*0915*R*003~IEA*0*000000000~
+
+send ZZ-ACME
+with 98 2 ADVICE
+refused 2
+ISA*00*          *00*          *ZZ*WHSE1          *ZZ*ACME           *250304*0915*U*00401*000000000*0*P*>~TA1*000000002*250304*0915*R*001~IEA*0*000000000~
+
+send ZZ-ACME
+with 100 2 ADVICE
+refused 2
+ISA*00*          *00*          *ZZ*WHSE1          *ZZ*ACME           *250304*0915*U*00401*000000000*0*P*>~TA1*000000001*250304*0915*R*019~IEA*0*000000000~
+
+send ZZ-ACME
+with 102 T ADVICE
+refused 2
+ISA*00*          *00*          *ZZ*WHSE1          *ZZ*ACME           *250304*0915*U*00401*000000000*0*P*>~TA1*000000001*250304*0915*R*020~IEA*0*000000000~
+
+send ZZ-ACME
+ADVICE
+accepted
+TAKEN
+BOLT L1 100 0 0 0
+1 ANS -
+
+story ends
+
+enrol ZZ-ACME
+accepted
+-
+
+send ZZ-ACME
+with 243 2*000000009 ADVICE
+refused 2
+ISA*00*          *00*          *ZZ*WHSE1          *ZZ*ACME           *250304*0915*U*00401*000000000*0*P*>~TA1*000000001*250304*0915*R*001~IEA*0*000000000~
+
+send ZZ-ACME
+with 243 2 ADVICE
+refused 2
+ISA*00*          *00*          *ZZ*WHSE1          *ZZ*ACME           *250304*0915*U*00401*000000000*0*P*>~TA1*000000001*250304*0915*R*021~IEA*0*000000000~
+
+send ZZ-ACME
+ISA*00*          *00*          *ZZ*ACME           *ZZ*WHSE1          *250304*0915*U*00401*000000001*1*P*>~GS*AR*ACME*WHSE1*20250304*0915*1*X*004010~ST*943*0001~W06*F*PO77*20250303*SHP1~W04*100*EA**SK*BOLT~N9*LT*L1~W03*100~SE*6*0001~GE*1*1~IEA*1*000000001~X
+refused 2
+ISA*00*          *00*          *ZZ*WHSE1          *ZZ*ACME           *250304*0915*U*00401*000000000*0*P*>~TA1*000000001*250304*0915*R*023~IEA*0*000000000~
+
+send ZZ-ACME
+ISA*00*          *00*          *ZZ*ACME           *ZZ*WHSE1          *250304*0915*U*00401*000000001*1*P*>~GS*AR*ACME*WHSE1*20250304*0915*1*X*004010~ST*943*0001~W06*F*PO77*20250303*SHP1~W04*100*EA**SK*BOLT~N9*LT*L1~W03*100~SE*6*0001~GE*1*1~IEA*1*000000001~IEA*1*000000001~
+refused 2
+ISA*00*          *00*          *ZZ*WHSE1          *ZZ*ACME           *250304*0915*U*00401*000000000*0*P*>~TA1*000000001*250304*0915*R*022~IEA*0*000000000~
+
+send ZZ-ACME
+ISA*00*          *00*          *ZZ*ACME           *ZZ*WHSE1          *250304*0915*U*00401*000000001*1*P*>~GS*AR*ACME*WHSE1*20250304*0915*1*X*004010~GE*0*1~IEA*1*000000001~
+refused 2
+ISA*00*          *00*          *ZZ*WHSE1          *ZZ*ACME           *250304*0915*U*00401*000000000*0*P*>~TA1*000000001*250304*0915*R*024~IEA*0*000000000~
+
+send ZZ-ACME
+ADVICE
+accepted
+TAKEN
+BOLT L1 100 0 0 0
+1 ANS -
+
+story no number for a refusal
+# Control number 7 comes again after a refusal, and is the first entry.
+
+enrol ZZ-ACME
+accepted
+-
+
+send ZZ-ACME
+ISA*00*          *00*          *ZZ*ACME           *ZZ*WHSE1          *250304*0915*U*00401*000000007*1*P*>~GS*AR*ACME*WHSE1*20250304*0915*1*X*004010~ST*943*0001~W06*F*PO77*20250303*SHP1~W04*100*EA**SK*BOLT~N9*LT*L1~W03*100~SE*6*0001~GE*1*1~IEA*1*000000009~
+refused 2
+ISA*00*          *00*          *ZZ*WHSE1          *ZZ*ACME           *250304*0915*U*00401*000000000*0*P*>~TA1*000000007*250304*0915*R*001~IEA*0*000000000~
+
+send ZZ-ACME
+ISA*00*          *00*          *ZZ*ACME           *ZZ*WHSE1          *250304*0915*U*00401*000000007*1*P*>~GS*AR*ACME*WHSE1*20250304*0915*1*X*004010~ST*943*0001~W06*F*PO77*20250303*SHP1~W04*100*EA**SK*BOLT~N9*LT*L1~W03*100~SE*6*0001~GE*1*1~IEA*1*000000007~
+accepted
+ISA*00*          *00*          *ZZ*WHSE1          *ZZ*ACME           *250304*0915*U*00401*000000001*0*P*>~TA1*000000007*250304*0915*A*000~GS*FA*WHSE1*ACME*20250304*0915*1*X*004010~ST*997*0001~AK1*AR*1~AK2*943*0001~AK5*A~AK9*A*1*1*1~SE*6*0001~GE*1*1~IEA*1*000000001~
+BOLT L1 100 0 0 0
+1 ANS -
+
+story a number without an answer
+# An interchange that is answered by nothing takes a number.
+
+enrol ZZ-ACME
+accepted
+-
+
+send ZZ-ACME
+ISA*00*          *00*          *ZZ*ACME           *ZZ*WHSE1          *250304*0915*U*00401*000000001*0*P*>~IEA*0*000000001~
+accepted
+-
+
+send ZZ-ACME
+ISA*00*          *00*          *ZZ*ACME           *ZZ*WHSE1          *250304*0915*U*00401*000000001*0*P*>~IEA*0*000000001~
+stored
+-
+
+send ZZ-ACME
+ISA*00*          *00*          *ZZ*ACME           *ZZ*WHSE1          *250304*0915*U*00401*000000002*1*P*>~GS*AR*ACME*WHSE1*20250304*0915*1*X*004010~ST*943*0001~W06*F*PO77*20250303*SHP1~W04*100*EA**SK*BOLT~N9*LT*L1~W03*100~SE*6*0001~GE*1*1~IEA*1*000000002~
+accepted
+ISA*00*          *00*          *ZZ*WHSE1          *ZZ*ACME           *250304*0915*U*00401*000000002*0*P*>~TA1*000000002*250304*0915*A*000~GS*FA*WHSE1*ACME*20250304*0915*2*X*004010~ST*997*0001~AK1*AR*1~AK2*943*0001~AK5*A~AK9*A*1*1*1~SE*6*0001~GE*1*2~IEA*1*000000002~
+BOLT L1 100 0 0 0
+2 ANS -
+
+story a known number
+
+enrol ZZ-ACME
+accepted
+-
+
+send ZZ-ACME
+ADVICE
+accepted
+TAKEN
+BOLT L1 100 0 0 0
+1 ANS -
+
+send ZZ-ACME
+lined ADVICE
+refused 3
+KNOWN
+BOLT L1 100 0 0 0
+1 ANS -
+
+send ZZ-ACME
+barred ADVICE
+refused 3
+barred KNOWN
+BOLT L1 100 0 0 0
+1 ANS -
+
+send ZZ-ACME
+with 58 2 ADVICE
+refused 3
+KNOWN
+BOLT L1 100 0 0 0
+1 ANS -
+
+story no group
+
+enrol ZZ-ACME
+accepted
+-
+
+send ZZ-ACME
+ISA*00*          *00*          *ZZ*ACME           *ZZ*WHSE1          *250304*0915*U*00401*000000001*1*P*>~IEA*0*000000001~
+accepted
+ISA*00*          *00*          *ZZ*WHSE1          *ZZ*ACME           *250304*0915*U*00401*000000001*0*P*>~TA1*000000001*250304*0915*A*000~IEA*0*000000001~
+1 ANS -
+
+story bars and line feeds
+
+enrol ZZ-ACME
+accepted
+-
+
+send ZZ-ACME
+barred ADVICE
+accepted
+barred TAKEN
+BOLT L1 100 0 0 0
+1 ANS -
+
+story line ends
+
+enrol ZZ-ACME
+accepted
+-
+
+send ZZ-ACME
+lined ADVICE
+accepted
+TAKEN
+BOLT L1 100 0 0 0
+1 ANS -
+";
