@@ -3,7 +3,7 @@
 
 Usage: bench/gate.py [--cpus 0,1] [--keep FOLDER]     (default: processors 0 and 1, in a folder of its own, which is removed)
 
-The clone is of the last commit. Ten times a second the processes of the run are looked at: each belongs to a crate, and to its proof,
+The clone is of the last commit. Twice a second the processes of the run are looked at: each belongs to a crate, and to its proof,
 its tests, its must-fail edits or its builds. Printed are the run's own last lines, its wall time, its processor time, and a table
 of processor seconds crate by crate. The status is that of `rt ci`.
 """
@@ -68,7 +68,7 @@ def watch(run):
             if key:
                 last[pid] = key
                 spent[pid, key] = max(seconds, spent.get((pid, key), 0))
-        time.sleep(0.1)
+        time.sleep(0.5)
     sums = collections.Counter()
     for (_, key), seconds in spent.items():
         sums[key] += seconds
