@@ -1,4 +1,4 @@
--- The book's tables where others stand behind them: no foreign key acts on them, and no other index guards them.
+-- The book's tables where others stand after them: no foreign key acts on them, and no other index guards them.
 use Rattle.std.proofs.Common.{◌≡◌, codes, Ok, ℕ, List, [], ◌∷◌, ◌++◌, flat_map, ◌&&◌, ◌||◌, ◌==◌, Bool, true, false, Some, None, Option, refl, sym, ap, subst, ◌∙◌, inl, inr, eq-eqb, eqb-true}
 use Rattle.std.specs.List.{AllByRecursion, list_any, filter_map}
 use Rattle.std.proofs.lemmas.Bool.{cases_Bool}

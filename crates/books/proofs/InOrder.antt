@@ -74,7 +74,7 @@ module _ {X : Type 0} (cmp : X → X → Ordering) (total : IsTotalOrder cmp) wh
       let nothing : sum_by f (y ∷ ys) ≡ 0 = none_counted f (y ∷ ys) (first, rest) in
       absurd (omega (arith, one, nothing, alike f, counted f (x ∷ xs) x (inl refl)))
 
-  -- behind the head stand only elements that are greater
+  -- after the head stand only elements that are greater
   behind : (x : X) (xs ys : List X) → AllByRecursion (Below x) xs → ((f : X → ℕ) → sum_by f (x ∷ ys) ≡ sum_by f (x ∷ xs)) → (z : X) → Has ys z → Has (x ∷ xs) z → Has xs z
   behind x xs ys up alike z there (inr later) = later
   behind x xs ys up alike z there (inl e) =

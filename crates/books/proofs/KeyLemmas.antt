@@ -144,7 +144,7 @@ same_agree (suc k) (x ∷ a) (y ∷ b) p q e =
     let its = key_value k y b q in
     first_agrees k x y a b ∙ rw (subst (λ (z : Value). equal Binary x z ≡ true) both.0 mine.0) (same_agree k a b mine.1 its.1 both.1)
 
--- ---- keys behind a rowid
+-- ---- keys after a rowid
 
 pub keys_same : (k : ℕ) (i j : Value) (a b : Row) → has_key k a ≡ true → has_key k b ≡ true → agree plain (places 1 k) (i ∷ a) (places 1 k) (j ∷ b) ≡ true → take k a ≡ take k b
 keys_same k i j a b p q h = agree_same k a b p q (sym (shifted k 0 i j a b) ∙ h)

@@ -33,7 +33,7 @@ own_own (e ∷ L) who = by (who_eq e.who who) refl (own_own L who)
     by true h later = with_first (λ (x : Entry). who_eq x.who who) e (own L who) true h ∙ ap (λ (M : List Entry). e ∷ M) later
     by false h later = later
 
--- an entry is written down behind its depositor's own as behind all
+-- an entry is written down after its depositor's own as after all
 written_own : (before : List Entry) (e : Entry) (who : Who) → who_eq e.who who ≡ true → written before e ≡ written (own before who) e
 written_own before e who h =
     let same : own before e.who ≡ own (own before who) e.who = subst (λ (v : Who). own before v ≡ own (own before who) v) (sym (who_is e.who who h)) (sym (own_own before who)) in
@@ -118,7 +118,7 @@ abbrev pub is_entry_of : List ℕ → TableRow → Bool
 is_entry_of t (seq ∷ Text s ∷ cells) = bytes_eq s t
 is_entry_of t row = false
 
--- its cells behind `seq` and `who`
+-- its cells after `seq` and `who`
 abbrev pub written_cells : Written → TableRow
 written_cells w = Text w.key ∷ Number w.n ∷ Text (stamp w.moment) ∷ Blob w.body ∷ []
 

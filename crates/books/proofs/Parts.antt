@@ -34,7 +34,7 @@ own_kept : (t : List ℕ) (rs : List TableRow) → filter (begins t) (prefixed t
 own_kept t [] = refl
 own_kept t (r ∷ rs) = λ i. if same_text t i then (Text t ∷ r) ∷ own_kept t rs i else filter (begins t) (prefixed t rs)
 
--- depositors before or behind another have none of its rows
+-- depositors before or after another have none of its rows
 below_gone : (t : List ℕ) (rows : Who → List TableRow) (ws : List Who) → list_all (λ (w : Who). comes_before (who_text w) t) ws ≡ true → filter (begins t) (blocks who_text rows ws) ≡ []
 below_gone t rows [] h = refl
 below_gone t rows (w ∷ ws) h =
@@ -115,7 +115,7 @@ module _ {X K : Type 0} (less : K → K → Bool) (strict : IsStrict less) (key 
   both_before : (x y : X) → less (key x) (key y) ≡ true → less (key y) (key x) ≡ true → ⊥
   both_before x y h g = both_ways (less (key x) (key x)) (strict.never (key x)) (strict.through (key x) (key y) (key x) h g)
 
-  -- what stands in a list behind x isn't x
+  -- what stands in a list after x isn't x
   behind : (x y : X) (xs : List X) → list_all (λ z. less (key x) (key z)) xs ≡ true → Has xs y → x ≡ y → ⊥
   behind x y xs h there same =
       let later = test_has (λ z. less (key x) (key z)) xs y h there in

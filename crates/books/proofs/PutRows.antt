@@ -97,7 +97,7 @@ module _ (s : Schema) where
       ]) more)
       go false false p q more = rw (p, q) (front row rows (λ x there. ap (λ (k : List Cell). key_before k (key x)) (keys_total (key row) (key r) p q) ∙ above r rows sorted x there) (rest_by_key r rows sorted))
 
-  -- some of them stay in order, and so do they with other cells behind their keys
+  -- some of them stay in order, and so do they with other cells after their keys
   pub filter_by_key : (t : TableRow → Bool) (rows : List TableRow) → is_by_key s rows ≡ true → is_by_key s (filter t rows) ≡ true
   filter_by_key t [] sorted = refl
   filter_by_key t (r ∷ rows) sorted = elim (cases_Bool (t r)) [

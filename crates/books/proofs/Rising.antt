@@ -15,7 +15,7 @@ use Rattle.stock.proofs.Texts.{texts_never}
 use Rattle.rules.proofs.KeyedLists.{both}
 use Rattle.rules.proofs.Blocks.{prefixed, is_above, blocks, blocks_above}
 
--- each key before all behind it: before the next
+-- each key before all after it: before the next
 pub by_key : (s : Schema) (rows : List TableRow) → rises_by key_before (key_in s) rows ≡ true → is_by_key s rows ≡ true
 by_key s [] h = refl
 by_key s (r ∷ []) h = refl
@@ -69,7 +69,7 @@ module _ (key rest : TableRow → List Cell) (first : (t : List ℕ) (row : Tabl
   before_own t q [] = refl
   before_own t q (b ∷ B) = λ i. level t q b i && before_own t q B i
 
-  -- rows of a text before rows of texts behind it
+  -- rows of a text before rows of texts after it
   block_rises : (t : List ℕ) (B C : List TableRow) → rises_by key_before rest B ≡ true → list_all (is_above t) C ≡ true → rises_by key_before key C ≡ true
       → rises_by key_before key (prefixed t B ++ C) ≡ true
   block_rises t [] C own above behind = behind

@@ -30,7 +30,7 @@ state_said None = (Open, refl)
 state_said (Some true) = (Accepted, refl)
 state_said (Some false) = (Refused, refl)
 
--- the row of an entry behind so few
+-- the row of an entry after so few
 row_sent : (W : Who) (es : List Event) (before : List Entry) (e : Entry) → next_number before < 2 ^ 32 → IsSent (out_row W es before e)
 row_sent W es before e few = by e.who e.moment e.deed
   where

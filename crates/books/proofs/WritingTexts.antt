@@ -44,11 +44,11 @@ from_where tree filter project = record {
   offset = lit (Int (pos 0));
 }
 
--- the row, with the columns behind its key as they are given
+-- the row, with the columns after its key as they are given
 abbrev pub renewed : ℕ → ℕ → List Term
 renewed k n = col 1 0 ∷ col 1 0 ∷ columns_of 1 1 k ++ columns_of 0 k (n - k)
 
--- the rowid is the parameter behind the n columns
+-- the rowid is the parameter after the n columns
 abbrev pub update_query : ℕ → ℕ → ℕ → Query
 update_query tree k n = from_where tree (op2 (Compare Eq Binary) (col 1 0) (col 0 n) ∷ []) (renewed k n)
 

@@ -183,7 +183,7 @@ layout = record { tables = book_tables; indexes = book_indexes; views = [] }
 
 -- Others beside them.
 
--- tables that stand behind the book's in a schema, with their indexes, and views
+-- tables that stand after the book's in a schema, with their indexes, and views
 pub record Others : Type 0 where
   pub tables : List Table
   pub indexes : List Index
@@ -210,7 +210,7 @@ pub record AreApart (others : Others) : Type 0 where
   pub indexes : list_any (λ (i : Index). is_of_book i.table) others.indexes ≡ false
   pub references : list_any (refers_to_book (book_tables ++ others.tables)) others.tables ≡ false
 
--- the schema is the book's nine tables, behind which others may stand
+-- the schema is the book's nine tables, after which others may stand
 pub record IsLayout (schema : Schema) : Type 0 where
   pub others : Others
   pub is : schema ≡ beside others

@@ -1,7 +1,7 @@
 -- How many more calls of a store may be made: any number where it is None.
 use Rattle.std.specs.Prelude.{◌≡◌, ◌≤◌, ◌-◌, ℕ, Option, None, Some}
 
--- what is left behind a call that is made
+-- what is left after a call that is made
 abbrev pub one_fewer : Option ℕ → Option ℕ
 one_fewer None = None
 one_fewer (Some n) = Some (n - 1)

@@ -24,11 +24,11 @@ has_key (suc k) (Real x ∷ cells) = false
 has_key (suc k) (Text t ∷ cells) = has_key k cells
 has_key (suc k) (Blob b ∷ cells) = false
 
--- the key of a row: so many cells behind its rowid
+-- the key of a row: so many cells after its rowid
 abbrev pub key_of : ℕ → Row → Row
 key_of k row = take k (drop 1 row)
 
--- rows whose first k cells are their key, behind rowids that rise
+-- rows whose first k cells are their key, after rowids that rise
 pub record AreKeyed (k : ℕ) (rows : List Row) : Type 0 where
   pub rise : IsTable rows
   pub each : (row : Row) → Has rows row → (id : ℤ) × (cells : Row) × (row ≡ Int id ∷ cells) × (has_key k cells ≡ true)

@@ -32,7 +32,7 @@ impl Calls {
         self.refused = self.refused.saturating_add(1);
     }
 
-    /// A call may be made, and one fewer behind it; or, where none is left, it is refused unmade, which counts.
+    /// A call may be made, and one fewer after it; or, where none is left, it is refused unmade, which counts.
     #[tactic(auto, using(crate::proofs::Limited::no_more_same, crate::proofs::Limited::one_fewer_left))]
     pub(crate) fn allow(&mut self) -> Result<(), Fault>
         ensures ok { OnOk result (self.new.refused ≡ self.old.refused) }

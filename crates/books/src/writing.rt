@@ -15,7 +15,7 @@ ghost use Rattle.books.specs.Steps.{GoesOn};
 use crate::calls::Calls;
 use crate::running::run;
 use rules::{Entry, Row};
-use sets_in::Line;
+use sets_in::Goods;
 use sqlite::types::ValueRef;
 use sqlite::{Alter, Transaction};
 use stock::{KnownAdvice, KnownLine, KnownOrder};
@@ -159,7 +159,7 @@ fn advice_line_params<'a>(
     who: &'a [u8],
     shipment: &'a [u8],
     n: u32,
-    line: &'a Line,
+    line: &'a Goods,
 ) -> [ValueRef<'a>; 6]
     ensures { bound result ≡ values (cells.Text who.now ∷ cells.Text shipment.now ∷ cells.Number n ∷ cells.Text line.now.item ∷ cells.Text line.now.lot ∷ cells.Number line.now.quantity ∷ []) }
 {
@@ -180,7 +180,7 @@ pub(crate) fn put_advice_line<'a, S: Alter>(
     who: &'a [u8],
     shipment: &'a [u8],
     n: u32,
-    line: &'a Line,
+    line: &'a Goods,
 ) -> Result<(), Fault>
     ensures same_reference { tx.new.conn.ghost_name ≡ tx.old.conn.ghost_name }
     ensures leads { HasCleanDisk (state S.Store tx.new.conn.now) → IsTrue (state S.Store tx.old.conn.now).in_transaction
@@ -305,7 +305,7 @@ pub(crate) fn put_order_line<'a, S: Alter>(
 }
 
 // The columns of a row of `reservation`.
-fn reservation_params<'a>(who: &'a [u8], order: &'a [u8], line: &'a Line) -> [ValueRef<'a>; 5]
+fn reservation_params<'a>(who: &'a [u8], order: &'a [u8], line: &'a Goods) -> [ValueRef<'a>; 5]
     ensures { bound result ≡ values (cells.Text who.now ∷ cells.Text order.now ∷ cells.Text line.now.item ∷ cells.Text line.now.lot ∷ cells.Number line.now.quantity ∷ []) }
 {
     [
@@ -323,7 +323,7 @@ pub(crate) fn put_reservation<'a, S: Alter>(
     calls: &mut Calls,
     who: &'a [u8],
     order: &'a [u8],
-    line: &'a Line,
+    line: &'a Goods,
 ) -> Result<(), Fault>
     ensures same_reference { tx.new.conn.ghost_name ≡ tx.old.conn.ghost_name }
     ensures leads { HasCleanDisk (state S.Store tx.new.conn.now) → IsTrue (state S.Store tx.old.conn.now).in_transaction

@@ -15,11 +15,11 @@ use Rattle.commands.specs.declared.words.Words.TheVariants as words
 use Rattle.commands.specs.declared.words.Task.{Task}
 use Rattle.commands.specs.declared.words.Task.TheVariants as task
 use Rattle.commands.specs.declared.words.Service.{Service}
-use Rattle.commands.specs.declared.words.Act.{Act}
-use Rattle.commands.specs.declared.words.Act.TheVariants as act
+use Rattle.commands.specs.declared.words.BookAct.{BookAct}
+use Rattle.commands.specs.declared.words.BookAct.TheVariants as act
 use Rattle.commands.specs.declared.words.Show.{Show}
 use Rattle.commands.specs.declared.words.Show.TheVariants as show
-use Rattle.commands.specs.declared.words.Told.{Told}
+use Rattle.commands.specs.declared.words.ClerkWords.{ClerkWords}
 use Rattle.commands.specs.declared.words.Deed.{Deed}
 use Rattle.commands.specs.declared.words.Deed.TheVariants as deed
 
@@ -186,11 +186,11 @@ abbrev pub SaysNumberOf : Deed → List Row → Text → Type 0
 SaysNumberOf deed.Recount rows number = number ≡ []
 SaysNumberOf d rows number = Has rows (codes "number") number
 
-abbrev pub SaysTold : List Row → Told → Type 0
+abbrev pub SaysTold : List Row → ClerkWords → Type 0
 SaysTold rows t = Has rows (codes "who") t.who.now × Has rows (codes "ticket") t.ticket.now
     × SaysNumberOf t.deed rows t.number.now × Has rows (codes "sheet") t.sheet.now
 
-abbrev pub SaysAct : Found → Act → Type 0
+abbrev pub SaysAct : Found → BookAct → Type 0
 SaysAct f (act.Enrol who) = (f.0 ≡ codes "enrol") × Has f.1 (codes "who") who.now
 SaysAct f (act.Roster file) = (f.0 ≡ codes "roster") × Has f.1 (codes "file") file.now
 SaysAct f (act.Send file) = (f.0 ≡ codes "send") × Has f.1 (codes "file") file.now

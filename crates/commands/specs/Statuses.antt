@@ -1,22 +1,22 @@
 -- Exit statuses, and the kind of a sheet.
 use Rattle.std.specs.Prelude.{ℕ}
-use Rattle.commands.specs.declared.told.Status.{Status}
-use Rattle.commands.specs.declared.told.Status.TheVariants.{Done, Refused, Usage, Fault}
-use Rattle.commands.specs.declared.told.Stop.{Stop}
-use Rattle.commands.specs.declared.told.Stop.TheVariants as stops
+use Rattle.commands.specs.declared.told.ExitStatus.{ExitStatus}
+use Rattle.commands.specs.declared.told.ExitStatus.TheVariants.{Done, Refused, Usage, Fault}
+use Rattle.commands.specs.declared.told.CommandError.{CommandError}
+use Rattle.commands.specs.declared.told.CommandError.TheVariants as stops
 
-abbrev pub code_of : Status → ℕ
+abbrev pub code_of : ExitStatus → ℕ
 code_of Done = 0
 code_of Refused = 1
 code_of Usage = 2
 code_of Fault = 3
 
 -- the status of what ended so, and then so
-abbrev pub and_then : Status → Status → Status
+abbrev pub and_then : ExitStatus → ExitStatus → ExitStatus
 and_then first Done = first
 and_then first next = next
 
 -- the status of what stopped a command
-abbrev pub status_of : Stop → Status
+abbrev pub status_of : CommandError → ExitStatus
 status_of (stops.Usage text) = Usage
 status_of (stops.Fault fault) = Fault

@@ -9,14 +9,15 @@ ghost use Rattle.commands.specs.Telling.{IsPrinted};
 use crate::rosters::{enrol_all, read_roster};
 use crate::sheet_files::sheet;
 use crate::takes::take;
-use crate::told::{Status, Stop, tell_refusal, tell_text};
-use crate::words::{Act, Deed, Told};
+use crate::told::{CommandError, ExitStatus, tell_refusal, tell_text};
+use crate::words::{BookAct, ClerkWords, Deed};
 use profile::{MOST_NUMBER, MOST_TICKET};
 use std::alloc::Global;
 use std::rt::Files;
 use std::{fs, io};
 use store::{
-    Act as ClerkAct, Command, Ident, Keeper, Moment, Refusal, Reply, Sheet, SheetKind, Who, submit,
+    BookAct as ClerkAct, Command, Ident, Keeper, Moment, Refusal, Reply, Sheet, SheetKind, Who,
+    submit,
 };
 
 /// What is to be done to a book, its words tested and its files read, so that only the book and the devices can keep it from
@@ -39,12 +40,12 @@ pub enum Ready<'a> {
 #[derive(Drop)]
 pub struct Slip<'a> {
     who: Who,
-    told: Told<'a>,
+    told: ClerkWords<'a>,
     sheet: Sheet,
 }
 
 // The depositor of a clerk's words; None where a word can't be read.
-fn depositor(told: &Told<'_>) -> Option<Who> {
+fn depositor(told: &ClerkWords<'_>) -> Option<Who> {
     let who = Who::new(told.who.as_bytes())?;
     Ident::new(told.ticket.as_bytes(), MOST_TICKET)?;
     if told.deed != Deed::Recount {
@@ -65,8 +66,8 @@ fn kind(deed: Deed) -> SheetKind {
 // What a clerk's words and the file with its sheet come to.
 fn slip_of<'a, R: Files + AllocGlobal>(
     rt: &R,
-    told: &Told<'a>,
-) -> Result<Result<Ready<'a>, Refusal>, Stop> {
+    told: &ClerkWords<'a>,
+) -> Result<Result<Ready<'a>, Refusal>, CommandError> {
     let Some(who) = depositor(told) else {
         return Ok(Err(Refusal::BadText));
     };
@@ -86,20 +87,20 @@ fn slip_of<'a, R: Files + AllocGlobal>(
 /// a file that can't be read is Device (44).
 pub fn make_ready<'a, R: Files + AllocGlobal>(
     rt: &R,
-    act: &Act<'a>,
-) -> Result<Result<Ready<'a>, Refusal>, Stop> {
+    act: &BookAct<'a>,
+) -> Result<Result<Ready<'a>, Refusal>, CommandError> {
     match act {
-        Act::Enrol { who } => match Who::new(who.as_bytes()) {
+        BookAct::Enrol { who } => match Who::new(who.as_bytes()) {
             Some(who) => Ok(Ok(Ready::Enrol(who))),
             None => Ok(Err(Refusal::BadText)),
         },
-        Act::Roster { file } => match read_roster(rt, file)? {
+        BookAct::Roster { file } => match read_roster(rt, file)? {
             Some(partners) => Ok(Ok(Ready::Roster(partners))),
             None => Ok(Err(Refusal::BadText)),
         },
-        Act::Send { file } => Ok(Ok(Ready::Send(fs::read(rt, *file)?))),
-        Act::Take { dir } => Ok(Ok(Ready::Take(*dir))),
-        Act::Clerk(told) => slip_of(rt, told),
+        BookAct::Send { file } => Ok(Ok(Ready::Send(fs::read(rt, *file)?))),
+        BookAct::Take { dir } => Ok(Ok(Ready::Take(*dir))),
+        BookAct::Clerk(told) => slip_of(rt, told),
     }
 }
 
@@ -109,7 +110,7 @@ fn tell_reply<W: io::Write, E: io::Write>(
     reply: &Reply,
     out: &mut W,
     err: &mut E,
-) -> Result<Status, Stop>
+) -> Result<ExitStatus, CommandError>
     ensures { IfOk result (λ status. IsPrinted (told reply.now) (W.contents out.old) (W.contents out.new) status) }
 {
     match reply {
@@ -120,7 +121,7 @@ fn tell_reply<W: io::Write, E: io::Write>(
             return tell_refusal(alloc, err, *refusal);
         }
     }
-    Ok(Status::Done)
+    Ok(ExitStatus::Done)
 }
 
 // Submits a command, prints the text of its reply, a refused one's too, and tells a refusal.
@@ -131,7 +132,7 @@ fn hand_in<K: Keeper, W: io::Write, E: io::Write>(
     moment: Moment,
     out: &mut W,
     err: &mut E,
-) -> Result<Status, Stop>
+) -> Result<ExitStatus, CommandError>
     ensures printed { (K.standing book.new).doubt ≡ 0 → (L : List Entry) → (K.standing book.old).keeps L → IsLegal (K.standing book.old).warehouse L
         → IfOk result (λ status. IsPrinted (reply_to (K.standing book.old).warehouse L (asked command.now) moment) (W.contents out.old) (W.contents out.new) status) }
     ensures done { (K.standing book.new).doubt ≡ 0 → (L : List Entry) → IsUsable (K.standing book.old) L → is_command (asked command.now) ≡ true
@@ -175,7 +176,7 @@ pub fn perform<R: Files + AllocGlobal + Clone + Drop, K: Keeper, W: io::Write, E
     moment: Moment,
     out: &mut W,
     err: &mut E,
-) -> Result<Status, Stop> {
+) -> Result<ExitStatus, CommandError> {
     let alloc = rt.alloc();
     match ready {
         Ready::Enrol(who) => hand_in(alloc, book, &Command::Enrol(*who), moment, out, err),

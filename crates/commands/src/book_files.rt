@@ -24,10 +24,10 @@ pub fn fault(error: &Error) -> Fault {
 
 /// Closes a database: its log is copied into the file. Where that fails (40, 43 or 44), the log still holds what isn't copied, and
 /// the next opening finds it there.
-pub fn disconnect<D: Disk + Drop>(database: Connection<FileStore<D>>) -> Result<(), Stop> {
+pub fn disconnect<D: Disk + Drop>(database: Connection<FileStore<D>>) -> Result<(), CommandError> {
     match database.close() {
         Ok(()) => Ok(()),
-        Err(error) => Err(Stop::Fault(fault(&error))),
+        Err(error) => Err(CommandError::Fault(fault(&error))),
     }
 }
 
@@ -37,22 +37,25 @@ pub fn make<S: Alter + Drop>(
     alloc: Global,
     database: Connection<S>,
     warehouse: Warehouse,
-) -> Result<Book<S>, Stop>
+) -> Result<Book<S>, CommandError>
     requires { database.in_transaction ≡ false }
 {
     match Book::create(alloc, Tables::new(database), warehouse) {
         Ok(book) => Ok(book),
-        Err((fault, _)) => Err(Stop::Fault(fault)),
+        Err((fault, _)) => Err(CommandError::Fault(fault)),
     }
 }
 
 /// Opens the book in a database that is in no transaction. NotThisBook (43) where its tables are no book; Store (41) where they can't be read.
-pub fn open<S: Alter + Drop>(alloc: Global, database: Connection<S>) -> Result<Book<S>, Stop>
+pub fn open<S: Alter + Drop>(
+    alloc: Global,
+    database: Connection<S>,
+) -> Result<Book<S>, CommandError>
     requires { database.in_transaction ≡ false }
 {
     match Book::open_from(alloc, Tables::new(database)) {
         Ok(book) => Ok(book),
-        Err((fault, _)) => Err(Stop::Fault(fault)),
+        Err((fault, _)) => Err(CommandError::Fault(fault)),
     }
 }
 

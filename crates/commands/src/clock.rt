@@ -3,7 +3,7 @@ ghost use Rattle.std.specs.Prelude.{◌≡◌, Some, option_map};
 ghost use Rattle.commands.specs.Written as written;
 
 use crate::numbers::{all_digits, pair};
-use crate::told::{Stop, usage};
+use crate::told::{CommandError, usage};
 use jiff::Timestamp;
 use jiff::tz::Offset;
 use std::rt::Clock;
@@ -45,7 +45,10 @@ pub fn moment_of(text: &[u8]) -> Option<Moment>
 }
 
 /// The moment of a command: the one that its line says, or the clock's. A clock outside the years 2000 to 2099 is a usage fault.
-pub fn moment_for<R: Clock + AllocGlobal>(rt: &R, at: Option<Moment>) -> Result<Moment, Stop> {
+pub fn moment_for<R: Clock + AllocGlobal>(
+    rt: &R,
+    at: Option<Moment>,
+) -> Result<Moment, CommandError> {
     if let Some(moment) = at {
         return Ok(moment);
     }

@@ -19,4 +19,4 @@ mod words;
 
 pub use run::command;
 pub use serving::serve_on;
-pub use told::{Status, Stop};
+pub use told::{CommandError, ExitStatus};

@@ -7,8 +7,8 @@ use crate::book_files::{close, disconnect, fault, make, open};
 use crate::clock::moment_for;
 use crate::serving::serve;
 use crate::shows::{Asked, ask, show};
-use crate::told::{Status, Stop, tell_refusal};
-use crate::words::{Act, Service, Show, Task};
+use crate::told::{CommandError, ExitStatus, tell_refusal};
+use crate::words::{BookAct, Service, Show, Task};
 use books::Book;
 use sqlite::{Alter, Connection, FileStore};
 use sqlite_disk::Disk;
@@ -36,9 +36,9 @@ fn work<K: Keeper, W: io::Write, E: io::Write>(
     job: &Job<'_>,
     out: &mut W,
     err: &mut E,
-) -> Result<Status, Stop> {
+) -> Result<ExitStatus, CommandError> {
     match job {
-        Job::Make(_) => Ok(Status::Done),
+        Job::Make(_) => Ok(ExitStatus::Done),
         Job::Change(ready, moment) => perform(rt, book, ready, *moment, out, err),
         Job::Look(asked) => show(rt.alloc(), book, asked, out, err),
         Job::Listen(service, first, has_clock) => serve(rt, book, service, *first, *has_clock, out),
@@ -50,7 +50,7 @@ fn begin<S: Alter + Drop>(
     alloc: Global,
     database: Connection<S>,
     job: &Job<'_>,
-) -> Result<Book<S>, Stop>
+) -> Result<Book<S>, CommandError>
     requires { database.in_transaction ≡ false }
 {
     match job {
@@ -67,7 +67,7 @@ fn work_over<S: Alter + Drop, W: io::Write, E: io::Write>(
     job: &Job<'_>,
     out: &mut W,
     err: &mut E,
-) -> Result<(Status, Connection<S>), Stop>
+) -> Result<(ExitStatus, Connection<S>), CommandError>
     requires { database.in_transaction ≡ false }
 {
     let mut book = begin(rt.alloc(), database, job)?;
@@ -84,7 +84,7 @@ fn over_disk<D: Disk + Drop, W: io::Write, E: io::Write>(
     job: &Job<'_>,
     out: &mut W,
     err: &mut E,
-) -> Result<Status, Stop>
+) -> Result<ExitStatus, CommandError>
     requires { database.in_transaction ≡ false }
 {
     let (status, database) = work_over(rt, database, job, out, err)?;
@@ -100,14 +100,14 @@ fn over<W: io::Write, E: io::Write>(
     job: &Job<'_>,
     out: &mut W,
     err: &mut E,
-) -> Result<Status, Stop> {
+) -> Result<ExitStatus, CommandError> {
     if !matches!(job, Job::Make(_)) {
         // A database that is opened is made where its file is missing.
         fs::metadata(rt, file)?;
     }
     match Connection::open(rt, file) {
         Ok(database) => over_disk(rt, database, job, out, err),
-        Err(error) => Err(Stop::Fault(fault(&error))),
+        Err(error) => Err(CommandError::Fault(fault(&error))),
     }
 }
 
@@ -118,7 +118,7 @@ fn init<W: io::Write, E: io::Write>(
     who: &str,
     out: &mut W,
     err: &mut E,
-) -> Result<Status, Stop> {
+) -> Result<ExitStatus, CommandError> {
     match Who::new(who.as_bytes()) {
         Some(who) => over(rt, file, &Job::Make(Warehouse::new(who)), out, err),
         None => tell_refusal(rt.alloc(), err, Refusal::BadText),
@@ -129,11 +129,11 @@ fn init<W: io::Write, E: io::Write>(
 fn change<W: io::Write, E: io::Write>(
     rt: &HostRuntime,
     file: &str,
-    act: &Act<'_>,
+    act: &BookAct<'_>,
     at: Option<Moment>,
     out: &mut W,
     err: &mut E,
-) -> Result<Status, Stop> {
+) -> Result<ExitStatus, CommandError> {
     let moment = moment_for(rt, at)?;
     match make_ready(rt, act)? {
         Ok(ready) => over(rt, file, &Job::Change(ready, moment), out, err),
@@ -148,7 +148,7 @@ fn look<W: io::Write, E: io::Write>(
     what: &Show<'_>,
     out: &mut W,
     err: &mut E,
-) -> Result<Status, Stop> {
+) -> Result<ExitStatus, CommandError> {
     match ask(what) {
         Ok(asked) => over(rt, file, &Job::Look(asked), out, err),
         Err(refusal) => tell_refusal(rt.alloc(), err, refusal),
@@ -162,7 +162,7 @@ pub fn run_over_file<W: io::Write, E: io::Write>(
     task: &Task<'_>,
     out: &mut W,
     err: &mut E,
-) -> Result<Status, Stop> {
+) -> Result<ExitStatus, CommandError> {
     match task {
         Task::Init { who } => init(rt, file, who, out, err),
         Task::Act { act, at } => change(rt, file, act, *at, out, err),

@@ -4,7 +4,7 @@ ghost use Rattle.toml.specs.Data.{get_member};
 ghost use Rattle.toml.specs.View.{items_view, table_view, view};
 ghost use Rattle.commands.specs.Rosters as meant;
 
-use crate::told::{Status, Stop};
+use crate::told::{CommandError, ExitStatus};
 use std::alloc::{AllocError, Global};
 use std::rt::Files;
 use std::{fs, io};
@@ -61,7 +61,7 @@ pub fn depositors(alloc: Global, text: &[u8]) -> Result<Option<Vec<Who>>, AllocE
 }
 
 // Prints a partner as `ZZ-ACME`, and a space.
-fn tell_partner<W: io::Write>(out: &mut W, who: &Who) -> Result<(), Stop> {
+fn tell_partner<W: io::Write>(out: &mut W, who: &Who) -> Result<(), CommandError> {
     out.write_all(who.qualifier())?;
     out.write_all(b"-")?;
     out.write_all(who.id())?;
@@ -76,18 +76,18 @@ fn enrol_one<K: Keeper, W: io::Write>(
     who: Who,
     moment: Moment,
     out: &mut W,
-) -> Result<Status, Stop> {
+) -> Result<ExitStatus, CommandError> {
     let reply = submit(alloc, book, &Command::Enrol(who), moment)?;
     tell_partner(out, &who)?;
     match reply {
         Reply::Refused { refusal, .. } => {
             let number = refusal.number();
             write!(out, "refused {number}\n")?;
-            Ok(Status::Refused)
+            Ok(ExitStatus::Refused)
         }
         _ => {
             out.write_all(b"enrolled\n")?;
-            Ok(Status::Done)
+            Ok(ExitStatus::Done)
         }
     }
 }
@@ -99,8 +99,8 @@ pub fn enrol_all<K: Keeper, W: io::Write>(
     partners: &[Who],
     moment: Moment,
     out: &mut W,
-) -> Result<Status, Stop> {
-    let mut status = Status::Done;
+) -> Result<ExitStatus, CommandError> {
+    let mut status = ExitStatus::Done;
     for who in partners {
         status = status.and(enrol_one(alloc, book, *who, moment, out)?);
     }
@@ -108,7 +108,10 @@ pub fn enrol_all<K: Keeper, W: io::Write>(
 }
 
 /// The depositors of the list in a file; None where it is no such list. A file that can't be read is Device (44).
-pub fn read_roster<R: Files + AllocGlobal>(rt: &R, file: &str) -> Result<Option<Vec<Who>>, Stop> {
+pub fn read_roster<R: Files + AllocGlobal>(
+    rt: &R,
+    file: &str,
+) -> Result<Option<Vec<Who>>, CommandError> {
     let text = fs::read(rt, file)?;
     Ok(depositors(rt.alloc(), &text)?)
 }

@@ -1,6 +1,6 @@
 use crate::over_file::run_over_file;
 use crate::script::run_script;
-use crate::told::{Status, Stop, tell_stop, usage};
+use crate::told::{CommandError, ExitStatus, tell_stop, usage};
 use crate::words::{Place, Words, line};
 use std::io;
 
@@ -10,7 +10,7 @@ fn run_line<W: io::Write, E: io::Write>(
     words: &[&str],
     out: &mut W,
     err: &mut E,
-) -> Result<Status, Stop> {
+) -> Result<ExitStatus, CommandError> {
     match line(rt.alloc(), Place::Program, words)? {
         Words::Script { file } => run_script(rt, file, out, err),
         Words::Over {

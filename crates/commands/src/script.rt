@@ -1,8 +1,8 @@
 use crate::acts::{make_ready, perform};
 use crate::clock::moment_for;
 use crate::shows::{ask, show};
-use crate::told::{Status, Stop, tell_refusal, usage};
-use crate::words::{Act, Place, Show, Task, Words, line};
+use crate::told::{CommandError, ExitStatus, tell_refusal, usage};
+use crate::words::{BookAct, Place, Show, Task, Words, line};
 use std::rt::{Clock, Files};
 use std::{fs, io};
 use store::{Keeper, Moment, Refusal, ReplayBook, Warehouse, Who};
@@ -11,11 +11,11 @@ use store::{Keeper, Moment, Refusal, ReplayBook, Warehouse, Who};
 fn change<R: Files + Clock + AllocGlobal + Clone + Drop, K: Keeper, W: io::Write, E: io::Write>(
     rt: &R,
     book: &mut K,
-    act: &Act<'_>,
+    act: &BookAct<'_>,
     at: Option<Moment>,
     out: &mut W,
     err: &mut E,
-) -> Result<Status, Stop> {
+) -> Result<ExitStatus, CommandError> {
     let moment = moment_for(rt, at)?;
     match make_ready(rt, act)? {
         Ok(ready) => perform(rt, book, &ready, moment, out, err),
@@ -30,7 +30,7 @@ fn look<K: Keeper, W: io::Write, E: io::Write>(
     what: &Show<'_>,
     out: &mut W,
     err: &mut E,
-) -> Result<Status, Stop> {
+) -> Result<ExitStatus, CommandError> {
     match ask(what) {
         Ok(asked) => show(rt.alloc(), book, &asked, out, err),
         Err(refusal) => tell_refusal(rt.alloc(), err, refusal),
@@ -44,7 +44,7 @@ fn answer<R: Files + Clock + AllocGlobal + Clone + Drop, K: Keeper, W: io::Write
     words: &Words<'_>,
     out: &mut W,
     err: &mut E,
-) -> Result<Status, Stop> {
+) -> Result<ExitStatus, CommandError> {
     match words {
         Words::Over {
             task: Task::Act { act, at },
@@ -63,7 +63,7 @@ fn made<R: AllocGlobal, E: io::Write>(
     rt: &R,
     words: &Words<'_>,
     err: &mut E,
-) -> Result<Option<ReplayBook>, Stop> {
+) -> Result<Option<ReplayBook>, CommandError> {
     let Words::Over {
         task: Task::Init { who },
         ..
@@ -86,9 +86,9 @@ fn play<R: Files + Clock + AllocGlobal + Clone + Drop, W: io::Write, E: io::Writ
     text: &str,
     out: &mut W,
     err: &mut E,
-) -> Result<Status, Stop> {
+) -> Result<ExitStatus, CommandError> {
     let mut book: Option<ReplayBook> = None;
-    let mut status = Status::Done;
+    let mut status = ExitStatus::Done;
     for row in text.split('\n') {
         if row.is_empty() {
             continue;
@@ -99,7 +99,7 @@ fn play<R: Files + Clock + AllocGlobal + Clone + Drop, W: io::Write, E: io::Writ
             Some(book) => status = status.and(answer(rt, book, &asked, out, err)?),
             None => match made(rt, &asked, err)? {
                 Some(new) => book = Some(new),
-                None => return Ok(Status::Refused),
+                None => return Ok(ExitStatus::Refused),
             },
         }
     }
@@ -116,7 +116,7 @@ pub fn run_script<R: Files + Clock + AllocGlobal + Clone + Drop, W: io::Write, E
     file: &str,
     out: &mut W,
     err: &mut E,
-) -> Result<Status, Stop> {
+) -> Result<ExitStatus, CommandError> {
     let bytes = fs::read(rt, file)?;
     match std::str::from_utf8(&bytes) {
         Ok(text) => play(rt, text, out, err),

@@ -1,7 +1,7 @@
 //! A book served over HTTP.
 
 use crate::clock::now;
-use crate::told::{Status, Stop};
+use crate::told::{CommandError, ExitStatus};
 use crate::words::Service;
 use http::StatusCode;
 use intake::serve_count;
@@ -43,7 +43,7 @@ pub fn serve_on<K: Keeper, W: io::Write>(
     first: Moment,
     has_clock: bool,
     out: &mut W,
-) -> Result<Status, Stop> {
+) -> Result<ExitStatus, CommandError> {
     let mut last = first;
     let mut is_told = true;
     serve_count(
@@ -64,9 +64,9 @@ pub fn serve_on<K: Keeper, W: io::Write>(
         },
     )?;
     if is_told {
-        Ok(Status::Done)
+        Ok(ExitStatus::Done)
     } else {
-        Err(Stop::Fault(Fault::Device))
+        Err(CommandError::Fault(Fault::Device))
     }
 }
 
@@ -78,7 +78,7 @@ pub fn serve<K: Keeper, W: io::Write>(
     first: Moment,
     has_clock: bool,
     out: &mut W,
-) -> Result<Status, Stop> {
+) -> Result<ExitStatus, CommandError> {
     let listener = TcpListener::bind(rt, service.address)?;
     serve_on(rt, &listener, service.count, book, first, has_clock, out)
 }

@@ -1,7 +1,7 @@
 //! What is shown of a book, which stays as it is.
 ghost use Rattle.store.specs.Standing.{IsUnchanged};
 
-use crate::told::{Status, Stop, tell_refusal, tell_text};
+use crate::told::{CommandError, ExitStatus, tell_refusal, tell_text};
 use crate::words::Show;
 use profile::MOST_NUMBER;
 use reports::{NoSheet, outbox_list, pick_list, stock_csv, stock_report};
@@ -37,7 +37,7 @@ fn stock<K: Keeper, W: io::Write, E: io::Write>(
     is_csv: bool,
     out: &mut W,
     err: &mut E,
-) -> Result<Status, Stop>
+) -> Result<ExitStatus, CommandError>
     ensures { IsUnchanged (K.standing book.old) (K.standing book.new) }
 {
     let Some(rows) = store::stock(book, who)? else {
@@ -49,15 +49,19 @@ fn stock<K: Keeper, W: io::Write, E: io::Write>(
         stock_report(alloc, &rows)?
     };
     out.write_all(&text)?;
-    Ok(Status::Done)
+    Ok(ExitStatus::Done)
 }
 
 // Tells why there is no picking sheet.
-fn tell_no_sheet<E: io::Write>(alloc: Global, err: &mut E, why: NoSheet) -> Result<Status, Stop> {
+fn tell_no_sheet<E: io::Write>(
+    alloc: Global,
+    err: &mut E,
+    why: NoSheet,
+) -> Result<ExitStatus, CommandError> {
     match why {
         NoSheet::UnknownOrder => tell_refusal(alloc, err, Refusal::UnknownOrder),
         NoSheet::OrderClosed => tell_refusal(alloc, err, Refusal::OrderClosed),
-        NoSheet::OutOfMemory => Err(Stop::Fault(Fault::OutOfMemory)),
+        NoSheet::OutOfMemory => Err(CommandError::Fault(Fault::OutOfMemory)),
     }
 }
 
@@ -70,7 +74,7 @@ fn order<K: Keeper, W: io::Write, E: io::Write>(
     number: &str,
     out: &mut W,
     err: &mut E,
-) -> Result<Status, Stop>
+) -> Result<ExitStatus, CommandError>
     ensures { IsUnchanged (K.standing book.old) (K.standing book.new) }
 {
     let Some(page) = book.load(who)? else {
@@ -79,7 +83,7 @@ fn order<K: Keeper, W: io::Write, E: io::Write>(
     match pick_list(alloc, &page, number.as_bytes()) {
         Ok(sheet) => {
             out.write_all(&sheet)?;
-            Ok(Status::Done)
+            Ok(ExitStatus::Done)
         }
         Err(why) => tell_no_sheet(alloc, err, why),
     }
@@ -92,26 +96,30 @@ fn outbox<K: Keeper, W: io::Write, E: io::Write>(
     who: Who,
     out: &mut W,
     err: &mut E,
-) -> Result<Status, Stop>
+) -> Result<ExitStatus, CommandError>
     ensures { IsUnchanged (K.standing book.old) (K.standing book.new) }
 {
     match store::outbox(book, who)? {
         Some(rows) => {
             out.write_all(&outbox_list(alloc, &rows)?)?;
-            Ok(Status::Done)
+            Ok(ExitStatus::Done)
         }
         None => tell_refusal(alloc, err, Refusal::UnknownDepositor),
     }
 }
 
 // Prints the text of a number, if one of the rows has it.
-fn tell_content<W: io::Write>(rows: &[OutRow], number: u32, out: &mut W) -> Result<Status, Stop> {
+fn tell_content<W: io::Write>(
+    rows: &[OutRow],
+    number: u32,
+    out: &mut W,
+) -> Result<ExitStatus, CommandError> {
     match rows.iter().find(|row| row.n == number) {
         Some(row) => {
             tell_text(out, &row.content)?;
-            Ok(Status::Done)
+            Ok(ExitStatus::Done)
         }
-        None => Ok(Status::Refused),
+        None => Ok(ExitStatus::Refused),
     }
 }
 
@@ -124,7 +132,7 @@ fn content<K: Keeper, W: io::Write, E: io::Write>(
     number: u32,
     out: &mut W,
     err: &mut E,
-) -> Result<Status, Stop>
+) -> Result<ExitStatus, CommandError>
     ensures { IsUnchanged (K.standing book.old) (K.standing book.new) }
 {
     match store::outbox(book, who)? {
@@ -141,7 +149,7 @@ pub fn show<K: Keeper, W: io::Write, E: io::Write>(
     asked: &Asked<'_>,
     out: &mut W,
     err: &mut E,
-) -> Result<Status, Stop>
+) -> Result<ExitStatus, CommandError>
     ensures { IsUnchanged (K.standing book.old) (K.standing book.new) }
 {
     let who = asked.who;

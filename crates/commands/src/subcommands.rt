@@ -108,7 +108,7 @@ fn at<'a>(alloc: Global) -> Arg<'a>
     )
 }
 
-// A command of this name with its first argument. The functions behind it take a command or the error of the step before, which they
+// A command of this name with its first argument. The functions after it take a command or the error of the step before, which they
 // hand on. So what puts commands together has no branch: at each of them every command that is alive would be let go, which is dear to prove.
 fn subcommand<'a>(
     alloc: Global,
@@ -447,7 +447,7 @@ fn top<'a>(alloc: Global) -> Command<'a>
         .disable_version_flag(true)
 }
 
-// The words that may stand behind the program's name.
+// The words that may stand after the program's name.
 fn of_programs<'a>(alloc: Global) -> Result<Command<'a>, AllocError>
     ensures { IfOk result (λ c. app_of c ≡ record { top = meant.top_shape; subs = meant.program_subcommands }) }
 {

@@ -1,14 +1,14 @@
-use crate::told::{Status, Stop};
-use intake::{Outcome, take_folder};
+use crate::told::{CommandError, ExitStatus};
+use intake::{FileOutcome, take_folder};
 use std::io;
 use std::rt::Files;
 use store::{Keeper, Moment};
 
 // The status of a file that was taken.
-fn status_of(outcome: Outcome) -> Status {
+fn status_of(outcome: FileOutcome) -> ExitStatus {
     match outcome {
-        Outcome::Refused(_) => Status::Refused,
-        _ => Status::Done,
+        FileOutcome::Refused(_) => ExitStatus::Refused,
+        _ => ExitStatus::Done,
     }
 }
 
@@ -20,8 +20,8 @@ pub fn take<R: Files + AllocGlobal + Clone + Drop, K: Keeper, W: io::Write>(
     dir: &str,
     moment: Moment,
     out: &mut W,
-) -> Result<Status, Stop> {
-    let mut status = Status::Done;
+) -> Result<ExitStatus, CommandError> {
+    let mut status = ExitStatus::Done;
     for taken in take_folder(rt, dir, book, moment)? {
         write!(out, "{taken}\n")?;
         status = status.and(status_of(taken.outcome));

@@ -10,7 +10,7 @@ use store::{Fault, Refusal};
 
 /// How a command, or a whole script, ended.
 #[derive(Clone, Copy, Debug, PartialEq, Eq)]
-pub enum Status {
+pub enum ExitStatus {
     /// All was done.
     Done,
     /// Something was refused.
@@ -21,25 +21,25 @@ pub enum Status {
     Fault,
 }
 
-impl Status {
+impl ExitStatus {
     /// The exit status.
     pub fn code(self) -> u8
         ensures { result ≡ meant.code_of self }
     {
         match self {
-            Status::Done => 0,
-            Status::Refused => 1,
-            Status::Usage => 2,
-            Status::Fault => 3,
+            ExitStatus::Done => 0,
+            ExitStatus::Refused => 1,
+            ExitStatus::Usage => 2,
+            ExitStatus::Fault => 3,
         }
     }
 
     /// The status of what ended so, and then so.
-    pub fn and(self, next: Status) -> Status
+    pub fn and(self, next: ExitStatus) -> ExitStatus
         ensures { result ≡ meant.and_then self next }
     {
         match next {
-            Status::Done => self,
+            ExitStatus::Done => self,
             _ => next,
         }
     }
@@ -47,54 +47,54 @@ impl Status {
 
 /// What stops a command, and a script with it.
 #[derive(Drop)]
-pub enum Stop {
+pub enum CommandError {
     /// Words that can't be read, with the text to show.
     Usage(String),
     /// A fault.
     Fault(Fault),
 }
 
-impl From<AllocError> for Stop {
-    fn from(_error: AllocError) -> Stop {
-        Stop::Fault(Fault::OutOfMemory)
+impl From<AllocError> for CommandError {
+    fn from(_error: AllocError) -> CommandError {
+        CommandError::Fault(Fault::OutOfMemory)
     }
 }
 
-impl From<Fault> for Stop {
-    fn from(fault: Fault) -> Stop {
-        Stop::Fault(fault)
+impl From<Fault> for CommandError {
+    fn from(fault: Fault) -> CommandError {
+        CommandError::Fault(fault)
     }
 }
 
-impl From<LineFault> for Stop {
-    fn from(fault: LineFault) -> Stop {
+impl From<LineFault> for CommandError {
+    fn from(fault: LineFault) -> CommandError {
         match fault {
-            LineFault::Usage(text) => Stop::Usage(text),
-            LineFault::OutOfMemory => Stop::Fault(Fault::OutOfMemory),
+            LineFault::Usage(text) => CommandError::Usage(text),
+            LineFault::OutOfMemory => CommandError::Fault(Fault::OutOfMemory),
         }
     }
 }
 
-impl From<io::Error> for Stop {
-    fn from(error: io::Error) -> Stop {
+impl From<io::Error> for CommandError {
+    fn from(error: io::Error) -> CommandError {
         if error.kind() == io::ErrorKind::OutOfMemory {
-            Stop::Fault(Fault::OutOfMemory)
+            CommandError::Fault(Fault::OutOfMemory)
         } else {
-            Stop::Fault(Fault::Device)
+            CommandError::Fault(Fault::Device)
         }
     }
 }
 
 /// A usage fault with a text.
-pub fn usage(alloc: Global, text: &str) -> Stop {
+pub fn usage(alloc: Global, text: &str) -> CommandError {
     match text.to_string(alloc) {
-        Ok(text) => Stop::Usage(text),
-        Err(error) => Stop::from(error),
+        Ok(text) => CommandError::Usage(text),
+        Err(error) => CommandError::from(error),
     }
 }
 
 /// Writes a text that goes out and LF, where there is one.
-pub fn tell_text<W: io::Write>(out: &mut W, text: &[u8]) -> Result<(), Stop>
+pub fn tell_text<W: io::Write>(out: &mut W, text: &[u8]) -> Result<(), CommandError>
     ensures { OnOk result (Appends (W.contents out.old) (W.contents out.new) (line_of text.now)) }
 {
     if !text.is_empty() {
@@ -109,25 +109,25 @@ pub fn tell_refusal<E: io::Write>(
     alloc: Global,
     err: &mut E,
     refusal: Refusal,
-) -> Result<Status, Stop>
-    ensures { IfOk result (λ status. status ≡ Status.Refused) }
+) -> Result<ExitStatus, CommandError>
+    ensures { IfOk result (λ status. status ≡ ExitStatus.Refused) }
 {
     let number = refusal.number();
     let name = refusal.name(alloc)?;
     write!(err, "refused {number} ")?;
     err.write_all(&name)?;
     err.write_all(b"\n")?;
-    Ok(Status::Refused)
+    Ok(ExitStatus::Refused)
 }
 
 // What of a stop can be told.
-fn told<E: io::Write>(err: &mut E, stop: &Stop) -> io::Result<()> {
+fn told<E: io::Write>(err: &mut E, stop: &CommandError) -> io::Result<()> {
     match stop {
-        Stop::Usage(text) => {
+        CommandError::Usage(text) => {
             let text = text.as_str();
             write!(err, "{text}")
         }
-        Stop::Fault(fault) => {
+        CommandError::Fault(fault) => {
             let (number, name) = (fault.number(), fault.name());
             write!(err, "fault {number} {name}\n")
         }
@@ -136,12 +136,12 @@ fn told<E: io::Write>(err: &mut E, stop: &Stop) -> io::Result<()> {
 
 /// Tells what stopped a command on standard error: a fault as `fault 44 Device`. Where standard error fails too, the status
 /// alone tells it.
-pub fn tell_stop<E: io::Write>(err: &mut E, stop: &Stop) -> Status
+pub fn tell_stop<E: io::Write>(err: &mut E, stop: &CommandError) -> ExitStatus
     ensures { result ≡ meant.status_of stop.now }
 {
     let status = match stop {
-        Stop::Usage(_) => Status::Usage,
-        Stop::Fault(_) => Status::Fault,
+        CommandError::Usage(_) => ExitStatus::Usage,
+        CommandError::Fault(_) => ExitStatus::Fault,
     };
     match told(err, stop) {
         Ok(()) => status,

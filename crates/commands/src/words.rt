@@ -19,7 +19,7 @@ use store::Moment;
 /// Where a line of words stands.
 #[derive(Clone, Copy, Debug, PartialEq, Eq)]
 pub enum Place {
-    /// On the command line, behind the program's name.
+    /// On the command line, after the program's name.
     Program,
     /// In a script.
     Script,
@@ -53,7 +53,7 @@ pub enum Task<'a> {
     /// Change the book.
     Act {
         /// What is done.
-        act: Act<'a>,
+        act: BookAct<'a>,
         /// The moment, if the line says one.
         at: Option<Moment>,
     },
@@ -79,7 +79,7 @@ pub struct Service {
 
 /// What changes a book.
 #[derive(Clone, Copy)]
-pub enum Act<'a> {
+pub enum BookAct<'a> {
     /// Enrol a depositor.
     Enrol {
         /// The depositor, as `QQ-ID`.
@@ -101,12 +101,12 @@ pub enum Act<'a> {
         dir: &'a str,
     },
     /// Tell what a clerk did.
-    Clerk(Told<'a>),
+    Clerk(ClerkWords<'a>),
 }
 
 /// What a clerk did, as the words tell it.
 #[derive(Clone, Copy)]
-pub struct Told<'a> {
+pub struct ClerkWords<'a> {
     /// What was done.
     pub deed: Deed,
     /// The depositor, as `QQ-ID`.
@@ -275,7 +275,11 @@ fn has_flag(values: &ArgMatches<'_>, id: &str) -> bool
 }
 
 // What a clerk did, with the values of its line.
-fn told_of<'a>(alloc: Global, deed: Deed, values: &ArgMatches<'a>) -> Result<Told<'a>, LineFault>
+fn told_of<'a>(
+    alloc: Global,
+    deed: Deed,
+    values: &ArgMatches<'a>,
+) -> Result<ClerkWords<'a>, LineFault>
     ensures told { IfOk result (meant.SaysTold (rows_of (found_of values.now))) }
     ensures deed { IfOk result (λ t. t.deed ≡ deed) }
 {
@@ -283,7 +287,7 @@ fn told_of<'a>(alloc: Global, deed: Deed, values: &ArgMatches<'a>) -> Result<Tol
         Deed::Recount => "",
         _ => given(alloc, values, "number")?,
     };
-    Ok(Told {
+    Ok(ClerkWords {
         deed,
         who: given(alloc, values, "who")?,
         ticket: given(alloc, values, "ticket")?,
@@ -297,25 +301,25 @@ fn act_of<'a>(
     alloc: Global,
     name: &str,
     values: &ArgMatches<'a>,
-) -> Result<Option<Act<'a>>, LineFault>
+) -> Result<Option<BookAct<'a>>, LineFault>
     ensures { IfOk result (λ act. IfSome act (meant.SaysAct (name.now, rows_of (found_of values.now)))) }
 {
     let act = match name {
-        "enrol" => Act::Enrol {
+        "enrol" => BookAct::Enrol {
             who: given(alloc, values, "who")?,
         },
-        "roster" => Act::Roster {
+        "roster" => BookAct::Roster {
             file: given(alloc, values, "file")?,
         },
-        "send" => Act::Send {
+        "send" => BookAct::Send {
             file: given(alloc, values, "file")?,
         },
-        "take" => Act::Take {
+        "take" => BookAct::Take {
             dir: given(alloc, values, "dir")?,
         },
-        "count" => Act::Clerk(told_of(alloc, Deed::Count, values)?),
-        "pick" => Act::Clerk(told_of(alloc, Deed::Pick, values)?),
-        "recount" => Act::Clerk(told_of(alloc, Deed::Recount, values)?),
+        "count" => BookAct::Clerk(told_of(alloc, Deed::Count, values)?),
+        "pick" => BookAct::Clerk(told_of(alloc, Deed::Pick, values)?),
+        "recount" => BookAct::Clerk(told_of(alloc, Deed::Recount, values)?),
         _ => return Ok(None),
     };
     Ok(Some(act))

@@ -3,7 +3,7 @@ ghost use Rattle.profile.specs.Elements as meant;
 ghost use Rattle.elements.specs.Rows.{row_of};
 ghost use Rattle.elements.specs.Told.{told_element};
 
-use crate::kinds::{Kind, Row, element_fault};
+use crate::kinds::{ElementRow, Kind, element_fault};
 use profile::{
     CONTROL_DIGITS, DATE_DIGITS, FUNCTION_BYTES, GROUPS_DIGITS, LEAST_SET_CONTROL, LEAST_SIDE,
     LEAST_TIME, MOST_AGENCY, MOST_SET_CONTROL, MOST_SIDE, MOST_TIME, MOST_VERSION, SEGMENTS_DIGITS,
@@ -13,7 +13,7 @@ use segments::{Delims, Segment};
 
 macro_rules! must {
     ($kind:expr, $least:expr, $most:expr) => {
-        Row {
+        ElementRow {
             is_mandatory: true,
             kind: $kind,
             least: $least,
@@ -22,7 +22,7 @@ macro_rules! must {
     };
 }
 
-const GS: &[Row] = &[
+const GS: &[ElementRow] = &[
     must!(Kind::Alphanumeric, FUNCTION_BYTES, FUNCTION_BYTES),
     must!(Kind::Data, LEAST_SIDE, MOST_SIDE),
     must!(Kind::Data, LEAST_SIDE, MOST_SIDE),
@@ -33,29 +33,33 @@ const GS: &[Row] = &[
     must!(Kind::Data, 1, MOST_VERSION),
 ];
 
-const GE: &[Row] = &[
+const GE: &[ElementRow] = &[
     must!(Kind::Digits, 1, SETS_DIGITS),
     must!(Kind::Digits, 1, CONTROL_DIGITS),
 ];
 
-const ST: &[Row] = &[
+const ST: &[ElementRow] = &[
     must!(Kind::Alphanumeric, SET_BYTES, SET_BYTES),
     must!(Kind::Alphanumeric, LEAST_SET_CONTROL, MOST_SET_CONTROL),
 ];
 
-const SE: &[Row] = &[
+const SE: &[ElementRow] = &[
     must!(Kind::Digits, 1, SEGMENTS_DIGITS),
     must!(Kind::Alphanumeric, LEAST_SET_CONTROL, MOST_SET_CONTROL),
 ];
 
-const IEA: &[Row] = &[
+const IEA: &[ElementRow] = &[
     must!(Kind::Digits, 1, GROUPS_DIGITS),
     must!(Kind::Digits, CONTROL_DIGITS, CONTROL_DIGITS),
 ];
 
 /// The least faulty element of a segment by its rows: its place, from 1, and its code (AK401 and AK403). An element
 /// beyond the last row, empty or not, has code 3; None where no element is faulty.
-pub fn faulty_element(delims: &Delims, rows: &[Row], segment: &Segment<'_>) -> Option<(usize, u8)>
+pub fn faulty_element(
+    delims: &Delims,
+    rows: &[ElementRow],
+    segment: &Segment<'_>,
+) -> Option<(usize, u8)>
     ensures { option_map told_element result ≡ meant.faulty_element delims.now (map row_of rows.now) segment.now.elements }
 {
     for (index, row) in rows.iter().enumerate() {
@@ -71,7 +75,7 @@ pub fn faulty_element(delims: &Delims, rows: &[Row], segment: &Segment<'_>) -> O
 }
 
 // The rows of a control segment.
-fn control_rows(id: &[u8]) -> Option<&'static [Row]>
+fn control_rows(id: &[u8]) -> Option<&'static [ElementRow]>
     ensures { option_map (λ r. map row_of r.now) result ≡ meant.rows_in meant.control_rows id.now }
 {
     match id {

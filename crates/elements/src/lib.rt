@@ -5,4 +5,4 @@ mod faults;
 mod kinds;
 
 pub use faults::{faulty_element, is_well_formed};
-pub use kinds::{Kind, Row, element_fault};
+pub use kinds::{ElementRow, Kind, element_fault};

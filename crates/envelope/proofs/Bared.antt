@@ -82,7 +82,7 @@ front_bare id ps =
     ap length (front_is (has_id id) (segments_of ps))
     ∙ (length-take-le (position_or_len (has_id id) (segments_of ps)) (segments_of ps) (within (has_id id) (segments_of ps)) ∙ place_bare id ps)
 
--- how much stands behind the first
+-- how much stands after the first
 pub length_behind : (id : List ℕ) (ps : List Piece) → length (after_first (has_id id) (segments_of ps)) ≡ length ps - (position_or_len (marked id) ps + 1)
 length_behind id ps =
     ap length (behind_bare id ps)

@@ -32,7 +32,7 @@ take_one p x xs t = rw (t, one_more (position_or_len p xs)) refl
 skip_one : {X : Type 0} (p : X → Bool) (x : X) (xs : List X) → p x ≡ false → drop (position_or_len p (x ∷ xs)) (x ∷ xs) ≡ drop (position_or_len p xs) xs
 skip_one p x xs t = rw (t, one_more (position_or_len p xs)) refl
 
--- the front, and the runs behind it
+-- the front, and the runs after it
 pub front_is : {X : Type 0} (p : X → Bool) (xs : List X) → (parted p xs).front ≡ take (position_or_len p xs) xs
 front_is p [] = refl
 front_is {X = X} p (x ∷ xs) = by_test (p x) refl (front_is p xs)
@@ -60,7 +60,7 @@ first_passes p (x ∷ xs) first others e = by_test (p x) refl e (first_passes p 
 begun : {X : Type 0} (p : X → Bool) (first : X) (others : List X) → p first ≡ true → (parted p (first ∷ others)).runs ≡ (first, (parted p others).front) ∷ (parted p others).runs
 begun p first others h = rw h refl
 
--- the first that passes at or behind a place
+-- the first that passes at or after a place
 run_at : {X : Type 0} (p : X → Bool) (xs : List X) (from i : ℕ) (d : X) → i ≡ from + position_or_len p (drop from xs) → i < length xs
     → drop (position_or_len p (drop from xs)) (drop from xs) ≡ get_or xs i d ∷ drop (i + 1) xs
 run_at p xs from i d ei hi =
@@ -70,7 +70,7 @@ run_at p xs from i d ei hi =
 pub run_begins : {X : Type 0} (p : X → Bool) (xs : List X) (from i : ℕ) (d : X) → i ≡ from + position_or_len p (drop from xs) → i < length xs → p (get_or xs i d) ≡ true
 run_begins p xs from i d ei hi = first_passes p (drop from xs) (get_or xs i d) (drop (i + 1) xs) (run_at p xs from i d ei hi)
 
--- the run that begins at i of the list behind `from`, and ends before j
+-- the run that begins at i of the list after `from`, and ends before j
 pub run_some : {X : Type 0} (p : X → Bool) (xs : List X) (from i j : ℕ) (d : X) → i ≡ from + position_or_len p (drop from xs)
     → i < length xs → j ≡ i + 1 + position_or_len p (drop (i + 1) xs)
     → (parted p (drop from xs)).runs ≡ (get_or xs i d, take (j - (i + 1)) (drop (i + 1) xs)) ∷ (parted p (drop j xs)).runs

@@ -8,7 +8,7 @@ use Rattle.profile.specs.Header.{places, isa, is_legible, separator_offsets}
 abbrev pub is_begun : List ℕ → Bool
 is_begun text = not (nat_lt most_bytes (length text) || nat_lt (length text) 106 || not (bytes_eq (take 3 text) (codes "ISA")))
 
--- the separators, the data of the header, its number and the bytes behind it
+-- the separators, the data of the header, its number and the bytes after it
 abbrev pub is_filled : Delims → List ℕ → Bool
 is_filled d text = list_all (λ k. slice_index text k == d.separator) separator_offsets
     && list_all (λ n. list_all (is_data d) (isa text n)) (range_with_len 1 15)

@@ -1,6 +1,6 @@
 use std::alloc::AllocError;
 
-/// Why an interchange is halted behind its header.
+/// Why an interchange is halted after its header.
 #[derive(Drop)]
 pub enum Halt {
     /// The code of the note, as TA105 tells it in three digits: 23 the text ends early, 22 the trailer IEA, 1 the control

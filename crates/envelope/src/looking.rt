@@ -86,7 +86,7 @@ pub(crate) fn last_element<'a>(segments: &[Segment<'a>], n: usize) -> &'a [u8]
     }
 }
 
-// Where the id stands first at or behind a place, or the end.
+// Where the id stands first at or after a place, or the end.
 fn place_from(segments: &[Segment<'_>], from: usize, id: &[u8]) -> usize
     requires { from ≤ length segments.now }
     ensures value { result ≡ from + position_or_len (marked id.now) (drop from segments.now) }
@@ -95,7 +95,7 @@ fn place_from(segments: &[Segment<'_>], from: usize, id: &[u8]) -> usize
     from + place_of(&segments[from..], id)
 }
 
-// Where the first run at or behind a place begins, a segment with the id, and where it ends.
+// Where the first run at or after a place begins, a segment with the id, and where it ends.
 pub(crate) fn run_from(segments: &[Segment<'_>], from: usize, id: &[u8]) -> Option<(usize, usize)>
     requires { from ≤ length segments.now }
     ensures { MatchOption result ((parted (marked id.now) (drop from segments.now)).runs ≡ [])

@@ -7,19 +7,19 @@ ghost use Rattle.envelope.specs.Conditions as meant;
 
 use crate::bytes::{all_spaces, same};
 use crate::header::Isa;
-use elements::{Kind, Row, element_fault};
+use elements::{ElementRow, Kind, element_fault};
 use profile::{DATE_DIGITS, LEAST_TIME};
 use segments::{Delims, Who};
 
-// ISA09 behind the century, and ISA10: the rows that tell a date and a time of day.
-const DATE: Row = Row {
+// ISA09 after the century, and ISA10: the rows that tell a date and a time of day.
+const DATE: ElementRow = ElementRow {
     is_mandatory: true,
     kind: Kind::Date,
     least: DATE_DIGITS,
     most: DATE_DIGITS,
 };
 
-const CLOCK: Row = Row {
+const CLOCK: ElementRow = ElementRow {
     is_mandatory: true,
     kind: Kind::Time,
     least: LEAST_TIME,

@@ -6,7 +6,7 @@ ghost use Rattle.envelope.specs.Parts as held;
 use segments::{Delims, Segment};
 use std::marker::Model;
 
-/// A set: ST, what stands behind it, and SE if it is closed. A set that is not closed ends before the next ST, GE, GS or
+/// A set: ST, what stands after it, and SE if it is closed. A set that is not closed ends before the next ST, GE, GS or
 /// IEA.
 #[derive(Drop)]
 pub struct Set<'a> {

@@ -15,7 +15,7 @@ fn has_no_front(segments: &[Segment<'_>], id: &[u8]) -> bool
     place_of(segments, id) == 0
 }
 
-// Whether nothing stands behind the first with the id.
+// Whether nothing stands after the first with the id.
 #[tactic(auto, using(crate::proofs::Bared::length_behind))]
 fn has_no_rest(segments: &[Segment<'_>], id: &[u8]) -> bool
     ensures { result ≡ meant.is_nothing (after_first (has_id id.now) (segments_of segments.now)) }
@@ -23,7 +23,7 @@ fn has_no_rest(segments: &[Segment<'_>], id: &[u8]) -> bool
     segments.len() - place_of(segments, id) <= 1
 }
 
-// Whether nothing stands behind SE in each set's run.
+// Whether nothing stands after SE in each set's run.
 #[tactic(auto, using(crate::proofs::Bared::tested_bare))]
 fn are_sets_clean(segments: &[Segment<'_>]) -> bool
     ensures { result ≡ list_all meant.is_set_clean (parted (has_id (codes "ST")) (segments_of segments.now)).runs }
@@ -38,7 +38,7 @@ fn are_sets_clean(segments: &[Segment<'_>]) -> bool
     true
 }
 
-// Whether a group, of which these are the segments behind GS, has nothing but sets.
+// Whether a group, of which these are the segments after GS, has nothing but sets.
 fn is_group_clean(others: &[Segment<'_>]) -> bool
     ensures { result ≡ meant.is_group_clean ([], segments_of others.now) }
 {
@@ -67,7 +67,7 @@ fn are_groups_clean(segments: &[Segment<'_>]) -> bool
     true
 }
 
-// Whether each segment behind ISA stands in its place.
+// Whether each segment after ISA stands in its place.
 pub(crate) fn are_in_place(segments: &[Segment<'_>]) -> bool
     ensures { result ≡ meant.is_in_place (segments_of segments.now) }
 {

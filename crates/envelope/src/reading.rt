@@ -58,7 +58,7 @@ fn is_line_end(b: u8) -> bool
     b == b'\n' || b == b'\r'
 }
 
-// Whether each byte behind the header is data, a delimiter, or a CR or LF behind a terminator.
+// Whether each byte after the header is data, a delimiter, or a CR or LF after a terminator.
 fn is_legible(delims: &Delims, text: &[u8]) -> bool
     ensures { result ≡ meant.is_legible delims.now true text.now }
 {

@@ -23,7 +23,7 @@ became_more : (rs : List replies.Reply) (r : replies.Reply) → map became (rs +
 became_more [] r = refl
 became_more (x ∷ rs) r = ap (λ (bs : List Became). became x ∷ bs) (became_more rs r)
 
--- the register and the replies behind one text more
+-- the register and the replies after one text more
 behind_more : (W : Who) (L : List Entry) (t : Moment) (texts : List (List ℕ)) (text : List ℕ)
     → accepted_on W L (handed t (texts ++ text ∷ [])) ≡ after W (accepted_on W L (handed t texts)) (Interchange text, t)
 behind_more W L t texts text = ap (accepted_on W L) (handed_more t texts text) ∙ accepted_on-more W L (handed t texts) (Interchange text, t)
@@ -62,7 +62,7 @@ taken_more a b c t texts text told one p q before file = record {
 
 -- Stops.
 
--- the one text of a file that stopped, behind those that were taken
+-- the one text of a file that stopped, after those that were taken
 last_behind : (a b : Standing) (t : Moment) (texts : List (List ℕ)) (last : List ℕ) (L : List Entry) → GoesOn a b
     → after b.warehouse (accepted_on a.warehouse L (handed t texts)) (Interchange last, t) ≡ accepted_on a.warehouse L (handed t (texts ++ last ∷ []))
 last_behind a b t texts last L p =
@@ -81,7 +81,7 @@ either_usable : (s : Standing) (M first second last : List Entry) → M ≡ firs
 either_usable s M first second last p q (inl u) = inl (subst (IsUsable s) p u)
 either_usable s M first second last p q (inr u) = inr (subst (IsUsable s) q u)
 
--- a file at which the folder stops, behind those that were taken
+-- a file at which the folder stops, after those that were taken
 pub stopped_behind : (a b c : Standing) (fault : Fault) (t : Moment) (texts : List (List ℕ)) (told : List Became) → GoesOn a b → a.shut ≡ b.shut → GoesOn b c
     → AreTaken a b t texts told → IsUntaken fault b c t → IsStopped fault a c t
 stopped_behind a b c fault t texts told p same q before file = record {
@@ -98,7 +98,7 @@ stopped_behind a b c fault t texts told p same q before file = record {
   why = fault_behind a b c fault t texts told p same q before file.why;
 }
 
--- a fault of a device, or want of memory, behind which the book is as it was
+-- a fault of a device, or want of memory, after which the book is as it was
 pub device_fault : (fault : Fault) (a : Standing) (b : Standing) → b.shut ≡ a.shut → IsDeviceFault fault → IsFolderFault fault a b
 device_fault fault a b same (inl h) = record {
   grew = λ was is. absurd (let k : true ≡ false = sym is ∙ same ∙ was in cc (k));

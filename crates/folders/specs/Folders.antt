@@ -9,8 +9,8 @@ use Rattle.rules.specs.Told.{refusal_of}
 use Rattle.store.specs.Standing.{Standing, IsUsable, LeavesEither, Refused}
 use Rattle.store.specs.declared.fault.Fault.{Fault}
 use Rattle.store.specs.declared.fault.Fault.TheVariants.{OutOfMemory, Store, Reopen, NotThisBook, Device}
-use Rattle.folders.specs.declared.folder.Outcome.{Outcome}
-use Rattle.folders.specs.declared.folder.Outcome.TheVariants as outcomes
+use Rattle.folders.specs.declared.folder.FileOutcome.{FileOutcome}
+use Rattle.folders.specs.declared.folder.FileOutcome.TheVariants as outcomes
 
 -- what became of an interchange
 pub data Became : Type 0 where
@@ -23,7 +23,7 @@ became (replies.Accepted text) = WasAccepted
 became (replies.Stored text) = WasStored
 became (replies.Refused r text) = WasRefused r
 
-abbrev pub became_of : Outcome → Became
+abbrev pub became_of : FileOutcome → Became
 became_of outcomes.Accepted = WasAccepted
 became_of outcomes.Stored = WasStored
 became_of (outcomes.Refused r) = WasRefused (refusal_of r)
@@ -36,12 +36,12 @@ handed t texts = map (λ (text : List ℕ). (Interchange text, t)) texts
 abbrev pub IsDeviceFault : Fault → Type 0
 IsDeviceFault fault = (fault ≡ OutOfMemory) ⊎ (fault ≡ Device)
 
--- The texts were handed in one after the other: this became of them, and the register is the one behind them.
+-- The texts were handed in one after the other: this became of them, and the register is the one after them.
 pub record AreTaken (old new : Standing) (t : Moment) (texts : List (List ℕ)) (told : List Became) : Type 0 where
   pub told_is : new.doubt ≡ 0 → (L : List Entry) → IsUsable old L → told ≡ map became (replies_on old.warehouse L (handed t texts))
   pub usable : new.doubt ≡ 0 → (L : List Entry) → IsUsable old L → IsUsable new (accepted_on old.warehouse L (handed t texts))
 
--- The texts were handed in, and one more perhaps. The register is the one behind those, or behind that one too; a crash leaves
+-- The texts were handed in, and one more perhaps. The register is the one after those, or after that one too; a crash leaves
 -- one of the two, also where the book has to be opened again.
 pub record AreTakenUntil (old new : Standing) (t : Moment) (texts : List (List ℕ)) (last : List ℕ) : Type 0 where
   pub usable : new.doubt ≡ 0 → new.shut ≡ false → (L : List Entry) → IsUsable old L

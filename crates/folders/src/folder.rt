@@ -10,7 +10,7 @@ use store::{Command, Fault, Keeper, Moment, Refusal, Reply, submit};
 
 /// What became of the interchange in a file.
 #[derive(Clone, Copy, Debug, PartialEq, Eq)]
-pub enum Outcome {
+pub enum FileOutcome {
     /// It is accepted.
     Accepted,
     /// It was accepted before.
@@ -25,7 +25,7 @@ pub struct Taken {
     /// Its name in the folder.
     pub name: String,
     /// What became of it.
-    pub outcome: Outcome,
+    pub outcome: FileOutcome,
 }
 
 /// As `a.x12 accepted`, `a.x12 stored`, `a.x12 refused 025`, with the three digits of a note's code or the number of another
@@ -34,12 +34,12 @@ impl fmt::Display for Taken {
     fn fmt<W: fmt::Write>(&self, f: &mut fmt::Formatter<W>) -> fmt::Result {
         let name = self.name.as_str();
         match self.outcome {
-            Outcome::Accepted => write!(f, "{name} accepted"),
-            Outcome::Stored => write!(f, "{name} stored"),
-            Outcome::Refused(Refusal::Unreadable) => write!(f, "{name} unreadable"),
-            Outcome::Refused(Refusal::Note(code)) => write!(f, "{name} refused {code:03}"),
-            Outcome::Refused(Refusal::Duplicate) => write!(f, "{name} refused 025"),
-            Outcome::Refused(refusal) => {
+            FileOutcome::Accepted => write!(f, "{name} accepted"),
+            FileOutcome::Stored => write!(f, "{name} stored"),
+            FileOutcome::Refused(Refusal::Unreadable) => write!(f, "{name} unreadable"),
+            FileOutcome::Refused(Refusal::Note(code)) => write!(f, "{name} refused {code:03}"),
+            FileOutcome::Refused(Refusal::Duplicate) => write!(f, "{name} refused 025"),
+            FileOutcome::Refused(refusal) => {
                 let number = refusal.number();
                 write!(f, "{name} refused {number}")
             }
@@ -100,13 +100,13 @@ fn leave_answer<R: Files + AllocGlobal>(rt: &R, path: &str, answer: &[u8]) -> Re
 }
 
 // What became of an interchange with this reply, and its answer.
-fn outcome_of(reply: Reply) -> (Outcome, Vec<u8>)
+fn outcome_of(reply: Reply) -> (FileOutcome, Vec<u8>)
     ensures { became_of result.0 ≡ became (told reply) }
 {
     match reply {
-        Reply::Accepted(text) => (Outcome::Accepted, text),
-        Reply::Stored(text) => (Outcome::Stored, text),
-        Reply::Refused { refusal, answer } => (Outcome::Refused(refusal), answer),
+        Reply::Accepted(text) => (FileOutcome::Accepted, text),
+        Reply::Stored(text) => (FileOutcome::Stored, text),
+        Reply::Refused { refusal, answer } => (FileOutcome::Refused(refusal), answer),
     }
 }
 
@@ -116,7 +116,7 @@ fn take_file<R: Files + AllocGlobal, K: Keeper>(
     path: &str,
     keeper: &mut K,
     moment: Moment,
-) -> Result<Outcome, Fault>
+) -> Result<FileOutcome, Fault>
     ensures taken { IfOk result (λ outcome. (text : List ℕ) × AreTaken (K.standing keeper.old) (K.standing keeper.new) moment (text ∷ []) (became_of outcome ∷ [])) }
     ensures stopped { IfErr result (λ fault. IsUntaken fault (K.standing keeper.old) (K.standing keeper.new) moment) }
     ensures opened { OnOk result ((K.standing keeper.old).shut ≡ (K.standing keeper.new).shut) }

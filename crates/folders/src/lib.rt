@@ -3,4 +3,4 @@
 
 mod folder;
 
-pub use folder::{Outcome, Taken, take_folder};
+pub use folder::{FileOutcome, Taken, take_folder};

@@ -12,7 +12,7 @@ use Rattle.std.specs.List.{list_all}
 use Rattle.std.proofs.lemmas.List.{get_or-append-add}
 use Rattle.matchit.specs.Seek.{first, has_slash, segment}
 use Rattle.profile.specs.Response.{Nowhere}
-use Rattle.intake.specs.declared.routes.Place.{Place}
+use Rattle.intake.specs.declared.routes.RouteKind.{RouteKind}
 use Rattle.intake.specs.Routes.{table, route_of, route_by_row}
 
 -- a path that is text has the route of its row
@@ -36,7 +36,7 @@ part_is_text path a b u from to = by (leb a b) (leb b (length path)) refl
     by true false e = IsUtf8-nil
     by false w e = IsUtf8-nil
 
--- behind an ASCII byte a part may begin
+-- after an ASCII byte a part may begin
 behind : (path : List ℕ) (i : ℕ) → IsUtf8 path → i < length path → get_or path i 0 < 128 → IsCharBoundary path (next_at (length path) i)
 behind path i u h low =
     let e : ltb i (length path) ≡ true = grind (arith, nat_tests) in
@@ -123,36 +123,36 @@ module _ (p : List ℕ) where
       (subst (λ (k : ℕ). IsUtf8 (codes "who") × IsUtf8 (part_of path 8 k)
       × AllText (walk content_pattern (codes "/outbox/{who}/{n}") path ((15, 16) ∷ []) 9 k)) (sym stop) (who_is_text, who, last))
 
--- a slash that a pattern has behind its first parameter
+-- a slash that a pattern has after its first parameter
 slash_in : (p : List ℕ) → Fits (256 ∷ 47 ∷ 256 ∷ []) p → has_slash p ≡ true
 slash_in p f =
     let rest = f.1 refl in
     let there = rest.1.0 (omega arith) in
     slash_behind rest.0 p there.0 there.1
 
-abbrev Text : List ℕ → RouteOf Place → Type 0
+abbrev Text : List ℕ → RouteOf RouteKind → Type 0
 Text path r = AllText (walk r.pattern r.text path r.names 0 0)
 
-by_row : (path : List ℕ) (r : RouteOf Place) → IsUtf8 path → Found table path r → Text path r
+by_row : (path : List ℕ) (r : RouteOf RouteKind) → IsUtf8 path → Found table path r → Text path r
 unfolding matchit_on_literals
 by_row path r u (t, inl e, f) =
-    let fits = fits_text (codes "/outbox/") (256 ∷ 47 ∷ 256 ∷ []) path refl (subst (λ (w : List ℕ). Fits w path) (ap (λ (q : List ℕ × RouteOf Place). q.0) e) f) in
-    subst (Text path) (sym (ap (λ (q : List ℕ × RouteOf Place). q.1) e))
+    let fits = fits_text (codes "/outbox/") (256 ∷ 47 ∷ 256 ∷ []) path refl (subst (λ (w : List ℕ). Fits w path) (ap (λ (q : List ℕ × RouteOf RouteKind). q.0) e) f) in
+    subst (Text path) (sym (ap (λ (q : List ℕ × RouteOf RouteKind). q.1) e))
     (subst (λ (l : List ℕ). AllText (walk content_pattern (codes "/outbox/{who}/{n}") l ((9, 12) ∷ (15, 16) ∷ []) 0 0)) (sym fits.1)
     (content_parts fits.0 (subst IsUtf8 fits.1 u) (slash_in fits.0 fits.2)))
 by_row path r u (t, inr (inl e), f) =
-    let fits = fits_text (codes "/outbox/") (256 ∷ []) path refl (subst (λ (w : List ℕ). Fits w path) (ap (λ (q : List ℕ × RouteOf Place). q.0) e) f) in
-    subst (Text path) (sym (ap (λ (q : List ℕ × RouteOf Place). q.1) e))
+    let fits = fits_text (codes "/outbox/") (256 ∷ []) path refl (subst (λ (w : List ℕ). Fits w path) (ap (λ (q : List ℕ × RouteOf RouteKind). q.0) e) f) in
+    subst (Text path) (sym (ap (λ (q : List ℕ × RouteOf RouteKind). q.1) e))
     (subst (λ (l : List ℕ). AllText (walk (codes "/outbox/" ++ 256 ∷ []) (codes "/outbox/{who}") l ((9, 12) ∷ []) 0 0)) (sym fits.1)
     (outbox_parts fits.0 (subst IsUtf8 fits.1 u)))
 by_row path r u (t, inr (inr (inl e)), f) =
-    let fits = fits_text (codes "/stock/") (256 ∷ []) path refl (subst (λ (w : List ℕ). Fits w path) (ap (λ (q : List ℕ × RouteOf Place). q.0) e) f) in
-    subst (Text path) (sym (ap (λ (q : List ℕ × RouteOf Place). q.1) e))
+    let fits = fits_text (codes "/stock/") (256 ∷ []) path refl (subst (λ (w : List ℕ). Fits w path) (ap (λ (q : List ℕ × RouteOf RouteKind). q.0) e) f) in
+    subst (Text path) (sym (ap (λ (q : List ℕ × RouteOf RouteKind). q.1) e))
     (subst (λ (l : List ℕ). AllText (walk (codes "/stock/" ++ 256 ∷ []) (codes "/stock/{who}") l ((8, 11) ∷ []) 0 0)) (sym fits.1)
     (stock_parts fits.0 (subst IsUtf8 fits.1 u)))
-by_row path r u (t, inr (inr (inr (inl e))), f) = subst (Text path) (sym (ap (λ (q : List ℕ × RouteOf Place). q.1) e)) tt
+by_row path r u (t, inr (inr (inr (inl e))), f) = subst (Text path) (sym (ap (λ (q : List ℕ × RouteOf RouteKind). q.1) e)) tt
 by_row path r u (t, inr (inr (inr (inr none))), f) = absurd none
 
 -- the parts of a path that is text are text
-pub parts_are_text : (path : List ℕ) (r : RouteOf Place) → IsUtf8 path → first table path ≡ Some r → AllText (walk r.pattern r.text path r.names 0 0)
+pub parts_are_text : (path : List ℕ) (r : RouteOf RouteKind) → IsUtf8 path → first table path ≡ Some r → AllText (walk r.pattern r.text path r.names 0 0)
 parts_are_text path r u e = by_row path r u (found_in 0 table path r e)

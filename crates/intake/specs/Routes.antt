@@ -9,20 +9,20 @@ use Rattle.matchit.specs.Seek.{first}
 use Rattle.matchit.specs.Params.{walk, named}
 use Rattle.matchit.specs.declared.error.InsertError.{InsertError}
 use Rattle.profile.specs.Response.{Route, ToExchange, ToStock, ToOutbox, ToContent, Nowhere}
-use Rattle.intake.specs.declared.routes.Place.{Place}
-use Rattle.intake.specs.declared.routes.Place.TheVariants.{Exchange, Stock, Outbox, Content}
+use Rattle.intake.specs.declared.routes.RouteKind.{RouteKind}
+use Rattle.intake.specs.declared.routes.RouteKind.TheVariants.{Exchange, Stock, Outbox, Content}
 use Rattle.intake.specs.declared.routes.Route.{Route as Found}
 use Rattle.intake.specs.declared.routes.Route.TheVariants as found
 
 -- the rows with one more route, which is read from its text
-abbrev pub with_route : List ℕ → Place → RowsOf (RouteOf Place) → RowsOf (RouteOf Place)
+abbrev pub with_route : List ℕ → RouteKind → RowsOf (RouteOf RouteKind) → RowsOf (RouteOf RouteKind)
 with_route text value rows = by_scan (parse_route text)
   where
-    by_scan : Result Scan InsertError → RowsOf (RouteOf Place)
+    by_scan : Result Scan InsertError → RowsOf (RouteOf RouteKind)
     by_scan (Ok s) = placed (s.pattern, route_from s value) rows
     by_scan (Err e) = rows
 
-abbrev pub table : RowsOf (RouteOf Place)
+abbrev pub table : RowsOf (RouteOf RouteKind)
 table =
     with_route (codes "/outbox/{who}/{n}") Content
     (with_route (codes "/outbox/{who}") Outbox
@@ -33,13 +33,13 @@ table =
 abbrev pub part : List ℕ → List (List ℕ × List ℕ) → List ℕ
 part name parts = unwrap_or (named name parts) []
 
-abbrev pub route_by : Place → List (List ℕ × List ℕ) → Route
+abbrev pub route_by : RouteKind → List (List ℕ × List ℕ) → Route
 route_by Exchange parts = ToExchange
 route_by Stock parts = ToStock (part (codes "who") parts)
 route_by Outbox parts = ToOutbox (part (codes "who") parts)
 route_by Content parts = ToContent (part (codes "who") parts) (part (codes "n") parts)
 
-abbrev pub route_by_row : List ℕ → Option (RouteOf Place) → Route
+abbrev pub route_by_row : List ℕ → Option (RouteOf RouteKind) → Route
 route_by_row path None = Nowhere
 route_by_row path (Some r) = route_by r.value (walk r.pattern r.text path r.names 0 0)
 

@@ -41,7 +41,7 @@ pub record IsFaulted (old new : Standing) (t : Moment) (body : Option (List ℕ)
 abbrev pub IsAnswered : Standing → Standing → Moment → Option (List ℕ) → (List Entry → Response) → Response → Type 0
 IsAnswered old new t body meant r = IsServed old new t body meant r ⊎ IsFaulted old new t body r
 
--- what an input begins with: a head, and what is behind it; or none
+-- what an input begins with: a head, and what is after it; or none
 abbrev pub BeginsWith : List ℕ → Option RequestHead → List ℕ → Type 0
 BeginsWith input None rest = HasNoHead input
 BeginsWith input (Some h) rest = HasHead input h rest
@@ -55,7 +55,7 @@ pub record IsExchange (old new : Standing) (known : Option (List ℕ)) (t : Mome
   pub begins : BeginsWith input head rest
   pub answered : IsAnswered old new t (submitted (option_map head_of head) rest) (λ L. response_to old.warehouse L (option_map head_of head) rest t) r
 
--- the same of a request whose head was read, with the first bytes of what is behind it
+-- the same of a request whose head was read, with the first bytes of what is after it
 pub record IsExchangeBehind (old new : Standing) (known : Option (List ℕ)) (t : Moment) (h : Head) (start : List ℕ) (r : Response) : Type 0 where
   pub input : List ℕ
   pub is_input : IsInput known input

@@ -15,7 +15,7 @@ mod sending;
 mod serving;
 mod texts;
 
-pub use folders::{Outcome, Taken, take_folder};
+pub use folders::{FileOutcome, Taken, take_folder};
 pub use gauge::Gauge;
 pub use listening::serve_count;
 pub use responding::respond;

@@ -14,7 +14,7 @@ use std::io::Read;
 #[derive(Drop)]
 pub(crate) struct Unread;
 
-// One more read, behind what is there.
+// One more read, after what is there.
 fn read_more<R: Read>(reader: &mut Gauge<R>, buf: &mut [u8], filled: usize) -> Result<usize, Unread>
     requires { filled < length buf.old }
     ensures within { IfOk result (λ n. filled + n ≤ length buf.new) }
@@ -58,7 +58,7 @@ pub(crate) struct Beginning {
     pub head: Option<RequestSpans>,
 }
 
-/// Reads the head of a request, of at most 8,192 bytes and 32 fields, with perhaps some of what is behind it. There is none where
+/// Reads the head of a request, of at most 8,192 bytes and 32 fields, with perhaps some of what is after it. There is none where
 /// the input begins with no such head.
 pub(crate) fn read_head<R: Read>(
     reader: &mut Gauge<R>,

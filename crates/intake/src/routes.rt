@@ -11,7 +11,7 @@ use std::alloc::{AllocError, Global};
 
 /// What is found at a path.
 #[derive(Clone, Copy, Debug)]
-pub(crate) enum Place {
+pub(crate) enum RouteKind {
     /// Where interchanges are handed in.
     Exchange,
     /// A depositor's stock.
@@ -38,14 +38,14 @@ pub(crate) enum Route<'p> {
 }
 
 // The routes that are served.
-fn router(alloc: Global) -> Result<Router<Place>, InsertError>
+fn router(alloc: Global) -> Result<Router<RouteKind>, InsertError>
     ensures { IfOk result (λ router. router ≡ table) }
 {
     let mut router = Router::new(alloc);
-    router.insert("/x12", Place::Exchange)?;
-    router.insert("/stock/{who}", Place::Stock)?;
-    router.insert("/outbox/{who}", Place::Outbox)?;
-    router.insert("/outbox/{who}/{n}", Place::Content)?;
+    router.insert("/x12", RouteKind::Exchange)?;
+    router.insert("/stock/{who}", RouteKind::Stock)?;
+    router.insert("/outbox/{who}", RouteKind::Outbox)?;
+    router.insert("/outbox/{who}/{n}", RouteKind::Content)?;
     Ok(router)
 }
 
@@ -58,15 +58,15 @@ fn part_of<'p>(params: &Params<'_, 'p>, name: &str) -> &'p str
 }
 
 // The route of a place, with the parts that the path has for it.
-fn route_at<'p>(place: Place, params: &Params<'_, 'p>) -> Route<'p>
+fn route_at<'p>(place: RouteKind, params: &Params<'_, 'p>) -> Route<'p>
     requires { let p = params.now in AllText (walk p.pattern.now p.text.now p.path.now p.names.now 0 0) }
     ensures { let p = params.now in seen_route result ≡ route_by place (walk p.pattern.now p.text.now p.path.now p.names.now 0 0) }
 {
     match place {
-        Place::Exchange => Route::Exchange,
-        Place::Stock => Route::Stock(part_of(params, "who")),
-        Place::Outbox => Route::Outbox(part_of(params, "who")),
-        Place::Content => Route::Content(part_of(params, "who"), part_of(params, "n")),
+        RouteKind::Exchange => Route::Exchange,
+        RouteKind::Stock => Route::Stock(part_of(params, "who")),
+        RouteKind::Outbox => Route::Outbox(part_of(params, "who")),
+        RouteKind::Content => Route::Content(part_of(params, "who"), part_of(params, "n")),
     }
 }
 

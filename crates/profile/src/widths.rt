@@ -1,4 +1,4 @@
-//! Widths, in bytes, of what stands in texts. Where an element of X12 is meant, its data element number stands behind it.
+//! Widths, in bytes, of what stands in texts. Where an element of X12 is meant, its data element number stands after it.
 
 use crate::limits::MOST_PARTNER;
 

@@ -9,7 +9,7 @@ followed : {X : Type 0} (f : X → List ℕ) (cell : List ℕ) (xs : List X) →
 followed f cell [] = sym (append-nil cell)
 followed f cell (x ∷ xs) = ap (λ text. cell ++ 32 ∷ text) (followed f (right_aligned 15 (f x)) xs)
 
--- a line of the stock report, put behind a text piece by piece
+-- a line of the stock report, put after a text piece by piece
 pub line_text : {X : Type 0} (f : X → List ℕ) (old item lot : List ℕ) (xs : List X)
     → ((((old ++ padded 20 item) ++ 32 ∷ []) ++ padded 12 lot) ++ flat_map (λ x. 32 ∷ right_aligned 15 (f x)) xs) ++ 10 ∷ [] ≡ old ++ stock_columns item lot (map f xs)
 line_text f old item lot xs =

@@ -5,7 +5,7 @@ use Rattle.std.proofs.lemmas.Bool.{both_ways}
 use Rattle.profile.specs.Lists.{placed, in_order}
 
 module _ {X : Type 0} (less : X → X → Bool) (through : (x y z : X) → less x y ≡ true → less y z ≡ true → less x z ≡ true) where
-  -- each stands before all behind it
+  -- each stands before all after it
   abbrev Rises : List X → Type 0
   Rises [] = Unit {0}
   Rises (x ∷ xs) = AllByRecursion (λ z. less x z ≡ true) xs × Rises xs
@@ -84,7 +84,7 @@ module _ {X : Type 0} (less : X → X → Bool) (through : (x y z : X) → less 
         by_test true e whole rest = whole ∙ rw e (ap (placed less x) rest)
         by_test false e whole rest = whole ∙ rw e rest
 
--- one filter behind another
+-- one filter after another
 pub filters : {X : Type 0} (p q : X → Bool) (xs : List X) → filter p (filter q xs) ≡ filter (λ x. p x && q x) xs
 filters p q [] = refl
 filters p q (x ∷ xs) = by_tests (p x) (q x) refl refl (filters p q xs)

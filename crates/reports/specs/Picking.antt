@@ -22,7 +22,7 @@ short_line item short = if short == 0 then [] else pick_line item (codes "(short
 abbrev pub order_lines : List Line → PageLine → List ℕ
 order_lines reserved l = held_lines (held_of reserved l.item) ++ short_line l.item (l.quantity - total_of (held_of reserved l.item))
 
--- a line of an address, behind three spaces
+-- a line of an address, after three spaces
 abbrev pub address_line : List ℕ → List ℕ
 address_line text = if nat_lt 0 (length text) then ended (codes "   " ++ text) else []
 

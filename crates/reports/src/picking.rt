@@ -9,7 +9,7 @@ ghost use Rattle.stock.specs.Shows.{Shows};
 use crate::columns::{append_left, append_right};
 use itoa::Buffer;
 use profile::{MOST_ITEM, MOST_LOT, QUANTITY_COLUMN};
-use sets_in::{Address, Line};
+use sets_in::{Address, Goods};
 use std::alloc::{AllocError, Global};
 use stock::{KnownLine, KnownOrder, Page};
 
@@ -91,7 +91,7 @@ fn append_line(out: &mut Vec<u8>, item: &[u8], lot: &[u8], quantity: u32) -> Res
 // Appends a line for each reservation of the item. The result is how much of the quantity is short.
 fn append_held(
     out: &mut Vec<u8>,
-    reserved: &[Line],
+    reserved: &[Goods],
     item: &[u8],
     quantity: u32,
 ) -> Result<u32, AllocError>
@@ -111,7 +111,7 @@ fn append_held(
 // Appends what of a line of an order is reserved, and what is short.
 fn append_order_line(
     out: &mut Vec<u8>,
-    reserved: &[Line],
+    reserved: &[Goods],
     line: &KnownLine,
 ) -> Result<(), AllocError>
     ensures { OnOk result (out.new.items ≡ out.old.items ++ order_lines reserved.now line.now) }

@@ -20,7 +20,7 @@ use Rattle.profile.specs.Register.{Act, Count, Pick, Recount, Received}
 use Rattle.rules.specs.Judging.{passed, told_events}
 use Rattle.rules.proofs.Judges.{judged_sound, judged_faulty}
 
--- the event of a set behind others: an advice and an order under a new number, an acknowledgment under its entry's
+-- the event of a set after others: an advice and an order under a new number, an acknowledgment under its entry's
 abbrev pub IsOfSet : List Event → ℕ → Event → Type 0
 IsOfSet es n (Advised a) = advice_under a.shipment es ≡ None
 IsOfSet es n (Ordered o shares) = order_under o.number es ≡ None

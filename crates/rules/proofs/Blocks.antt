@@ -17,7 +17,7 @@ use Rattle.rules.proofs.KeyedLists.{both}
 abbrev pub prefixed : List ℕ → List TableRow → List TableRow
 prefixed t rows = map (λ (r : TableRow). Text t ∷ r) rows
 
--- a row whose text comes before t, and one whose text comes behind it
+-- a row whose text comes before t, and one whose text comes after it
 abbrev pub is_below : List ℕ → TableRow → Bool
 is_below t (Text s ∷ r) = comes_before s t
 is_below t row = false
@@ -120,7 +120,7 @@ module _ (key rest : TableRow → List Cell) (first : (t : List ℕ) (row : Tabl
 
 -- A list in order, at a key.
 
--- where an element is put: between those before and those behind it, in place of the one of its key
+-- where an element is put: between those before and those after it, in place of the one of its key
 pub record IsSplit {X K : Type 0} (less : K → K → Bool) (key : X → K) (is : X → Bool) (x : X) (ys : List X) : Type 0 where
   pub front : List X
   pub old : List X

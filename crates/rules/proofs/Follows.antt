@@ -1,4 +1,4 @@
--- Each entry of a legal register can be replayed behind those before it.
+-- Each entry of a legal register can be replayed after those before it.
 use Rattle.std.proofs.Common.{◌≡◌, ℕ, ◌+◌, ◌≤◌, Bool, true, false, not, List, [], ◌∷◌, ◌++◌, length, Option, Some, None, refl, sym, ap, ◌∙◌, subst, arith, append_assoc, append-nil}
 use Rattle.std.specs.Prelude.{◌&&◌, ◌==◌, nat_lt, is_none, bytes_eq, option_map, Result, Ok, Err, if◌then◌else◌}
 use Rattle.std.specs.List.{list_all}
@@ -25,7 +25,7 @@ use Rattle.envelope.specs.Conditions.{first_note}
 use Rattle.envelope.specs.Halting.{first_appended}
 use Rattle.rules.specs.Played.{CanFollow}
 
--- An accepted command's entry, by the history behind which it stands.
+-- An accepted command's entry, by the history after which it stands.
 
 few_of : (h : History) → nat_lt most_entries (h.numbered + 1) ≡ false → h.numbered + 1 ≤ most_entries
 few_of h e = ltb-false most_entries (h.numbered + 1) e

@@ -109,7 +109,7 @@ module _ {X K : Type 0} (less : K → K → Bool) (strict : IsStrict less) (key 
   order_rises [] = refl
   order_rises (x ∷ xs) = placed_rises x (in_order (λ (a b : X). less (key a) (key b)) xs) (order_rises xs)
 
-  -- none is found among those that come behind a key
+  -- none is found among those that come after a key
   pub found_above : (k j : K) (is : X → Bool) → IsTest key k is → (ys : List X) → k ≡ j → list_all (λ y. less j (key y)) ys ≡ true → find is ys ≡ None
   found_above k j is test ys e h = find_above less strict key k is test ys (subst (λ (i : K). list_all (λ y. less i (key y)) ys ≡ true) (sym e) h)
 

@@ -259,7 +259,7 @@ enrolment_leads W L e legal next unnumbered_one =
 
 -- Decisions.
 
--- what an accepted command's entry is behind its depositor's own, by the page that is held of these
+-- what an accepted command's entry is after its depositor's own, by the page that is held of these
 is_new : (W : Who) (L : List Entry) (e : Entry) → IsLegal W (L ++ e ∷ []) → standing (own L e.who) ≡ None → is_numbered e ≡ false
 is_new W L e next none = (legal_follow W (L ++ e ∷ []) L e [] next refl).numbered ∙ ap not (by (length (own L e.who) == 0) none)
   where

@@ -16,7 +16,7 @@ use Rattle.rules.proofs.KeyedLists.{both}
 use Rattle.rules.proofs.Blocks.{prefixed, is_below, is_above, put_row_by, puts_map, puts_within, split, blocks, blocks_below, blocks_above}
 use Rattle.rules.proofs.Tables.{last_cell}
 
--- the cells of a row's key behind its first columns
+-- the cells of a row's key after its first columns
 abbrev pub rest_in : ℕ → Schema → TableRow → List Cell
 rest_in n s row = cells_in s.key (drop n s.columns) row
 

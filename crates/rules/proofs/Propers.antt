@@ -67,7 +67,7 @@ rows_first : (rows : List LotRow) (p : PageFacts) (more : List Change) → ((rs 
 rows_first [] p more h = h p.rows
 rows_first (r ∷ rows) p more h = (tt, rows_first rows (put_change p (Stock r)) more h)
 
--- behind the rows what was found, and more
+-- after the rows what was found, and more
 row_one : (rows : List LotRow) (p : PageFacts) (c : Change) (more : List Change)
     → ((rs : List LotRow) → IsProper (record p { rows = rs }) c × AreProper (put_change (record p { rows = rs }) c) more)
     → AreProper p ((map Stock rows ++ c ∷ []) ++ more)

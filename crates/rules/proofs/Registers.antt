@@ -1,4 +1,4 @@
--- What holds of each accepted entry behind its depositor's own holds along a legal register, and along a depositor's part of it.
+-- What holds of each accepted entry after its depositor's own holds along a legal register, and along a depositor's part of it.
 use Rattle.std.proofs.Common.{◌≡◌, ℕ, ◌+◌, Bool, true, false, List, [], ◌∷◌, ◌++◌, length, Option, Some, None, refl, sym, ap, ◌∙◌, subst, append_assoc, append-nil}
 use Rattle.std.specs.Prelude.{◌&&◌, ◌==◌, bytes_eq, if◌then◌else◌, Result, Ok, Err}
 use Rattle.std.specs.List.{list_all}

@@ -115,7 +115,7 @@ all_lower W es before (e ∷ M) n le = by (is_numbered e) refl (all_lower W es (
     by true h later = both (nat_lt (out_row W es before e).n n) _ (lt-ltb (out_row W es before e).n n (omega (arith, row_number W es before e, next_behind before e M h, le))) later
     by false h later = later
 
--- put behind all of lower numbers
+-- put after all of lower numbers
 put_end : (r : OutRow) (rows : List OutRow) → list_all (λ (q : OutRow). nat_lt q.n r.n) rows ≡ true → put_by nat_lt (λ (q : OutRow). q.n) r rows ≡ rows ++ r ∷ []
 put_end r [] h = refl
 put_end r (q ∷ rows) h =
@@ -213,7 +213,7 @@ all_framed w x (c ∷ cs) rows beside =
 
 -- Each row is decided as the events say.
 
--- the pages before and behind an entry of a depositor, whose changes lead from one to the other
+-- the pages before and after an entry of a depositor, whose changes lead from one to the other
 pub record AreStates (M : List Entry) (e : Entry) (p q : PageFacts) (cs : List Change) : Type 0 where
   pub shows : Shows p (events M)
   pub entries : p.entries + 1 ≡ next_number M

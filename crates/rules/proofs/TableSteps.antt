@@ -21,7 +21,7 @@ use Rattle.rules.proofs.Tables.{last_cell, pairs_before}
 use Rattle.rules.proofs.Blocks.{prefixed, is_below, is_above, put_row_by, put_map, put_within, puts_within}
 use Rattle.rules.proofs.Portions.{rest_in, folds_same, filter_within, map_prefixed, puts_all, puts_numbered, cells_blocks, cells_opened, cells_kept, block_freed}
 
--- the rows of a table before and behind those of a depositor
+-- the rows of a table before and after those of a depositor
 pub record Sides : Type 0 where
   pub front : List TableRow
   pub behind : List TableRow

@@ -66,12 +66,12 @@ abbrev pub IsHeldAtRest : Option PageFacts → Type 0
 IsHeldAtRest None = Unit {0}
 IsHeldAtRest (Some page) = page.recent ≡ 0
 
--- the number of a command's entry behind so many numbered ones
+-- the number of a command's entry after so many numbered ones
 abbrev pub number_behind : ℕ → meant.Command → ℕ
 number_behind n (meant.Enrol w) = 0
 number_behind n c = n + 1
 
--- the decision that is this reply, behind so many numbered entries
+-- the decision that is this reply, after so many numbered entries
 abbrev pub IsReply : ℕ → meant.Command → Moment → replies.Reply → Decision → Type 0
 IsReply n c t reply (Stored text) = reply ≡ replies.Stored text.items
 IsReply n c t reply (Refused refusal text) = reply ≡ replies.Refused (refusal_of refusal) text.items

@@ -15,7 +15,7 @@ use Rattle.rules.specs.Decided.{IsPageOf}
 abbrev pub no_history : History
 no_history = record { numbered = 0; events = [] }
 
--- the number of an entry behind a history: 0 of an enrolment
+-- the number of an entry after a history: 0 of an enrolment
 abbrev pub number_after : History → Entry → ℕ
 number_after h e = if is_numbered e then h.numbered + 1 else 0
 
@@ -40,7 +40,7 @@ pub record IsReplayed (W : Who) (h : History) (e : Entry) (p : PageFacts) (text 
   pub page : IsPageOf p (after_entry h e)
   pub outgoing : text ≡ out_by W h e
 
--- an entry that can be replayed behind these of its depositor: the first is the enrolment, and no other is one
+-- an entry that can be replayed after these of its depositor: the first is the enrolment, and no other is one
 pub record CanFollow (M : List Entry) (e : Entry) : Type 0 where
   pub numbered : is_numbered e ≡ not (length M == 0)
   pub few : number_after (history M) e ≤ most_entries

@@ -8,7 +8,7 @@ ghost use Rattle.sets_out.specs.Interchanges.{answer_of};
 use crate::taking::GroupTold;
 use envelope::Isa;
 use segments::{Moment, Who};
-use sets_out::{Answer, Envelope, Heading, Interchange, Refusal, Told, write_interchange};
+use sets_out::{Answer, Envelope, Heading, NoteAnswer, Outgoing, ToldGroup, write_interchange};
 use std::alloc::{AllocError, Global};
 
 // What an answer repeats of a header.
@@ -26,12 +26,12 @@ fn heading<'a>(header: &Isa<'a>) -> Heading<'a>
 }
 
 // What is told of groups, as it is written.
-fn lent<'s>(alloc: Global, groups: &'s [GroupTold<'_>]) -> Result<Vec<Told<'s>>, AllocError>
+fn lent<'s>(alloc: Global, groups: &'s [GroupTold<'_>]) -> Result<Vec<ToldGroup<'s>>, AllocError>
     ensures { IfOk result (λ told. told.items ≡ groups.now) }
 {
     let mut told = Vec::new(alloc);
     for group in groups {
-        told.push(Told {
+        told.push(ToldGroup {
             function: group.function,
             number: group.number,
             stated: group.stated,
@@ -60,7 +60,7 @@ pub(crate) fn answer(
         heading: &heading,
         told: &told,
     };
-    let interchange = Interchange::Answered(&answer);
+    let interchange = Outgoing::Answered(&answer);
     let mut text = Vec::new(alloc);
     write_interchange(&mut text, &interchange)?;
     Ok(text)
@@ -77,14 +77,14 @@ pub(crate) fn refusal(
     ensures { IfOk result (λ text. text.items ≡ refusal_interchange warehouse header.now moment note) }
 {
     let heading = heading(header);
-    let refusal = Refusal {
+    let refusal = NoteAnswer {
         delims: header.delims(),
         warehouse,
         moment,
         heading: &heading,
         note: u16::from(note),
     };
-    let interchange = Interchange::Refused(&refusal);
+    let interchange = Outgoing::Refused(&refusal);
     let mut text = Vec::new(alloc);
     write_interchange(&mut text, &interchange)?;
     Ok(text)

@@ -13,10 +13,10 @@ ghost use Rattle.stock.specs.Shows.{Shows};
 ghost use Rattle.sets_out.specs.Interchanges.{handed_text};
 
 use crate::commands::Act;
-use sets_in::Line as Goods;
+use sets_in::Goods;
 use sets_out::{
-    AdjustedLine, Document, Envelope, Interchange, Line, PickedLot, Receipt, Shipment, ShippedLine,
-    write_interchange,
+    AdjustedLine, CountedLine, Document, Envelope, Outgoing, PickedLot, Receipt, Shipment,
+    ShippedLine, write_interchange,
 };
 use std::alloc::{AllocError, Global};
 use std::marker::Model;
@@ -140,13 +140,13 @@ fn received<'a>(
     alloc: Global,
     pairs: &[Pair<'a>],
     sheet: &[Goods],
-) -> Result<Vec<Line<'a>>, AllocError>
+) -> Result<Vec<CountedLine<'a>>, AllocError>
     requires { length sheet.now ≤ most_lines }
     ensures { IfOk result (λ lines. lines.items ≡ map (received_line sheet.now) pairs.now) }
 {
     let mut lines = Vec::new(alloc);
     for pair in pairs {
-        lines.push(Line {
+        lines.push(CountedLine {
             item: pair.item,
             lot: pair.lot,
             quantity: quantity(sheet, pair.item, pair.lot),
@@ -163,7 +163,7 @@ fn written(
 ) -> Result<Vec<u8>, AllocError>
     ensures { IfOk result (λ text. text.items ≡ handed_text envelope.now document.now) }
 {
-    let interchange = Interchange::Documented(envelope, document);
+    let interchange = Outgoing::Documented(envelope, document);
     let mut text = Vec::new(alloc);
     write_interchange(&mut text, &interchange)?;
     Ok(text)
@@ -174,7 +174,7 @@ fn receipt_lines<'a>(
     alloc: Global,
     advised: &'a [Goods],
     counted: &'a [Goods],
-) -> Result<Vec<Line<'a>>, AllocError>
+) -> Result<Vec<CountedLine<'a>>, AllocError>
     requires { length counted.now ≤ most_lines }
     ensures { IfOk result (λ lines. lines.items ≡ map (received_line counted.now) (in_order pair_before (advised.now ++ counted.now))) }
 {

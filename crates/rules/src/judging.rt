@@ -14,7 +14,7 @@ ghost use Rattle.rules.specs.Judging.{IsStep, IsStop, IsVerdict, CanBePut};
 
 use segments::Segment;
 use sets_in::{ack, advice, order};
-use sets_out::{ElementFault, Rejection, SetFault as SegmentFault};
+use sets_out::{ElementFault, Rejection, SegmentFault};
 use std::alloc::{AllocError, Global};
 use stock::{Page, Step, Stop, acknowledge, announce, reserve};
 use tables::{Checked, SetFault, SetKind, judge};

@@ -38,7 +38,7 @@ pub fn a_known_act_is_answered_again()
         → (reply_to W L (Clerk w ticket act) t ≡ Stored (stored W k)) × (after W L (Clerk w ticket act, t) ≡ L) }
 {}
 
-/// Each entry of a legal register can be replayed behind those of its depositor that stand before it.
+/// Each entry of a legal register can be replayed after those of its depositor that stand before it.
 pub fn legal_entries_can_be_replayed()
     ensures { (W : Who) (L before : List Entry) (e : Entry) (behind : List Entry) → IsLegal W L → L ≡ before ++ e ∷ behind → CanFollow (own before e.who) e }
 {}

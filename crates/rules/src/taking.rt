@@ -18,7 +18,7 @@ use std::marker::Model;
 use stock::{Change, Page, Step};
 use tables::SetKind;
 
-/// A set that was taken: the page behind it, the rows that changed, and what is told of it.
+/// A set that was taken: the page after it, the rows that changed, and what is told of it.
 #[derive(Drop)]
 struct TakenSet<'a> {
     page: Page,
@@ -239,7 +239,7 @@ fn tell<'a>(
     Ok(())
 }
 
-/// Groups that were taken, one after another: the page behind them, the rows that changed, and what is told of each that is
+/// Groups that were taken, one after another: the page after them, the rows that changed, and what is told of each that is
 /// answered.
 #[derive(Drop)]
 pub(crate) struct TakenGroups<'a> {

@@ -1,4 +1,4 @@
--- The first element and the others behind separators are the elements joined.
+-- The first element and the others after separators are the elements joined.
 use Rattle.std.proofs.Common.{◌≡◌, ℕ, List, ◌∷◌, ◌++◌, map, refl, append_assoc}
 use Rattle.std.specs.Prelude.{flat_map}
 use Rattle.std.specs.Borrow.{Bor}

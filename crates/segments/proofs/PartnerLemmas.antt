@@ -31,7 +31,7 @@ and_true : (b : Bool) → (b && true) ≡ b
 and_true true = refl
 and_true false = refl
 
--- a text with `-` behind the qualifier is read as its parts
+-- a text with `-` after the qualifier is read as its parts
 pub written_partner : (text id : List ℕ) (result : Option Who) → 3 ≤ length text → get_or text 2 0 ≡ 45 → id ≡ take (length text - 3) (drop 3 text)
     → (let w : Who = record { qualifier = take 2 text; id = id } in result ≡ (if is_partner w then Some w else None)) → result ≡ who_of text
 written_partner text id result long dash front h =

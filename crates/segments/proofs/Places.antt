@@ -35,7 +35,7 @@ skipped_none text e =
     by_test true t f = absurd (cc)
     by_test false t f = ltb-false (position_or_len inside text) (length text) t
 
--- The text is the spelled segment before its first terminator, and what stands behind it.
+-- The text is the spelled segment before its first terminator, and what stands after it.
 spelled_first : (d : Delims) (text : List ℕ) (i : ℕ) → position (λ b. b == d.terminator) text ≡ Some i
     → text ≡ spelled d (slice_split (λ b. b == d.separator) (take i text)) ++ drop (i + 1) text
 spelled_first d text i e = by_parts (cond_some (nat_lt (position_or_len ends text) (length text)) (position_or_len ends text) i e)
@@ -78,7 +78,7 @@ first_none d text t et at =
     let none = cut_none d text (rw et at at) in
     (ap (λ (c : Cut). c.segments) none, ap (λ (c : Cut). c.rest) none)
 
--- A segment and the text behind it are what a call may give.
+-- A segment and the text after it are what a call may give.
 pub gives_first : (s : Uncut) (behind : List ℕ) (p : Piece)
     → (p.delims ≡ s.delims) × ((cut s.delims s.text).segments ≡ p.elements ∷ (cut s.delims behind).segments) × ((cut s.delims s.text).rest ≡ (cut s.delims behind).rest)
     × ((skip : List ℕ) × (s.text ≡ spelled s.delims p.elements ++ (skip ++ behind)) × IsTrue (list_all is_line_end skip) × StartsClean behind)

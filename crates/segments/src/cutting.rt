@@ -47,7 +47,7 @@ fn first_inside(text: &[u8]) -> Option<usize>
     text.iter().position(|b| !(*b == b'\n' || *b == b'\r'))
 }
 
-// The text behind the CR and LF in front.
+// The text after the CR and LF in front.
 #[tactic(auto, using(crate::proofs::Places::skipped_some, crate::proofs::Places::skipped_none))]
 fn skip_line_ends(text: &[u8]) -> &[u8]
     ensures { result.now ≡ meant.skipped text.now }
@@ -65,7 +65,7 @@ fn segment_of(text: &[u8], delims: Delims) -> Segment<'_>
     Segment { text, delims }
 }
 
-// The first segment, and what stands behind it and its CR and LF.
+// The first segment, and what stands after it and its CR and LF.
 fn first_segment<'a>(text: &'a [u8], delims: &Delims) -> Option<(Segment<'a>, &'a [u8])>
     ensures { MatchOption result
         (((meant.cut delims.now text.now).segments ≡ []) × ((meant.cut delims.now text.now).rest ≡ text.now))
@@ -119,7 +119,7 @@ impl<'a> Segment<'a> {
         }
     }
 
-    /// Whether an element, empty or not, stands at the place or behind it.
+    /// Whether an element, empty or not, stands at the place or after it.
     pub fn reaches(&self, n: usize) -> bool
         ensures { result ≡ nat_lt n (length self.now.elements) }
     {

@@ -5,8 +5,8 @@ ghost use Rattle.profile.specs.Header.{are_delimiters, delims_in, is_delimiter};
 use profile::{COMPONENT_AT, ISA_BYTES, SEPARATOR_AT, TERMINATOR_AT};
 use std::marker::Model;
 
-/// The three delimiters of an interchange, as ISA names them by using them: the element separator behind its id, the
-/// component separator as ISA16, and the segment terminator behind that.
+/// The three delimiters of an interchange, as ISA names them by using them: the element separator after its id, the
+/// component separator as ISA16, and the segment terminator after that.
 #[derive(Clone, Copy)]
 pub struct Delims {
     separator: u8,

@@ -16,7 +16,7 @@ fn append_part(out: &mut Vec<u8>, separator: u8, element: &[u8]) -> Result<(), A
     Ok(())
 }
 
-// Appends each element behind a separator, or a beginning of that.
+// Appends each element after a separator, or a beginning of that.
 #[tactic(auto, using(crate::proofs::ExtendsLemmas::extends_trans, crate::proofs::ExtendsLemmas::extends_append))]
 fn append_parts(out: &mut Vec<u8>, separator: u8, elements: &[&[u8]]) -> Result<(), AllocError>
     ensures ok { OnOk result (out.new.items ≡ out.old.items ++ flat_map (λ e. separator ∷ e.now) elements.now) }

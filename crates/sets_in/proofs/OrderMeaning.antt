@@ -168,7 +168,7 @@ no_pin s h = ap (λ (b : Bool). cond b (Some (element s 2)) None) h
 pin_there : (s : Segment) → has_id (codes "N9") s ≡ true → pin_of s ≡ Some (element s 2)
 pin_there s h = ap (λ (b : Bool). cond b (Some (element s 2)) None) h
 
--- what stands behind a line is no pin
+-- what stands after a line is no pin
 unpinned : (ss front : List Segment) (gs : AllGoods) (w76 se : Segment) (k : ℕ) → ss ≡ front ++ (flat_map in_goods gs ++ w76 ∷ se ∷ []) → k ≡ length front + 1
     → AllByRecursion (IsGoods id_of) gs → has_id (codes "N9") w76 ≡ false → pin_of (segment_at ss k) ≡ None
 unpinned ss front [] w76 se k e p h a = ap pin_of (at ss front w76 (se ∷ []) k e p) ∙ no_pin w76 a
@@ -211,7 +211,7 @@ lines_mean ss front (g ∷ gs) w76 se n e p h a =
 abbrev made : Segment → Option Address → List OrderLine → Segment → ℕ → Order
 made w05 address lines w76 position = record { number = element w05 2; address = address; lines = lines; total = value (element w76 1); total_position = position }
 
--- what stands behind the parties
+-- what stands after the parties
 back : OrderSet Segment → List Segment
 back t = t.header ++ (flat_map in_goods t.goods ++ t.w76 ∷ t.se ∷ [])
 

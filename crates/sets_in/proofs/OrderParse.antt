@@ -91,7 +91,7 @@ ended {X} f xs h = with_total (cons_word f xs (codes "W76") (One (codes "SE")) h
     with_total : (x : X) × (ys : List X) × (xs ≡ x ∷ ys) × (f x ≡ codes "W76") × (map f ys ≡ codes "SE" ∷ []) → EndedBy f xs
     with_total (x, ys, e, p, q) = let l = last_word f ys (codes "SE") q in (x, l.0, e ∙ ap (λ y. x ∷ y) l.1, p, l.2)
 
--- the header, and the words of what stands behind it
+-- the header, and the words of what stands after it
 
 abbrev Headed : {X : Type 0} → (X → List ℕ) → List X → Type 0
 Headed {X} f xs = (hs zs : List X) × (xs ≡ hs ++ zs) × AllByRecursion (λ x. IsHeader (f x)) hs × IsWord lines (map f zs)

@@ -110,7 +110,7 @@ lined {X} f xs h = with_goods (goods_word f xs 1 most_lines (codes "W04") (codes
     with_goods : (gs : List (X × X)) × (zs : List X) × (xs ≡ in_pairs gs ++ zs) × AllByRecursion (λ g. (f g.0 ≡ codes "W04") × (f g.1 ≡ codes "N9")) gs × IsWord total (map f zs) → Lined f xs
     with_goods (gs, zs, e, all, w) = let l = ended f zs w in (gs, l.0, l.1, e ∙ ap (λ y. in_pairs gs ++ y) l.2, all, l.3, l.4)
 
--- the header, and the words of what stands behind it
+-- the header, and the words of what stands after it
 abbrev Headed : {X : Type 0} → (X → List ℕ) → List X → Type 0
 Headed {X} f xs = (hs zs : List X) × (xs ≡ hs ++ zs) × AllByRecursion (λ x. IsHeader (f x)) hs × IsWord lines (map f zs)
 

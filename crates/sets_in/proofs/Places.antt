@@ -10,7 +10,7 @@ use Rattle.profile.specs.Cut.{Segment, Piece, segments_of, segment_with, has_id,
 use Rattle.profile.specs.Means as meant
 use Rattle.sets_in.specs.Places.{places_from}
 
--- the segment at a place, and those behind it
+-- the segment at a place, and those after it
 pub left_here : (ps : List Piece) (i : ℕ) (p : Piece) → i < length ps → segments_of (drop i ps) ≡ (get_or ps i p).elements ∷ segments_of (drop (i + 1) ps)
 left_here ps i p h =
     let e : drop i ps ≡ get_or ps i p ∷ drop (i + 1) ps = drop-cons ps i p h ∙ ap (λ n. get_or ps i p ∷ drop n ps) (sym (add-one i)) in

@@ -15,7 +15,7 @@ use Rattle.profile.specs.Words.{Words, has_word, words_after}
 use Rattle.profile.specs.Faults.{SetFault, fault_at, fault_from, inner_fault, place_fault, rows_behind}
 use Rattle.sets_in.specs.Amounts.{IsAmount, HasAmount, HaveAmounts}
 
--- no element of the segment is faulty, behind some other
+-- no element of the segment is faulty, after some other
 abbrev IsGood : Delims → Segment → Type 0
 IsGood d s = (behind : List ℕ) × (option_and_then (λ rows. faulty_element d rows s) (rows_behind behind (id_of s)) ≡ None)
 

@@ -7,7 +7,7 @@ use Rattle.std.proofs.lemmas.Bool.Decides.{nat_tests}
 use Rattle.profile.specs.Means.{spaced}
 use Rattle.sets_in.specs.Spaced.{spaced_with}
 
--- texts behind a beginning
+-- texts after a beginning
 abbrev pub spaced_behind : List ℕ → List (List ℕ) → List ℕ
 spaced_behind out texts = spaced_with out (spaced texts)
 

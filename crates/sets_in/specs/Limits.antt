@@ -7,7 +7,7 @@ use Rattle.profile.specs.Means.{AdviceLine, OrderLine}
 pub record HasFewLines (lines : List AdviceLine) : Type 0 where
   pub few : length lines ≤ most_lines
   pub small : All (λ (l : AdviceLine). l.line.quantity ≤ most_quantity) lines
-  -- a line's N9 has a position behind that of its W04
+  -- a line's N9 has a position after that of its W04
   pub placed : All (λ (l : AdviceLine). l.position < 2 ^ 32 - 1) lines
 
 pub record HasFewOrderLines (lines : List OrderLine) : Type 0 where

@@ -1,4 +1,4 @@
--- Places of segments behind others.
+-- Places of segments after others.
 use Rattle.std.specs.Prelude.{ℕ, List, map, filter}
 use Rattle.std.specs.List.{enumerate_from}
 use Rattle.profile.specs.Cut.{Segment, has_id}

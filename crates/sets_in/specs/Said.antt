@@ -5,7 +5,7 @@ use Rattle.profile.specs.Bytes.{value}
 use Rattle.profile.specs.Cut.{Segment, element, id_of}
 use Rattle.profile.specs.Means.{Advice, AdviceLine}
 
--- ST, W06, the header behind it, W04 and N9 of each line, W03 and SE
+-- ST, W06, the header after it, W04 and N9 of each line, W03 and SE
 pub record AdviceSet : Type 0 where
   pub st : Segment
   pub w06 : Segment

@@ -19,7 +19,7 @@ pub record Goods (X : Type 0) : Type 0 where
   pub w01 : X
   pub n9 : Option X
 
--- ST, W05, the parties, the header behind them, the goods of each line, W76 and SE
+-- ST, W05, the parties, the header after them, the goods of each line, W76 and SE
 pub record OrderSet (X : Type 0) : Type 0 where
   pub st : X
   pub w05 : X
@@ -69,7 +69,7 @@ address_in p =
       place = spaced (element n4 1 ∷ element n4 2 ∷ element n4 3 ∷ []);
     }
 
--- the lines, where the LX of the first has the position; a W01 stands behind its LX
+-- the lines, where the LX of the first has the position; a W01 stands after its LX
 abbrev pub lines_at : ℕ → List (Goods Segment) → List OrderLine
 lines_at n [] = []
 lines_at n (g ∷ gs) =

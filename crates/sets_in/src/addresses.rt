@@ -83,7 +83,7 @@ fn address_of(
     })
 }
 
-/// Where the set says that the goods go: the first N1 with code ST, with the N3 and N4 directly behind it.
+/// Where the set says that the goods go: the first N1 with code ST, with the N3 and N4 directly after it.
 pub(crate) fn ship_to(
     alloc: Global,
     segments: &[Segment<'_>],

@@ -6,7 +6,7 @@ ghost use Rattle.profile.specs.Words as kinds;
 ghost use Rattle.sets_in.specs.Amounts.{IsAmount, IsCounted, HaveAmounts};
 ghost use Rattle.sets_in.specs.Said.{SaysAdvice};
 
-use crate::lines::{AdviceLine, Line};
+use crate::lines::{AdviceLine, Goods};
 use crate::reading::{copied, element_at, element_with, number, place_with};
 use crate::sets::Advice;
 use segments::Segment;
@@ -39,7 +39,7 @@ fn advice_line(
     let lot = copied(alloc, element_at(segments, at + 1, 2))?;
     let quantity = number(element_at(segments, at, 1));
     Ok(AdviceLine {
-        line: Line {
+        line: Goods {
             item,
             lot,
             quantity,

@@ -14,7 +14,7 @@ mod shipping;
 
 pub use acks::{AckIn, ack};
 pub use advices::advice;
-pub use lines::{AdviceLine, Line};
+pub use lines::{AdviceLine, Goods};
 pub use orders::order;
 pub use reading::number;
 pub use sets::{Address, Advice};

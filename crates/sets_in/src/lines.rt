@@ -4,16 +4,16 @@ use std::marker::Model;
 
 /// A quantity of a lot of an item.
 #[derive(Clone, Debug, Drop)]
-pub struct Line {
+pub struct Goods {
     /// The item (W04 or W01, element 5).
     pub item: Vec<u8>,
-    /// The lot (N9 behind it, element 2).
+    /// The lot (N9 after it, element 2).
     pub lot: Vec<u8>,
     /// How much, in the unit EA (element 1).
     pub quantity: u32,
 }
 
-impl Model for Line {
+impl Model for Goods {
     ghost Value = { LineSaid };
 
     ghost view = { λ l. record { item = l.item.items; lot = l.lot.items; quantity = l.quantity } };
@@ -23,8 +23,8 @@ impl Model for Line {
 #[derive(Debug, Drop)]
 pub struct AdviceLine {
     /// What is advised.
-    pub line: Line,
-    /// The position of its W04 in the set, ST at 1; its N9 stands directly behind.
+    pub line: Goods,
+    /// The position of its W04 in the set, ST at 1; its N9 stands directly after.
     pub position: u32,
 }
 

@@ -10,7 +10,7 @@ use std::marker::Model;
 pub struct OrderLine {
     /// The item (W01, element 5).
     pub item: Vec<u8>,
-    /// The lot that it is pinned to (element 2 of the N9 behind its W01), if there is one.
+    /// The lot that it is pinned to (element 2 of the N9 after its W01), if there is one.
     pub pin: Option<Vec<u8>>,
     /// How much, in the unit EA (W01, element 1).
     pub quantity: u32,

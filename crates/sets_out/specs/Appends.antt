@@ -4,7 +4,7 @@ use Rattle.profile.specs.Bytes.{Delims}
 use Rattle.profile.specs.Cut.{Segment}
 use Rattle.profile.specs.Texts.{text_of}
 
--- n segments stand behind what stood before, each of one byte at least
+-- n segments stand after what stood before, each of one byte at least
 pub record Appends (d : Delims) (old new : List ℕ) (ss : List Segment) (n : ℕ) : Type 0 where
   pub text : new ≡ old ++ text_of d ss
   pub count : n ≡ length ss

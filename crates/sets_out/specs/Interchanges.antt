@@ -10,9 +10,9 @@ use Rattle.sets_out.specs.Handed.{function_of, number_of, body_of}
 use Rattle.sets_out.specs.declared.envelopes.Envelope.{Envelope}
 use Rattle.sets_out.specs.declared.sheets.Document.{Document}
 use Rattle.sets_out.specs.declared.interchanges.Answer.{Answer}
-use Rattle.sets_out.specs.declared.interchanges.Refusal.{Refusal}
-use Rattle.sets_out.specs.declared.interchanges.Interchange.{Interchange}
-use Rattle.sets_out.specs.declared.interchanges.Interchange.TheVariants.{Answered, Refused, Documented}
+use Rattle.sets_out.specs.declared.interchanges.NoteAnswer.{NoteAnswer}
+use Rattle.sets_out.specs.declared.interchanges.Outgoing.{Outgoing}
+use Rattle.sets_out.specs.declared.interchanges.Outgoing.TheVariants.{Answered, Refused, Documented}
 
 -- the segments of an interchange
 abbrev pub interchange_segments : Delims → Who → Receiver → Moment → ℕ → List Segment → ℕ → List Segment
@@ -58,13 +58,13 @@ abbrev pub answer_text : Answer → List ℕ
 answer_text a =
     let e = a.envelope in answer_of a.delims e.warehouse e.depositor e.moment e.number a.heading.now a.told.now
 
-abbrev pub refusal_text : Refusal → List ℕ
+abbrev pub refusal_text : NoteAnswer → List ℕ
 refusal_text r = refusal_of r.delims r.warehouse r.moment r.heading.now r.note
 
 abbrev pub handed_text : Envelope → Document → List ℕ
 handed_text e d = document_text e.warehouse e.depositor e.moment e.number (function_of d) (number_of d) (body_of e.moment e.number d)
 
-abbrev pub interchange_text : Interchange → List ℕ
+abbrev pub interchange_text : Outgoing → List ℕ
 interchange_text (Answered a) = answer_text a.now
 interchange_text (Refused r) = refusal_text r.now
 interchange_text (Documented e d) = handed_text e.now d.now

@@ -5,7 +5,7 @@ ghost use Rattle.segments.specs.Extends.{Extends};
 ghost use Rattle.sets_out.specs.Appends.{Appends};
 
 use crate::envelopes::{append_se, append_st};
-use crate::told::{ElementFault, Rejection, SetFault, Told, ToldSet};
+use crate::told::{ElementFault, Rejection, SegmentFault, ToldGroup, ToldSet};
 use crate::writing::append_segment;
 use itoa::Buffer;
 use segments::Delims;
@@ -36,7 +36,7 @@ fn append_element(
 fn append_fault(
     out: &mut Vec<u8>,
     delims: Delims,
-    fault: &Option<SetFault<'_>>,
+    fault: &Option<SegmentFault<'_>>,
 ) -> Result<usize, AllocError>
     ensures ok { IfOk result (λ n. Appends delims out.old.items out.new.items (ak3_segments fault.now) n) }
     ensures kept { Extends out.old.items out.new.items }
@@ -55,7 +55,7 @@ fn append_fault(
     }
 }
 
-// AK5, behind the segment in error where there is one.
+// AK5, after the segment in error where there is one.
 fn append_verdict(
     out: &mut Vec<u8>,
     delims: Delims,
@@ -119,7 +119,7 @@ fn code_of(accepted: usize, received: usize) -> &'static [u8]
 }
 
 // AK9.
-fn append_last(out: &mut Vec<u8>, delims: Delims, told: &Told<'_>) -> Result<usize, AllocError>
+fn append_last(out: &mut Vec<u8>, delims: Delims, told: &ToldGroup<'_>) -> Result<usize, AllocError>
     ensures ok { IfOk result (λ n. Appends delims out.old.items out.new.items ((codes "AK9" ∷ ak901 told.now ∷ decimal told.now.stated ∷ decimal told.now.received ∷ decimal (accepted_sets told.now)
         ∷ option_to_list (option_map decimal told.now.fault)) ∷ []) n) }
     ensures kept { Extends out.old.items out.new.items }
@@ -147,7 +147,7 @@ fn append_last(out: &mut Vec<u8>, delims: Delims, told: &Told<'_>) -> Result<usi
 }
 
 // AK1 to AK9.
-fn append_body(out: &mut Vec<u8>, delims: Delims, told: &Told<'_>) -> Result<usize, AllocError>
+fn append_body(out: &mut Vec<u8>, delims: Delims, told: &ToldGroup<'_>) -> Result<usize, AllocError>
     ensures ok { IfOk result (λ n. Appends delims out.old.items out.new.items (body_997 told.now) n) }
     ensures kept { Extends out.old.items out.new.items }
 {
@@ -162,7 +162,7 @@ pub(crate) fn append_997(
     out: &mut Vec<u8>,
     delims: Delims,
     place: u64,
-    told: &Told<'_>,
+    told: &ToldGroup<'_>,
 ) -> Result<usize, AllocError>
     ensures ok { IfOk result (λ n. Appends delims out.old.items out.new.items (set_of_segments (codes "997") place (body_997 told.now)) n) }
     ensures kept { Extends out.old.items out.new.items }
@@ -179,7 +179,7 @@ pub fn write_997(
     out: &mut Vec<u8>,
     delims: Delims,
     place: u64,
-    told: &Told<'_>,
+    told: &ToldGroup<'_>,
 ) -> Result<(), AllocError>
     ensures ok { OnOk result (out.new.items ≡ out.old.items ++ text_of delims (set_of_segments (codes "997") place (body_997 told.now))) }
     ensures err { OnErr result (out.new.items ≡ out.old.items) }

@@ -63,7 +63,7 @@ pub(crate) fn filled(who: &Who) -> Party<'_>
     }
 }
 
-// Appends each element behind a separator, or a beginning of that.
+// Appends each element after a separator, or a beginning of that.
 #[tactic(auto, using(segments::proofs::ExtendsLemmas::extends_trans, segments::proofs::ExtendsLemmas::extends_append))]
 fn append_elements(out: &mut Vec<u8>, separator: u8, elements: &[&[u8]]) -> Result<(), AllocError>
     ensures ok { OnOk result (out.new.items ≡ out.old.items ++ flat_map (λ e. separator ∷ e.now) elements.now) }
@@ -110,7 +110,7 @@ fn append_tail(out: &mut Vec<u8>, delims: Delims, elements: &[&[u8]]) -> Result<
     Ok(())
 }
 
-// Appends the elements behind the sides and the terminator of ISA, or a beginning of that.
+// Appends the elements after the sides and the terminator of ISA, or a beginning of that.
 fn append_closing(
     out: &mut Vec<u8>,
     delims: Delims,

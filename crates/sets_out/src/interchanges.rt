@@ -23,13 +23,13 @@ pub struct Answer<'a> {
     /// What is repeated of the received ISA; a TA1 stands in the answer where it asks for one.
     pub heading: &'a Heading<'a>,
     /// What each group is told that isn't one of acknowledgments, in the order received: a 997 for each, in one group.
-    pub told: &'a [Told<'a>],
+    pub told: &'a [ToldGroup<'a>],
 }
 
 /// The interchange that refuses one: a TA1 with a note code, under control number 000000000, to ISA05 and ISA06 as they
 /// were received.
 #[derive(Drop)]
-pub struct Refusal<'a> {
+pub struct NoteAnswer<'a> {
     /// The delimiters that were received.
     pub delims: Delims,
     /// Who refuses.
@@ -44,17 +44,21 @@ pub struct Refusal<'a> {
 
 /// An interchange that goes out.
 #[derive(Clone, Copy)]
-pub enum Interchange<'a> {
+pub enum Outgoing<'a> {
     /// An answer; it is empty where no TA1 is asked for and no group is told anything.
     Answered(&'a Answer<'a>),
     /// A refusal.
-    Refused(&'a Refusal<'a>),
+    Refused(&'a NoteAnswer<'a>),
     /// A document, with what stands in its envelopes.
     Documented(&'a Envelope, &'a Document<'a>),
 }
 
 // Appends a 997 for each, from place 1 on, or a beginning of them.
-fn append_997s(out: &mut Vec<u8>, delims: Delims, told: &[Told<'_>]) -> Result<usize, AllocError>
+fn append_997s(
+    out: &mut Vec<u8>,
+    delims: Delims,
+    told: &[ToldGroup<'_>],
+) -> Result<usize, AllocError>
     ensures ok { IfOk result (λ n. Appends delims out.old.items out.new.items (sets_of_segments (codes "997") (map body_997 told.now)) n) }
     ensures kept { Extends out.old.items out.new.items }
 {
@@ -121,7 +125,7 @@ fn is_silent(answer: &Answer<'_>) -> bool
 }
 
 // How many groups acknowledge.
-fn groups(told: &[Told<'_>]) -> u8
+fn groups(told: &[ToldGroup<'_>]) -> u8
     ensures { result ≡ groups_for told.now }
 {
     if told.is_empty() { 0 } else { 1 }
@@ -170,7 +174,7 @@ fn sender<'a>(heading: &Heading<'a>) -> Party<'a>
 }
 
 // Appends a refusal, or a beginning of it.
-fn append_refusal(out: &mut Vec<u8>, refusal: &Refusal<'_>) -> Result<(), AllocError>
+fn append_refusal(out: &mut Vec<u8>, refusal: &NoteAnswer<'_>) -> Result<(), AllocError>
     ensures ok { OnOk result (out.new.items ≡ out.old.items ++ refusal_text refusal.now) }
     ensures kept { Extends out.old.items out.new.items }
 {
@@ -187,19 +191,19 @@ fn append_refusal(out: &mut Vec<u8>, refusal: &Refusal<'_>) -> Result<(), AllocE
     Ok(())
 }
 
-fn append_interchange(out: &mut Vec<u8>, interchange: &Interchange<'_>) -> Result<(), AllocError>
+fn append_interchange(out: &mut Vec<u8>, interchange: &Outgoing<'_>) -> Result<(), AllocError>
     ensures ok { OnOk result (out.new.items ≡ out.old.items ++ interchange_text interchange.now) }
     ensures kept { Extends out.old.items out.new.items }
 {
     match *interchange {
-        Interchange::Answered(answer) => append_answer(out, answer),
-        Interchange::Refused(refusal) => append_refusal(out, refusal),
-        Interchange::Documented(envelope, document) => append_document(out, envelope, document),
+        Outgoing::Answered(answer) => append_answer(out, answer),
+        Outgoing::Refused(refusal) => append_refusal(out, refusal),
+        Outgoing::Documented(envelope, document) => append_document(out, envelope, document),
     }
 }
 
 /// Appends an interchange, from ISA to IEA. After an error, AllocError, the vector holds what it held.
-pub fn write_interchange(out: &mut Vec<u8>, interchange: &Interchange<'_>) -> Result<(), AllocError>
+pub fn write_interchange(out: &mut Vec<u8>, interchange: &Outgoing<'_>) -> Result<(), AllocError>
     ensures ok { OnOk result (out.new.items ≡ out.old.items ++ interchange_text interchange.now) }
     ensures err { OnErr result (out.new.items ≡ out.old.items) }
 {

@@ -8,14 +8,18 @@ ghost use Rattle.sets_out.specs.Handed.{receipt_of};
 
 use crate::envelopes::{append_se, append_st};
 use crate::numbers::date;
-use crate::sheets::{Line, Receipt};
+use crate::sheets::{CountedLine, Receipt};
 use crate::writing::append_segment;
 use itoa::Buffer;
 use segments::{Delims, Moment};
 use std::alloc::AllocError;
 
 // W07 and N9 of a pair, or a beginning of them.
-fn append_line(out: &mut Vec<u8>, delims: Delims, line: &Line<'_>) -> Result<usize, AllocError>
+fn append_line(
+    out: &mut Vec<u8>,
+    delims: Delims,
+    line: &CountedLine<'_>,
+) -> Result<usize, AllocError>
     ensures ok { IfOk result (λ n. Appends delims out.old.items out.new.items (received_line line.now) n) }
     ensures kept { Extends out.old.items out.new.items }
 {
@@ -31,7 +35,11 @@ fn append_line(out: &mut Vec<u8>, delims: Delims, line: &Line<'_>) -> Result<usi
 }
 
 // W07 and N9 of each pair, or a beginning of them.
-fn append_lines(out: &mut Vec<u8>, delims: Delims, lines: &[Line<'_>]) -> Result<usize, AllocError>
+fn append_lines(
+    out: &mut Vec<u8>,
+    delims: Delims,
+    lines: &[CountedLine<'_>],
+) -> Result<usize, AllocError>
     ensures ok { IfOk result (λ n. Appends delims out.old.items out.new.items (flat_map received_line lines.now) n) }
     ensures kept { Extends out.old.items out.new.items }
 {

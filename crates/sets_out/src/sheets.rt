@@ -5,7 +5,7 @@ use std::marker::Model;
 
 /// A quantity of a lot of an item.
 #[derive(Drop)]
-pub struct Line<'a> {
+pub struct CountedLine<'a> {
     /// The item.
     pub item: &'a [u8],
     /// The lot.
@@ -14,7 +14,7 @@ pub struct Line<'a> {
     pub quantity: u64,
 }
 
-impl<'a> Model for Line<'a> {
+impl<'a> Model for CountedLine<'a> {
     ghost Value = { MeantLine };
 
     ghost view = { λ l. record { item = l.item.now; lot = l.lot.now; quantity = l.quantity } };
@@ -28,7 +28,7 @@ pub struct Receipt<'a> {
     /// The shipment of the advice, W0604.
     pub shipment: &'a [u8],
     /// Each pair of item and lot that was advised or counted, with what was counted: 0 where nothing was.
-    pub lines: &'a [Line<'a>],
+    pub lines: &'a [CountedLine<'a>],
     /// The sum of what was counted.
     pub counted: u64,
     /// The sum of what was advised.

@@ -16,7 +16,7 @@ pub struct ElementFault {
 
 /// The segment in error of a set, as AK3 tells it.
 #[derive(Drop)]
-pub struct SetFault<'a> {
+pub struct SegmentFault<'a> {
     /// Its id: AK301.
     pub id: &'a [u8],
     /// Its position in the set, in which ST has 1: AK302.
@@ -35,7 +35,7 @@ impl Model for ElementFault {
     ghost inverse = { λ f. record { place = f.place; code = f.code } };
 }
 
-impl<'a> Model for SetFault<'a> {
+impl<'a> Model for SegmentFault<'a> {
     ghost Value = { MeantFault };
 
     ghost view = { λ f. record { id = f.id.now; position = f.position; code = f.code; element = f.element } };
@@ -47,7 +47,7 @@ pub struct Rejection<'a> {
     /// AK502.
     pub code: u8,
     /// The segment in error, where the code is 5.
-    pub segment: Option<SetFault<'a>>,
+    pub segment: Option<SegmentFault<'a>>,
 }
 
 impl<'a> Model for Rejection<'a> {
@@ -75,7 +75,7 @@ impl<'a> Model for ToldSet<'a> {
 
 /// What a 997 tells of a group.
 #[derive(Drop)]
-pub struct Told<'a> {
+pub struct ToldGroup<'a> {
     /// GS01: AK101.
     pub function: &'a [u8],
     /// GS06: AK102.
@@ -90,7 +90,7 @@ pub struct Told<'a> {
     pub sets: &'a [ToldSet<'a>],
 }
 
-impl<'a> Model for Told<'a> {
+impl<'a> Model for ToldGroup<'a> {
     ghost Value = { Meant };
 
     ghost view = { λ t. record { function = t.function.now; number = t.number.now; stated = t.stated; received = t.received; fault = t.fault; sets = t.sets.now } };

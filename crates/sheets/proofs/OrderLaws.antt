@@ -81,7 +81,7 @@ rest_ascends : (k : Line) (ls : List Line) → is_ascending (k ∷ ls) ≡ true 
 rest_ascends k [] h = refl
 rest_ascends k (l ∷ ls) h = (both_parts (pair_before k l) (is_ascending (l ∷ ls)) h).1
 
--- what is 0 of all lines behind k is 0 of those that ascend behind it
+-- what is 0 of all lines after k is 0 of those that ascend after it
 none_behind : (f : Line → ℕ) (k : Line) (ls : List Line) → ((z : Line) → pair_before k z ≡ true → f z ≡ 0) → is_ascending (k ∷ ls) ≡ true → sum_by f ls ≡ 0
 none_behind f k [] zero h = refl
 none_behind f k (l ∷ ls) zero h =

@@ -137,13 +137,13 @@ impl Line {
     }
 
     // The line of a sheet with its quantity as a number.
-    pub(crate) fn typed(&self, alloc: Global) -> Result<sets_in::Line, AllocError>
+    pub(crate) fn typed(&self, alloc: Global) -> Result<sets_in::Goods, AllocError>
         requires { bytes.value self.now.quantity ≤ most_recounted }
         ensures { IfOk result (λ l. l ≡ clerk.line_of self.now) }
     {
         let item = self.item.clone()?;
         let lot = self.lot.clone()?;
-        Ok(sets_in::Line {
+        Ok(sets_in::Goods {
             item,
             lot,
             quantity: self.amount(),

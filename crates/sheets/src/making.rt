@@ -140,7 +140,7 @@ impl Sheet {
     }
 
     /// Its lines, by item and then lot, with quantities as numbers. The one error is want of memory.
-    pub fn lines(&self, alloc: Global) -> Result<Vec<sets_in::Line>, AllocError>
+    pub fn lines(&self, alloc: Global) -> Result<Vec<sets_in::Goods>, AllocError>
         ensures lines { IfOk result (λ v. v.items ≡ self.now) }
         ensures sheet { clerk.is_sheet clerk.RecountSheet self.now ≡ true }
     {

@@ -72,7 +72,7 @@ found_le {X} f p (y ∷ ys) x h = elim (cases_Bool (p y)) [
   | inr e ↦ omega (arith, sum_by-cons f y ys, found_le f p ys x (ap (λ (v : Bool). cond v (Some y) (find p ys)) (sym e) ∙ h))
 ]
 
--- put where nothing was, or behind all
+-- put where nothing was, or after all
 pub put_new : {X : Type 0} (b : Bool) (o : Option X) (x : X) → (b ≡ true → o ≡ None) → cond b (Some x) o ≡ option_or o (cond b (Some x) None)
 put_new {X} true o x h = ap (λ (y : Option X). option_or y (Some x)) (sym (h refl))
 put_new false None x h = refl

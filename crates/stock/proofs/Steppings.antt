@@ -37,7 +37,7 @@ change_sorted (change.Order k) p s = record { rows = s.rows; advices = s.advices
 change_sorted (change.Sent n f) p s = record { rows = s.rows; advices = s.advices; orders = s.orders; documents = sent_sorted n (function_text f) p.documents (with_sent n (function_text f) p.documents) refl s.documents }
 change_sorted (change.Document n v) p s = record { rows = s.rows; advices = s.advices; orders = s.orders; documents = said_sorted n v p.documents s.documents }
 
--- rows, and behind them other changes
+-- rows, and after them other changes
 abbrev pub rows_and : List LotRow → List Change → List Change
 rows_and cs rest = map change.Stock cs ++ rest
 

@@ -10,7 +10,7 @@ abbrev pub put_by : {X K : Type 0} → (K → K → Bool) → (X → K) → X �
 put_by less key x [] = x ∷ []
 put_by less key x (y ∷ ys) = if less (key x) (key y) then x ∷ y ∷ ys else (if less (key y) (key x) then y ∷ put_by less key x ys else x ∷ ys)
 
--- whether each key comes before all behind it
+-- whether each key comes before all after it
 abbrev pub rises_by : {X K : Type 0} → (K → K → Bool) → (X → K) → List X → Bool
 rises_by less key [] = true
 rises_by less key (x ∷ xs) = list_all (λ y. less (key x) (key y)) xs && rises_by less key xs

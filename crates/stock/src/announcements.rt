@@ -15,11 +15,11 @@ use crate::lines::advised;
 use crate::page::Page;
 use crate::rows::{Column, add_lines, touched};
 use crate::steps::{Change, Step, Stop};
-use sets_in::{Advice, Line};
+use sets_in::{Advice, Goods};
 use std::alloc::{AllocError, Global};
 
 // An advice that is opened.
-fn opened(alloc: Global, advice: &Advice, lines: Vec<Line>) -> Result<KnownAdvice, AllocError>
+fn opened(alloc: Global, advice: &Advice, lines: Vec<Goods>) -> Result<KnownAdvice, AllocError>
     requires lines { lines.items ≡ meant_lines advice.now }
     requires few { length lines.items ≤ most_lines }
     ensures { IfOk result (λ known. known ≡ opened advice.now) }

@@ -32,7 +32,7 @@ impl Function {
 
 /// A document that was sent.
 #[derive(Clone, Debug, Drop)]
-pub struct Document {
+pub struct KnownDocument {
     /// The number of its entry, 1 to 999,999.
     pub n: u32,
     /// What kind of document it is.
@@ -41,7 +41,7 @@ pub struct Document {
     pub said: Option<bool>,
 }
 
-impl Model for Document {
+impl Model for KnownDocument {
     ghost use Rattle.profile.specs.Page.{PageDocument};
     ghost use Rattle.stock.specs.Functions.{function_text};
 
@@ -50,7 +50,7 @@ impl Model for Document {
     ghost view = { λ d. record { n = d.n; function = function_text d.function; said = d.said } };
 }
 
-impl Document {
+impl KnownDocument {
     // Whether it is under this number.
     pub(crate) fn is_under(&self, n: u32) -> bool
         ensures { result ≡ is_document n self.now }

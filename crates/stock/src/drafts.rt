@@ -3,7 +3,7 @@ ghost use Rattle.stock.specs.Pages.{PageFacts, AreSorted};
 ghost use Rattle.stock.specs.Puts.{put_change};
 ghost use Rattle.stock.specs.declared.steps.Change.TheVariants as changed;
 
-use crate::documents::{Document, Function};
+use crate::documents::{Function, KnownDocument};
 use crate::known_advices::KnownAdvice;
 use crate::known_orders::KnownOrder;
 use crate::rows::{Row, put_row};
@@ -18,7 +18,7 @@ pub(crate) struct Draft {
     pub(crate) rows: Vec<Row>,
     pub(crate) advices: Vec<KnownAdvice>,
     pub(crate) orders: Vec<KnownOrder>,
-    pub(crate) documents: Vec<Document>,
+    pub(crate) documents: Vec<KnownDocument>,
     pub(crate) entries: u32,
     pub(crate) recent: u32,
 }

@@ -5,7 +5,7 @@ ghost use Rattle.profile.specs.Page.{PageAdvice};
 ghost use Rattle.stock.specs.Pages.{is_shipment};
 ghost use Rattle.stock.specs.Steps.{closed_advice};
 
-use sets_in::Line;
+use sets_in::Goods;
 use std::alloc::AllocError;
 use std::marker::Model;
 
@@ -14,7 +14,7 @@ use std::marker::Model;
 pub struct KnownAdvice {
     shipment: Vec<u8>,
     order: Vec<u8>,
-    lines: Vec<Line>,
+    lines: Vec<Goods>,
     is_open: bool,
 }
 
@@ -28,7 +28,7 @@ impl Model for KnownAdvice {
 
 impl KnownAdvice {
     /// An advice of these numbers and at most 99 lines; it is open until it is counted.
-    pub fn new(shipment: Vec<u8>, order: Vec<u8>, lines: Vec<Line>, is_open: bool) -> KnownAdvice
+    pub fn new(shipment: Vec<u8>, order: Vec<u8>, lines: Vec<Goods>, is_open: bool) -> KnownAdvice
         requires { length lines.items ≤ most_lines }
         ensures { result ≡ record { shipment = shipment.items; order = order.items; lines = lines.items; is_open = is_open } }
     {
@@ -76,7 +76,7 @@ impl KnownAdvice {
     }
 
     /// What is advised, in the order of its set.
-    pub fn lines(&self) -> &[Line]
+    pub fn lines(&self) -> &[Goods]
         ensures { result.now ≡ self.now.lines }
     {
         &self.lines
@@ -107,7 +107,7 @@ impl KnownAdvice {
 }
 
 // The sum of the quantities of lines.
-fn total(lines: &[Line]) -> u64
+fn total(lines: &[Goods]) -> u64
     requires { length lines.now ≤ most_lines }
     ensures { result ≡ sum_by (λ l. l.quantity) lines.now }
 {

@@ -4,7 +4,7 @@ ghost use Rattle.profile.specs.Page.{PageLine, PageOrder};
 ghost use Rattle.stock.specs.Pages.{is_number};
 ghost use Rattle.stock.specs.Steps.{closed_order};
 
-use sets_in::{Address, Line};
+use sets_in::{Address, Goods};
 use std::alloc::AllocError;
 use std::marker::Model;
 
@@ -35,7 +35,7 @@ pub struct KnownOrder {
     /// Its lines, in the order of its set.
     pub lines: Vec<KnownLine>,
     /// What is reserved for it, by item and lot, each above 0; nothing where it was picked.
-    pub reserved: Vec<Line>,
+    pub reserved: Vec<Goods>,
     /// Whether it hasn't been picked yet.
     pub is_open: bool,
 }

@@ -26,7 +26,7 @@ mod steps;
 pub use acknowledgments::acknowledge;
 pub use allotment::allot;
 pub use announcements::announce;
-pub use documents::{Document, Function};
+pub use documents::{Function, KnownDocument};
 pub use known_advices::KnownAdvice;
 pub use known_orders::{KnownLine, KnownOrder};
 pub use page::Page;

@@ -6,18 +6,18 @@ ghost use Rattle.profile.specs.Page.{page_line, reserved_lines};
 ghost use Rattle.stock.specs.Steps.{exceeds};
 
 use crate::known_orders::KnownLine;
-use sets_in::{AdviceLine, Line, OrderLine};
+use sets_in::{AdviceLine, Goods, OrderLine};
 use std::alloc::{AllocError, Global};
 
 // A copy of a line.
-fn copied(line: &Line) -> Result<Line, AllocError>
+fn copied(line: &Goods) -> Result<Goods, AllocError>
     ensures { IfOk result (λ copy. copy ≡ line.now) }
 {
     line.clone()
 }
 
 // A copy of the lines.
-fn copied_lines(alloc: Global, lines: &[Line]) -> Result<Vec<Line>, AllocError>
+fn copied_lines(alloc: Global, lines: &[Goods]) -> Result<Vec<Goods>, AllocError>
     ensures { IfOk result (λ copy. copy.items ≡ lines.now) }
 {
     let mut copy = Vec::new(alloc);
@@ -27,12 +27,12 @@ fn copied_lines(alloc: Global, lines: &[Line]) -> Result<Vec<Line>, AllocError>
     Ok(copy)
 }
 
-// Copies of lines, and of others behind them.
+// Copies of lines, and of others after them.
 pub(crate) fn joined(
     alloc: Global,
-    lines: &[Line],
-    others: &[Line],
-) -> Result<Vec<Line>, AllocError>
+    lines: &[Goods],
+    others: &[Goods],
+) -> Result<Vec<Goods>, AllocError>
     ensures { IfOk result (λ joined. joined.items ≡ lines.now ++ others.now) }
 {
     let mut joined = copied_lines(alloc, lines)?;
@@ -41,7 +41,7 @@ pub(crate) fn joined(
 }
 
 // What the lines of an advice advise.
-pub(crate) fn advised(alloc: Global, lines: &[AdviceLine]) -> Result<Vec<Line>, AllocError>
+pub(crate) fn advised(alloc: Global, lines: &[AdviceLine]) -> Result<Vec<Goods>, AllocError>
     ensures { IfOk result (λ copy. copy.items ≡ map (λ l. l.line) lines.now) }
 {
     let mut copy = Vec::new(alloc);
@@ -79,7 +79,7 @@ pub(crate) fn known_lines(alloc: Global, lines: &[OrderLine]) -> Result<Vec<Know
 }
 
 // Whether a line stands before another, by item and then by lot bytes.
-fn comes_before(line: &Line, other: &Line) -> bool
+fn comes_before(line: &Goods, other: &Goods) -> bool
     ensures { result ≡ pair_before line.now other.now }
 {
     if line.item == other.item {
@@ -89,7 +89,7 @@ fn comes_before(line: &Line, other: &Line) -> bool
 }
 
 // Where a line belongs, if its pair isn't there.
-fn place_among(lines: &[Line], new: &Line) -> Option<usize>
+fn place_among(lines: &[Goods], new: &Goods) -> Option<usize>
     ensures { MatchOption result (placed pair_before new.now lines.now ≡ lines.now) (λ i. (i ≤ length lines.now) × (placed pair_before new.now lines.now ≡ insert lines.now i new.now)) }
 {
     for (i, other) in lines.iter().enumerate() {
@@ -104,7 +104,7 @@ fn place_among(lines: &[Line], new: &Line) -> Option<usize>
 }
 
 // Puts a line in its place.
-fn place(lines: &mut Vec<Line>, new: Line) -> Result<(), AllocError>
+fn place(lines: &mut Vec<Goods>, new: Goods) -> Result<(), AllocError>
     ensures { OnOk result (lines.new.items ≡ placed pair_before new lines.old.items) }
 {
     if let Some(i) = place_among(lines, &new) {
@@ -114,7 +114,7 @@ fn place(lines: &mut Vec<Line>, new: Line) -> Result<(), AllocError>
 }
 
 // Puts a copy of a share in its place, if it is above 0.
-fn reserve_share(lines: &mut Vec<Line>, share: &Line) -> Result<(), AllocError>
+fn reserve_share(lines: &mut Vec<Goods>, share: &Goods) -> Result<(), AllocError>
     ensures { OnOk result (lines.new.items ≡ (if nat_lt 0 share.now.quantity then placed pair_before share.now lines.old.items else lines.old.items)) }
 {
     if share.quantity > 0 {
@@ -124,7 +124,7 @@ fn reserve_share(lines: &mut Vec<Line>, share: &Line) -> Result<(), AllocError>
 }
 
 // The shares above 0, by item and lot.
-pub(crate) fn reserved(alloc: Global, shares: &[Line]) -> Result<Vec<Line>, AllocError>
+pub(crate) fn reserved(alloc: Global, shares: &[Goods]) -> Result<Vec<Goods>, AllocError>
     ensures { IfOk result (λ lines. lines.items ≡ reserved_lines shares.now) }
 {
     let mut lines = Vec::new(alloc);
@@ -135,14 +135,14 @@ pub(crate) fn reserved(alloc: Global, shares: &[Line]) -> Result<Vec<Line>, Allo
 }
 
 // Whether a line is of the pair.
-fn is_of(line: &Line, item: &[u8], lot: &[u8]) -> bool
+fn is_of(line: &Goods, item: &[u8], lot: &[u8]) -> bool
     ensures { result ≡ is_pair item.now lot.now line.now }
 {
     line.item.as_slice() == item && line.lot.as_slice() == lot
 }
 
 // The quantity that lines give a pair.
-fn quantity_of(lines: &[Line], item: &[u8], lot: &[u8]) -> u64
+fn quantity_of(lines: &[Goods], item: &[u8], lot: &[u8]) -> u64
     requires { quantity_of lines.now item.now lot.now < 2 ^ 64 }
     ensures { result ≡ quantity_of lines.now item.now lot.now }
 {
@@ -156,7 +156,7 @@ fn quantity_of(lines: &[Line], item: &[u8], lot: &[u8]) -> u64
 }
 
 /// Whether one of the lines exceeds what is reserved of its pair.
-pub(crate) fn exceeds(reserved: &[Line], lines: &[Line]) -> bool
+pub(crate) fn exceeds(reserved: &[Goods], lines: &[Goods]) -> bool
     requires { (item lot : List ℕ) → quantity_of reserved.now item lot < 2 ^ 64 }
     ensures { result ≡ list_any (exceeds reserved.now) lines.now }
 {

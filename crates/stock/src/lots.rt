@@ -8,7 +8,7 @@ ghost use Rattle.stock.specs.Keyed.{IsSorted};
 ghost use Rattle.stock.specs.Lots.{is_lot_of, rank_of, ranks_of, free_in, shares_in, all_shares_in};
 
 use crate::rows::{Column, Row, amount_of};
-use sets_in::{Line, OrderLine};
+use sets_in::{Goods, OrderLine};
 use std::alloc::{AllocError, Global};
 use std::marker::Model;
 
@@ -100,7 +100,7 @@ fn item_start(rows: &[Row], item: &[u8]) -> usize
     rows.partition_point(|row| row.is_before_item(item))
 }
 
-// Where the rows of an item end: those from there on are of items behind it.
+// Where the rows of an item end: those from there on are of items after it.
 fn item_end(rows: &[Row], item: &[u8]) -> usize
     requires { IsSorted rows.now }
     ensures bound { result ≤ length rows.now }
@@ -125,10 +125,10 @@ fn lots(alloc: Global, rows: &[Row], item: &[u8]) -> Result<Vec<Ranked>, AllocEr
 }
 
 // A line of so much of a pair.
-fn new_line(alloc: Global, item: &[u8], lot: &[u8], quantity: u32) -> Result<Line, AllocError>
+fn new_line(alloc: Global, item: &[u8], lot: &[u8], quantity: u32) -> Result<Goods, AllocError>
     ensures { IfOk result (λ line. line ≡ record { item = item.now; lot = lot.now; quantity = quantity }) }
 {
-    Ok(Line {
+    Ok(Goods {
         item: item.to_vec(alloc)?,
         lot: lot.to_vec(alloc)?,
         quantity,
@@ -162,7 +162,7 @@ fn share_of(left: u32, free: u64) -> u32
 }
 
 // What a line of an order is given of each lot that it may have, 0 included.
-fn shares(alloc: Global, rows: &[Row], line: &OrderLine) -> Result<Vec<Line>, AllocError>
+fn shares(alloc: Global, rows: &[Row], line: &OrderLine) -> Result<Vec<Goods>, AllocError>
     requires { IsSorted rows.now }
     ensures { IfOk result (λ shares. shares.items ≡ shares_in rows.now line.now) }
 {
@@ -184,7 +184,7 @@ pub(crate) fn all_shares(
     alloc: Global,
     rows: &[Row],
     lines: &[OrderLine],
-) -> Result<Vec<Line>, AllocError>
+) -> Result<Vec<Goods>, AllocError>
     requires { IsSorted rows.now }
     ensures { IfOk result (λ all. all.items ≡ all_shares_in rows.now lines.now) }
 {

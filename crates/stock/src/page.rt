@@ -23,7 +23,7 @@ pub struct Page {
     pub(crate) rows: Vec<Row>,
     pub(crate) advices: Vec<KnownAdvice>,
     pub(crate) orders: Vec<KnownOrder>,
-    pub(crate) documents: Vec<Document>,
+    pub(crate) documents: Vec<KnownDocument>,
     pub(crate) entries: u32,
     pub(crate) recent: u32,
 }
@@ -59,7 +59,7 @@ impl Page {
         rows: Vec<Row>,
         advices: Vec<KnownAdvice>,
         orders: Vec<KnownOrder>,
-        documents: Vec<Document>,
+        documents: Vec<KnownDocument>,
         entries: u32,
     ) -> Page
         requires { IsSound (record { rows = rows.items; advices = advices.items; orders = orders.items; documents = documents.items; entries = entries; recent = 0 }) }
@@ -135,7 +135,7 @@ impl Page {
     }
 
     /// The documents that were sent, one for each number of an entry, by that.
-    pub fn documents(&self) -> &[Document]
+    pub fn documents(&self) -> &[KnownDocument]
         ensures { result.now ≡ self.now.documents }
     {
         &self.documents
@@ -191,7 +191,7 @@ impl Page {
     }
 
     // The document with a number, if there is one.
-    pub(crate) fn document(&self, n: u32) -> Option<&Document>
+    pub(crate) fn document(&self, n: u32) -> Option<&KnownDocument>
         ensures { MatchOption result (document_at n self.now.documents ≡ None) (λ d. document_at n self.now.documents ≡ Some d.now) }
     {
         match place_of_document(&self.documents, n) {
@@ -201,7 +201,7 @@ impl Page {
     }
 
     /// The page with one event more: what the step of this page changes is put in, each row by its key. Its time grows with the
-    /// changes and, where a row is new, with what stands behind its place. Want of memory is the one error; the page is given up.
+    /// changes and, where a row is new, with what stands after its place. Want of memory is the one error; the page is given up.
     pub fn with(self, step: &Step) -> Result<Page, AllocError>
         requires { IsSound (put step.now.changes.items self) }
         ensures { IfOk result (λ page. page ≡ put step.now.changes.items self) }
@@ -271,7 +271,7 @@ fn copied_orders(orders: &Vec<KnownOrder>) -> Result<Vec<KnownOrder>, AllocError
     orders.clone()
 }
 
-fn copied_documents(documents: &Vec<Document>) -> Result<Vec<Document>, AllocError>
+fn copied_documents(documents: &Vec<KnownDocument>) -> Result<Vec<KnownDocument>, AllocError>
     ensures { IfOk result (λ copy. copy.items ≡ documents.now.items) }
 {
     documents.clone()

@@ -16,12 +16,12 @@ use crate::documents::Function;
 use crate::page::Page;
 use crate::rows::{Column, Row, amount_of, set_lines, since_of, touched};
 use crate::steps::{Change, Step, Stop};
-use sets_in::Line;
+use sets_in::Goods;
 use sheets::Sheet;
 use std::alloc::{AllocError, Global};
 
 // Whether no count named the pair of one of the lines.
-fn has_unknown(rows: &[Row], lines: &[Line]) -> bool
+fn has_unknown(rows: &[Row], lines: &[Goods]) -> bool
     requires { IsSorted rows.now }
     ensures { result ≡ list_any (is_unknown rows.now) lines.now }
 {
@@ -34,7 +34,7 @@ fn has_unknown(rows: &[Row], lines: &[Line]) -> bool
 }
 
 // Whether a line is below what is reserved of its pair.
-fn is_below(rows: &[Row], line: &Line) -> bool
+fn is_below(rows: &[Row], line: &Goods) -> bool
     requires { IsSorted rows.now }
     ensures { result ≡ is_below rows.now line.now }
 {
@@ -42,7 +42,7 @@ fn is_below(rows: &[Row], line: &Line) -> bool
 }
 
 // Whether one of the lines is below what is reserved of its pair.
-fn has_below(rows: &[Row], lines: &[Line]) -> bool
+fn has_below(rows: &[Row], lines: &[Goods]) -> bool
     requires { IsSorted rows.now }
     ensures { result ≡ list_any (is_below rows.now) lines.now }
 {
@@ -55,7 +55,7 @@ fn has_below(rows: &[Row], lines: &[Line]) -> bool
 }
 
 // Whether a line is what is on hand of its pair.
-fn is_on_hand(rows: &[Row], line: &Line) -> bool
+fn is_on_hand(rows: &[Row], line: &Goods) -> bool
     requires { IsSorted rows.now }
     ensures { result ≡ is_on_hand rows.now line.now }
 {
@@ -63,7 +63,7 @@ fn is_on_hand(rows: &[Row], line: &Line) -> bool
 }
 
 // Whether each line is what is on hand of its pair.
-fn are_on_hand(rows: &[Row], lines: &[Line]) -> bool
+fn are_on_hand(rows: &[Row], lines: &[Goods]) -> bool
     requires { IsSorted rows.now }
     ensures { result ≡ list_all (is_on_hand rows.now) lines.now }
 {

@@ -17,7 +17,7 @@ use crate::lots::all_shares;
 use crate::page::Page;
 use crate::rows::{Column, add_lines, touched};
 use crate::steps::{Change, Step, Stop};
-use sets_in::{Address, Line, Order};
+use sets_in::{Address, Goods, Order};
 use std::alloc::{AllocError, Global};
 
 // A copy of the address of an order.
@@ -34,8 +34,8 @@ fn copied_address(order: &Order) -> Result<Option<Address>, AllocError>
 fn opened(
     alloc: Global,
     order: &Order,
-    shares: &[Line],
-    lines: Vec<Line>,
+    shares: &[Goods],
+    lines: Vec<Goods>,
 ) -> Result<KnownOrder, AllocError>
     requires { lines.items ≡ reserved_lines shares.now }
     ensures { IfOk result (λ known. known ≡ opened_order order.now shares.now) }
@@ -57,7 +57,7 @@ fn changes(
     alloc: Global,
     page: &Page,
     order: &Order,
-    shares: &[Line],
+    shares: &[Goods],
 ) -> Result<Vec<Change>, AllocError>
     requires room { page.now.recent < 1000 }
     requires unknown { order_at order.now.number page.now.orders ≡ None }

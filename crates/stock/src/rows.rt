@@ -10,7 +10,7 @@ ghost use Rattle.stock.specs.Touched.{IsTouched, IsTouchedBy};
 ghost use Rattle.stock.specs.Moved.{IsPlace, IsPlaced, IsAdded, IsTaken, IsMarked, IsCounted, IsRaised, IsShipped, IsSet};
 ghost use Rattle.stock.specs.Columns.{column_of};
 
-use sets_in::Line;
+use sets_in::Goods;
 use std::alloc::{AllocError, Global};
 use std::marker::Model;
 
@@ -59,7 +59,7 @@ impl Row {
     }
 
     /// Whether it is the row of the line's pair.
-    pub fn is_for(&self, line: &Line) -> bool
+    pub fn is_for(&self, line: &Goods) -> bool
         ensures { result ≡ is_row line.now.item line.now.lot self.now }
     {
         self.is_of(&line.item, &line.lot)
@@ -82,7 +82,7 @@ impl Row {
         self.item.as_slice().cmp(&item).is_lt()
     }
 
-    // Whether its item comes behind another.
+    // Whether its item comes after another.
     pub(crate) fn is_behind_item(&self, item: &[u8]) -> bool
         ensures { result ≡ comes_before item.now self.now.item }
     {
@@ -110,7 +110,7 @@ impl Row {
     }
 
     // The row of a line's pair, with nothing in it.
-    fn blank(alloc: Global, line: &Line) -> Result<Row, AllocError>
+    fn blank(alloc: Global, line: &Goods) -> Result<Row, AllocError>
         ensures { IfOk result (λ row. row ≡ blank line.now) }
     {
         Ok(Row {
@@ -219,7 +219,7 @@ pub(crate) fn put_row(rows: &mut Vec<Row>, row: Row) -> Result<(), AllocError>
 }
 
 // The rows of the pairs that the lines name, as they are.
-pub(crate) fn touched(alloc: Global, rows: &[Row], lines: &[Line]) -> Result<Vec<Row>, AllocError>
+pub(crate) fn touched(alloc: Global, rows: &[Row], lines: &[Goods]) -> Result<Vec<Row>, AllocError>
     requires { IsSorted rows.now }
     ensures { IfOk result (λ touched. IsTouched lines.now rows.now touched.items) }
 {
@@ -231,7 +231,7 @@ pub(crate) fn touched(alloc: Global, rows: &[Row], lines: &[Line]) -> Result<Vec
 }
 
 // Adds a copy of the row of a line's pair, if there is one.
-fn touch(rows: &[Row], touched: &mut Vec<Row>, line: &Line) -> Result<(), AllocError>
+fn touch(rows: &[Row], touched: &mut Vec<Row>, line: &Goods) -> Result<(), AllocError>
     requires rows { IsSorted rows.now }
     requires touched { IsSorted touched.old.items }
     ensures { OnOk result (IsTouchedBy line.now rows.now touched.old.items touched.new.items) }
@@ -265,7 +265,7 @@ pub(crate) fn since_of(rows: &[Row], item: &[u8], lot: &[u8]) -> u32
 }
 
 // The place of the line's row, which is made where there is none.
-fn placed(alloc: Global, rows: &mut Vec<Row>, line: &Line) -> Result<usize, AllocError>
+fn placed(alloc: Global, rows: &mut Vec<Row>, line: &Goods) -> Result<usize, AllocError>
     requires { IsSorted rows.old.items }
     ensures { IfOk result (λ i. IsPlaced rows.old.items rows.new.items line.now i) }
 {
@@ -282,7 +282,7 @@ fn add_line(
     alloc: Global,
     rows: &mut Vec<Row>,
     column: Column,
-    line: &Line,
+    line: &Goods,
 ) -> Result<(), AllocError>
     requires sorted { IsSorted rows.old.items }
     requires fits { told (amount (column_of column)) line.now.item line.now.lot rows.old.items + line.now.quantity < 2 ^ 64 }
@@ -295,7 +295,7 @@ fn add_line(
 }
 
 // Takes a line from a column.
-fn take_line(rows: &mut Vec<Row>, column: Column, line: &Line)
+fn take_line(rows: &mut Vec<Row>, column: Column, line: &Goods)
     requires sorted { IsSorted rows.old.items }
     requires there { line.now.quantity ≤ told (amount (column_of column)) line.now.item line.now.lot rows.old.items }
     ensures { IsTaken (column_of column) (line.now ∷ []) rows.old.items rows.new.items }
@@ -307,7 +307,7 @@ fn take_line(rows: &mut Vec<Row>, column: Column, line: &Line)
 }
 
 // Adds a line to a column of its row, if there is one.
-fn raise_line(rows: &mut Vec<Row>, column: Column, line: &Line)
+fn raise_line(rows: &mut Vec<Row>, column: Column, line: &Goods)
     requires sorted { IsSorted rows.old.items }
     requires fits { told (amount (column_of column)) line.now.item line.now.lot rows.old.items + line.now.quantity < 2 ^ 64 }
     requires there { told one line.now.item line.now.lot rows.old.items ≡ 0 → line.now.quantity ≡ 0 }
@@ -320,7 +320,7 @@ fn raise_line(rows: &mut Vec<Row>, column: Column, line: &Line)
 }
 
 // Adds the lines to a column of their rows; a line whose pair has no row is of nothing.
-pub(crate) fn raise_lines(rows: &mut Vec<Row>, column: Column, lines: &[Line])
+pub(crate) fn raise_lines(rows: &mut Vec<Row>, column: Column, lines: &[Goods])
     requires sorted { IsSorted rows.old.items }
     requires fits { (item lot : List ℕ) → told (amount (column_of column)) item lot rows.old.items + quantity_of lines.now item lot < 2 ^ 64 }
     requires there { (item lot : List ℕ) → told one item lot rows.old.items ≡ 0 → quantity_of lines.now item lot ≡ 0 }
@@ -332,7 +332,7 @@ pub(crate) fn raise_lines(rows: &mut Vec<Row>, column: Column, lines: &[Line])
 }
 
 // Takes the sheet from what is on hand and adds it to what was shipped; takes what was reserved.
-pub(crate) fn ship(rows: &mut Vec<Row>, reserved: &[Line], sheet: &[Line])
+pub(crate) fn ship(rows: &mut Vec<Row>, reserved: &[Goods], sheet: &[Goods])
     requires sorted { IsSorted rows.old.items }
     requires on_hand { (item lot : List ℕ) → quantity_of sheet.now item lot ≤ told (amount OnHand) item lot rows.old.items }
     requires fits { (item lot : List ℕ) → told (amount Shipped) item lot rows.old.items + quantity_of sheet.now item lot < 2 ^ 64 }
@@ -345,7 +345,7 @@ pub(crate) fn ship(rows: &mut Vec<Row>, reserved: &[Line], sheet: &[Line])
 }
 
 // Sets what is on hand of the line's pair.
-fn set_line(rows: &mut Vec<Row>, line: &Line)
+fn set_line(rows: &mut Vec<Row>, line: &Goods)
     requires sorted { IsSorted rows.old.items }
     requires there { 1 ≤ told one line.now.item line.now.lot rows.old.items }
     ensures { IsSet (line.now ∷ []) rows.old.items rows.new.items }
@@ -357,7 +357,7 @@ fn set_line(rows: &mut Vec<Row>, line: &Line)
 }
 
 // Sets what is on hand of the lines' pairs.
-pub(crate) fn set_lines(rows: &mut Vec<Row>, lines: &[Line])
+pub(crate) fn set_lines(rows: &mut Vec<Row>, lines: &[Goods])
     requires sorted { IsSorted rows.old.items }
     requires there { (item lot : List ℕ) → named_by lines.now item lot ≤ told one item lot rows.old.items }
     ensures { IsSet lines.now rows.old.items rows.new.items }
@@ -372,7 +372,7 @@ pub(crate) fn add_lines(
     alloc: Global,
     rows: &mut Vec<Row>,
     column: Column,
-    lines: &[Line],
+    lines: &[Goods],
 ) -> Result<(), AllocError>
     requires sorted { IsSorted rows.old.items }
     requires fits { (item lot : List ℕ) → told (amount (column_of column)) item lot rows.old.items + quantity_of lines.now item lot < 2 ^ 64 }
@@ -385,7 +385,7 @@ pub(crate) fn add_lines(
 }
 
 // Takes the lines from a column.
-pub(crate) fn take_lines(rows: &mut Vec<Row>, column: Column, lines: &[Line])
+pub(crate) fn take_lines(rows: &mut Vec<Row>, column: Column, lines: &[Goods])
     requires sorted { IsSorted rows.old.items }
     requires there { (item lot : List ℕ) → quantity_of lines.now item lot ≤ told (amount (column_of column)) item lot rows.old.items }
     ensures { IsTaken (column_of column) lines.now rows.old.items rows.new.items }
@@ -396,7 +396,7 @@ pub(crate) fn take_lines(rows: &mut Vec<Row>, column: Column, lines: &[Line])
 }
 
 // Numbers the line's row, if it has no number.
-fn mark_line(rows: &mut Vec<Row>, n: u32, line: &Line)
+fn mark_line(rows: &mut Vec<Row>, n: u32, line: &Goods)
     requires sorted { IsSorted rows.old.items }
     requires there { 1 ≤ told one line.now.item line.now.lot rows.old.items }
     ensures { IsMarked n (line.now ∷ []) rows.old.items rows.new.items }
@@ -408,7 +408,7 @@ fn mark_line(rows: &mut Vec<Row>, n: u32, line: &Line)
 }
 
 // Numbers the rows of the lines that have no number.
-pub(crate) fn mark_lines(rows: &mut Vec<Row>, n: u32, lines: &[Line])
+pub(crate) fn mark_lines(rows: &mut Vec<Row>, n: u32, lines: &[Goods])
     requires positive { 0 < n }
     requires sorted { IsSorted rows.old.items }
     requires there { (item lot : List ℕ) → named_by lines.now item lot ≤ told one item lot rows.old.items }
@@ -424,8 +424,8 @@ pub(crate) fn count(
     alloc: Global,
     rows: &mut Vec<Row>,
     n: u32,
-    expected: &[Line],
-    sheet: &[Line],
+    expected: &[Goods],
+    sheet: &[Goods],
 ) -> Result<(), AllocError>
     requires positive { 0 < n }
     requires sorted { IsSorted rows.old.items }

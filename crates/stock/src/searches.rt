@@ -5,7 +5,7 @@ ghost use Rattle.stock.specs.Keyed.{rises_by, IsRank, shipment_of, number_of, en
 ghost use Rattle.stock.specs.Pages.{IsAt, is_shipment, is_number, is_document, advice_at, order_at, document_at};
 ghost use Rattle.stock.specs.Steps.{with_sent, with_said};
 
-use crate::documents::{Document, Function};
+use crate::documents::{Function, KnownDocument};
 use crate::known_advices::KnownAdvice;
 use crate::known_orders::KnownOrder;
 use std::alloc::AllocError;
@@ -88,7 +88,7 @@ pub(crate) fn put_order(orders: &mut Vec<KnownOrder>, order: KnownOrder) -> Resu
 }
 
 // How many documents come before a number.
-fn rank_of_document(documents: &[Document], n: u32) -> usize
+fn rank_of_document(documents: &[KnownDocument], n: u32) -> usize
     requires { rises_by nat_lt entry_of documents.now ≡ true }
     ensures { IsRank nat_lt entry_of documents.now n result }
 {
@@ -96,7 +96,7 @@ fn rank_of_document(documents: &[Document], n: u32) -> usize
 }
 
 /// The place of the document with a number.
-pub(crate) fn place_of_document(documents: &[Document], n: u32) -> Option<usize>
+pub(crate) fn place_of_document(documents: &[KnownDocument], n: u32) -> Option<usize>
     requires { rises_by nat_lt entry_of documents.now ≡ true }
     ensures { MatchOption result (document_at n documents.now ≡ None) (λ i. IsAt (is_document n) documents.now i) }
 {
@@ -112,7 +112,7 @@ pub(crate) fn place_of_document(documents: &[Document], n: u32) -> Option<usize>
 
 /// Adds the document that is sent under a number, unless there is one.
 pub(crate) fn send(
-    documents: &mut Vec<Document>,
+    documents: &mut Vec<KnownDocument>,
     n: u32,
     function: Function,
 ) -> Result<(), AllocError>
@@ -125,7 +125,7 @@ pub(crate) fn send(
     let i = rank_of_document(documents, n);
     documents.insert(
         i,
-        Document {
+        KnownDocument {
             n,
             function,
             said: None,
@@ -135,7 +135,7 @@ pub(crate) fn send(
 }
 
 /// Keeps what is said of a document, if there is one under the number.
-pub(crate) fn put_said(documents: &mut Vec<Document>, n: u32, accepts: bool)
+pub(crate) fn put_said(documents: &mut Vec<KnownDocument>, n: u32, accepts: bool)
     requires { rises_by nat_lt entry_of documents.old.items ≡ true }
     ensures { documents.new.items ≡ with_said n accepts documents.old.items }
 {

@@ -35,7 +35,7 @@ pub enum Change {
 /// What one event more changes on a page: `Page::with` puts it in.
 #[derive(Drop)]
 pub struct Step {
-    /// The rows of pairs that change, in order, and behind them the advice, the order and the document.
+    /// The rows of pairs that change, in order, and after them the advice, the order and the document.
     pub changes: Vec<Change>,
 }
 

@@ -133,7 +133,7 @@ held_after W M e p text r =
 
 -- Known entries.
 
--- what is found in a list is found behind its first, where that isn't it
+-- what is found in a list is found after its first, where that isn't it
 not_first : (p : Written → Bool) (w : Written) (ws : List Written) → find p (w ∷ ws) ≡ None → (p w ≡ false) × (find p ws ≡ None)
 not_first p w ws h = by_test (p w) refl
   where
@@ -340,7 +340,7 @@ stock_some L who p rows h is =
     stock_by rows (Some p) (own L who) (length (own L who) == 0) refl h
     (λ q e i. is (own L who) (subst (λ x. IsPageOf x (history (own L who))) (some_is q p (sym e)) i))
 
--- The search goes on behind an entry that isn't the one.
+-- The search goes on after an entry that isn't the one.
 
 find_push : (p : Written → Bool) (ws : List Written) (w : Written) → find p (ws ++ w ∷ []) ≡ option_or (find p ws) (cond (p w) (Some w) None)
 find_push p ws w = find-append p ws (w ∷ [])

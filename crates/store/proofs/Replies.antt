@@ -290,7 +290,7 @@ next_is W L c t row changes text legal given accepts is leads =
       outgoing = accepted_text W (own_of L c) c t text accepts ∙ ap (λ M. out W M (entry_of c t)) (accepted_owner W L c t taken);
     }
 
--- the register behind a command that was answered so
+-- the register after a command that was answered so
 pub behind_accepted : (W : Who) (L : List Entry) (c : Command) (t : Moment) (text : List ℕ) → reply_to W L c t ≡ Accepted text → L ++ entry_of c t ∷ [] ≡ after W L (c, t)
 behind_accepted W L c t text h = sym (after_accepted W L c t (accepted_is W L c t text h))
 
@@ -322,7 +322,7 @@ asked_more : (cs : List (Asking × Moment)) (i : ℕ) (d : Asking × Moment) →
     → take (i + 1) (all_asked cs) ≡ take i (all_asked cs) ++ asked_at (get_or cs i d) ∷ []
 asked_more cs i d lt = let one : i + 1 ≡ suc i = omega arith in ap (λ n. take n (all_asked cs)) one ∙ asked_suc cs i d lt
 
--- the register and the replies behind one command more
+-- the register and the replies after one command more
 accepted_more : (W : Who) (L : List Entry) (cs : List (Asking × Moment)) (i : ℕ) (d : Asking × Moment) → i < length cs
     → after W (accepted_on W L (take i (all_asked cs))) (asked_at (get_or cs i d)) ≡ accepted_on W L (take (i + 1) (all_asked cs))
 accepted_more W L cs i d lt = sym (ap (accepted_on W L) (asked_more cs i d lt) ∙ accepted_on-more W L (take i (all_asked cs)) (asked_at (get_or cs i d)))

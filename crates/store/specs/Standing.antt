@@ -83,7 +83,7 @@ pub record IsRunFault (fault : Fault) (given : Bool) (old new : Standing) : Type
   pub not_this : fault ≡ NotThisBook → given ≡ true → new.doubt ≡ 0 → (L : List Entry) → IsUsable old L → ⊥
   pub device : fault ≡ Device → ⊥
 
--- what a book is given to append: the entry as it is written down behind the register, which stays legal with it, the changes
+-- what a book is given to append: the entry as it is written down after the register, which stays legal with it, the changes
 -- that lead from the tables of the register to those with the entry, and the text that goes out for it
 pub record IsNext (W : Who) (L : List Entry) (e : Entry) (row : Written) (changes : List Change) (text : List ℕ) : Type 0 where
   pub entry : row ≡ written L e

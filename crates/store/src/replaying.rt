@@ -83,7 +83,7 @@ fn with_entry(
     }
 }
 
-// The page of a depositor behind these entries.
+// The page of a depositor after these entries.
 fn page_behind(
     alloc: Global,
     warehouse: &Warehouse,

@@ -59,7 +59,7 @@ impl OutKind {
     }
 }
 
-/// What the other side said of a document: the first acknowledgment behind it that names it decides.
+/// What the other side said of a document: the first acknowledgment after it that names it decides.
 #[derive(Clone, Copy, Debug, PartialEq, Eq)]
 pub enum DocumentState {
     /// Answers have no state.

@@ -83,7 +83,7 @@ fn judge<K: Keeper>(
 }
 
 /// Answers one command: an accepted one is one commit, and the reply is made before it. A refusal leaves the book as it
-/// was, and so does a fault, unless the book must be opened again behind it; then a crash leaves the register as it was, or
+/// was, and so does a fault, unless the book must be opened again after it; then a crash leaves the register as it was, or
 /// with the command's entry.
 pub fn submit<K: Keeper>(
     alloc: Global,

@@ -35,7 +35,7 @@ pub out_of_place : (d : Delims) (words rest : Words) (behind : List ℕ) (positi
 out_of_place d words rest behind position s e =
     ap (λ (b : Bool). if b then inner_fault d behind position s else Some (place_fault words rest position (id_of s))) (found_none (words_after (id_of s) rest) e)
 
--- a faulty element stands at most one place behind the last row
+-- a faulty element stands at most one place after the last row
 pub place_bound : (d : Delims) (place : ℕ) (rows : List Row) (es : List (List ℕ)) (f : ElementFault) → Some f ≡ least_element_fault d place rows es → f.place ≤ place + length rows
 place_bound d place [] [] f e = absurd (cc)
 place_bound d place [] (x ∷ xs) f e = let same : f ≡ record { place = place; code = 3 } = cc in rw same (omega arith)

@@ -15,7 +15,7 @@ pub(crate) enum Stage {
     Head,
     // with how many more AK2, AK3 and AK4 may come
     Sets(u16),
-    // behind AK2, and behind an AK3 or AK4
+    // after AK2, and after an AK3 or AK4
     Segments(u16, u8),
     Elements(u16, u8, u8),
     Total,
@@ -23,7 +23,7 @@ pub(crate) enum Stage {
 }
 
 impl Stage {
-    /// The stage behind one more segment; None where that may not stand there.
+    /// The stage after one more segment; None where that may not stand there.
     pub(crate) fn next(self, id: Id) -> Option<Stage>
         ensures { option_map rest_of result ≡ found (words_after (text_of id) (rest_of self)) }
     {

@@ -17,16 +17,16 @@ pub(crate) enum Stage {
     Parties(u8),
     References(u8),
     Dates(u8),
-    // behind W04
+    // after W04
     Goods(u8),
-    // behind a line's N9
+    // after a line's N9
     Lot(u8),
     Total,
     End,
 }
 
 impl Stage {
-    /// The stage behind one more segment; None where that may not stand there.
+    /// The stage after one more segment; None where that may not stand there.
     pub(crate) fn next(self, id: Id) -> Option<Stage>
         ensures { option_map rest_of result ≡ found (words_after (text_of id) (rest_of self)) }
     {

@@ -87,7 +87,7 @@ fn fault_of<'a>(kind: SetKind, segments: &'a [Segment<'a>]) -> Option<SetFault<'
 }
 
 /// Judges a set, whose segments were cut from one text and of which SE stands last: the set where no segment has a
-/// fault, else the fault of the first segment with one. A segment has a fault where it may not stand behind those before
+/// fault, else the fault of the first segment with one. A segment has a fault where it may not stand after those before
 /// it, or where an element of it is faulty.
 pub fn judge<'a>(kind: SetKind, segments: &'a [Segment<'a>]) -> Result<Checked<'a>, SetFault<'a>>
     requires few { length segments.now < 2 ^ 32 - 1 }

@@ -15,7 +15,7 @@ use crate::ids::Id;
 use crate::kinds::SetKind;
 use crate::rows::rows_of;
 use crate::stages::{Stage, misplaced};
-use elements::{Row, faulty_element};
+use elements::{ElementRow, faulty_element};
 use segments::{Delims, Segment};
 
 /// A segment in error of a set, as AK3 and AK4 tell it.
@@ -41,7 +41,11 @@ pub(crate) struct Progress {
 }
 
 // The least faulty element of a segment by its rows.
-fn element_in_error(delims: &Delims, rows: &[Row], segment: &Segment<'_>) -> Option<(u32, u8)>
+fn element_in_error(
+    delims: &Delims,
+    rows: &[ElementRow],
+    segment: &Segment<'_>,
+) -> Option<(u32, u8)>
     requires { length rows.now < 100 }
     ensures { option_map told_element result ≡ elements_meant.faulty_element delims.now (map row_of rows.now) segment.now.elements }
 {

@@ -15,12 +15,12 @@ pub(crate) enum Stage {
     Head,
     // with how many more parties, N9, G62 or lines may come
     Parties(u8),
-    // behind N1, and behind its N3
+    // after N1, and after its N3
     Named(u8),
     Streeted(u8),
     References(u8),
     Dates(u8),
-    // behind LX, behind its W01, and behind the N9 of that
+    // after LX, after its W01, and after the N9 of that
     Numbered(u8),
     Goods(u8),
     Pinned(u8),
@@ -29,7 +29,7 @@ pub(crate) enum Stage {
 }
 
 impl Stage {
-    /// The stage behind one more segment; None where that may not stand there.
+    /// The stage after one more segment; None where that may not stand there.
     pub(crate) fn next(self, id: Id) -> Option<Stage>
         ensures { option_map rest_of result ≡ found (words_after (text_of id) (rest_of self)) }
     {

@@ -5,7 +5,7 @@ ghost use Rattle.tables.specs.Ids.{text_of};
 ghost use Rattle.tables.specs.Rows.{is_goods};
 
 use crate::ids::Id;
-use elements::{Kind, Row};
+use elements::{ElementRow, Kind};
 use profile::{
     CONTROL_DIGITS, DATE_DIGITS, DATE_QUALIFIER_BYTES, ELEMENT_DIGITS, FUNCTION_BYTES, LEAST_CITY,
     LEAST_CODE, LEAST_COUNTRY, LEAST_POSTAL, LEAST_QUALIFIER, LEAST_SEGMENT, LEAST_SET_CONTROL,
@@ -19,7 +19,7 @@ use profile::{
 // The row of an element that must be there, with its type and its least and greatest length in bytes.
 macro_rules! must {
     ($kind:expr, $least:expr, $most:expr) => {
-        Row {
+        ElementRow {
             is_mandatory: true,
             kind: $kind,
             least: $least,
@@ -31,7 +31,7 @@ macro_rules! must {
 // The row of an element that may be missing.
 macro_rules! may {
     ($kind:expr, $least:expr, $most:expr) => {
-        Row {
+        ElementRow {
             is_mandatory: false,
             kind: $kind,
             least: $least,
@@ -40,7 +40,7 @@ macro_rules! may {
     };
 }
 
-const W06: &[Row] = &[
+const W06: &[ElementRow] = &[
     must!(Kind::Coded(&[b"F"]), 1, 1),
     must!(Kind::Identifier, 1, MOST_NUMBER),
     must!(Kind::Date, DATE_DIGITS, DATE_DIGITS),
@@ -48,7 +48,7 @@ const W06: &[Row] = &[
 ];
 
 // W04 and W01: a quantity, its unit, an element without use, and an item with its qualifier.
-const GOODS: &[Row] = &[
+const GOODS: &[ElementRow] = &[
     must!(Kind::Quantity, 1, QUANTITY_DIGITS),
     must!(Kind::Coded(&[b"EA"]), 2, 2),
     may!(Kind::Data, 1, MOST_CASE),
@@ -56,50 +56,50 @@ const GOODS: &[Row] = &[
     must!(Kind::Identifier, 1, MOST_ITEM),
 ];
 
-// N9 directly behind W04 or W01: the lot of the line.
-const LOT: &[Row] = &[
+// N9 directly after W04 or W01: the lot of the line.
+const LOT: &[ElementRow] = &[
     must!(Kind::Coded(&[b"LT"]), 2, 2),
     must!(Kind::Identifier, 1, MOST_LOT),
     may!(Kind::Data, 1, MOST_DESCRIPTION),
 ];
 
-const N9: &[Row] = &[
+const N9: &[ElementRow] = &[
     must!(Kind::Alphanumeric, LEAST_QUALIFIER, MOST_QUALIFIER),
     must!(Kind::Data, 1, MOST_REFERENCE),
     may!(Kind::Data, 1, MOST_DESCRIPTION),
 ];
 
 // W03 and W76: the sum of the quantities.
-const TOTAL: &[Row] = &[must!(Kind::Quantity, 1, TOTAL_DIGITS)];
+const TOTAL: &[ElementRow] = &[must!(Kind::Quantity, 1, TOTAL_DIGITS)];
 
-const W05: &[Row] = &[
+const W05: &[ElementRow] = &[
     must!(Kind::Coded(&[b"N"]), 1, 1),
     must!(Kind::Identifier, 1, MOST_NUMBER),
     may!(Kind::Data, 1, MOST_NUMBER),
 ];
 
-const LX: &[Row] = &[must!(Kind::Quantity, 1, LINE_DIGITS)];
+const LX: &[ElementRow] = &[must!(Kind::Quantity, 1, LINE_DIGITS)];
 
-const N1: &[Row] = &[
+const N1: &[ElementRow] = &[
     must!(Kind::Alphanumeric, LEAST_QUALIFIER, MOST_QUALIFIER),
     may!(Kind::Data, 1, MOST_NAME),
     may!(Kind::Data, 1, MOST_CODE_QUALIFIER),
     may!(Kind::Data, LEAST_CODE, MOST_CODE),
 ];
 
-const N3: &[Row] = &[
+const N3: &[ElementRow] = &[
     must!(Kind::Data, 1, MOST_STREET),
     may!(Kind::Data, 1, MOST_STREET),
 ];
 
-const N4: &[Row] = &[
+const N4: &[ElementRow] = &[
     may!(Kind::Data, LEAST_CITY, MOST_CITY),
     may!(Kind::Data, STATE_BYTES, STATE_BYTES),
     may!(Kind::Data, LEAST_POSTAL, MOST_POSTAL),
     may!(Kind::Data, LEAST_COUNTRY, MOST_COUNTRY),
 ];
 
-const G62: &[Row] = &[
+const G62: &[ElementRow] = &[
     must!(
         Kind::Alphanumeric,
         DATE_QUALIFIER_BYTES,
@@ -108,31 +108,31 @@ const G62: &[Row] = &[
     must!(Kind::Date, DATE_DIGITS, DATE_DIGITS),
 ];
 
-const AK1: &[Row] = &[
+const AK1: &[ElementRow] = &[
     must!(Kind::Alphanumeric, FUNCTION_BYTES, FUNCTION_BYTES),
     must!(Kind::Digits, 1, CONTROL_DIGITS),
 ];
 
-const AK2: &[Row] = &[
+const AK2: &[ElementRow] = &[
     must!(Kind::Alphanumeric, SET_BYTES, SET_BYTES),
     must!(Kind::Alphanumeric, LEAST_SET_CONTROL, MOST_SET_CONTROL),
 ];
 
-const AK3: &[Row] = &[
+const AK3: &[ElementRow] = &[
     must!(Kind::Alphanumeric, LEAST_SEGMENT, MOST_SEGMENT),
     must!(Kind::Digits, 1, POSITION_DIGITS),
     may!(Kind::Data, 1, MOST_LOOP),
     may!(Kind::Data, 1, MOST_ERROR),
 ];
 
-const AK4: &[Row] = &[
+const AK4: &[ElementRow] = &[
     must!(Kind::Parts, 1, MOST_PLACE),
     may!(Kind::Digits, 1, ELEMENT_DIGITS),
     must!(Kind::Data, 1, MOST_ERROR),
     may!(Kind::Data, 1, MOST_COPY),
 ];
 
-const AK5: &[Row] = &[
+const AK5: &[ElementRow] = &[
     must!(Kind::Coded(&[b"A", b"R"]), 1, 1),
     may!(Kind::Data, 1, MOST_ERROR),
     may!(Kind::Data, 1, MOST_ERROR),
@@ -141,7 +141,7 @@ const AK5: &[Row] = &[
     may!(Kind::Data, 1, MOST_ERROR),
 ];
 
-const AK9: &[Row] = &[
+const AK9: &[ElementRow] = &[
     must!(Kind::Coded(&[b"A", b"P", b"R"]), 1, 1),
     must!(Kind::Digits, 1, SETS_DIGITS),
     must!(Kind::Digits, 1, SETS_DIGITS),
@@ -153,8 +153,8 @@ const AK9: &[Row] = &[
     may!(Kind::Data, 1, MOST_ERROR),
 ];
 
-/// The rows of a segment with the id, which stands directly behind a W04 or a W01 or doesn't; None for ST and SE.
-pub(crate) fn rows_of(id: Id, behind_goods: bool) -> Option<&'static [Row]>
+/// The rows of a segment with the id, which stands directly after a W04 or a W01 or doesn't; None for ST and SE.
+pub(crate) fn rows_of(id: Id, behind_goods: bool) -> Option<&'static [ElementRow]>
     ensures rows { (behind : List ℕ) → behind_goods ≡ is_goods behind → option_map (λ r. map row_of r.now) result ≡ rows_behind behind (text_of id) }
     ensures few { IfSome result (λ r. length r.now < 100) }
 {

@@ -32,7 +32,7 @@ impl Stage {
         }
     }
 
-    /// The stage behind one more segment; None where that may not stand there.
+    /// The stage after one more segment; None where that may not stand there.
     pub(crate) fn next(self, id: Id) -> Option<Stage>
         ensures { option_map rest_of result ≡ found (words_after (text_of id) (rest_of self)) }
     {

@@ -4,7 +4,7 @@
 use commands::command;
 use std::process::ExitCode;
 
-// The words behind the program's name.
+// The words after the program's name.
 fn words_of(rt: &HostRuntime) -> std::io::Result<Vec<String>> {
     let all: Vec<String> = std::env::args(rt)?.skip(1).collect(rt.alloc())?;
     Ok(all)

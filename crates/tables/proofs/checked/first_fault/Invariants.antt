@@ -7,7 +7,7 @@ use Rattle.tables.specs.Rows.{is_goods}
 use Rattle.tables.specs.Stages.{rest_of}
 use Rattle.tables.proofs.checked.first_fault.Given as goal
 
--- the fault of the set is that of what is left, behind a segment with some id
+-- the fault of the set is that of what is left, after a segment with some id
 abbrev pub invariant-loop-index : goal.invariant-loop-index
 invariant-loop-index l = (behind : List ℕ) × (l.progress.behind_goods ≡ is_goods behind)
     × (set_fault l.delims (kind_words (kind_of l.kind)) (segments_of l.segments)
