@@ -9,7 +9,7 @@ use crate::documents::append_document;
 use crate::envelopes::{Envelope, Party, append_ge, append_gs, append_iea, append_isa, filled};
 use crate::headings::{Heading, append_ta1};
 use crate::sheets::Document;
-use crate::told::Told;
+use crate::told::ToldGroup;
 use segments::{Delims, Moment, Who};
 use std::alloc::AllocError;
 

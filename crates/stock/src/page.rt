@@ -7,7 +7,7 @@ ghost use Rattle.stock.specs.Puts.{put};
 ghost use Rattle.stock.specs.Shows.{Shows};
 ghost use Rattle.stock.specs.Told.{told, amount};
 
-use crate::documents::Document;
+use crate::documents::KnownDocument;
 use crate::drafts::Draft;
 use crate::known_advices::KnownAdvice;
 use crate::known_orders::KnownOrder;
