@@ -9,3 +9,4 @@ pub mod Played
 pub mod Tabled
 pub mod Proper
 pub mod Defined
+pub mod Kinds

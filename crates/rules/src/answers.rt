@@ -5,7 +5,6 @@ ghost use Rattle.profile.specs.Texts.{refusal_interchange};
 ghost use Rattle.sets_out.specs.Headings.{heading_of};
 ghost use Rattle.sets_out.specs.Interchanges.{answer_of};
 
-use crate::taking::GroupTold;
 use envelope::Isa;
 use segments::{Moment, Who};
 use sets_out::{Answer, Envelope, Heading, NoteAnswer, Outgoing, ToldGroup, write_interchange};
@@ -25,40 +24,21 @@ fn heading<'a>(header: &Isa<'a>) -> Heading<'a>
     }
 }
 
-// What is told of groups, as it is written.
-fn lent<'s>(alloc: Global, groups: &'s [GroupTold<'_>]) -> Result<Vec<ToldGroup<'s>>, AllocError>
-    ensures { IfOk result (λ told. told.items ≡ groups.now) }
-{
-    let mut told = Vec::new(alloc);
-    for group in groups {
-        told.push(ToldGroup {
-            function: group.function,
-            number: group.number,
-            stated: group.stated,
-            received: group.received,
-            fault: group.fault,
-            sets: &group.sets,
-        })?;
-    }
-    Ok(told)
-}
-
 /// The answer to an interchange that is accepted, with what its groups are told. Want of memory is the one error.
 pub(crate) fn answer(
     alloc: Global,
     envelope: Envelope,
     header: &Isa<'_>,
-    groups: &[GroupTold<'_>],
+    groups: &[ToldGroup<'_>],
 ) -> Result<Vec<u8>, AllocError>
     ensures { IfOk result (λ text. text.items ≡ answer_of (delims_of header.now) envelope.warehouse envelope.depositor envelope.moment envelope.number (heading_of header.now) groups.now) }
 {
-    let told = lent(alloc, groups)?;
     let heading = heading(header);
     let answer = Answer {
         delims: header.delims(),
         envelope,
         heading: &heading,
-        told: &told,
+        told: groups,
     };
     let interchange = Outgoing::Answered(&answer);
     let mut text = Vec::new(alloc);

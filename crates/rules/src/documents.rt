@@ -246,35 +246,18 @@ fn sum(pairs: &[Pair<'_>]) -> u64
     sum
 }
 
-/// A line of an order with what was picked of its item.
-#[derive(Drop)]
-struct Shipped<'a> {
-    item: &'a [u8],
-    ordered: u64,
-    shipped: u64,
-    lots: Vec<PickedLot<'a>>,
-}
-
-impl<'a> Model for Shipped<'a> {
-    ghost use Rattle.sets_out.specs.Documents.{ShippedLine};
-
-    ghost Value = { ShippedLine };
-
-    ghost view = { λ l. record { item = l.item.now; ordered = l.ordered; shipped = l.shipped; lots = l.lots.items } };
-}
-
 // A line of an order with what a sheet says of its item.
 fn shipped_line<'a>(
     alloc: Global,
     line: &'a KnownLine,
     sheet: &[Pair<'a>],
-) -> Result<Shipped<'a>, AllocError>
+) -> Result<ShippedLine<'a>, AllocError>
     requires { length sheet.now ≤ most_lines }
     ensures { IfOk result (λ l. l ≡ shipped_of sheet.now line.now) }
 {
     let pairs = of_item(alloc, sheet, &line.item)?;
     let lots = sorted(alloc, &pairs)?;
-    Ok(Shipped {
+    Ok(ShippedLine {
         item: &line.item,
         ordered: u64::from(line.quantity),
         shipped: sum(&lots),
@@ -287,7 +270,7 @@ fn shipped_lines<'a>(
     alloc: Global,
     lines: &'a [KnownLine],
     sheet: &[Pair<'a>],
-) -> Result<Vec<Shipped<'a>>, AllocError>
+) -> Result<Vec<ShippedLine<'a>>, AllocError>
     requires { length sheet.now ≤ most_lines }
     ensures { IfOk result (λ v. v.items ≡ map (shipped_of sheet.now) lines.now) }
 {
@@ -303,29 +286,13 @@ fn shipped_of<'a>(
     alloc: Global,
     order: &'a KnownOrder,
     goods: &'a [Goods],
-) -> Result<Vec<Shipped<'a>>, AllocError>
+) -> Result<Vec<ShippedLine<'a>>, AllocError>
     requires { length goods.now ≤ most_lines }
     ensures { IfOk result (λ v. v.items ≡ map (shipped_of goods.now) order.now.lines) }
 {
     let mut pairs = Vec::new(alloc);
     lend(&mut pairs, goods)?;
     shipped_lines(alloc, &order.lines, &pairs)
-}
-
-// The same lines, as they are written.
-fn lent<'s>(alloc: Global, lines: &'s [Shipped<'_>]) -> Result<Vec<ShippedLine<'s>>, AllocError>
-    ensures { IfOk result (λ v. v.items ≡ lines.now) }
-{
-    let mut lent = Vec::new(alloc);
-    for line in lines {
-        lent.push(ShippedLine {
-            item: line.item,
-            ordered: line.ordered,
-            shipped: line.shipped,
-            lots: &line.lots,
-        })?;
-    }
-    Ok(lent)
 }
 
 // The 945 of a pick: each line of the order with what was picked of its item.
@@ -338,8 +305,7 @@ fn shipment(
     ensures { IfOk result (λ text. text.items ≡ shipment_text envelope.now order.now sheet.now) }
 {
     let goods = sheet.lines(alloc)?;
-    let shipped = shipped_of(alloc, order, &goods)?;
-    let lines = lent(alloc, &shipped)?;
+    let lines = shipped_of(alloc, order, &goods)?;
     let shipment = Shipment {
         order: &order.number,
         lines: &lines,

@@ -12,9 +12,8 @@ ghost use Rattle.rules.specs.Judging.{AreTaken, IsGroupTaken, AreGroupsTaken, Is
 use crate::judging::{Verdict, judged};
 use envelope::{Group, Interchange, Set};
 use sets_in::number;
-use sets_out::{Rejection, ToldSet};
+use sets_out::{Rejection, ToldGroup, ToldSet};
 use std::alloc::{AllocError, Global};
-use std::marker::Model;
 use stock::{Change, Page, Step};
 use tables::SetKind;
 
@@ -163,31 +162,6 @@ fn take_group<'a>(
     }
 }
 
-/// What a group is told.
-#[derive(Drop)]
-pub(crate) struct GroupTold<'a> {
-    /// GS01.
-    pub(crate) function: &'a [u8],
-    /// GS06.
-    pub(crate) number: &'a [u8],
-    /// The sets that GE01 states, or those received where there is no GE.
-    pub(crate) stated: u32,
-    /// The sets that were received.
-    pub(crate) received: usize,
-    /// The fault of the group, if it has one.
-    pub(crate) fault: Option<u8>,
-    /// Its sets; none where it has a fault.
-    pub(crate) sets: Vec<ToldSet<'a>>,
-}
-
-impl<'a> Model for GroupTold<'a> {
-    ghost use Rattle.profile.specs.Texts.{Told};
-
-    ghost Value = { Told };
-
-    ghost view = { λ t. record { function = t.function.now; number = t.number.now; stated = t.stated; received = t.received; fault = t.fault; sets = t.sets.items } };
-}
-
 // The number of sets that a group states.
 fn stated(group: &Group<'_>) -> u32
     requires small { IsSmall group.now.group }
@@ -201,12 +175,12 @@ fn stated(group: &Group<'_>) -> u32
 }
 
 // What a group is told, with these sets.
-fn group_told<'a>(group: &Group<'a>, sets: Vec<ToldSet<'a>>) -> GroupTold<'a>
+fn group_told<'a>(group: &Group<'a>, sets: Vec<ToldSet<'a>>) -> ToldGroup<'a>
     requires small { IsSmall group.now.group }
     requires few { length group.now.group.sets ≤ 1000 }
     ensures { result ≡ told_with group.now.group sets.entry.items }
 {
-    GroupTold {
+    ToldGroup {
         function: function(group),
         number: group.head().element(6),
         stated: stated(group),
@@ -225,7 +199,7 @@ fn is_answered(group: &Group<'_>) -> bool
 
 // Adds what a group is told, if it is answered.
 fn tell<'a>(
-    told: &mut Vec<GroupTold<'a>>,
+    told: &mut Vec<ToldGroup<'a>>,
     group: &Group<'a>,
     sets: Vec<ToldSet<'a>>,
 ) -> Result<(), AllocError>
@@ -248,7 +222,7 @@ pub(crate) struct TakenGroups<'a> {
     /// The rows that changed.
     pub(crate) changes: Vec<Change>,
     /// What is told.
-    pub(crate) told: Vec<GroupTold<'a>>,
+    pub(crate) told: Vec<ToldGroup<'a>>,
 }
 
 /// The groups of an interchange, in turn. Want of memory is the one error.

@@ -124,7 +124,7 @@ fn append_last(out: &mut Vec<u8>, delims: Delims, told: &ToldGroup<'_>) -> Resul
         ∷ option_to_list (option_map decimal told.now.fault)) ∷ []) n) }
     ensures kept { Extends out.old.items out.new.items }
 {
-    let passed = accepted(told.sets);
+    let passed = accepted(&told.sets);
     let code = code_of(passed, told.received);
     let mut stated = Buffer::new();
     let stated = stated.format(told.stated).as_bytes();
@@ -152,7 +152,7 @@ fn append_body(out: &mut Vec<u8>, delims: Delims, told: &ToldGroup<'_>) -> Resul
     ensures kept { Extends out.old.items out.new.items }
 {
     let first = append_segment(out, delims, &[b"AK1", told.function, told.number])?;
-    let sets = append_sets(out, delims, told.sets)?;
+    let sets = append_sets(out, delims, &told.sets)?;
     let last = append_last(out, delims, told)?;
     Ok(first + sets + last)
 }

@@ -60,13 +60,13 @@ pub struct ShippedLine<'a> {
     /// How many were picked: the sum of the lots.
     pub shipped: u64,
     /// The lots that were picked, by their bytes.
-    pub lots: &'a [PickedLot<'a>],
+    pub lots: Vec<PickedLot<'a>>,
 }
 
 impl<'a> Model for ShippedLine<'a> {
     ghost Value = { MeantShipped };
 
-    ghost view = { λ l. record { item = l.item.now; ordered = l.ordered; shipped = l.shipped; lots = l.lots.now } };
+    ghost view = { λ l. record { item = l.item.now; ordered = l.ordered; shipped = l.shipped; lots = l.lots.items } };
 }
 
 /// What a 945 tells of a pick.

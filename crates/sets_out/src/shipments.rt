@@ -115,7 +115,7 @@ fn append_line(
 {
     let first = append_place(out, delims, place)?;
     let goods = append_goods(out, delims, line.item, line.ordered, line.shipped)?;
-    let lots = append_lots(out, delims, line.lots)?;
+    let lots = append_lots(out, delims, &line.lots)?;
     Ok(first + goods + lots)
 }
 

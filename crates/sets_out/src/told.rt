@@ -87,11 +87,11 @@ pub struct ToldGroup<'a> {
     /// The group's own fault, if it has one: AK905.
     pub fault: Option<u8>,
     /// The sets; none where the group has a fault.
-    pub sets: &'a [ToldSet<'a>],
+    pub sets: Vec<ToldSet<'a>>,
 }
 
 impl<'a> Model for ToldGroup<'a> {
     ghost Value = { Meant };
 
-    ghost view = { λ t. record { function = t.function.now; number = t.number.now; stated = t.stated; received = t.received; fault = t.fault; sets = t.sets.now } };
+    ghost view = { λ t. record { function = t.function.now; number = t.number.now; stated = t.stated; received = t.received; fault = t.fault; sets = t.sets.items } };
 }

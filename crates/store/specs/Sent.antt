@@ -5,27 +5,14 @@ use Rattle.profile.specs.Register.{Deed, Performed, Entry}
 use Rattle.profile.specs.Events.{Event}
 use Rattle.profile.specs.Rows.{OutRow, act_kind, state_text, outgoing_on}
 use Rattle.profile.specs.Page.{PageDocument}
-use Rattle.store.specs.declared.rows.OutKind.{OutKind}
-use Rattle.store.specs.declared.rows.OutKind.TheVariants.{Answer, Receipt, Shipment, Adjustment}
 use Rattle.store.specs.declared.rows.DocumentState.{DocumentState}
 use Rattle.store.specs.declared.rows.DocumentState.TheVariants.{Unasked, Open, Accepted, Refused}
-
-abbrev pub kind_text : OutKind → List ℕ
-kind_text Answer = codes "ANS"
-kind_text Receipt = codes "944"
-kind_text Shipment = codes "945"
-kind_text Adjustment = codes "947"
 
 abbrev pub state_name : DocumentState → List ℕ
 state_name Unasked = codes "-"
 state_name Open = codes "open"
 state_name Accepted = codes "accepted"
 state_name Refused = codes "refused"
-
--- what kind of text goes out for a deed
-abbrev pub kind_by : Deed → List ℕ
-kind_by (Performed ticket act) = act_kind act
-kind_by d = codes "ANS"
 
 abbrev pub said_in : Option PageDocument → Option Bool
 said_in None = None

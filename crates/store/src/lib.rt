@@ -11,9 +11,9 @@ mod serving;
 pub use fault::Fault;
 pub use keeping::Keeper;
 pub use replaying::ReplayBook;
-pub use rows::{DocumentState, OutKind, OutRow, StockRow};
+pub use rows::{DocumentState, OutRow, StockRow};
 pub use rules::{
-    Act, Change, Command, Decision, Entry, Ident, Key, Known, Line, Moment, Page, Refusal, Row,
-    Sheet, SheetKind, Warehouse, Who, decide, subject,
+    Act, Change, Command, Decision, Entry, Ident, Key, Known, Line, Moment, OutKind, Page, Refusal,
+    Row, Sheet, SheetKind, Warehouse, Who, decide, subject,
 };
 pub use serving::{Outcome, Reply, outbox, run, stock, submit};

@@ -1,9 +1,9 @@
 ghost use Rattle.std.specs.Prelude.{◌≡◌, IfOk};
 ghost use Rattle.profile.specs.Register.{Deed, deed_mark, body_of};
 ghost use Rattle.profile.specs.Rows.{shown_row, state_text};
-ghost use Rattle.store.specs.Sent.{kind_text, state_name, kind_by, said_under, sent_row};
+ghost use Rattle.store.specs.Sent.{state_name, said_under, sent_row};
 
-use rules::{Entry, Page, Row};
+use rules::{Entry, OutKind, Page, Row};
 use std::alloc::AllocError;
 use std::marker::Model;
 
@@ -30,33 +30,6 @@ impl Model for StockRow {
     ghost Value = { StockRow };
 
     ghost view = { λ r. record { item = r.item.items; lot = r.lot.items; expected = r.expected; on_hand = r.on_hand; reserved = r.reserved; shipped = r.shipped } };
-}
-
-/// What kind of text went out.
-#[derive(Clone, Copy, Debug, PartialEq, Eq)]
-pub enum OutKind {
-    /// The answer to an interchange.
-    Answer,
-    /// The receipt advice (944) of a count.
-    Receipt,
-    /// The shipping advice (945) of a pick.
-    Shipment,
-    /// The inventory adjustment advice (947) of a recount.
-    Adjustment,
-}
-
-impl OutKind {
-    /// The word for it in lists and tables: ANS, 944, 945 or 947.
-    pub fn text(self) -> &'static [u8]
-        ensures { result.now ≡ kind_text self }
-    {
-        match self {
-            OutKind::Answer => b"ANS",
-            OutKind::Receipt => b"944",
-            OutKind::Shipment => b"945",
-            OutKind::Adjustment => b"947",
-        }
-    }
 }
 
 /// What the other side said of a document: the first acknowledgment after it that names it decides.
@@ -101,7 +74,8 @@ pub struct OutRow {
 
 impl Model for OutRow {
     ghost use Rattle.profile.specs.Rows.{OutRow};
-    ghost use Rattle.store.specs.Sent.{kind_text, state_name};
+    ghost use Rattle.rules.specs.Kinds.{kind_text};
+    ghost use Rattle.store.specs.Sent.{state_name};
 
     ghost Value = { OutRow };
 
@@ -121,21 +95,6 @@ impl StockRow {
             reserved: row.reserved,
             shipped: row.shipped,
         })
-    }
-}
-
-// What kind of text goes out for an entry with this key and body.
-fn kind_of(key: &[u8], body: &[u8]) -> OutKind
-    ensures { (deed : Deed) → key.now ≡ deed_mark deed → body.now ≡ body_of deed → kind_text result ≡ kind_by deed }
-{
-    if !key.starts_with(b"T") {
-        OutKind::Answer
-    } else if body.starts_with(b"count ") {
-        OutKind::Receipt
-    } else if body.starts_with(b"pick ") {
-        OutKind::Shipment
-    } else {
-        OutKind::Adjustment
     }
 }
 
@@ -170,7 +129,7 @@ impl OutRow {
             → result ≡ sent_row page.now.documents deed entry.now.n content.items }
     {
         let n = entry.number();
-        let kind = kind_of(&entry.key, entry.body());
+        let kind = entry.kind();
         let state = match kind {
             OutKind::Answer => DocumentState::Unasked,
             _ => state_of(said_of(page, n)),

@@ -11,7 +11,6 @@ returns c =
     let e = c.args.envelope in
     let text : Delims → Heading → List Told → List ℕ = λ d h ts. answer_of d e.warehouse e.depositor e.moment e.number h ts in
     c.in_ok-write_interchange.ensures.ok
-    ∙ ap (λ (before : List ℕ). before ++ text c.delims.result c.heading-heading.result c.deref.result.now) c.new-text.ensures.items
-    ∙ ap (λ (d : Delims). text d c.heading-heading.result c.deref.result.now) c.delims.ensures.value
-    ∙ ap (λ (h : Heading). text (delims_of c.args.header.now) h c.deref.result.now) c.heading-heading.ensures
-    ∙ ap (λ (ts : List Told). text (delims_of c.args.header.now) (heading_of c.args.header.now) ts) (c.deref.ensures.value ∙ c.in_ok-told.ensures)
+    ∙ ap (λ (before : List ℕ). before ++ text c.delims.result c.heading-heading.result c.args.groups.now) c.new-text.ensures.items
+    ∙ ap (λ (d : Delims). text d c.heading-heading.result c.args.groups.now) c.delims.ensures.value
+    ∙ ap (λ (h : Heading). text (delims_of c.args.header.now) h c.args.groups.now) c.heading-heading.ensures

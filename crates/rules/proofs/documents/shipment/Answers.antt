@@ -14,10 +14,10 @@ returns c =
     let goods = c.deref.ensures.value ∙ c.in_ok-goods.ensures.lines in
     let text : List ℕ → List ShippedLine → ℕ → List ℕ = λ order lines shipped.
     document_text e.warehouse e.depositor e.moment e.number (codes "SW") (codes "945") (shipment_body e.moment e.number (record { order = order; lines = lines; shipped = shipped })) in
-    let lines = c.deref-4.ensures.value ∙ c.in_ok-lines.ensures ∙ c.deref-2.ensures.value ∙ c.in_ok-shipped.ensures
+    let lines = c.deref-3.ensures.value ∙ c.in_ok-lines.ensures
     ∙ ap (λ (ls : List Line). map (shipped_of ls) c.args.order.now.lines) goods in
     IfOk-weaker c.written.result _ _ (λ t made. made
-    ∙ ap (λ (o : List ℕ). text o c.deref-4.result.now c.total.result) (c.deref-3.ensures.value ∙ ap (λ (k : PageOrder). k.number) c.order.view_is)
+    ∙ ap (λ (o : List ℕ). text o c.deref-3.result.now c.total.result) (c.deref-2.ensures.value ∙ ap (λ (k : PageOrder). k.number) c.order.view_is)
     ∙ ap (λ (ls : List ShippedLine). text c.args.order.now.number ls c.total.result) lines
     ∙ ap (λ (n : ℕ). text c.args.order.now.number (map (shipped_of c.args.sheet.now) c.args.order.now.lines) n)
-    (c.total.ensures ∙ ap total_of (c.deref-5.ensures.value ∙ c.in_ok-goods.ensures.lines))) c.written.ensures
+    (c.total.ensures ∙ ap total_of (c.deref-4.ensures.value ∙ c.in_ok-goods.ensures.lines))) c.written.ensures
