@@ -1,5 +1,6 @@
 //! What a clerk's act comes to.
 ghost use Rattle.std.specs.Prelude.{◌≡◌, ◌<◌, ◌+◌, ◌++◌, ◌∷◌, [], ℕ, List, Option, Some, Ok, IfOk, IfErr, option_copied};
+ghost use Rattle.profile.specs.Limits.{most_sets};
 ghost use Rattle.profile.specs.Clerk.{performed};
 ghost use Rattle.profile.specs.Decision as recalled;
 ghost use Rattle.profile.specs.Events.{Event};
@@ -30,7 +31,7 @@ use stock::{Change, Page, Step, Stop, pick, receive, recount};
 
 /// What an act's event changes on the page.
 pub(crate) fn perform(alloc: Global, page: &Page, act: &Act<'_>) -> Result<Step, Stop>
-    requires { page.now.recent < 1000 }
+    requires { page.now.recent < most_sets }
     ensures ok { IfOk result (λ step. (es : List Event) → Shows page.now es
         → (e : Event) × (performed es (page.now.entries + 1) (act_of act.now) ≡ Ok e) × Shows (put step.changes.items page.now) (es ++ e ∷ []) × AreProper page.now step.changes.items) }
     ensures err { IfErr result (λ stop. (es : List Event) → Shows page.now es → StopsAct (performed es (page.now.entries + 1) (act_of act.now)) stop) }

@@ -1,5 +1,6 @@
 //! What a set comes to over a page.
 ghost use Rattle.std.specs.Prelude.{◌≡◌, ◌<◌, ◌+◌, ◌-◌, ◌^◌, List, Some, IfOk, IfErr, length};
+ghost use Rattle.profile.specs.Limits.{most_sets};
 ghost use Rattle.profile.specs.Cut.{segments_of, AreOf};
 ghost use Rattle.profile.specs.Bytes.{Delims as Delimiters};
 ghost use Rattle.profile.specs.Events.{Event};
@@ -50,7 +51,7 @@ fn in_segment<'a>(fault: &SetFault<'a>) -> Rejection<'a>
 // The step of an advice.
 fn advised(alloc: Global, page: &Page, set: &Checked<'_>) -> Result<Step, Stop>
     requires kind { set.now.kind ≡ kinds.ShipmentAdvice }
-    requires room { page.now.recent < 1000 }
+    requires room { page.now.recent < most_sets }
     ensures ok { IfOk result (λ step. (es : List Event) → Shows page.now es → IsStep page.now es (meant.traded es (page.now.entries + 1) set.now.kind (segments_of set.now.pieces)) step.changes.items) }
     ensures err { IfErr result (λ stop. (es : List Event) → Shows page.now es → IsStop (meant.traded es (page.now.entries + 1) set.now.kind (segments_of set.now.pieces)) stop) }
     ensures sound { IfOk result (λ step. IsSound (put step.changes.items page.now)) }
@@ -62,7 +63,7 @@ fn advised(alloc: Global, page: &Page, set: &Checked<'_>) -> Result<Step, Stop>
 // The step of an order.
 fn ordered(alloc: Global, page: &Page, set: &Checked<'_>) -> Result<Step, Stop>
     requires kind { set.now.kind ≡ kinds.ShippingOrder }
-    requires room { page.now.recent < 1000 }
+    requires room { page.now.recent < most_sets }
     ensures ok { IfOk result (λ step. (es : List Event) → Shows page.now es → IsStep page.now es (meant.traded es (page.now.entries + 1) set.now.kind (segments_of set.now.pieces)) step.changes.items) }
     ensures err { IfErr result (λ stop. (es : List Event) → Shows page.now es → IsStop (meant.traded es (page.now.entries + 1) set.now.kind (segments_of set.now.pieces)) stop) }
     ensures sound { IfOk result (λ step. IsSound (put step.changes.items page.now)) }
@@ -74,7 +75,7 @@ fn ordered(alloc: Global, page: &Page, set: &Checked<'_>) -> Result<Step, Stop>
 // The step of an acknowledgment.
 fn acknowledged(alloc: Global, page: &Page, set: &Checked<'_>) -> Result<Step, Stop>
     requires kind { set.now.kind ≡ kinds.FunctionalAcknowledgment }
-    requires room { page.now.recent < 1000 }
+    requires room { page.now.recent < most_sets }
     ensures ok { IfOk result (λ step. (es : List Event) → Shows page.now es → IsStep page.now es (meant.traded es (page.now.entries + 1) set.now.kind (segments_of set.now.pieces)) step.changes.items) }
     ensures err { IfErr result (λ stop. (es : List Event) → Shows page.now es → IsStop (meant.traded es (page.now.entries + 1) set.now.kind (segments_of set.now.pieces)) stop) }
     ensures sound { IfOk result (λ step. IsSound (put step.changes.items page.now)) }
@@ -85,7 +86,7 @@ fn acknowledged(alloc: Global, page: &Page, set: &Checked<'_>) -> Result<Step, S
 
 // The step of a set without a fault of its own, or its trade fault.
 fn traded(alloc: Global, page: &Page, set: &Checked<'_>) -> Result<Step, Stop>
-    requires { page.now.recent < 1000 }
+    requires { page.now.recent < most_sets }
     ensures ok { IfOk result (λ step. (es : List Event) → Shows page.now es → IsStep page.now es (meant.traded es (page.now.entries + 1) set.now.kind (segments_of set.now.pieces)) step.changes.items) }
     ensures err { IfErr result (λ stop. (es : List Event) → Shows page.now es → IsStop (meant.traded es (page.now.entries + 1) set.now.kind (segments_of set.now.pieces)) stop) }
     ensures sound { IfOk result (λ step. IsSound (put step.changes.items page.now)) }
@@ -99,7 +100,7 @@ fn traded(alloc: Global, page: &Page, set: &Checked<'_>) -> Result<Step, Stop>
 
 // What a set without a fault of its own came to.
 fn settled<'a>(alloc: Global, page: &Page, set: &Checked<'a>) -> Result<Verdict<'a>, AllocError>
-    requires { page.now.recent < 1000 }
+    requires { page.now.recent < most_sets }
     ensures value { IfOk result (λ v. (es : List Event) → Shows page.now es → IsVerdict page.now es (meant.by_segment (meant.traded es (page.now.entries + 1) set.now.kind (segments_of set.now.pieces))) v) }
     ensures fits { IfOk result (CanBePut page.now) }
 {
@@ -120,7 +121,7 @@ pub(crate) fn judged<'a>(
 ) -> Result<Verdict<'a>, AllocError>
     requires few { length segments.now < 2 ^ 32 - 1 }
     requires closed { IsClosed segments.now }
-    requires room { page.now.recent < 1000 }
+    requires room { page.now.recent < most_sets }
     ensures value { IfOk result (λ v. (d : Delimiters) → AreOf d segments.now → (es : List Event) → Shows page.now es
         → IsVerdict page.now es (meant.by_segment (meant.judged d es (page.now.entries + 1) (kind_of kind) (segments_of segments.now))) v) }
     ensures fits { IfOk result (CanBePut page.now) }

@@ -1,6 +1,7 @@
 //! What the sets of a group, and the groups of an interchange, come to one after another.
 ghost use Rattle.std.specs.Prelude.{◌≡◌, ◌≤◌, ◌<◌, ◌+◌, ◌++◌, [], ◌∷◌, true, Some, None, IfOk, OnOk, length, sum_by};
 ghost use Rattle.std.specs.List.{AllByRecursion};
+ghost use Rattle.profile.specs.Limits.{most_sets};
 ghost use Rattle.profile.specs.Cut.{element};
 ghost use Rattle.profile.specs.Structure as meant;
 ghost use Rattle.profile.specs.Texts.{stated_sets};
@@ -88,7 +89,7 @@ fn take_set<'a>(
     set: &'a Set<'a>,
     fault: Option<u8>,
 ) -> Result<TakenSet<'a>, AllocError>
-    requires room { page.recent < 1000 }
+    requires room { page.recent < most_sets }
     requires closed { fault ≡ None → set.now.set.is_closed ≡ true }
     ensures taken { IfOk result (λ t. AreTaken set.now.delims (Some (kind_of kind)) ((set.now.set, fault) ∷ []) page t.page (t.told ∷ [])) }
     ensures led { IfOk result (λ t. IsLed t.changes.items page t.page) }
@@ -113,7 +114,7 @@ fn take_sets<'a>(
     kind: SetKind,
     group: &'a Group<'a>,
 ) -> Result<TakenSets<'a>, AllocError>
-    requires { start.recent + length group.now.group.sets ≤ 1000 }
+    requires { start.recent + length group.now.group.sets ≤ most_sets }
     ensures taken { IfOk result (λ t. AreTaken group.now.delims (Some (kind_of kind)) (meant.examined group.now.group) start t.page t.told.items) }
     ensures led { IfOk result (λ t. IsLed t.changes.items start t.page) }
 {
@@ -147,7 +148,7 @@ fn take_group<'a>(
     start: Page,
     group: &'a Group<'a>,
 ) -> Result<TakenSets<'a>, AllocError>
-    requires { start.recent + length group.now.group.sets ≤ 1000 }
+    requires { start.recent + length group.now.group.sets ≤ most_sets }
     ensures taken { IfOk result (λ t. IsGroupTaken group.now.delims group.now.group start t.page t.told.items) }
     ensures led { IfOk result (λ t. IsLed t.changes.items start t.page) }
 {
@@ -165,7 +166,7 @@ fn take_group<'a>(
 // The number of sets that a group states.
 fn stated(group: &Group<'_>) -> u32
     requires small { IsSmall group.now.group }
-    requires few { length group.now.group.sets ≤ 1000 }
+    requires few { length group.now.group.sets ≤ most_sets }
     ensures { result ≡ stated_sets group.now.group }
 {
     match group.tail() {
@@ -177,7 +178,7 @@ fn stated(group: &Group<'_>) -> u32
 // What a group is told, with these sets.
 fn group_told<'a>(group: &Group<'a>, sets: Vec<ToldSet<'a>>) -> ToldGroup<'a>
     requires small { IsSmall group.now.group }
-    requires few { length group.now.group.sets ≤ 1000 }
+    requires few { length group.now.group.sets ≤ most_sets }
     ensures { result ≡ told_with group.now.group sets.entry.items }
 {
     ToldGroup {
@@ -204,7 +205,7 @@ fn tell<'a>(
     sets: Vec<ToldSet<'a>>,
 ) -> Result<(), AllocError>
     requires small { IsSmall group.now.group }
-    requires few { length group.now.group.sets ≤ 1000 }
+    requires few { length group.now.group.sets ≤ most_sets }
     ensures { OnOk result (told.new.items ≡ told.old.items ++ told_if group.now.group sets.entry.items) }
 {
     if is_answered(group) {
@@ -231,7 +232,7 @@ pub(crate) fn take_groups<'a>(
     start: Page,
     interchange: &'a Interchange<'a>,
 ) -> Result<TakenGroups<'a>, AllocError>
-    requires room { start.recent + sum_by (λ g. length g.sets) interchange.now.groups ≤ 1000 }
+    requires room { start.recent + sum_by (λ g. length g.sets) interchange.now.groups ≤ most_sets }
     requires small { AllByRecursion IsSmall interchange.now.groups }
     ensures taken { IfOk result (λ t. AreGroupsTaken interchange.now.delims interchange.now.groups start t.page t.told.items) }
     ensures led { IfOk result (λ t. IsLed t.changes.items start t.page) }

@@ -1,6 +1,6 @@
 -- A page as its tables have it, and what is true of every page.
 use Rattle.std.specs.Prelude.{ℕ, ◌≤◌, ◌≡◌, ◌+◌, ◌*◌, Bool, true, List, if◌then◌else◌, ◌==◌, None, Option, bytes_eq, sum_by, count_by, find, length, take, slice_index_or, ◌<◌, nat_lt}
-use Rattle.profile.specs.Limits.{most_recounted, most_entries}
+use Rattle.profile.specs.Limits.{most_recounted, most_entries, most_sets}
 use Rattle.profile.specs.Rows.{LotRow}
 use Rattle.profile.specs.Page.{PageAdvice, PageOrder, PageDocument}
 use Rattle.profile.specs.Events.{quantity_of}
@@ -53,7 +53,7 @@ held ks item lot = sum_by (λ k. if k.is_open then quantity_of k.reserved item l
 
 -- how many events there may have been: at most 1,000 in an entry
 abbrev pub most_events : PageFacts → ℕ
-most_events p = 1000 * p.entries + p.recent
+most_events p = most_sets * p.entries + p.recent
 
 -- each list is in the order of its keys
 pub record AreSorted (p : PageFacts) : Type 0 where
@@ -72,7 +72,7 @@ pub record IsSound (p : PageFacts) : Type 0 where
   pub covered : (item lot : List ℕ) → told (amount Reservation) item lot p.rows ≤ told (amount OnHand) item lot p.rows
   pub bounded : (c : Column) (item lot : List ℕ) → told (amount c) item lot p.rows ≤ (most_recounted + 1) * most_events p
   pub numbered : p.entries ≤ most_entries
-  pub few : p.recent ≤ 1000
+  pub few : p.recent ≤ most_sets
   pub advices_once : (shipment : List ℕ) → count_by (is_shipment shipment) p.advices ≤ 1
   pub orders_once : (number : List ℕ) → count_by (is_number number) p.orders ≤ 1
   pub documents_once : (n : ℕ) → count_by (is_document n) p.documents ≤ 1

@@ -1,5 +1,6 @@
 ghost use Rattle.std.specs.Prelude.{◌≡◌, ◌<◌, ◌+◌, ◌++◌, [], ◌∷◌, List, IfOk};
 ghost use Rattle.std.specs.List.{list_any};
+ghost use Rattle.profile.specs.Limits.{most_sets};
 ghost use Rattle.profile.specs.Events.{Event, Acknowledged};
 ghost use Rattle.stock.specs.Pages.{IsSound};
 ghost use Rattle.stock.specs.Puts.{put};
@@ -27,7 +28,7 @@ fn is_decisive(page: &Page, ack: &AckIn) -> bool
 /// Takes an acknowledgment that the next entry brings: it decides the document of an earlier entry that it names by number
 /// and kind, if none before it did. Want of memory is the one error.
 pub fn acknowledge(alloc: Global, page: &Page, ack: &AckIn) -> Result<Step, AllocError>
-    requires { page.now.recent < 1000 }
+    requires { page.now.recent < most_sets }
     ensures ok { IfOk result (λ step. (es : List Event) → Shows page.now es → Shows (put step.changes.items page.now) (es ++ Acknowledged (page.now.entries + 1) ack.now ∷ [])) }
     ensures changes { IfOk result (λ step. step.changes.items ≡ document_changes page.now ack.now) }
     ensures sound { IfOk result (λ step. IsSound (put step.changes.items page.now)) }

@@ -1,5 +1,5 @@
 ghost use Rattle.std.specs.Prelude.{◌≡◌, ◌<◌, ◌++◌, ◌≤◌, [], ◌∷◌, List, None, IfOk, IfErr, length};
-ghost use Rattle.profile.specs.Limits.{most_lines};
+ghost use Rattle.profile.specs.Limits.{most_lines, most_sets};
 ghost use Rattle.profile.specs.Events.{Event, Advised, advice_fault};
 ghost use Rattle.profile.specs.Means.{advised as meant_lines};
 ghost use Rattle.stock.specs.Pages.{IsSound, advice_at};
@@ -32,7 +32,7 @@ fn opened(alloc: Global, advice: &Advice, lines: Vec<Goods>) -> Result<KnownAdvi
 // What an advice that is opened changes.
 fn changes(alloc: Global, page: &Page, advice: &Advice) -> Result<Vec<Change>, AllocError>
     requires unknown { advice_at advice.now.shipment page.now.advices ≡ None }
-    requires room { page.now.recent < 1000 }
+    requires room { page.now.recent < most_sets }
     ensures made { IfOk result (λ changes. IsAnnounced advice.now page.now (put changes.items page.now)) }
     ensures exact { IfOk result (λ changes. changes.items ≡ advice_changes advice.now.shipment page.now (put changes.items page.now)) }
     ensures sound { IfOk result (λ changes. IsSound (put changes.items page.now)) }
@@ -50,7 +50,7 @@ fn changes(alloc: Global, page: &Page, advice: &Advice) -> Result<Vec<Change>, A
 /// Opens an advice: each of its lines is added to what is expected of its pair. The error is the trade fault at the least
 /// position (a known shipment number, a pair that stands twice, a W03 that isn't the sum), or want of memory.
 pub fn announce(alloc: Global, page: &Page, advice: &Advice) -> Result<Step, Stop>
-    requires { page.now.recent < 1000 }
+    requires { page.now.recent < most_sets }
     ensures ok { IfOk result (λ step. (es : List Event) → Shows page.now es → (advice_fault es advice.now ≡ None) × Shows (put step.changes.items page.now) (es ++ Advised advice.now ∷ [])) }
     ensures err { IfErr result (λ stop. (es : List Event) → Shows page.now es → StopsFor (advice_fault es advice.now) stop) }
     ensures changes { IfOk result (λ step. step.changes.items ≡ advice_changes advice.now.shipment page.now (put step.changes.items page.now)) }

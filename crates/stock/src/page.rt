@@ -53,29 +53,6 @@ impl Page {
         }
     }
 
-    /// The page of what a book keeps of a depositor: its rows by item and lot bytes, its advices and orders by the bytes of their
-    /// numbers, its documents by theirs, and how many numbered entries there are.
-    pub fn of(
-        rows: Vec<Row>,
-        advices: Vec<KnownAdvice>,
-        orders: Vec<KnownOrder>,
-        documents: Vec<KnownDocument>,
-        entries: u32,
-    ) -> Page
-        requires { IsSound (record { rows = rows.items; advices = advices.items; orders = orders.items; documents = documents.items; entries = entries; recent = 0 }) }
-        ensures { result ≡ record { rows = rows.items; advices = advices.items; orders = orders.items; documents = documents.items; entries = entries; recent = 0 } }
-    {
-        let recent = 0;
-        Page {
-            rows,
-            advices,
-            orders,
-            documents,
-            entries,
-            recent,
-        }
-    }
-
     /// A copy of it; want of memory is the one error.
     pub fn copy(&self) -> Result<Page, AllocError>
         ensures { IfOk result (λ page. page ≡ self.now) }

@@ -1,5 +1,6 @@
 ghost use Rattle.std.specs.Prelude.{◌≡◌, ◌<◌, ◌+◌, ◌++◌, [], ◌∷◌, List, Ok, Some, IfOk, IfErr, true, false};
 ghost use Rattle.std.specs.List.{list_any};
+ghost use Rattle.profile.specs.Limits.{most_sets};
 ghost use Rattle.profile.specs.Clerk.{picked};
 ghost use Rattle.profile.specs.Events.{Event};
 ghost use Rattle.stock.specs.Pages.{IsSound, order_at};
@@ -27,7 +28,7 @@ fn changes(
     order: &KnownOrder,
     sheet: &Sheet,
 ) -> Result<Vec<Change>, AllocError>
-    requires room { page.now.recent < 1000 }
+    requires room { page.now.recent < most_sets }
     requires known { order_at order.now.number page.now.orders ≡ Some order.now }
     requires is_open { order.now.is_open ≡ true }
     requires covered { list_any (exceeds order.now.reserved) sheet.now ≡ false }
@@ -53,7 +54,7 @@ fn changes(
 /// nothing is reserved for the order any more. The error is 24 (there is no such order), 25 (it was picked), 26 (a line
 /// exceeds what is reserved for the order of its pair), each over all lines, or want of memory.
 pub fn pick(alloc: Global, page: &Page, number: &[u8], sheet: &Sheet) -> Result<Step, Stop>
-    requires { page.now.recent < 1000 }
+    requires { page.now.recent < most_sets }
     ensures ok { IfOk result (λ step. (es : List Event) → Shows page.now es
         → (e : Event) × (picked es (page.now.entries + 1) number.now sheet.now ≡ Ok e) × Shows (put step.changes.items page.now) (es ++ e ∷ [])) }
     ensures err { IfErr result (λ stop. (es : List Event) → Shows page.now es → StopsAct (picked es (page.now.entries + 1) number.now sheet.now) stop) }

@@ -1,4 +1,5 @@
 ghost use Rattle.std.specs.Prelude.{◌≡◌, ◌<◌, ◌+◌, ◌++◌, [], ◌∷◌, List, Ok, Some, IfOk, IfErr, true};
+ghost use Rattle.profile.specs.Limits.{most_sets};
 ghost use Rattle.profile.specs.Clerk.{counted};
 ghost use Rattle.profile.specs.Events.{Event};
 ghost use Rattle.stock.specs.Pages.{IsSound, advice_at};
@@ -26,7 +27,7 @@ fn changes(
     advice: &KnownAdvice,
     sheet: &Sheet,
 ) -> Result<Vec<Change>, AllocError>
-    requires room { page.now.recent < 1000 }
+    requires room { page.now.recent < most_sets }
     requires known { advice_at advice.now.shipment page.now.advices ≡ Some advice.now }
     requires is_open { advice.now.is_open ≡ true }
     ensures made { IfOk result (λ changes. IsReceived (page.now.entries + 1) advice.now sheet.now page.now (put changes.items page.now)) }
@@ -56,7 +57,7 @@ fn changes(
 /// Counts the goods of an advice under the number of the next entry: nothing of it is expected any more, and what the sheet
 /// says is on hand. The error is 22 (there is no such advice), 23 (it was counted), or want of memory.
 pub fn receive(alloc: Global, page: &Page, shipment: &[u8], sheet: &Sheet) -> Result<Step, Stop>
-    requires { page.now.recent < 1000 }
+    requires { page.now.recent < most_sets }
     ensures ok { IfOk result (λ step. (es : List Event) → Shows page.now es
         → (e : Event) × (counted es (page.now.entries + 1) shipment.now sheet.now ≡ Ok e) × Shows (put step.changes.items page.now) (es ++ e ∷ [])) }
     ensures err { IfErr result (λ stop. (es : List Event) → Shows page.now es → StopsAct (counted es (page.now.entries + 1) shipment.now sheet.now) stop) }

@@ -1,5 +1,6 @@
 ghost use Rattle.std.specs.Prelude.{◌≡◌, ◌<◌, ◌+◌, ◌++◌, [], ◌∷◌, List, Ok, IfOk, IfErr, false};
 ghost use Rattle.std.specs.List.{list_any, list_all};
+ghost use Rattle.profile.specs.Limits.{most_sets};
 ghost use Rattle.profile.specs.Clerk.{recounted};
 ghost use Rattle.profile.specs.Events.{Event};
 ghost use Rattle.stock.specs.Keyed.{IsSorted};
@@ -77,7 +78,7 @@ fn are_on_hand(rows: &[Row], lines: &[Goods]) -> bool
 
 // What changes when what is on hand is as the sheet says.
 fn changes(alloc: Global, page: &Page, sheet: &Sheet) -> Result<Vec<Change>, AllocError>
-    requires room { page.now.recent < 1000 }
+    requires room { page.now.recent < most_sets }
     requires known { list_any (is_unknown page.now.rows) sheet.now ≡ false }
     requires covered { list_any (is_below page.now.rows) sheet.now ≡ false }
     ensures made { IfOk result (λ changes. IsRecounted (page.now.entries + 1) sheet.now page.now (put changes.items page.now)) }
@@ -100,7 +101,7 @@ fn changes(alloc: Global, page: &Page, sheet: &Sheet) -> Result<Vec<Change>, All
 /// (an amount is below what is reserved of its pair), 29 (no line differs from what is on hand), each over all lines, or
 /// want of memory.
 pub fn recount(alloc: Global, page: &Page, sheet: &Sheet) -> Result<Step, Stop>
-    requires { page.now.recent < 1000 }
+    requires { page.now.recent < most_sets }
     ensures ok { IfOk result (λ step. (es : List Event) → Shows page.now es
         → (e : Event) × (recounted es (page.now.entries + 1) sheet.now ≡ Ok e) × Shows (put step.changes.items page.now) (es ++ e ∷ [])) }
     ensures err { IfErr result (λ stop. (es : List Event) → Shows page.now es → StopsAct (recounted es (page.now.entries + 1) sheet.now) stop) }

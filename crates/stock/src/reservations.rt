@@ -1,4 +1,5 @@
 ghost use Rattle.std.specs.Prelude.{◌≡◌, ◌<◌, ◌++◌, [], ◌∷◌, List, None, IfOk, IfErr, option_map};
+ghost use Rattle.profile.specs.Limits.{most_sets};
 ghost use Rattle.profile.specs.Allotment.{order_shares};
 ghost use Rattle.profile.specs.Events.{Event, Ordered, order_fault, repeated, same_order_item};
 ghost use Rattle.profile.specs.Page.{reserved_lines};
@@ -59,7 +60,7 @@ fn changes(
     order: &Order,
     shares: &[Goods],
 ) -> Result<Vec<Change>, AllocError>
-    requires room { page.now.recent < 1000 }
+    requires room { page.now.recent < most_sets }
     requires unknown { order_at order.now.number page.now.orders ≡ None }
     requires once { repeated same_order_item [] order.now.lines ≡ None }
     requires allotted { shares.now ≡ all_shares_in page.now.rows order.now.lines }
@@ -80,7 +81,7 @@ fn changes(
 /// before the others, as far as it is wanted, and that is reserved. The error is the trade fault at the least position (a
 /// known order number, an item that stands twice, a W76 that isn't the sum), or want of memory.
 pub fn reserve(alloc: Global, page: &Page, order: &Order) -> Result<Step, Stop>
-    requires { page.now.recent < 1000 }
+    requires { page.now.recent < most_sets }
     ensures ok { IfOk result (λ step. (es : List Event) → Shows page.now es → (order_fault es order.now ≡ None) × Shows (put step.changes.items page.now) (es ++ Ordered order.now (order_shares es order.now) ∷ [])) }
     ensures err { IfErr result (λ stop. (es : List Event) → Shows page.now es → StopsFor (order_fault es order.now) stop) }
     ensures changes { IfOk result (λ step. step.changes.items ≡ order_changes order.now.number page.now (put step.changes.items page.now)) }

@@ -58,13 +58,6 @@ impl Row {
         self.item.as_slice() == item && self.lot.as_slice() == lot
     }
 
-    /// Whether it is the row of the line's pair.
-    pub fn is_for(&self, line: &Goods) -> bool
-        ensures { result ≡ is_row line.now.item line.now.lot self.now }
-    {
-        self.is_of(&line.item, &line.lot)
-    }
-
     // Whether it comes before the row of a pair.
     fn is_before(&self, item: &[u8], lot: &[u8]) -> bool
         ensures { result ≡ key_before (row_key self.now) (item.now, lot.now) }
