@@ -1,5 +1,5 @@
 """A second reading of the rules, in Python, to compare the program with. It shares nothing with the program: it is written from
-the rules of docs/PROFILE.md, searches where the program scans, and adds up where the program keeps running rows.
+the rules of docs/RULES.md, searches where the program scans, and adds up where the program keeps running rows.
 
 `Book(warehouse)` plays the commands of a script: each call answers (printed, told, status).
 """
