@@ -10,7 +10,7 @@ pub const MOST_GROUPS: usize = 100;
 pub const MOST_SETS: usize = 1_000;
 
 /// The most lines of a set or a sheet.
-pub const MOST_LINES: u8 = 99;
+pub const MOST_LINES: u16 = 99;
 
 /// The greatest quantity of a line.
 pub const MOST_QUANTITY: u32 = 99_999;

@@ -136,8 +136,11 @@ pub const MOST_COPY: usize = 99;
 /// The quantity of a line (380).
 pub const QUANTITY_DIGITS: usize = 5;
 
-/// The sum of a set's quantities: W0301, W7601 (382).
-pub const TOTAL_DIGITS: usize = 7;
+/// The sum of an advice's quantities: W0301 (382).
+pub const ADVICE_TOTAL_DIGITS: usize = 7;
+
+/// The sum of an order's quantities: W7601 (382).
+pub const ORDER_TOTAL_DIGITS: usize = 7;
 
 /// The number of a line: LX01 (554).
 pub const LINE_DIGITS: usize = 6;

@@ -12,19 +12,19 @@ use Rattle.profile.specs.Lists.{or_else}
 use Rattle.profile.specs.Cut.{Segment, element, id_of, has_id, segment_with}
 use Rattle.profile.specs.Elements.{Row, Kind, Quantity, Digits, Alphanumeric, element_fault, least_element_fault, faulty_element, must, goods_rows, ElementFault, takes}
 use Rattle.profile.specs.Words.{Words, has_word, words_after}
-use Rattle.profile.specs.Faults.{SetFault, fault_at, fault_from, inner_fault, place_fault, rows_behind}
+use Rattle.profile.specs.Faults.{SetFault, fault_at, fault_from, inner_fault, place_fault, rows_after}
 use Rattle.sets_in.specs.Amounts.{IsAmount, HasAmount, HaveAmounts}
 
 -- no element of the segment is faulty, after some other
 abbrev IsGood : Delims → Segment → Type 0
-IsGood d s = (behind : List ℕ) × (option_and_then (λ rows. faulty_element d rows s) (rows_behind behind (id_of s)) ≡ None)
+IsGood d s = (behind : List ℕ) × (option_and_then (λ rows. faulty_element d rows s) (rows_after behind (id_of s)) ≡ None)
 
 abbrev told_inner : Segment → ℕ → ElementFault → SetFault
 told_inner s position f = record { id = id_of s; position = position; code = 8; element = Some f }
 
 no_inner : (d : Delims) (behind : List ℕ) (position : ℕ) (s : Segment) → inner_fault d behind position s ≡ None
-    → option_and_then (λ rows. faulty_element d rows s) (rows_behind behind (id_of s)) ≡ None
-no_inner d behind position s h = by_fault (option_and_then (λ rows. faulty_element d rows s) (rows_behind behind (id_of s))) h
+    → option_and_then (λ rows. faulty_element d rows s) (rows_after behind (id_of s)) ≡ None
+no_inner d behind position s h = by_fault (option_and_then (λ rows. faulty_element d rows s) (rows_after behind (id_of s))) h
   where
     by_fault : (o : Option ElementFault) → option_map (told_inner s position) o ≡ None → o ≡ None
     by_fault None e = refl
@@ -120,10 +120,10 @@ second_row d row next rows s h =
 
 -- by their ids
 
-rows_good : (d : Delims) (id : List ℕ) (rows : List Row) (s : Segment) → ((behind : List ℕ) → rows_behind behind id ≡ Some rows) → IsGood d s → has_id id s ≡ true → faulty_element d rows s ≡ None
+rows_good : (d : Delims) (id : List ℕ) (rows : List Row) (s : Segment) → ((behind : List ℕ) → rows_after behind id ≡ Some rows) → IsGood d s → has_id id s ≡ true → faulty_element d rows s ≡ None
 rows_good d id rows s found g t =
     let same : id_of s ≡ id = (bytes_eq-Decides (id_of s) id).0 t in
-    ap (λ (o : Option (List Row)). option_and_then (λ rows. faulty_element d rows s) o) (sym (ap (λ (x : List ℕ). rows_behind g.0 x) same ∙ found g.0)) ∙ g.1
+    ap (λ (o : Option (List Row)). option_and_then (λ rows. faulty_element d rows s) o) (sym (ap (λ (x : List ℕ). rows_after g.0 x) same ∙ found g.0)) ∙ g.1
 
 goods_amount : (d : Delims) (s : Segment) → IsGood d s → HasAmount (codes "W04") 1 5 s
 goods_amount d s g = λ t. amount_of d Quantity 5 (element s 1) (λ b. refl) (first_row d (must Quantity 1 5) (drop 1 goods_rows) s (rows_good d (codes "W04") goods_rows s (λ behind. refl) g t))

@@ -135,13 +135,13 @@ abbrev at_place : Bool → Option SetFault → SetFault → Option SetFault
 at_place fits inner place = if fits then inner else Some place
 
 -- a segment with such an id is out of place, with code 1
-pub unknown_fault : (d : Delims) (words : Words) (stage : Stage) (behind : List ℕ) (position : ℕ) (s : Segment) → is_known (id_of s) ≡ false
-    → fault_at d words (rest_of stage) behind position s ≡ Some (record { id = id_of s; position = position; code = 1; element = None })
-unknown_fault d words stage behind position s h =
+pub unknown_fault : (d : Delims) (words : Words) (stage : Stage) (previous : List ℕ) (position : ℕ) (s : Segment) → is_known (id_of s) ≡ false
+    → fault_at d words (rest_of stage) previous position s ≡ Some (record { id = id_of s; position = position; code = 1; element = None })
+unknown_fault d words stage previous position s h =
     let gone : words_after (id_of s) (rest_of stage) ≡ Never = nothing_after (id_of s) (rest_of stage) (unmentioned (id_of s) (rest_of stage) h (rest_known stage)) in
     let not_end : bytes_eq (id_of s) (codes "SE") ≡ false = apart (id_of s) (codes "SE") h refl in
     let code : place_code words (id_of s) ≡ 1 =
     ap (λ (b : Bool). coded b (is_known (id_of s)) (mentions (id_of s) words)) not_end ∙ ap (λ (b : Bool). coded false b (mentions (id_of s) words)) h in
-    ap (λ (w : Words). at_place (has_word w) (inner_fault d behind position s) (place_fault words (rest_of stage) position (id_of s))) gone
+    ap (λ (w : Words). at_place (has_word w) (inner_fault d previous position s) (place_fault words (rest_of stage) position (id_of s))) gone
     ∙ ap (λ (b : Bool). Some (told_at b (wanted_id (rest_of stage)) (id_of s) position (place_code words (id_of s)))) not_end
     ∙ ap (λ (n : ℕ). Some (told_at false (wanted_id (rest_of stage)) (id_of s) position n)) code

@@ -28,14 +28,14 @@ impl Stage {
         ensures { option_map rest_of result ≡ found (words_after (text_of id) (rest_of self)) }
     {
         match self {
-            Stage::Begin => behind_begin(id),
-            Stage::Head => behind_head(id),
-            Stage::Sets(sets) => behind_set(sets, id),
-            Stage::Segments(sets, segments) => behind_segment(sets, segments, id),
-            Stage::Elements(sets, segments, elements) => behind_element(
+            Stage::Begin => after_begin(id),
+            Stage::Head => after_head(id),
+            Stage::Sets(sets) => after_set(sets, id),
+            Stage::Segments(sets, segments) => after_segment(sets, segments, id),
+            Stage::Elements(sets, segments, elements) => after_element(
                 sets, segments, elements, id,
             ),
-            Stage::Total => behind_total(id),
+            Stage::Total => after_total(id),
             Stage::End => None,
         }
     }
@@ -55,7 +55,7 @@ impl Stage {
     }
 }
 
-fn behind_begin(id: Id) -> Option<Stage>
+fn after_begin(id: Id) -> Option<Stage>
     ensures { option_map rest_of result ≡ found (words_after (text_of id) (rest_of Stage.Begin)) }
 {
     match id {
@@ -64,7 +64,7 @@ fn behind_begin(id: Id) -> Option<Stage>
     }
 }
 
-fn behind_head(id: Id) -> Option<Stage>
+fn after_head(id: Id) -> Option<Stage>
     ensures { option_map rest_of result ≡ found (words_after (text_of id) (rest_of Stage.Head)) }
 {
     match id {
@@ -73,7 +73,7 @@ fn behind_head(id: Id) -> Option<Stage>
     }
 }
 
-fn behind_set(sets: u16, id: Id) -> Option<Stage>
+fn after_set(sets: u16, id: Id) -> Option<Stage>
     ensures { option_map rest_of result ≡ found (words_after (text_of id) (rest_of (Stage.Sets sets))) }
 {
     match id {
@@ -83,7 +83,7 @@ fn behind_set(sets: u16, id: Id) -> Option<Stage>
     }
 }
 
-fn behind_segment(sets: u16, segments: u8, id: Id) -> Option<Stage>
+fn after_segment(sets: u16, segments: u8, id: Id) -> Option<Stage>
     ensures { option_map rest_of result ≡ found (words_after (text_of id) (rest_of (Stage.Segments sets segments))) }
 {
     match id {
@@ -93,7 +93,7 @@ fn behind_segment(sets: u16, segments: u8, id: Id) -> Option<Stage>
     }
 }
 
-fn behind_element(sets: u16, segments: u8, elements: u8, id: Id) -> Option<Stage>
+fn after_element(sets: u16, segments: u8, elements: u8, id: Id) -> Option<Stage>
     ensures { option_map rest_of result ≡ found (words_after (text_of id) (rest_of (Stage.Elements sets segments elements))) }
 {
     match id {
@@ -104,7 +104,7 @@ fn behind_element(sets: u16, segments: u8, elements: u8, id: Id) -> Option<Stage
     }
 }
 
-fn behind_total(id: Id) -> Option<Stage>
+fn after_total(id: Id) -> Option<Stage>
     ensures { option_map rest_of result ≡ found (words_after (text_of id) (rest_of Stage.Total)) }
 {
     match id {

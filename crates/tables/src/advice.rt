@@ -18,9 +18,9 @@ pub(crate) enum Stage {
     References(u8),
     Dates(u8),
     // after W04
-    Goods(u8),
+    Goods(u16),
     // after a line's N9
-    Lot(u8),
+    Lot(u16),
     Total,
     End,
 }
@@ -31,14 +31,14 @@ impl Stage {
         ensures { option_map rest_of result ≡ found (words_after (text_of id) (rest_of self)) }
     {
         match self {
-            Stage::Begin => behind_begin(id),
-            Stage::Head => behind_head(id),
-            Stage::Parties(left) => behind_party(left, id),
-            Stage::References(left) => behind_reference(left, id),
-            Stage::Dates(left) => behind_date(left, id),
-            Stage::Goods(left) => behind_goods(left, id),
-            Stage::Lot(left) => behind_lot(left, id),
-            Stage::Total => behind_total(id),
+            Stage::Begin => after_begin(id),
+            Stage::Head => after_head(id),
+            Stage::Parties(left) => after_party(left, id),
+            Stage::References(left) => after_reference(left, id),
+            Stage::Dates(left) => after_date(left, id),
+            Stage::Goods(left) => after_goods(left, id),
+            Stage::Lot(left) => after_lot(left, id),
+            Stage::Total => after_total(id),
             Stage::End => None,
         }
     }
@@ -59,7 +59,7 @@ impl Stage {
     }
 }
 
-fn behind_begin(id: Id) -> Option<Stage>
+fn after_begin(id: Id) -> Option<Stage>
     ensures { option_map rest_of result ≡ found (words_after (text_of id) (rest_of Stage.Begin)) }
 {
     match id {
@@ -68,7 +68,7 @@ fn behind_begin(id: Id) -> Option<Stage>
     }
 }
 
-fn behind_head(id: Id) -> Option<Stage>
+fn after_head(id: Id) -> Option<Stage>
     ensures { option_map rest_of result ≡ found (words_after (text_of id) (rest_of Stage.Head)) }
 {
     match id {
@@ -77,7 +77,7 @@ fn behind_head(id: Id) -> Option<Stage>
     }
 }
 
-fn behind_party(left: u8, id: Id) -> Option<Stage>
+fn after_party(left: u8, id: Id) -> Option<Stage>
     ensures { option_map rest_of result ≡ found (words_after (text_of id) (rest_of (Stage.Parties left))) }
 {
     match id {
@@ -89,7 +89,7 @@ fn behind_party(left: u8, id: Id) -> Option<Stage>
     }
 }
 
-fn behind_reference(left: u8, id: Id) -> Option<Stage>
+fn after_reference(left: u8, id: Id) -> Option<Stage>
     ensures { option_map rest_of result ≡ found (words_after (text_of id) (rest_of (Stage.References left))) }
 {
     match id {
@@ -100,7 +100,7 @@ fn behind_reference(left: u8, id: Id) -> Option<Stage>
     }
 }
 
-fn behind_date(left: u8, id: Id) -> Option<Stage>
+fn after_date(left: u8, id: Id) -> Option<Stage>
     ensures { option_map rest_of result ≡ found (words_after (text_of id) (rest_of (Stage.Dates left))) }
 {
     match id {
@@ -110,7 +110,7 @@ fn behind_date(left: u8, id: Id) -> Option<Stage>
     }
 }
 
-fn behind_goods(left: u8, id: Id) -> Option<Stage>
+fn after_goods(left: u16, id: Id) -> Option<Stage>
     ensures { option_map rest_of result ≡ found (words_after (text_of id) (rest_of (Stage.Goods left))) }
 {
     match id {
@@ -119,7 +119,7 @@ fn behind_goods(left: u8, id: Id) -> Option<Stage>
     }
 }
 
-fn behind_lot(left: u8, id: Id) -> Option<Stage>
+fn after_lot(left: u16, id: Id) -> Option<Stage>
     ensures { option_map rest_of result ≡ found (words_after (text_of id) (rest_of (Stage.Lot left))) }
 {
     match id {
@@ -129,7 +129,7 @@ fn behind_lot(left: u8, id: Id) -> Option<Stage>
     }
 }
 
-fn behind_total(id: Id) -> Option<Stage>
+fn after_total(id: Id) -> Option<Stage>
     ensures { option_map rest_of result ≡ found (words_after (text_of id) (rest_of Stage.Total)) }
 {
     match id {

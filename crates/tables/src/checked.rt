@@ -7,6 +7,7 @@ ghost use Rattle.tables.specs.Judged.{told, IsClosed, IsJudged, IsSound, Whole};
 
 use crate::faults::{Progress, SetFault, step};
 use crate::kinds::SetKind;
+use crate::rows::After;
 use crate::stages::Stage;
 use segments::{Delims, Segment};
 use std::marker::Model;
@@ -64,7 +65,7 @@ fn first_fault<'a>(
 {
     let mut progress = Progress {
         stage: Stage::begin(kind),
-        behind_goods: false,
+        after: After::Else,
     };
     for (index, segment) in segments.iter().enumerate() {
         match step(delims, kind, progress, index as u32 + 1, segment) {

@@ -7,13 +7,13 @@ ghost use Rattle.elements.specs.Rows.{row_of};
 ghost use Rattle.elements.specs.Told.{told_element};
 ghost use Rattle.tables.specs.Ids.{text_of};
 ghost use Rattle.tables.specs.Kinds.{kind_of};
-ghost use Rattle.tables.specs.Rows.{is_goods};
+ghost use Rattle.tables.specs.Rows.{is_goods, after_goods};
 ghost use Rattle.tables.specs.Stages.{rest_of};
 ghost use Rattle.tables.specs.Judged.{told};
 
 use crate::ids::Id;
 use crate::kinds::SetKind;
-use crate::rows::rows_of;
+use crate::rows::{After, rows_of};
 use crate::stages::{Stage, misplaced};
 use elements::{ElementRow, faulty_element};
 use segments::{Delims, Segment};
@@ -36,8 +36,8 @@ pub struct SetFault<'a> {
 #[derive(Clone, Copy)]
 pub(crate) struct Progress {
     pub(crate) stage: Stage,
-    // whether the segment before is a W04 or a W01
-    pub(crate) behind_goods: bool,
+    // the segment before
+    pub(crate) after: After,
 }
 
 // The least faulty element of a segment by its rows.
@@ -57,14 +57,14 @@ fn element_in_error(
 fn inner_fault<'a>(
     delims: &Delims,
     id: Id,
-    behind_goods: bool,
+    after: After,
     position: u32,
     segment: &Segment<'a>,
 ) -> Option<SetFault<'a>>
     requires { id_of segment.now.elements ≡ text_of id }
-    ensures { (behind : List ℕ) → behind_goods ≡ is_goods behind → option_map told result ≡ meant.inner_fault delims.now behind position segment.now.elements }
+    ensures { (previous : List ℕ) → after_goods after ≡ is_goods previous → option_map told result ≡ meant.inner_fault delims.now previous position segment.now.elements }
 {
-    let rows = rows_of(id, behind_goods)?;
+    let rows = rows_of(id, after)?;
     let element = element_in_error(delims, rows, segment)?;
     Some(SetFault {
         segment: segment.element(0),
@@ -109,12 +109,6 @@ fn unknown_fault<'a>(position: u32, segment: &Segment<'a>) -> SetFault<'a>
     }
 }
 
-fn is_goods_id(id: Id) -> bool
-    ensures { result ≡ is_goods (text_of id) }
-{
-    matches!(id, Id::W04 | Id::W01)
-}
-
 /// One segment more, at a position: how far the set has come with it, or its fault.
 pub(crate) fn step<'a>(
     delims: &Delims,
@@ -123,11 +117,11 @@ pub(crate) fn step<'a>(
     position: u32,
     segment: &Segment<'a>,
 ) -> Result<Progress, SetFault<'a>>
-    ensures { (behind : List ℕ) → progress.behind_goods ≡ is_goods behind → MatchResult result
-        (λ p. (meant.fault_at delims.now (kind_words (kind_of kind)) (rest_of progress.stage) behind position segment.now.elements ≡ None)
+    ensures { (previous : List ℕ) → after_goods progress.after ≡ is_goods previous → MatchResult result
+        (λ p. (meant.fault_at delims.now (kind_words (kind_of kind)) (rest_of progress.stage) previous position segment.now.elements ≡ None)
         × (words_after (id_of segment.now.elements) (rest_of progress.stage) ≡ rest_of p.stage)
-        × (p.behind_goods ≡ is_goods (id_of segment.now.elements)))
-        (λ f. meant.fault_at delims.now (kind_words (kind_of kind)) (rest_of progress.stage) behind position segment.now.elements ≡ Some (told f)) }
+        × (after_goods p.after ≡ is_goods (id_of segment.now.elements)))
+        (λ f. meant.fault_at delims.now (kind_words (kind_of kind)) (rest_of progress.stage) previous position segment.now.elements ≡ Some (told f)) }
 {
     let Some(id) = Id::read(segment.element(0)) else {
         return Err(unknown_fault(position, segment));
@@ -135,11 +129,11 @@ pub(crate) fn step<'a>(
     let Some(stage) = progress.stage.next(id) else {
         return Err(place_fault(kind, progress.stage, id, position, segment));
     };
-    match inner_fault(delims, id, progress.behind_goods, position, segment) {
+    match inner_fault(delims, id, progress.after, position, segment) {
         Some(fault) => Err(fault),
         None => Ok(Progress {
             stage,
-            behind_goods: is_goods_id(id),
+            after: After::of(id),
         }),
     }
 }

@@ -21,9 +21,9 @@ pub(crate) enum Stage {
     References(u8),
     Dates(u8),
     // after LX, after its W01, and after the N9 of that
-    Numbered(u8),
-    Goods(u8),
-    Pinned(u8),
+    Numbered(u16),
+    Goods(u16),
+    Pinned(u16),
     Total,
     End,
 }
@@ -34,17 +34,17 @@ impl Stage {
         ensures { option_map rest_of result ≡ found (words_after (text_of id) (rest_of self)) }
     {
         match self {
-            Stage::Begin => behind_begin(id),
-            Stage::Head => behind_head(id),
-            Stage::Parties(left) => behind_party(left, id),
-            Stage::Named(left) => behind_name(left, id),
-            Stage::Streeted(left) => behind_street(left, id),
-            Stage::References(left) => behind_reference(left, id),
-            Stage::Dates(left) => behind_date(left, id),
-            Stage::Numbered(left) => behind_number(left, id),
-            Stage::Goods(left) => behind_goods(left, id),
-            Stage::Pinned(left) => behind_pin(left, id),
-            Stage::Total => behind_total(id),
+            Stage::Begin => after_begin(id),
+            Stage::Head => after_head(id),
+            Stage::Parties(left) => after_party(left, id),
+            Stage::Named(left) => after_name(left, id),
+            Stage::Streeted(left) => after_street(left, id),
+            Stage::References(left) => after_reference(left, id),
+            Stage::Dates(left) => after_date(left, id),
+            Stage::Numbered(left) => after_number(left, id),
+            Stage::Goods(left) => after_goods(left, id),
+            Stage::Pinned(left) => after_pin(left, id),
+            Stage::Total => after_total(id),
             Stage::End => None,
         }
     }
@@ -69,7 +69,7 @@ impl Stage {
     }
 }
 
-fn behind_begin(id: Id) -> Option<Stage>
+fn after_begin(id: Id) -> Option<Stage>
     ensures { option_map rest_of result ≡ found (words_after (text_of id) (rest_of Stage.Begin)) }
 {
     match id {
@@ -78,7 +78,7 @@ fn behind_begin(id: Id) -> Option<Stage>
     }
 }
 
-fn behind_head(id: Id) -> Option<Stage>
+fn after_head(id: Id) -> Option<Stage>
     ensures { option_map rest_of result ≡ found (words_after (text_of id) (rest_of Stage.Head)) }
 {
     match id {
@@ -87,7 +87,7 @@ fn behind_head(id: Id) -> Option<Stage>
     }
 }
 
-fn behind_party(left: u8, id: Id) -> Option<Stage>
+fn after_party(left: u8, id: Id) -> Option<Stage>
     ensures { option_map rest_of result ≡ found (words_after (text_of id) (rest_of (Stage.Parties left))) }
 {
     match id {
@@ -99,7 +99,7 @@ fn behind_party(left: u8, id: Id) -> Option<Stage>
     }
 }
 
-fn behind_name(left: u8, id: Id) -> Option<Stage>
+fn after_name(left: u8, id: Id) -> Option<Stage>
     ensures { option_map rest_of result ≡ found (words_after (text_of id) (rest_of (Stage.Named left))) }
 {
     match id {
@@ -113,7 +113,7 @@ fn behind_name(left: u8, id: Id) -> Option<Stage>
     }
 }
 
-fn behind_street(left: u8, id: Id) -> Option<Stage>
+fn after_street(left: u8, id: Id) -> Option<Stage>
     ensures { option_map rest_of result ≡ found (words_after (text_of id) (rest_of (Stage.Streeted left))) }
 {
     match id {
@@ -126,7 +126,7 @@ fn behind_street(left: u8, id: Id) -> Option<Stage>
     }
 }
 
-fn behind_reference(left: u8, id: Id) -> Option<Stage>
+fn after_reference(left: u8, id: Id) -> Option<Stage>
     ensures { option_map rest_of result ≡ found (words_after (text_of id) (rest_of (Stage.References left))) }
 {
     match id {
@@ -137,7 +137,7 @@ fn behind_reference(left: u8, id: Id) -> Option<Stage>
     }
 }
 
-fn behind_date(left: u8, id: Id) -> Option<Stage>
+fn after_date(left: u8, id: Id) -> Option<Stage>
     ensures { option_map rest_of result ≡ found (words_after (text_of id) (rest_of (Stage.Dates left))) }
 {
     match id {
@@ -147,7 +147,7 @@ fn behind_date(left: u8, id: Id) -> Option<Stage>
     }
 }
 
-fn behind_number(left: u8, id: Id) -> Option<Stage>
+fn after_number(left: u16, id: Id) -> Option<Stage>
     ensures { option_map rest_of result ≡ found (words_after (text_of id) (rest_of (Stage.Numbered left))) }
 {
     match id {
@@ -156,7 +156,7 @@ fn behind_number(left: u8, id: Id) -> Option<Stage>
     }
 }
 
-fn behind_goods(left: u8, id: Id) -> Option<Stage>
+fn after_goods(left: u16, id: Id) -> Option<Stage>
     ensures { option_map rest_of result ≡ found (words_after (text_of id) (rest_of (Stage.Goods left))) }
 {
     match id {
@@ -167,7 +167,7 @@ fn behind_goods(left: u8, id: Id) -> Option<Stage>
     }
 }
 
-fn behind_pin(left: u8, id: Id) -> Option<Stage>
+fn after_pin(left: u16, id: Id) -> Option<Stage>
     ensures { option_map rest_of result ≡ found (words_after (text_of id) (rest_of (Stage.Pinned left))) }
 {
     match id {
@@ -177,7 +177,7 @@ fn behind_pin(left: u8, id: Id) -> Option<Stage>
     }
 }
 
-fn behind_total(id: Id) -> Option<Stage>
+fn after_total(id: Id) -> Option<Stage>
     ensures { option_map rest_of result ≡ found (words_after (text_of id) (rest_of Stage.Total)) }
 {
     match id {

@@ -1,19 +1,18 @@
 ghost use Rattle.std.specs.Prelude.{◌≡◌, ◌<◌, ℕ, List, length, map, option_map, IfSome};
-ghost use Rattle.profile.specs.Faults.{rows_behind};
+ghost use Rattle.profile.specs.Faults.{rows_after};
 ghost use Rattle.elements.specs.Rows.{row_of};
 ghost use Rattle.tables.specs.Ids.{text_of};
-ghost use Rattle.tables.specs.Rows.{is_goods};
+ghost use Rattle.tables.specs.Rows.{is_goods, after_goods};
 
 use crate::ids::Id;
 use elements::{ElementRow, Kind};
 use profile::{
-    CONTROL_DIGITS, DATE_DIGITS, DATE_QUALIFIER_BYTES, ELEMENT_DIGITS, FUNCTION_BYTES, LEAST_CITY,
+    ADVICE_TOTAL_DIGITS, CONTROL_DIGITS, DATE_DIGITS, DATE_QUALIFIER_BYTES, ELEMENT_DIGITS, FUNCTION_BYTES, LEAST_CITY,
     LEAST_CODE, LEAST_COUNTRY, LEAST_POSTAL, LEAST_QUALIFIER, LEAST_SEGMENT, LEAST_SET_CONTROL,
     LINE_DIGITS, MOST_CASE, MOST_CITY, MOST_CODE, MOST_CODE_QUALIFIER, MOST_COPY, MOST_COUNTRY,
     MOST_DESCRIPTION, MOST_ERROR, MOST_ITEM, MOST_LOOP, MOST_LOT, MOST_NAME, MOST_NUMBER,
     MOST_PLACE, MOST_POSTAL, MOST_QUALIFIER, MOST_REFERENCE, MOST_SEGMENT, MOST_SET_CONTROL,
-    MOST_STREET, POSITION_DIGITS, QUANTITY_DIGITS, SET_BYTES, SETS_DIGITS, STATE_BYTES,
-    TOTAL_DIGITS,
+    MOST_STREET, ORDER_TOTAL_DIGITS, POSITION_DIGITS, QUANTITY_DIGITS, SET_BYTES, SETS_DIGITS, STATE_BYTES,
 };
 
 // The row of an element that must be there, with its type and its least and greatest length in bytes.
@@ -69,8 +68,11 @@ const N9: &[ElementRow] = &[
     may!(Kind::Data, 1, MOST_DESCRIPTION),
 ];
 
-// W03 and W76: the sum of the quantities.
-const TOTAL: &[ElementRow] = &[must!(Kind::Quantity, 1, TOTAL_DIGITS)];
+// The sum of an advice's quantities.
+const W03: &[ElementRow] = &[must!(Kind::Quantity, 1, ADVICE_TOTAL_DIGITS)];
+
+// The sum of an order's quantities.
+const W76: &[ElementRow] = &[must!(Kind::Quantity, 1, ORDER_TOTAL_DIGITS)];
 
 const W05: &[ElementRow] = &[
     must!(Kind::Coded(&[b"N"]), 1, 1),
@@ -153,18 +155,42 @@ const AK9: &[ElementRow] = &[
     may!(Kind::Data, 1, MOST_ERROR),
 ];
 
-/// The rows of a segment with the id, which stands directly after a W04 or a W01 or doesn't; None for ST and SE.
-pub(crate) fn rows_of(id: Id, behind_goods: bool) -> Option<&'static [ElementRow]>
-    ensures rows { (behind : List ℕ) → behind_goods ≡ is_goods behind → option_map (λ r. map row_of r.now) result ≡ rows_behind behind (text_of id) }
+/// What a segment stands directly after, as far as it decides which rows an N9 has.
+#[derive(Clone, Copy)]
+pub(crate) enum After {
+    // W04 or W01, with the quantity and the item of a line: an N9 is the line's lot
+    Goods,
+    // another segment, or none: an N9 is a reference
+    Else,
+}
+
+impl After {
+    /// What stands after a segment with the id.
+    pub(crate) fn of(id: Id) -> After
+        ensures { after_goods result ≡ is_goods (text_of id) }
+    {
+        match id {
+            Id::W04 | Id::W01 => After::Goods,
+            _ => After::Else,
+        }
+    }
+}
+
+/// The rows of a segment with the id, by what it stands after; None for ST and SE.
+pub(crate) fn rows_of(id: Id, after: After) -> Option<&'static [ElementRow]>
+    ensures rows { (previous : List ℕ) → after_goods after ≡ is_goods previous → option_map (λ r. map row_of r.now) result ≡ rows_after previous (text_of id) }
     ensures few { IfSome result (λ r. length r.now < 100) }
 {
     match id {
         Id::St | Id::Se => None,
         Id::W06 => Some(W06),
         Id::W04 | Id::W01 => Some(GOODS),
-        Id::N9 if behind_goods => Some(LOT),
-        Id::N9 => Some(N9),
-        Id::W03 | Id::W76 => Some(TOTAL),
+        Id::N9 => match after {
+            After::Goods => Some(LOT),
+            After::Else => Some(N9),
+        },
+        Id::W03 => Some(W03),
+        Id::W76 => Some(W76),
         Id::W05 => Some(W05),
         Id::Lx => Some(LX),
         Id::N1 => Some(N1),

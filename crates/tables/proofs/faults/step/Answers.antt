@@ -10,29 +10,29 @@ use Rattle.tables.proofs.Places.{in_place, out_of_place, found_some}
 use Rattle.tables.proofs.faults.step.Goals as goal
 
 pub returns-in_default : goal.returns-in_default
-returns-in_default c = λ behind h.
-    unknown_fault c.args.delims.now (kind_words (kind_of c.args.kind)) c.args.progress.stage behind c.args.position c.args.segment.now.elements (sym (ap is_known c.element.ensures) ∙ c.in_default.ensures)
+returns-in_default c = λ previous h.
+    unknown_fault c.args.delims.now (kind_words (kind_of c.args.kind)) c.args.progress.stage previous c.args.position c.args.segment.now.elements (sym (ap is_known c.element.ensures) ∙ c.in_default.ensures)
     ∙ ap Some (sym c.unknown_fault.ensures)
 
 pub returns-in_default-next : goal.returns-in_default-next
-returns-in_default-next c = λ behind h.
+returns-in_default-next c = λ previous h.
     let id = sym c.element.ensures ∙ c.in-Some.ensures in
-    out_of_place c.args.delims.now (kind_words (kind_of c.args.kind)) (rest_of c.args.progress.stage) behind c.args.position c.args.segment.now.elements
+    out_of_place c.args.delims.now (kind_words (kind_of c.args.kind)) (rest_of c.args.progress.stage) previous c.args.position c.args.segment.now.elements
     (c.in_default-next.ensures ∙ ap (λ (t : List ℕ). found (words_after t (rest_of c.args.progress.stage))) (sym id))
     ∙ ap Some (sym c.place_fault.ensures)
 
 pub returns-in-Some-inner_fault : goal.returns-in-Some-inner_fault
-returns-in-Some-inner_fault c = λ behind h.
+returns-in-Some-inner_fault c = λ previous h.
     let id = sym c.element.ensures ∙ c.in-Some.ensures in
-    in_place c.args.delims.now (kind_words (kind_of c.args.kind)) (rest_of c.args.progress.stage) _ behind c.args.position c.args.segment.now.elements
+    in_place c.args.delims.now (kind_words (kind_of c.args.kind)) (rest_of c.args.progress.stage) _ previous c.args.position c.args.segment.now.elements
     (c.in-Some-next.ensures ∙ ap (λ (t : List ℕ). found (words_after t (rest_of c.args.progress.stage))) (sym id))
-    ∙ sym (c.in-Some-inner_fault.ensures behind h)
+    ∙ sym (c.in-Some-inner_fault.ensures previous h)
 
 pub returns-in-None : goal.returns-in-None
-returns-in-None c = λ behind h.
+returns-in-None c = λ previous h.
     let id = sym c.element.ensures ∙ c.in-Some.ensures in
     let next = c.in-Some-next.ensures ∙ ap (λ (t : List ℕ). found (words_after t (rest_of c.args.progress.stage))) (sym id) in (
-      in_place c.args.delims.now (kind_words (kind_of c.args.kind)) (rest_of c.args.progress.stage) _ behind c.args.position c.args.segment.now.elements next ∙ sym (c.in-None.ensures behind h),
+      in_place c.args.delims.now (kind_words (kind_of c.args.kind)) (rest_of c.args.progress.stage) _ previous c.args.position c.args.segment.now.elements next ∙ sym (c.in-None.ensures previous h),
       (found_some _ _ next).1,
-      c.is_goods_id.ensures ∙ ap is_goods (sym id),
+      c.of.ensures ∙ ap is_goods (sym id),
     )
