@@ -1,4 +1,4 @@
-ghost use Rattle.std.specs.Prelude.{◌≡◌, ◌≤◌, ◌==◌, ◌&&◌, not, take, drop, nat_le, bytes_eq, length};
+ghost use Rattle.std.specs.Prelude.{◌≡◌, ◌==◌, ◌&&◌, not, take, drop, nat_le, bytes_eq, length, true};
 ghost use Rattle.std.specs.List.{list_all, list_any};
 ghost use Rattle.profile.specs.Bytes as bytes;
 ghost use Rattle.profile.specs.Cut as profile;
@@ -7,7 +7,7 @@ ghost use Rattle.profile.specs.Elements as meant;
 ghost use Rattle.elements.specs.Rows.{kind_of, row_of};
 
 use profile::{DATE_DIGITS, LEAST_TIME};
-use segments::{Delims, is_day};
+use segments::{Delims, all_digits, is_day, number};
 
 /// The types of elements, as an element row names them.
 pub enum Kind {
@@ -68,12 +68,6 @@ fn takes_all(delims: &Delims, kind: &Kind, element: &[u8]) -> bool
     element.iter().all(|b| takes(delims, kind, *b))
 }
 
-fn all_digits(text: &[u8]) -> bool
-    ensures { result ≡ list_all bytes.is_digit text.now }
-{
-    text.iter().all(|b| matches!(*b, b'0'..=b'9'))
-}
-
 // Whether the digits are of no value.
 fn is_zero(text: &[u8]) -> bool
     ensures { result ≡ list_all (λ b. nat_le b 48) text.now }
@@ -81,21 +75,11 @@ fn is_zero(text: &[u8]) -> bool
     text.iter().all(|b| *b <= b'0')
 }
 
-// The value of a few digits.
-fn number(text: &[u8]) -> u32
-    requires { length text.now ≤ 4 }
-    ensures { result ≡ bytes.value text.now }
-{
-    let mut number: u32 = 0;
-    for b in text {
-        number = number * 10 + u32::from(b.saturating_sub(b'0'));
-    }
-    number
-}
-
 // Whether eight digits are a day.
+#[tactic(auto, using(segments::proofs::DigitsLemmas::taken_digits, segments::proofs::DigitsLemmas::dropped_digits))]
 fn names_day(text: &[u8]) -> bool
-    requires { length text.now ≡ 8 }
+    requires eight { length text.now ≡ 8 }
+    requires digits { list_all bytes.is_digit text.now ≡ true }
     ensures { result ≡ moments.is_day (bytes.value (take 4 text.now)) (bytes.value (take 2 (drop 4 text.now))) (bytes.value (drop 6 text.now)) }
 {
     is_day(number(&text[..4]), number(&text[4..6]), number(&text[6..]))
@@ -108,6 +92,7 @@ fn is_date(text: &[u8]) -> bool
 }
 
 // Whether the first four are a time of day.
+#[tactic(auto, using(segments::proofs::DigitsLemmas::taken_digits, segments::proofs::DigitsLemmas::dropped_digits))]
 fn is_clock(text: &[u8]) -> bool
     ensures { result ≡ moments.is_clock text.now }
 {

@@ -1,19 +1,16 @@
-ghost use Rattle.std.specs.Prelude.{◌≡◌, ◌≤◌, ◌<◌, ◌^◌, ◌==◌, bytes_eq, length, min};
+ghost use Rattle.std.specs.Prelude.{◌≡◌, ◌≤◌, ◌<◌, ◌^◌, ◌==◌, bytes_eq, length};
 ghost use Rattle.std.specs.List.{list_all};
 ghost use Rattle.profile.specs.Bytes as meant;
+ghost use Rattle.profile.specs.Limits.{most_partner};
+
+use profile::MOST_PARTNER;
+use segments::value_up_to;
 
 // Whether the two are the same.
 pub(crate) fn same(a: &[u8], b: &[u8]) -> bool
     ensures { result ≡ bytes_eq a.now b.now }
 {
     a == b
-}
-
-// Whether each byte is a digit.
-pub(crate) fn all_digits(text: &[u8]) -> bool
-    ensures { result ≡ list_all meant.is_digit text.now }
-{
-    text.iter().all(|b| matches!(*b, b'0'..=b'9'))
 }
 
 // Whether each byte is a space.
@@ -36,23 +33,12 @@ pub(crate) fn all_alphanumeric(text: &[u8]) -> bool
     text.iter().all(|b| is_alphanumeric(*b))
 }
 
-// The value of digits, as far as ten to the eighteenth: no count of anything in memory comes so far.
-fn value(text: &[u8]) -> u64
-    ensures { result ≡ min (meant.value text.now) (10 ^ 18) }
-{
-    let mut value: u64 = 0;
-    for b in text {
-        value = (value * 10 + u64::from(b.saturating_sub(b'0'))).min(1_000_000_000_000_000_000);
-    }
-    value
-}
-
 // Whether the digits are of this value.
 pub(crate) fn has_value(text: &[u8], n: usize) -> bool
     requires { n < 10 ^ 18 }
     ensures { result ≡ (meant.value text.now == n) }
 {
-    value(text) == n as u64
+    value_up_to(text, n as u64 + 1) == n as u64
 }
 
 // The text without the spaces at its end.
@@ -69,22 +55,22 @@ pub(crate) fn stripped(text: &[u8]) -> &[u8]
 
 // The id, filled up with spaces as ISA06 and ISA08 are.
 #[tactic(auto, using(crate::proofs::Spaces::filled))]
-fn padded(id: &[u8]) -> [u8; 15]
-    requires { length id.now ≤ 15 }
-    ensures { result ≡ meant.padded 15 id.now }
+fn padded(id: &[u8]) -> [u8; MOST_PARTNER]
+    requires { length id.now ≤ most_partner }
+    ensures { result ≡ meant.padded most_partner id.now }
 {
-    let mut padded = [b' '; 15];
+    let mut padded = [b' '; MOST_PARTNER];
     padded[..id.len()].copy_from_slice(id);
     padded
 }
 
-// Whether the field, fifteen bytes, is the id filled up with spaces.
+// Whether the field, of the width of a partner's id, is the id filled up with spaces.
 #[tactic(auto, using(crate::proofs::Spaces::too_long))]
 pub(crate) fn is_padded(field: &[u8], id: &[u8]) -> bool
-    requires { length field.now ≡ 15 }
-    ensures { result ≡ bytes_eq field.now (meant.padded 15 id.now) }
+    requires { length field.now ≡ most_partner }
+    ensures { result ≡ bytes_eq field.now (meant.padded most_partner id.now) }
 {
-    if id.len() > 15 {
+    if id.len() > MOST_PARTNER {
         return false;
     }
     same(field, &padded(id))

@@ -4,10 +4,10 @@ ghost use Rattle.profile.specs.Bytes.{is_data, is_line_end as ends_line};
 ghost use Rattle.profile.specs.Header as meant;
 ghost use Rattle.envelope.specs.Legibility as parts;
 
-use crate::bytes::{all_digits, same};
+use crate::bytes::same;
 use crate::header::{Isa, Unreadable, element};
 use profile::{ISA_BYTES, ISA_SEPARATORS, MOST_BYTES};
-use segments::Delims;
+use segments::{Delims, all_digits};
 
 // Whether the text begins as a header does.
 fn begins(text: &[u8]) -> bool

@@ -3,3 +3,4 @@ pub mod ExtendsLemmas
 pub mod ElementsLemma
 pub mod FilledLemmas
 pub mod PartnerLemmas
+pub mod DigitsLemmas

@@ -1,10 +1,11 @@
 //! Segments of an X12 text, cut from it and written into it, and the small values that their elements hold: delimiters,
-//! moments, identifiers and partners.
+//! numbers, moments, identifiers and partners.
 #![tactic(auto)]
 
 mod begin;
 mod cutting;
 mod delims;
+mod digits;
 mod idents;
 mod moments;
 mod partners;
@@ -13,6 +14,7 @@ mod writing;
 pub use begin::cut;
 pub use cutting::{Cut, Segment};
 pub use delims::Delims;
+pub use digits::{all_digits, number, value_up_to};
 pub use idents::Ident;
 pub use moments::{Moment, is_day};
 pub use partners::Who;

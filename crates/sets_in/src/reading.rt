@@ -13,11 +13,7 @@ pub fn number(text: &[u8]) -> u32
     requires { IsAmount 9 text.now }
     ensures { result ≡ value text.now }
 {
-    let mut number: u64 = 0;
-    for b in text {
-        number = number * 10 + u64::from(b.saturating_sub(b'0'));
-    }
-    number as u32
+    segments::number(text)
 }
 
 /// A copy of the text.

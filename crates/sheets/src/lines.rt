@@ -1,5 +1,4 @@
 ghost use Rattle.std.specs.Prelude.{◌≡◌, ◌≤◌, ◌-◌, ◌^◌, min, IfOk};
-ghost use Rattle.std.specs.List.{list_all};
 ghost use Rattle.profile.specs.Bytes as bytes;
 ghost use Rattle.profile.specs.Clerk as clerk;
 ghost use Rattle.profile.specs.Limits.{most_recounted};
@@ -8,7 +7,7 @@ ghost use Rattle.sheets.specs.Pairs.{pair_cmp};
 
 use crate::kinds::SheetKind;
 use profile::{MOST_ITEM, MOST_LOT, SHEET_DIGITS};
-use segments::Ident;
+use segments::{Ident, all_digits, value_up_to};
 use std::alloc::{AllocError, Global};
 use std::cmp::Ordering;
 use std::marker::Model;
@@ -25,25 +24,6 @@ impl Model for Line {
     ghost Value = { clerk.RawLine };
 
     ghost view = { λ l. record { item = l.item.items; lot = l.lot.items; quantity = l.quantity.items } };
-}
-
-// The value of digits, at most the greatest u32.
-fn value(digits: &[u8]) -> u32
-    ensures { result ≡ min (bytes.value digits.now) (2 ^ 32 - 1) }
-{
-    let mut value: u32 = 0;
-    for b in digits {
-        value = value
-            .saturating_mul(10)
-            .saturating_add(u32::from(b.saturating_sub(b'0')));
-    }
-    value
-}
-
-fn all_digits(text: &[u8]) -> bool
-    ensures { result ≡ list_all bytes.is_digit text.now }
-{
-    text.iter().all(|b| matches!(*b, b'0'..=b'9'))
 }
 
 // Whether the text is digits, at least one.
@@ -91,7 +71,7 @@ impl Line {
     pub fn amount(&self) -> u32
         ensures { result ≡ min (bytes.value self.now.quantity) (2 ^ 32 - 1) }
     {
-        value(&self.quantity)
+        value_up_to(&self.quantity, u64::from(u32::MAX)) as u32
     }
 
     // Whether it picks nothing; more than nine digits aren't read as 0.
