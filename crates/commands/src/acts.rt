@@ -16,8 +16,7 @@ use std::alloc::Global;
 use std::rt::Files;
 use std::{fs, io};
 use store::{
-    BookAct as ClerkAct, Command, Ident, Keeper, Moment, Refusal, Reply, Sheet, SheetKind, Who,
-    submit,
+    Act as ClerkAct, Command, Ident, Keeper, Moment, Refusal, Reply, Sheet, SheetKind, Who, submit,
 };
 
 /// What is to be done to a book, its words tested and its files read, so that only the book and the devices can keep it from

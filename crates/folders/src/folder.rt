@@ -3,9 +3,12 @@ ghost use Rattle.folders.specs.Folders.{became, became_of, IsDeviceFault, AreTak
 ghost use Rattle.store.specs.Runs.{told};
 ghost use Rattle.store.specs.Standing.{GoesOn};
 
+use crate::answers::write_answer;
+use crate::files::read_interchange;
+use crate::names::interchanges_in;
 use std::alloc::AllocError;
 use std::rt::Files;
-use std::{fmt, fs, io};
+use std::{fmt, io};
 use store::{Command, Fault, Keeper, Moment, Refusal, Reply, submit};
 
 /// What became of the interchange in a file.
@@ -58,28 +61,11 @@ fn fault_of(error: &io::Error) -> Fault
     }
 }
 
-// Whether an entry of a folder is an interchange: no folder, and its name ends so.
-fn is_interchange<R: Files>(entry: &fs::DirEntry<R>) -> io::Result<bool> {
-    Ok(entry.file_name().ends_with(".x12") && !entry.file_type()?.is_dir())
-}
-
-// The names of the interchanges in a folder, as they come.
-fn listed<R: Files + AllocGlobal + Clone + Drop>(rt: &R, dir: &str) -> io::Result<Vec<String>> {
-    let mut names = Vec::new(rt.alloc());
-    for entry in fs::read_dir(rt, dir)? {
-        let entry = entry?;
-        if is_interchange(&entry)? {
-            names.push(entry.file_name().to_string(rt.alloc())?)?;
-        }
-    }
-    Ok(names)
-}
-
-// The bytes of a file.
+// The bytes of the interchange in a file.
 fn bytes_of<R: Files + AllocGlobal>(rt: &R, path: &str) -> Result<Vec<u8>, Fault>
     ensures { IfErr result IsDeviceFault }
 {
-    match fs::read(rt, path) {
+    match read_interchange(rt, path) {
         Ok(bytes) => Ok(bytes),
         Err(error) => Err(fault_of(&error)),
     }
@@ -92,8 +78,7 @@ fn leave_answer<R: Files + AllocGlobal>(rt: &R, path: &str, answer: &[u8]) -> Re
     if answer.is_empty() {
         return Ok(());
     }
-    let beside = format!(in rt.alloc(); "{path}.ans")?;
-    match fs::write(rt, beside.as_str(), answer) {
+    match write_answer(rt, path, answer) {
         Ok(()) => Ok(()),
         Err(error) => Err(fault_of(&error)),
     }
@@ -129,15 +114,12 @@ fn take_file<R: Files + AllocGlobal, K: Keeper>(
     Ok(outcome)
 }
 
-// The names in order of their bytes.
+// The names of the interchanges in a folder, in the order of their bytes.
 fn in_order<R: Files + AllocGlobal + Clone + Drop>(rt: &R, dir: &str) -> Result<Vec<String>, Fault>
     ensures { IfErr result IsDeviceFault }
 {
-    match listed(rt, dir) {
-        Ok(mut names) => {
-            names.sort_unstable();
-            Ok(names)
-        }
+    match interchanges_in(rt, dir) {
+        Ok(names) => Ok(names),
         Err(error) => Err(fault_of(&error)),
     }
 }
@@ -147,11 +129,12 @@ fn path_in<R: AllocGlobal>(rt: &R, dir: &str, name: &str) -> Result<String, Allo
     format!(in rt.alloc(); "{dir}/{name}")
 }
 
-/// Submits each interchange of a folder, the files whose names end `.x12`, in the order of their names' bytes, and writes a
-/// nonempty answer to the name with `.ans` added. A file whose answer is there already is submitted again, and its answer
-/// written anew: so taking the folder again mends a stop at any place. Faults are those of `submit`, want of memory, and Device
-/// (44) where the folder can't be read, a file can't be read or an answer can't be written; a name that isn't UTF-8 can't be
-/// read. Behind a fault the files before it are taken, and nothing is said of them.
+/// Submits each interchange of a folder, the regular files whose names end `.x12` and links to such files, in the order of their
+/// names' bytes, and writes a nonempty answer to the name with `.ans` added, as a file of its own that replaces what stands there.
+/// A file whose answer is there already is submitted again, and its answer written anew: so taking the folder again mends a stop
+/// at any place. Passed over are entries of other kinds, names that aren't UTF-8, and names of more than 251 bytes. Faults are
+/// those of `submit`, want of memory, and Device (44) where the folder can't be read, a file can't be read or an answer can't be
+/// written. After a fault the files before it are taken, and nothing is said of them.
 pub fn take_folder<R: Files + AllocGlobal + Clone + Drop, K: Keeper>(
     rt: &R,
     dir: &str,

@@ -1,4 +1,4 @@
-//! How interchanges come in: over HTTP on loopback, one request a connection, and from a folder.
+//! How interchanges come in: over HTTP on loopback, one request a connection, from a folder, and from a file.
 #![tactic(auto)]
 
 mod gauge;
@@ -15,7 +15,7 @@ mod sending;
 mod serving;
 mod texts;
 
-pub use folders::{FileOutcome, Taken, take_folder};
+pub use folders::{FileOutcome, Taken, read_first, read_interchange, take_folder};
 pub use gauge::Gauge;
 pub use listening::serve_count;
 pub use responding::respond;
