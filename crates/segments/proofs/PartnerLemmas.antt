@@ -1,10 +1,9 @@
 -- Partners from their parts, and from their text.
-use Rattle.std.proofs.Common.{◌≡◌, ℕ, ◌+◌, ◌-◌, ◌≤◌, Bool, true, false, List, [], ◌∷◌, ◌++◌, length, get_or, take, drop, refl, sym, subst, ◌∙◌, ap, arith, Some, None, length-drop}
-use Rattle.std.specs.Prelude.{◌&&◌, ◌==◌, if◌then◌else◌, nat_le, bytes_eq, codes, Option}
+use Rattle.std.proofs.Common.{◌≡◌, ℕ, ◌-◌, ◌≤◌, Bool, true, false, List, [], ◌∷◌, ◌++◌, length, get_or, take, drop, refl, sym, subst, ◌∙◌, ap, arith, Some, None, length-drop}
+use Rattle.std.specs.Prelude.{◌&&◌, if◌then◌else◌, nat_le, bytes_eq, Option}
 use Rattle.std.specs.List.{list_all}
 use Rattle.std.specs.Prelude.{replicate, IsTrue}
 use Rattle.segments.proofs.FilledLemmas.{filled}
-use Rattle.std.proofs.lemmas.Bool.{and_parts}
 use Rattle.profile.proofs.TextLaws.{both_parts}
 use borrow.Author.Tests.{leb-true}
 use Rattle.std.proofs.Math.Seq.{take-append_seam}
