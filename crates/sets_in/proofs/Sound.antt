@@ -13,6 +13,7 @@ use Rattle.profile.specs.Cut.{Segment, element, id_of, has_id, segment_with}
 use Rattle.profile.specs.Elements.{Row, Kind, Quantity, Digits, Alphanumeric, element_fault, least_element_fault, faulty_element, must, goods_rows, ElementFault, takes}
 use Rattle.profile.specs.Words.{Words, has_word, words_after}
 use Rattle.profile.specs.Faults.{SetFault, fault_at, fault_from, inner_fault, place_fault, rows_after}
+use Rattle.profile.specs.declared.widths.TheConstants.{ADVICE_TOTAL_DIGITS, ORDER_TOTAL_DIGITS, QUANTITY_DIGITS}
 use Rattle.sets_in.specs.Amounts.{IsAmount, HasAmount, HaveAmounts}
 
 -- no element of the segment is faulty, after some other
@@ -125,17 +126,17 @@ rows_good d id rows s found g t =
     let same : id_of s ≡ id = (bytes_eq-Decides (id_of s) id).0 t in
     ap (λ (o : Option (List Row)). option_and_then (λ rows. faulty_element d rows s) o) (sym (ap (λ (x : List ℕ). rows_after g.0 x) same ∙ found g.0)) ∙ g.1
 
-goods_amount : (d : Delims) (s : Segment) → IsGood d s → HasAmount (codes "W04") 1 5 s
-goods_amount d s g = λ t. amount_of d Quantity 5 (element s 1) (λ b. refl) (first_row d (must Quantity 1 5) (drop 1 goods_rows) s (rows_good d (codes "W04") goods_rows s (λ after. refl) g t))
+goods_amount : (d : Delims) (s : Segment) → IsGood d s → HasAmount (codes "W04") 1 QUANTITY_DIGITS s
+goods_amount d s g = λ t. amount_of d Quantity QUANTITY_DIGITS (element s 1) (λ b. refl) (first_row d (must Quantity 1 QUANTITY_DIGITS) (drop 1 goods_rows) s (rows_good d (codes "W04") goods_rows s (λ after. refl) g t))
 
-ordered_amount : (d : Delims) (s : Segment) → IsGood d s → HasAmount (codes "W01") 1 5 s
-ordered_amount d s g = λ t. amount_of d Quantity 5 (element s 1) (λ b. refl) (first_row d (must Quantity 1 5) (drop 1 goods_rows) s (rows_good d (codes "W01") goods_rows s (λ after. refl) g t))
+ordered_amount : (d : Delims) (s : Segment) → IsGood d s → HasAmount (codes "W01") 1 QUANTITY_DIGITS s
+ordered_amount d s g = λ t. amount_of d Quantity QUANTITY_DIGITS (element s 1) (λ b. refl) (first_row d (must Quantity 1 QUANTITY_DIGITS) (drop 1 goods_rows) s (rows_good d (codes "W01") goods_rows s (λ after. refl) g t))
 
-advised_total : (d : Delims) (s : Segment) → IsGood d s → HasAmount (codes "W03") 1 7 s
-advised_total d s g = λ t. amount_of d Quantity 7 (element s 1) (λ b. refl) (first_row d (must Quantity 1 7) [] s (rows_good d (codes "W03") (must Quantity 1 7 ∷ []) s (λ after. refl) g t))
+advised_total : (d : Delims) (s : Segment) → IsGood d s → HasAmount (codes "W03") 1 ADVICE_TOTAL_DIGITS s
+advised_total d s g = λ t. amount_of d Quantity ADVICE_TOTAL_DIGITS (element s 1) (λ b. refl) (first_row d (must Quantity 1 ADVICE_TOTAL_DIGITS) [] s (rows_good d (codes "W03") (must Quantity 1 ADVICE_TOTAL_DIGITS ∷ []) s (λ after. refl) g t))
 
-ordered_total : (d : Delims) (s : Segment) → IsGood d s → HasAmount (codes "W76") 1 7 s
-ordered_total d s g = λ t. amount_of d Quantity 7 (element s 1) (λ b. refl) (first_row d (must Quantity 1 7) [] s (rows_good d (codes "W76") (must Quantity 1 7 ∷ []) s (λ after. refl) g t))
+ordered_total : (d : Delims) (s : Segment) → IsGood d s → HasAmount (codes "W76") 1 ORDER_TOTAL_DIGITS s
+ordered_total d s g = λ t. amount_of d Quantity ORDER_TOTAL_DIGITS (element s 1) (λ b. refl) (first_row d (must Quantity 1 ORDER_TOTAL_DIGITS) [] s (rows_good d (codes "W76") (must Quantity 1 ORDER_TOTAL_DIGITS ∷ []) s (λ after. refl) g t))
 
 document_number : (d : Delims) (s : Segment) → IsGood d s → HasAmount (codes "AK1") 2 9 s
 document_number d s g = λ t. amount_of d Digits 9 (element s 2) (λ b. refl)
@@ -148,16 +149,16 @@ all_so f (s ∷ ss) h = (f s h.0, all_so f ss h.1)
 abbrev Passes : Delims → Words → List Segment → Type 0
 Passes d words ss = fault_from d words words [] 1 ss ≡ None
 
-pub goods_amounts : (d : Delims) (words : Words) (ss : List Segment) → Passes d words ss → HaveAmounts (codes "W04") 1 5 ss
+pub goods_amounts : (d : Delims) (words : Words) (ss : List Segment) → Passes d words ss → HaveAmounts (codes "W04") 1 QUANTITY_DIGITS ss
 goods_amounts d words ss h = all_so (goods_amount d) ss (all_good d words words [] 1 ss h)
 
-pub ordered_amounts : (d : Delims) (words : Words) (ss : List Segment) → Passes d words ss → HaveAmounts (codes "W01") 1 5 ss
+pub ordered_amounts : (d : Delims) (words : Words) (ss : List Segment) → Passes d words ss → HaveAmounts (codes "W01") 1 QUANTITY_DIGITS ss
 ordered_amounts d words ss h = all_so (ordered_amount d) ss (all_good d words words [] 1 ss h)
 
-pub advised_totals : (d : Delims) (words : Words) (ss : List Segment) → Passes d words ss → HaveAmounts (codes "W03") 1 7 ss
+pub advised_totals : (d : Delims) (words : Words) (ss : List Segment) → Passes d words ss → HaveAmounts (codes "W03") 1 ADVICE_TOTAL_DIGITS ss
 advised_totals d words ss h = all_so (advised_total d) ss (all_good d words words [] 1 ss h)
 
-pub ordered_totals : (d : Delims) (words : Words) (ss : List Segment) → Passes d words ss → HaveAmounts (codes "W76") 1 7 ss
+pub ordered_totals : (d : Delims) (words : Words) (ss : List Segment) → Passes d words ss → HaveAmounts (codes "W76") 1 ORDER_TOTAL_DIGITS ss
 ordered_totals d words ss h = all_so (ordered_total d) ss (all_good d words words [] 1 ss h)
 
 pub document_numbers : (d : Delims) (words : Words) (ss : List Segment) → Passes d words ss → HaveAmounts (codes "AK1") 2 9 ss
