@@ -46,8 +46,8 @@ before_bare id ps = sym (ap (λ n. take n (segments_of ps)) (place_bare id ps) �
 pub through_bare : (id : List ℕ) (ps : List Piece) → segments_of (take (position_or_len (marked id) ps + 1) ps) ≡ take (position_or_len (has_id id) (segments_of ps) + 1) (segments_of ps)
 through_bare id ps = sym (ap (λ n. take (n + 1) (segments_of ps)) (place_bare id ps) ∙ take-map (λ (p : Piece). p.elements) (position_or_len (marked id) ps + 1) ps)
 
-pub behind_bare : (id : List ℕ) (ps : List Piece) → after_first (has_id id) (segments_of ps) ≡ segments_of (after_first (marked id) ps)
-behind_bare id ps = ap (λ n. drop (n + 1) (segments_of ps)) (place_bare id ps) ∙ drop-map (λ (p : Piece). p.elements) (position_or_len (marked id) ps + 1) ps
+pub after_bare : (id : List ℕ) (ps : List Piece) → after_first (has_id id) (segments_of ps) ≡ segments_of (after_first (marked id) ps)
+after_bare id ps = ap (λ n. drop (n + 1) (segments_of ps)) (place_bare id ps) ∙ drop-map (λ (p : Piece). p.elements) (position_or_len (marked id) ps + 1) ps
 
 -- the runs and the front
 pub parted_bare : (id : List ℕ) (ps : List Piece) → parted (has_id id) (segments_of ps) ≡ record { front = segments_of (parted (marked id) ps).front; runs = map bare (parted (marked id) ps).runs }
@@ -83,9 +83,9 @@ front_bare id ps =
     ∙ (length-take-le (position_or_len (has_id id) (segments_of ps)) (segments_of ps) (within (has_id id) (segments_of ps)) ∙ place_bare id ps)
 
 -- how much stands after the first
-pub length_behind : (id : List ℕ) (ps : List Piece) → length (after_first (has_id id) (segments_of ps)) ≡ length ps - (position_or_len (marked id) ps + 1)
-length_behind id ps =
-    ap length (behind_bare id ps)
+pub length_after : (id : List ℕ) (ps : List Piece) → length (after_first (has_id id) (segments_of ps)) ≡ length ps - (position_or_len (marked id) ps + 1)
+length_after id ps =
+    ap length (after_bare id ps)
     ∙ (length-map (after_first (marked id) ps) (λ (p : Piece). p.elements) ∙ length-drop (position_or_len (marked id) ps + 1) ps)
 
 -- a run that passes leaves the others to decide, and one that fails decides

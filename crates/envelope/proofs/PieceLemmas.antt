@@ -22,12 +22,12 @@ put_length Skipped b p = omega arith
 put_length Ends b p = omega arith
 put_length Inside b p = omega (arith, onto_length b p.whole p.rest)
 
-whole_length : (d : Delims) (behind : Bool) (text : List ℕ) → length (pieces_from d behind text).whole ≤ length text
-whole_length d behind [] = omega arith
-whole_length d behind (b ∷ bs) =
-    let outside = is_outside (role d behind b) in
+whole_length : (d : Delims) (after : Bool) (text : List ℕ) → length (pieces_from d after text).whole ≤ length text
+whole_length d after [] = omega arith
+whole_length d after (b ∷ bs) =
+    let outside = is_outside (role d after b) in
     let tail : length (pieces_from d outside bs).whole ≤ length bs = whole_length d outside bs in
-    let one : length (put (role d behind b) b (pieces_from d outside bs)).whole ≤ suc (length (pieces_from d outside bs).whole) = put_length (role d behind b) b (pieces_from d outside bs) in
+    let one : length (put (role d after b) b (pieces_from d outside bs)).whole ≤ suc (length (pieces_from d outside bs).whole) = put_length (role d after b) b (pieces_from d outside bs) in
     omega (arith, tail, one)
 
 pub pieces_elements : (d : Delims) (text : List ℕ) (ps : List Piece) → ps ≡ pieces_left (record { delims = d; text = text }) → segments_of ps ≡ (cut d text).segments

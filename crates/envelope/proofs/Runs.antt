@@ -75,12 +75,12 @@ pub run_some : {X : Type 0} (p : X → Bool) (xs : List X) (from i j : ℕ) (d :
     → i < length xs → j ≡ i + 1 + position_or_len p (drop (i + 1) xs)
     → (parted p (drop from xs)).runs ≡ (get_or xs i d, take (j - (i + 1)) (drop (i + 1) xs)) ∷ (parted p (drop j xs)).runs
 run_some {X = X} p xs from i j d ei hi ej =
-    let behind : drop (position_or_len p (drop (i + 1) xs)) (drop (i + 1) xs) ≡ drop j xs =
+    let after : drop (position_or_len p (drop (i + 1) xs)) (drop (i + 1) xs) ≡ drop j xs =
     drop-drop (position_or_len p (drop (i + 1) xs)) (i + 1) xs ∙ ap (λ n. drop n xs) (sym ej) in
     let inner : (parted p (drop (i + 1) xs)).front ≡ take (j - (i + 1)) (drop (i + 1) xs) =
     front_is p (drop (i + 1) xs) ∙ ap (λ n. take n (drop (i + 1) xs)) (omega arith) in
     let others : (parted p (drop (i + 1) xs)).runs ≡ (parted p (drop j xs)).runs =
-    runs_skip p (drop (i + 1) xs) ∙ ap (λ ys. (parted p ys).runs) behind in
+    runs_skip p (drop (i + 1) xs) ∙ ap (λ ys. (parted p ys).runs) after in
     runs_skip p (drop from xs) ∙ (ap (λ ys. (parted p ys).runs) (run_at p xs from i d ei hi)
     ∙ (begun p (get_or xs i d) (drop (i + 1) xs) (run_begins p xs from i d ei hi)
     ∙ (ap (λ (ys : List X). (get_or xs i d, ys) ∷ (parted p (drop (i + 1) xs)).runs) inner

@@ -7,6 +7,7 @@ use Rattle.std.proofs.lemmas.List.{drop-replicate}
 use Rattle.std.proofs.lemmas.Slice.Eq.{bytes_eq-Decides}
 use Rattle.std.proofs.Math.Seq.{take-suc}
 use Rattle.profile.specs.Bytes.{is_space, stripped, padded}
+use Rattle.profile.specs.Limits.{most_partner}
 
 all_spaces_last : (xs : List ℕ) → list_all is_space (xs ++ 32 ∷ []) ≡ list_all is_space xs
 all_spaces_last [] = refl
@@ -49,15 +50,15 @@ strip_done text end some within e =
     let m = one_more text end some within in
     ap stripped m ∙ (strip_other (take (end - 1) text) (get_or text (end - 1) 0) e ∙ sym m)
 
-pub filled : (id copied : List ℕ) → copied ≡ id → copied ++ drop (length id) (replicate 15 32) ≡ padded 15 id
-filled id copied e = ap (λ (xs : List ℕ). xs ++ drop (length id) (replicate 15 32)) e ∙ ap (λ (xs : List ℕ). id ++ xs) (drop-replicate (length id) 15 32)
+pub filled : (id copied : List ℕ) → copied ≡ id → copied ++ drop (length id) (replicate most_partner 32) ≡ padded most_partner id
+filled id copied e = ap (λ (xs : List ℕ). xs ++ drop (length id) (replicate most_partner 32)) e ∙ ap (λ (xs : List ℕ). id ++ xs) (drop-replicate (length id) most_partner 32)
 
-pub too_long : (field id : List ℕ) → length field ≡ 15 → 15 < length id → bytes_eq field (padded 15 id) ≡ false
-too_long field id e h = by_test (bytes_eq field (padded 15 id)) (bytes_eq-Decides field (padded 15 id))
+pub too_long : (field id : List ℕ) → length field ≡ most_partner → most_partner < length id → bytes_eq field (padded most_partner id) ≡ false
+too_long field id e h = by_test (bytes_eq field (padded most_partner id)) (bytes_eq-Decides field (padded most_partner id))
   where
-    longer : field ≡ padded 15 id → ⊥
+    longer : field ≡ padded most_partner id → ⊥
     longer same = omega (arith, simp length-append at (ap length same))
 
-    by_test : (b : Bool) → Decides b (field ≡ padded 15 id) → b ≡ false
+    by_test : (b : Bool) → Decides b (field ≡ padded most_partner id) → b ≡ false
     by_test true d = absurd (longer (d.0 refl))
     by_test false d = refl

@@ -16,7 +16,7 @@ fn has_no_front(segments: &[Segment<'_>], id: &[u8]) -> bool
 }
 
 // Whether nothing stands after the first with the id.
-#[tactic(auto, using(crate::proofs::Bared::length_behind))]
+#[tactic(auto, using(crate::proofs::Bared::length_after))]
 fn has_no_rest(segments: &[Segment<'_>], id: &[u8]) -> bool
     ensures { result ≡ meant.is_nothing (after_first (has_id id.now) (segments_of segments.now)) }
 {

@@ -62,15 +62,15 @@ fn is_line_end(b: u8) -> bool
 fn is_legible(delims: &Delims, text: &[u8]) -> bool
     ensures { result ≡ meant.is_legible delims.now true text.now }
 {
-    let mut behind = true;
+    let mut after = true;
     for b in text {
-        let skipped = behind && is_line_end(*b);
+        let skipped = after && is_line_end(*b);
         let ends = *b == delims.terminator();
         let bounds = *b == delims.separator() || *b == delims.component() || ends;
         if !(delims.leaves(*b) || bounds || skipped) {
             return false;
         }
-        behind = skipped || ends;
+        after = skipped || ends;
     }
     true
 }

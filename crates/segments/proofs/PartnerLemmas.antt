@@ -1,10 +1,9 @@
 -- Partners from their parts, and from their text.
-use Rattle.std.proofs.Common.{◌≡◌, ℕ, ◌+◌, ◌-◌, ◌≤◌, Bool, true, false, List, [], ◌∷◌, ◌++◌, length, get_or, take, drop, refl, sym, subst, ◌∙◌, ap, arith, Some, None, length-drop}
-use Rattle.std.specs.Prelude.{◌&&◌, ◌==◌, if◌then◌else◌, nat_le, bytes_eq, codes, Option}
+use Rattle.std.proofs.Common.{◌≡◌, ℕ, ◌-◌, ◌≤◌, Bool, true, false, List, [], ◌∷◌, ◌++◌, length, get_or, take, drop, refl, sym, subst, ◌∙◌, ap, arith, Some, None, length-drop}
+use Rattle.std.specs.Prelude.{◌&&◌, if◌then◌else◌, nat_le, bytes_eq, Option}
 use Rattle.std.specs.List.{list_all}
 use Rattle.std.specs.Prelude.{replicate, IsTrue}
 use Rattle.segments.proofs.FilledLemmas.{filled}
-use Rattle.std.proofs.lemmas.Bool.{and_parts}
 use Rattle.profile.proofs.TextLaws.{both_parts}
 use borrow.Author.Tests.{leb-true}
 use Rattle.std.proofs.Math.Seq.{take-append_seam}
@@ -12,6 +11,7 @@ use Rattle.std.proofs.lemmas.List.{take_all}
 use Rattle.std.proofs.lemmas.Slice.Eq.{bytes_eq-Decides}
 use Rattle.profile.specs.Bytes.{is_identifier, is_identifier_byte, is_alphanumeric}
 use Rattle.profile.specs.Header.{Who, is_partner, who_of, who_text}
+use Rattle.profile.specs.Limits.{least_partner, most_partner}
 
 -- two bytes are the first and the second
 pub two_bytes : (q : List ℕ) → length q ≡ 2 → get_or q 0 0 ∷ get_or q 1 0 ∷ [] ≡ q
@@ -40,10 +40,10 @@ written_partner text id result long dash front h =
     let same : bytes_eq (who_text w) text ≡ true = (bytes_eq-Decides (who_text w) text).1 (whole_text text long dash) in
     rw all at h ∙ ap (λ (b : Bool). if b then Some w else None) (sym (and_true (is_partner w)) ∙ ap (λ b. is_partner w && b) (sym same))
 
-short_id : (id : List ℕ) → is_identifier 2 15 id ≡ true → length id ≤ 15
+short_id : (id : List ℕ) → is_identifier least_partner most_partner id ≡ true → length id ≤ most_partner
 short_id id h =
-    let parts = both_parts (nat_le 2 (length id) && nat_le (length id) 15) (list_all is_identifier_byte id) h in
-    leb-true (length id) 15 ((both_parts (nat_le 2 (length id)) (nat_le (length id) 15) parts.0).1)
+    let parts = both_parts (nat_le least_partner (length id) && nat_le (length id) most_partner) (list_all is_identifier_byte id) h in
+    leb-true (length id) most_partner ((both_parts (nat_le least_partner (length id)) (nat_le (length id) most_partner) parts.0).1)
 
 abbrev pair_of : List ℕ → List ℕ → Who
 pair_of q i = record { qualifier = q; id = i }
@@ -51,15 +51,15 @@ pair_of q i = record { qualifier = q; id = i }
 partner_eq : {q r i j : List ℕ} → q ≡ r → i ≡ j → pair_of q i ≡ pair_of r j
 partner_eq {q = q} {j = j} e f = ap (λ x. pair_of q x) f ∙ ap (λ x. pair_of x j) e
 
--- a qualifier of two bytes, and an id that was written over fifteen spaces, are a partner
-pub filled_partner : (q id new : List ℕ) → length q ≡ 2 → list_all is_alphanumeric q ≡ true → is_identifier 2 15 id ≡ true → new ≡ id
-    → (length id ≤ 15) × (length (new ++ drop (length id) (replicate 15 32)) ≡ 15) × (drop (length id) (new ++ drop (length id) (replicate 15 32)) ≡ replicate (15 - length id) 32)
-    × IsTrue (is_partner (record { qualifier = get_or q 0 0 ∷ get_or q 1 0 ∷ []; id = take (length id) (new ++ drop (length id) (replicate 15 32)) }))
+-- a qualifier of two bytes, and an id that was written over the spaces of its width, are a partner
+pub filled_partner : (q id new : List ℕ) → length q ≡ 2 → list_all is_alphanumeric q ≡ true → is_identifier least_partner most_partner id ≡ true → new ≡ id
+    → (length id ≤ most_partner) × (length (new ++ drop (length id) (replicate most_partner 32)) ≡ most_partner) × (drop (length id) (new ++ drop (length id) (replicate most_partner 32)) ≡ replicate (most_partner - length id) 32)
+    × IsTrue (is_partner (record { qualifier = get_or q 0 0 ∷ get_or q 1 0 ∷ []; id = take (length id) (new ++ drop (length id) (replicate most_partner 32)) }))
 filled_partner q id new two all ident written =
     let short = short_id id ident in
     let f = filled (length id) new short (ap length written) in
-    let front : take (length id) (new ++ drop (length id) (replicate 15 32)) ≡ id = rw written (take-append_seam id (drop (length id) (replicate 15 32))) in
-    let same : pair_of q id ≡ pair_of (get_or q 0 0 ∷ get_or q 1 0 ∷ []) (take (length id) (new ++ drop (length id) (replicate 15 32))) =
+    let front : take (length id) (new ++ drop (length id) (replicate most_partner 32)) ≡ id = rw written (take-append_seam id (drop (length id) (replicate most_partner 32))) in
+    let same : pair_of q id ≡ pair_of (get_or q 0 0 ∷ get_or q 1 0 ∷ []) (take (length id) (new ++ drop (length id) (replicate most_partner 32))) =
     partner_eq (sym (two_bytes q two)) (sym front) in
     let whole : is_partner (pair_of q id) ≡ true = rw (two, all) ident in
     (short, f.1, f.2, subst (λ (w : Who). IsTrue (is_partner w)) same whole)

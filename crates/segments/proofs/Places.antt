@@ -1,7 +1,6 @@
 -- What the places that code finds say.
 use Rattle.std.proofs.Common.{◌≡◌, ℕ, ◌++◌, sym, subst, ◌+◌, ◌≤◌, Bool, true, false, cond, not, List, [], ◌∷◌, length, take, drop, refl, ◌∙◌, ap, arith, Some, None}
 use Rattle.std.specs.Prelude.{position, nat_lt, IsTrue}
-use Rattle.std.proofs.Math.Numerals.{one-add}
 use Rattle.std.specs.List.{position_or_len, list_all}
 use Rattle.std.proofs.lemmas.Option.{cond_some}
 use borrow.Author.Tests.{ltb-true, ltb-false}
@@ -12,7 +11,7 @@ use Rattle.std.proofs.Common.{◌-◌}
 use Rattle.std.specs.Prelude.{◌==◌}
 use Rattle.std.specs.List.{slice_split}
 use Rattle.profile.specs.Bytes.{Delims}
-use Rattle.profile.specs.Cut.{skipped, cut, Cut, Segment, Piece, joined, spelled, StartsClean, Uncut, GivesSegment, pieces_left}
+use Rattle.profile.specs.Cut.{skipped, cut, Cut, Segment, Piece, spelled, StartsClean, Uncut, GivesSegment, pieces_left}
 use Rattle.profile.proofs.CutLaws.{cut_first, cut_none}
 use Rattle.profile.proofs.CutExistsLaws.{joined-elements, run_skipped, starts_skipped}
 use Rattle.std.proofs.lemmas.List.{take-append-drop}
@@ -52,24 +51,24 @@ spelled_first d text i e = by_parts (cond_some (nat_lt (position_or_len ends tex
         rw (← h.1, joined-elements d.separator (take (position_or_len ends text) text), append_assoc) whole
 
 -- What the code found at the first terminator gives the cut.
-pub first_some : (d : Delims) (text behind : List ℕ) (i t : ℕ) (segment : Piece) → t ≡ d.terminator
-    → position (λ b. b == t) text ≡ Some i → behind ≡ skipped (take (length text - (i + 1)) (drop (i + 1) text))
+pub first_some : (d : Delims) (text after : List ℕ) (i t : ℕ) (segment : Piece) → t ≡ d.terminator
+    → position (λ b. b == t) text ≡ Some i → after ≡ skipped (take (length text - (i + 1)) (drop (i + 1) text))
     → segment ≡ record { delims = d; elements = slice_split (λ b. b == d.separator) (take i text) }
-    → (segment.delims ≡ d) × ((cut d text).segments ≡ segment.elements ∷ (cut d behind).segments) × ((cut d text).rest ≡ (cut d behind).rest)
-    × ((skip : List ℕ) × (text ≡ spelled d segment.elements ++ (skip ++ behind)) × IsTrue (list_all is_line_end skip) × StartsClean behind)
-first_some d text behind i t segment et at eb eg =
+    → (segment.delims ≡ d) × ((cut d text).segments ≡ segment.elements ∷ (cut d after).segments) × ((cut d text).rest ≡ (cut d after).rest)
+    × ((skip : List ℕ) × (text ≡ spelled d segment.elements ++ (skip ++ after)) × IsTrue (list_all is_line_end skip) × StartsClean after)
+first_some d text after i t segment et at eb eg =
     let at' = rw et at at in
     let m = drop (i + 1) text in
     let r = position_or_len (λ b. not (is_line_end b)) m in
     let all : take (length text - (i + 1)) m ≡ m = take_all (length text - (i + 1)) m (omega (arith, length-drop {A = ℕ})) in
-    let behind_is : behind ≡ skipped m = rw (eb, all) refl in
+    let after_is : after ≡ skipped m = rw (eb, all) refl in
     let elements_are : segment.elements ≡ slice_split (λ b. b == d.separator) (take i text) = ap (λ (p : Piece). p.elements) eg in
     let first = cut_first d text i at' in
-    let run : text ≡ spelled d segment.elements ++ (take r m ++ behind) = rw (elements_are, behind_is, take-append-drop r m) (spelled_first d text i at') in (
+    let run : text ≡ spelled d segment.elements ++ (take r m ++ after) = rw (elements_are, after_is, take-append-drop r m) (spelled_first d text i at') in (
       ap (λ (p : Piece). p.delims) eg,
-      ap (λ (c : Cut). c.segments) first ∙ rw (elements_are, behind_is) refl,
-      ap (λ (c : Cut). c.rest) first ∙ rw behind_is refl,
-      (take r m, run, run_skipped m, subst StartsClean (sym behind_is) (starts_skipped m)),
+      ap (λ (c : Cut). c.segments) first ∙ rw (elements_are, after_is) refl,
+      ap (λ (c : Cut). c.rest) first ∙ rw after_is refl,
+      (take r m, run, run_skipped m, subst StartsClean (sym after_is) (starts_skipped m)),
     )
 
 pub first_none : (d : Delims) (text : List ℕ) (t : ℕ) → t ≡ d.terminator → position (λ b. b == t) text ≡ None
@@ -79,12 +78,12 @@ first_none d text t et at =
     (ap (λ (c : Cut). c.segments) none, ap (λ (c : Cut). c.rest) none)
 
 -- A segment and the text after it are what a call may give.
-pub gives_first : (s : Uncut) (behind : List ℕ) (p : Piece)
-    → (p.delims ≡ s.delims) × ((cut s.delims s.text).segments ≡ p.elements ∷ (cut s.delims behind).segments) × ((cut s.delims s.text).rest ≡ (cut s.delims behind).rest)
-    × ((skip : List ℕ) × (s.text ≡ spelled s.delims p.elements ++ (skip ++ behind)) × IsTrue (list_all is_line_end skip) × StartsClean behind)
-    → GivesSegment s (Some p) (record { delims = s.delims; text = behind })
-gives_first s behind p (same, first, rest, (skip, run, ends, clean)) =
+pub gives_first : (s : Uncut) (after : List ℕ) (p : Piece)
+    → (p.delims ≡ s.delims) × ((cut s.delims s.text).segments ≡ p.elements ∷ (cut s.delims after).segments) × ((cut s.delims s.text).rest ≡ (cut s.delims after).rest)
+    × ((skip : List ℕ) × (s.text ≡ spelled s.delims p.elements ++ (skip ++ after)) × IsTrue (list_all is_line_end skip) × StartsClean after)
+    → GivesSegment s (Some p) (record { delims = s.delims; text = after })
+gives_first s after p (same, first, rest, (skip, run, ends, clean)) =
     let head : record { delims = s.delims; elements = p.elements } ≡ p = ap (λ (d : Delims). record { delims = d; elements = p.elements }) (sym same) in
-    let all : pieces_left s ≡ record { delims = s.delims; elements = p.elements } ∷ pieces_left (record { delims = s.delims; text = behind }) =
+    let all : pieces_left s ≡ record { delims = s.delims; elements = p.elements } ∷ pieces_left (record { delims = s.delims; text = after }) =
     ap (λ (ss : List Segment). map (λ es. record { delims = s.delims; elements = es }) ss) first in
-    (all ∙ ap (λ (q : Piece). q ∷ pieces_left (record { delims = s.delims; text = behind })) head, sym rest, tt, (refl, skip, run, ends, clean))
+    (all ∙ ap (λ (q : Piece). q ∷ pieces_left (record { delims = s.delims; text = after })) head, sym rest, tt, (refl, skip, run, ends, clean))

@@ -76,8 +76,8 @@ fn first_segment<'a>(text: &'a [u8], delims: &Delims) -> Option<(Segment<'a>, &'
         × IsTrue (list_all is_line_end skip) × meant.StartsClean p.1.now)) }
 {
     let end = first_of(delims.terminator(), text)?;
-    let behind = skip_line_ends(&text[end + 1..]);
-    Some((segment_of(&text[..end], *delims), behind))
+    let after = skip_line_ends(&text[end + 1..]);
+    Some((segment_of(&text[..end], *delims), after))
 }
 
 impl<'a> Iterator for Cut<'a> {
@@ -88,8 +88,8 @@ impl<'a> Iterator for Cut<'a> {
     ghost remaining = { item_count meant.pieces_left };
 
     fn next(&mut self) -> Option<Segment<'a>> {
-        let (segment, behind) = first_segment(self.text, &self.delims)?;
-        self.text = behind;
+        let (segment, after) = first_segment(self.text, &self.delims)?;
+        self.text = after;
         Some(segment)
     }
 }

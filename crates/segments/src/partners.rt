@@ -1,5 +1,6 @@
 ghost use Rattle.std.specs.Prelude.{◌≡◌, ◌≤◌, ◌-◌, ◌++◌, ◌&&◌, true, false, Some, None, if◌then◌else◌, IsTrue, take, drop, replicate, length, bytes_eq};
 ghost use Rattle.profile.specs.Header.{Who as Partner, is_partner, who_eq, who_of};
+ghost use Rattle.profile.specs.Limits.{most_partner};
 ghost use Rattle.segments.specs.Filled.{length_front, filled_front};
 
 use crate::idents::{all_alphanumeric, is_ident};
@@ -20,10 +21,10 @@ impl Model for Who {
 
     ghost view = { λ w. record { qualifier = w.qualifier; id = take w.len w.id } };
 
-    ghost invariant = { λ w. (w.len ≤ 15) × (length w.id ≡ 15) × (drop w.len w.id ≡ replicate (15 - w.len) 32)
+    ghost invariant = { λ w. (w.len ≤ most_partner) × (length w.id ≡ most_partner) × (drop w.len w.id ≡ replicate (most_partner - w.len) 32)
         × IsTrue (is_partner (record { qualifier = w.qualifier; id = take w.len w.id })) };
 
-    ghost inverse = { λ p. record { qualifier = p.qualifier; id = p.id ++ replicate (15 - length p.id) 32; len = length p.id } };
+    ghost inverse = { λ p. record { qualifier = p.qualifier; id = p.id ++ replicate (most_partner - length p.id) 32; len = length p.id } };
 
     ghost inverse_ok = { λ a h i. record { qualifier = a.qualifier; id = filled_front a.id a.len h.0 h.1 h.2 i; len = length_front a.id a.len h.0 h.1 i } };
 }

@@ -7,6 +7,7 @@ use Rattle.profile.specs.Bytes.{Delims, value}
 use Rattle.profile.specs.Cut.{Segment, element, id_of, has_id, segment_with, segments_of, last_segment}
 use Rattle.profile.specs.Words.{Words, Never, Empty, One, Then, Or, Times, IsWord, IsRow, mentions, words_997, FunctionalAcknowledgment}
 use Rattle.profile.specs.Faults.{fault_from}
+use Rattle.profile.specs.Limits.{most_told_sets}
 use Rattle.profile.specs.Means.{Acknowledgment, acknowledgment_of}
 use Rattle.profile.proofs.WordsLaws.{viable_to}
 use Rattle.tables.specs.Acknowledgment.{judged, total}
@@ -46,7 +47,7 @@ mentioned (Times low high w) ids (n, l, u, row) = in_row n ids row (λ xs k. men
     in_row (suc m) xs (a, b, e, p, q) each = subst (AllByRecursion (Mentions (Times low high w))) (sym e)
         (all_both (Mentions (Times low high w)) a b (each a p) (in_row m b q each))
 
-told : (x : List ℕ) → Mentions (Times 0 999 judged) x → IsToldOfSets x
+told : (x : List ℕ) → Mentions (Times 0 most_told_sets judged) x → IsToldOfSets x
 told x h = by_second (bytes_eq x (codes "AK2")) refl h
   where
     same : (y : List ℕ) → bytes_eq x y ≡ true → x ≡ y
@@ -100,24 +101,24 @@ built f xs st ak1 ys zs a p b q body rest c all ak9 end d r se e s = record {
 }
 
 parse : {X : Type 0} (f : X → List ℕ) (xs : List X) → IsWord words_997 (map f xs) → Parsed f xs
-parse {X} f xs h = with_st (cons_word f xs (codes "ST") (Then (One (codes "AK1")) (Then (Times 0 999 judged) total)) h)
+parse {X} f xs h = with_st (cons_word f xs (codes "ST") (Then (One (codes "AK1")) (Then (Times 0 most_told_sets judged) total)) h)
   where
     with_end : (st ak1 : X) (ys zs : List X) → xs ≡ st ∷ ys → f st ≡ codes "ST" → ys ≡ ak1 ∷ zs → f ak1 ≡ codes "AK1" → (body rest : List X) → zs ≡ body ++ rest
         → AllByRecursion (λ x. IsToldOfSets (f x)) body → (x : X) × (end : List X) × (rest ≡ x ∷ end) × (f x ≡ codes "AK9") × (map f end ≡ codes "SE" ∷ []) → Parsed f xs
     with_end st ak1 ys zs a p b q body rest c all (x, end, d, r, w) = let l = last_word f end (codes "SE") w in built f xs st ak1 ys zs a p b q body rest c all x end d r l.0 l.1 l.2
 
-    with_body : (st ak1 : X) (ys zs : List X) → xs ≡ st ∷ ys → f st ≡ codes "ST" → ys ≡ ak1 ∷ zs → f ak1 ≡ codes "AK1" → (i j : Ids) → IsWord (Times 0 999 judged) i → IsWord total j
+    with_body : (st ak1 : X) (ys zs : List X) → xs ≡ st ∷ ys → f st ≡ codes "ST" → ys ≡ ak1 ∷ zs → f ak1 ≡ codes "AK1" → (i j : Ids) → IsWord (Times 0 most_told_sets judged) i → IsWord total j
         → (vs ws : List X) × (zs ≡ vs ++ ws) × (map f vs ≡ i) × (map f ws ≡ j) → Parsed f xs
     with_body st ak1 ys zs a p b q i j v w (vs, ws, c, k, l) =
-        let all : AllByRecursion (λ x. IsToldOfSets (f x)) vs = of_ids f IsToldOfSets vs (subst (AllByRecursion IsToldOfSets) (sym k) (all_so (Mentions (Times 0 999 judged)) IsToldOfSets told i (mentioned (Times 0 999 judged) i v))) in
+        let all : AllByRecursion (λ x. IsToldOfSets (f x)) vs = of_ids f IsToldOfSets vs (subst (AllByRecursion IsToldOfSets) (sym k) (all_so (Mentions (Times 0 most_told_sets judged)) IsToldOfSets told i (mentioned (Times 0 most_told_sets judged) i v))) in
         with_end st ak1 ys zs a p b q vs ws c all (cons_word f ws (codes "AK9") (One (codes "SE")) (subst (IsWord total) (sym l) w))
 
     with_ak1 : (st : X) (ys : List X) → xs ≡ st ∷ ys → f st ≡ codes "ST"
-        → (x : X) × (zs : List X) × (ys ≡ x ∷ zs) × (f x ≡ codes "AK1") × IsWord (Then (Times 0 999 judged) total) (map f zs) → Parsed f xs
+        → (x : X) × (zs : List X) × (ys ≡ x ∷ zs) × (f x ≡ codes "AK1") × IsWord (Then (Times 0 most_told_sets judged) total) (map f zs) → Parsed f xs
     with_ak1 st ys a p (x, zs, b, q, (i, j, e, v, w)) = with_body st x ys zs a p b q i j v w (split f zs i j e)
 
-    with_st : (x : X) × (ys : List X) × (xs ≡ x ∷ ys) × (f x ≡ codes "ST") × IsWord (Then (One (codes "AK1")) (Then (Times 0 999 judged) total)) (map f ys) → Parsed f xs
-    with_st (x, ys, a, p, w) = with_ak1 x ys a p (cons_word f ys (codes "AK1") (Then (Times 0 999 judged) total) w)
+    with_st : (x : X) × (ys : List X) × (xs ≡ x ∷ ys) × (f x ≡ codes "ST") × IsWord (Then (One (codes "AK1")) (Then (Times 0 most_told_sets judged) total)) (map f ys) → Parsed f xs
+    with_st (x, ys, a, p, w) = with_ak1 x ys a p (cons_word f ys (codes "AK1") (Then (Times 0 most_told_sets judged) total) w)
 
 told_goes_on : (xs : Ids) → AllByRecursion IsToldOfSets xs → NoneEnds xs
 told_goes_on [] h = tt

@@ -5,6 +5,7 @@ use Rattle.profile.specs.Bytes.{Delims}
 use Rattle.profile.specs.Cut.{segments_of, segment_with, element}
 use Rattle.profile.specs.Words.{SetKind, ShippingOrder, ShipmentAdvice, FunctionalAcknowledgment, kind_words, words_940, words_943, words_997}
 use Rattle.profile.specs.Faults.{fault_from}
+use Rattle.profile.specs.declared.widths.TheConstants.{ADVICE_TOTAL_DIGITS, ORDER_TOTAL_DIGITS}
 use Rattle.profile.proofs.FaultsLaws.{set_fault-from}
 use Rattle.tables.specs.Judged.{Whole, IsSound}
 use Rattle.sets_in.specs.Amounts.{IsAmount, IsCounted}
@@ -20,18 +21,18 @@ passes w kind s k =
           (sym (set_fault-from d (kind_words w.kind) (segments_of w.pieces)) ∙ s.judged.1),
     )
 
-pub advice_counted : (w : Whole) → IsSound w → w.kind ≡ ShipmentAdvice → IsCounted (codes "W04") (codes "W03") (segments_of w.pieces)
+pub advice_counted : (w : Whole) → IsSound w → w.kind ≡ ShipmentAdvice → IsCounted (codes "W04") (codes "W03") ADVICE_TOTAL_DIGITS (segments_of w.pieces)
 advice_counted w s k = let p = passes w ShipmentAdvice s k in record {
   few = few_goods p.0 (segments_of w.pieces) p.1;
   quantities = goods_amounts p.0 words_943 (segments_of w.pieces) p.1;
-  sum = amount_with (codes "W03") 1 7 (segments_of w.pieces) (advised_totals p.0 words_943 (segments_of w.pieces) p.1);
+  sum = amount_with (codes "W03") 1 ADVICE_TOTAL_DIGITS (segments_of w.pieces) (advised_totals p.0 words_943 (segments_of w.pieces) p.1);
 }
 
-pub order_counted : (w : Whole) → IsSound w → w.kind ≡ ShippingOrder → IsCounted (codes "W01") (codes "W76") (segments_of w.pieces)
+pub order_counted : (w : Whole) → IsSound w → w.kind ≡ ShippingOrder → IsCounted (codes "W01") (codes "W76") ORDER_TOTAL_DIGITS (segments_of w.pieces)
 order_counted w s k = let p = passes w ShippingOrder s k in record {
   few = few_ordered p.0 (segments_of w.pieces) p.1;
   quantities = ordered_amounts p.0 words_940 (segments_of w.pieces) p.1;
-  sum = amount_with (codes "W76") 1 7 (segments_of w.pieces) (ordered_totals p.0 words_940 (segments_of w.pieces) p.1);
+  sum = amount_with (codes "W76") 1 ORDER_TOTAL_DIGITS (segments_of w.pieces) (ordered_totals p.0 words_940 (segments_of w.pieces) p.1);
 }
 
 pub document_known : (w : Whole) → IsSound w → w.kind ≡ FunctionalAcknowledgment → IsAmount 9 (element (segment_with (codes "AK1") (segments_of w.pieces)) 2)

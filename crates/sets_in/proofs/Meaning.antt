@@ -90,8 +90,8 @@ lines_mean ss front (g ∷ gs) back n e p =
     let first : segment_at ss n ≡ g.0 = at ss front g.0 (g.1 ∷ rest) n e p in
     let split : ss ≡ (front ++ g.0 ∷ []) ++ g.1 ∷ rest = e ∙ sym (append_assoc front (g.0 ∷ []) (g.1 ∷ rest)) in
     let second : segment_at ss (n + 1) ≡ g.1 = at ss (front ++ g.0 ∷ []) g.1 rest (n + 1) split (omega (arith, length-append front (g.0 ∷ []))) in
-    let behind : ss ≡ (front ++ g.0 ∷ g.1 ∷ []) ++ rest = e ∙ sym (append_assoc front (g.0 ∷ g.1 ∷ []) rest) in
-    let more = lines_mean ss (front ++ g.0 ∷ g.1 ∷ []) gs back (n + 2) behind (omega (arith, length-append front (g.0 ∷ g.1 ∷ []))) in
+    let after : ss ≡ (front ++ g.0 ∷ g.1 ∷ []) ++ rest = e ∙ sym (append_assoc front (g.0 ∷ g.1 ∷ []) rest) in
+    let more = lines_mean ss (front ++ g.0 ∷ g.1 ∷ []) gs back (n + 2) after (omega (arith, length-append front (g.0 ∷ g.1 ∷ []))) in
     ap (λ (s : Segment). record { line = record { item = element s 5; lot = element (segment_at ss (n + 1)) 2; quantity = value (element s 1) }; position = n } ∷ map (advice_line ss) (evens (n + 2) gs)) first
     ∙ ap (λ (s : Segment). record { line = record { item = element g.0 5; lot = element s 2; quantity = value (element g.0 1) }; position = n } ∷ map (advice_line ss) (evens (n + 2) gs)) second
     ∙ ap (λ (ls : List AdviceLine). record { line = record { item = element g.0 5; lot = element g.1 2; quantity = value (element g.0 1) }; position = n } ∷ ls) more
@@ -108,35 +108,35 @@ made w06 w03 lines position = record { shipment = element w06 4; order = element
 means : (t : AdviceSet) → IsAdviceSet t → advice_of (printed t) ≡ meaning t
 means t h =
     let end = t.w03 ∷ t.se ∷ [] in
-    let behind = t.header ++ (in_pairs t.goods ++ end) in
+    let after = t.header ++ (in_pairs t.goods ++ end) in
     let w06 : segment_with (codes "W06") (printed t) ≡ t.w06 =
-    with_no (codes "W06") t.st (t.w06 ∷ behind) (is_no (codes "W06") (codes "ST") t.st h.st refl)
-    ∙ with_yes (codes "W06") t.w06 behind (ap (λ y. bytes_eq y (codes "W06")) h.w06) in
+    with_no (codes "W06") t.st (t.w06 ∷ after) (is_no (codes "W06") (codes "ST") t.st h.st refl)
+    ∙ with_yes (codes "W06") t.w06 after (ap (λ y. bytes_eq y (codes "W06")) h.w06) in
     let w03 : segment_with (codes "W03") (printed t) ≡ t.w03 =
-    with_no (codes "W03") t.st (t.w06 ∷ behind) (is_no (codes "W03") (codes "ST") t.st h.st refl)
-    ∙ with_no (codes "W03") t.w06 behind (is_no (codes "W03") (codes "W06") t.w06 h.w06 refl)
+    with_no (codes "W03") t.st (t.w06 ∷ after) (is_no (codes "W03") (codes "ST") t.st h.st refl)
+    ∙ with_no (codes "W03") t.w06 after (is_no (codes "W03") (codes "W06") t.w06 h.w06 refl)
     ∙ with_skip (codes "W03") t.header (in_pairs t.goods ++ end) (header_lacks (codes "W03") t.header refl refl refl h.header)
     ∙ with_skip (codes "W03") (in_pairs t.goods) end (goods_lack (codes "W03") t.goods refl refl h.goods)
     ∙ with_yes (codes "W03") t.w03 (t.se ∷ []) (ap (λ y. bytes_eq y (codes "W03")) h.w03) in
     let begin : 1 + 1 + 1 + length t.header ≡ length t.header + 3 = omega arith in
     let places : places_from (codes "W04") 1 (printed t) ≡ evens (length t.header + 3) t.goods =
-    from_no (codes "W04") 1 t.st (t.w06 ∷ behind) (is_no (codes "W04") (codes "ST") t.st h.st refl)
-    ∙ from_no (codes "W04") (1 + 1) t.w06 behind (is_no (codes "W04") (codes "W06") t.w06 h.w06 refl)
+    from_no (codes "W04") 1 t.st (t.w06 ∷ after) (is_no (codes "W04") (codes "ST") t.st h.st refl)
+    ∙ from_no (codes "W04") (1 + 1) t.w06 after (is_no (codes "W04") (codes "W06") t.w06 h.w06 refl)
     ∙ from_skip (codes "W04") (1 + 1 + 1) t.header (in_pairs t.goods ++ end) (header_lacks (codes "W04") t.header refl refl refl h.header)
     ∙ ap (λ n. places_from (codes "W04") n (in_pairs t.goods ++ end)) begin
     ∙ goods_places (length t.header + 3) t.goods t.w03 t.se h.goods (is_no (codes "W04") (codes "W03") t.w03 h.w03 refl) (is_no (codes "W04") (codes "SE") t.se h.se refl) in
     let lines : map (advice_line (printed t)) (places_from (codes "W04") 1 (printed t)) ≡ lines_at (length t.header + 3) t.goods =
     ap (map (advice_line (printed t))) places
     ∙ lines_mean (printed t) (t.st ∷ t.w06 ∷ t.header) t.goods end (length t.header + 3) refl (omega arith) in
-    let behind_goods : 1 + 1 + 1 + length t.header + length (in_pairs t.goods) ≡ length t.header + 3 + 2 * length t.goods = omega (arith, pairs_length t.goods) in
+    let after_goods : 1 + 1 + 1 + length t.header + length (in_pairs t.goods) ≡ length t.header + 3 + 2 * length t.goods = omega (arith, pairs_length t.goods) in
     let total : place_of (codes "W03") (printed t) ≡ length t.header + 3 + 2 * length t.goods =
     ap (λ (ns : List ℕ). unwrap_or (slice_get ns 0) 0)
-    (from_no (codes "W03") 1 t.st (t.w06 ∷ behind) (is_no (codes "W03") (codes "ST") t.st h.st refl)
-    ∙ from_no (codes "W03") (1 + 1) t.w06 behind (is_no (codes "W03") (codes "W06") t.w06 h.w06 refl)
+    (from_no (codes "W03") 1 t.st (t.w06 ∷ after) (is_no (codes "W03") (codes "ST") t.st h.st refl)
+    ∙ from_no (codes "W03") (1 + 1) t.w06 after (is_no (codes "W03") (codes "W06") t.w06 h.w06 refl)
     ∙ from_skip (codes "W03") (1 + 1 + 1) t.header (in_pairs t.goods ++ end) (header_lacks (codes "W03") t.header refl refl refl h.header)
     ∙ from_skip (codes "W03") (1 + 1 + 1 + length t.header) (in_pairs t.goods) end (goods_lack (codes "W03") t.goods refl refl h.goods)
     ∙ from_yes (codes "W03") (1 + 1 + 1 + length t.header + length (in_pairs t.goods)) t.w03 (t.se ∷ []) (ap (λ y. bytes_eq y (codes "W03")) h.w03))
-    ∙ behind_goods in
+    ∙ after_goods in
     ap (λ (s : Segment). made s (segment_with (codes "W03") (printed t)) (map (advice_line (printed t)) (places_from (codes "W04") 1 (printed t))) (place_of (codes "W03") (printed t))) w06
     ∙ ap (λ (s : Segment). made t.w06 s (map (advice_line (printed t)) (places_from (codes "W04") 1 (printed t))) (place_of (codes "W03") (printed t))) w03
     ∙ ap (λ (ls : List AdviceLine). made t.w06 t.w03 ls (place_of (codes "W03") (printed t))) lines

@@ -104,11 +104,11 @@ count id [] = 0
 count id (s ∷ ss) = hit id (id_of s) + count id ss
 
 -- in a set without a fault the id stands no more often than in a word
-count_bound : (id : List ℕ) (d : Delims) (words rest : Words) (behind : List ℕ) (position : ℕ) (ss : List Segment) → fault_from d words rest behind position ss ≡ None
+count_bound : (id : List ℕ) (d : Delims) (words rest : Words) (after : List ℕ) (position : ℕ) (ss : List Segment) → fault_from d words rest after position ss ≡ None
     → count id ss ≤ most id rest
-count_bound id d words rest behind position [] h = omega arith
-count_bound id d words rest behind position (s ∷ ss) h =
-    let p = from_parts d words rest behind position s ss h in
+count_bound id d words rest after position [] h = omega arith
+count_bound id d words rest after position (s ∷ ss) h =
+    let p = from_parts d words rest after position s ss h in
     by_leaves (most_after id (id_of s) rest) p.0 (count_bound id d words (words_after (id_of s) rest) (id_of s) (position + 1) ss p.2)
   where
     by_leaves : Leaves id (id_of s) (most id rest) (words_after (id_of s) rest) → has_word (words_after (id_of s) rest) ≡ true → count id ss ≤ most id (words_after (id_of s) rest)

@@ -64,9 +64,9 @@ closes (s ∷ ss) h k =
 parties_close : (ps : Parties) (rest : List Segment) → AllByRecursion (IsParty id_of) ps → Closes rest → Closes (flat_map in_party ps ++ rest)
 parties_close [] rest h c = c
 parties_close (p ∷ ps) rest h c =
-    let behind : List Segment = (option_to_list p.n3 ++ option_to_list p.n4 ++ flat_map in_party ps) ++ rest in
+    let after : List Segment = (option_to_list p.n3 ++ option_to_list p.n4 ++ flat_map in_party ps) ++ rest in
     let none : belongs p.n1 ≡ false = ap (λ x. bytes_eq x (codes "N3") || bytes_eq x (codes "N4")) h.0.0 in
-    take_while-cons belongs p.n1 behind ∙ ap (λ (b : Bool). cond b (p.n1 ∷ take_while belongs behind) []) none
+    take_while-cons belongs p.n1 after ∙ ap (λ (b : Bool). cond b (p.n1 ∷ take_while belongs after) []) none
 
 address_taken : (p : Party Segment) (ss : List Segment) → IsParty id_of p → Closes ss
     → take_while belongs ((option_to_list p.n3 ++ option_to_list p.n4) ++ ss) ≡ option_to_list p.n3 ++ option_to_list p.n4
@@ -152,10 +152,10 @@ goods_places n [] w76 se h a b = from_no (codes "W01") n w76 (se ∷ []) a ∙ f
 goods_places n (g ∷ gs) w76 se h a b =
     let pin : List Segment = option_to_list g.n9 in
     let rest : List Segment = flat_map in_goods gs ++ w76 ∷ se ∷ [] in
-    let behind : List Segment = (pin ++ flat_map in_goods gs) ++ w76 ∷ se ∷ [] in
+    let after : List Segment = (pin ++ flat_map in_goods gs) ++ w76 ∷ se ∷ [] in
     let next : n + 1 + 1 + length pin ≡ n + length (in_goods g) = omega arith in
-    from_no (codes "W01") n g.lx (g.w01 ∷ behind) (is_no (codes "W01") (codes "LX") g.lx h.0.0 refl)
-    ∙ from_yes (codes "W01") (n + 1) g.w01 behind (ap (λ y. bytes_eq y (codes "W01")) h.0.1)
+    from_no (codes "W01") n g.lx (g.w01 ∷ after) (is_no (codes "W01") (codes "LX") g.lx h.0.0 refl)
+    ∙ from_yes (codes "W01") (n + 1) g.w01 after (ap (λ y. bytes_eq y (codes "W01")) h.0.1)
     ∙ ap (λ y. (n + 1) ∷ y) (ap (places_from (codes "W01") (n + 1 + 1)) (append_assoc pin (flat_map in_goods gs) (w76 ∷ se ∷ []))
     ∙ from_skip (codes "W01") (n + 1 + 1) pin rest (other_if_there id_of (codes "W01") (codes "N9") g.n9 refl h.0.2)
     ∙ ap (λ k. places_from (codes "W01") k rest) next ∙ goods_places (n + length (in_goods g)) gs w76 se h.1 a b)
@@ -173,13 +173,13 @@ unpinned : (ss front : List Segment) (gs : AllGoods) (w76 se : Segment) (k : ℕ
     → AllByRecursion (IsGoods id_of) gs → has_id (codes "N9") w76 ≡ false → pin_of (segment_at ss k) ≡ None
 unpinned ss front [] w76 se k e p h a = ap pin_of (at ss front w76 (se ∷ []) k e p) ∙ no_pin w76 a
 unpinned ss front (g ∷ gs) w76 se k e p h a =
-    let behind : List Segment = (option_to_list g.n9 ++ flat_map in_goods gs) ++ w76 ∷ se ∷ [] in
-    ap pin_of (at ss front g.lx (g.w01 ∷ behind) k e p) ∙ no_pin g.lx (is_no (codes "N9") (codes "LX") g.lx h.0.0 refl)
+    let after : List Segment = (option_to_list g.n9 ++ flat_map in_goods gs) ++ w76 ∷ se ∷ [] in
+    ap pin_of (at ss front g.lx (g.w01 ∷ after) k e p) ∙ no_pin g.lx (is_no (codes "N9") (codes "LX") g.lx h.0.0 refl)
 
-pin_means : (ss front : List Segment) (o : Option Segment) (behind : List Segment) (k : ℕ) → ss ≡ front ++ (option_to_list o ++ behind) → k ≡ length front + 1
-    → IfSome o (λ s. id_of s ≡ codes "N9") → (ss ≡ front ++ behind → pin_of (segment_at ss k) ≡ None) → pin_of (segment_at ss k) ≡ option_map (λ s. element s 2) o
-pin_means ss front None behind k e p h none = none e
-pin_means ss front (Some s) behind k e p h none = ap pin_of (at ss front s behind k e p) ∙ pin_there s (ap (λ y. bytes_eq y (codes "N9")) h)
+pin_means : (ss front : List Segment) (o : Option Segment) (after : List Segment) (k : ℕ) → ss ≡ front ++ (option_to_list o ++ after) → k ≡ length front + 1
+    → IfSome o (λ s. id_of s ≡ codes "N9") → (ss ≡ front ++ after → pin_of (segment_at ss k) ≡ None) → pin_of (segment_at ss k) ≡ option_map (λ s. element s 2) o
+pin_means ss front None after k e p h none = none e
+pin_means ss front (Some s) after k e p h none = ap pin_of (at ss front s after k e p) ∙ pin_there s (ap (λ y. bytes_eq y (codes "N9")) h)
 
 abbrev made_line : Segment → Option (List ℕ) → ℕ → OrderLine
 made_line w01 pin position = record { item = element w01 5; pin = pin; quantity = value (element w01 1); position = position }
@@ -191,13 +191,13 @@ lines_mean ss front [] w76 se n e p h a = refl
 lines_mean ss front (g ∷ gs) w76 se n e p h a =
     let pin : List Segment = option_to_list g.n9 in
     let rest : List Segment = flat_map in_goods gs ++ w76 ∷ se ∷ [] in
-    let behind : List Segment = pin ++ rest in
-    let parts : ss ≡ front ++ (g.lx ∷ g.w01 ∷ behind) = e ∙ ap (λ (x : List Segment). front ++ (g.lx ∷ g.w01 ∷ x)) (append_assoc pin (flat_map in_goods gs) (w76 ∷ se ∷ [])) in
-    let numbered : ss ≡ (front ++ g.lx ∷ []) ++ g.w01 ∷ behind = parts ∙ sym (append_assoc front (g.lx ∷ []) (g.w01 ∷ behind)) in
-    let w01 : segment_at ss (n + 1) ≡ g.w01 = at ss (front ++ g.lx ∷ []) g.w01 behind (n + 1) numbered (omega (arith, length-append front (g.lx ∷ []))) in
+    let after : List Segment = pin ++ rest in
+    let parts : ss ≡ front ++ (g.lx ∷ g.w01 ∷ after) = e ∙ ap (λ (x : List Segment). front ++ (g.lx ∷ g.w01 ∷ x)) (append_assoc pin (flat_map in_goods gs) (w76 ∷ se ∷ [])) in
+    let numbered : ss ≡ (front ++ g.lx ∷ []) ++ g.w01 ∷ after = parts ∙ sym (append_assoc front (g.lx ∷ []) (g.w01 ∷ after)) in
+    let w01 : segment_at ss (n + 1) ≡ g.w01 = at ss (front ++ g.lx ∷ []) g.w01 after (n + 1) numbered (omega (arith, length-append front (g.lx ∷ []))) in
     let two : List Segment = front ++ g.lx ∷ g.w01 ∷ [] in
     let place : n + 1 + 1 ≡ length two + 1 = omega (arith, length-append front (g.lx ∷ g.w01 ∷ [])) in
-    let ordered : ss ≡ two ++ behind = parts ∙ sym (append_assoc front (g.lx ∷ g.w01 ∷ []) behind) in
+    let ordered : ss ≡ two ++ after = parts ∙ sym (append_assoc front (g.lx ∷ g.w01 ∷ []) after) in
     let pinned : pin_of (segment_at ss (n + 1 + 1)) ≡ option_map (λ s. element s 2) g.n9 =
     pin_means ss two g.n9 rest (n + 1 + 1) ordered place h.0.2 (λ k. unpinned ss two gs w76 se (n + 1 + 1) k place h.1 a) in
     let whole : ss ≡ (front ++ in_goods g) ++ rest = parts ∙ sym (append_assoc front (in_goods g) rest) in
@@ -228,9 +228,9 @@ back_lacks id t h n9 g62 lx w01 w76 se =
 address_said : (t : OrderSet Segment) → IsOrderSet id_of t → ship_to (printed t) ≡ option_map address_in (find_ship_to t.parties)
 unfolding back
 address_said t h =
-    let behind : List Segment = flat_map in_party t.parties ++ back t in
-    later_ship_to t.st (t.w05 ∷ behind) (no_ship_to t.st (is_no (codes "N1") (codes "ST") t.st h.st refl))
-    ∙ later_ship_to t.w05 behind (no_ship_to t.w05 (is_no (codes "N1") (codes "W05") t.w05 h.w05 refl))
+    let after : List Segment = flat_map in_party t.parties ++ back t in
+    later_ship_to t.st (t.w05 ∷ after) (no_ship_to t.st (is_no (codes "N1") (codes "ST") t.st h.st refl))
+    ∙ later_ship_to t.w05 after (no_ship_to t.w05 (is_no (codes "N1") (codes "W05") t.w05 h.w05 refl))
     ∙ parties_mean t.parties (back t) h.parties
     (closes (back t) (back_lacks (codes "N3") t h refl refl refl refl refl refl) (back_lacks (codes "N4") t h refl refl refl refl refl refl))
     (no_ship_to_in (back t) (back_lacks (codes "N1") t h refl refl refl refl refl refl))
@@ -243,11 +243,11 @@ lines_said t h =
     let parties : List Segment = flat_map in_party t.parties in
     let goods : List Segment = flat_map in_goods t.goods in
     let end : List Segment = t.w76 ∷ t.se ∷ [] in
-    let behind : List Segment = parties ++ (t.header ++ (goods ++ end)) in
+    let after : List Segment = parties ++ (t.header ++ (goods ++ end)) in
     let begin : 1 + 1 + 1 + length parties + length t.header ≡ first_line t = omega arith in
     let places : places_from (codes "W01") 1 (printed t) ≡ w01s (first_line t) t.goods =
-    from_no (codes "W01") 1 t.st (t.w05 ∷ behind) (is_no (codes "W01") (codes "ST") t.st h.st refl)
-    ∙ from_no (codes "W01") (1 + 1) t.w05 behind (is_no (codes "W01") (codes "W05") t.w05 h.w05 refl)
+    from_no (codes "W01") 1 t.st (t.w05 ∷ after) (is_no (codes "W01") (codes "ST") t.st h.st refl)
+    ∙ from_no (codes "W01") (1 + 1) t.w05 after (is_no (codes "W01") (codes "W05") t.w05 h.w05 refl)
     ∙ from_skip (codes "W01") (1 + 1 + 1) parties (t.header ++ (goods ++ end)) (other_in_parties id_of (codes "W01") t.parties refl refl refl h.parties)
     ∙ from_skip (codes "W01") (1 + 1 + 1 + length parties) t.header (goods ++ end) (other_in_header id_of (codes "W01") t.header refl refl h.header)
     ∙ ap (λ n. places_from (codes "W01") n (goods ++ end)) begin
@@ -262,11 +262,11 @@ total_placed t h =
     let parties : List Segment = flat_map in_party t.parties in
     let goods : List Segment = flat_map in_goods t.goods in
     let end : List Segment = t.w76 ∷ t.se ∷ [] in
-    let behind : List Segment = parties ++ (t.header ++ (goods ++ end)) in
+    let after : List Segment = parties ++ (t.header ++ (goods ++ end)) in
     let place : 1 + 1 + 1 + length parties + length t.header + length goods ≡ first_line t + length goods = omega arith in
     ap (λ (ns : List ℕ). unwrap_or (slice_get ns 0) 0)
-    (from_no (codes "W76") 1 t.st (t.w05 ∷ behind) (is_no (codes "W76") (codes "ST") t.st h.st refl)
-    ∙ from_no (codes "W76") (1 + 1) t.w05 behind (is_no (codes "W76") (codes "W05") t.w05 h.w05 refl)
+    (from_no (codes "W76") 1 t.st (t.w05 ∷ after) (is_no (codes "W76") (codes "ST") t.st h.st refl)
+    ∙ from_no (codes "W76") (1 + 1) t.w05 after (is_no (codes "W76") (codes "W05") t.w05 h.w05 refl)
     ∙ from_skip (codes "W76") (1 + 1 + 1) parties (t.header ++ (goods ++ end)) (other_in_parties id_of (codes "W76") t.parties refl refl refl h.parties)
     ∙ from_skip (codes "W76") (1 + 1 + 1 + length parties) t.header (goods ++ end) (other_in_header id_of (codes "W76") t.header refl refl h.header)
     ∙ from_skip (codes "W76") (1 + 1 + 1 + length parties + length t.header) goods end (other_in_goods id_of (codes "W76") t.goods refl refl refl h.goods)
@@ -278,13 +278,13 @@ means t h =
     let parties : List Segment = flat_map in_party t.parties in
     let goods : List Segment = flat_map in_goods t.goods in
     let end : List Segment = t.w76 ∷ t.se ∷ [] in
-    let behind : List Segment = parties ++ (t.header ++ (goods ++ end)) in
+    let after : List Segment = parties ++ (t.header ++ (goods ++ end)) in
     let w05 : segment_with (codes "W05") (printed t) ≡ t.w05 =
-    with_no (codes "W05") t.st (t.w05 ∷ behind) (is_no (codes "W05") (codes "ST") t.st h.st refl)
-    ∙ with_yes (codes "W05") t.w05 behind (ap (λ y. bytes_eq y (codes "W05")) h.w05) in
+    with_no (codes "W05") t.st (t.w05 ∷ after) (is_no (codes "W05") (codes "ST") t.st h.st refl)
+    ∙ with_yes (codes "W05") t.w05 after (ap (λ y. bytes_eq y (codes "W05")) h.w05) in
     let w76 : segment_with (codes "W76") (printed t) ≡ t.w76 =
-    with_no (codes "W76") t.st (t.w05 ∷ behind) (is_no (codes "W76") (codes "ST") t.st h.st refl)
-    ∙ with_no (codes "W76") t.w05 behind (is_no (codes "W76") (codes "W05") t.w05 h.w05 refl)
+    with_no (codes "W76") t.st (t.w05 ∷ after) (is_no (codes "W76") (codes "ST") t.st h.st refl)
+    ∙ with_no (codes "W76") t.w05 after (is_no (codes "W76") (codes "W05") t.w05 h.w05 refl)
     ∙ with_skip (codes "W76") parties (t.header ++ (goods ++ end)) (other_in_parties id_of (codes "W76") t.parties refl refl refl h.parties)
     ∙ with_skip (codes "W76") t.header (goods ++ end) (other_in_header id_of (codes "W76") t.header refl refl h.header)
     ∙ with_skip (codes "W76") goods end (other_in_goods id_of (codes "W76") t.goods refl refl refl h.goods)

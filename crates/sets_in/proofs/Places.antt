@@ -111,7 +111,7 @@ after_no s ss t =
     one_more n = omega arith
 
 abbrev shipped : Option Segment → List Segment → Option meant.Address
-shipped n1 behind = option_map (λ s. meant.address_of s (take_while belongs behind)) n1
+shipped n1 after = option_map (λ s. meant.address_of s (take_while belongs after)) n1
 
 pub first_ship_to : (s : Segment) (ss : List Segment) → meant.is_ship_to s ≡ true → meant.ship_to (s ∷ ss) ≡ Some (meant.address_of s (take_while belongs ss))
 first_ship_to s ss t =

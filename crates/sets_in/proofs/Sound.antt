@@ -13,30 +13,31 @@ use Rattle.profile.specs.Cut.{Segment, element, id_of, has_id, segment_with}
 use Rattle.profile.specs.Elements.{Row, Kind, Quantity, Digits, Alphanumeric, element_fault, least_element_fault, faulty_element, must, goods_rows, ElementFault, takes}
 use Rattle.profile.specs.Words.{Words, has_word, words_after}
 use Rattle.profile.specs.Faults.{SetFault, fault_at, fault_from, inner_fault, place_fault, rows_after}
+use Rattle.profile.specs.declared.widths.TheConstants.{ADVICE_TOTAL_DIGITS, ORDER_TOTAL_DIGITS, QUANTITY_DIGITS}
 use Rattle.sets_in.specs.Amounts.{IsAmount, HasAmount, HaveAmounts}
 
 -- no element of the segment is faulty, after some other
 abbrev IsGood : Delims → Segment → Type 0
-IsGood d s = (behind : List ℕ) × (option_and_then (λ rows. faulty_element d rows s) (rows_after behind (id_of s)) ≡ None)
+IsGood d s = (after : List ℕ) × (option_and_then (λ rows. faulty_element d rows s) (rows_after after (id_of s)) ≡ None)
 
 abbrev told_inner : Segment → ℕ → ElementFault → SetFault
 told_inner s position f = record { id = id_of s; position = position; code = 8; element = Some f }
 
-no_inner : (d : Delims) (behind : List ℕ) (position : ℕ) (s : Segment) → inner_fault d behind position s ≡ None
-    → option_and_then (λ rows. faulty_element d rows s) (rows_after behind (id_of s)) ≡ None
-no_inner d behind position s h = by_fault (option_and_then (λ rows. faulty_element d rows s) (rows_after behind (id_of s))) h
+no_inner : (d : Delims) (after : List ℕ) (position : ℕ) (s : Segment) → inner_fault d after position s ≡ None
+    → option_and_then (λ rows. faulty_element d rows s) (rows_after after (id_of s)) ≡ None
+no_inner d after position s h = by_fault (option_and_then (λ rows. faulty_element d rows s) (rows_after after (id_of s))) h
   where
     by_fault : (o : Option ElementFault) → option_map (told_inner s position) o ≡ None → o ≡ None
     by_fault None e = refl
     by_fault (Some f) e = absurd (cc)
 
-in_place : (d : Delims) (words rest : Words) (behind : List ℕ) (position : ℕ) (s : Segment) → fault_at d words rest behind position s ≡ None
-    → (has_word (words_after (id_of s) rest) ≡ true) × (inner_fault d behind position s ≡ None)
-in_place d words rest behind position s h = by_test (has_word (words_after (id_of s) rest)) refl h
+in_place : (d : Delims) (words rest : Words) (after : List ℕ) (position : ℕ) (s : Segment) → fault_at d words rest after position s ≡ None
+    → (has_word (words_after (id_of s) rest) ≡ true) × (inner_fault d after position s ≡ None)
+in_place d words rest after position s h = by_test (has_word (words_after (id_of s) rest)) refl h
   where
     by_test : (b : Bool) → has_word (words_after (id_of s) rest) ≡ b
-        → (if b then inner_fault d behind position s else Some (place_fault words rest position (id_of s))) ≡ None
-        → (has_word (words_after (id_of s) rest) ≡ true) × (inner_fault d behind position s ≡ None)
+        → (if b then inner_fault d after position s else Some (place_fault words rest position (id_of s))) ≡ None
+        → (has_word (words_after (id_of s) rest) ≡ true) × (inner_fault d after position s ≡ None)
     by_test true t e = (t, e)
     by_test false t e = absurd (cc)
 
@@ -45,16 +46,16 @@ both_none None b h = (refl, h)
 both_none (Some x) b h = absurd (cc)
 
 -- each segment is in its place and good
-pub from_parts : (d : Delims) (words rest : Words) (behind : List ℕ) (position : ℕ) (s : Segment) (ss : List Segment) → fault_from d words rest behind position (s ∷ ss) ≡ None
-    → (has_word (words_after (id_of s) rest) ≡ true) × (inner_fault d behind position s ≡ None) × (fault_from d words (words_after (id_of s) rest) (id_of s) (position + 1) ss ≡ None)
-from_parts d words rest behind position s ss h =
-    let p = both_none (fault_at d words rest behind position s) (fault_from d words (words_after (id_of s) rest) (id_of s) (position + 1) ss) h in
-    let q = in_place d words rest behind position s p.0 in (q.0, q.1, p.1)
+pub from_parts : (d : Delims) (words rest : Words) (after : List ℕ) (position : ℕ) (s : Segment) (ss : List Segment) → fault_from d words rest after position (s ∷ ss) ≡ None
+    → (has_word (words_after (id_of s) rest) ≡ true) × (inner_fault d after position s ≡ None) × (fault_from d words (words_after (id_of s) rest) (id_of s) (position + 1) ss ≡ None)
+from_parts d words rest after position s ss h =
+    let p = both_none (fault_at d words rest after position s) (fault_from d words (words_after (id_of s) rest) (id_of s) (position + 1) ss) h in
+    let q = in_place d words rest after position s p.0 in (q.0, q.1, p.1)
 
-all_good : (d : Delims) (words rest : Words) (behind : List ℕ) (position : ℕ) (ss : List Segment) → fault_from d words rest behind position ss ≡ None → AllByRecursion (IsGood d) ss
-all_good d words rest behind position [] h = tt
-all_good d words rest behind position (s ∷ ss) h = let p = from_parts d words rest behind position s ss h in
-    ((behind, no_inner d behind position s p.1), all_good d words (words_after (id_of s) rest) (id_of s) (position + 1) ss p.2)
+all_good : (d : Delims) (words rest : Words) (after : List ℕ) (position : ℕ) (ss : List Segment) → fault_from d words rest after position ss ≡ None → AllByRecursion (IsGood d) ss
+all_good d words rest after position [] h = tt
+all_good d words rest after position (s ∷ ss) h = let p = from_parts d words rest after position s ss h in
+    ((after, no_inner d after position s p.1), all_good d words (words_after (id_of s) rest) (id_of s) (position + 1) ss p.2)
 
 -- an element whose row wants digits is a number
 
@@ -92,13 +93,13 @@ amount_of d kind most e same h =
 
 -- elements by their rows
 
-element_behind : (s : Segment) (i : ℕ) → unwrap_or (slice_get (drop i s) 0) [] ≡ element s i
-element_behind s i = unwrap_or-slice_get (drop i s) 0 [] ∙ get_or-drop i s 0 [] ∙ ap (λ n. get_or s n []) (add-zero i) ∙ sym (unwrap_or-slice_get s i [])
+element_after : (s : Segment) (i : ℕ) → unwrap_or (slice_get (drop i s) 0) [] ≡ element s i
+element_after s i = unwrap_or-slice_get (drop i s) 0 [] ∙ get_or-drop i s 0 [] ∙ ap (λ n. get_or s n []) (add-zero i) ∙ sym (unwrap_or-slice_get s i [])
 
-two_behind : (s : Segment) → drop 1 (drop 1 s) ≡ drop 2 s
-two_behind [] = refl
-two_behind (x ∷ []) = refl
-two_behind (x ∷ y ∷ s) = refl
+two_after : (s : Segment) → drop 1 (drop 1 s) ≡ drop 2 s
+two_after [] = refl
+two_after (x ∷ []) = refl
+two_after (x ∷ y ∷ s) = refl
 
 abbrev at_place : ℕ → ℕ → ElementFault
 at_place place code = record { place = place; code = code }
@@ -110,36 +111,36 @@ no_code place (Some c) h = absurd (cc)
 pub first_row : (d : Delims) (row : Row) (rows : List Row) (s : Segment) → faulty_element d (row ∷ rows) s ≡ None → element_fault d row (element s 1) ≡ None
 first_row d row rows s h =
     let p = both_none _ (least_element_fault d 2 rows (drop 1 (drop 1 s))) h in
-    ap (λ (e : List ℕ). element_fault d row e) (sym (element_behind s 1)) ∙ no_code 1 _ p.0
+    ap (λ (e : List ℕ). element_fault d row e) (sym (element_after s 1)) ∙ no_code 1 _ p.0
 
 second_row : (d : Delims) (row next : Row) (rows : List Row) (s : Segment) → faulty_element d (row ∷ next ∷ rows) s ≡ None → element_fault d next (element s 2) ≡ None
 second_row d row next rows s h =
     let p = both_none _ (least_element_fault d 2 (next ∷ rows) (drop 1 (drop 1 s))) h in
     let q = both_none _ (least_element_fault d 3 rows (drop 1 (drop 1 (drop 1 s)))) p.1 in
-    ap (λ (e : List ℕ). element_fault d next e) (sym (element_behind s 2) ∙ ap (λ (es : Segment). unwrap_or (slice_get es 0) []) (sym (two_behind s))) ∙ no_code 2 _ q.0
+    ap (λ (e : List ℕ). element_fault d next e) (sym (element_after s 2) ∙ ap (λ (es : Segment). unwrap_or (slice_get es 0) []) (sym (two_after s))) ∙ no_code 2 _ q.0
 
 -- by their ids
 
-rows_good : (d : Delims) (id : List ℕ) (rows : List Row) (s : Segment) → ((behind : List ℕ) → rows_after behind id ≡ Some rows) → IsGood d s → has_id id s ≡ true → faulty_element d rows s ≡ None
+rows_good : (d : Delims) (id : List ℕ) (rows : List Row) (s : Segment) → ((after : List ℕ) → rows_after after id ≡ Some rows) → IsGood d s → has_id id s ≡ true → faulty_element d rows s ≡ None
 rows_good d id rows s found g t =
     let same : id_of s ≡ id = (bytes_eq-Decides (id_of s) id).0 t in
     ap (λ (o : Option (List Row)). option_and_then (λ rows. faulty_element d rows s) o) (sym (ap (λ (x : List ℕ). rows_after g.0 x) same ∙ found g.0)) ∙ g.1
 
-goods_amount : (d : Delims) (s : Segment) → IsGood d s → HasAmount (codes "W04") 1 5 s
-goods_amount d s g = λ t. amount_of d Quantity 5 (element s 1) (λ b. refl) (first_row d (must Quantity 1 5) (drop 1 goods_rows) s (rows_good d (codes "W04") goods_rows s (λ behind. refl) g t))
+goods_amount : (d : Delims) (s : Segment) → IsGood d s → HasAmount (codes "W04") 1 QUANTITY_DIGITS s
+goods_amount d s g = λ t. amount_of d Quantity QUANTITY_DIGITS (element s 1) (λ b. refl) (first_row d (must Quantity 1 QUANTITY_DIGITS) (drop 1 goods_rows) s (rows_good d (codes "W04") goods_rows s (λ after. refl) g t))
 
-ordered_amount : (d : Delims) (s : Segment) → IsGood d s → HasAmount (codes "W01") 1 5 s
-ordered_amount d s g = λ t. amount_of d Quantity 5 (element s 1) (λ b. refl) (first_row d (must Quantity 1 5) (drop 1 goods_rows) s (rows_good d (codes "W01") goods_rows s (λ behind. refl) g t))
+ordered_amount : (d : Delims) (s : Segment) → IsGood d s → HasAmount (codes "W01") 1 QUANTITY_DIGITS s
+ordered_amount d s g = λ t. amount_of d Quantity QUANTITY_DIGITS (element s 1) (λ b. refl) (first_row d (must Quantity 1 QUANTITY_DIGITS) (drop 1 goods_rows) s (rows_good d (codes "W01") goods_rows s (λ after. refl) g t))
 
-advised_total : (d : Delims) (s : Segment) → IsGood d s → HasAmount (codes "W03") 1 7 s
-advised_total d s g = λ t. amount_of d Quantity 7 (element s 1) (λ b. refl) (first_row d (must Quantity 1 7) [] s (rows_good d (codes "W03") (must Quantity 1 7 ∷ []) s (λ behind. refl) g t))
+advised_total : (d : Delims) (s : Segment) → IsGood d s → HasAmount (codes "W03") 1 ADVICE_TOTAL_DIGITS s
+advised_total d s g = λ t. amount_of d Quantity ADVICE_TOTAL_DIGITS (element s 1) (λ b. refl) (first_row d (must Quantity 1 ADVICE_TOTAL_DIGITS) [] s (rows_good d (codes "W03") (must Quantity 1 ADVICE_TOTAL_DIGITS ∷ []) s (λ after. refl) g t))
 
-ordered_total : (d : Delims) (s : Segment) → IsGood d s → HasAmount (codes "W76") 1 7 s
-ordered_total d s g = λ t. amount_of d Quantity 7 (element s 1) (λ b. refl) (first_row d (must Quantity 1 7) [] s (rows_good d (codes "W76") (must Quantity 1 7 ∷ []) s (λ behind. refl) g t))
+ordered_total : (d : Delims) (s : Segment) → IsGood d s → HasAmount (codes "W76") 1 ORDER_TOTAL_DIGITS s
+ordered_total d s g = λ t. amount_of d Quantity ORDER_TOTAL_DIGITS (element s 1) (λ b. refl) (first_row d (must Quantity 1 ORDER_TOTAL_DIGITS) [] s (rows_good d (codes "W76") (must Quantity 1 ORDER_TOTAL_DIGITS ∷ []) s (λ after. refl) g t))
 
 document_number : (d : Delims) (s : Segment) → IsGood d s → HasAmount (codes "AK1") 2 9 s
 document_number d s g = λ t. amount_of d Digits 9 (element s 2) (λ b. refl)
-    (second_row d (must Alphanumeric 2 2) (must Digits 1 9) [] s (rows_good d (codes "AK1") (must Alphanumeric 2 2 ∷ must Digits 1 9 ∷ []) s (λ behind. refl) g t))
+    (second_row d (must Alphanumeric 2 2) (must Digits 1 9) [] s (rows_good d (codes "AK1") (must Alphanumeric 2 2 ∷ must Digits 1 9 ∷ []) s (λ after. refl) g t))
 
 all_so : {P Q : Segment → Type 0} → ((s : Segment) → P s → Q s) → (ss : List Segment) → AllByRecursion P ss → AllByRecursion Q ss
 all_so f [] h = tt
@@ -148,16 +149,16 @@ all_so f (s ∷ ss) h = (f s h.0, all_so f ss h.1)
 abbrev Passes : Delims → Words → List Segment → Type 0
 Passes d words ss = fault_from d words words [] 1 ss ≡ None
 
-pub goods_amounts : (d : Delims) (words : Words) (ss : List Segment) → Passes d words ss → HaveAmounts (codes "W04") 1 5 ss
+pub goods_amounts : (d : Delims) (words : Words) (ss : List Segment) → Passes d words ss → HaveAmounts (codes "W04") 1 QUANTITY_DIGITS ss
 goods_amounts d words ss h = all_so (goods_amount d) ss (all_good d words words [] 1 ss h)
 
-pub ordered_amounts : (d : Delims) (words : Words) (ss : List Segment) → Passes d words ss → HaveAmounts (codes "W01") 1 5 ss
+pub ordered_amounts : (d : Delims) (words : Words) (ss : List Segment) → Passes d words ss → HaveAmounts (codes "W01") 1 QUANTITY_DIGITS ss
 ordered_amounts d words ss h = all_so (ordered_amount d) ss (all_good d words words [] 1 ss h)
 
-pub advised_totals : (d : Delims) (words : Words) (ss : List Segment) → Passes d words ss → HaveAmounts (codes "W03") 1 7 ss
+pub advised_totals : (d : Delims) (words : Words) (ss : List Segment) → Passes d words ss → HaveAmounts (codes "W03") 1 ADVICE_TOTAL_DIGITS ss
 advised_totals d words ss h = all_so (advised_total d) ss (all_good d words words [] 1 ss h)
 
-pub ordered_totals : (d : Delims) (words : Words) (ss : List Segment) → Passes d words ss → HaveAmounts (codes "W76") 1 7 ss
+pub ordered_totals : (d : Delims) (words : Words) (ss : List Segment) → Passes d words ss → HaveAmounts (codes "W76") 1 ORDER_TOTAL_DIGITS ss
 ordered_totals d words ss h = all_so (ordered_total d) ss (all_good d words words [] 1 ss h)
 
 pub document_numbers : (d : Delims) (words : Words) (ss : List Segment) → Passes d words ss → HaveAmounts (codes "AK1") 2 9 ss

@@ -16,9 +16,9 @@ use Rattle.sets_in.proofs.Parse.{Parsed, parse}
 abbrev Ids : Type 0
 Ids = List (List ℕ)
 
-pub viable : (d : Delims) (words rest : Words) (behind : List ℕ) (position : ℕ) (ss : List Segment) → has_word rest ≡ true → fault_from d words rest behind position ss ≡ None → is_viable rest (map id_of ss) ≡ true
-viable d words rest behind position [] t h = t
-viable d words rest behind position (s ∷ ss) t h = let p = from_parts d words rest behind position s ss h in
+pub viable : (d : Delims) (words rest : Words) (after : List ℕ) (position : ℕ) (ss : List Segment) → has_word rest ≡ true → fault_from d words rest after position ss ≡ None → is_viable rest (map id_of ss) ≡ true
+viable d words rest after position [] t h = t
+viable d words rest after position (s ∷ ss) t h = let p = from_parts d words rest after position s ss h in
     viable d words (words_after (id_of s) rest) (id_of s) (position + 1) ss p.0 p.2
 
 -- what ends with SE

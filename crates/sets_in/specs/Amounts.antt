@@ -4,6 +4,7 @@ use Rattle.std.specs.List.{list_all, AllByRecursion}
 use Rattle.profile.specs.Bytes.{is_digit}
 use Rattle.profile.specs.Cut.{Segment, element, has_id, segment_with, places_of}
 use Rattle.profile.specs.Limits.{most_lines}
+use Rattle.profile.specs.declared.widths.TheConstants.{QUANTITY_DIGITS}
 
 -- at most some digits, and nothing else
 pub record IsAmount (most : ℕ) (text : List ℕ) : Type 0 where
@@ -17,8 +18,8 @@ HasAmount id place most s = has_id id s ≡ true → IsAmount most (element s pl
 abbrev pub HaveAmounts : List ℕ → ℕ → ℕ → List Segment → Type 0
 HaveAmounts id place most ss = AllByRecursion (HasAmount id place most) ss
 
--- lines begin at the segments with an id, whose first element is a quantity; another has their sum
-pub record IsCounted (line total : List ℕ) (ss : List Segment) : Type 0 where
+-- lines begin at the segments with an id, whose first element is a quantity; another has their sum, of at most some digits
+pub record IsCounted (line total : List ℕ) (most : ℕ) (ss : List Segment) : Type 0 where
   pub few : length (places_of line ss) ≤ most_lines
-  pub quantities : HaveAmounts line 1 5 ss
-  pub sum : IsAmount 7 (element (segment_with total ss) 1)
+  pub quantities : HaveAmounts line 1 QUANTITY_DIGITS ss
+  pub sum : IsAmount most (element (segment_with total ss) 1)

@@ -61,19 +61,15 @@ fn spaced(alloc: Global, texts: &[&[u8]]) -> Result<Vec<u8>, AllocError>
 }
 
 // The address of an N1 and what belongs to it.
-fn address_of(
-    alloc: Global,
-    n1: &Segment<'_>,
-    behind: &[Segment<'_>],
-) -> Result<Address, AllocError>
-    ensures { IfOk result (λ a. a ≡ meant.address_of n1.now.elements (segments_of behind.now)) }
+fn address_of(alloc: Global, n1: &Segment<'_>, after: &[Segment<'_>]) -> Result<Address, AllocError>
+    ensures { IfOk result (λ a. a ≡ meant.address_of n1.now.elements (segments_of after.now)) }
 {
     let name = copied(alloc, n1.element(2))?;
-    let one = copied(alloc, element_with(behind, b"N3", 1))?;
-    let two = copied(alloc, element_with(behind, b"N3", 2))?;
-    let city = element_with(behind, b"N4", 1);
-    let state = element_with(behind, b"N4", 2);
-    let code = element_with(behind, b"N4", 3);
+    let one = copied(alloc, element_with(after, b"N3", 1))?;
+    let two = copied(alloc, element_with(after, b"N3", 2))?;
+    let city = element_with(after, b"N4", 1);
+    let state = element_with(after, b"N4", 2);
+    let code = element_with(after, b"N4", 3);
     let place = spaced(alloc, &[city, state, code])?;
     Ok(Address {
         name,
@@ -92,8 +88,8 @@ pub(crate) fn ship_to(
 {
     for (index, segment) in segments.iter().enumerate() {
         if is_ship_to(segment) {
-            let behind = belonging(&segments[index + 1..]);
-            return Ok(Some(address_of(alloc, segment, behind)?));
+            let after = belonging(&segments[index + 1..]);
+            return Ok(Some(address_of(alloc, segment, after)?));
         }
     }
     Ok(None)

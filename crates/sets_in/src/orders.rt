@@ -3,6 +3,7 @@ ghost use Rattle.profile.specs.Cut.{segments_of, places_of, element};
 ghost use Rattle.profile.specs.Limits.{most_quantity};
 ghost use Rattle.profile.specs.Means as meant;
 ghost use Rattle.profile.specs.Words as kinds;
+ghost use Rattle.profile.specs.declared.widths.TheConstants.{ORDER_TOTAL_DIGITS, QUANTITY_DIGITS};
 ghost use Rattle.sets_in.specs.Amounts.{IsAmount, IsCounted, HaveAmounts};
 ghost use Rattle.sets_in.specs.SaidOrder.{SaysOrder};
 
@@ -18,7 +19,7 @@ fn ordered<'a>(set: &Checked<'a>) -> &'a [Segment<'a>]
     requires { set.now.kind ≡ kinds.ShippingOrder }
     ensures same { result.now ≡ set.now.pieces }
     ensures short { length result.now < 2 ^ 32 - 1 }
-    ensures counted { IsCounted (codes "W01") (codes "W76") (segments_of result.now) }
+    ensures counted { IsCounted (codes "W01") (codes "W76") ORDER_TOTAL_DIGITS (segments_of result.now) }
     ensures says { SaysOrder (segments_of result.now) (meant.order_of (segments_of result.now)) }
 {
     set.segments()
@@ -44,7 +45,7 @@ fn order_line(
     segments: &[Segment<'_>],
     position: u32,
 ) -> Result<OrderLine, AllocError>
-    requires { IsAmount 5 (element (meant.segment_at (segments_of segments.now) position) 1) }
+    requires { IsAmount QUANTITY_DIGITS (element (meant.segment_at (segments_of segments.now) position) 1) }
     ensures line { IfOk result (λ l. l ≡ meant.order_line (segments_of segments.now) position) }
     ensures small { IfOk result (λ l. l.quantity ≤ most_quantity) }
 {
@@ -63,7 +64,7 @@ fn order_line(
 // The lines of an order.
 fn order_lines(alloc: Global, segments: &[Segment<'_>]) -> Result<Vec<OrderLine>, AllocError>
     requires short { length segments.now < 2 ^ 32 - 1 }
-    requires quantities { HaveAmounts (codes "W01") 1 5 (segments_of segments.now) }
+    requires quantities { HaveAmounts (codes "W01") 1 QUANTITY_DIGITS (segments_of segments.now) }
     ensures lines { IfOk result (λ v. v.items ≡ map (meant.order_line (segments_of segments.now)) (places_of (codes "W01") (segments_of segments.now))) }
     ensures small { IfOk result (λ v. All (λ (l : meant.OrderLine). l.quantity ≤ most_quantity) v.items) }
 {
@@ -80,7 +81,7 @@ fn order_lines(alloc: Global, segments: &[Segment<'_>]) -> Result<Vec<OrderLine>
 // What the segments of an order say.
 fn told(alloc: Global, segments: &[Segment<'_>]) -> Result<Order, AllocError>
     requires short { length segments.now < 2 ^ 32 - 1 }
-    requires counted { IsCounted (codes "W01") (codes "W76") (segments_of segments.now) }
+    requires counted { IsCounted (codes "W01") (codes "W76") ORDER_TOTAL_DIGITS (segments_of segments.now) }
     ensures { IfOk result (λ o. o ≡ meant.order_of (segments_of segments.now)) }
 {
     let number_text = copied(alloc, element_with(segments, b"W05", 2))?;

@@ -82,11 +82,11 @@ rest_ascends k [] h = refl
 rest_ascends k (l ∷ ls) h = (both_parts (pair_before k l) (is_ascending (l ∷ ls)) h).1
 
 -- what is 0 of all lines after k is 0 of those that ascend after it
-none_behind : (f : Line → ℕ) (k : Line) (ls : List Line) → ((z : Line) → pair_before k z ≡ true → f z ≡ 0) → is_ascending (k ∷ ls) ≡ true → sum_by f ls ≡ 0
-none_behind f k [] zero h = refl
-none_behind f k (l ∷ ls) zero h =
+none_after : (f : Line → ℕ) (k : Line) (ls : List Line) → ((z : Line) → pair_before k z ≡ true → f z ≡ 0) → is_ascending (k ∷ ls) ≡ true → sum_by f ls ≡ 0
+none_after f k [] zero h = refl
+none_after f k (l ∷ ls) zero h =
     let p = both_parts (pair_before k l) (is_ascending (l ∷ ls)) h in
-    omega (arith, sum_by-cons f l ls, zero l p.0, none_behind f l ls (λ z g. zero z (before_through k l z p.0 g)) p.1)
+    omega (arith, sum_by-cons f l ls, zero l p.0, none_after f l ls (λ z g. zero z (before_through k l z p.0 g)) p.1)
 
 not_back : (k z : Line) → pair_before k z ≡ true → pair_before z k ≡ false
 not_back k z h = by_test (pair_before z k) refl
@@ -102,7 +102,7 @@ ahead k z = cond (pair_before z k) 1 0
 none_ahead : (k : Line) (ls : List Line) → is_ascending (k ∷ ls) ≡ true → sum_by (ahead k) (k ∷ ls) ≡ 0
 none_ahead k ls h =
     let here : ahead k k ≡ 0 = ap (λ (t : Bool). cond {A = ℕ} t 1 0) (never_before k) in
-    omega (arith, sum_by-cons (ahead k) k ls, here, none_behind (ahead k) k ls (λ z g. ap (λ (t : Bool). cond {A = ℕ} t 1 0) (not_back k z g)) h)
+    omega (arith, sum_by-cons (ahead k) k ls, here, none_after (ahead k) k ls (λ z g. ap (λ (t : Bool). cond {A = ℕ} t 1 0) (not_back k z g)) h)
 
 -- so no first is ahead of another
 first_not_ahead : (k l : Line) (ks ls : List Line) → is_ascending (k ∷ ks) ≡ true → sum_by (ahead k) (l ∷ ls) ≡ sum_by (ahead k) (k ∷ ks) → pair_before l k ≡ false
@@ -136,7 +136,7 @@ much_of_first k ks h =
       arith,
       sum_by-cons (much_of k.item k.lot) k ks,
       here,
-      none_behind (much_of k.item k.lot) k ks (λ z g. ap (λ (t : Bool). cond {A = ℕ} t z.quantity 0) (apart k z g)) h,
+      none_after (much_of k.item k.lot) k ks (λ z g. ap (λ (t : Bool). cond {A = ℕ} t z.quantity 0) (apart k z g)) h,
     )
 
 pub ascending_same : (ks ls : List Line) → is_ascending ks ≡ true → is_ascending ls ≡ true → ((f : Line → ℕ) → sum_by f ls ≡ sum_by f ks) → ks ≡ ls

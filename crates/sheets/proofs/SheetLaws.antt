@@ -8,7 +8,7 @@ use Rattle.std.proofs.Common.{le-leb, leb-true}
 use Rattle.std.proofs.lemmas.List.Sorted.{IsPermutation-map, sum_by-IsPermutation}
 use Rattle.std.proofs.lemmas.List.Elements.{All-nil, All-cons}
 use Rattle.profile.specs.Bytes.{value, is_identifier}
-use Rattle.profile.specs.Limits.{most_lines, most_item, most_lot, most_recounted}
+use Rattle.profile.specs.Limits.{most_lines, most_item, most_lot, most_quantity, most_recounted}
 use Rattle.profile.specs.Lists.{in_order}
 use Rattle.profile.specs.Means.{Line}
 use Rattle.profile.specs.Events.{pair_before}
@@ -48,8 +48,8 @@ widened_line kind l h =
     both_true (both_true q.0 (le-leb 0 l.quantity (omega arith))) (by_kind kind p.1)
   where
     by_kind : (kind : SheetKind) → nat_le l.quantity (quantity_limit kind) ≡ true → nat_le l.quantity most_recounted ≡ true
-    by_kind CountSheet e = le-leb l.quantity 999999999 (omega (arith, leb-true l.quantity 99999 e))
-    by_kind PickSheet e = le-leb l.quantity 999999999 (omega (arith, leb-true l.quantity 99999 e))
+    by_kind CountSheet e = le-leb l.quantity most_recounted (omega (arith, leb-true l.quantity most_quantity e))
+    by_kind PickSheet e = le-leb l.quantity most_recounted (omega (arith, leb-true l.quantity most_quantity e))
     by_kind RecountSheet e = e
 
 widened_lines : (kind : SheetKind) (ls : List Line) → list_all (is_sheet_line kind) ls ≡ true → list_all (is_sheet_line RecountSheet) ls ≡ true

@@ -98,9 +98,7 @@ fn after_element(sets: u16, segments: u8, elements: u8, id: Id) -> Option<Stage>
 {
     match id {
         Id::Ak4 if elements > 0 => Some(Stage::Elements(sets, segments, elements - 1)),
-        Id::Ak3 if segments > 0 => Some(Stage::Elements(sets, segments - 1, MOST_TOLD_ELEMENTS)),
-        Id::Ak5 => Some(Stage::Sets(sets)),
-        _ => None,
+        _ => after_segment(sets, segments, id),
     }
 }
 

@@ -77,29 +77,27 @@ fn after_head(id: Id) -> Option<Stage>
     }
 }
 
+// A party, or what may stand where the references begin.
 fn after_party(left: u8, id: Id) -> Option<Stage>
     ensures { option_map rest_of result ≡ found (words_after (text_of id) (rest_of (Stage.Parties left))) }
 {
     match id {
         Id::N1 if left > 0 => Some(Stage::Parties(left - 1)),
-        Id::N9 => Some(Stage::References(MOST_REFERENCES - 1)),
-        Id::G62 => Some(Stage::Dates(MOST_DATES - 1)),
-        Id::W04 => Some(Stage::Goods(MOST_LINES - 1)),
-        _ => None,
+        _ => after_reference(MOST_REFERENCES, id),
     }
 }
 
+// A reference, or what may stand where the dates begin.
 fn after_reference(left: u8, id: Id) -> Option<Stage>
     ensures { option_map rest_of result ≡ found (words_after (text_of id) (rest_of (Stage.References left))) }
 {
     match id {
         Id::N9 if left > 0 => Some(Stage::References(left - 1)),
-        Id::G62 => Some(Stage::Dates(MOST_DATES - 1)),
-        Id::W04 => Some(Stage::Goods(MOST_LINES - 1)),
-        _ => None,
+        _ => after_date(MOST_DATES, id),
     }
 }
 
+// A date, or the first line.
 fn after_date(left: u8, id: Id) -> Option<Stage>
     ensures { option_map rest_of result ≡ found (words_after (text_of id) (rest_of (Stage.Dates left))) }
 {

@@ -87,15 +87,13 @@ fn after_head(id: Id) -> Option<Stage>
     }
 }
 
+// A party, or what may stand where the references begin.
 fn after_party(left: u8, id: Id) -> Option<Stage>
     ensures { option_map rest_of result ≡ found (words_after (text_of id) (rest_of (Stage.Parties left))) }
 {
     match id {
         Id::N1 if left > 0 => Some(Stage::Named(left - 1)),
-        Id::N9 => Some(Stage::References(MOST_REFERENCES - 1)),
-        Id::G62 => Some(Stage::Dates(MOST_DATES - 1)),
-        Id::Lx => Some(Stage::Numbered(MOST_LINES - 1)),
-        _ => None,
+        _ => after_reference(MOST_REFERENCES, id),
     }
 }
 
@@ -104,12 +102,7 @@ fn after_name(left: u8, id: Id) -> Option<Stage>
 {
     match id {
         Id::N3 => Some(Stage::Streeted(left)),
-        Id::N4 => Some(Stage::Parties(left)),
-        Id::N1 if left > 0 => Some(Stage::Named(left - 1)),
-        Id::N9 => Some(Stage::References(MOST_REFERENCES - 1)),
-        Id::G62 => Some(Stage::Dates(MOST_DATES - 1)),
-        Id::Lx => Some(Stage::Numbered(MOST_LINES - 1)),
-        _ => None,
+        _ => after_street(left, id),
     }
 }
 
@@ -118,25 +111,21 @@ fn after_street(left: u8, id: Id) -> Option<Stage>
 {
     match id {
         Id::N4 => Some(Stage::Parties(left)),
-        Id::N1 if left > 0 => Some(Stage::Named(left - 1)),
-        Id::N9 => Some(Stage::References(MOST_REFERENCES - 1)),
-        Id::G62 => Some(Stage::Dates(MOST_DATES - 1)),
-        Id::Lx => Some(Stage::Numbered(MOST_LINES - 1)),
-        _ => None,
+        _ => after_party(left, id),
     }
 }
 
+// A reference, or what may stand where the dates begin.
 fn after_reference(left: u8, id: Id) -> Option<Stage>
     ensures { option_map rest_of result ≡ found (words_after (text_of id) (rest_of (Stage.References left))) }
 {
     match id {
         Id::N9 if left > 0 => Some(Stage::References(left - 1)),
-        Id::G62 => Some(Stage::Dates(MOST_DATES - 1)),
-        Id::Lx => Some(Stage::Numbered(MOST_LINES - 1)),
-        _ => None,
+        _ => after_date(MOST_DATES, id),
     }
 }
 
+// A date, or the first line.
 fn after_date(left: u8, id: Id) -> Option<Stage>
     ensures { option_map rest_of result ≡ found (words_after (text_of id) (rest_of (Stage.Dates left))) }
 {
@@ -161,9 +150,7 @@ fn after_goods(left: u16, id: Id) -> Option<Stage>
 {
     match id {
         Id::N9 => Some(Stage::Pinned(left)),
-        Id::Lx if left > 0 => Some(Stage::Numbered(left - 1)),
-        Id::W76 => Some(Stage::Total),
-        _ => None,
+        _ => after_pin(left, id),
     }
 }
 

@@ -4,4 +4,4 @@ use Rattle.envelope.proofs.reading.is_legible.Given as goal
 
 -- what is left decides
 abbrev pub invariant-loop-b : goal.invariant-loop-b
-invariant-loop-b l = meant.is_legible l.delims true l.text ≡ meant.is_legible l.delims l.behind (drop l.b-index l.text)
+invariant-loop-b l = meant.is_legible l.delims true l.text ≡ meant.is_legible l.delims l.after (drop l.b-index l.text)

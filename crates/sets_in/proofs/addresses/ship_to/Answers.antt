@@ -12,8 +12,8 @@ returns-then-is_ship_to c =
     let i = c.loop-index.index in
     let ps = c.args.segments.now in
     let all : take (length ps - (i + 1)) (drop (i + 1) ps) ≡ drop (i + 1) ps = take_all (length ps - (i + 1)) (drop (i + 1) ps) (omega (arith, length-drop {A = Piece})) in
-    let behind = c.belonging-behind.ensures ∙ ap (λ (qs : List Piece). take_while (λ s. has_id (codes "N3") s || has_id (codes "N4") s) (segments_of qs)) all in
-    ap Some (c.in_ok-address_of.ensures ∙ ap (address_of c.index-segments-index.result.elements) behind
+    let after = c.belonging-after.ensures ∙ ap (λ (qs : List Piece). take_while (λ s. has_id (codes "N3") s || has_id (codes "N4") s) (segments_of qs)) all in
+    ap Some (c.in_ok-address_of.ensures ∙ ap (address_of c.index-segments-index.result.elements) after
     ∙ ap (λ (q : Piece). address_of q.elements (take_while (λ s. has_id (codes "N3") s || has_id (codes "N4") s) (segments_of (drop (i + 1) ps)))) c.index-segments-index.is)
     ∙ ship_to_here ps i c.index-segments-index.result _ c.loop-index-test.true c.loop-index.invariant
     (ap (λ (q : Piece). is_ship_to q.elements) (sym c.index-segments-index.is) ∙ (sym c.is_ship_to.ensures ∙ c.if-is_ship_to.true))

@@ -1,4 +1,4 @@
-use Rattle.std.proofs.Common.{sym, ◌∙◌, refl}
+use Rattle.std.proofs.Common.{sym, ◌∙◌}
 use Rattle.segments.proofs.PartnerLemmas.{filled_partner}
 use Rattle.segments.proofs.partners.Who.of.Goals as goal
 
