@@ -17,7 +17,7 @@ use Rattle.stock.specs.declared.steps.Change as stock
 use Rattle.store.specs.Sent.{kind_by}
 use Rattle.books.specs.Appending.{first_state, sent_changes, entry_changes, Appends}
 use Rattle.books.specs.Leading.{Leads}
-use Rattle.books.proofs.LeadingLemmas.{leads_on, changed_on}
+use Rattle.books.proofs.LeadingLemmas.{leads_none, leads_on, changed_on}
 use Rattle.books.specs.Standing.{Filled, named}
 
 -- an entry is numbered where its number isn't 0
@@ -40,6 +40,11 @@ row_of W before who t (Performed ticket act) h = refl
 
 number_is : (L : List Entry) (e : Entry) → is_numbered e ≡ true → number_of L e ≡ next_number (own L e.who)
 number_is L e h = ap (λ (b : Bool). if b then next_number (own L e.who) else 0) h
+
+-- and nothing goes out for one that isn't
+pub unsent_led : (W : Who) (L : List Entry) (e : Entry) (db : Database) → is_numbered e ≡ false → Leads (sent_changes W L e) db db
+unsent_led W L e db silent =
+    subst (λ (b : Bool). Leads (if b then Puts (codes "outgoing") (outgoing_row e.who (new_out_row W (own L e.who) e)) ∷ [] else []) db db) (sym silent) (leads_none db)
 
 pub sent_led : (W : Who) (L : List Entry) (e : Entry) (who : List ℕ) (n : ℕ) (kind content state : List ℕ) (a b : Database) → is_numbered e ≡ true → who ≡ who_text e.who → n ≡ number_of L e
     → kind ≡ kind_by e.deed → content ≡ out W (own L e.who) e → state ≡ first_state e.deed

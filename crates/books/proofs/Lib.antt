@@ -27,6 +27,7 @@ mod PutRows
 mod HoldsLemmas
 mod LeadsLemmas
 mod StepLemmas
+mod Writes
 mod Led
 mod LeadingLemmas
 mod Lines

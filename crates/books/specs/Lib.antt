@@ -1,11 +1,13 @@
 pub mod Showing
 pub mod Layout
+pub mod Lines
 pub mod Steps
 pub mod Held
 pub mod Standing
 pub mod Leading
 pub mod Rises
 pub mod Limits
+pub mod Writing
 pub mod Appending
 pub mod Kept
 pub mod Exits

@@ -1,26 +1,23 @@
-ghost use Rattle.std.specs.Prelude.{◌≡◌, ◌≢◌, ◌⊎◌, ◌<◌, ◌^◌, ◌++◌, List, IsTrue, IfErr, OnOk, OnErr, Some};
+ghost use Rattle.std.specs.Prelude.{◌≡◌, ◌<◌, ◌^◌, ◌++◌, List, IsTrue};
 ghost use Rattle.profile.specs.Header.{Who as Partner, who_text};
 ghost use Rattle.profile.specs.Register as register;
 ghost use Rattle.profile.specs.Reply.{out};
 ghost use Rattle.rules.specs.Written.{written};
 ghost use Rattle.rules.specs.Tabled.{table_changes};
-ghost use Rattle.sqlite.specs.State.{HasCleanDisk, Survives, KeepsCommit};
 ghost use Rattle.sqlite.specs.Held.{state};
 ghost use Rattle.books.specs.Appending.{Appends, sent_changes, entry_changes};
 ghost use Rattle.books.specs.Leading.{Leads};
-ghost use Rattle.books.specs.Limits.{NoMore};
-ghost use Rattle.books.specs.Rises.{Rises};
+ghost use Rattle.books.specs.Writing.{Wrote};
 
 use crate::calls::Calls;
 use crate::changing::apply_all;
+use crate::recording::{insert_entry, insert_outgoing};
 use crate::texts::{kind_text, moment_text, new_state_text};
-use crate::writing::{insert_entry, insert_outgoing};
 use rules::{Change, Entry};
 use sqlite::{Alter, Transaction};
 use store::Fault;
 
 /// Adds the text that goes out for a numbered entry.
-#[tactic(auto, using(crate::proofs::Limited::no_more_trans, crate::proofs::Limited::no_more_same))]
 fn insert_sent<'a, S: Alter>(
     tx: &mut Transaction<'_, S>,
     calls: &mut Calls,
@@ -29,16 +26,11 @@ fn insert_sent<'a, S: Alter>(
     outgoing: &'a [u8],
 ) -> Result<(), Fault>
     ensures same_reference { tx.new.conn.ghost_name ≡ tx.old.conn.ghost_name }
-    ensures leads { HasCleanDisk (state S.Store tx.new.conn.now) → IsTrue (state S.Store tx.old.conn.now).in_transaction
-        → OnOk result ((W : Partner) (L : List register.Entry) (e : register.Entry) → who.now ≡ who_text e.who → entry.now ≡ written L e → outgoing.now ≡ out W (register.own L e.who) e
-        → Leads (sent_changes W L e) (state S.Store tx.old.conn.now).now (state S.Store tx.new.conn.now).now) }
-    ensures inside { HasCleanDisk (state S.Store tx.new.conn.now) → IsTrue (state S.Store tx.old.conn.now).in_transaction → OnOk result (IsTrue (state S.Store tx.new.conn.now).in_transaction) }
-    ensures kept { HasCleanDisk (state S.Store tx.new.conn.now) → KeepsCommit (state S.Store tx.old.conn.now) (state S.Store tx.new.conn.now) }
-    ensures survives { Survives (state S.Store tx.old.conn.now) (state S.Store tx.new.conn.now) (λ _. ⊥) }
-    ensures ok { OnOk result (calls.new.refused ≡ calls.old.refused) }
-    ensures counted { OnErr result (Rises calls.old.refused calls.new.refused) }
-    ensures limit { NoMore calls.old.limit calls.new.limit }
-    ensures named { IfErr result (λ f. (f ≡ Fault.OutOfMemory) ⊎ (f ≡ Fault.Store)) }
+    ensures wrote { let old = state S.Store tx.old.conn.now in let new = state S.Store tx.new.conn.now in
+        Wrote ((W : Partner) (L : List register.Entry) (e : register.Entry)
+        → who.now ≡ who_text e.who → entry.now ≡ written L e → outgoing.now ≡ out W (register.own L e.who) e
+        → Leads (sent_changes W L e) old.now new.now)
+        old new calls.old calls.new result }
 {
     if !entry.is_numbered() {
         return Ok(());
@@ -49,7 +41,6 @@ fn insert_sent<'a, S: Alter>(
 }
 
 /// Adds an entry under the next number, with the text that goes out for it and the changes that its command makes.
-#[tactic(auto, using(crate::proofs::Limited::no_more_trans, crate::proofs::Limited::no_more_same))]
 pub(crate) fn write_entry<'a, S: Alter>(
     tx: &mut Transaction<'_, S>,
     calls: &mut Calls,
@@ -61,18 +52,11 @@ pub(crate) fn write_entry<'a, S: Alter>(
 ) -> Result<(), Fault>
     requires { seq < 2 ^ 63 }
     ensures same_reference { tx.new.conn.ghost_name ≡ tx.old.conn.ghost_name }
-    ensures leads { HasCleanDisk (state S.Store tx.new.conn.now) → IsTrue (state S.Store tx.old.conn.now).in_transaction
-        → OnOk result ((W : Partner) (L : List register.Entry) (e : register.Entry) → who.now ≡ who_text e.who → Appends W L e seq entry.now changes.now outgoing.now
-        → Leads (entry_changes W L e ++ table_changes e.who changes.now) (state S.Store tx.old.conn.now).now (state S.Store tx.new.conn.now).now) }
-    ensures inside { HasCleanDisk (state S.Store tx.new.conn.now) → IsTrue (state S.Store tx.old.conn.now).in_transaction → OnOk result (IsTrue (state S.Store tx.new.conn.now).in_transaction) }
-    ensures opened { HasCleanDisk (state S.Store tx.new.conn.now) → IsTrue (state S.Store tx.old.conn.now).in_transaction → OnOk result (IsTrue (state S.Store tx.old.conn.now).is_open) }
-    ensures kept { HasCleanDisk (state S.Store tx.new.conn.now) → KeepsCommit (state S.Store tx.old.conn.now) (state S.Store tx.new.conn.now) }
-    ensures survives { Survives (state S.Store tx.old.conn.now) (state S.Store tx.new.conn.now) (λ _. ⊥) }
-    ensures ok { OnOk result (calls.new.refused ≡ calls.old.refused) }
-    ensures counted { OnErr result (Rises calls.old.refused calls.new.refused) }
-    ensures limit { NoMore calls.old.limit calls.new.limit }
-    ensures allowed { OnOk result (calls.old.limit ≢ Some 0) }
-    ensures named { IfErr result (λ f. (f ≡ Fault.OutOfMemory) ⊎ (f ≡ Fault.Store)) }
+    ensures wrote { let old = state S.Store tx.old.conn.now in let new = state S.Store tx.new.conn.now in
+        Wrote (IsTrue old.is_open × ((W : Partner) (L : List register.Entry) (e : register.Entry)
+        → who.now ≡ who_text e.who → Appends W L e seq entry.now changes.now outgoing.now
+        → Leads (entry_changes W L e ++ table_changes e.who changes.now) old.now new.now))
+        old new calls.old calls.new result }
 {
     let moment = moment_text(entry.moment());
     insert_entry(tx, calls, seq, who, entry, &moment)?;

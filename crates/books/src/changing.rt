@@ -1,18 +1,16 @@
-ghost use Rattle.std.specs.Prelude.{◌≡◌, ◌⊎◌, [], ◌∷◌, codes, map, IsTrue, IfErr, OnOk, OnErr};
+ghost use Rattle.std.specs.Prelude.{◌≡◌, codes};
 ghost use Rattle.profile.specs.Header.{Who as Partner, who_text};
 ghost use Rattle.rules.specs.Tabled.{advice_changes, order_changes, table_changes_of, table_changes};
 ghost use Rattle.profile.specs.Tables as cells;
-ghost use Rattle.sqlite.specs.State.{HasCleanDisk, Survives, KeepsCommit};
 ghost use Rattle.sqlite.specs.Held.{state};
 ghost use Rattle.books.specs.Leading.{Leads, puts_of};
-ghost use Rattle.books.specs.Limits.{NoMore};
-ghost use Rattle.books.specs.Rises.{Rises};
-ghost use Rattle.books.specs.Steps.{GoesOn};
+ghost use Rattle.books.specs.Writing.{Wrote};
 
 use crate::calls::Calls;
+use crate::recording::set_state;
 use crate::writing::{
     free_reservations, put_advice, put_advice_line, put_order, put_order_line, put_reservation,
-    put_stock, set_state,
+    put_stock,
 };
 use rules::Change;
 use sqlite::{Alter, Transaction};
@@ -20,7 +18,6 @@ use stock::{KnownAdvice, KnownOrder};
 use store::Fault;
 
 /// Puts the lines of an advice.
-#[tactic(auto, using(crate::proofs::Limited::no_more_trans, crate::proofs::Limited::no_more_same))]
 fn put_advice_lines<'a, S: Alter>(
     tx: &mut Transaction<'_, S>,
     calls: &mut Calls,
@@ -28,15 +25,9 @@ fn put_advice_lines<'a, S: Alter>(
     advice: &'a KnownAdvice,
 ) -> Result<(), Fault>
     ensures same_reference { tx.new.conn.ghost_name ≡ tx.old.conn.ghost_name }
-    ensures leads { HasCleanDisk (state S.Store tx.new.conn.now) → IsTrue (state S.Store tx.old.conn.now).in_transaction
-        → OnOk result (Leads (puts_of (codes "advice_line") who.now (cells.advice_line_cells advice.now)) (state S.Store tx.old.conn.now).now (state S.Store tx.new.conn.now).now) }
-    ensures inside { HasCleanDisk (state S.Store tx.new.conn.now) → IsTrue (state S.Store tx.old.conn.now).in_transaction → OnOk result (IsTrue (state S.Store tx.new.conn.now).in_transaction) }
-    ensures kept { HasCleanDisk (state S.Store tx.new.conn.now) → KeepsCommit (state S.Store tx.old.conn.now) (state S.Store tx.new.conn.now) }
-    ensures survives { Survives (state S.Store tx.old.conn.now) (state S.Store tx.new.conn.now) (λ _. ⊥) }
-    ensures ok { OnOk result (calls.new.refused ≡ calls.old.refused) }
-    ensures counted { OnErr result (Rises calls.old.refused calls.new.refused) }
-    ensures limit { NoMore calls.old.limit calls.new.limit }
-    ensures named { IfErr result (λ f. (f ≡ Fault.OutOfMemory) ⊎ (f ≡ Fault.Store)) }
+    ensures wrote { let old = state S.Store tx.old.conn.now in let new = state S.Store tx.new.conn.now in
+        Wrote (Leads (puts_of (codes "advice_line") who.now (cells.advice_line_cells advice.now)) old.now new.now)
+        old new calls.old calls.new result }
 {
     let shipment = advice.shipment();
     let mut n: u32 = 0;
@@ -51,7 +42,6 @@ fn put_advice_lines<'a, S: Alter>(
 }
 
 /// Puts the lines of an order.
-#[tactic(auto, using(crate::proofs::Limited::no_more_trans, crate::proofs::Limited::no_more_same))]
 fn put_order_lines<'a, S: Alter>(
     tx: &mut Transaction<'_, S>,
     calls: &mut Calls,
@@ -59,15 +49,9 @@ fn put_order_lines<'a, S: Alter>(
     order: &'a KnownOrder,
 ) -> Result<(), Fault>
     ensures same_reference { tx.new.conn.ghost_name ≡ tx.old.conn.ghost_name }
-    ensures leads { HasCleanDisk (state S.Store tx.new.conn.now) → IsTrue (state S.Store tx.old.conn.now).in_transaction
-        → OnOk result (Leads (puts_of (codes "order_line") who.now (cells.order_line_cells order.now)) (state S.Store tx.old.conn.now).now (state S.Store tx.new.conn.now).now) }
-    ensures inside { HasCleanDisk (state S.Store tx.new.conn.now) → IsTrue (state S.Store tx.old.conn.now).in_transaction → OnOk result (IsTrue (state S.Store tx.new.conn.now).in_transaction) }
-    ensures kept { HasCleanDisk (state S.Store tx.new.conn.now) → KeepsCommit (state S.Store tx.old.conn.now) (state S.Store tx.new.conn.now) }
-    ensures survives { Survives (state S.Store tx.old.conn.now) (state S.Store tx.new.conn.now) (λ _. ⊥) }
-    ensures ok { OnOk result (calls.new.refused ≡ calls.old.refused) }
-    ensures counted { OnErr result (Rises calls.old.refused calls.new.refused) }
-    ensures limit { NoMore calls.old.limit calls.new.limit }
-    ensures named { IfErr result (λ f. (f ≡ Fault.OutOfMemory) ⊎ (f ≡ Fault.Store)) }
+    ensures wrote { let old = state S.Store tx.old.conn.now in let new = state S.Store tx.new.conn.now in
+        Wrote (Leads (puts_of (codes "order_line") who.now (cells.order_line_cells order.now)) old.now new.now)
+        old new calls.old calls.new result }
 {
     let key = order.number.as_slice();
     let mut n: u32 = 0;
@@ -82,7 +66,6 @@ fn put_order_lines<'a, S: Alter>(
 }
 
 /// Puts what is reserved for an order.
-#[tactic(auto, using(crate::proofs::Limited::no_more_trans, crate::proofs::Limited::no_more_same))]
 fn put_reservations<'a, S: Alter>(
     tx: &mut Transaction<'_, S>,
     calls: &mut Calls,
@@ -90,15 +73,9 @@ fn put_reservations<'a, S: Alter>(
     order: &'a KnownOrder,
 ) -> Result<(), Fault>
     ensures same_reference { tx.new.conn.ghost_name ≡ tx.old.conn.ghost_name }
-    ensures leads { HasCleanDisk (state S.Store tx.new.conn.now) → IsTrue (state S.Store tx.old.conn.now).in_transaction
-        → OnOk result (Leads (puts_of (codes "reservation") who.now (cells.reservation_cells order.now)) (state S.Store tx.old.conn.now).now (state S.Store tx.new.conn.now).now) }
-    ensures inside { HasCleanDisk (state S.Store tx.new.conn.now) → IsTrue (state S.Store tx.old.conn.now).in_transaction → OnOk result (IsTrue (state S.Store tx.new.conn.now).in_transaction) }
-    ensures kept { HasCleanDisk (state S.Store tx.new.conn.now) → KeepsCommit (state S.Store tx.old.conn.now) (state S.Store tx.new.conn.now) }
-    ensures survives { Survives (state S.Store tx.old.conn.now) (state S.Store tx.new.conn.now) (λ _. ⊥) }
-    ensures ok { OnOk result (calls.new.refused ≡ calls.old.refused) }
-    ensures counted { OnErr result (Rises calls.old.refused calls.new.refused) }
-    ensures limit { NoMore calls.old.limit calls.new.limit }
-    ensures named { IfErr result (λ f. (f ≡ Fault.OutOfMemory) ⊎ (f ≡ Fault.Store)) }
+    ensures wrote { let old = state S.Store tx.old.conn.now in let new = state S.Store tx.new.conn.now in
+        Wrote (Leads (puts_of (codes "reservation") who.now (cells.reservation_cells order.now)) old.now new.now)
+        old new calls.old calls.new result }
 {
     let key = order.number.as_slice();
     for line in &order.reserved {
@@ -108,7 +85,6 @@ fn put_reservations<'a, S: Alter>(
 }
 
 /// Puts an advice, and its lines where it is opened.
-#[tactic(auto, using(crate::proofs::Limited::no_more_trans, crate::proofs::Limited::no_more_same))]
 fn apply_advice<'a, S: Alter>(
     tx: &mut Transaction<'_, S>,
     calls: &mut Calls,
@@ -116,25 +92,19 @@ fn apply_advice<'a, S: Alter>(
     advice: &'a KnownAdvice,
 ) -> Result<(), Fault>
     ensures same_reference { tx.new.conn.ghost_name ≡ tx.old.conn.ghost_name }
-    ensures leads { HasCleanDisk (state S.Store tx.new.conn.now) → IsTrue (state S.Store tx.old.conn.now).in_transaction
-        → OnOk result ((w : Partner) → who.now ≡ who_text w → Leads (advice_changes w advice.now) (state S.Store tx.old.conn.now).now (state S.Store tx.new.conn.now).now) }
-    ensures inside { HasCleanDisk (state S.Store tx.new.conn.now) → IsTrue (state S.Store tx.old.conn.now).in_transaction → OnOk result (IsTrue (state S.Store tx.new.conn.now).in_transaction) }
-    ensures kept { HasCleanDisk (state S.Store tx.new.conn.now) → KeepsCommit (state S.Store tx.old.conn.now) (state S.Store tx.new.conn.now) }
-    ensures survives { Survives (state S.Store tx.old.conn.now) (state S.Store tx.new.conn.now) (λ _. ⊥) }
-    ensures ok { OnOk result (calls.new.refused ≡ calls.old.refused) }
-    ensures counted { OnErr result (Rises calls.old.refused calls.new.refused) }
-    ensures limit { NoMore calls.old.limit calls.new.limit }
-    ensures named { IfErr result (λ f. (f ≡ Fault.OutOfMemory) ⊎ (f ≡ Fault.Store)) }
+    ensures wrote { let old = state S.Store tx.old.conn.now in let new = state S.Store tx.new.conn.now in
+        Wrote ((w : Partner) → who.now ≡ who_text w → Leads (advice_changes w advice.now) old.now new.now)
+        old new calls.old calls.new result }
 {
     put_advice(tx, calls, who, advice)?;
     if advice.is_open() {
-        put_advice_lines(tx, calls, who, advice)?;
+        put_advice_lines(tx, calls, who, advice)
+    } else {
+        Ok(())
     }
-    Ok(())
 }
 
 /// Puts an order: where it is opened with its lines and what is reserved for it, else nothing is reserved for it any more.
-#[tactic(auto, using(crate::proofs::Limited::no_more_trans, crate::proofs::Limited::no_more_same))]
 fn apply_order<'a, S: Alter>(
     tx: &mut Transaction<'_, S>,
     calls: &mut Calls,
@@ -142,15 +112,9 @@ fn apply_order<'a, S: Alter>(
     order: &'a KnownOrder,
 ) -> Result<(), Fault>
     ensures same_reference { tx.new.conn.ghost_name ≡ tx.old.conn.ghost_name }
-    ensures leads { HasCleanDisk (state S.Store tx.new.conn.now) → IsTrue (state S.Store tx.old.conn.now).in_transaction
-        → OnOk result ((w : Partner) → who.now ≡ who_text w → Leads (order_changes w order.now) (state S.Store tx.old.conn.now).now (state S.Store tx.new.conn.now).now) }
-    ensures inside { HasCleanDisk (state S.Store tx.new.conn.now) → IsTrue (state S.Store tx.old.conn.now).in_transaction → OnOk result (IsTrue (state S.Store tx.new.conn.now).in_transaction) }
-    ensures kept { HasCleanDisk (state S.Store tx.new.conn.now) → KeepsCommit (state S.Store tx.old.conn.now) (state S.Store tx.new.conn.now) }
-    ensures survives { Survives (state S.Store tx.old.conn.now) (state S.Store tx.new.conn.now) (λ _. ⊥) }
-    ensures ok { OnOk result (calls.new.refused ≡ calls.old.refused) }
-    ensures counted { OnErr result (Rises calls.old.refused calls.new.refused) }
-    ensures limit { NoMore calls.old.limit calls.new.limit }
-    ensures named { IfErr result (λ f. (f ≡ Fault.OutOfMemory) ⊎ (f ≡ Fault.Store)) }
+    ensures wrote { let old = state S.Store tx.old.conn.now in let new = state S.Store tx.new.conn.now in
+        Wrote ((w : Partner) → who.now ≡ who_text w → Leads (order_changes w order.now) old.now new.now)
+        old new calls.old calls.new result }
 {
     put_order(tx, calls, who, order)?;
     if order.is_open {
@@ -162,7 +126,6 @@ fn apply_order<'a, S: Alter>(
 }
 
 /// Puts one change into the tables.
-#[tactic(auto, using(crate::proofs::Limited::no_more_trans, crate::proofs::Limited::no_more_same))]
 fn apply_change<'a, S: Alter>(
     tx: &mut Transaction<'_, S>,
     calls: &mut Calls,
@@ -170,15 +133,9 @@ fn apply_change<'a, S: Alter>(
     change: &'a Change,
 ) -> Result<(), Fault>
     ensures same_reference { tx.new.conn.ghost_name ≡ tx.old.conn.ghost_name }
-    ensures leads { HasCleanDisk (state S.Store tx.new.conn.now) → IsTrue (state S.Store tx.old.conn.now).in_transaction
-        → OnOk result ((w : Partner) → who.now ≡ who_text w → Leads (table_changes_of w change.now) (state S.Store tx.old.conn.now).now (state S.Store tx.new.conn.now).now) }
-    ensures inside { HasCleanDisk (state S.Store tx.new.conn.now) → IsTrue (state S.Store tx.old.conn.now).in_transaction → OnOk result (IsTrue (state S.Store tx.new.conn.now).in_transaction) }
-    ensures kept { HasCleanDisk (state S.Store tx.new.conn.now) → KeepsCommit (state S.Store tx.old.conn.now) (state S.Store tx.new.conn.now) }
-    ensures survives { Survives (state S.Store tx.old.conn.now) (state S.Store tx.new.conn.now) (λ _. ⊥) }
-    ensures ok { OnOk result (calls.new.refused ≡ calls.old.refused) }
-    ensures counted { OnErr result (Rises calls.old.refused calls.new.refused) }
-    ensures limit { NoMore calls.old.limit calls.new.limit }
-    ensures named { IfErr result (λ f. (f ≡ Fault.OutOfMemory) ⊎ (f ≡ Fault.Store)) }
+    ensures wrote { let old = state S.Store tx.old.conn.now in let new = state S.Store tx.new.conn.now in
+        Wrote ((w : Partner) → who.now ≡ who_text w → Leads (table_changes_of w change.now) old.now new.now)
+        old new calls.old calls.new result }
 {
     match change {
         Change::Stock(row) => put_stock(tx, calls, who, row),
@@ -190,7 +147,6 @@ fn apply_change<'a, S: Alter>(
 }
 
 /// Puts changes into the tables, one after another.
-#[tactic(auto, using(crate::proofs::Limited::no_more_trans, crate::proofs::Limited::no_more_same))]
 pub(crate) fn apply_all<'a, S: Alter>(
     tx: &mut Transaction<'_, S>,
     calls: &mut Calls,
@@ -198,15 +154,9 @@ pub(crate) fn apply_all<'a, S: Alter>(
     changes: &'a [Change],
 ) -> Result<(), Fault>
     ensures same_reference { tx.new.conn.ghost_name ≡ tx.old.conn.ghost_name }
-    ensures leads { HasCleanDisk (state S.Store tx.new.conn.now) → IsTrue (state S.Store tx.old.conn.now).in_transaction
-        → OnOk result ((w : Partner) → who.now ≡ who_text w → Leads (table_changes w changes.now) (state S.Store tx.old.conn.now).now (state S.Store tx.new.conn.now).now) }
-    ensures inside { HasCleanDisk (state S.Store tx.new.conn.now) → IsTrue (state S.Store tx.old.conn.now).in_transaction → OnOk result (IsTrue (state S.Store tx.new.conn.now).in_transaction) }
-    ensures kept { HasCleanDisk (state S.Store tx.new.conn.now) → KeepsCommit (state S.Store tx.old.conn.now) (state S.Store tx.new.conn.now) }
-    ensures survives { Survives (state S.Store tx.old.conn.now) (state S.Store tx.new.conn.now) (λ _. ⊥) }
-    ensures ok { OnOk result (calls.new.refused ≡ calls.old.refused) }
-    ensures counted { OnErr result (Rises calls.old.refused calls.new.refused) }
-    ensures limit { NoMore calls.old.limit calls.new.limit }
-    ensures named { IfErr result (λ f. (f ≡ Fault.OutOfMemory) ⊎ (f ≡ Fault.Store)) }
+    ensures wrote { let old = state S.Store tx.old.conn.now in let new = state S.Store tx.new.conn.now in
+        Wrote ((w : Partner) → who.now ≡ who_text w → Leads (table_changes w changes.now) old.now new.now)
+        old new calls.old calls.new result }
 {
     for change in changes {
         apply_change(tx, calls, who, change)?;

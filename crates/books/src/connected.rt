@@ -113,6 +113,7 @@ impl<S: Alter + Drop> Tables<S> {
         ensures limit { NoMore self.old.limit self.new.limit }
         ensures allowed { OnOk result (self.old.limit ≢ Some 0) }
     {
+        // For the prover alone: in no transaction, what is there is the last commit; and while the store is open, it is a database.
         let settled = self.conn.is_autocommit();
         prove!(settled);
         let _live = self.conn.schema();
@@ -150,6 +151,7 @@ impl<S: Alter + Drop> Tables<S> {
         ensures limit { NoMore self.old.limit self.new.limit }
         ensures allowed { OnOk result (self.old.limit ≢ Some 0) }
     {
+        // For the prover alone, as in `ask`.
         let settled = self.conn.is_autocommit();
         prove!(settled);
         let _schema = self.conn.schema();
@@ -175,6 +177,7 @@ impl<S: Alter + Drop> Tables<S> {
         ensures limit { NoMore self.old.limit self.new.limit }
         ensures allowed { OnOk result (self.old.limit ≢ Some 0) }
     {
+        // For the prover alone, as in `ask`.
         let settled = self.conn.is_autocommit();
         prove!(settled);
         let mut tx = self.conn.transaction();

@@ -11,6 +11,7 @@ mod enrolled;
 mod making;
 mod reading;
 mod recalled;
+mod recording;
 mod running;
 mod sent;
 mod shown;

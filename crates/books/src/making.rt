@@ -1,11 +1,8 @@
-ghost use Rattle.std.specs.Prelude.{◌≡◌, ◌≢◌, ◌⊎◌, IsTrue, IfErr, OnOk, OnErr, Some};
-ghost use Rattle.sqlite.specs.State.{HasCleanDisk, Survives, KeepsCommit};
+ghost use Rattle.std.specs.Prelude.{◌≡◌};
 ghost use Rattle.sqlite.specs.Held.{state};
 ghost use Rattle.books.specs.Layout.{no_layout};
 ghost use Rattle.books.specs.Making.{HasMade, HasBook};
-ghost use Rattle.books.specs.Limits.{NoMore};
-ghost use Rattle.books.specs.Rises.{Rises};
-ghost use Rattle.books.specs.Steps.{GoesOn};
+ghost use Rattle.books.specs.Writing.{Wrote};
 
 use crate::calls::Calls;
 use crate::running::run;
@@ -15,22 +12,13 @@ use sqlite::{Alter, Transaction};
 use store::Fault;
 
 /// Makes `book`, `entry` and `outgoing`.
-#[tactic(auto, using(crate::proofs::Limited::no_more_trans, crate::proofs::Limited::no_more_same))]
 pub(crate) fn make_first<S: Alter>(
     tx: &mut Transaction<'_, S>,
     calls: &mut Calls,
 ) -> Result<(), Fault>
     ensures same_reference { tx.new.conn.ghost_name ≡ tx.old.conn.ghost_name }
-    ensures made { HasCleanDisk (state S.Store tx.new.conn.now) → IsTrue (state S.Store tx.old.conn.now).in_transaction → HasMade 0 0 (state S.Store tx.old.conn.now).now
-        → OnOk result (HasMade 3 3 (state S.Store tx.new.conn.now).now) }
-    ensures inside { HasCleanDisk (state S.Store tx.new.conn.now) → IsTrue (state S.Store tx.old.conn.now).in_transaction → OnOk result (GoesOn (state S.Store tx.old.conn.now) (state S.Store tx.new.conn.now)) }
-    ensures kept { HasCleanDisk (state S.Store tx.new.conn.now) → KeepsCommit (state S.Store tx.old.conn.now) (state S.Store tx.new.conn.now) }
-    ensures survives { Survives (state S.Store tx.old.conn.now) (state S.Store tx.new.conn.now) (λ _. ⊥) }
-    ensures ok { OnOk result (calls.new.refused ≡ calls.old.refused) }
-    ensures counted { OnErr result (Rises calls.old.refused calls.new.refused) }
-    ensures limit { NoMore calls.old.limit calls.new.limit }
-    ensures allowed { OnOk result (calls.old.limit ≢ Some 0) }
-    ensures named { IfErr result (λ f. (f ≡ Fault.OutOfMemory) ⊎ (f ≡ Fault.Store)) }
+    ensures wrote { let old = state S.Store tx.old.conn.now in let new = state S.Store tx.new.conn.now in
+        Wrote (HasMade 0 0 old.now → HasMade 3 3 new.now) old new calls.old calls.new result }
 {
     run(
         tx,
@@ -53,21 +41,13 @@ pub(crate) fn make_first<S: Alter>(
 }
 
 /// Makes `stock`, `advice` and `advice_line`.
-#[tactic(auto, using(crate::proofs::Limited::no_more_trans, crate::proofs::Limited::no_more_same))]
 pub(crate) fn make_second<S: Alter>(
     tx: &mut Transaction<'_, S>,
     calls: &mut Calls,
 ) -> Result<(), Fault>
     ensures same_reference { tx.new.conn.ghost_name ≡ tx.old.conn.ghost_name }
-    ensures made { HasCleanDisk (state S.Store tx.new.conn.now) → IsTrue (state S.Store tx.old.conn.now).in_transaction → HasMade 3 3 (state S.Store tx.old.conn.now).now
-        → OnOk result (HasMade 6 6 (state S.Store tx.new.conn.now).now) }
-    ensures inside { HasCleanDisk (state S.Store tx.new.conn.now) → IsTrue (state S.Store tx.old.conn.now).in_transaction → OnOk result (GoesOn (state S.Store tx.old.conn.now) (state S.Store tx.new.conn.now)) }
-    ensures kept { HasCleanDisk (state S.Store tx.new.conn.now) → KeepsCommit (state S.Store tx.old.conn.now) (state S.Store tx.new.conn.now) }
-    ensures survives { Survives (state S.Store tx.old.conn.now) (state S.Store tx.new.conn.now) (λ _. ⊥) }
-    ensures ok { OnOk result (calls.new.refused ≡ calls.old.refused) }
-    ensures counted { OnErr result (Rises calls.old.refused calls.new.refused) }
-    ensures limit { NoMore calls.old.limit calls.new.limit }
-    ensures named { IfErr result (λ f. (f ≡ Fault.OutOfMemory) ⊎ (f ≡ Fault.Store)) }
+    ensures wrote { let old = state S.Store tx.old.conn.now in let new = state S.Store tx.new.conn.now in
+        Wrote (HasMade 3 3 old.now → HasMade 6 6 new.now) old new calls.old calls.new result }
 {
     run(
         tx,
@@ -90,21 +70,13 @@ pub(crate) fn make_second<S: Alter>(
 }
 
 /// Makes `orders`, `order_line` and `reservation`.
-#[tactic(auto, using(crate::proofs::Limited::no_more_trans, crate::proofs::Limited::no_more_same))]
 pub(crate) fn make_third<S: Alter>(
     tx: &mut Transaction<'_, S>,
     calls: &mut Calls,
 ) -> Result<(), Fault>
     ensures same_reference { tx.new.conn.ghost_name ≡ tx.old.conn.ghost_name }
-    ensures made { HasCleanDisk (state S.Store tx.new.conn.now) → IsTrue (state S.Store tx.old.conn.now).in_transaction → HasMade 6 6 (state S.Store tx.old.conn.now).now
-        → OnOk result (HasMade 9 9 (state S.Store tx.new.conn.now).now) }
-    ensures inside { HasCleanDisk (state S.Store tx.new.conn.now) → IsTrue (state S.Store tx.old.conn.now).in_transaction → OnOk result (GoesOn (state S.Store tx.old.conn.now) (state S.Store tx.new.conn.now)) }
-    ensures kept { HasCleanDisk (state S.Store tx.new.conn.now) → KeepsCommit (state S.Store tx.old.conn.now) (state S.Store tx.new.conn.now) }
-    ensures survives { Survives (state S.Store tx.old.conn.now) (state S.Store tx.new.conn.now) (λ _. ⊥) }
-    ensures ok { OnOk result (calls.new.refused ≡ calls.old.refused) }
-    ensures counted { OnErr result (Rises calls.old.refused calls.new.refused) }
-    ensures limit { NoMore calls.old.limit calls.new.limit }
-    ensures named { IfErr result (λ f. (f ≡ Fault.OutOfMemory) ⊎ (f ≡ Fault.Store)) }
+    ensures wrote { let old = state S.Store tx.old.conn.now in let new = state S.Store tx.new.conn.now in
+        Wrote (HasMade 6 6 old.now → HasMade 9 9 new.now) old new calls.old calls.new result }
 {
     run(
         tx,
@@ -134,15 +106,8 @@ pub(crate) fn insert_book<'a, S: Alter>(
     id: &'a [u8],
 ) -> Result<(), Fault>
     ensures same_reference { tx.new.conn.ghost_name ≡ tx.old.conn.ghost_name }
-    ensures made { HasCleanDisk (state S.Store tx.new.conn.now) → IsTrue (state S.Store tx.old.conn.now).in_transaction → HasMade 9 9 (state S.Store tx.old.conn.now).now
-        → OnOk result (HasBook qualifier.now id.now (state S.Store tx.new.conn.now).now) }
-    ensures inside { HasCleanDisk (state S.Store tx.new.conn.now) → IsTrue (state S.Store tx.old.conn.now).in_transaction → OnOk result (GoesOn (state S.Store tx.old.conn.now) (state S.Store tx.new.conn.now)) }
-    ensures kept { HasCleanDisk (state S.Store tx.new.conn.now) → KeepsCommit (state S.Store tx.old.conn.now) (state S.Store tx.new.conn.now) }
-    ensures survives { Survives (state S.Store tx.old.conn.now) (state S.Store tx.new.conn.now) (λ _. ⊥) }
-    ensures ok { OnOk result (calls.new.refused ≡ calls.old.refused) }
-    ensures counted { OnErr result (Rises calls.old.refused calls.new.refused) }
-    ensures limit { NoMore calls.old.limit calls.new.limit }
-    ensures named { IfErr result (λ f. (f ≡ Fault.OutOfMemory) ⊎ (f ≡ Fault.Store)) }
+    ensures wrote { let old = state S.Store tx.old.conn.now in let new = state S.Store tx.new.conn.now in
+        Wrote (HasMade 9 9 old.now → HasBook qualifier.now id.now new.now) old new calls.old calls.new result }
 {
     run(
         tx,
@@ -157,23 +122,15 @@ pub(crate) fn insert_book<'a, S: Alter>(
 }
 
 /// Makes the nine tables of an empty register, where there was no table.
-#[tactic(auto, using(crate::proofs::Limited::no_more_trans, crate::proofs::Limited::no_more_same))]
 pub(crate) fn make_all<S: Alter>(
     tx: &mut Transaction<'_, S>,
     calls: &mut Calls,
     warehouse: &Warehouse,
 ) -> Result<(), Fault>
     ensures same_reference { tx.new.conn.ghost_name ≡ tx.old.conn.ghost_name }
-    ensures made { HasCleanDisk (state S.Store tx.new.conn.now) → IsTrue (state S.Store tx.old.conn.now).in_transaction → (state S.Store tx.old.conn.now).now.schema ≡ no_layout
-        → OnOk result (HasBook warehouse.now.qualifier warehouse.now.id (state S.Store tx.new.conn.now).now) }
-    ensures inside { HasCleanDisk (state S.Store tx.new.conn.now) → IsTrue (state S.Store tx.old.conn.now).in_transaction → OnOk result (IsTrue (state S.Store tx.new.conn.now).in_transaction) }
-    ensures kept { HasCleanDisk (state S.Store tx.new.conn.now) → KeepsCommit (state S.Store tx.old.conn.now) (state S.Store tx.new.conn.now) }
-    ensures survives { Survives (state S.Store tx.old.conn.now) (state S.Store tx.new.conn.now) (λ _. ⊥) }
-    ensures ok { OnOk result (calls.new.refused ≡ calls.old.refused) }
-    ensures counted { OnErr result (Rises calls.old.refused calls.new.refused) }
-    ensures limit { NoMore calls.old.limit calls.new.limit }
-    ensures allowed { OnOk result (calls.old.limit ≢ Some 0) }
-    ensures named { IfErr result (λ f. (f ≡ Fault.OutOfMemory) ⊎ (f ≡ Fault.Store)) }
+    ensures wrote { let old = state S.Store tx.old.conn.now in let new = state S.Store tx.new.conn.now in
+        Wrote (old.now.schema ≡ no_layout → HasBook warehouse.now.qualifier warehouse.now.id new.now)
+        old new calls.old calls.new result }
 {
     make_first(tx, calls)?;
     make_second(tx, calls)?;

@@ -1,32 +1,22 @@
-ghost use Rattle.std.specs.Prelude.{◌≡◌, ◌≢◌, ◌⊎◌, ◌<◌, ◌^◌, ℕ, [], ◌∷◌, codes, if◌then◌else◌, IsTrue, IfErr, OnOk, OnErr, IfSome, Option, Some, pos};
-ghost use Rattle.profile.specs.Changes.{Puts, SetsState, Frees};
+ghost use Rattle.std.specs.Prelude.{◌≡◌, [], ◌∷◌, codes, if◌then◌else◌, IfSome, pos};
+ghost use Rattle.profile.specs.Changes.{Puts, Frees};
 ghost use Rattle.profile.specs.Tables as cells;
-ghost use Rattle.profile.specs.Rows.{state_text};
 ghost use Rattle.sqlite.specs.declared.types.Value.TheVariants as value;
 ghost use Rattle.sqlite.specs.Values.{bound};
-ghost use Rattle.sqlite.specs.State.{HasCleanDisk, Survives, KeepsCommit};
 ghost use Rattle.sqlite.specs.Held.{state};
 ghost use Rattle.books.specs.Held.{values};
 ghost use Rattle.books.specs.Leading.{Leads};
-ghost use Rattle.books.specs.Limits.{NoMore};
-ghost use Rattle.books.specs.Rises.{Rises};
-ghost use Rattle.books.specs.Steps.{GoesOn};
+ghost use Rattle.books.specs.Lines.{advice_line_row, order_line_row, reservation_row};
+ghost use Rattle.books.specs.Writing.{Wrote};
 
 use crate::calls::Calls;
 use crate::running::run;
-use rules::{Entry, Row};
+use rules::Row;
 use sets_in::Goods;
 use sqlite::types::ValueRef;
 use sqlite::{Alter, Transaction};
 use stock::{KnownAdvice, KnownLine, KnownOrder};
 use store::Fault;
-
-// The state of a document of which this was said.
-fn said_text(accepts: bool) -> &'static [u8]
-    ensures { result.now ≡ state_text (Some accepts) }
-{
-    if accepts { b"accepted" } else { b"refused" }
-}
 
 // 1 where it is so, else 0.
 fn flag(is_so: bool) -> i64
@@ -58,7 +48,12 @@ struct Amounts {
 impl Amounts {
     // Those of the row; None where one is no number of SQLite.
     fn of(row: &Row) -> Option<Amounts>
-        ensures { IfSome result (λ a. a ≡ record { expected = pos row.now.expected; on_hand = pos row.now.on_hand; reserved = pos row.now.reserved; shipped = pos row.now.shipped }) }
+        ensures { IfSome result (λ a. a ≡ record {
+          expected = pos row.now.expected;
+          on_hand = pos row.now.on_hand;
+          reserved = pos row.now.reserved;
+          shipped = pos row.now.shipped;
+        }) }
     {
         Some(Amounts {
             expected: signed(row.expected)?,
@@ -71,7 +66,12 @@ impl Amounts {
 
 // The columns of a row of `stock`.
 fn stock_params<'a>(who: &'a [u8], row: &'a Row, amounts: Amounts) -> [ValueRef<'a>; 8]
-    ensures { amounts ≡ record { expected = pos row.now.expected; on_hand = pos row.now.on_hand; reserved = pos row.now.reserved; shipped = pos row.now.shipped }
+    ensures { amounts ≡ record {
+      expected = pos row.now.expected;
+      on_hand = pos row.now.on_hand;
+      reserved = pos row.now.reserved;
+      shipped = pos row.now.shipped;
+    }
         → bound result ≡ values (cells.Text who.now ∷ cells.stock_cells row.now) }
 {
     [
@@ -87,7 +87,6 @@ fn stock_params<'a>(who: &'a [u8], row: &'a Row, amounts: Amounts) -> [ValueRef<
 }
 
 /// Puts a row of `stock`.
-#[tactic(auto, using(crate::proofs::Limited::no_more_trans, crate::proofs::Limited::no_more_same))]
 pub(crate) fn put_stock<'a, S: Alter>(
     tx: &mut Transaction<'_, S>,
     calls: &mut Calls,
@@ -95,15 +94,9 @@ pub(crate) fn put_stock<'a, S: Alter>(
     row: &'a Row,
 ) -> Result<(), Fault>
     ensures same_reference { tx.new.conn.ghost_name ≡ tx.old.conn.ghost_name }
-    ensures leads { HasCleanDisk (state S.Store tx.new.conn.now) → IsTrue (state S.Store tx.old.conn.now).in_transaction
-        → OnOk result (Leads (Puts (codes "stock") (cells.Text who.now ∷ cells.stock_cells row.now) ∷ []) (state S.Store tx.old.conn.now).now (state S.Store tx.new.conn.now).now) }
-    ensures inside { HasCleanDisk (state S.Store tx.new.conn.now) → IsTrue (state S.Store tx.old.conn.now).in_transaction → OnOk result (GoesOn (state S.Store tx.old.conn.now) (state S.Store tx.new.conn.now)) }
-    ensures kept { HasCleanDisk (state S.Store tx.new.conn.now) → KeepsCommit (state S.Store tx.old.conn.now) (state S.Store tx.new.conn.now) }
-    ensures survives { Survives (state S.Store tx.old.conn.now) (state S.Store tx.new.conn.now) (λ _. ⊥) }
-    ensures ok { OnOk result (calls.new.refused ≡ calls.old.refused) }
-    ensures counted { OnErr result (Rises calls.old.refused calls.new.refused) }
-    ensures limit { NoMore calls.old.limit calls.new.limit }
-    ensures named { IfErr result (λ f. (f ≡ Fault.OutOfMemory) ⊎ (f ≡ Fault.Store)) }
+    ensures wrote { let old = state S.Store tx.old.conn.now in let new = state S.Store tx.new.conn.now in
+        Wrote (Leads (Puts (codes "stock") (cells.Text who.now ∷ cells.stock_cells row.now) ∷ []) old.now new.now)
+        old new calls.old calls.new result }
 {
     let Some(amounts) = Amounts::of(row) else {
         return Err(calls.refuse());
@@ -136,15 +129,9 @@ pub(crate) fn put_advice<'a, S: Alter>(
     advice: &'a KnownAdvice,
 ) -> Result<(), Fault>
     ensures same_reference { tx.new.conn.ghost_name ≡ tx.old.conn.ghost_name }
-    ensures leads { HasCleanDisk (state S.Store tx.new.conn.now) → IsTrue (state S.Store tx.old.conn.now).in_transaction
-        → OnOk result (Leads (Puts (codes "advice") (cells.Text who.now ∷ cells.advice_cells advice.now) ∷ []) (state S.Store tx.old.conn.now).now (state S.Store tx.new.conn.now).now) }
-    ensures inside { HasCleanDisk (state S.Store tx.new.conn.now) → IsTrue (state S.Store tx.old.conn.now).in_transaction → OnOk result (GoesOn (state S.Store tx.old.conn.now) (state S.Store tx.new.conn.now)) }
-    ensures kept { HasCleanDisk (state S.Store tx.new.conn.now) → KeepsCommit (state S.Store tx.old.conn.now) (state S.Store tx.new.conn.now) }
-    ensures survives { Survives (state S.Store tx.old.conn.now) (state S.Store tx.new.conn.now) (λ _. ⊥) }
-    ensures ok { OnOk result (calls.new.refused ≡ calls.old.refused) }
-    ensures counted { OnErr result (Rises calls.old.refused calls.new.refused) }
-    ensures limit { NoMore calls.old.limit calls.new.limit }
-    ensures named { IfErr result (λ f. (f ≡ Fault.OutOfMemory) ⊎ (f ≡ Fault.Store)) }
+    ensures wrote { let old = state S.Store tx.old.conn.now in let new = state S.Store tx.new.conn.now in
+        Wrote (Leads (Puts (codes "advice") (cells.Text who.now ∷ cells.advice_cells advice.now) ∷ []) old.now new.now)
+        old new calls.old calls.new result }
 {
     run(
         tx,
@@ -161,7 +148,7 @@ fn advice_line_params<'a>(
     n: u32,
     line: &'a Goods,
 ) -> [ValueRef<'a>; 6]
-    ensures { bound result ≡ values (cells.Text who.now ∷ cells.Text shipment.now ∷ cells.Number n ∷ cells.Text line.now.item ∷ cells.Text line.now.lot ∷ cells.Number line.now.quantity ∷ []) }
+    ensures { bound result ≡ values (advice_line_row who.now shipment.now n line.now) }
 {
     [
         ValueRef::Text(who),
@@ -183,15 +170,9 @@ pub(crate) fn put_advice_line<'a, S: Alter>(
     line: &'a Goods,
 ) -> Result<(), Fault>
     ensures same_reference { tx.new.conn.ghost_name ≡ tx.old.conn.ghost_name }
-    ensures leads { HasCleanDisk (state S.Store tx.new.conn.now) → IsTrue (state S.Store tx.old.conn.now).in_transaction
-        → OnOk result (Leads (Puts (codes "advice_line") (cells.Text who.now ∷ cells.Text shipment.now ∷ cells.Number n ∷ cells.Text line.now.item ∷ cells.Text line.now.lot ∷ cells.Number line.now.quantity ∷ []) ∷ []) (state S.Store tx.old.conn.now).now (state S.Store tx.new.conn.now).now) }
-    ensures inside { HasCleanDisk (state S.Store tx.new.conn.now) → IsTrue (state S.Store tx.old.conn.now).in_transaction → OnOk result (GoesOn (state S.Store tx.old.conn.now) (state S.Store tx.new.conn.now)) }
-    ensures kept { HasCleanDisk (state S.Store tx.new.conn.now) → KeepsCommit (state S.Store tx.old.conn.now) (state S.Store tx.new.conn.now) }
-    ensures survives { Survives (state S.Store tx.old.conn.now) (state S.Store tx.new.conn.now) (λ _. ⊥) }
-    ensures ok { OnOk result (calls.new.refused ≡ calls.old.refused) }
-    ensures counted { OnErr result (Rises calls.old.refused calls.new.refused) }
-    ensures limit { NoMore calls.old.limit calls.new.limit }
-    ensures named { IfErr result (λ f. (f ≡ Fault.OutOfMemory) ⊎ (f ≡ Fault.Store)) }
+    ensures wrote { let old = state S.Store tx.old.conn.now in let new = state S.Store tx.new.conn.now in
+        Wrote (Leads (Puts (codes "advice_line") (advice_line_row who.now shipment.now n line.now) ∷ []) old.now new.now)
+        old new calls.old calls.new result }
 {
     run(
         tx,
@@ -235,15 +216,9 @@ pub(crate) fn put_order<'a, S: Alter>(
     order: &'a KnownOrder,
 ) -> Result<(), Fault>
     ensures same_reference { tx.new.conn.ghost_name ≡ tx.old.conn.ghost_name }
-    ensures leads { HasCleanDisk (state S.Store tx.new.conn.now) → IsTrue (state S.Store tx.old.conn.now).in_transaction
-        → OnOk result (Leads (Puts (codes "orders") (cells.Text who.now ∷ cells.orders_cells order.now) ∷ []) (state S.Store tx.old.conn.now).now (state S.Store tx.new.conn.now).now) }
-    ensures inside { HasCleanDisk (state S.Store tx.new.conn.now) → IsTrue (state S.Store tx.old.conn.now).in_transaction → OnOk result (GoesOn (state S.Store tx.old.conn.now) (state S.Store tx.new.conn.now)) }
-    ensures kept { HasCleanDisk (state S.Store tx.new.conn.now) → KeepsCommit (state S.Store tx.old.conn.now) (state S.Store tx.new.conn.now) }
-    ensures survives { Survives (state S.Store tx.old.conn.now) (state S.Store tx.new.conn.now) (λ _. ⊥) }
-    ensures ok { OnOk result (calls.new.refused ≡ calls.old.refused) }
-    ensures counted { OnErr result (Rises calls.old.refused calls.new.refused) }
-    ensures limit { NoMore calls.old.limit calls.new.limit }
-    ensures named { IfErr result (λ f. (f ≡ Fault.OutOfMemory) ⊎ (f ≡ Fault.Store)) }
+    ensures wrote { let old = state S.Store tx.old.conn.now in let new = state S.Store tx.new.conn.now in
+        Wrote (Leads (Puts (codes "orders") (cells.Text who.now ∷ cells.orders_cells order.now) ∷ []) old.now new.now)
+        old new calls.old calls.new result }
 {
     run(
         tx,
@@ -260,7 +235,7 @@ fn order_line_params<'a>(
     n: u32,
     line: &'a KnownLine,
 ) -> [ValueRef<'a>; 6]
-    ensures { bound result ≡ values (cells.Text who.now ∷ cells.Text order.now ∷ cells.Number n ∷ cells.Text line.now.item ∷ cells.text_or_null line.now.pin ∷ cells.Number line.now.quantity ∷ []) }
+    ensures { bound result ≡ values (order_line_row who.now order.now n line.now) }
 {
     let lot = match &line.pin {
         None => ValueRef::Null,
@@ -286,15 +261,9 @@ pub(crate) fn put_order_line<'a, S: Alter>(
     line: &'a KnownLine,
 ) -> Result<(), Fault>
     ensures same_reference { tx.new.conn.ghost_name ≡ tx.old.conn.ghost_name }
-    ensures leads { HasCleanDisk (state S.Store tx.new.conn.now) → IsTrue (state S.Store tx.old.conn.now).in_transaction
-        → OnOk result (Leads (Puts (codes "order_line") (cells.Text who.now ∷ cells.Text order.now ∷ cells.Number n ∷ cells.Text line.now.item ∷ cells.text_or_null line.now.pin ∷ cells.Number line.now.quantity ∷ []) ∷ []) (state S.Store tx.old.conn.now).now (state S.Store tx.new.conn.now).now) }
-    ensures inside { HasCleanDisk (state S.Store tx.new.conn.now) → IsTrue (state S.Store tx.old.conn.now).in_transaction → OnOk result (GoesOn (state S.Store tx.old.conn.now) (state S.Store tx.new.conn.now)) }
-    ensures kept { HasCleanDisk (state S.Store tx.new.conn.now) → KeepsCommit (state S.Store tx.old.conn.now) (state S.Store tx.new.conn.now) }
-    ensures survives { Survives (state S.Store tx.old.conn.now) (state S.Store tx.new.conn.now) (λ _. ⊥) }
-    ensures ok { OnOk result (calls.new.refused ≡ calls.old.refused) }
-    ensures counted { OnErr result (Rises calls.old.refused calls.new.refused) }
-    ensures limit { NoMore calls.old.limit calls.new.limit }
-    ensures named { IfErr result (λ f. (f ≡ Fault.OutOfMemory) ⊎ (f ≡ Fault.Store)) }
+    ensures wrote { let old = state S.Store tx.old.conn.now in let new = state S.Store tx.new.conn.now in
+        Wrote (Leads (Puts (codes "order_line") (order_line_row who.now order.now n line.now) ∷ []) old.now new.now)
+        old new calls.old calls.new result }
 {
     run(
         tx,
@@ -306,7 +275,7 @@ pub(crate) fn put_order_line<'a, S: Alter>(
 
 // The columns of a row of `reservation`.
 fn reservation_params<'a>(who: &'a [u8], order: &'a [u8], line: &'a Goods) -> [ValueRef<'a>; 5]
-    ensures { bound result ≡ values (cells.Text who.now ∷ cells.Text order.now ∷ cells.Text line.now.item ∷ cells.Text line.now.lot ∷ cells.Number line.now.quantity ∷ []) }
+    ensures { bound result ≡ values (reservation_row who.now order.now line.now) }
 {
     [
         ValueRef::Text(who),
@@ -326,157 +295,15 @@ pub(crate) fn put_reservation<'a, S: Alter>(
     line: &'a Goods,
 ) -> Result<(), Fault>
     ensures same_reference { tx.new.conn.ghost_name ≡ tx.old.conn.ghost_name }
-    ensures leads { HasCleanDisk (state S.Store tx.new.conn.now) → IsTrue (state S.Store tx.old.conn.now).in_transaction
-        → OnOk result (Leads (Puts (codes "reservation") (cells.Text who.now ∷ cells.Text order.now ∷ cells.Text line.now.item ∷ cells.Text line.now.lot ∷ cells.Number line.now.quantity ∷ []) ∷ []) (state S.Store tx.old.conn.now).now (state S.Store tx.new.conn.now).now) }
-    ensures inside { HasCleanDisk (state S.Store tx.new.conn.now) → IsTrue (state S.Store tx.old.conn.now).in_transaction → OnOk result (GoesOn (state S.Store tx.old.conn.now) (state S.Store tx.new.conn.now)) }
-    ensures kept { HasCleanDisk (state S.Store tx.new.conn.now) → KeepsCommit (state S.Store tx.old.conn.now) (state S.Store tx.new.conn.now) }
-    ensures survives { Survives (state S.Store tx.old.conn.now) (state S.Store tx.new.conn.now) (λ _. ⊥) }
-    ensures ok { OnOk result (calls.new.refused ≡ calls.old.refused) }
-    ensures counted { OnErr result (Rises calls.old.refused calls.new.refused) }
-    ensures limit { NoMore calls.old.limit calls.new.limit }
-    ensures named { IfErr result (λ f. (f ≡ Fault.OutOfMemory) ⊎ (f ≡ Fault.Store)) }
+    ensures wrote { let old = state S.Store tx.old.conn.now in let new = state S.Store tx.new.conn.now in
+        Wrote (Leads (Puts (codes "reservation") (reservation_row who.now order.now line.now) ∷ []) old.now new.now)
+        old new calls.old calls.new result }
 {
     run(
         tx,
         calls,
         "INSERT INTO reservation (who, ord, item, lot, quantity) VALUES (?1, ?2, ?3, ?4, ?5) ON CONFLICT (who, ord, item, lot) DO UPDATE SET quantity = ?5",
         &reservation_params(who, order, line),
-    )
-}
-
-// The columns of a row of `entry`.
-fn entry_params<'a>(
-    seq: u64,
-    who: &'a [u8],
-    entry: &'a Entry,
-    moment: &'a [u8],
-) -> [ValueRef<'a>; 6]
-    requires { seq < 2 ^ 63 }
-    ensures { bound result ≡ values (cells.Number seq ∷ cells.Text who.now ∷ cells.Text entry.now.key ∷ cells.Number entry.now.n ∷ cells.Text moment.now ∷ cells.Blob entry.now.body ∷ []) }
-{
-    [
-        ValueRef::Int(seq as i64),
-        ValueRef::Text(who),
-        ValueRef::Text(&entry.key),
-        ValueRef::Int(i64::from(entry.number())),
-        ValueRef::Text(moment),
-        ValueRef::Blob(entry.body()),
-    ]
-}
-
-/// Adds a row to `entry`, under a number that SQLite can hold.
-pub(crate) fn insert_entry<'a, S: Alter>(
-    tx: &mut Transaction<'_, S>,
-    calls: &mut Calls,
-    seq: u64,
-    who: &'a [u8],
-    entry: &'a Entry,
-    moment: &'a [u8],
-) -> Result<(), Fault>
-    requires { seq < 2 ^ 63 }
-    ensures same_reference { tx.new.conn.ghost_name ≡ tx.old.conn.ghost_name }
-    ensures leads { HasCleanDisk (state S.Store tx.new.conn.now) → IsTrue (state S.Store tx.old.conn.now).in_transaction
-        → OnOk result (Leads (Puts (codes "entry") (cells.Number seq ∷ cells.Text who.now ∷ cells.Text entry.now.key ∷ cells.Number entry.now.n ∷ cells.Text moment.now ∷ cells.Blob entry.now.body ∷ []) ∷ []) (state S.Store tx.old.conn.now).now (state S.Store tx.new.conn.now).now) }
-    ensures inside { HasCleanDisk (state S.Store tx.new.conn.now) → IsTrue (state S.Store tx.old.conn.now).in_transaction → OnOk result (GoesOn (state S.Store tx.old.conn.now) (state S.Store tx.new.conn.now)) }
-    ensures kept { HasCleanDisk (state S.Store tx.new.conn.now) → KeepsCommit (state S.Store tx.old.conn.now) (state S.Store tx.new.conn.now) }
-    ensures survives { Survives (state S.Store tx.old.conn.now) (state S.Store tx.new.conn.now) (λ _. ⊥) }
-    ensures ok { OnOk result (calls.new.refused ≡ calls.old.refused) }
-    ensures counted { OnErr result (Rises calls.old.refused calls.new.refused) }
-    ensures limit { NoMore calls.old.limit calls.new.limit }
-    ensures allowed { OnOk result (calls.old.limit ≢ Some 0) }
-    ensures named { IfErr result (λ f. (f ≡ Fault.OutOfMemory) ⊎ (f ≡ Fault.Store)) }
-{
-    run(
-        tx,
-        calls,
-        "INSERT INTO entry (seq, who, mark, n, moment, body) VALUES (?1, ?2, ?3, ?4, ?5, ?6)",
-        &entry_params(seq, who, entry, moment),
-    )
-}
-
-// The columns of a row of `outgoing`.
-fn outgoing_params<'a>(
-    who: &'a [u8],
-    n: u32,
-    kind: &'a [u8],
-    content: &'a [u8],
-    state_text: &'a [u8],
-) -> [ValueRef<'a>; 5]
-    ensures { bound result ≡ values (cells.Text who.now ∷ cells.Number n ∷ cells.Text kind.now ∷ cells.Blob content.now ∷ cells.Text state_text.now ∷ []) }
-{
-    [
-        ValueRef::Text(who),
-        ValueRef::Int(i64::from(n)),
-        ValueRef::Text(kind),
-        ValueRef::Blob(content),
-        ValueRef::Text(state_text),
-    ]
-}
-
-/// Adds a row to `outgoing`: the text that goes out for a numbered entry.
-pub(crate) fn insert_outgoing<'a, S: Alter>(
-    tx: &mut Transaction<'_, S>,
-    calls: &mut Calls,
-    who: &'a [u8],
-    n: u32,
-    kind: &'a [u8],
-    content: &'a [u8],
-    state_text: &'a [u8],
-) -> Result<(), Fault>
-    ensures same_reference { tx.new.conn.ghost_name ≡ tx.old.conn.ghost_name }
-    ensures leads { HasCleanDisk (state S.Store tx.new.conn.now) → IsTrue (state S.Store tx.old.conn.now).in_transaction
-        → OnOk result (Leads (Puts (codes "outgoing") (cells.Text who.now ∷ cells.Number n ∷ cells.Text kind.now ∷ cells.Blob content.now ∷ cells.Text state_text.now ∷ []) ∷ []) (state S.Store tx.old.conn.now).now (state S.Store tx.new.conn.now).now) }
-    ensures inside { HasCleanDisk (state S.Store tx.new.conn.now) → IsTrue (state S.Store tx.old.conn.now).in_transaction → OnOk result (GoesOn (state S.Store tx.old.conn.now) (state S.Store tx.new.conn.now)) }
-    ensures kept { HasCleanDisk (state S.Store tx.new.conn.now) → KeepsCommit (state S.Store tx.old.conn.now) (state S.Store tx.new.conn.now) }
-    ensures survives { Survives (state S.Store tx.old.conn.now) (state S.Store tx.new.conn.now) (λ _. ⊥) }
-    ensures ok { OnOk result (calls.new.refused ≡ calls.old.refused) }
-    ensures counted { OnErr result (Rises calls.old.refused calls.new.refused) }
-    ensures limit { NoMore calls.old.limit calls.new.limit }
-    ensures named { IfErr result (λ f. (f ≡ Fault.OutOfMemory) ⊎ (f ≡ Fault.Store)) }
-{
-    run(
-        tx,
-        calls,
-        "INSERT INTO outgoing (who, n, kind, content, state) VALUES (?1, ?2, ?3, ?4, ?5)",
-        &outgoing_params(who, n, kind, content, state_text),
-    )
-}
-
-// Whose document it is, its number and its state.
-fn state_params<'a>(who: &'a [u8], n: u32, said: &'a [u8]) -> [ValueRef<'a>; 3]
-    ensures { bound result ≡ value.Text who.now ∷ value.Int (pos n) ∷ value.Text said.now ∷ [] }
-{
-    [
-        ValueRef::Text(who),
-        ValueRef::Int(i64::from(n)),
-        ValueRef::Text(said),
-    ]
-}
-
-/// Sets the state of a document, by what was said of it.
-pub(crate) fn set_state<'a, S: Alter>(
-    tx: &mut Transaction<'_, S>,
-    calls: &mut Calls,
-    who: &'a [u8],
-    n: u32,
-    accepts: bool,
-) -> Result<(), Fault>
-    ensures same_reference { tx.new.conn.ghost_name ≡ tx.old.conn.ghost_name }
-    ensures leads { HasCleanDisk (state S.Store tx.new.conn.now) → IsTrue (state S.Store tx.old.conn.now).in_transaction
-        → OnOk result (Leads (SetsState who.now n (Some accepts) ∷ []) (state S.Store tx.old.conn.now).now (state S.Store tx.new.conn.now).now) }
-    ensures inside { HasCleanDisk (state S.Store tx.new.conn.now) → IsTrue (state S.Store tx.old.conn.now).in_transaction → OnOk result (GoesOn (state S.Store tx.old.conn.now) (state S.Store tx.new.conn.now)) }
-    ensures kept { HasCleanDisk (state S.Store tx.new.conn.now) → KeepsCommit (state S.Store tx.old.conn.now) (state S.Store tx.new.conn.now) }
-    ensures survives { Survives (state S.Store tx.old.conn.now) (state S.Store tx.new.conn.now) (λ _. ⊥) }
-    ensures ok { OnOk result (calls.new.refused ≡ calls.old.refused) }
-    ensures counted { OnErr result (Rises calls.old.refused calls.new.refused) }
-    ensures limit { NoMore calls.old.limit calls.new.limit }
-    ensures named { IfErr result (λ f. (f ≡ Fault.OutOfMemory) ⊎ (f ≡ Fault.Store)) }
-{
-    run(
-        tx,
-        calls,
-        "UPDATE outgoing SET state = ?3 WHERE who = ?1 AND n = ?2",
-        &state_params(who, n, said_text(accepts)),
     )
 }
 
@@ -495,15 +322,8 @@ pub(crate) fn free_reservations<'a, S: Alter>(
     order: &'a [u8],
 ) -> Result<(), Fault>
     ensures same_reference { tx.new.conn.ghost_name ≡ tx.old.conn.ghost_name }
-    ensures leads { HasCleanDisk (state S.Store tx.new.conn.now) → IsTrue (state S.Store tx.old.conn.now).in_transaction
-        → OnOk result (Leads (Frees who.now order.now ∷ []) (state S.Store tx.old.conn.now).now (state S.Store tx.new.conn.now).now) }
-    ensures inside { HasCleanDisk (state S.Store tx.new.conn.now) → IsTrue (state S.Store tx.old.conn.now).in_transaction → OnOk result (GoesOn (state S.Store tx.old.conn.now) (state S.Store tx.new.conn.now)) }
-    ensures kept { HasCleanDisk (state S.Store tx.new.conn.now) → KeepsCommit (state S.Store tx.old.conn.now) (state S.Store tx.new.conn.now) }
-    ensures survives { Survives (state S.Store tx.old.conn.now) (state S.Store tx.new.conn.now) (λ _. ⊥) }
-    ensures ok { OnOk result (calls.new.refused ≡ calls.old.refused) }
-    ensures counted { OnErr result (Rises calls.old.refused calls.new.refused) }
-    ensures limit { NoMore calls.old.limit calls.new.limit }
-    ensures named { IfErr result (λ f. (f ≡ Fault.OutOfMemory) ⊎ (f ≡ Fault.Store)) }
+    ensures wrote { let old = state S.Store tx.old.conn.now in let new = state S.Store tx.new.conn.now in
+        Wrote (Leads (Frees who.now order.now ∷ []) old.now new.now) old new calls.old calls.new result }
 {
     run(
         tx,

@@ -2,13 +2,19 @@ use Rattle.std.proofs.Common.{rules, ◌≡◌, sym, ap, ◌∙◌}
 use Rattle.std.specs.Prelude.{nat_lt}
 use Rattle.rules.specs.Written.{Written}
 use Rattle.sqlite.specs.Held.{state}
-use Rattle.books.proofs.StepLemmas.{on_ok}
-use Rattle.books.proofs.AppendingLemmas.{sent_led, numbered}
+use Rattle.books.proofs.AppendingLemmas.{sent_led, unsent_led, numbered}
+use Rattle.books.proofs.Writes.{wrote_as, wrote_nothing}
 use Rattle.books.proofs.appending.insert_sent.Goals as goal
 
-pub returns-clause-leads : goal.returns-clause-leads
-returns-clause-leads g c clean inside =
-    on_ok c.insert_outgoing.result (λ led W L e is written sent.
+pub returns-then-not-is_numbered-clause-wrote : goal.returns-then-not-is_numbered-clause-wrote
+returns-then-not-is_numbered-clause-wrote g c =
+    wrote_nothing _ _ _ (λ W L e is written sent.
+    let counts = sym (numbered L e) ∙ sym (ap (λ (w : Written). nat_lt 0 w.n) written) ∙ sym c.is_numbered.ensures ∙ c.if-not-is_numbered.true in
+    unsent_led W L e (state g.S.Store c.args.tx.now.conn.now).now counts)
+
+pub returns-clause-wrote : goal.returns-clause-wrote
+returns-clause-wrote g c =
+    wrote_as _ _ _ _ c.insert_outgoing.result c.insert_outgoing.ensures.wrote (λ led W L e is written sent.
     let counts = sym (numbered L e) ∙ sym (ap (λ (w : Written). nat_lt 0 w.n) written) ∙ sym c.is_numbered.ensures ∙ c.if-not-is_numbered.false in
     let key : c.deref.result.now ≡ c.args.entry.now.key = search rules in
     let again : c.deref-2.result.now ≡ c.args.entry.now.key = search rules in
@@ -18,4 +24,3 @@ returns-clause-leads g c clean inside =
     (c.number.ensures ∙ ap (λ (w : Written). w.n) written)
     (c.kind_text-kind.ensures e.deed (key ∙ its) (c.body.ensures ∙ ap (λ (w : Written). w.body) written)) sent
     (c.new_state_text-state_text.ensures e.deed (again ∙ its)) led)
-    (c.insert_outgoing.ensures.leads clean inside)

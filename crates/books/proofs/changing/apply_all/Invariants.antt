@@ -1,23 +1,19 @@
-use Rattle.std.proofs.Common.{◌≡◌, IsTrue, drop, flat_map}
-use Rattle.sqlite.specs.State.{HasCleanDisk, Survives, KeepsCommit}
+use Rattle.std.proofs.Common.{◌≡◌, drop, flat_map}
 use Rattle.sqlite.specs.Held.{state}
 use Rattle.sqlite.specs.Effect.{Database}
 use Rattle.profile.specs.Header.{Who, who_text}
 use Rattle.rules.specs.Tabled.{table_changes, table_changes_of}
 use Rattle.books.specs.Leading.{Leads}
-use Rattle.books.specs.Limits.{NoMore}
+use Rattle.books.specs.Writing.{WroteSoFar}
 use Rattle.books.proofs.changing.apply_all.Given as goal
 
 -- the changes that are left lead on from here
 abbrev pub invariant-loop-change : goal.invariant-loop-change
 invariant-loop-change g l = record {
   same : l.tx.conn.ghost_name ≡ l.fn.tx.conn.ghost_name;
-  inside : HasCleanDisk (state g.S.Store l.tx.conn.now) → IsTrue (state g.S.Store l.fn.tx.conn.now).in_transaction → IsTrue (state g.S.Store l.tx.conn.now).in_transaction;
-  rows : HasCleanDisk (state g.S.Store l.tx.conn.now) → IsTrue (state g.S.Store l.fn.tx.conn.now).in_transaction
-      → (w : Who) → l.who ≡ who_text w → (last : Database) → Leads (flat_map (table_changes_of w) (drop l.change-index l.changes)) (state g.S.Store l.tx.conn.now).now last
-      → Leads (table_changes w l.changes) (state g.S.Store l.fn.tx.conn.now).now last;
-  kept : HasCleanDisk (state g.S.Store l.tx.conn.now) → KeepsCommit (state g.S.Store l.fn.tx.conn.now) (state g.S.Store l.tx.conn.now);
-  survives : Survives (state g.S.Store l.fn.tx.conn.now) (state g.S.Store l.tx.conn.now) (λ _. ⊥);
-  counted : l.calls.refused ≡ l.fn.calls.refused;
-  limit : NoMore l.fn.calls.limit l.calls.limit;
+  wrote : WroteSoFar
+      ((w : Who) → l.who ≡ who_text w → (last : Database)
+      → Leads (flat_map (table_changes_of w) (drop l.change-index l.changes)) (state g.S.Store l.tx.conn.now).now last
+      → Leads (table_changes w l.changes) (state g.S.Store l.fn.tx.conn.now).now last)
+      (state g.S.Store l.fn.tx.conn.now) (state g.S.Store l.tx.conn.now) l.fn.calls l.calls;
 }

@@ -1,27 +1,40 @@
-use Rattle.std.proofs.Common.{sym, subst}
+use Rattle.std.proofs.Common.{rules, sym, subst}
 use Rattle.rules.specs.Tabled.{table_changes_of}
 use Rattle.sqlite.specs.Held.{state}
 use Rattle.books.specs.Leading.{Leads}
-use Rattle.books.proofs.StepLemmas.{on_ok}
 use Rattle.books.proofs.Applied.{stock_put, state_set}
+use Rattle.books.proofs.LeadingLemmas.{leads_none}
+use Rattle.books.proofs.Writes.{wrote_as, wrote_nothing}
 use Rattle.books.proofs.changing.apply_change.Goals as goal
 
-pub returns-in-Stock-clause-leads : goal.returns-in-Stock-clause-leads
-returns-in-Stock-clause-leads g c clean inside =
-    on_ok c.put_stock.result (λ led w is. subst (λ d. Leads (table_changes_of w d) (state g.S.Store c.args.tx.now.conn.now).now (state g.S.Store c.put_stock.new.tx.conn.now).now) (sym c.in-Stock.is) (stock_put w c.args.who.now is (state g.S.Store c.args.tx.now.conn.now).now (state g.S.Store c.put_stock.new.tx.conn.now).now (state g.S.Store c.args.tx.now.conn.now).now (state g.S.Store c.put_stock.new.tx.conn.now).now c.in-Stock.row led))
-    (c.put_stock.ensures.leads clean inside)
+pub returns-in-Stock-clause-wrote : goal.returns-in-Stock-clause-wrote
+returns-in-Stock-clause-wrote g c =
+    let old = (state g.S.Store c.args.tx.now.conn.now).now in
+    let new = (state g.S.Store c.put_stock.new.tx.conn.now).now in
+    wrote_as _ _ _ _ c.put_stock.result c.put_stock.ensures.wrote (λ led w is.
+    subst (λ d. Leads (table_changes_of w d) old new) (sym c.in-Stock.is) (stock_put w c.args.who.now is old new old new c.in-Stock.row led))
 
-pub returns-in-Advice-clause-leads : goal.returns-in-Advice-clause-leads
-returns-in-Advice-clause-leads g c clean inside =
-    on_ok c.apply_advice.result (λ led w is. subst (λ d. Leads (table_changes_of w d) (state g.S.Store c.args.tx.now.conn.now).now (state g.S.Store c.apply_advice.new.tx.conn.now).now) (sym c.in-Advice.is) (led w is))
-    (c.apply_advice.ensures.leads clean inside)
+pub returns-in-Advice-clause-wrote : goal.returns-in-Advice-clause-wrote
+returns-in-Advice-clause-wrote g c =
+    let old = (state g.S.Store c.args.tx.now.conn.now).now in
+    let new = (state g.S.Store c.apply_advice.new.tx.conn.now).now in
+    wrote_as _ _ _ _ c.apply_advice.result c.apply_advice.ensures.wrote (λ led w is. subst (λ d. Leads (table_changes_of w d) old new) (sym c.in-Advice.is) (led w is))
 
-pub returns-in-Order-clause-leads : goal.returns-in-Order-clause-leads
-returns-in-Order-clause-leads g c clean inside =
-    on_ok c.apply_order.result (λ led w is. subst (λ d. Leads (table_changes_of w d) (state g.S.Store c.args.tx.now.conn.now).now (state g.S.Store c.apply_order.new.tx.conn.now).now) (sym c.in-Order.is) (led w is))
-    (c.apply_order.ensures.leads clean inside)
+pub returns-in-Order-clause-wrote : goal.returns-in-Order-clause-wrote
+returns-in-Order-clause-wrote g c =
+    let old = (state g.S.Store c.args.tx.now.conn.now).now in
+    let new = (state g.S.Store c.apply_order.new.tx.conn.now).now in
+    wrote_as _ _ _ _ c.apply_order.result c.apply_order.ensures.wrote (λ led w is. subst (λ d. Leads (table_changes_of w d) old new) (sym c.in-Order.is) (led w is))
 
-pub returns-in-Document-clause-leads : goal.returns-in-Document-clause-leads
-returns-in-Document-clause-leads g c clean inside =
-    on_ok c.set_state.result (λ led w is. subst (λ d. Leads (table_changes_of w d) (state g.S.Store c.args.tx.now.conn.now).now (state g.S.Store c.set_state.new.tx.conn.now).now) (sym c.in-Document.is) (state_set w c.args.who.now is (state g.S.Store c.args.tx.now.conn.now).now (state g.S.Store c.set_state.new.tx.conn.now).now (state g.S.Store c.args.tx.now.conn.now).now (state g.S.Store c.set_state.new.tx.conn.now).now c.in-Document.n c.in-Document.accepts led))
-    (c.set_state.ensures.leads clean inside)
+pub returns-in-Sent-clause-wrote : goal.returns-in-Sent-clause-wrote
+returns-in-Sent-clause-wrote g c =
+    let old = (state g.S.Store c.args.tx.now.conn.now).now in
+    wrote_nothing _ _ _ (λ w is. subst (λ d. Leads (table_changes_of w d) old old) (sym c.in-Sent.is) (leads_none old))
+
+pub returns-in-Document-clause-wrote : goal.returns-in-Document-clause-wrote
+returns-in-Document-clause-wrote g c =
+    let old = (state g.S.Store c.args.tx.now.conn.now).now in
+    let new = (state g.S.Store c.set_state.new.tx.conn.now).now in
+    wrote_as _ _ _ _ c.set_state.result c.set_state.ensures.wrote (λ led w is.
+    subst (λ d. Leads (table_changes_of w d) old new) (sym c.in-Document.is)
+    (state_set w c.args.who.now is old new old new c.in-Document.n c.in-Document.accepts led))

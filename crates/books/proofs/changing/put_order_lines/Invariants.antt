@@ -1,10 +1,9 @@
-use Rattle.std.proofs.Common.{◌≡◌, ◌+◌, IsTrue, drop, map}
+use Rattle.std.proofs.Common.{◌≡◌, ◌+◌, drop, map}
 use Rattle.std.specs.List.{enumerate_from}
-use Rattle.sqlite.specs.State.{HasCleanDisk, Survives, KeepsCommit}
 use Rattle.sqlite.specs.Held.{state}
 use Rattle.sqlite.specs.Effect.{Database}
 use Rattle.books.specs.Leading.{Leads}
-use Rattle.books.specs.Limits.{NoMore}
+use Rattle.books.specs.Writing.{WroteSoFar}
 use Rattle.books.proofs.Lines.{order_line_change}
 use Rattle.books.proofs.changing.put_order_lines.Given as goal
 
@@ -13,12 +12,8 @@ abbrev pub invariant-loop-line : goal.invariant-loop-line
 invariant-loop-line g l = record {
   same : l.tx.conn.ghost_name ≡ l.fn.tx.conn.ghost_name;
   number : l.n ≡ l.line-index;
-  inside : HasCleanDisk (state g.S.Store l.tx.conn.now) → IsTrue (state g.S.Store l.fn.tx.conn.now).in_transaction → IsTrue (state g.S.Store l.tx.conn.now).in_transaction;
-  rows : HasCleanDisk (state g.S.Store l.tx.conn.now) → IsTrue (state g.S.Store l.fn.tx.conn.now).in_transaction
-      → (last : Database) → Leads (map (order_line_change l.who l.key) (enumerate_from (l.line-index + 1) (drop l.line-index l.line-items))) (state g.S.Store l.tx.conn.now).now last
-      → Leads (map (order_line_change l.who l.key) (enumerate_from 1 l.line-items)) (state g.S.Store l.fn.tx.conn.now).now last;
-  kept : HasCleanDisk (state g.S.Store l.tx.conn.now) → KeepsCommit (state g.S.Store l.fn.tx.conn.now) (state g.S.Store l.tx.conn.now);
-  survives : Survives (state g.S.Store l.fn.tx.conn.now) (state g.S.Store l.tx.conn.now) (λ _. ⊥);
-  counted : l.calls.refused ≡ l.fn.calls.refused;
-  limit : NoMore l.fn.calls.limit l.calls.limit;
+  wrote : WroteSoFar
+      ((last : Database) → Leads (map (order_line_change l.who l.key) (enumerate_from (l.line-index + 1) (drop l.line-index l.line-items))) (state g.S.Store l.tx.conn.now).now last
+      → Leads (map (order_line_change l.who l.key) (enumerate_from 1 l.line-items)) (state g.S.Store l.fn.tx.conn.now).now last)
+      (state g.S.Store l.fn.tx.conn.now) (state g.S.Store l.tx.conn.now) l.fn.calls l.calls;
 }

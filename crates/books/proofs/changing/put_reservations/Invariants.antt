@@ -1,9 +1,8 @@
-use Rattle.std.proofs.Common.{◌≡◌, IsTrue, drop, map}
-use Rattle.sqlite.specs.State.{HasCleanDisk, Survives, KeepsCommit}
+use Rattle.std.proofs.Common.{◌≡◌, drop, map}
 use Rattle.sqlite.specs.Held.{state}
 use Rattle.sqlite.specs.Effect.{Database}
 use Rattle.books.specs.Leading.{Leads}
-use Rattle.books.specs.Limits.{NoMore}
+use Rattle.books.specs.Writing.{WroteSoFar}
 use Rattle.books.proofs.Lines.{reservation_change}
 use Rattle.books.proofs.changing.put_reservations.Given as goal
 
@@ -11,12 +10,8 @@ use Rattle.books.proofs.changing.put_reservations.Given as goal
 abbrev pub invariant-loop-line : goal.invariant-loop-line
 invariant-loop-line g l = record {
   same : l.tx.conn.ghost_name ≡ l.fn.tx.conn.ghost_name;
-  inside : HasCleanDisk (state g.S.Store l.tx.conn.now) → IsTrue (state g.S.Store l.fn.tx.conn.now).in_transaction → IsTrue (state g.S.Store l.tx.conn.now).in_transaction;
-  rows : HasCleanDisk (state g.S.Store l.tx.conn.now) → IsTrue (state g.S.Store l.fn.tx.conn.now).in_transaction
-      → (last : Database) → Leads (map (reservation_change l.who l.key) (drop l.line-index l.line-items)) (state g.S.Store l.tx.conn.now).now last
-      → Leads (map (reservation_change l.who l.key) l.line-items) (state g.S.Store l.fn.tx.conn.now).now last;
-  kept : HasCleanDisk (state g.S.Store l.tx.conn.now) → KeepsCommit (state g.S.Store l.fn.tx.conn.now) (state g.S.Store l.tx.conn.now);
-  survives : Survives (state g.S.Store l.fn.tx.conn.now) (state g.S.Store l.tx.conn.now) (λ _. ⊥);
-  counted : l.calls.refused ≡ l.fn.calls.refused;
-  limit : NoMore l.fn.calls.limit l.calls.limit;
+  wrote : WroteSoFar
+      ((last : Database) → Leads (map (reservation_change l.who l.key) (drop l.line-index l.line-items)) (state g.S.Store l.tx.conn.now).now last
+      → Leads (map (reservation_change l.who l.key) l.line-items) (state g.S.Store l.fn.tx.conn.now).now last)
+      (state g.S.Store l.fn.tx.conn.now) (state g.S.Store l.tx.conn.now) l.fn.calls l.calls;
 }

@@ -1,8 +1,10 @@
 use Rattle.sqlite.specs.Held.{state}
-use Rattle.books.proofs.StepLemmas.{on_ok}
 use Rattle.books.proofs.CreateLemmas.{made_book}
+use Rattle.books.proofs.Writes.{wrote_as}
 use Rattle.books.proofs.making.insert_book.Goals as goal
 
-pub returns-clause-made : goal.returns-clause-made
-returns-clause-made g c clean inside was =
-    on_ok c.run.result (λ ran. made_book (state g.S.Store c.args.tx.now.conn.now) (state g.S.Store c.run.new.tx.conn.now) ran.0 c.args.qualifier.now c.args.id.now was ran.1) (c.run.ensures.runs clean inside)
+pub returns-clause-wrote : goal.returns-clause-wrote
+returns-clause-wrote g c =
+    let old = state g.S.Store c.args.tx.now.conn.now in
+    let new = state g.S.Store c.run.new.tx.conn.now in
+    wrote_as old new _ _ c.run.result c.run.ensures.wrote (λ ran was. made_book old new ran.count c.args.qualifier.now c.args.id.now was ran.executes)

@@ -1,26 +1,33 @@
-use Rattle.std.proofs.Common.{arith, ap, subst, ◌∙◌, ◌≡◌}
+use Rattle.std.proofs.Common.{rules, ap, subst, ◌∙◌, ◌≡◌}
+use Rattle.std.specs.Prelude.{IsErrAnd}
 use Rattle.profile.specs.Header.{Who}
-use Rattle.books.specs.Making.{HasBook}
-use Rattle.books.proofs.Limited.{no_more_trans}
-use Rattle.books.proofs.StepLemmas.{on_ok}
-use Rattle.sqlite.specs.State.{HasCleanDisk}
 use Rattle.sqlite.specs.Held.{state}
+use Rattle.store.specs.declared.fault.Fault.{Fault}
+use Rattle.books.specs.Making.{HasBook}
+use Rattle.books.proofs.Writes.{wrote_on, wrote_failed, wrote_both}
 use Rattle.books.proofs.making.make_all.Goals as goal
 
-pub returns-clause-made : goal.returns-clause-made
-returns-clause-made g c clean inside none =
-    let third : HasCleanDisk (state g.S.Store c.make_third.new.tx.conn.now) = omega (arith, c.insert_book.ensures.survives.clean) in
-    let second : HasCleanDisk (state g.S.Store c.make_second.new.tx.conn.now) = omega (arith, c.make_third.ensures.survives.clean) in
-    let first : HasCleanDisk (state g.S.Store c.make_first.new.tx.conn.now) = omega (arith, c.make_second.ensures.survives.clean) in
-    let a = c.in_ok-make_first.ensures in
-    let b = c.in_ok-make_second.ensures in
-    let d = c.in_ok-make_third.ensures in
-    let one = (a.inside first inside).mode in
-    let two = (b.inside second one).mode in
-    let three = (d.inside third two).mode in
-    let name : HasBook c.qualifier.result.now c.id.result.now (state g.S.Store c.insert_book.new.tx.conn.now).now ≡ HasBook c.args.warehouse.now.qualifier c.args.warehouse.now.id (state g.S.Store c.insert_book.new.tx.conn.now).now = (λ i. HasBook ((c.qualifier.ensures ∙ ap (λ (w : Who). w.qualifier) c.who-who.ensures) i) ((c.id.ensures ∙ ap (λ (w : Who). w.id) c.who-who.ensures) i) (state g.S.Store c.insert_book.new.tx.conn.now).now) in
-    on_ok c.insert_book.result (λ h. subst (λ (P : Type 0). P) name h) (c.insert_book.ensures.made clean three (d.made third two (b.made second one (a.made first inside (record { schema = none; empty = tt })))))
+pub returns-in_err-make_first-clause-wrote : goal.returns-in_err-make_first-clause-wrote
+returns-in_err-make_first-clause-wrote g c =
+    let same : IsErrAnd c.from_residual.result (λ (f : Fault). f ≡ c.in_err-make_first.field-0.0) = search rules in
+    wrote_failed _ _ _ _ _ c.from_residual.result same c.in_err-make_first.ensures.wrote
 
-pub returns-clause-limit : goal.returns-clause-limit
-returns-clause-limit g c =
-    no_more_trans _ _ _ (no_more_trans _ _ _ (no_more_trans _ _ _ c.make_first.ensures.limit c.make_second.ensures.limit) c.make_third.ensures.limit) c.insert_book.ensures.limit
+pub returns-in_err-make_second-clause-wrote : goal.returns-in_err-make_second-clause-wrote
+returns-in_err-make_second-clause-wrote g c =
+    let same : IsErrAnd c.from_residual-in_err-make_second.result (λ (f : Fault). f ≡ c.in_err-make_second.field-0.0) = search rules in
+    wrote_failed _ _ _ _ _ c.from_residual-in_err-make_second.result same
+    (wrote_on _ _ _ _ _ _ _ _ c.in_ok-make_first.ensures.wrote c.in_err-make_second.ensures.wrote (λ one two. two))
+
+pub returns-in_err-make_third-clause-wrote : goal.returns-in_err-make_third-clause-wrote
+returns-in_err-make_third-clause-wrote g c =
+    let same : IsErrAnd c.from_residual-in_err-make_third.result (λ (f : Fault). f ≡ c.in_err-make_third.field-0.0) = search rules in
+    wrote_failed _ _ _ _ _ c.from_residual-in_err-make_third.result same
+    (wrote_on _ _ _ _ _ _ _ _ (wrote_both _ _ _ _ _ _ _ _ c.in_ok-make_first.ensures.wrote c.in_ok-make_second.ensures.wrote) c.in_err-make_third.ensures.wrote (λ both three. three))
+
+pub returns-clause-wrote : goal.returns-clause-wrote
+returns-clause-wrote g c =
+    let last = (state g.S.Store c.insert_book.new.tx.conn.now).now in
+    let qualifier = c.qualifier.ensures ∙ ap (λ (w : Who). w.qualifier) c.who-who.ensures in
+    let id = c.id.ensures ∙ ap (λ (w : Who). w.id) c.who-who.ensures in
+    wrote_on _ _ _ _ _ _ _ c.insert_book.result (wrote_both _ _ _ _ _ _ _ _ (wrote_both _ _ _ _ _ _ _ _ c.in_ok-make_first.ensures.wrote c.in_ok-make_second.ensures.wrote) c.in_ok-make_third.ensures.wrote) c.insert_book.ensures.wrote
+    (λ made book none. subst (λ (P : Type 0). P) (λ i. HasBook (qualifier i) (id i) last) (book (made.1 (made.0.1 (made.0.0 (record { schema = none; empty = tt }))))))

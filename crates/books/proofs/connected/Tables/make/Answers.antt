@@ -17,7 +17,7 @@ returns-in-Ok-clause-ok g c = rw (← c.self.view_is) (λ clean legal none.
     let begun = state g.S.Store c.transaction-tx.result.conn.now in
     let last = state g.S.Store c.make_all.new.tx.conn.now in
     let in_it : IsTrue begun.in_transaction = ap (λ (h : Held g.row.S.Denot). h.in_transaction) c.transaction-tx.ensures.begun in
-    grown_now last (state g.S.Store c.commit.new.self.0) c.args.warehouse.now [] (c.in-Ok.ensures.ok clean).1.now_is (stands_empty c.args.warehouse.now last legal (c.in_ok-make_all.ensures.made early in_it (ap (λ (h : Held g.row.S.Denot). h.schema) c.transaction-tx.ensures.begun ∙ none))))
+    grown_now last (state g.S.Store c.commit.new.self.0) c.args.warehouse.now [] (c.in-Ok.ensures.ok clean).1.now_is (stands_empty c.args.warehouse.now last legal (c.in_ok-make_all.ensures.wrote.done early in_it (ap (λ (h : Held g.row.S.Denot). h.schema) c.transaction-tx.ensures.begun ∙ none))))
 
 pub returns-in-Ok-clause-crash : goal.returns-in-Ok-clause-crash
 returns-in-Ok-clause-crash g c = rw (← c.self.view_is) (
@@ -27,9 +27,9 @@ returns-in-Ok-clause-crash g c = rw (← c.self.view_is) (
     let in_it : IsTrue begun.in_transaction = ap (λ (h : Held g.row.S.Denot). h.in_transaction) c.transaction-tx.ensures.begun in
     let new = state g.S.Store c.commit.new.self.0 in
     survives_begin g.S.Store c.self.inside.conn new (λ (db : Trees). IsLegal c.args.warehouse.now [] → c.self.inside.conn.schema ≡ no_layout → StandsIn c.args.warehouse.now [] db) (subst (λ (h : Held g.row.S.Denot). Survives (state g.S.Store h) new (λ (db : Trees). IsLegal c.args.warehouse.now [] → c.self.inside.conn.schema ≡ no_layout → StandsIn c.args.warehouse.now [] db)) c.transaction-tx.ensures.begun
-    (crash_of begun last new (λ (db : Trees). IsLegal c.args.warehouse.now [] → c.self.inside.conn.schema ≡ no_layout → StandsIn c.args.warehouse.now [] db) c.make_all.ensures.survives c.commit.ensures.survives (λ clean db at legal none.
+    (crash_of begun last new (λ (db : Trees). IsLegal c.args.warehouse.now [] → c.self.inside.conn.schema ≡ no_layout → StandsIn c.args.warehouse.now [] db) c.make_all.ensures.wrote.survives c.commit.ensures.survives (λ clean db at legal none.
     let early : HasCleanDisk (state g.S.Store c.make_all.new.tx.conn.now) = omega (arith, c.commit.ensures.survives.clean) in
-    stands_in db last c.args.warehouse.now [] at (stands_empty c.args.warehouse.now last legal (c.in_ok-make_all.ensures.made early in_it (ap (λ (h : Held g.row.S.Denot). h.schema) c.transaction-tx.ensures.begun ∙ none)))))))
+    stands_in db last c.args.warehouse.now [] at (stands_empty c.args.warehouse.now last legal (c.in_ok-make_all.ensures.wrote.done early in_it (ap (λ (h : Held g.row.S.Denot). h.schema) c.transaction-tx.ensures.begun ∙ none)))))))
 
 pub returns-in-Err-clause-crash : goal.returns-in-Err-clause-crash
 returns-in-Err-clause-crash g c = rw (← c.self.view_is) (
@@ -39,6 +39,6 @@ returns-in-Err-clause-crash g c = rw (← c.self.view_is) (
     let in_it : IsTrue begun.in_transaction = ap (λ (h : Held g.row.S.Denot). h.in_transaction) c.transaction-tx.ensures.begun in
     let new = state g.S.Store c.commit.new.self.0 in
     survives_begin g.S.Store c.self.inside.conn new (λ (db : Trees). IsLegal c.args.warehouse.now [] → c.self.inside.conn.schema ≡ no_layout → StandsIn c.args.warehouse.now [] db) (subst (λ (h : Held g.row.S.Denot). Survives (state g.S.Store h) new (λ (db : Trees). IsLegal c.args.warehouse.now [] → c.self.inside.conn.schema ≡ no_layout → StandsIn c.args.warehouse.now [] db)) c.transaction-tx.ensures.begun
-    (crash_of begun last new (λ (db : Trees). IsLegal c.args.warehouse.now [] → c.self.inside.conn.schema ≡ no_layout → StandsIn c.args.warehouse.now [] db) c.make_all.ensures.survives c.commit.ensures.survives (λ clean db at legal none.
+    (crash_of begun last new (λ (db : Trees). IsLegal c.args.warehouse.now [] → c.self.inside.conn.schema ≡ no_layout → StandsIn c.args.warehouse.now [] db) c.make_all.ensures.wrote.survives c.commit.ensures.survives (λ clean db at legal none.
     let early : HasCleanDisk (state g.S.Store c.make_all.new.tx.conn.now) = omega (arith, c.commit.ensures.survives.clean) in
-    stands_in db last c.args.warehouse.now [] at (stands_empty c.args.warehouse.now last legal (c.in_ok-make_all.ensures.made early in_it (ap (λ (h : Held g.row.S.Denot). h.schema) c.transaction-tx.ensures.begun ∙ none)))))))
+    stands_in db last c.args.warehouse.now [] at (stands_empty c.args.warehouse.now last legal (c.in_ok-make_all.ensures.wrote.done early in_it (ap (λ (h : Held g.row.S.Denot). h.schema) c.transaction-tx.ensures.begun ∙ none)))))))
