@@ -14,7 +14,7 @@ use Rattle.profile.specs.Changes.{Change, Puts, changed_by, with_entry, LeadOn}
 use Rattle.rules.specs.Written.{Written}
 use Rattle.rules.specs.Tabled.{table_changes}
 use Rattle.stock.specs.declared.steps.Change as stock
-use Rattle.store.specs.Sent.{kind_by}
+use Rattle.rules.specs.Kinds.{kind_by}
 use Rattle.books.specs.Appending.{first_state, sent_changes, entry_changes, Appends}
 use Rattle.books.specs.Leading.{Leads}
 use Rattle.books.proofs.LeadingLemmas.{leads_none, leads_on, changed_on}

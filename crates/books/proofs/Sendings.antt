@@ -13,11 +13,12 @@ use Rattle.profile.specs.Rows.{OutRow, act_kind, act_function, said_of, state_te
 use Rattle.profile.proofs.HistoryLaws.{history-numbered}
 use Rattle.rules.specs.Played.{CanFollow}
 use Rattle.rules.proofs.Registers.{Along1, follows_own}
-use Rattle.store.specs.declared.rows.OutKind.{OutKind}
-use Rattle.store.specs.declared.rows.OutKind.TheVariants.{Answer, Receipt, Shipment, Adjustment}
+use Rattle.rules.specs.declared.kinds.OutKind.{OutKind}
+use Rattle.rules.specs.declared.kinds.OutKind.TheVariants.{Answer, Receipt, Shipment, Adjustment}
 use Rattle.store.specs.declared.rows.DocumentState.{DocumentState}
 use Rattle.store.specs.declared.rows.DocumentState.TheVariants.{Unasked, Open, Accepted, Refused}
-use Rattle.store.specs.Sent.{kind_text, state_name}
+use Rattle.rules.specs.Kinds.{kind_text}
+use Rattle.store.specs.Sent.{state_name}
 use Rattle.books.specs.Showing.{IsSent}
 
 kind_of_act : (act : Act) → (kind : OutKind) × (act_kind act ≡ kind_text kind)

@@ -3,9 +3,10 @@ use Rattle.std.specs.Prelude.{◌≡◌, ◌<◌, ◌^◌, [], ◌∷◌, pos}
 use Rattle.sqlite.specs.declared.types.Value.TheVariants.{Int, Text, Blob}
 use Rattle.sqlite.specs.Order.{Row}
 use Rattle.profile.specs.Rows.{StockRow, OutRow}
-use Rattle.store.specs.declared.rows.OutKind.{OutKind}
+use Rattle.rules.specs.declared.kinds.OutKind.{OutKind}
 use Rattle.store.specs.declared.rows.DocumentState.{DocumentState}
-use Rattle.store.specs.Sent.{kind_text, state_name}
+use Rattle.rules.specs.Kinds.{kind_text}
+use Rattle.store.specs.Sent.{state_name}
 
 -- item, lot, expected, on_hand, reserved, shipped
 abbrev pub stock_shown : StockRow → Row

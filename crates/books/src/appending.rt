@@ -12,7 +12,7 @@ ghost use Rattle.books.specs.Writing.{Wrote};
 use crate::calls::Calls;
 use crate::changing::apply_all;
 use crate::recording::{insert_entry, insert_outgoing};
-use crate::texts::{kind_text, moment_text, new_state_text};
+use crate::texts::{moment_text, new_state_text};
 use rules::{Change, Entry};
 use sqlite::{Alter, Transaction};
 use store::Fault;
@@ -35,7 +35,7 @@ fn insert_sent<'a, S: Alter>(
     if !entry.is_numbered() {
         return Ok(());
     }
-    let kind = kind_text(&entry.key, entry.body());
+    let kind = entry.kind().text();
     let state_text = new_state_text(&entry.key);
     insert_outgoing(tx, calls, who, entry.number(), kind, outgoing, state_text)
 }

@@ -1,8 +1,7 @@
 ghost use Rattle.std.specs.Prelude.{◌≡◌, ◌+◌, ◌%◌, IfOk};
 ghost use Rattle.profile.specs.Header.{who_text};
 ghost use Rattle.profile.specs.Moments.{stamp};
-ghost use Rattle.profile.specs.Register.{Deed, deed_mark, body_of};
-ghost use Rattle.store.specs.Sent.{kind_by};
+ghost use Rattle.profile.specs.Register.{Deed, deed_mark};
 ghost use Rattle.books.specs.Appending.{first_state};
 
 use rules::{Moment, Who};
@@ -49,21 +48,6 @@ pub(crate) fn moment_text(moment: Moment) -> [u8; 12]
         digit(minute / 10),
         digit(minute),
     ]
-}
-
-/// What kind of text goes out for an entry with this key and body.
-pub(crate) fn kind_text(key: &[u8], body: &[u8]) -> &'static [u8]
-    ensures { (deed : Deed) → key.now ≡ deed_mark deed → body.now ≡ body_of deed → result.now ≡ kind_by deed }
-{
-    if !key.starts_with(b"T") {
-        b"ANS"
-    } else if body.starts_with(b"count ") {
-        b"944"
-    } else if body.starts_with(b"pick ") {
-        b"945"
-    } else {
-        b"947"
-    }
 }
 
 /// The state of a text that has just gone out for an entry with this key: open where it is a document.

@@ -17,10 +17,9 @@ returns-clause-wrote g c =
     wrote_as _ _ _ _ c.insert_outgoing.result c.insert_outgoing.ensures.wrote (λ led W L e is written sent.
     let counts = sym (numbered L e) ∙ sym (ap (λ (w : Written). nat_lt 0 w.n) written) ∙ sym c.is_numbered.ensures ∙ c.if-not-is_numbered.false in
     let key : c.deref.result.now ≡ c.args.entry.now.key = search rules in
-    let again : c.deref-2.result.now ≡ c.args.entry.now.key = search rules in
     let its = ap (λ (w : Written). w.key) written in
-    sent_led W L e c.args.who.now c.number.result c.kind_text-kind.result.now c.args.outgoing.now c.new_state_text-state_text.result.now
+    sent_led W L e c.args.who.now c.number.result c.text-kind.result.now c.args.outgoing.now c.new_state_text-state_text.result.now
     (state g.S.Store c.args.tx.now.conn.now).now (state g.S.Store c.insert_outgoing.new.tx.conn.now).now counts is
     (c.number.ensures ∙ ap (λ (w : Written). w.n) written)
-    (c.kind_text-kind.ensures e.deed (key ∙ its) (c.body.ensures ∙ ap (λ (w : Written). w.body) written)) sent
-    (c.new_state_text-state_text.ensures e.deed (again ∙ its)) led)
+    (c.text-kind.ensures ∙ c.kind.ensures e.deed its (ap (λ (w : Written). w.body) written)) sent
+    (c.new_state_text-state_text.ensures e.deed (key ∙ its)) led)
