@@ -1,18 +1,16 @@
 -- What asking a book's tables leaves of the book, and what opening makes of them.
-use Rattle.std.proofs.Common.{◌≡◌, ◌≤◌, inl, inr, ℕ, List, Bool, false, Result, Ok, Err, IfErr, length, None, Some, ◌==◌, refl, sym, subst, ap}
-use Rattle.std.specs.Prelude.{IsErrAnd, if◌then◌else◌}
+use Rattle.std.proofs.Common.{◌≡◌, ◌≤◌, inl, inr, ℕ, List, Bool, false, Result, Ok, Err, IfErr, length, refl, sym, subst}
+use Rattle.std.specs.Prelude.{IsErrAnd}
 use Rattle.sqlite.specs.Tree.{Trees}
 use Rattle.sqlite.specs.State.{State, HasCleanDisk}
 use Rattle.profile.specs.Header.{Who}
-use Rattle.profile.specs.Register.{Entry, own}
-use Rattle.profile.specs.Rows.{stock_rows, stock_of, outbox_rows, outbox_of}
+use Rattle.profile.specs.Register.{Entry}
 use Rattle.store.specs.declared.fault.Fault.{Fault}
 use Rattle.store.specs.Standing.{IsUnchanged, IsUsable, IsQueryFault}
 use Rattle.books.specs.Asking.{IsAsked, IsAskFault}
 use Rattle.books.specs.Exits.{StandsWhileOpen}
 use Rattle.books.specs.Keeping.{IsKept, IsSettled, standing_in}
 use Rattle.books.specs.Standing.{Stands}
-use Rattle.books.proofs.Owned.{own_own}
 
 -- no more is left than was
 no_new : (old new : State) (W : Who) (L : List Entry) → HasCleanDisk new → IsAsked old new → StandsWhileOpen old W L → (db : Trees) → new.may_leave db → old.may_leave db
@@ -46,14 +44,6 @@ asked_fault_at f old new W n refused more shut h = record {
 pub err_as : {T E : Type 0} (P : E → Type 0) (r : Result T E) (e : E) → IsErrAnd r (λ f. f ≡ e) → P e → IfErr r P
 err_as P (Ok x) e h p = tt
 err_as P (Err f) e h p = subst P (sym h) p
-
--- asking for one depositor's entries
-
-pub stock_own : (L : List Entry) (who : Who) → stock_of (own L who) who ≡ stock_of L who
-stock_own L who = ap (λ (M : List Entry). if length M == 0 then None else Some (stock_rows M)) (own_own L who)
-
-pub outbox_own : (W : Who) (L : List Entry) (who : Who) → outbox_of W (own L who) who ≡ outbox_of W L who
-outbox_own W L who = ap (λ (M : List Entry). if length M == 0 then None else Some (outbox_rows W M)) (own_own L who)
 
 -- Opening.
 

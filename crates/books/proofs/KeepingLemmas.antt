@@ -1,5 +1,5 @@
 -- A book's register, and what a crash leaves of it.
-use Rattle.std.proofs.Common.{◌≡◌, ◌⊎◌, inl, inr, ℕ, ◌+◌, List, [], ◌∷◌, ◌++◌, length, length-append, map, Bool, true, false, refl, sym, ap, ◌∙◌}
+use Rattle.std.proofs.Common.{◌≡◌, inl, inr, ℕ, pos, ◌+◌, List, [], ◌∷◌, ◌++◌, length, length-append, map, Bool, false, refl, sym, ap, ◌∙◌}
 use Rattle.sqlite.specs.Order.{Row}
 use Rattle.sqlite.specs.Tree.{Trees}
 use Rattle.sqlite.specs.State.{State, HasCleanDisk, Survives}
@@ -7,14 +7,12 @@ use Rattle.profile.specs.Header.{Who, who_text}
 use Rattle.rules.specs.Written.{Written}
 use Rattle.stock.specs.declared.steps.Change as stock
 use Rattle.profile.specs.Register.{Entry}
-use Rattle.profile.specs.Tables.{TableRow, entry_table}
+use Rattle.profile.specs.Tables.{TableRow, book_table, entry_table}
 use Rattle.profile.proofs.RegisterLaws.{entry_table-determines}
-use Rattle.store.specs.declared.fault.Fault.{Fault}
-use Rattle.store.specs.declared.fault.Fault.TheVariants.{OutOfMemory, Store, Reopen, NotThisBook, Device}
-use Rattle.store.specs.Standing.{IsUsable, IsNext, LeavesEither, IsFault}
+use Rattle.store.specs.Standing.{IsUsable, IsNext, LeavesEither}
 use Rattle.sqlite.specs.declared.types.Value.{Value}
-use Rattle.books.specs.Held.{value_of, values, entry_values}
-use Rattle.books.specs.Rises.{Rises}
+use Rattle.sqlite.specs.declared.types.Value.TheVariants as value
+use Rattle.books.specs.Held.{value_of, values, first_row, entry_values}
 use Rattle.books.specs.Standing.{StandsIn}
 use Rattle.books.specs.Exits.{IsAppended, HasGrown, LeavesIt}
 use Rattle.books.specs.Keeping.{standing_in}
@@ -41,10 +39,22 @@ same_entries (x ∷ a) (y ∷ b) h = let both = parts (entry_values x) (entry_va
     parts : (v w : Row) (r s : List Row) → v ∷ r ≡ w ∷ s → (v ≡ w) × (r ≡ s)
     parts v w r s e = (cc, cc)
 
--- trees stand for one register
+-- trees stand for one register, of one warehouse
+same_house : (W V : Who) → ◌≡◌ {A = List Row} (map first_row (book_table W)) (map first_row (book_table V)) → W ≡ V
+same_house W V e = let both = parts W.qualifier W.id V.qualifier V.id e in λ i. record { qualifier = both.0 i; id = both.1 i }
+  where
+    parts : (a b c d : List ℕ) → ◌≡◌ {A = List Row} ((value.Int (pos 1) ∷ value.Int (pos 1) ∷ value.Text a ∷ value.Text b ∷ []) ∷ []) ((value.Int (pos 1) ∷ value.Int (pos 1) ∷ value.Text c ∷ value.Text d ∷ []) ∷ []) → (a ≡ c) × (b ≡ d)
+    parts a b c d e = (cc, cc)
+
+pub stands_for_one : (W V : Who) (db : Trees) (L M : List Entry) → StandsIn W L db → StandsIn V M db → (W ≡ V) × (L ≡ M)
+stands_for_one W V db L M p q = (
+  same_house W V (let a = p.2.rows in let b = q.2.rows in sym a.book ∙ b.book),
+  entry_table-determines W V L M p.2.legal q.2.legal (same_entries (entry_table L) (entry_table M) (let a = p.2.rows in let b = q.2.rows in sym a.entry ∙ b.entry)),
+)
+
+-- of one warehouse
 pub stands_once : (W : Who) (db : Trees) (L M : List Entry) → StandsIn W L db → StandsIn W M db → L ≡ M
-stands_once W db L M p q = entry_table-determines W W L M p.2.legal q.2.legal
-    (same_entries (entry_table L) (entry_table M) (let a = p.2.rows in let b = q.2.rows in sym a.entry ∙ b.entry))
+stands_once W db L M p q = (stands_for_one W W db L M p q).1
 
 -- the tables of a register, and a crash leaves just them
 pub usable_now : (s : State) (W : Who) (n refused : ℕ) (L : List Entry) → n ≡ length L → HasGrown s W L → LeavesIt s → IsUsable (standing_in s W n refused false) L
@@ -65,32 +75,6 @@ leaves_one_of old new W n m refused more shut L next P clean quiet commits u = r
     | inl before ↦ inl (u.only M (left.0, before, left.2))
     | inr made ↦ inr (stands_once W left.0 M next left.2 (commits left.0 made))
   ];
-}
-
-not_reopen : (f : Fault) → (f ≡ OutOfMemory) ⊎ (f ≡ Store) → f ≡ Reopen → ⊥
-not_reopen f (inl a) b = let e : ◌≡◌ {A = Fault} OutOfMemory Reopen = sym a ∙ b in cc
-not_reopen f (inr a) b = let e : ◌≡◌ {A = Fault} Store Reopen = sym a ∙ b in cc
-
-not_this_book : (f : Fault) → (f ≡ OutOfMemory) ⊎ (f ≡ Store) → f ≡ NotThisBook → ⊥
-not_this_book f (inl a) b = let e : ◌≡◌ {A = Fault} OutOfMemory NotThisBook = sym a ∙ b in cc
-not_this_book f (inr a) b = let e : ◌≡◌ {A = Fault} Store NotThisBook = sym a ∙ b in cc
-
-not_device : (f : Fault) → (f ≡ OutOfMemory) ⊎ (f ≡ Store) → f ≡ Device → ⊥
-not_device f (inl a) b = let e : ◌≡◌ {A = Fault} OutOfMemory Device = sym a ∙ b in cc
-not_device f (inr a) b = let e : ◌≡◌ {A = Fault} Store Device = sym a ∙ b in cc
-
--- a commit that failed: the book is shut
-pub broken_fault : (f : Fault) (old new : State) (W : Who) (n m refused more : ℕ) → (f ≡ OutOfMemory) ⊎ (f ≡ Store) → Rises refused more
-    → IsFault f (standing_in old W n refused false) (standing_in new W m more true)
-broken_fault f old new W n m refused more named rises = record {
-  clean = λ same. absurd (let e : ◌≡◌ {A = Bool} true false = same in cc);
-  broken = λ _ _. rises.grew;
-  why = record {
-    store = λ _. rises.grew;
-    reopen = λ is. absurd (not_reopen f named is);
-    not_this = λ is. absurd (not_this_book f named is);
-    device = λ is. not_device f named is;
-  };
 }
 
 pub length_push : (L : List Entry) (e : Entry) (n : ℕ) → n ≡ length L → n + 1 ≡ length (L ++ e ∷ [])

@@ -1,7 +1,7 @@
 -- Writes inside a transaction, one after another.
-use Rattle.std.proofs.Common.{◌≡◌, ◌⊎◌, ◌∙◌, inl, inr, ℕ, List, Result, Ok, Err, Option, Some, None, IfErr, OnOk, OnErr, arith, refl, sym, subst}
-use Rattle.std.specs.Prelude.{◌≢◌, IsErrAnd, ⊤}
-use Rattle.sqlite.specs.State.{State, HasCleanDisk, Survives, KeepsCommit}
+use Rattle.std.proofs.Common.{◌≡◌, ◌⊎◌, ◌∙◌, inl, inr, ℕ, Result, Ok, Err, Option, Some, OnErr, arith, refl, sym, subst}
+use Rattle.std.specs.Prelude.{◌≢◌, IsErrAnd}
+use Rattle.sqlite.specs.State.{State, HasCleanDisk, Survives}
 use Rattle.sqlite.proofs.StateLemmas.{survives_then}
 use Rattle.store.specs.declared.fault.Fault.{Fault}
 use Rattle.store.specs.declared.fault.Fault.TheVariants.{OutOfMemory, Store}
@@ -9,7 +9,7 @@ use Rattle.books.specs.declared.calls.Calls.{Calls}
 use Rattle.books.specs.Limits.{NoMore}
 use Rattle.books.specs.Rises.{Rises}
 use Rattle.books.specs.Writing.{Wrote}
-use Rattle.books.proofs.Limited.{no_more_refl, no_more_same, no_more_trans}
+use Rattle.books.proofs.Limited.{no_more_refl, no_more_trans}
 use Rattle.books.proofs.StepLemmas.{on_ok, same_keeps}
 
 on_err : {T E : Type 0} {A B : Type 0} (r : Result T E) → (A → B) → OnErr r A → OnErr r B

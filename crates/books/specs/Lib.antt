@@ -1,5 +1,6 @@
 pub mod Showing
 pub mod Layout
+pub mod LaidOut
 pub mod Lines
 pub mod Steps
 pub mod Held

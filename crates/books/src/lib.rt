@@ -8,6 +8,7 @@ mod calls;
 mod changing;
 mod connected;
 mod enrolled;
+pub mod laws;
 mod making;
 mod reading;
 mod recalled;

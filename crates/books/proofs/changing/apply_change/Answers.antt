@@ -1,4 +1,4 @@
-use Rattle.std.proofs.Common.{rules, sym, subst}
+use Rattle.std.proofs.Common.{sym, subst}
 use Rattle.rules.specs.Tabled.{table_changes_of}
 use Rattle.sqlite.specs.Held.{state}
 use Rattle.books.specs.Leading.{Leads}

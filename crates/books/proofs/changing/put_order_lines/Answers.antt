@@ -1,13 +1,12 @@
 use Rattle.std.proofs.Common.{rules, arith, ◌≡◌, ◌+◌, ℕ, get_or, [], ◌∷◌, subst, sym, ap, map, ◌∙◌}
 use Rattle.std.specs.Prelude.{IsErrAnd}
 use Rattle.std.specs.List.{enumerate_from}
-use Rattle.profile.specs.Means.{Line}
 use Rattle.profile.specs.Page.{PageLine, PageOrder}
 use Rattle.sqlite.specs.Held.{state}
 use Rattle.store.specs.declared.fault.Fault.{Fault}
 use Rattle.books.specs.Leading.{Leads}
 use Rattle.books.proofs.Limited.{no_more_same}
-use Rattle.books.proofs.LeadingLemmas.{left_on, left_none, left_of, left_empty}
+use Rattle.books.proofs.LeadingLemmas.{left_on, left_none}
 use Rattle.books.proofs.Lines.{order_line_change, order_lines_are}
 use Rattle.books.proofs.Writes.{wrote_as, wrote_nothing, wrote_on, wrote_refused, wrote_failed}
 use Rattle.books.proofs.changing.put_order_lines.Goals as goal

@@ -1,4 +1,4 @@
-use Rattle.std.proofs.Common.{rules, ◌≡◌, inl, inr, ap, refl}
+use Rattle.std.proofs.Common.{rules, ◌≡◌, inl, inr, ap}
 use Rattle.std.specs.Prelude.{IsErrAnd, ⊤}
 use Rattle.std.proofs.lemmas.Bool.{cases_Bool}
 use Rattle.sqlite.specs.Held.{state}
