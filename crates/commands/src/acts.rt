@@ -6,15 +6,17 @@ ghost use Rattle.store.specs.Runs.{told};
 ghost use Rattle.store.specs.Standing.{IsUsable, GoesOn};
 ghost use Rattle.commands.specs.Telling.{IsPrinted};
 
+use crate::files::{MOST_SHEET, read_within};
 use crate::rosters::{enrol_all, read_roster};
 use crate::sheet_files::sheet;
 use crate::takes::take;
 use crate::told::{CommandError, ExitStatus, tell_refusal, tell_text};
 use crate::words::{BookAct, ClerkWords, Deed};
+use intake::read_interchange;
 use profile::{MOST_NUMBER, MOST_TICKET};
 use std::alloc::Global;
+use std::io;
 use std::rt::Files;
-use std::{fs, io};
 use store::{
     Act as ClerkAct, Command, Ident, Keeper, Moment, Refusal, Reply, Sheet, SheetKind, Who, submit,
 };
@@ -70,7 +72,9 @@ fn slip_of<'a, R: Files + AllocGlobal>(
     let Some(who) = depositor(told) else {
         return Ok(Err(Refusal::BadText));
     };
-    let text = fs::read(rt, told.sheet)?;
+    let Some(text) = read_within(rt, told.sheet, MOST_SHEET)? else {
+        return Ok(Err(Refusal::BadText));
+    };
     match sheet(rt.alloc(), kind(told.deed), &text)? {
         Ok(sheet) => Ok(Ok(Ready::Clerk(Slip {
             who,
@@ -82,7 +86,8 @@ fn slip_of<'a, R: Files + AllocGlobal>(
 }
 
 /// What a line says is to be done, made ready: its words are tested from left to right, then its file is read, then a sheet or
-/// a list is tested. Refused are 32, a word or a list that can't be read, and what keeps a sheet from being one (30 to 33);
+/// a list is tested. Refused are 32, a word or a list that can't be read, also one that is too long, and what keeps a sheet from
+/// being one (30 to 33, of one that is too long 32);
 /// a file that can't be read is Device (44).
 pub fn make_ready<'a, R: Files + AllocGlobal>(
     rt: &R,
@@ -97,7 +102,7 @@ pub fn make_ready<'a, R: Files + AllocGlobal>(
             Some(partners) => Ok(Ok(Ready::Roster(partners))),
             None => Ok(Err(Refusal::BadText)),
         },
-        BookAct::Send { file } => Ok(Ok(Ready::Send(fs::read(rt, *file)?))),
+        BookAct::Send { file } => Ok(Ok(Ready::Send(read_interchange(rt, *file)?))),
         BookAct::Take { dir } => Ok(Ok(Ready::Take(*dir))),
         BookAct::Clerk(told) => slip_of(rt, told),
     }

@@ -1,9 +1,10 @@
-//! The program's commands: words, subcommands, what they print. The program hands its words to `command`, and has nothing else.
+//! The program's commands: words, subcommands, what they print. The program calls `program`, which hands its words to `command`, and has nothing else.
 #![tactic(auto)]
 
 mod acts;
 mod book_files;
 mod clock;
+mod files;
 mod numbers;
 mod over_file;
 mod rosters;
@@ -12,6 +13,7 @@ mod script;
 mod serving;
 mod sheet_files;
 mod shows;
+mod starting;
 mod subcommands;
 mod takes;
 mod told;
@@ -19,4 +21,5 @@ mod words;
 
 pub use run::command;
 pub use serving::serve_on;
+pub use starting::program;
 pub use told::{CommandError, ExitStatus};

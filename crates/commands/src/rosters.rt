@@ -4,10 +4,11 @@ ghost use Rattle.toml.specs.Data.{get_member};
 ghost use Rattle.toml.specs.View.{items_view, table_view, view};
 ghost use Rattle.commands.specs.Rosters as meant;
 
+use crate::files::{MOST_ROSTER, read_within};
 use crate::told::{CommandError, ExitStatus};
 use std::alloc::{AllocError, Global};
+use std::io;
 use std::rt::Files;
-use std::{fs, io};
 use store::{Command, Keeper, Moment, Reply, Who, submit};
 use toml::{Table, Value};
 
@@ -107,11 +108,14 @@ pub fn enrol_all<K: Keeper, W: io::Write>(
     Ok(status)
 }
 
-/// The depositors of the list in a file; None where it is no such list. A file that can't be read is Device (44).
+/// The depositors of the list in a file; None where it is no such list, or has more than 1,048,576 bytes. A file that can't be
+/// read is Device (44).
 pub fn read_roster<R: Files + AllocGlobal>(
     rt: &R,
     file: &str,
 ) -> Result<Option<Vec<Who>>, CommandError> {
-    let text = fs::read(rt, file)?;
-    Ok(depositors(rt.alloc(), &text)?)
+    match read_within(rt, file, MOST_ROSTER)? {
+        Some(text) => Ok(depositors(rt.alloc(), &text)?),
+        None => Ok(None),
+    }
 }

@@ -1,10 +1,11 @@
 use crate::acts::{make_ready, perform};
 use crate::clock::moment_for;
+use crate::files::{MOST_SCRIPT, read_within};
 use crate::shows::{ask, show};
 use crate::told::{CommandError, ExitStatus, tell_refusal, usage};
 use crate::words::{BookAct, Place, Show, Task, Words, line};
+use std::io;
 use std::rt::{Clock, Files};
-use std::{fs, io};
 use store::{Keeper, Moment, Refusal, ReplayBook, Warehouse, Who};
 
 // Changes the book as a line says.
@@ -109,15 +110,17 @@ fn play<R: Files + Clock + AllocGlobal + Clone + Drop, W: io::Write, E: io::Writ
     }
 }
 
-/// Runs the script in a file over a new book in memory. A script that can't be read as words is a usage fault, a file that
-/// can't be read a fault; what was printed before either stays.
+/// Runs the script in a file over a new book in memory. A script that can't be read as words, or has more than 16,777,216 bytes,
+/// is a usage fault, a file that can't be read a fault; what was printed before either stays.
 pub fn run_script<R: Files + Clock + AllocGlobal + Clone + Drop, W: io::Write, E: io::Write>(
     rt: &R,
     file: &str,
     out: &mut W,
     err: &mut E,
 ) -> Result<ExitStatus, CommandError> {
-    let bytes = fs::read(rt, file)?;
+    let Some(bytes) = read_within(rt, file, MOST_SCRIPT)? else {
+        return Err(usage(rt.alloc(), "a script has at most 16,777,216 bytes\n"));
+    };
     match std::str::from_utf8(&bytes) {
         Ok(text) => play(rt, text, out, err),
         Err(_) => Err(usage(rt.alloc(), "a script is UTF-8 text\n")),

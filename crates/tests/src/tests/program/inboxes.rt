@@ -1,5 +1,6 @@
 //! Folders of interchanges.
 use super::*;
+use std::os::unix::fs::symlink;
 
 // The advice under the same control number, with another quantity.
 const OTHER: &str =
@@ -112,5 +113,33 @@ fn an_answer_that_cannot_be_written(rt: HostRuntime) -> Result<(), Fail> {
     fs::remove_dir_all(&rt, "inbox/a.x12.ans")?;
     run_lines(&rt, "case.book", "take inbox --at 2025-03-05T10:00")?.compare("mended", &MENDED)?;
     assert!(rt; are_answered(&rt)?);
+    Ok(())
+}
+
+// Fills the folder, with links at the names of answers, what an earlier stop left, and entries that are no files.
+fn fill_oddly(rt: &HostRuntime) -> Result<(), Fail> {
+    fill(rt)?;
+    remove(rt, "kept.txt")?;
+    fs::write(rt, "kept.txt", "kept")?;
+    symlink(rt, "../kept.txt", "inbox/a.x12.ans")?;
+    fs::hard_link(rt, "kept.txt", "inbox/b.x12.ans")?;
+    symlink(rt, "../kept.txt", "inbox/a.x12.new")?;
+    fs::write(rt, "inbox/b.x12.new", "the beginning of an answer")?;
+    fs::create_dir(rt, "inbox/e.x12")?;
+    symlink(rt, "nowhere", "inbox/f.x12")?;
+    symlink(rt, ".", "inbox/g.x12")?;
+    Ok(())
+}
+
+// An answer is a file of its own: a link at its name is replaced and never followed, and what an earlier stop left is removed.
+// What is no file is passed over.
+#[test]
+fn links_are_replaced(rt: HostRuntime) -> Result<(), Fail> {
+    fill_oddly(&rt)?;
+    remove_book(&rt, "case.book", "case.book-wal")?;
+    run_lines(&rt, "case.book", SCRIPT)?.compare("links", &WANTED)?;
+    assert!(rt; are_answered(&rt)? && holds(&rt, "kept.txt", "kept")?);
+    assert!(rt; fs::symlink_metadata(&rt, "inbox/a.x12.ans")?.is_file());
+    assert!(rt; !fs::exists(&rt, "inbox/a.x12.new")? && !fs::exists(&rt, "inbox/b.x12.new")?);
     Ok(())
 }

@@ -73,6 +73,7 @@ fn scripts_begin_with_init(rt: HostRuntime) -> Result<(), Fail> {
     }
     fs::write(&rt, "latin.script", b"init ZZ-WHSE1\nenrol ZZ-\xc9\n")?;
     run(&rt, &["script", "latin.script"])?.is_unread("latin", "", "")?;
+    run(&rt, &["script", "/dev/zero"])?.is_unread("a script without an end", "", "")?;
     for text in [
         "init WHSE1\nenrol ZZ-ACME\nunread\n",
         "init ZZ-WHSE1\r\nunread\n",
@@ -246,6 +247,17 @@ enrol ZZ-ACME --at 2024-02-29T23:59
 @ends 1
 refused 32 BadText
 refused 35 AlreadyEnrolled
+@case files without an end are read no further than they may go
+@script
+init ZZ-WHSE1
+enrol ZZ-ACME --at 2025-03-04T09:15
+send /dev/zero --at 2025-03-04T09:15
+count ZZ-ACME C-1 SHP1 /dev/zero --at 2025-03-04T09:15
+roster /dev/zero --at 2025-03-04T09:15
+@ends 1
+refused 1 Unreadable
+refused 32 BadText
+refused 32 BadText
 @case words after two hyphens are values
 @script
 init ZZ-WHSE1

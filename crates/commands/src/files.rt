@@ -1,0 +1,31 @@
+//! Files that a line names, read up to a limit, so that one without an end can't take all memory.
+ghost use Rattle.std.specs.Prelude.{◌≤◌, IfOk, IfSome, length};
+
+use crate::told::CommandError;
+use intake::read_first;
+use std::rt::Files;
+
+/// The most bytes of a sheet: its 99 lines need fewer than 8,192.
+pub const MOST_SHEET: u32 = 1_048_576;
+
+/// The most bytes of a list of depositors.
+pub const MOST_ROSTER: u32 = 1_048_576;
+
+/// The most bytes of a script.
+pub const MOST_SCRIPT: u32 = 16_777_216;
+
+/// The bytes of a file; None where it has more than `most`, and then one more than these is read. A file that can't be read is
+/// Device (44).
+pub fn read_within<R: Files + AllocGlobal>(
+    rt: &R,
+    file: &str,
+    most: u32,
+) -> Result<Option<Vec<u8>>, CommandError>
+    ensures { IfOk result (λ found. IfSome found (λ bytes. length bytes.items ≤ most)) }
+{
+    let bytes = read_first(rt, file, u64::from(most) + 1)?;
+    if bytes.len() as u64 > u64::from(most) {
+        return Ok(None);
+    }
+    Ok(Some(bytes))
+}
