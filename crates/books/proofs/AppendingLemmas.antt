@@ -1,5 +1,5 @@
 -- What an entry that is appended writes.
-use Rattle.std.proofs.Common.{◌≡◌, inl, inr, ℕ, List, [], ◌∷◌, ◌++◌, codes, Bool, true, false, refl, sym, ap, subst, ◌∙◌, arith}
+use Rattle.std.proofs.Common.{◌≡◌, inl, inr, ℕ, List, [], ◌∷◌, ◌++◌, codes, Bool, true, false, refl, sym, ap, subst, ◌∙◌, arith, map}
 use Rattle.std.specs.Prelude.{if◌then◌else◌, nat_lt}
 use Rattle.std.proofs.lemmas.Bool.{cases_Bool}
 use Rattle.std.proofs.lemmas.Bool.Decides.{nat_tests}
@@ -18,7 +18,7 @@ use Rattle.rules.specs.Kinds.{kind_by}
 use Rattle.books.specs.Appending.{first_state, sent_changes, entry_changes, Appends}
 use Rattle.books.specs.Leading.{Leads}
 use Rattle.books.proofs.LeadingLemmas.{leads_none, leads_on, changed_on}
-use Rattle.books.specs.Standing.{Filled, named}
+use Rattle.books.specs.Standing.{BookTable, Outgoing, Stock, Advice, AdviceLine, Orders, OrderLine, Reservation, name_of, keyed_tables, Filled, named}
 
 -- an entry is numbered where its number isn't 0
 positive : (M : List Entry) → nat_lt 0 (next_number M) ≡ true
@@ -88,21 +88,26 @@ pub same_named : (f g : Filled) → named f ≡ named g → f ≡ g
 same_named f g h =
     let a = heads _ _ _ _ h in
     let b = heads _ _ _ _ a.1 in
-    let c = heads _ _ _ _ b.1 in
-    let d = heads _ _ _ _ c.1 in
-    let e = heads _ _ _ _ d.1 in
-    let i = heads _ _ _ _ e.1 in
-    let j = heads _ _ _ _ i.1 in
-    let k = heads _ _ _ _ j.1 in
-    let l = heads _ _ _ _ k.1 in
-    (λ at. record {
-      book = (a.0 at).1;
-      entry = (b.0 at).1;
-      outgoing = (c.0 at).1;
-      stock = (d.0 at).1;
-      advice = (e.0 at).1;
-      advice_line = (i.0 at).1;
-      orders = (j.0 at).1;
-      order_line = (k.0 at).1;
-      reservation = (l.0 at).1;
-    })
+    λ at. record { book = (a.0 at).1; entry = (b.0 at).1; keyed = λ t. same_keyed b.1 t at }
+  where
+    same_keyed : map {B = List ℕ × List TableRow} (λ t. (name_of t, f.keyed t)) keyed_tables ≡ map {B = List ℕ × List TableRow} (λ t. (name_of t, g.keyed t)) keyed_tables → (t : BookTable) → f.keyed t ≡ g.keyed t
+    same_keyed e t =
+        let c = heads _ _ _ _ e in
+        let d = heads _ _ _ _ c.1 in
+        let i = heads _ _ _ _ d.1 in
+        let j = heads _ _ _ _ i.1 in
+        let k = heads _ _ _ _ j.1 in
+        let l = heads _ _ _ _ k.1 in
+        let m = heads _ _ _ _ l.1 in
+        by t c.0 d.0 i.0 j.0 k.0 l.0 m.0
+      where
+        Same : BookTable → Type 0
+        Same t = ◌≡◌ {A = List ℕ × List TableRow} (name_of t, f.keyed t) (name_of t, g.keyed t)
+        by : (t : BookTable) → Same Outgoing → Same Stock → Same Advice → Same AdviceLine → Same Orders → Same OrderLine → Same Reservation → f.keyed t ≡ g.keyed t
+        by Outgoing a b c d e i j = second _ _ _ a
+        by Stock a b c d e i j = second _ _ _ b
+        by Advice a b c d e i j = second _ _ _ c
+        by AdviceLine a b c d e i j = second _ _ _ d
+        by Orders a b c d e i j = second _ _ _ e
+        by OrderLine a b c d e i j = second _ _ _ i
+        by Reservation a b c d e i j = second _ _ _ j

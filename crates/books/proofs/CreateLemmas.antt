@@ -7,7 +7,7 @@ use Rattle.profile.specs.Schema as profile
 use Rattle.profile.specs.Header.{Who}
 use Rattle.profile.specs.Accepted.{IsLegal}
 use Rattle.books.specs.Held.{Holds}
-use Rattle.books.specs.Standing.{AreByKey}
+use Rattle.books.specs.Standing.{BookTable, Outgoing, Stock, Advice, AdviceLine, Orders, OrderLine, Reservation, schema_of, tree_of, width_of, rows_of, AreByKey}
 use Rattle.books.specs.Exits.{HasGrown}
 use Rattle.sqlite.specs.Order.{Row}
 use Rattle.sqlite.specs.Command.TheVariants.{CreateTable}
@@ -107,35 +107,43 @@ holds_none = record { rise = tt; sound = λ row none. absurd none; complete = λ
 is_by_key_none : (s : profile.Schema) (k : ℕ) → AreByKey s k []
 is_by_key_none s k = record { by_key = refl; each = λ row none. absurd none }
 
+holds_empty : (t : BookTable) (qualifier id : List ℕ) (db : Database) → HasBook qualifier id db → Holds [] (db.trees (tree_of t))
+holds_empty t qualifier id db h = subst (Holds []) (sym (empty t)) holds_none
+  where
+    empty : (t : BookTable) → db.trees (tree_of t) ≡ []
+    empty Outgoing = h.empty.1.0
+    empty Stock = h.empty.1.1.0
+    empty Advice = h.empty.1.1.1.0
+    empty AdviceLine = h.empty.1.1.1.1.0
+    empty Orders = h.empty.1.1.1.1.1.0
+    empty OrderLine = h.empty.1.1.1.1.1.1.0
+    empty Reservation = h.empty.1.1.1.1.1.1.1.0
+
+no_rows : (W : Who) (t : BookTable) → rows_of W [] t ≡ []
+no_rows W Outgoing = refl
+no_rows W Stock = refl
+no_rows W Advice = refl
+no_rows W AdviceLine = refl
+no_rows W Orders = refl
+no_rows W OrderLine = refl
+no_rows W Reservation = refl
+
 pub stands_empty : (W : Who) (s : State) → IsLegal W [] → HasBook W.qualifier W.id s.now → HasGrown s W []
 stands_empty W s legal h =
-    let rows = h.empty in
     record {
       stands = record {
         legal = legal;
         schema = lies_alone s.now.schema h.schema;
         rows = record {
           book = h.book;
-          entry = rows.0;
-          outgoing = subst (Holds []) (sym rows.1.0) holds_none;
-          stock = subst (Holds []) (sym rows.1.1.0) holds_none;
-          advice = subst (Holds []) (sym rows.1.1.1.0) holds_none;
-          advice_line = subst (Holds []) (sym rows.1.1.1.1.0) holds_none;
-          orders = subst (Holds []) (sym rows.1.1.1.1.1.0) holds_none;
-          order_line = subst (Holds []) (sym rows.1.1.1.1.1.1.0) holds_none;
-          reservation = subst (Holds []) (sym rows.1.1.1.1.1.1.1.0) holds_none;
+          entry = let rows = h.empty in rows.0;
+          keyed = λ t. subst (λ rows. Holds rows (s.now.trees (tree_of t))) (sym (no_rows W t)) (holds_empty t W.qualifier W.id s.now h);
         };
       };
       sound = h.sound;
       ordered = record {
         entry = λ row none. absurd none;
-        each_outgoing = λ row none. absurd none;
-        outgoing = is_by_key_none _ 2;
-        stock = is_by_key_none _ 3;
-        advice = is_by_key_none _ 2;
-        advice_line = is_by_key_none _ 3;
-        orders = is_by_key_none _ 2;
-        order_line = is_by_key_none _ 3;
-        reservation = is_by_key_none _ 4;
+        outgoing = λ row none. absurd none;
+        keyed = λ t. subst (AreByKey (schema_of t) (width_of t)) (sym (no_rows W t)) (is_by_key_none (schema_of t) (width_of t));
       };
     }

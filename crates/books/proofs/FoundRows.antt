@@ -15,7 +15,7 @@ use Rattle.books.specs.Asking.{Finds}
 use Rattle.books.specs.Layout.{beside, IsLayout}
 use Rattle.books.specs.Exits.{StandsWhileOpen}
 use Rattle.books.specs.Showing.{stock_shown, out_shown, IsSent}
-use Rattle.books.specs.Standing.{Stands}
+use Rattle.books.specs.Standing.{Stock, Outgoing, Stands}
 use Rattle.books.proofs.Asked.{found}
 use Rattle.books.proofs.Sendings.{legal_sent}
 use Rattle.books.proofs.ShowingTexts.{stock_rows_text, stock_rows_is, stock_rows_plain, outbox_text, outbox_is, outbox_plain}
@@ -29,14 +29,14 @@ stock_found : (W : Who) (L : List Entry) (who : Who) (db : Database) (rows : Lis
 stock_found W L who db rows partner sound stands h =
     let read = found stock_rows_text (value.Text (who_text who) ∷ []) db rows _ stands.schema stock_rows_plain stock_rows_is h in
     let held = stands.rows in
-    stock_rows_shown (let lies = stands.schema in lies.others) W L who db.trees rows stands.legal partner (sound_layout db stands.schema sound) held.stock (read.answer value.Null)
+    stock_rows_shown (let lies = stands.schema in lies.others) W L who db.trees rows stands.legal partner (sound_layout db stands.schema sound) (held.keyed Stock) (read.answer value.Null)
 
 outgoing_found : (W : Who) (L : List Entry) (who : Who) (db : Database) (rows : List Row) → is_partner who ≡ true → IsDatabase db → Stands W L db
     → Finds outbox_text (value.Text (who_text who) ∷ []) db rows → rows ≡ map out_shown (outgoing_rows W (own L who))
 outgoing_found W L who db rows partner sound stands h =
     let read = found outbox_text (value.Text (who_text who) ∷ []) db rows _ stands.schema outbox_plain outbox_is h in
     let held = stands.rows in
-    outgoing_rows_shown (let lies = stands.schema in lies.others) W L who db.trees rows stands.legal partner (sound_layout db stands.schema sound) held.outgoing (read.answer value.Null)
+    outgoing_rows_shown (let lies = stands.schema in lies.others) W L who db.trees rows stands.legal partner (sound_layout db stands.schema sound) (held.keyed Outgoing) (read.answer value.Null)
 
 -- Rows that are read back of tables that stand while they are open.
 module _ (old : State) (W : Who) (L : List Entry) (who : Who) (partner : IsTrue (is_partner who)) (live : IsLive old) (stands : StandsWhileOpen old W L) (text : List ℕ) (told : text ≡ who_text who) (rows : List Row) where

@@ -1,267 +1,148 @@
 -- What each statement leads to, as a change of the definitions' tables.
-use Rattle.std.proofs.Common.{◌≡◌, ◌≢◌, inl, inr, ℕ, pos, List, [], ◌∷◌, map, filter, not, codes, Bool, true, false, refl, sym, ap, subst, ◌∙◌}
-use Rattle.std.specs.Prelude.{nat_eq}
-use Rattle.std.proofs.Common.{arith}
+use Rattle.std.proofs.Common.{◌≡◌, ◌≢◌, inl, inr, ℕ, pos, List, [], ◌∷◌, map, filter, not, codes, Bool, true, false, refl, sym, ap, subst, ◌∙◌, arith}
+use Rattle.std.specs.Prelude.{nat_eq, Option, if◌then◌else◌}
+use Rattle.std.proofs.lemmas.Bool.{cases_Bool}
 use Rattle.std.proofs.lemmas.Bool.Decides.{nat_tests}
-use Rattle.sqlite.specs.Tree.{put_row}
+use Rattle.sqlite.specs.Tree.{put_row, Trees}
 use Rattle.sqlite.specs.Effect.{Database}
+use Rattle.sqlite.specs.Order.{Row}
+use Rattle.sqlite_rules.specs.Lists.{Has}
 use Rattle.sqlite.specs.declared.types.Value.TheVariants as value
-use Rattle.profile.specs.Tables.{TableRow}
+use Rattle.profile.specs.Tables.{TableRow, AllTables}
 use Rattle.profile.specs.Schema as schema
-use Rattle.profile.specs.Schema.{outgoing_schema, entry_schema, stock_schema, advice_schema, advice_line_schema, orders_schema, order_line_schema, reservation_schema}
-use Rattle.profile.specs.Changes.{changed_by, Puts, SetsState as Sets, Frees, with_state, is_reserved_for}
+use Rattle.profile.specs.Schema.{outgoing_schema, entry_schema}
+use Rattle.profile.specs.Changes.{Change, changed_by, Puts, SetsState as Sets, Frees, with_state, is_reserved_for}
 use Rattle.profile.specs.Rows.{state_text}
 use Rattle.books.specs.Held.{values, entry_values, Holds}
 use Rattle.books.specs.Leading.{Keeps}
-use Rattle.books.specs.Standing.{Filled, named, HasKey, IsOutgoing, IsEntry}
-use Rattle.books.specs.Steps.{WritesInto, PutByKey, TakenByKey, SetsState}
+use Rattle.books.specs.Standing.{BookTable, Outgoing, Stock, Advice, AdviceLine, Orders, OrderLine, Reservation, schema_of, name_of, tree_of, width_of}
+use Rattle.books.specs.Standing.{Filled, with_rows, named, HasKey, AreByKey, IsOutgoing, IsEntry}
+use Rattle.books.specs.Steps.{WritesInto, Spares, PutByKey, TakenByKey, SetsState}
 use Rattle.books.proofs.Beside.{still_lies}
 use Rattle.books.proofs.PutRows.{put_old}
 use Rattle.books.proofs.HoldsLemmas.{put_ordered, put_holds, freed_ordered, freed_holds, stated_each, stated_ordered, stated_holds, entry_put}
-use Rattle.std.specs.Prelude.{Option}
+
+same_number : (n : ℕ) → nat_eq n n ≡ true
+same_number n = grind (arith, nat_tests)
 
 pub apart : (m n : ℕ) → nat_eq m n ≡ false → m ≢ n
 apart m n h e = let f : ◌≡◌ {A = Bool} true false = sym (same_number n) ∙ subst (λ (x : ℕ). nat_eq x n ≡ false) e h in cc
-  where
-    same_number : (n : ℕ) → nat_eq n n ≡ true
-    same_number n = grind (arith, nat_tests)
 
-pub leads_stock : (row : TableRow) (f : Filled) (old new : Database) → HasKey stock_schema 3 row → Keeps f old → WritesInto 6 (PutByKey 3 (values row)) old new
-    → (g : Filled) × (changed_by (named f) (Puts (codes "stock") row ∷ []) ≡ named g) × Keeps g new
-leads_stock row f old new has k did =
-    let g : Filled = record f { stock = schema.put_row stock_schema row f.stock } in (
-      g,
-      refl,
-      record {
-        schema = still_lies old.schema new.schema did.schema k.schema;
-        sound = did.sound;
-        rows = record {
-          book = did.others.0 (apart 0 6 refl) ∙ k.rows.book;
-          entry = did.others.1.0 (apart 1 6 refl) ∙ k.rows.entry;
-          outgoing = subst (Holds f.outgoing) (sym (did.others.1.1.0 (apart 4 6 refl))) k.rows.outgoing;
-          stock = put_holds stock_schema 3 row f.stock k.ordered.stock has (old.trees 6) (new.trees 6) k.rows.stock did.rows;
-          advice = subst (Holds f.advice) (sym (did.others.1.1.1.1.0 (apart 8 6 refl))) k.rows.advice;
-          advice_line = subst (Holds f.advice_line) (sym (did.others.1.1.1.1.1.0 (apart 10 6 refl))) k.rows.advice_line;
-          orders = subst (Holds f.orders) (sym (did.others.1.1.1.1.1.1.0 (apart 12 6 refl))) k.rows.orders;
-          order_line = subst (Holds f.order_line) (sym (did.others.1.1.1.1.1.1.1.0 (apart 14 6 refl))) k.rows.order_line;
-          reservation = subst (Holds f.reservation) (sym (did.others.1.1.1.1.1.1.1.1.0 (apart 16 6 refl))) k.rows.reservation;
-        };
-        ordered = record {
-          entry = k.ordered.entry;
-          each_outgoing = k.ordered.each_outgoing;
-          outgoing = k.ordered.outgoing;
-          stock = put_ordered stock_schema 3 row f.stock k.ordered.stock has;
-          advice = k.ordered.advice;
-          advice_line = k.ordered.advice_line;
-          orders = k.ordered.orders;
-          order_line = k.ordered.order_line;
-          reservation = k.ordered.reservation;
-        };
-      },
-    )
+are_one : (m n : ℕ) → nat_eq m n ≡ true → m ≡ n
+are_one m n h = grind (arith, nat_tests, h)
 
-pub leads_advice : (row : TableRow) (f : Filled) (old new : Database) → HasKey advice_schema 2 row → Keeps f old → WritesInto 8 (PutByKey 2 (values row)) old new
-    → (g : Filled) × (changed_by (named f) (Puts (codes "advice") row ∷ []) ≡ named g) × Keeps g new
-leads_advice row f old new has k did =
-    let g : Filled = record f { advice = schema.put_row advice_schema row f.advice } in (
-      g,
-      refl,
-      record {
-        schema = still_lies old.schema new.schema did.schema k.schema;
-        sound = did.sound;
-        rows = record {
-          book = did.others.0 (apart 0 8 refl) ∙ k.rows.book;
-          entry = did.others.1.0 (apart 1 8 refl) ∙ k.rows.entry;
-          outgoing = subst (Holds f.outgoing) (sym (did.others.1.1.0 (apart 4 8 refl))) k.rows.outgoing;
-          stock = subst (Holds f.stock) (sym (did.others.1.1.1.0 (apart 6 8 refl))) k.rows.stock;
-          advice = put_holds advice_schema 2 row f.advice k.ordered.advice has (old.trees 8) (new.trees 8) k.rows.advice did.rows;
-          advice_line = subst (Holds f.advice_line) (sym (did.others.1.1.1.1.1.0 (apart 10 8 refl))) k.rows.advice_line;
-          orders = subst (Holds f.orders) (sym (did.others.1.1.1.1.1.1.0 (apart 12 8 refl))) k.rows.orders;
-          order_line = subst (Holds f.order_line) (sym (did.others.1.1.1.1.1.1.1.0 (apart 14 8 refl))) k.rows.order_line;
-          reservation = subst (Holds f.reservation) (sym (did.others.1.1.1.1.1.1.1.1.0 (apart 16 8 refl))) k.rows.reservation;
-        };
-        ordered = record {
-          entry = k.ordered.entry;
-          each_outgoing = k.ordered.each_outgoing;
-          outgoing = k.ordered.outgoing;
-          stock = k.ordered.stock;
-          advice = put_ordered advice_schema 2 row f.advice k.ordered.advice has;
-          advice_line = k.ordered.advice_line;
-          orders = k.ordered.orders;
-          order_line = k.ordered.order_line;
-          reservation = k.ordered.reservation;
-        };
-      },
-    )
+-- a statement on one table leaves each other one as it was
+spared : (t : BookTable) (tree : ℕ) (old new : Database) → Spares tree old new → tree_of t ≢ tree → new.trees (tree_of t) ≡ old.trees (tree_of t)
+spared Outgoing tree old new others other = others.1.1.0 other
+spared Stock tree old new others other = others.1.1.1.0 other
+spared Advice tree old new others other = others.1.1.1.1.0 other
+spared AdviceLine tree old new others other = others.1.1.1.1.1.0 other
+spared Orders tree old new others other = others.1.1.1.1.1.1.0 other
+spared OrderLine tree old new others other = others.1.1.1.1.1.1.1.0 other
+spared Reservation tree old new others other = others.1.1.1.1.1.1.1.1.0 other
 
-pub leads_advice_line : (row : TableRow) (f : Filled) (old new : Database) → HasKey advice_line_schema 3 row → Keeps f old → WritesInto 10 (PutByKey 3 (values row)) old new
-    → (g : Filled) × (changed_by (named f) (Puts (codes "advice_line") row ∷ []) ≡ named g) × Keeps g new
-leads_advice_line row f old new has k did =
-    let g : Filled = record f { advice_line = schema.put_row advice_line_schema row f.advice_line } in (
-      g,
-      refl,
-      record {
-        schema = still_lies old.schema new.schema did.schema k.schema;
-        sound = did.sound;
-        rows = record {
-          book = did.others.0 (apart 0 10 refl) ∙ k.rows.book;
-          entry = did.others.1.0 (apart 1 10 refl) ∙ k.rows.entry;
-          outgoing = subst (Holds f.outgoing) (sym (did.others.1.1.0 (apart 4 10 refl))) k.rows.outgoing;
-          stock = subst (Holds f.stock) (sym (did.others.1.1.1.0 (apart 6 10 refl))) k.rows.stock;
-          advice = subst (Holds f.advice) (sym (did.others.1.1.1.1.0 (apart 8 10 refl))) k.rows.advice;
-          advice_line = put_holds advice_line_schema 3 row f.advice_line k.ordered.advice_line has (old.trees 10) (new.trees 10) k.rows.advice_line did.rows;
-          orders = subst (Holds f.orders) (sym (did.others.1.1.1.1.1.1.0 (apart 12 10 refl))) k.rows.orders;
-          order_line = subst (Holds f.order_line) (sym (did.others.1.1.1.1.1.1.1.0 (apart 14 10 refl))) k.rows.order_line;
-          reservation = subst (Holds f.reservation) (sym (did.others.1.1.1.1.1.1.1.1.0 (apart 16 10 refl))) k.rows.reservation;
-        };
-        ordered = record {
-          entry = k.ordered.entry;
-          each_outgoing = k.ordered.each_outgoing;
-          outgoing = k.ordered.outgoing;
-          stock = k.ordered.stock;
-          advice = k.ordered.advice;
-          advice_line = put_ordered advice_line_schema 3 row f.advice_line k.ordered.advice_line has;
-          orders = k.ordered.orders;
-          order_line = k.ordered.order_line;
-          reservation = k.ordered.reservation;
-        };
-      },
-    )
+-- the table with a tree
+abbrev table_at : ℕ → BookTable
+table_at n =
+    if nat_eq n 4 then Outgoing else (if nat_eq n 6 then Stock else (if nat_eq n 8 then Advice else (if nat_eq n 10 then AdviceLine else
+    (if nat_eq n 12 then Orders else (if nat_eq n 14 then OrderLine else Reservation)))))
 
-pub leads_orders : (row : TableRow) (f : Filled) (old new : Database) → HasKey orders_schema 2 row → Keeps f old → WritesInto 12 (PutByKey 2 (values row)) old new
-    → (g : Filled) × (changed_by (named f) (Puts (codes "orders") row ∷ []) ≡ named g) × Keeps g new
-leads_orders row f old new has k did =
-    let g : Filled = record f { orders = schema.put_row orders_schema row f.orders } in (
-      g,
-      refl,
-      record {
-        schema = still_lies old.schema new.schema did.schema k.schema;
-        sound = did.sound;
-        rows = record {
-          book = did.others.0 (apart 0 12 refl) ∙ k.rows.book;
-          entry = did.others.1.0 (apart 1 12 refl) ∙ k.rows.entry;
-          outgoing = subst (Holds f.outgoing) (sym (did.others.1.1.0 (apart 4 12 refl))) k.rows.outgoing;
-          stock = subst (Holds f.stock) (sym (did.others.1.1.1.0 (apart 6 12 refl))) k.rows.stock;
-          advice = subst (Holds f.advice) (sym (did.others.1.1.1.1.0 (apart 8 12 refl))) k.rows.advice;
-          advice_line = subst (Holds f.advice_line) (sym (did.others.1.1.1.1.1.0 (apart 10 12 refl))) k.rows.advice_line;
-          orders = put_holds orders_schema 2 row f.orders k.ordered.orders has (old.trees 12) (new.trees 12) k.rows.orders did.rows;
-          order_line = subst (Holds f.order_line) (sym (did.others.1.1.1.1.1.1.1.0 (apart 14 12 refl))) k.rows.order_line;
-          reservation = subst (Holds f.reservation) (sym (did.others.1.1.1.1.1.1.1.1.0 (apart 16 12 refl))) k.rows.reservation;
-        };
-        ordered = record {
-          entry = k.ordered.entry;
-          each_outgoing = k.ordered.each_outgoing;
-          outgoing = k.ordered.outgoing;
-          stock = k.ordered.stock;
-          advice = k.ordered.advice;
-          advice_line = k.ordered.advice_line;
-          orders = put_ordered orders_schema 2 row f.orders k.ordered.orders has;
-          order_line = k.ordered.order_line;
-          reservation = k.ordered.reservation;
-        };
-      },
-    )
+is_at : (t : BookTable) → table_at (tree_of t) ≡ t
+is_at Outgoing = refl
+is_at Stock = refl
+is_at Advice = refl
+is_at AdviceLine = refl
+is_at Orders = refl
+is_at OrderLine = refl
+is_at Reservation = refl
 
-pub leads_order_line : (row : TableRow) (f : Filled) (old new : Database) → HasKey order_line_schema 3 row → Keeps f old → WritesInto 14 (PutByKey 3 (values row)) old new
-    → (g : Filled) × (changed_by (named f) (Puts (codes "order_line") row ∷ []) ≡ named g) × Keeps g new
-leads_order_line row f old new has k did =
-    let g : Filled = record f { order_line = schema.put_row order_line_schema row f.order_line } in (
-      g,
-      refl,
-      record {
-        schema = still_lies old.schema new.schema did.schema k.schema;
-        sound = did.sound;
-        rows = record {
-          book = did.others.0 (apart 0 14 refl) ∙ k.rows.book;
-          entry = did.others.1.0 (apart 1 14 refl) ∙ k.rows.entry;
-          outgoing = subst (Holds f.outgoing) (sym (did.others.1.1.0 (apart 4 14 refl))) k.rows.outgoing;
-          stock = subst (Holds f.stock) (sym (did.others.1.1.1.0 (apart 6 14 refl))) k.rows.stock;
-          advice = subst (Holds f.advice) (sym (did.others.1.1.1.1.0 (apart 8 14 refl))) k.rows.advice;
-          advice_line = subst (Holds f.advice_line) (sym (did.others.1.1.1.1.1.0 (apart 10 14 refl))) k.rows.advice_line;
-          orders = subst (Holds f.orders) (sym (did.others.1.1.1.1.1.1.0 (apart 12 14 refl))) k.rows.orders;
-          order_line = put_holds order_line_schema 3 row f.order_line k.ordered.order_line has (old.trees 14) (new.trees 14) k.rows.order_line did.rows;
-          reservation = subst (Holds f.reservation) (sym (did.others.1.1.1.1.1.1.1.1.0 (apart 16 14 refl))) k.rows.reservation;
-        };
-        ordered = record {
-          entry = k.ordered.entry;
-          each_outgoing = k.ordered.each_outgoing;
-          outgoing = k.ordered.outgoing;
-          stock = k.ordered.stock;
-          advice = k.ordered.advice;
-          advice_line = k.ordered.advice_line;
-          orders = k.ordered.orders;
-          order_line = put_ordered order_line_schema 3 row f.order_line k.ordered.order_line has;
-          reservation = k.ordered.reservation;
-        };
-      },
-    )
+one_tree : (t u : BookTable) → tree_of t ≡ tree_of u → t ≡ u
+one_tree t u e = sym (is_at t) ∙ ap table_at e ∙ is_at u
 
-pub leads_reservation : (row : TableRow) (f : Filled) (old new : Database) → HasKey reservation_schema 4 row → Keeps f old → WritesInto 16 (PutByKey 4 (values row)) old new
-    → (g : Filled) × (changed_by (named f) (Puts (codes "reservation") row ∷ []) ≡ named g) × Keeps g new
-leads_reservation row f old new has k did =
-    let g : Filled = record f { reservation = schema.put_row reservation_schema row f.reservation } in (
-      g,
-      refl,
-      record {
-        schema = still_lies old.schema new.schema did.schema k.schema;
-        sound = did.sound;
-        rows = record {
-          book = did.others.0 (apart 0 16 refl) ∙ k.rows.book;
-          entry = did.others.1.0 (apart 1 16 refl) ∙ k.rows.entry;
-          outgoing = subst (Holds f.outgoing) (sym (did.others.1.1.0 (apart 4 16 refl))) k.rows.outgoing;
-          stock = subst (Holds f.stock) (sym (did.others.1.1.1.0 (apart 6 16 refl))) k.rows.stock;
-          advice = subst (Holds f.advice) (sym (did.others.1.1.1.1.0 (apart 8 16 refl))) k.rows.advice;
-          advice_line = subst (Holds f.advice_line) (sym (did.others.1.1.1.1.1.0 (apart 10 16 refl))) k.rows.advice_line;
-          orders = subst (Holds f.orders) (sym (did.others.1.1.1.1.1.1.0 (apart 12 16 refl))) k.rows.orders;
-          order_line = subst (Holds f.order_line) (sym (did.others.1.1.1.1.1.1.1.0 (apart 14 16 refl))) k.rows.order_line;
-          reservation = put_holds reservation_schema 4 row f.reservation k.ordered.reservation has (old.trees 16) (new.trees 16) k.rows.reservation did.rows;
-        };
-        ordered = record {
-          entry = k.ordered.entry;
-          each_outgoing = k.ordered.each_outgoing;
-          outgoing = k.ordered.outgoing;
-          stock = k.ordered.stock;
-          advice = k.ordered.advice;
-          advice_line = k.ordered.advice_line;
-          orders = k.ordered.orders;
-          order_line = k.ordered.order_line;
-          reservation = put_ordered reservation_schema 4 row f.reservation k.ordered.reservation has;
-        };
-      },
-    )
+not_book : (t : BookTable) → nat_eq 0 (tree_of t) ≡ false
+not_book Outgoing = refl
+not_book Stock = refl
+not_book Advice = refl
+not_book AdviceLine = refl
+not_book Orders = refl
+not_book OrderLine = refl
+not_book Reservation = refl
 
-pub leads_outgoing : (row : TableRow) (f : Filled) (old new : Database) → HasKey outgoing_schema 2 row → IsOutgoing row → Keeps f old → WritesInto 4 (PutByKey 2 (values row)) old new
-    → (g : Filled) × (changed_by (named f) (Puts (codes "outgoing") row ∷ []) ≡ named g) × Keeps g new
-leads_outgoing row f old new has is k did =
-    let g : Filled = record f { outgoing = schema.put_row outgoing_schema row f.outgoing } in (
-      g,
-      refl,
-      record {
-        schema = still_lies old.schema new.schema did.schema k.schema;
-        sound = did.sound;
-        rows = record {
-          book = did.others.0 (apart 0 4 refl) ∙ k.rows.book;
-          entry = did.others.1.0 (apart 1 4 refl) ∙ k.rows.entry;
-          outgoing = put_holds outgoing_schema 2 row f.outgoing k.ordered.outgoing has (old.trees 4) (new.trees 4) k.rows.outgoing did.rows;
-          stock = subst (Holds f.stock) (sym (did.others.1.1.1.0 (apart 6 4 refl))) k.rows.stock;
-          advice = subst (Holds f.advice) (sym (did.others.1.1.1.1.0 (apart 8 4 refl))) k.rows.advice;
-          advice_line = subst (Holds f.advice_line) (sym (did.others.1.1.1.1.1.0 (apart 10 4 refl))) k.rows.advice_line;
-          orders = subst (Holds f.orders) (sym (did.others.1.1.1.1.1.1.0 (apart 12 4 refl))) k.rows.orders;
-          order_line = subst (Holds f.order_line) (sym (did.others.1.1.1.1.1.1.1.0 (apart 14 4 refl))) k.rows.order_line;
-          reservation = subst (Holds f.reservation) (sym (did.others.1.1.1.1.1.1.1.1.0 (apart 16 4 refl))) k.rows.reservation;
-        };
-        ordered = record {
-          entry = k.ordered.entry;
-          each_outgoing = λ r there. elim (put_old outgoing_schema row f.outgoing r there) [ inl new ↦ subst IsOutgoing (sym new) is | inr old ↦ k.ordered.each_outgoing r old ];
-          outgoing = put_ordered outgoing_schema 2 row f.outgoing k.ordered.outgoing has;
-          stock = k.ordered.stock;
-          advice = k.ordered.advice;
-          advice_line = k.ordered.advice_line;
-          orders = k.ordered.orders;
-          order_line = k.ordered.order_line;
-          reservation = k.ordered.reservation;
-        };
-      },
+not_entry : (t : BookTable) → nat_eq 1 (tree_of t) ≡ false
+not_entry Outgoing = refl
+not_entry Stock = refl
+not_entry Advice = refl
+not_entry AdviceLine = refl
+not_entry Orders = refl
+not_entry OrderLine = refl
+not_entry Reservation = refl
+
+-- what holds of a table's new rows and of the others' old ones holds of all
+each_table : (P : BookTable → List TableRow → Type 0) (t : BookTable) (rows : List TableRow) (f : Filled) → P t rows
+    → ((u : BookTable) → nat_eq (tree_of t) (tree_of u) ≡ false → P u (f.keyed u)) → (u : BookTable) → P u (if nat_eq (tree_of t) (tree_of u) then rows else f.keyed u)
+each_table P t rows f here others u = elim (cases_Bool (nat_eq (tree_of t) (tree_of u))) [
+  | inl same ↦ rw same (subst (λ v. P v rows) (one_tree t u (are_one (tree_of t) (tree_of u) same)) here)
+  | inr other ↦ rw other (others u other)
+]
+
+other_way : (m n : ℕ) → nat_eq m n ≡ false → n ≢ m
+other_way m n h e = apart m n h (sym e)
+
+-- the rows of one table are replaced
+module _ (t : BookTable) (rows : List TableRow) (Rows : List Row → List Row → Type 0) (f : Filled) (old new : Database) (k : Keeps f old) (did : WritesInto (tree_of t) Rows old new) where
+  pub keeps_with : Holds rows (new.trees (tree_of t)) → AreByKey (schema_of t) (width_of t) rows
+      → ((row : TableRow) → Has (let g = with_rows t rows f in g.keyed Outgoing) row → IsOutgoing row) → Keeps (with_rows t rows f) new
+  keeps_with held sorted outgoing = record {
+    schema = still_lies old.schema new.schema did.schema k.schema;
+    sound = did.sound;
+    rows = record {
+      book = did.others.0 (apart 0 (tree_of t) (not_book t)) ∙ k.rows.book;
+      entry = did.others.1.0 (apart 1 (tree_of t) (not_entry t)) ∙ k.rows.entry;
+      keyed = each_table (λ u us. Holds us (new.trees (tree_of u))) t rows f held
+          (λ u other. subst (Holds (f.keyed u)) (sym (spared u (tree_of t) old new did.others (other_way (tree_of t) (tree_of u) other))) (k.rows.keyed u));
+    };
+    ordered = record {
+      entry = k.ordered.entry;
+      outgoing = outgoing;
+      keyed = each_table (λ u us. AreByKey (schema_of u) (width_of u) us) t rows f sorted (λ u other. k.ordered.keyed u);
+    };
+  }
+
+-- a row is put into a table
+put_named : (t : BookTable) (row : TableRow) (f : Filled) → changed_by (named f) (Puts (name_of t) row ∷ []) ≡ named (with_rows t (schema.put_row (schema_of t) row (f.keyed t)) f)
+put_named Outgoing row f = refl
+put_named Stock row f = refl
+put_named Advice row f = refl
+put_named AdviceLine row f = refl
+put_named Orders row f = refl
+put_named OrderLine row f = refl
+put_named Reservation row f = refl
+
+-- an outgoing row is one
+abbrev pub IsRowOf : BookTable → TableRow → Type 0
+IsRowOf Outgoing row = IsOutgoing row
+IsRowOf t row = Unit {0}
+
+put_outgoing : (t : BookTable) (row : TableRow) (f : Filled) → IsRowOf t row → ((r : TableRow) → Has (f.keyed Outgoing) r → IsOutgoing r)
+    → (r : TableRow) → Has (let g = with_rows t (schema.put_row (schema_of t) row (f.keyed t)) f in g.keyed Outgoing) r → IsOutgoing r
+put_outgoing Outgoing row f is were r there = elim (put_old outgoing_schema row (f.keyed Outgoing) r there) [ inl new ↦ subst IsOutgoing (sym new) is | inr old ↦ were r old ]
+put_outgoing Stock row f is were r there = were r there
+put_outgoing Advice row f is were r there = were r there
+put_outgoing AdviceLine row f is were r there = were r there
+put_outgoing Orders row f is were r there = were r there
+put_outgoing OrderLine row f is were r there = were r there
+put_outgoing Reservation row f is were r there = were r there
+
+pub leads_put : (t : BookTable) (row : TableRow) (f : Filled) (old new : Database) → HasKey (schema_of t) (width_of t) row → IsRowOf t row → Keeps f old
+    → WritesInto (tree_of t) (PutByKey (width_of t) (values row)) old new → (g : Filled) × (changed_by (named f) (Puts (name_of t) row ∷ []) ≡ named g) × Keeps g new
+leads_put t row f old new has is k did =
+    let rows = f.keyed t in
+    let sorted = k.ordered.keyed t in (
+      with_rows t (schema.put_row (schema_of t) row rows) f,
+      put_named t row f,
+      keeps_with t (schema.put_row (schema_of t) row rows) (PutByKey (width_of t) (values row)) f old new k did
+      (put_holds (schema_of t) (width_of t) row rows sorted has (old.trees (tree_of t)) (new.trees (tree_of t)) (k.rows.keyed t) did.rows)
+      (put_ordered (schema_of t) (width_of t) row rows sorted has) (put_outgoing t row f is k.ordered.outgoing),
     )
 
 pub leads_entry : (row : TableRow) (f : Filled) (old new : Database) → IsEntry row → Keeps f old → WritesInto 1 (λ before after. after ≡ put_row (entry_values row) before) old new
@@ -276,24 +157,12 @@ leads_entry row f old new is k did =
         rows = record {
           book = did.others.0 (apart 0 1 refl) ∙ k.rows.book;
           entry = did.rows ∙ ap (put_row (entry_values row)) k.rows.entry ∙ sym (entry_put row f.entry is k.ordered.entry);
-          outgoing = subst (Holds f.outgoing) (sym (did.others.1.1.0 (apart 4 1 refl))) k.rows.outgoing;
-          stock = subst (Holds f.stock) (sym (did.others.1.1.1.0 (apart 6 1 refl))) k.rows.stock;
-          advice = subst (Holds f.advice) (sym (did.others.1.1.1.1.0 (apart 8 1 refl))) k.rows.advice;
-          advice_line = subst (Holds f.advice_line) (sym (did.others.1.1.1.1.1.0 (apart 10 1 refl))) k.rows.advice_line;
-          orders = subst (Holds f.orders) (sym (did.others.1.1.1.1.1.1.0 (apart 12 1 refl))) k.rows.orders;
-          order_line = subst (Holds f.order_line) (sym (did.others.1.1.1.1.1.1.1.0 (apart 14 1 refl))) k.rows.order_line;
-          reservation = subst (Holds f.reservation) (sym (did.others.1.1.1.1.1.1.1.1.0 (apart 16 1 refl))) k.rows.reservation;
+          keyed = λ u. subst (Holds (f.keyed u)) (sym (spared u 1 old new did.others (other_way 1 (tree_of u) (not_entry u)))) (k.rows.keyed u);
         };
         ordered = record {
           entry = λ r there. elim (put_old entry_schema row f.entry r there) [ inl new ↦ subst IsEntry (sym new) is | inr old ↦ k.ordered.entry r old ];
-          each_outgoing = k.ordered.each_outgoing;
           outgoing = k.ordered.outgoing;
-          stock = k.ordered.stock;
-          advice = k.ordered.advice;
-          advice_line = k.ordered.advice_line;
-          orders = k.ordered.orders;
-          order_line = k.ordered.order_line;
-          reservation = k.ordered.reservation;
+          keyed = k.ordered.keyed;
         };
       },
     )
@@ -301,67 +170,23 @@ leads_entry row f old new is k did =
 pub leads_state : (who : List ℕ) (n : ℕ) (said : Option Bool) (f : Filled) (old new : Database) → Keeps f old → WritesInto 4 (SetsState who (pos n) (state_text said)) old new
     → (g : Filled) × (changed_by (named f) (Sets who n said ∷ []) ≡ named g) × Keeps g new
 leads_state who n said f old new k did =
-    let g : Filled = record f { outgoing = map (with_state who n (state_text said)) f.outgoing } in (
-      g,
+    let rows = f.keyed Outgoing in
+    let each = k.ordered.outgoing in
+    let sorted = k.ordered.keyed Outgoing in (
+      with_rows Outgoing (map (with_state who n (state_text said)) rows) f,
       refl,
-      record {
-        schema = still_lies old.schema new.schema did.schema k.schema;
-        sound = did.sound;
-        rows = record {
-          book = did.others.0 (apart 0 4 refl) ∙ k.rows.book;
-          entry = did.others.1.0 (apart 1 4 refl) ∙ k.rows.entry;
-          outgoing = stated_holds who n (state_text said) f.outgoing k.ordered.each_outgoing k.ordered.outgoing (old.trees 4) (new.trees 4) k.rows.outgoing did.rows;
-          stock = subst (Holds f.stock) (sym (did.others.1.1.1.0 (apart 6 4 refl))) k.rows.stock;
-          advice = subst (Holds f.advice) (sym (did.others.1.1.1.1.0 (apart 8 4 refl))) k.rows.advice;
-          advice_line = subst (Holds f.advice_line) (sym (did.others.1.1.1.1.1.0 (apart 10 4 refl))) k.rows.advice_line;
-          orders = subst (Holds f.orders) (sym (did.others.1.1.1.1.1.1.0 (apart 12 4 refl))) k.rows.orders;
-          order_line = subst (Holds f.order_line) (sym (did.others.1.1.1.1.1.1.1.0 (apart 14 4 refl))) k.rows.order_line;
-          reservation = subst (Holds f.reservation) (sym (did.others.1.1.1.1.1.1.1.1.0 (apart 16 4 refl))) k.rows.reservation;
-        };
-        ordered = record {
-          entry = k.ordered.entry;
-          each_outgoing = stated_each who n (state_text said) f.outgoing k.ordered.each_outgoing k.ordered.outgoing;
-          outgoing = stated_ordered who n (state_text said) f.outgoing k.ordered.each_outgoing k.ordered.outgoing;
-          stock = k.ordered.stock;
-          advice = k.ordered.advice;
-          advice_line = k.ordered.advice_line;
-          orders = k.ordered.orders;
-          order_line = k.ordered.order_line;
-          reservation = k.ordered.reservation;
-        };
-      },
+      keeps_with Outgoing (map (with_state who n (state_text said)) rows) (SetsState who (pos n) (state_text said)) f old new k did
+      (stated_holds who n (state_text said) rows each sorted (old.trees 4) (new.trees 4) (k.rows.keyed Outgoing) did.rows)
+      (stated_ordered who n (state_text said) rows each sorted) (stated_each who n (state_text said) rows each sorted),
     )
 
 pub leads_free : (who order : List ℕ) (f : Filled) (old new : Database) → Keeps f old → WritesInto 16 (TakenByKey 2 (value.Text who ∷ value.Text order ∷ [])) old new
     → (g : Filled) × (changed_by (named f) (Frees who order ∷ []) ≡ named g) × Keeps g new
 leads_free who order f old new k did =
-    let g : Filled = record f { reservation = filter (λ row. not (is_reserved_for who order row)) f.reservation } in (
-      g,
+    let rows = f.keyed Reservation in (
+      with_rows Reservation (filter (λ row. not (is_reserved_for who order row)) rows) f,
       refl,
-      record {
-        schema = still_lies old.schema new.schema did.schema k.schema;
-        sound = did.sound;
-        rows = record {
-          book = did.others.0 (apart 0 16 refl) ∙ k.rows.book;
-          entry = did.others.1.0 (apart 1 16 refl) ∙ k.rows.entry;
-          outgoing = subst (Holds f.outgoing) (sym (did.others.1.1.0 (apart 4 16 refl))) k.rows.outgoing;
-          stock = subst (Holds f.stock) (sym (did.others.1.1.1.0 (apart 6 16 refl))) k.rows.stock;
-          advice = subst (Holds f.advice) (sym (did.others.1.1.1.1.0 (apart 8 16 refl))) k.rows.advice;
-          advice_line = subst (Holds f.advice_line) (sym (did.others.1.1.1.1.1.0 (apart 10 16 refl))) k.rows.advice_line;
-          orders = subst (Holds f.orders) (sym (did.others.1.1.1.1.1.1.0 (apart 12 16 refl))) k.rows.orders;
-          order_line = subst (Holds f.order_line) (sym (did.others.1.1.1.1.1.1.1.0 (apart 14 16 refl))) k.rows.order_line;
-          reservation = freed_holds who order f.reservation (old.trees 16) (new.trees 16) k.rows.reservation did.rows;
-        };
-        ordered = record {
-          entry = k.ordered.entry;
-          each_outgoing = k.ordered.each_outgoing;
-          outgoing = k.ordered.outgoing;
-          stock = k.ordered.stock;
-          advice = k.ordered.advice;
-          advice_line = k.ordered.advice_line;
-          orders = k.ordered.orders;
-          order_line = k.ordered.order_line;
-          reservation = freed_ordered who order f.reservation k.ordered.reservation;
-        };
-      },
+      keeps_with Reservation (filter (λ row. not (is_reserved_for who order row)) rows) (TakenByKey 2 (value.Text who ∷ value.Text order ∷ [])) f old new k did
+      (freed_holds who order rows (old.trees 16) (new.trees 16) (k.rows.keyed Reservation) did.rows)
+      (freed_ordered who order rows (k.ordered.keyed Reservation)) k.ordered.outgoing,
     )

@@ -25,7 +25,8 @@ use Rattle.rules.proofs.Depositors.{depositors_rise}
 use Rattle.rules.proofs.Portions.{rest_in, map_prefixed}
 use Rattle.rules.proofs.SentRows.{next_snoc}
 use Rattle.rules.proofs.Tables.{last_cell, pairs_before}
-use Rattle.books.specs.Standing.{filled, AreOrdered, AreByKey, HasKey, IsOutgoing, IsEntry}
+use Rattle.books.specs.Standing as table
+use Rattle.books.specs.Standing.{BookTable, schema_of, width_of, rows_of, filled, AreOrdered, AreByKey, HasKey, IsOutgoing, IsEntry}
 use Rattle.books.proofs.Rising.{by_key, mapped_rise, numbers_rise, blocks_rise, cells_rise, has_flat, each_block, each_mapped}
 
 -- A table for each depositor.
@@ -218,18 +219,17 @@ reservation_ordered L = table_ordered reservation_schema 4 (λ t row. refl) L re
     each_mapped (IsKeyed reservation_schema 4) (λ (l : Line). Text at.0.number ∷ reserved_cells l) at.0.reserved (λ l t. record { key = refl; cells = refl }) r at.2)
 
 -- all tables of any register
+keyed_ordered : (W : Who) (L : List Entry) (t : BookTable) → AreByKey (schema_of t) (width_of t) (rows_of W L t)
+keyed_ordered W L table.Outgoing = outgoing_ordered W L
+keyed_ordered W L table.Stock = stock_ordered L
+keyed_ordered W L table.Advice = advice_ordered L
+keyed_ordered W L table.AdviceLine = advice_line_ordered L
+keyed_ordered W L table.Orders = orders_ordered L
+keyed_ordered W L table.OrderLine = order_line_ordered L
+keyed_ordered W L table.Reservation = reservation_ordered L
+
 pub all_ordered : (W : Who) (L : List Entry) → AreOrdered (filled W L)
-all_ordered W L = record {
-  entry = entries_are [] L;
-  each_outgoing = outgoing_are W L;
-  outgoing = outgoing_ordered W L;
-  stock = stock_ordered L;
-  advice = advice_ordered L;
-  advice_line = advice_line_ordered L;
-  orders = orders_ordered L;
-  order_line = order_line_ordered L;
-  reservation = reservation_ordered L;
-}
+all_ordered W L = record { entry = entries_are [] L; outgoing = outgoing_are W L; keyed = keyed_ordered W L }
 
 pub legal_ordered : (W : Who) (L : List Entry) → IsLegal W L → AreOrdered (filled W L)
 legal_ordered W L legal = all_ordered W L

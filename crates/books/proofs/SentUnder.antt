@@ -29,7 +29,7 @@ use Rattle.stock.proofs.KeyLemmas.{numbers_strict}
 use Rattle.books.specs.Asking.{Finds}
 use Rattle.books.specs.Contents.{IsContent}
 use Rattle.books.specs.Held.{values, Holds}
-use Rattle.books.specs.Standing.{Stands}
+use Rattle.books.specs.Standing.{Outgoing, Stands}
 use Rattle.books.proofs.Asked.{found}
 use Rattle.books.proofs.KeyLemmas.{text_itself, int_itself, same_int, same_text as equal_text}
 use Rattle.books.proofs.KnownTexts.{content_text, content_query, content_is, content_plain}
@@ -193,7 +193,7 @@ pub content_found : (W : Who) (L : List Entry) (who : Who) (n : ℕ) (db : Datab
 content_found W L who n db rows partner stands h before e behind split is =
     let read = found content_text (value.Text (who_text who) ∷ value.Int (pos n) ∷ []) db rows _ stands.schema content_plain content_is h in
     let held = stands.rows in
-    content_shown W L who stands.legal partner n db.trees held.outgoing rows (read.answer value.Null) before e behind split is
+    content_shown W L who stands.legal partner n db.trees (held.keyed Outgoing) rows (read.answer value.Null) before e behind split is
 
 -- whatever is under a number shows a content
 pub some_content : (W : Who) (L : List Entry) (who : Who) (n : ℕ) (db : Database) (rows : List Row) → is_partner who ≡ true → Stands W L db
@@ -201,7 +201,7 @@ pub some_content : (W : Who) (L : List Entry) (who : Who) (n : ℕ) (db : Databa
 some_content W L who n db rows partner stands h =
     let read = found content_text (value.Text (who_text who) ∷ value.Int (pos n) ∷ []) db rows _ stands.schema content_plain content_is h in
     let held = stands.rows in
-    by rows (of_row W L who stands.legal partner n db.trees held.outgoing rows (read.answer value.Null))
+    by rows (of_row W L who stands.legal partner n db.trees (held.keyed Outgoing) rows (read.answer value.Null))
   where
     by : (rs : List Row) → ((row : Row) → Has rs row → (m : OutRow) × Has (outgoing_rows W (own L who)) m × (m.n ≡ n) × (row ≡ value.Blob m.content ∷ [])) → (content : List ℕ) × IsContent rs content
     by [] each = ([], refl)

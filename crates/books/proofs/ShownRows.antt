@@ -28,7 +28,7 @@ use Rattle.stock.proofs.KeyLemmas.{numbers_strict}
 use Rattle.books.specs.Held.{Holds}
 use Rattle.books.specs.Layout.{Others, beside, stock_layout, outgoing_layout}
 use Rattle.books.specs.Showing.{stock_shown, out_shown}
-use Rattle.books.specs.Standing.{AreOrdered, filled}
+use Rattle.books.specs.Standing.{Stock, Outgoing, AreOrdered, filled}
 use Rattle.books.proofs.HoldsLemmas.{are_keyed}
 use Rattle.books.proofs.Ordered.{all_ordered, lots_rise, sent_rise}
 use Rattle.books.proofs.Parts.{stock_part, outgoing_part}
@@ -97,7 +97,7 @@ pub stock_rows_shown : (others : Others) (W : Who) (L : List Entry) (who : Who) 
 stock_rows_shown others W L who db rows legal partner sound held a =
     let ordered : AreOrdered (filled W L) = all_ordered W L in
     shown_rows pairs_in_order row_key stock_cells 6 3 stock_columns stock_order stock_out (who_text who) (stock_table L) (running_rows (events (own L who))) (stock_is W L who legal partner) db held
-    (only_row others stock_layout.name 6 3 stock_layout.checks stock_layout.columns db (inr (inr (inr (inl refl)))) sound (are_keyed stock_schema 3 (stock_table L) (db 6) ordered.stock held)) rows a
+    (only_row others stock_layout.name 6 3 stock_layout.checks stock_layout.columns db (inr (inr (inr (inl refl)))) sound (are_keyed stock_schema 3 (stock_table L) (db 6) (ordered.keyed Stock) held)) rows a
     ∙ sym (map_map shown_row stock_shown (running_rows (events (own L who))))
 
 -- What went out.
@@ -139,4 +139,4 @@ pub outgoing_rows_shown : (others : Others) (W : Who) (L : List Entry) (who : Wh
 outgoing_rows_shown others W L who db rows legal partner sound held a =
     let ordered : AreOrdered (filled W L) = all_ordered W L in
     shown_rows nat_lt (λ (r : OutRow). r.n) outgoing_cells 4 2 outbox_columns outbox_order out_out (who_text who) (outgoing_table W L) (outgoing_rows W (own L who)) (outgoing_is W L who legal partner) db held
-    (only_row others outgoing_layout.name 4 2 outgoing_layout.checks outgoing_layout.columns db (inr (inr (inl refl))) sound (are_keyed outgoing_schema 2 (outgoing_table W L) (db 4) ordered.outgoing held)) rows a
+    (only_row others outgoing_layout.name 4 2 outgoing_layout.checks outgoing_layout.columns db (inr (inr (inl refl))) sound (are_keyed outgoing_schema 2 (outgoing_table W L) (db 4) (ordered.keyed Outgoing) held)) rows a

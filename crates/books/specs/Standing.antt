@@ -1,69 +1,95 @@
 -- When a database stands for a register.
-use Rattle.std.specs.Prelude.{◌≡◌, ℕ, zero, suc, Bool, true, false, List, [], ◌∷◌, take, map, codes}
+use Rattle.std.specs.Prelude.{◌≡◌, ℕ, zero, suc, Bool, true, false, List, [], ◌∷◌, take, length, map, codes, nat_eq, if◌then◌else◌}
 use Rattle.sqlite.specs.Tree.{Trees}
 use Rattle.sqlite.specs.Schema as sqlite
 use Rattle.sqlite.specs.Effect.{Database}
+use Rattle.sqlite.specs.Table.{Table}
 use Rattle.sqlite_catalog.specs.Listing.{IsSound}
 use Rattle.sqlite_rules.specs.Lists.{Has}
 use Rattle.profile.specs.Header.{Who}
 use Rattle.profile.specs.Register.{Entry}
 use Rattle.profile.specs.Accepted.{IsLegal}
 use Rattle.profile.specs.Tables.{Null, Number, Text, Blob, TableRow, AllTables, book_table, entry_table, outgoing_table, stock_table, advice_table, advice_line_table, orders_table, order_line_table, reservation_table}
-use Rattle.profile.specs.Schema.{Schema, is_by_key, key_in, outgoing_schema, entry_schema, stock_schema, advice_schema, advice_line_schema, orders_schema, order_line_schema, reservation_schema}
-use Rattle.books.specs.Layout.{IsLayout}
+use Rattle.profile.specs.Schema.{Schema, is_by_key, key_in, entry_schema, outgoing_schema, stock_schema, advice_schema, advice_line_schema, orders_schema, order_line_schema, reservation_schema}
+use Rattle.books.specs.Layout.{IsLayout, outgoing_layout, stock_layout, advice_layout, advice_line_layout, orders_layout, order_line_layout, reservation_layout}
 use Rattle.books.specs.Held.{Holds, first_row, entry_values}
 
--- the rows of the nine tables
+-- The tables that are keyed by their first columns: all but `book`, which has no key, and `entry`, whose key is the rowid.
+pub data BookTable : Type 0 where
+  Outgoing : BookTable
+  Stock : BookTable
+  Advice : BookTable
+  AdviceLine : BookTable
+  Orders : BookTable
+  OrderLine : BookTable
+  Reservation : BookTable
+
+-- its columns and key, as the definitions have them
+abbrev pub schema_of : BookTable → Schema
+schema_of Outgoing = outgoing_schema
+schema_of Stock = stock_schema
+schema_of Advice = advice_schema
+schema_of AdviceLine = advice_line_schema
+schema_of Orders = orders_schema
+schema_of OrderLine = order_line_schema
+schema_of Reservation = reservation_schema
+
+-- how it is laid out in SQLite
+abbrev pub layout_of : BookTable → Table
+layout_of Outgoing = outgoing_layout
+layout_of Stock = stock_layout
+layout_of Advice = advice_layout
+layout_of AdviceLine = advice_line_layout
+layout_of Orders = orders_layout
+layout_of OrderLine = order_line_layout
+layout_of Reservation = reservation_layout
+
+-- its rows in a register
+abbrev pub rows_of : Who → List Entry → BookTable → List TableRow
+rows_of W L Outgoing = outgoing_table W L
+rows_of W L Stock = stock_table L
+rows_of W L Advice = advice_table L
+rows_of W L AdviceLine = advice_line_table L
+rows_of W L Orders = orders_table L
+rows_of W L OrderLine = order_line_table L
+rows_of W L Reservation = reservation_table L
+
+-- its name, the number of its tree, and how many columns its key has
+abbrev pub name_of : BookTable → List ℕ
+name_of t = (schema_of t).name
+
+abbrev pub tree_of : BookTable → ℕ
+tree_of t = (layout_of t).tree
+
+abbrev pub width_of : BookTable → ℕ
+width_of t = length (schema_of t).key
+
+-- the rows of all tables
 pub record Filled : Type 0 where
   pub book : List TableRow
   pub entry : List TableRow
-  pub outgoing : List TableRow
-  pub stock : List TableRow
-  pub advice : List TableRow
-  pub advice_line : List TableRow
-  pub orders : List TableRow
-  pub order_line : List TableRow
-  pub reservation : List TableRow
+  pub keyed : BookTable → List TableRow
+
+-- with these rows in one table
+abbrev pub with_rows : BookTable → List TableRow → Filled → Filled
+with_rows t rows f = record f { keyed = λ u. if nat_eq (tree_of t) (tree_of u) then rows else f.keyed u }
+
+abbrev pub keyed_tables : List BookTable
+keyed_tables = Outgoing ∷ Stock ∷ Advice ∷ AdviceLine ∷ Orders ∷ OrderLine ∷ Reservation ∷ []
 
 -- by their names
 abbrev pub named : Filled → AllTables
-named f =
-    (codes "book", f.book)
-    ∷ (codes "entry", f.entry)
-    ∷ (codes "outgoing", f.outgoing)
-    ∷ (codes "stock", f.stock)
-    ∷ (codes "advice", f.advice)
-    ∷ (codes "advice_line", f.advice_line)
-    ∷ (codes "orders", f.orders)
-    ∷ (codes "order_line", f.order_line)
-    ∷ (codes "reservation", f.reservation)
-    ∷ []
+named f = (codes "book", f.book) ∷ (codes "entry", f.entry) ∷ map (λ t. (name_of t, f.keyed t)) keyed_tables
 
 -- those of a register
 abbrev pub filled : Who → List Entry → Filled
-filled W L = record {
-  book = book_table W;
-  entry = entry_table L;
-  outgoing = outgoing_table W L;
-  stock = stock_table L;
-  advice = advice_table L;
-  advice_line = advice_line_table L;
-  orders = orders_table L;
-  order_line = order_line_table L;
-  reservation = reservation_table L;
-}
+filled W L = record { book = book_table W; entry = entry_table L; keyed = rows_of W L }
 
 -- the trees of the book's tables hold these rows: `book` and `entry` as lists, each keyed table as a set
 pub record AreHeld (f : Filled) (db : Trees) : Type 0 where
   pub book : db 0 ≡ map first_row f.book
   pub entry : db 1 ≡ map entry_values f.entry
-  pub outgoing : Holds f.outgoing (db 4)
-  pub stock : Holds f.stock (db 6)
-  pub advice : Holds f.advice (db 8)
-  pub advice_line : Holds f.advice_line (db 10)
-  pub orders : Holds f.orders (db 12)
-  pub order_line : Holds f.order_line (db 14)
-  pub reservation : Holds f.reservation (db 16)
+  pub keyed : (t : BookTable) → Holds (f.keyed t) (db (tree_of t))
 
 -- the register is legal, and the schema begins with the book's nine tables, which hold the rows that the warehouse's register has
 pub record Stands (W : Who) (L : List Entry) (db : Database) : Type 0 where
@@ -106,11 +132,5 @@ IsEntry row = (seq : ℕ) × (cells : TableRow) × (row ≡ Number seq ∷ cells
 -- each table's rows are in the order of its keys
 pub record AreOrdered (f : Filled) : Type 0 where
   pub entry : (row : TableRow) → Has f.entry row → IsEntry row
-  pub each_outgoing : (row : TableRow) → Has f.outgoing row → IsOutgoing row
-  pub outgoing : AreByKey outgoing_schema 2 f.outgoing
-  pub stock : AreByKey stock_schema 3 f.stock
-  pub advice : AreByKey advice_schema 2 f.advice
-  pub advice_line : AreByKey advice_line_schema 3 f.advice_line
-  pub orders : AreByKey orders_schema 2 f.orders
-  pub order_line : AreByKey order_line_schema 3 f.order_line
-  pub reservation : AreByKey reservation_schema 4 f.reservation
+  pub outgoing : (row : TableRow) → Has (f.keyed Outgoing) row → IsOutgoing row
+  pub keyed : (t : BookTable) → AreByKey (schema_of t) (width_of t) (f.keyed t)
