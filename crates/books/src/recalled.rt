@@ -62,7 +62,7 @@ impl<S: Alter + Drop> Tables<S> {
         ensures counts { self.old.refused ≤ self.new.refused }
         ensures uncounted { OnOk result (self.new.refused ≡ self.old.refused) }
         ensures limit { NoMore self.old.limit self.new.limit }
-        ensures made { OnOk result (self.old.limit ≢ Some 0) }
+        ensures allowed { OnOk result (self.old.limit ≢ Some 0) }
     {
         let rows = self.ask(
             "SELECT mark, n, moment, body FROM entry WHERE who = ?1 AND mark = ?2 ORDER BY seq",
@@ -98,7 +98,7 @@ impl<S: Alter + Drop> Tables<S> {
         ensures counts { self.old.refused ≤ self.new.refused }
         ensures uncounted { OnOk result (self.new.refused ≡ self.old.refused) }
         ensures limit { NoMore self.old.limit self.new.limit }
-        ensures made { OnOk result (self.old.limit ≢ Some 0) }
+        ensures allowed { OnOk result (self.old.limit ≢ Some 0) }
     {
         let rows = self.ask(
             "SELECT content FROM outgoing WHERE who = ?1 AND n = ?2",
@@ -129,7 +129,7 @@ impl<S: Alter + Drop> Tables<S> {
         ensures counts { self.old.refused ≤ self.new.refused }
         ensures uncounted { OnOk result (self.new.refused ≡ self.old.refused) }
         ensures limit { NoMore self.old.limit self.new.limit }
-        ensures made { OnOk result (self.old.limit ≢ Some 0) }
+        ensures allowed { OnOk result (self.old.limit ≢ Some 0) }
     {
         let Some(entry) = self.entry_under(alloc, who, text, key)? else {
             return Ok(None);
