@@ -103,6 +103,7 @@ same_named f g h =
       where
         Same : BookTable → Type 0
         Same t = ◌≡◌ {A = List ℕ × List TableRow} (name_of t, f.keyed t) (name_of t, g.keyed t)
+
         by : (t : BookTable) → Same Outgoing → Same Stock → Same Advice → Same AdviceLine → Same Orders → Same OrderLine → Same Reservation → f.keyed t ≡ g.keyed t
         by Outgoing a b c d e i j = second _ _ _ a
         by Stock a b c d e i j = second _ _ _ b

@@ -3,15 +3,15 @@ use Rattle.std.proofs.Common.{◌≡◌, ◌≢◌, inl, inr, ℕ, pos, List, []
 use Rattle.std.specs.Prelude.{nat_eq, Option, if◌then◌else◌}
 use Rattle.std.proofs.lemmas.Bool.{cases_Bool}
 use Rattle.std.proofs.lemmas.Bool.Decides.{nat_tests}
-use Rattle.sqlite.specs.Tree.{put_row, Trees}
+use Rattle.sqlite.specs.Tree.{put_row}
 use Rattle.sqlite.specs.Effect.{Database}
 use Rattle.sqlite.specs.Order.{Row}
 use Rattle.sqlite_rules.specs.Lists.{Has}
 use Rattle.sqlite.specs.declared.types.Value.TheVariants as value
-use Rattle.profile.specs.Tables.{TableRow, AllTables}
+use Rattle.profile.specs.Tables.{TableRow}
 use Rattle.profile.specs.Schema as schema
 use Rattle.profile.specs.Schema.{outgoing_schema, entry_schema}
-use Rattle.profile.specs.Changes.{Change, changed_by, Puts, SetsState as Sets, Frees, with_state, is_reserved_for}
+use Rattle.profile.specs.Changes.{changed_by, Puts, SetsState as Sets, Frees, with_state, is_reserved_for}
 use Rattle.profile.specs.Rows.{state_text}
 use Rattle.books.specs.Held.{values, entry_values, Holds}
 use Rattle.books.specs.Leading.{Keeps}
@@ -141,8 +141,8 @@ leads_put t row f old new has is k did =
       with_rows t (schema.put_row (schema_of t) row rows) f,
       put_named t row f,
       keeps_with t (schema.put_row (schema_of t) row rows) (PutByKey (width_of t) (values row)) f old new k did
-      (put_holds (schema_of t) (width_of t) row rows sorted has (old.trees (tree_of t)) (new.trees (tree_of t)) (k.rows.keyed t) did.rows)
-      (put_ordered (schema_of t) (width_of t) row rows sorted has) (put_outgoing t row f is k.ordered.outgoing),
+          (put_holds (schema_of t) (width_of t) row rows sorted has (old.trees (tree_of t)) (new.trees (tree_of t)) (k.rows.keyed t) did.rows)
+          (put_ordered (schema_of t) (width_of t) row rows sorted has) (put_outgoing t row f is k.ordered.outgoing),
     )
 
 pub leads_entry : (row : TableRow) (f : Filled) (old new : Database) → IsEntry row → Keeps f old → WritesInto 1 (λ before after. after ≡ put_row (entry_values row) before) old new
@@ -176,8 +176,8 @@ leads_state who n said f old new k did =
       with_rows Outgoing (map (with_state who n (state_text said)) rows) f,
       refl,
       keeps_with Outgoing (map (with_state who n (state_text said)) rows) (SetsState who (pos n) (state_text said)) f old new k did
-      (stated_holds who n (state_text said) rows each sorted (old.trees 4) (new.trees 4) (k.rows.keyed Outgoing) did.rows)
-      (stated_ordered who n (state_text said) rows each sorted) (stated_each who n (state_text said) rows each sorted),
+          (stated_holds who n (state_text said) rows each sorted (old.trees 4) (new.trees 4) (k.rows.keyed Outgoing) did.rows)
+          (stated_ordered who n (state_text said) rows each sorted) (stated_each who n (state_text said) rows each sorted),
     )
 
 pub leads_free : (who order : List ℕ) (f : Filled) (old new : Database) → Keeps f old → WritesInto 16 (TakenByKey 2 (value.Text who ∷ value.Text order ∷ [])) old new
@@ -187,6 +187,6 @@ leads_free who order f old new k did =
       with_rows Reservation (filter (λ row. not (is_reserved_for who order row)) rows) f,
       refl,
       keeps_with Reservation (filter (λ row. not (is_reserved_for who order row)) rows) (TakenByKey 2 (value.Text who ∷ value.Text order ∷ [])) f old new k did
-      (freed_holds who order rows (old.trees 16) (new.trees 16) (k.rows.keyed Reservation) did.rows)
-      (freed_ordered who order rows (k.ordered.keyed Reservation)) k.ordered.outgoing,
+          (freed_holds who order rows (old.trees 16) (new.trees 16) (k.rows.keyed Reservation) did.rows)
+          (freed_ordered who order rows (k.ordered.keyed Reservation)) k.ordered.outgoing,
     )

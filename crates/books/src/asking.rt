@@ -24,10 +24,12 @@ impl<S: Alter + Drop> Tables<S> {
     /// A depositor's entries as they are written down, in their order. 43 where a row shows none.
     #[tactic(auto, using(crate::proofs::Limited::no_more_trans, crate::proofs::Limited::no_more_same))]
     pub(crate) fn own_entries(&mut self, alloc: Global, who: Who) -> Result<Vec<Entry>, Fault>
-        ensures entries { HasCleanDisk (state S.Store self.new.conn) → (W : Partner) (L : List register.Entry) → StandsWhileOpen (state S.Store self.old.conn) W L
+        ensures entries { HasCleanDisk (state S.Store self.new.conn) → (W : Partner) (L : List register.Entry)
+            → StandsWhileOpen (state S.Store self.old.conn) W L
             → IfOk result (λ entries. entries.items ≡ all_written (register.own L who)) }
         ensures asked { IsAsked (state S.Store self.old.conn) (state S.Store self.new.conn) }
-        ensures fault { IfErr result (λ f. IsAskFault f (state S.Store self.old.conn) (state S.Store self.new.conn) self.old.refused self.new.refused) }
+        ensures fault { IfErr result (λ f. IsAskFault f (state S.Store self.old.conn)
+            (state S.Store self.new.conn) self.old.refused self.new.refused) }
         ensures counts { self.old.refused ≤ self.new.refused }
         ensures uncounted { OnOk result (self.new.refused ≡ self.old.refused) }
         ensures limit { NoMore self.old.limit self.new.limit }
@@ -47,10 +49,16 @@ impl<S: Alter + Drop> Tables<S> {
     /// The warehouse of the book. 43 where `book` hasn't one row, or that row has no version that is read or no warehouse.
     #[tactic(auto, using(crate::proofs::Limited::no_more_trans, crate::proofs::Limited::no_more_same))]
     pub(crate) fn house(&mut self) -> Result<Warehouse, Fault>
-        ensures house { HasCleanDisk (state S.Store self.new.conn) → IfOk result (λ W. (rows : List Cells) × Finds house_text [] (state S.Store self.old.conn).now rows × IsHouse rows W) }
-        ensures none { HasCleanDisk (state S.Store self.new.conn) → IsErrOf result Fault.NotThisBook → (rows : List Cells) × Finds house_text [] (state S.Store self.old.conn).now rows × ((W : Partner) → IsHouse rows W → ⊥) }
-        ensures whose { HasCleanDisk (state S.Store self.new.conn) → (W : Partner) (L : List register.Entry) → StandsWhileOpen (state S.Store self.old.conn) W L → IfOk result (λ house. house ≡ W) }
-        ensures this { HasCleanDisk (state S.Store self.new.conn) → (W : Partner) (L : List register.Entry) → StandsWhileOpen (state S.Store self.old.conn) W L → IfErr result (λ f. f ≢ Fault.NotThisBook) }
+        ensures house { HasCleanDisk (state S.Store self.new.conn)
+            → IfOk result (λ W. (rows : List Cells) × Finds house_text [] (state S.Store self.old.conn).now rows
+            × IsHouse rows W) }
+        ensures none { HasCleanDisk (state S.Store self.new.conn) → IsErrOf result Fault.NotThisBook
+            → (rows : List Cells) × Finds house_text [] (state S.Store self.old.conn).now rows × ((W : Partner)
+            → IsHouse rows W → ⊥) }
+        ensures whose { HasCleanDisk (state S.Store self.new.conn) → (W : Partner) (L : List register.Entry)
+            → StandsWhileOpen (state S.Store self.old.conn) W L → IfOk result (λ house. house ≡ W) }
+        ensures this { HasCleanDisk (state S.Store self.new.conn) → (W : Partner) (L : List register.Entry)
+            → StandsWhileOpen (state S.Store self.old.conn) W L → IfErr result (λ f. f ≢ Fault.NotThisBook) }
         ensures asked { IsAsked (state S.Store self.old.conn) (state S.Store self.new.conn) }
         ensures named { IfErr result (λ f. (f ≡ Fault.NotThisBook) ⊎ ((f ≡ Fault.OutOfMemory) ⊎ (f ≡ Fault.Store))) }
         ensures counted { IfErr result (λ f. f ≢ Fault.NotThisBook → Rises self.old.refused self.new.refused) }
@@ -69,7 +77,8 @@ impl<S: Alter + Drop> Tables<S> {
     /// How many entries there are.
     #[tactic(auto, using(crate::proofs::Limited::no_more_trans, crate::proofs::Limited::no_more_same))]
     pub(crate) fn count(&mut self) -> Result<u64, Fault>
-        ensures count { HasCleanDisk (state S.Store self.new.conn) → (W : Partner) (L : List register.Entry) → StandsWhileOpen (state S.Store self.old.conn) W L → IfOk result (λ n. n ≡ length L) }
+        ensures count { HasCleanDisk (state S.Store self.new.conn) → (W : Partner) (L : List register.Entry)
+            → StandsWhileOpen (state S.Store self.old.conn) W L → IfOk result (λ n. n ≡ length L) }
         ensures asked { IsAsked (state S.Store self.old.conn) (state S.Store self.new.conn) }
         ensures named { IfErr result (λ f. (f ≡ Fault.OutOfMemory) ⊎ (f ≡ Fault.Store)) }
         ensures counted { OnErr result (Rises self.old.refused self.new.refused) }
@@ -84,10 +93,17 @@ impl<S: Alter + Drop> Tables<S> {
     /// The warehouse of the book, and how many entries there are.
     #[tactic(auto, using(crate::proofs::Limited::no_more_trans, crate::proofs::Limited::no_more_same))]
     pub(crate) fn found(&mut self) -> Result<(Warehouse, u64), Fault>
-        ensures house { HasCleanDisk (state S.Store self.new.conn) → IfOk result (λ found. (rows : List Cells) × Finds house_text [] (state S.Store self.old.conn).now rows × IsHouse rows found.0) }
-        ensures count { HasCleanDisk (state S.Store self.new.conn) → (W : Partner) (L : List register.Entry) → StandsWhileOpen (state S.Store self.old.conn) W L → IfOk result (λ found. (found.0 ≡ W) × (found.1 ≡ length L)) }
-        ensures none { HasCleanDisk (state S.Store self.new.conn) → IsErrOf result Fault.NotThisBook → (rows : List Cells) × Finds house_text [] (state S.Store self.old.conn).now rows × ((W : Partner) → IsHouse rows W → ⊥) }
-        ensures this { HasCleanDisk (state S.Store self.new.conn) → (W : Partner) (L : List register.Entry) → StandsWhileOpen (state S.Store self.old.conn) W L → IfErr result (λ f. f ≢ Fault.NotThisBook) }
+        ensures house { HasCleanDisk (state S.Store self.new.conn)
+            → IfOk result (λ found. (rows : List Cells) × Finds house_text [] (state S.Store self.old.conn).now rows
+            × IsHouse rows found.0) }
+        ensures count { HasCleanDisk (state S.Store self.new.conn) → (W : Partner) (L : List register.Entry)
+            → StandsWhileOpen (state S.Store self.old.conn) W L
+            → IfOk result (λ found. (found.0 ≡ W) × (found.1 ≡ length L)) }
+        ensures none { HasCleanDisk (state S.Store self.new.conn) → IsErrOf result Fault.NotThisBook
+            → (rows : List Cells) × Finds house_text [] (state S.Store self.old.conn).now rows × ((W : Partner)
+            → IsHouse rows W → ⊥) }
+        ensures this { HasCleanDisk (state S.Store self.new.conn) → (W : Partner) (L : List register.Entry)
+            → StandsWhileOpen (state S.Store self.old.conn) W L → IfErr result (λ f. f ≢ Fault.NotThisBook) }
         ensures asked { IsAsked (state S.Store self.old.conn) (state S.Store self.new.conn) }
         ensures named { IfErr result (λ f. (f ≡ Fault.NotThisBook) ⊎ ((f ≡ Fault.OutOfMemory) ⊎ (f ≡ Fault.Store))) }
         ensures counted { IfErr result (λ f. f ≢ Fault.NotThisBook → Rises self.old.refused self.new.refused) }

@@ -63,14 +63,20 @@ impl<S: Alter + Drop> Book<S> {
         mut tables: Tables<S>,
         warehouse: Warehouse,
     ) -> Result<Book<S>, (Fault, Tables<S>)>
-        ensures usable { IfOk result (λ b. HasCleanDisk (state S.Store b.tables.conn) → (state S.Store tables.conn).now.schema ≡ no_layout → IsUsable (standing_of S.Store b) []) }
+        ensures usable { IfOk result (λ b. HasCleanDisk (state S.Store b.tables.conn)
+            → (state S.Store tables.conn).now.schema ≡ no_layout → IsUsable (standing_of S.Store b) []) }
         ensures warehouse { IfOk result (λ b. b.warehouse ≡ warehouse) }
-        ensures before { IfErr result (λ e. HasCleanDisk (state S.Store e.1.conn) → IsAsBefore (state S.Store tables.conn) (state S.Store e.1.conn)) }
-        ensures crash { IfErr result (λ e. Survives (state S.Store tables.conn) (state S.Store e.1.conn) (λ db. (state S.Store tables.conn).now.schema ≡ no_layout → StandsIn warehouse [] db)) }
-        ensures taken { has_book_table (state S.Store tables.conn).now.schema.tables ≡ true → IsErrAnd result (λ e. (e.0 ≡ Fault.NotThisBook) × (e.1 ≡ tables)) }
-        ensures free { IfErr result (λ e. e.0 ≡ Fault.NotThisBook → has_book_table (state S.Store tables.conn).now.schema.tables ≡ true) }
+        ensures before { IfErr result (λ e. HasCleanDisk (state S.Store e.1.conn)
+            → IsAsBefore (state S.Store tables.conn) (state S.Store e.1.conn)) }
+        ensures crash { IfErr result (λ e. Survives (state S.Store tables.conn) (state S.Store e.1.conn) (λ db.
+            (state S.Store tables.conn).now.schema ≡ no_layout → StandsIn warehouse [] db)) }
+        ensures taken { has_book_table (state S.Store tables.conn).now.schema.tables ≡ true
+            → IsErrAnd result (λ e. (e.0 ≡ Fault.NotThisBook) × (e.1 ≡ tables)) }
+        ensures free { IfErr result (λ e. e.0 ≡ Fault.NotThisBook
+            → has_book_table (state S.Store tables.conn).now.schema.tables ≡ true) }
         ensures counted { IfErr result (λ e. e.0 ≢ Fault.NotThisBook → Rises tables.refused e.1.refused) }
-        ensures named { IfErr result (λ e. (e.0 ≡ Fault.NotThisBook) ⊎ ((e.0 ≡ Fault.OutOfMemory) ⊎ (e.0 ≡ Fault.Store))) }
+        ensures named { IfErr result (λ e. (e.0 ≡ Fault.NotThisBook) ⊎ ((e.0 ≡ Fault.OutOfMemory)
+            ⊎ (e.0 ≡ Fault.Store))) }
         ensures uncounted_ok { IfOk result (λ b. b.tables.refused ≡ tables.refused) }
         ensures limit { IfOk result (λ b. NoMore tables.limit b.tables.limit) }
         ensures limit_back { IfErr result (λ e. NoMore tables.limit e.1.limit) }
@@ -95,17 +101,27 @@ impl<S: Alter + Drop> Book<S> {
     /// `book` hasn't one row, or that row has another version than 1 or no warehouse.
     #[tactic(auto, using(crate::proofs::Limited::no_more_trans, crate::proofs::Limited::no_more_same))]
     pub fn open_from(alloc: Global, mut tables: Tables<S>) -> Result<Book<S>, (Fault, Tables<S>)>
-        ensures usable { IfOk result (λ b. HasCleanDisk (state S.Store b.tables.conn) → (W : Partner) (L : List register.Entry) → IsSettled (state S.Store tables.conn) W L → IsUsable (standing_of S.Store b) L) }
-        ensures keeps { IfOk result (λ b. HasCleanDisk (state S.Store b.tables.conn) → (W : Partner) (L : List register.Entry) → StandsWhileOpen (state S.Store tables.conn) W L
+        ensures usable { IfOk result (λ b. HasCleanDisk (state S.Store b.tables.conn)
+            → (W : Partner) (L : List register.Entry) → IsSettled (state S.Store tables.conn) W L
+            → IsUsable (standing_of S.Store b) L) }
+        ensures keeps { IfOk result (λ b. HasCleanDisk (state S.Store b.tables.conn)
+            → (W : Partner) (L : List register.Entry) → StandsWhileOpen (state S.Store tables.conn) W L
             → (b.warehouse ≡ W) × IsKept (state S.Store b.tables.conn) W b.entries L) }
         ensures opened { IfOk result (λ b. b.shut ≡ false) }
-        ensures house { IfOk result (λ b. HasCleanDisk (state S.Store b.tables.conn) → (rows : List Cells) × Finds house_text [] (state S.Store tables.conn).now rows × IsHouse rows b.warehouse) }
-        ensures not_this { IfErr result (λ e. e.0 ≡ Fault.NotThisBook → HasCleanDisk (state S.Store e.1.conn) → (rows : List Cells) × Finds house_text [] (state S.Store tables.conn).now rows × ((W : Partner) → IsHouse rows W → ⊥)) }
-        ensures this { IfErr result (λ e. HasCleanDisk (state S.Store e.1.conn) → (W : Partner) (L : List register.Entry) → StandsWhileOpen (state S.Store tables.conn) W L → e.0 ≢ Fault.NotThisBook) }
+        ensures house { IfOk result (λ b. HasCleanDisk (state S.Store b.tables.conn)
+            → (rows : List Cells) × Finds house_text [] (state S.Store tables.conn).now rows
+            × IsHouse rows b.warehouse) }
+        ensures not_this { IfErr result (λ e. e.0 ≡ Fault.NotThisBook → HasCleanDisk (state S.Store e.1.conn)
+            → (rows : List Cells) × Finds house_text [] (state S.Store tables.conn).now rows × ((W : Partner)
+            → IsHouse rows W → ⊥)) }
+        ensures this { IfErr result (λ e. HasCleanDisk (state S.Store e.1.conn)
+            → (W : Partner) (L : List register.Entry) → StandsWhileOpen (state S.Store tables.conn) W L
+            → e.0 ≢ Fault.NotThisBook) }
         ensures asked { IfErr result (λ e. IsAsked (state S.Store tables.conn) (state S.Store e.1.conn)) }
         ensures counted { IfErr result (λ e. e.0 ≢ Fault.NotThisBook → Rises tables.refused e.1.refused) }
         ensures uncounted { IfErr result (λ e. e.0 ≡ Fault.NotThisBook → e.1.refused ≡ tables.refused) }
-        ensures named { IfErr result (λ e. (e.0 ≡ Fault.NotThisBook) ⊎ ((e.0 ≡ Fault.OutOfMemory) ⊎ (e.0 ≡ Fault.Store))) }
+        ensures named { IfErr result (λ e. (e.0 ≡ Fault.NotThisBook) ⊎ ((e.0 ≡ Fault.OutOfMemory)
+            ⊎ (e.0 ≡ Fault.Store))) }
         ensures uncounted_ok { IfOk result (λ b. b.tables.refused ≡ tables.refused) }
         ensures limit { IfOk result (λ b. NoMore tables.limit b.tables.limit) }
         ensures limit_back { IfErr result (λ e. NoMore tables.limit e.1.limit) }
@@ -140,10 +156,13 @@ impl<S: Alter + Drop> Book<S> {
     // A depositor's entries, as a book in memory that replays them.
     #[tactic(auto, using(crate::proofs::Limited::no_more_trans, crate::proofs::Limited::no_more_same))]
     fn own_book(&mut self, who: Who) -> Result<ReplayBook, Fault>
-        ensures own { (standing_of S.Store self.new).doubt ≡ 0 → (L : List register.Entry) → (standing_of S.Store self.old).keeps L → IfOk result (λ book. book.entries ≡ all_written (register.own L who)) }
+        ensures own { (standing_of S.Store self.new).doubt ≡ 0 → (L : List register.Entry)
+            → (standing_of S.Store self.old).keeps L → IfOk result (λ book. book.entries ≡ all_written
+            (register.own L who)) }
         ensures warehouse { IfOk result (λ book. book.warehouse ≡ self.old.warehouse) }
         ensures same { IsUnchanged (standing_of S.Store self.old) (standing_of S.Store self.new) }
-        ensures fault { IfErr result (λ fault. IsQueryFault fault (standing_of S.Store self.old) (standing_of S.Store self.new)) }
+        ensures fault { IfErr result (λ fault. IsQueryFault fault (standing_of S.Store self.old)
+            (standing_of S.Store self.new)) }
         ensures shut { (standing_of S.Store self.old).shut ≡ true → IsErrOf result Fault.Reopen }
         ensures uncounted { OnOk result (self.new.tables.refused ≡ self.old.tables.refused) }
         ensures limit { NoMore self.old.tables.limit self.new.tables.limit }
@@ -168,11 +187,13 @@ impl<S: Alter + Drop> Keeper for Book<S> {
 
     #[tactic(auto, using(crate::proofs::Limited::no_more_trans, crate::proofs::Limited::no_more_same))]
     fn load(&mut self, who: Who) -> Result<Option<Page>, Fault>
-        ensures page { (standing_of S.Store self.new).doubt ≡ 0 → (L : List register.Entry) → (standing_of S.Store self.old).keeps L → IsLegal (standing_of S.Store self.old).warehouse L
+        ensures page { (standing_of S.Store self.new).doubt ≡ 0 → (L : List register.Entry)
+            → (standing_of S.Store self.old).keeps L → IsLegal (standing_of S.Store self.old).warehouse L
             → IfOk result (λ page. IsHeldFor page (decided.standing (register.own L who))) }
         ensures rest { IfOk result IsHeldAtRest }
         ensures same { IsUnchanged (standing_of S.Store self.old) (standing_of S.Store self.new) }
-        ensures fault { IfErr result (λ fault. IsQueryFault fault (standing_of S.Store self.old) (standing_of S.Store self.new)) }
+        ensures fault { IfErr result (λ fault. IsQueryFault fault (standing_of S.Store self.old)
+            (standing_of S.Store self.new)) }
         ensures shut { (standing_of S.Store self.old).shut ≡ true → IsErrOf result Fault.Reopen }
         ensures uncounted { OnOk result (self.new.tables.refused ≡ self.old.tables.refused) }
         ensures limit { NoMore self.old.tables.limit self.new.tables.limit }
@@ -184,10 +205,13 @@ impl<S: Alter + Drop> Keeper for Book<S> {
 
     #[tactic(auto, using(crate::proofs::Limited::no_more_trans, crate::proofs::Limited::no_more_same))]
     fn known(&mut self, who: Who, key: &Key<'_>) -> Result<Option<Known>, Fault>
-        ensures entry { (standing_of S.Store self.new).doubt ≡ 0 → (L : List register.Entry) → (standing_of S.Store self.old).keeps L → IsLegal (standing_of S.Store self.old).warehouse L
-            → IfOk result (λ known. IsRecalled known (decided.recalled (standing_of S.Store self.old).warehouse (mark_of key.now) (register.own L who))) }
+        ensures entry { (standing_of S.Store self.new).doubt ≡ 0 → (L : List register.Entry)
+            → (standing_of S.Store self.old).keeps L → IsLegal (standing_of S.Store self.old).warehouse L
+            → IfOk result (λ known. IsRecalled known (decided.recalled (standing_of S.Store self.old).warehouse
+            (mark_of key.now) (register.own L who))) }
         ensures same { IsUnchanged (standing_of S.Store self.old) (standing_of S.Store self.new) }
-        ensures fault { IfErr result (λ fault. IsQueryFault fault (standing_of S.Store self.old) (standing_of S.Store self.new)) }
+        ensures fault { IfErr result (λ fault. IsQueryFault fault (standing_of S.Store self.old)
+            (standing_of S.Store self.new)) }
         ensures shut { (standing_of S.Store self.old).shut ≡ true → IsErrOf result Fault.Reopen }
         ensures uncounted { OnOk result (self.new.tables.refused ≡ self.old.tables.refused) }
         ensures limit { NoMore self.old.tables.limit self.new.tables.limit }
@@ -205,16 +229,22 @@ impl<S: Alter + Drop> Keeper for Book<S> {
     /// the store the book has to be opened again, and answers 42 until then. 41 where the numbers that SQLite has for entries are used up.
     #[tactic(auto, using(crate::proofs::Limited::no_more_trans, crate::proofs::Limited::no_more_same))]
     fn commit(&mut self, entry: &Entry, changes: &[Change], outgoing: &[u8]) -> Result<(), Fault>
-        ensures ok { (standing_of S.Store self.new).doubt ≡ 0 → (L : List register.Entry) (e : register.Entry) → IsUsable (standing_of S.Store self.old) L
-            → IsNext (standing_of S.Store self.old).warehouse L e entry.now changes.now outgoing.now → OnOk result (IsUsable (standing_of S.Store self.new) (L ++ e ∷ [])) }
-        ensures left { (standing_of S.Store self.new).doubt ≡ 0 → (L : List register.Entry) (e : register.Entry) → IsUsable (standing_of S.Store self.old) L
-            → IsNext (standing_of S.Store self.old).warehouse L e entry.now changes.now outgoing.now → OnErr result (LeavesEither (standing_of S.Store self.new) L (L ++ e ∷ [])) }
+        ensures ok { (standing_of S.Store self.new).doubt ≡ 0 → (L : List register.Entry) (e : register.Entry)
+            → IsUsable (standing_of S.Store self.old) L
+            → IsNext (standing_of S.Store self.old).warehouse L e entry.now changes.now outgoing.now
+            → OnOk result (IsUsable (standing_of S.Store self.new) (L ++ e ∷ [])) }
+        ensures left { (standing_of S.Store self.new).doubt ≡ 0 → (L : List register.Entry) (e : register.Entry)
+            → IsUsable (standing_of S.Store self.old) L
+            → IsNext (standing_of S.Store self.old).warehouse L e entry.now changes.now outgoing.now
+            → OnErr result (LeavesEither (standing_of S.Store self.new) L (L ++ e ∷ [])) }
         ensures opened { OnOk result ((standing_of S.Store self.new).shut ≡ false) }
-        ensures fault { IfErr result (λ fault. IsFault fault (standing_of S.Store self.old) (standing_of S.Store self.new)) }
+        ensures fault { IfErr result (λ fault. IsFault fault (standing_of S.Store self.old)
+            (standing_of S.Store self.new)) }
         ensures kinds { IfErr result IsCommitFault }
         ensures store { IsErrOf result Fault.Store → (standing_of S.Store self.new).shut ≡ true }
         ensures used_up { self.old.shut ≡ false → 2 ^ 63 - 1 ≤ self.old.entries → IsErrOf result Fault.Store }
-        ensures shut { (standing_of S.Store self.old).shut ≡ true → IsErrOf result Fault.Reopen × IsUnchanged (standing_of S.Store self.old) (standing_of S.Store self.new) }
+        ensures shut { (standing_of S.Store self.old).shut ≡ true
+            → IsErrOf result Fault.Reopen × IsUnchanged (standing_of S.Store self.old) (standing_of S.Store self.new) }
         ensures goes { GoesOn (standing_of S.Store self.old) (standing_of S.Store self.new) }
         ensures uncounted { OnOk result (self.new.tables.refused ≡ self.old.tables.refused) }
         ensures limit { NoMore self.old.tables.limit self.new.tables.limit }
@@ -243,10 +273,12 @@ impl<S: Alter + Drop> Keeper for Book<S> {
 
     #[tactic(auto, using(crate::proofs::Limited::no_more_trans, crate::proofs::Limited::no_more_same))]
     fn stock_rows(&mut self, who: Who) -> Result<Option<Vec<StockRow>>, Fault>
-        ensures rows { (standing_of S.Store self.new).doubt ≡ 0 → (L : List register.Entry) → (standing_of S.Store self.old).keeps L → IsLegal (standing_of S.Store self.old).warehouse L
+        ensures rows { (standing_of S.Store self.new).doubt ≡ 0 → (L : List register.Entry)
+            → (standing_of S.Store self.old).keeps L → IsLegal (standing_of S.Store self.old).warehouse L
             → IfOk result (λ rows. option_map (λ v. v.items) rows ≡ stock_of L who) }
         ensures same { IsUnchanged (standing_of S.Store self.old) (standing_of S.Store self.new) }
-        ensures fault { IfErr result (λ fault. IsQueryFault fault (standing_of S.Store self.old) (standing_of S.Store self.new)) }
+        ensures fault { IfErr result (λ fault. IsQueryFault fault (standing_of S.Store self.old)
+            (standing_of S.Store self.new)) }
         ensures shut { (standing_of S.Store self.old).shut ≡ true → IsErrOf result Fault.Reopen }
         ensures uncounted { OnOk result (self.new.tables.refused ≡ self.old.tables.refused) }
         ensures limit { NoMore self.old.tables.limit self.new.tables.limit }
@@ -260,10 +292,13 @@ impl<S: Alter + Drop> Keeper for Book<S> {
 
     #[tactic(auto, using(crate::proofs::Limited::no_more_trans, crate::proofs::Limited::no_more_same))]
     fn outbox(&mut self, who: Who) -> Result<Option<Vec<OutRow>>, Fault>
-        ensures rows { (standing_of S.Store self.new).doubt ≡ 0 → (L : List register.Entry) → (standing_of S.Store self.old).keeps L → IsLegal (standing_of S.Store self.old).warehouse L
-            → IfOk result (λ rows. option_map (λ v. v.items) rows ≡ outbox_of (standing_of S.Store self.old).warehouse L who) }
+        ensures rows { (standing_of S.Store self.new).doubt ≡ 0 → (L : List register.Entry)
+            → (standing_of S.Store self.old).keeps L → IsLegal (standing_of S.Store self.old).warehouse L
+            → IfOk result (λ rows. option_map (λ v. v.items) rows ≡ outbox_of
+            (standing_of S.Store self.old).warehouse L who) }
         ensures same { IsUnchanged (standing_of S.Store self.old) (standing_of S.Store self.new) }
-        ensures fault { IfErr result (λ fault. IsQueryFault fault (standing_of S.Store self.old) (standing_of S.Store self.new)) }
+        ensures fault { IfErr result (λ fault. IsQueryFault fault (standing_of S.Store self.old)
+            (standing_of S.Store self.new)) }
         ensures shut { (standing_of S.Store self.old).shut ≡ true → IsErrOf result Fault.Reopen }
         ensures uncounted { OnOk result (self.new.tables.refused ≡ self.old.tables.refused) }
         ensures limit { NoMore self.old.tables.limit self.new.tables.limit }

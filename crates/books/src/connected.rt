@@ -104,7 +104,9 @@ impl<S: Alter + Drop> Tables<S> {
     #[tactic(auto, using(crate::proofs::Limited::no_more_trans, crate::proofs::Limited::no_more_same))]
     pub(crate) fn ask(&mut self, sql: &str, params: &[ValueRef<'_>]) -> Result<Vec<Row>, Fault>
         requires { (others : Others) → IsPlain (understood (beside others) sql.now) }
-        ensures finds { HasCleanDisk (state S.Store self.new.conn) → IfOk result (λ rows. IsTrue (state S.Store self.old.conn).is_open × Finds sql.now (bound params.now) (state S.Store self.old.conn).now rows.items) }
+        ensures finds { HasCleanDisk (state S.Store self.new.conn)
+            → IfOk result (λ rows. IsTrue (state S.Store self.old.conn).is_open × Finds sql.now (bound params.now)
+            (state S.Store self.old.conn).now rows.items) }
         ensures live { IsLive (state S.Store self.old.conn) }
         ensures asked { IsAsked (state S.Store self.old.conn) (state S.Store self.new.conn) }
         ensures named { IfErr result (λ f. (f ≡ Fault.OutOfMemory) ⊎ (f ≡ Fault.Store)) }
@@ -140,11 +142,16 @@ impl<S: Alter + Drop> Tables<S> {
         outgoing: &'a [u8],
     ) -> Result<(), Fault>
         requires { seq < 2 ^ 63 }
-        ensures ok { HasCleanDisk (state S.Store self.new.conn) → OnOk result ((W : Partner) (L : List register.Entry) (e : register.Entry)
-            → IsAppended (state S.Store self.old.conn) W L e seq who.now entry.now changes.now outgoing.now → HasGrown (state S.Store self.new.conn) W (L ++ e ∷ [])) }
-        ensures left { HasCleanDisk (state S.Store self.new.conn) → OnOk result (LeavesIt (state S.Store self.new.conn)) }
-        ensures err { HasCleanDisk (state S.Store self.new.conn) → OnErr result (IsAsBefore (state S.Store self.old.conn) (state S.Store self.new.conn)) }
-        ensures crash { Survives (state S.Store self.old.conn) (state S.Store self.new.conn) (Extends (state S.Store self.old.conn) seq who.now entry.now changes.now outgoing.now) }
+        ensures ok { HasCleanDisk (state S.Store self.new.conn)
+            → OnOk result ((W : Partner) (L : List register.Entry) (e : register.Entry)
+            → IsAppended (state S.Store self.old.conn) W L e seq who.now entry.now changes.now outgoing.now
+            → HasGrown (state S.Store self.new.conn) W (L ++ e ∷ [])) }
+        ensures left { HasCleanDisk (state S.Store self.new.conn)
+            → OnOk result (LeavesIt (state S.Store self.new.conn)) }
+        ensures err { HasCleanDisk (state S.Store self.new.conn)
+            → OnErr result (IsAsBefore (state S.Store self.old.conn) (state S.Store self.new.conn)) }
+        ensures crash { Survives (state S.Store self.old.conn) (state S.Store self.new.conn) (Extends
+            (state S.Store self.old.conn) seq who.now entry.now changes.now outgoing.now) }
         ensures named { IfErr result (λ f. (f ≡ Fault.OutOfMemory) ⊎ (f ≡ Fault.Store)) }
         ensures counted { OnErr result (Rises self.old.refused self.new.refused) }
         ensures uncounted { OnOk result (self.new.refused ≡ self.old.refused) }
@@ -167,10 +174,15 @@ impl<S: Alter + Drop> Tables<S> {
     /// Makes the tables of an empty register of the warehouse, in one transaction.
     #[tactic(auto, using(crate::proofs::Limited::no_more_trans, crate::proofs::Limited::no_more_same))]
     pub(crate) fn make(&mut self, warehouse: &Warehouse) -> Result<(), Fault>
-        ensures ok { HasCleanDisk (state S.Store self.new.conn) → OnOk result (Makes (state S.Store self.old.conn) (state S.Store self.new.conn) warehouse.now) }
-        ensures left { HasCleanDisk (state S.Store self.new.conn) → OnOk result (LeavesIt (state S.Store self.new.conn)) }
-        ensures err { HasCleanDisk (state S.Store self.new.conn) → OnErr result (IsAsBefore (state S.Store self.old.conn) (state S.Store self.new.conn)) }
-        ensures crash { Survives (state S.Store self.old.conn) (state S.Store self.new.conn) (λ db. IsLegal warehouse.now [] → (state S.Store self.old.conn).now.schema ≡ no_layout → StandsIn warehouse.now [] db) }
+        ensures ok { HasCleanDisk (state S.Store self.new.conn)
+            → OnOk result (Makes (state S.Store self.old.conn) (state S.Store self.new.conn) warehouse.now) }
+        ensures left { HasCleanDisk (state S.Store self.new.conn)
+            → OnOk result (LeavesIt (state S.Store self.new.conn)) }
+        ensures err { HasCleanDisk (state S.Store self.new.conn)
+            → OnErr result (IsAsBefore (state S.Store self.old.conn) (state S.Store self.new.conn)) }
+        ensures crash { Survives (state S.Store self.old.conn) (state S.Store self.new.conn)
+            (λ db. IsLegal warehouse.now [] → (state S.Store self.old.conn).now.schema ≡ no_layout
+            → StandsIn warehouse.now [] db) }
         ensures named { IfErr result (λ f. (f ≡ Fault.OutOfMemory) ⊎ (f ≡ Fault.Store)) }
         ensures counted { OnErr result (Rises self.old.refused self.new.refused) }
         ensures uncounted { OnOk result (self.new.refused ≡ self.old.refused) }

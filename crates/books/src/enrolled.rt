@@ -20,10 +20,12 @@ impl<S: Alter + Drop> Tables<S> {
     /// Whether a depositor has entries: a stranger has none.
     #[tactic(auto, using(crate::proofs::Limited::no_more_trans, crate::proofs::Limited::no_more_same))]
     pub(crate) fn is_enrolled(&mut self, alloc: Global, who: Who) -> Result<bool, Fault>
-        ensures enrolled { HasCleanDisk (state S.Store self.new.conn) → (W : Partner) (L : List register.Entry) → StandsWhileOpen (state S.Store self.old.conn) W L
+        ensures enrolled { HasCleanDisk (state S.Store self.new.conn) → (W : Partner) (L : List register.Entry)
+            → StandsWhileOpen (state S.Store self.old.conn) W L
             → IfOk result (λ enrolled. enrolled ≡ not (length (register.own L who) == 0)) }
         ensures asked { IsAsked (state S.Store self.old.conn) (state S.Store self.new.conn) }
-        ensures fault { IfErr result (λ f. IsAskFault f (state S.Store self.old.conn) (state S.Store self.new.conn) self.old.refused self.new.refused) }
+        ensures fault { IfErr result (λ f. IsAskFault f (state S.Store self.old.conn)
+            (state S.Store self.new.conn) self.old.refused self.new.refused) }
         ensures counts { self.old.refused ≤ self.new.refused }
         ensures uncounted { OnOk result (self.new.refused ≡ self.old.refused) }
         ensures limit { NoMore self.old.limit self.new.limit }

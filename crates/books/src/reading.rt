@@ -17,7 +17,8 @@ use std::alloc::{AllocError, Global};
 
 // The text that a value is.
 fn text_in(value: ValueRef<'_>) -> Option<&[u8]>
-    ensures { MatchOption result ((text : List ℕ) → owned value.entry ≡ Text text → ⊥) (λ text. owned value.entry ≡ Text text.now) }
+    ensures { MatchOption result ((text : List ℕ) → owned value.entry ≡ Text text
+        → ⊥) (λ text. owned value.entry ≡ Text text.now) }
 {
     match value {
         ValueRef::Text(text) => Some(text),
@@ -27,7 +28,8 @@ fn text_in(value: ValueRef<'_>) -> Option<&[u8]>
 
 // The blob that a value is.
 fn blob_in(value: ValueRef<'_>) -> Option<&[u8]>
-    ensures { MatchOption result ((blob : List ℕ) → owned value.entry ≡ Blob blob → ⊥) (λ blob. owned value.entry ≡ Blob blob.now) }
+    ensures { MatchOption result ((blob : List ℕ) → owned value.entry ≡ Blob blob
+        → ⊥) (λ blob. owned value.entry ≡ Blob blob.now) }
 {
     match value {
         ValueRef::Blob(blob) => Some(blob),
@@ -37,7 +39,8 @@ fn blob_in(value: ValueRef<'_>) -> Option<&[u8]>
 
 // The number that a value is.
 fn number_in(value: ValueRef<'_>) -> Option<u64>
-    ensures { MatchOption result ((n : ℕ) → owned value.entry ≡ Int (pos n) → ⊥) (λ n. owned value.entry ≡ Int (pos n)) }
+    ensures { MatchOption result ((n : ℕ) → owned value.entry ≡ Int (pos n)
+        → ⊥) (λ n. owned value.entry ≡ Int (pos n)) }
 {
     match value {
         ValueRef::Int(n) => u64::try_from(n).ok(),
@@ -47,7 +50,8 @@ fn number_in(value: ValueRef<'_>) -> Option<u64>
 
 /// The text in a column.
 pub(crate) fn text_at(row: &Row, at: usize) -> Option<&[u8]>
-    ensures { MatchOption result ((text : List ℕ) → column row.now at ≡ Text text → ⊥) (λ text. column row.now at ≡ Text text.now) }
+    ensures { MatchOption result ((text : List ℕ) → column row.now at ≡ Text text
+        → ⊥) (λ text. column row.now at ≡ Text text.now) }
 {
     match row.get_ref(at) {
         Ok(value) => text_in(value),
@@ -57,7 +61,8 @@ pub(crate) fn text_at(row: &Row, at: usize) -> Option<&[u8]>
 
 /// The blob in a column.
 pub(crate) fn blob_at(row: &Row, at: usize) -> Option<&[u8]>
-    ensures { MatchOption result ((blob : List ℕ) → column row.now at ≡ Blob blob → ⊥) (λ blob. column row.now at ≡ Blob blob.now) }
+    ensures { MatchOption result ((blob : List ℕ) → column row.now at ≡ Blob blob
+        → ⊥) (λ blob. column row.now at ≡ Blob blob.now) }
 {
     match row.get_ref(at) {
         Ok(value) => blob_in(value),
@@ -67,7 +72,8 @@ pub(crate) fn blob_at(row: &Row, at: usize) -> Option<&[u8]>
 
 /// The number in a column; None where it is below 0 too.
 pub(crate) fn number_at(row: &Row, at: usize) -> Option<u64>
-    ensures { MatchOption result ((n : ℕ) → column row.now at ≡ Int (pos n) → ⊥) (λ n. column row.now at ≡ Int (pos n)) }
+    ensures { MatchOption result ((n : ℕ) → column row.now at ≡ Int (pos n)
+        → ⊥) (λ n. column row.now at ≡ Int (pos n)) }
 {
     match row.get_ref(at) {
         Ok(value) => number_in(value),
@@ -159,7 +165,8 @@ pub(crate) fn entries_in(
     who: &Who,
     rows: &[Row],
 ) -> Result<Option<Vec<Entry>>, AllocError>
-    ensures { (ws : List Written) → All (IsRecorded who.now) ws → rows.now ≡ map entry_shown ws → IfOk result (λ entries. option_map (λ v. v.items) entries ≡ Some ws) }
+    ensures { (ws : List Written) → All (IsRecorded who.now) ws → rows.now ≡ map entry_shown ws
+        → IfOk result (λ entries. option_map (λ v. v.items) entries ≡ Some ws) }
 {
     let mut entries = Vec::new(alloc);
     for row in rows {

@@ -31,7 +31,8 @@ fn number_params<'a>(who: &'a [u8], n: u32) -> [ValueRef<'a>; 2]
 
 // The content that rows show, which is that of the first, and empty where there is none; None where it shows none.
 fn content_in(alloc: Global, rows: &[Row]) -> Result<Option<Vec<u8>>, AllocError>
-    ensures { (content : List ℕ) → IsContent rows.now content → IfOk result (λ shown. option_map (λ v. v.items) shown ≡ Some content) }
+    ensures { (content : List ℕ) → IsContent rows.now content
+        → IfOk result (λ shown. option_map (λ v. v.items) shown ≡ Some content) }
 {
     let Some(row) = rows.first() else {
         return Ok(Some(Vec::new(alloc)));
@@ -52,14 +53,16 @@ impl<S: Alter + Drop> Tables<S> {
         text: &'a [u8],
         key: &'a [u8],
     ) -> Result<Option<Entry>, Fault>
-        ensures entry { HasCleanDisk (state S.Store self.new.conn) → (W : Partner) (L : List register.Entry) → StandsWhileOpen (state S.Store self.old.conn) W L
+        ensures entry { HasCleanDisk (state S.Store self.new.conn) → (W : Partner) (L : List register.Entry)
+            → StandsWhileOpen (state S.Store self.old.conn) W L
             → text.now ≡ who_text who → IfOk result (λ entry. entry ≡ find (is_under who key.now) (all_written L)) }
         ensures asked { IsAsked (state S.Store self.old.conn) (state S.Store self.new.conn) }
-        ensures fault { text.now ≡ who_text who → IfErr result (λ f. IsAskFault f (state S.Store self.old.conn) (state S.Store self.new.conn) self.old.refused self.new.refused) }
+        ensures fault { text.now ≡ who_text who → IfErr result (λ f. IsAskFault f (state S.Store self.old.conn)
+            (state S.Store self.new.conn) self.old.refused self.new.refused) }
         ensures counts { self.old.refused ≤ self.new.refused }
         ensures uncounted { OnOk result (self.new.refused ≡ self.old.refused) }
         ensures limit { NoMore self.old.limit self.new.limit }
-        ensures made { OnOk result (self.old.limit ≢ Some 0) }
+        ensures allowed { OnOk result (self.old.limit ≢ Some 0) }
     {
         let rows = self.ask(
             "SELECT mark, n, moment, body FROM entry WHERE who = ?1 AND mark = ?2 ORDER BY seq",
@@ -83,15 +86,19 @@ impl<S: Alter + Drop> Tables<S> {
         text: &[u8],
         n: u32,
     ) -> Result<Vec<u8>, Fault>
-        ensures content { HasCleanDisk (state S.Store self.new.conn) → (W : Partner) (L : List register.Entry) → StandsWhileOpen (state S.Store self.old.conn) W L
-            → text.now ≡ who_text who → (before : List register.Entry) (e : register.Entry) (behind : List register.Entry) → register.own L who ≡ before ++ e ∷ behind
-            → n ≡ (if register.is_numbered e then register.next_number before else 0) → IfOk result (λ content. content.items ≡ out W before e) }
+        ensures content { HasCleanDisk (state S.Store self.new.conn) → (W : Partner) (L : List register.Entry)
+            → StandsWhileOpen (state S.Store self.old.conn) W L
+            → text.now ≡ who_text who → (before : List register.Entry) (e : register.Entry)
+            (behind : List register.Entry) → register.own L who ≡ before ++ e ∷ behind
+            → n ≡ (if register.is_numbered e then register.next_number before else 0)
+            → IfOk result (λ content. content.items ≡ out W before e) }
         ensures asked { IsAsked (state S.Store self.old.conn) (state S.Store self.new.conn) }
-        ensures fault { text.now ≡ who_text who → IfErr result (λ f. IsAskFault f (state S.Store self.old.conn) (state S.Store self.new.conn) self.old.refused self.new.refused) }
+        ensures fault { text.now ≡ who_text who → IfErr result (λ f. IsAskFault f (state S.Store self.old.conn)
+            (state S.Store self.new.conn) self.old.refused self.new.refused) }
         ensures counts { self.old.refused ≤ self.new.refused }
         ensures uncounted { OnOk result (self.new.refused ≡ self.old.refused) }
         ensures limit { NoMore self.old.limit self.new.limit }
-        ensures made { OnOk result (self.old.limit ≢ Some 0) }
+        ensures allowed { OnOk result (self.old.limit ≢ Some 0) }
     {
         let rows = self.ask(
             "SELECT content FROM outgoing WHERE who = ?1 AND n = ?2",
@@ -112,14 +119,17 @@ impl<S: Alter + Drop> Tables<S> {
         text: &'a [u8],
         key: &'a [u8],
     ) -> Result<Option<Known>, Fault>
-        ensures known { HasCleanDisk (state S.Store self.new.conn) → (W : Partner) (L : List register.Entry) → StandsWhileOpen (state S.Store self.old.conn) W L
-            → text.now ≡ who_text who → IfOk result (λ known. IsRecalled known (recalled W key.now (register.own L who))) }
+        ensures known { HasCleanDisk (state S.Store self.new.conn) → (W : Partner) (L : List register.Entry)
+            → StandsWhileOpen (state S.Store self.old.conn) W L
+            → text.now ≡ who_text who → IfOk result (λ known. IsRecalled known (recalled W key.now
+            (register.own L who))) }
         ensures asked { IsAsked (state S.Store self.old.conn) (state S.Store self.new.conn) }
-        ensures fault { text.now ≡ who_text who → IfErr result (λ f. IsAskFault f (state S.Store self.old.conn) (state S.Store self.new.conn) self.old.refused self.new.refused) }
+        ensures fault { text.now ≡ who_text who → IfErr result (λ f. IsAskFault f (state S.Store self.old.conn)
+            (state S.Store self.new.conn) self.old.refused self.new.refused) }
         ensures counts { self.old.refused ≤ self.new.refused }
         ensures uncounted { OnOk result (self.new.refused ≡ self.old.refused) }
         ensures limit { NoMore self.old.limit self.new.limit }
-        ensures made { OnOk result (self.old.limit ≢ Some 0) }
+        ensures allowed { OnOk result (self.old.limit ≢ Some 0) }
     {
         let Some(entry) = self.entry_under(alloc, who, text, key)? else {
             return Ok(None);

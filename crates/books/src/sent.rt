@@ -23,7 +23,8 @@ use store::{DocumentState, Fault, OutKind, OutRow};
 
 // The kind with this word.
 fn kind_of(text: &[u8]) -> Option<OutKind>
-    ensures { MatchOption result ((kind : OutKind) → text.now ≡ kind_text kind → ⊥) (λ kind. text.now ≡ kind_text kind) }
+    ensures { MatchOption result ((kind : OutKind) → text.now ≡ kind_text kind
+        → ⊥) (λ kind. text.now ≡ kind_text kind) }
 {
     match text {
         b"ANS" => Some(OutKind::Answer),
@@ -36,7 +37,8 @@ fn kind_of(text: &[u8]) -> Option<OutKind>
 
 // The state with this word.
 fn state_of(text: &[u8]) -> Option<DocumentState>
-    ensures { MatchOption result ((said : DocumentState) → text.now ≡ state_name said → ⊥) (λ said. text.now ≡ state_name said) }
+    ensures { MatchOption result ((said : DocumentState) → text.now ≡ state_name said
+        → ⊥) (λ said. text.now ≡ state_name said) }
 {
     match text {
         b"-" => Some(DocumentState::Unasked),
@@ -83,7 +85,8 @@ fn out_row_in(alloc: Global, row: &Row) -> Result<Option<OutRow>, AllocError>
 /// The texts that rows of n, kind, content and state show, but for the empty ones; None where one of them shows none.
 pub(crate) fn out_rows_in(alloc: Global, rows: &[Row]) -> Result<Option<Vec<OutRow>>, AllocError>
     ensures { (rs : List meant.OutRow) → ((r : meant.OutRow) → Has rs r → IsSent r) → rows.now ≡ map out_shown rs
-        → IfOk result (λ shown. option_map (λ v. v.items) shown ≡ Some (filter (λ (r : meant.OutRow). nat_lt 0 (length r.content)) rs)) }
+        → IfOk result (λ shown. option_map (λ v. v.items) shown ≡ Some (filter (λ (r : meant.OutRow). nat_lt 0
+        (length r.content)) rs)) }
 {
     let mut shown = Vec::new(alloc);
     for row in rows {
@@ -102,10 +105,12 @@ impl<S: Alter + Drop> Tables<S> {
     /// stranger. 43 where a row shows no text.
     #[tactic(auto, using(crate::proofs::Limited::no_more_trans, crate::proofs::Limited::no_more_same))]
     pub(crate) fn sent_rows(&mut self, alloc: Global, who: Who) -> Result<Vec<OutRow>, Fault>
-        ensures rows { HasCleanDisk (state S.Store self.new.conn) → (W : Partner) (L : List register.Entry) → StandsWhileOpen (state S.Store self.old.conn) W L
+        ensures rows { HasCleanDisk (state S.Store self.new.conn) → (W : Partner) (L : List register.Entry)
+            → StandsWhileOpen (state S.Store self.old.conn) W L
             → IfOk result (λ rows. rows.items ≡ meant.outbox_rows W (register.own L who)) }
         ensures asked { IsAsked (state S.Store self.old.conn) (state S.Store self.new.conn) }
-        ensures fault { IfErr result (λ f. IsAskFault f (state S.Store self.old.conn) (state S.Store self.new.conn) self.old.refused self.new.refused) }
+        ensures fault { IfErr result (λ f. IsAskFault f (state S.Store self.old.conn)
+            (state S.Store self.new.conn) self.old.refused self.new.refused) }
         ensures counts { self.old.refused ≤ self.new.refused }
         ensures uncounted { OnOk result (self.new.refused ≡ self.old.refused) }
         ensures limit { NoMore self.old.limit self.new.limit }

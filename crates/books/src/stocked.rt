@@ -55,7 +55,8 @@ pub(crate) fn stock_rows_in(
     alloc: Global,
     rows: &[Row],
 ) -> Result<Option<Vec<StockRow>>, AllocError>
-    ensures { (rs : List meant.StockRow) → rows.now ≡ map stock_shown rs → IfOk result (λ shown. option_map (λ v. v.items) shown ≡ Some rs) }
+    ensures { (rs : List meant.StockRow) → rows.now ≡ map stock_shown rs
+        → IfOk result (λ shown. option_map (λ v. v.items) shown ≡ Some rs) }
 {
     let mut shown = Vec::new(alloc);
     for row in rows {
@@ -71,10 +72,12 @@ impl<S: Alter + Drop> Tables<S> {
     /// What a depositor has, by item and lot, as its running rows say; nothing of a stranger. 43 where a row shows no stock.
     #[tactic(auto, using(crate::proofs::Limited::no_more_trans, crate::proofs::Limited::no_more_same))]
     pub(crate) fn stock_rows(&mut self, alloc: Global, who: Who) -> Result<Vec<StockRow>, Fault>
-        ensures rows { HasCleanDisk (state S.Store self.new.conn) → (W : Partner) (L : List register.Entry) → StandsWhileOpen (state S.Store self.old.conn) W L
+        ensures rows { HasCleanDisk (state S.Store self.new.conn) → (W : Partner) (L : List register.Entry)
+            → StandsWhileOpen (state S.Store self.old.conn) W L
             → IfOk result (λ rows. rows.items ≡ meant.stock_rows (register.own L who)) }
         ensures asked { IsAsked (state S.Store self.old.conn) (state S.Store self.new.conn) }
-        ensures fault { IfErr result (λ f. IsAskFault f (state S.Store self.old.conn) (state S.Store self.new.conn) self.old.refused self.new.refused) }
+        ensures fault { IfErr result (λ f. IsAskFault f (state S.Store self.old.conn)
+            (state S.Store self.new.conn) self.old.refused self.new.refused) }
         ensures counts { self.old.refused ≤ self.new.refused }
         ensures uncounted { OnOk result (self.new.refused ≡ self.old.refused) }
         ensures limit { NoMore self.old.limit self.new.limit }

@@ -2,7 +2,22 @@ use Rattle.std.proofs.Common.{refl}
 use Rattle.books.proofs.laws.tables_are_laid_out_as_defined.Goals as goal
 
 pub returns : goal.returns
-returns c =
-    (record { name = refl; columns = refl; key = refl }, (record { name = refl; columns = refl; key = refl }, (record { name = refl; columns = refl; key = refl },
-    (record { name = refl; columns = refl; key = refl }, (record { name = refl; columns = refl; key = refl }, (record { name = refl; columns = refl; key = refl },
-    (record { name = refl; columns = refl; key = refl }, (record { name = refl; columns = refl; key = refl }, (record { name = refl; columns = refl; key = refl }, tt)))))))))
+returns c = (
+  record { name = refl; columns = refl; key = refl },
+  (
+    record { name = refl; columns = refl; key = refl },
+    (
+      record { name = refl; columns = refl; key = refl },
+      (
+        record { name = refl; columns = refl; key = refl },
+        (
+          record { name = refl; columns = refl; key = refl },
+          (
+            record { name = refl; columns = refl; key = refl },
+            (record { name = refl; columns = refl; key = refl }, (record { name = refl; columns = refl; key = refl }, (record { name = refl; columns = refl; key = refl }, tt))),
+          ),
+        ),
+      ),
+    ),
+  ),
+)
