@@ -28,6 +28,9 @@ pub mod TableChanges
 pub mod Depositors
 pub mod SaidOf
 pub mod SentRows
+pub mod NeedLists
+pub mod NamesFound
+pub mod NeedNames
 pub mod LeadsOn
 pub mod Defines
 pub mod RowsTabled

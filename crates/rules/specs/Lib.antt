@@ -10,3 +10,5 @@ pub mod Tabled
 pub mod Proper
 pub mod Defined
 pub mod Kinds
+pub mod Needs
+pub mod Naming

@@ -92,7 +92,7 @@ impl<'a> Act<'a> {
     }
 
     // The sheet.
-    fn sheet(&self) -> &'a Sheet
+    pub(crate) fn sheet(&self) -> &'a Sheet
         ensures { result.now ≡ sheet_of self.now }
     {
         match self {

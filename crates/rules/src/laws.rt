@@ -1,5 +1,5 @@
 //! Laws of replies and of registers: nothing runs, each contract is a law.
-ghost use Rattle.std.specs.Prelude.{◌≡◌, ◌++◌, ◌∷◌, ℕ, List, Some, None};
+ghost use Rattle.std.specs.Prelude.{◌≡◌, ◌++◌, ◌∷◌, ℕ, List, Some, None, map, true};
 ghost use Rattle.profile.specs.Accepted.{IsLegal, after, depositor_of, own_of, reply_to};
 ghost use Rattle.profile.specs.Header.{Who, isa};
 ghost use Rattle.profile.specs.Moments.{Moment};
@@ -16,6 +16,14 @@ ghost use Rattle.stock.specs.declared.steps.Change.{Change};
 ghost use Rattle.rules.specs.Decided.{IsPageOf};
 ghost use Rattle.rules.specs.Defined.{IsDefined};
 ghost use Rattle.rules.specs.Played.{CanFollow};
+ghost use Rattle.profile.specs.Need.{need_of};
+ghost use Rattle.stock.specs.Parts.{IsPart};
+ghost use Rattle.rules.specs.Needs.{NamesFor};
+ghost use Rattle.rules.specs.Naming.{named_of};
+ghost use Rattle.profile.specs.Bytes.{is_one_of};
+ghost use Rattle.profile.specs.Need.{items_of};
+ghost use Rattle.profile.specs.Page.{PageOrder};
+ghost use Rattle.stock.specs.Pages.{order_at};
 ghost use Rattle.rules.specs.Tabled.{stock_part, stock_puts, with_rows};
 
 /// The reply to a command looks at the own entries of the depositor that it names, and at no other's.
@@ -66,4 +74,9 @@ pub fn events_say_what_was_sent()
 /// A page that stands for the own entries of a depositor of a legal register is the one that the definitions give for them.
 pub fn pages_are_the_defined_ones()
     ensures { (W : Who) (L : List Entry) (w : Who) (p : PageFacts) → IsLegal W L → IsSound p → IsPageOf p (history (own L w)) → IsDefined p (page_of (own L w)) }
+{}
+
+/// What a count names.
+pub fn temporary()
+    ensures { (p P : PageFacts) → ((s : List ℕ) (k : PageOrder) → order_at s P.orders ≡ Some k → (t : List ℕ) → is_one_of (items_of k.reserved) t ≡ true → is_one_of (map (λ l. l.item) k.lines) t ≡ true) → (c : Command) → IsPart (named_of (need_of c) P) p P → NamesFor (named_of (need_of c) P) p c }
 {}

@@ -54,7 +54,7 @@ module _ {X K : Type 0} (less : K → K → Bool) (strict : IsStrict less) (key 
   put_front x [] h = refl
   put_front x (y ∷ ys) h = rw (and_parts (less (key x) (key y)) (list_all (λ z. less (key x) (key z)) ys) h).0 refl
 
-  all_put : (p : X → Bool) (x : X) (ys : List X) → p x ≡ true → list_all p ys ≡ true → list_all p (put_by less key x ys) ≡ true
+  pub all_put : (p : X → Bool) (x : X) (ys : List X) → p x ≡ true → list_all p ys ≡ true → list_all p (put_by less key x ys) ≡ true
   all_put p x [] e h = and_true (p x) true e refl
   all_put p x (y ∷ ys) e h = let a = and_parts (p y) (list_all p ys) h in elim (cases_Bool (less (key x) (key y))) [
     | inl f ↦ rw f (and_true (p x) (list_all p (y ∷ ys)) e h)
@@ -77,6 +77,19 @@ module _ {X K : Type 0} (less : K → K → Bool) (strict : IsStrict less) (key 
           (subst (λ (k : K). list_all (λ z. less k (key z)) ys ≡ true) (sym (strict.total (key x) (key y) f g)) a.0) a.1)
     ]
   ]
+
+  -- where each key comes before the next, they rise
+  pub adjacent_rises : (xs : List X) → ((k : ℕ) (d : X) → k + 1 < length xs → less (key (get_or xs k d)) (key (get_or xs (k + 1) d)) ≡ true) → rises_by less key xs ≡ true
+  adjacent_rises [] h = refl
+  adjacent_rises (x ∷ []) h = refl
+  adjacent_rises (x ∷ y ∷ ys) h =
+      let first : less (key x) (key y) ≡ true = h 0 x (omega arith) in
+      let rest : rises_by less key (y ∷ ys) ≡ true = adjacent_rises (y ∷ ys) (λ k d within.
+      let next : suc (k + 1) ≡ suc k + 1 = omega arith in
+      ap (λ (n : ℕ). less (key (get_or (y ∷ ys) k d)) (key (get_or (x ∷ y ∷ ys) n d))) next ∙ h (suc k) d (omega (arith, within))) in
+      let later = (and_parts (list_all (λ z. less (key y) (key z)) ys) (rises_by less key ys) rest).0 in
+      and_true (list_all (λ z. less (key x) (key z)) (y ∷ ys)) (rises_by less key (y ∷ ys))
+      (and_true (less (key x) (key y)) (list_all (λ z. less (key x) (key z)) ys) first (all_further (key x) (key y) ys first later)) rest
 
   pub filter_rises : (p : X → Bool) (ys : List X) → rises_by less key ys ≡ true → rises_by less key (filter p ys) ≡ true
   filter_rises p [] h = refl

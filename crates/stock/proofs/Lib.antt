@@ -27,3 +27,7 @@ pub mod PageLaws
 pub mod ChangeLaws
 pub mod Leads
 pub mod Steppings
+pub mod PartLemmas
+pub mod PartShares
+pub mod PartLaws
+pub mod SoundLaws

@@ -5,7 +5,10 @@ ghost use Rattle.profile.specs.Clerk.{counted, picked};
 ghost use Rattle.profile.specs.Events.{Event, counts, picks};
 ghost use Rattle.profile.specs.Means.{Line};
 ghost use Rattle.profile.specs.Movements.{Column, IsCovered, balance};
-ghost use Rattle.stock.specs.Pages.{PageFacts, IsSound, next_entry};
+ghost use Rattle.stock.specs.Pages.{PageFacts, AreSorted, IsSound, next_entry};
+ghost use Rattle.stock.specs.Parts.{Named, IsPart, IsClosed, part_of};
+ghost use Rattle.stock.specs.Puts.{put};
+ghost use Rattle.stock.specs.declared.steps.Change.{Change};
 ghost use Rattle.stock.specs.Shows.{Shows};
 ghost use Rattle.profile.specs.Rows.{LotRow};
 ghost use Rattle.stock.specs.Told.{told, one, amount, changed_rows, IsDistinct};
@@ -45,4 +48,21 @@ pub fn the_end_of_an_entry_changes_nothing()
 pub fn changed_rows_lead_to_the_new_ones()
     ensures { (old new : List LotRow) → IsDistinct old → IsDistinct new → (f : LotRow → ℕ) (item lot : List ℕ) → told one item lot old ≤ told one item lot new
         → told f item lot new ≡ (if told one item lot (changed_rows old new) == 0 then told f item lot old else told f item lot (changed_rows old new)) }
+{}
+
+/// What is named of a page is a part of it, which is sound where the page is and the items in lines of named advices and orders
+/// are named.
+pub fn what_is_named_is_a_part()
+    ensures part { (n : Named) (P : PageFacts) → AreSorted P → IsPart n (part_of n P) P }
+    ensures sound { (n : Named) (P : PageFacts) → IsClosed n P → IsSound P → IsSound (part_of n P) }
+{}
+
+/// The same changes keep a part of a page a part of it.
+pub fn changes_keep_a_part()
+    ensures { (n : Named) (cs : List Change) (p P : PageFacts) → IsPart n p P → IsPart n (put cs p) (put cs P) }
+{}
+
+/// A page is the part of itself, whatever is named.
+pub fn a_page_is_a_part_of_itself()
+    ensures { (n : Named) (P : PageFacts) → AreSorted P → IsPart n P P }
 {}

@@ -21,6 +21,7 @@ mod recounts;
 mod reservations;
 mod rows;
 mod searches;
+mod sound;
 mod steps;
 
 pub use acknowledgments::acknowledge;

@@ -135,7 +135,7 @@ pub(crate) fn reserved(alloc: Global, shares: &[Goods]) -> Result<Vec<Goods>, Al
 }
 
 // Whether a line is of the pair.
-fn is_of(line: &Goods, item: &[u8], lot: &[u8]) -> bool
+pub(crate) fn is_of(line: &Goods, item: &[u8], lot: &[u8]) -> bool
     ensures { result ≡ is_pair item.now lot.now line.now }
 {
     line.item.as_slice() == item && line.lot.as_slice() == lot

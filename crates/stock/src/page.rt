@@ -1,8 +1,9 @@
-ghost use Rattle.std.specs.Prelude.{◌≡◌, ◌<◌, ◌+◌, List, [], ◌∷◌, IfOk, MatchOption, is_some, None, Some};
+ghost use Rattle.std.specs.Prelude.{length, ◌≡◌, ◌<◌, ◌+◌, List, [], ◌∷◌, IfOk, MatchOption, is_some, None, Some, true};
 ghost use Rattle.profile.specs.Limits.{most_entries};
 ghost use Rattle.profile.specs.Events.{Event, Enrolment};
 ghost use Rattle.profile.specs.Movements.{OnHand, balance};
 ghost use Rattle.stock.specs.Pages.{PageFacts, IsSound, advice_at, order_at, document_at, next_entry};
+ghost use Rattle.stock.specs.Parts.{Named, IsPart};
 ghost use Rattle.stock.specs.Puts.{put};
 ghost use Rattle.stock.specs.Shows.{Shows};
 ghost use Rattle.stock.specs.Told.{told, amount};
@@ -13,6 +14,7 @@ use crate::known_advices::KnownAdvice;
 use crate::known_orders::KnownOrder;
 use crate::rows::{Column, Row, amount_of};
 use crate::searches::{place_of_advice, place_of_document, place_of_order};
+use crate::sound::{are_sorted, is_kept};
 use crate::steps::Step;
 use std::alloc::{AllocError, Global};
 use std::marker::Model;
@@ -51,6 +53,42 @@ impl Page {
             entries: 0,
             recent: 0,
         }
+    }
+
+    /// The page with these lists, after so many entries and with no event since; None where they aren't those of a page: each list in the
+    /// order of its keys, each key once; no more reserved of a pair than is on hand; what is open expected and reserved; what is reserved for an
+    /// order of items of its lines; no amount above what so many entries can bring.
+    pub fn of(
+        rows: Vec<Row>,
+        advices: Vec<KnownAdvice>,
+        orders: Vec<KnownOrder>,
+        documents: Vec<KnownDocument>,
+        entries: u32,
+    ) -> Option<Page>
+        ensures { let lists : PageFacts = record { rows = rows.items; advices = advices.items; orders = orders.items; documents = documents.items; entries = entries; recent = 0 } in
+            MatchOption result (IsSound lists → ⊥) (λ page. page ≡ lists) }
+    {
+        if !are_sorted(&rows, &advices, &orders, &documents) {
+            return None;
+        }
+        if !is_kept(&rows, &advices, &orders, entries) {
+            return None;
+        }
+        Some(Page {
+            rows,
+            advices,
+            orders,
+            documents,
+            entries,
+            recent: 0,
+        })
+    }
+
+    /// The number of pairs on it, of an item and a lot each.
+    pub fn pairs(&self) -> u64
+        ensures { result ≡ length self.now.rows }
+    {
+        self.rows.len() as u64
     }
 
     /// A copy of it; want of memory is the one error.
@@ -161,7 +199,7 @@ impl Page {
     /// What is on hand of a pair, in the unit EA: 0 where there is no row of it.
     pub fn on_hand(&self, item: &[u8], lot: &[u8]) -> u64
         ensures told { result ≡ told (amount OnHand) item.now lot.now self.now.rows }
-        ensures balance { (es : List Event) → Shows self.now es → result ≡ balance es OnHand item.now lot.now }
+        ensures balance { (n : Named) (P : PageFacts) (es : List Event) → IsPart n self.now P → n.items item.now ≡ true → Shows P es → result ≡ balance es OnHand item.now lot.now }
     {
         let rows = self.rows();
         amount_of(rows, Column::OnHand, item, lot)

@@ -59,7 +59,7 @@ impl Row {
     }
 
     // Whether it comes before the row of a pair.
-    fn is_before(&self, item: &[u8], lot: &[u8]) -> bool
+    pub(crate) fn is_before(&self, item: &[u8], lot: &[u8]) -> bool
         ensures { result ≡ key_before (row_key self.now) (item.now, lot.now) }
     {
         if self.item.as_slice() == item {

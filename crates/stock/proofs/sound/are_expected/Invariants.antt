@@ -1,0 +1,8 @@
+use Rattle.std.proofs.Common.{◌≡◌, take, true}
+use Rattle.std.specs.List.{list_all}
+use Rattle.stock.specs.Soundness.{is_expected}
+use Rattle.stock.proofs.sound.are_expected.Given as goal
+
+-- all lines so far pass
+abbrev pub invariant-loop-line : goal.invariant-loop-line
+invariant-loop-line l = list_all (is_expected l.rows l.advices) (take l.line-index l.lines) ≡ true

@@ -1,0 +1,14 @@
+use Rattle.std.proofs.Common.{ap, arith, sym}
+use Rattle.profile.specs.Means.{Line}
+use Rattle.stock.proofs.SoundLaws.{given_least}
+use Rattle.stock.proofs.sound.left_after.Goals as goal
+
+pub returns-in-None : goal.returns-in-None
+returns-in-None c = omega (
+  arith,
+  c.loop-line.invariant,
+  c.in-None.ensures,
+  c.from.ensures,
+  ap (λ (l : Line). l.quantity) c.line.view_is,
+  given_least c.args.item.now c.args.lot.now c.args.lines.now c.loop-line.line-index c.line-item.result c.loop-line-test.true c.line-item.is (sym c.if-is_of.ensures),
+)

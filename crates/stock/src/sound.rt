@@ -1,0 +1,265 @@
+//! Whether lists are those of a page: what is true of every page is checked of them.
+ghost use Rattle.std.specs.Prelude.{◌≡◌, ◌+◌, ◌<◌, ◌^◌, MatchOption, map, nat_le, nat_lt, true, bytes_eq, if◌then◌else◌};
+ghost use Rattle.std.specs.List.{list_all, list_any};
+ghost use Rattle.profile.specs.Bytes.{comes_before, is_one_of};
+ghost use Rattle.profile.specs.Events as events;
+ghost use Rattle.profile.specs.Limits.{most_entries};
+ghost use Rattle.stock.specs.Keyed.{IsSorted, entry_of, key_before, number_of, rises_by, row_key, shipment_of};
+ghost use Rattle.stock.specs.Pages as pages;
+ghost use Rattle.stock.specs.Soundness as meant;
+
+use crate::documents::KnownDocument;
+use crate::known_advices::KnownAdvice;
+use crate::known_orders::{KnownLine, KnownOrder};
+use crate::lines::is_of;
+use crate::rows::{Column, Row, amount_of};
+use profile::{MOST_ENTRIES, MOST_RECOUNTED, MOST_SETS};
+use sets_in::Goods;
+
+// Whether each row comes before the next, by item and then lot bytes.
+fn rows_rise(rows: &[Row]) -> bool
+    ensures { result ≡ rises_by key_before row_key rows.now }
+{
+    rows.is_sorted_by(|row, next| row.is_before(&next.item, &next.lot))
+}
+
+// Whether each advice comes before the next, by shipment number.
+fn advices_rise(advices: &[KnownAdvice]) -> bool
+    ensures { result ≡ rises_by comes_before shipment_of advices.now }
+{
+    advices.is_sorted_by(|advice, next| advice.is_before(next.shipment()))
+}
+
+// Whether each order comes before the next, by number.
+fn orders_rise(orders: &[KnownOrder]) -> bool
+    ensures { result ≡ rises_by comes_before number_of orders.now }
+{
+    orders.is_sorted_by(|order, next| order.is_before(&next.number))
+}
+
+// Whether each document comes before the next, by number.
+fn documents_rise(documents: &[KnownDocument]) -> bool
+    ensures { result ≡ rises_by nat_lt entry_of documents.now }
+{
+    documents.is_sorted_by(|document, next| document.n < next.n)
+}
+
+// Whether no more is reserved of a row than is on hand, and no amount is above the most.
+fn is_within(row: &Row, most: u64) -> bool
+    ensures { result ≡ meant.is_within most row.now }
+{
+    row.reserved <= row.on_hand
+        && row.expected <= most
+        && row.on_hand <= most
+        && row.shipped <= most
+}
+
+// Whether that holds of each row.
+fn all_within(rows: &[Row], most: u64) -> bool
+    ensures { result ≡ list_all (meant.is_within most) rows.now }
+{
+    rows.iter().all(|row| is_within(row, most))
+}
+
+// Whether that holds of each row, after so many entries.
+fn are_within(rows: &[Row], entries: u32) -> bool
+    requires { entries < most_entries + 1 }
+    ensures { result ≡ list_all (meant.is_within (meant.most_of entries)) rows.now }
+{
+    let most = (u64::from(MOST_RECOUNTED) + 1) * (MOST_SETS as u64 * u64::from(entries));
+    all_within(rows, most)
+}
+
+// What is left of an amount after what lines give a pair; None where they give more.
+fn left_after(lines: &[Goods], item: &[u8], lot: &[u8], amount: u64) -> Option<u64>
+    ensures { MatchOption result (amount < events.quantity_of lines.now item.now lot.now) (λ left. left + events.quantity_of lines.now item.now lot.now ≡ amount) }
+{
+    let mut left = amount;
+    for line in lines {
+        if is_of(line, item, lot) {
+            match left.checked_sub(u64::from(line.quantity)) {
+                Some(less) => left = less,
+                None => return None,
+            }
+        }
+    }
+    Some(left)
+}
+
+// Whether open advices bring at most so much of a pair.
+fn awaits_at_most(advices: &[KnownAdvice], item: &[u8], lot: &[u8], most: u64) -> bool
+    ensures { result ≡ nat_le (pages.awaited advices.now item.now lot.now) most }
+{
+    let mut left = most;
+    for advice in advices {
+        if advice.is_open() {
+            match left_after(advice.lines(), item, lot, left) {
+                Some(less) => left = less,
+                None => return false,
+            }
+        }
+    }
+    true
+}
+
+// Whether open orders hold at most so much of a pair.
+fn holds_at_most(orders: &[KnownOrder], item: &[u8], lot: &[u8], most: u64) -> bool
+    ensures { result ≡ nat_le (pages.held orders.now item.now lot.now) most }
+{
+    let mut left = most;
+    for order in orders {
+        if order.is_open {
+            match left_after(&order.reserved, item, lot, left) {
+                Some(less) => left = less,
+                None => return false,
+            }
+        }
+    }
+    true
+}
+
+// Whether what open advices bring of a line's pair is expected.
+fn is_expected(rows: &[Row], advices: &[KnownAdvice], line: &Goods) -> bool
+    requires { IsSorted rows.now }
+    ensures { result ≡ meant.is_expected rows.now advices.now line.now }
+{
+    let expected = amount_of(rows, Column::Expected, &line.item, &line.lot);
+    awaits_at_most(advices, &line.item, &line.lot, expected)
+}
+
+// Whether what open orders hold of a line's pair is reserved.
+fn is_reserved(rows: &[Row], orders: &[KnownOrder], line: &Goods) -> bool
+    requires { IsSorted rows.now }
+    ensures { result ≡ meant.is_reserved rows.now orders.now line.now }
+{
+    let reserved = amount_of(rows, Column::Reservation, &line.item, &line.lot);
+    holds_at_most(orders, &line.item, &line.lot, reserved)
+}
+
+// Whether what open advices bring of each line's pair is expected.
+fn are_expected(rows: &[Row], advices: &[KnownAdvice], lines: &[Goods]) -> bool
+    requires { IsSorted rows.now }
+    ensures { result ≡ list_all (meant.is_expected rows.now advices.now) lines.now }
+{
+    for line in lines {
+        if !is_expected(rows, advices, line) {
+            return false;
+        }
+    }
+    true
+}
+
+// Whether what open orders hold of each line's pair is reserved.
+fn are_reserved(rows: &[Row], orders: &[KnownOrder], lines: &[Goods]) -> bool
+    requires { IsSorted rows.now }
+    ensures { result ≡ list_all (meant.is_reserved rows.now orders.now) lines.now }
+{
+    for line in lines {
+        if !is_reserved(rows, orders, line) {
+            return false;
+        }
+    }
+    true
+}
+
+// Whether what an open advice brings is expected.
+fn advice_expected(rows: &[Row], advices: &[KnownAdvice], advice: &KnownAdvice) -> bool
+    requires { IsSorted rows.now }
+    ensures { result ≡ (if advice.now.is_open then list_all (meant.is_expected rows.now advices.now) advice.now.lines else true) }
+{
+    !advice.is_open() || are_expected(rows, advices, advice.lines())
+}
+
+// Whether what an open order holds is reserved.
+fn order_reserved(rows: &[Row], orders: &[KnownOrder], order: &KnownOrder) -> bool
+    requires { IsSorted rows.now }
+    ensures { result ≡ (if order.now.is_open then list_all (meant.is_reserved rows.now orders.now) order.now.reserved else true) }
+{
+    !order.is_open || are_reserved(rows, orders, &order.reserved)
+}
+
+// Whether all that open advices bring is expected.
+fn all_expected(rows: &[Row], advices: &[KnownAdvice]) -> bool
+    requires { IsSorted rows.now }
+    ensures { result ≡ meant.all_expected rows.now advices.now advices.now }
+{
+    for advice in advices {
+        if !advice_expected(rows, advices, advice) {
+            return false;
+        }
+    }
+    true
+}
+
+// Whether all that open orders hold is reserved.
+fn all_reserved(rows: &[Row], orders: &[KnownOrder]) -> bool
+    requires { IsSorted rows.now }
+    ensures { result ≡ meant.all_reserved rows.now orders.now orders.now }
+{
+    for order in orders {
+        if !order_reserved(rows, orders, order) {
+            return false;
+        }
+    }
+    true
+}
+
+// Whether one of the lines is of the item.
+fn is_ordered(lines: &[KnownLine], item: &[u8]) -> bool
+    ensures { result ≡ list_any (λ m. bytes_eq item.now m.item) lines.now }
+{
+    lines.iter().any(|line| item == line.item.as_slice())
+}
+
+// Whether an item is one of theirs.
+fn is_of_lines(item: &[u8], lines: &[KnownLine]) -> bool
+    ensures { result ≡ is_one_of (map (λ m. m.item) lines.now) item.now }
+{
+    is_ordered(lines, item)
+}
+
+// Whether what is reserved for an order is of items of its lines.
+fn is_in_lines(order: &KnownOrder) -> bool
+    ensures { result ≡ pages.is_in_lines order.now }
+{
+    order
+        .reserved
+        .iter()
+        .all(|line| is_of_lines(&line.item, &order.lines))
+}
+
+// Whether that holds of each order.
+fn all_in_lines(orders: &[KnownOrder]) -> bool
+    ensures { result ≡ list_all pages.is_in_lines orders.now }
+{
+    orders.iter().all(is_in_lines)
+}
+
+/// Whether each list is in the order of its keys, each key once.
+pub(crate) fn are_sorted(
+    rows: &[Row],
+    advices: &[KnownAdvice],
+    orders: &[KnownOrder],
+    documents: &[KnownDocument],
+) -> bool
+    ensures { (p : pages.PageFacts) → p.rows ≡ rows.now → p.advices ≡ advices.now → p.orders ≡ orders.now → p.documents ≡ documents.now → result ≡ meant.are_sorted p }
+{
+    rows_rise(rows) && advices_rise(advices) && orders_rise(orders) && documents_rise(documents)
+}
+
+/// Whether lists in order are those of a page after so many entries, with no event since.
+pub(crate) fn is_kept(
+    rows: &[Row],
+    advices: &[KnownAdvice],
+    orders: &[KnownOrder],
+    entries: u32,
+) -> bool
+    requires { IsSorted rows.now }
+    ensures { (p : pages.PageFacts) → p.rows ≡ rows.now → p.advices ≡ advices.now → p.orders ≡ orders.now → p.entries ≡ entries → result ≡ meant.is_kept p }
+{
+    entries <= MOST_ENTRIES
+        && are_within(rows, entries)
+        && all_expected(rows, advices)
+        && all_reserved(rows, orders)
+        && all_in_lines(orders)
+}
