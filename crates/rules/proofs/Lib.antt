@@ -31,3 +31,5 @@ pub mod SentRows
 pub mod LeadsOn
 pub mod Defines
 pub mod RowsTabled
+pub mod SetsNamed
+pub mod Whole

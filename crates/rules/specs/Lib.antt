@@ -10,3 +10,4 @@ pub mod Tabled
 pub mod Proper
 pub mod Defined
 pub mod Kinds
+pub mod Needs

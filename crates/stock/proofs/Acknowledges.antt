@@ -15,8 +15,9 @@ use Rattle.profile.specs.Movements.{OnHand, Expected, Reservation}
 use Rattle.stock.specs.declared.steps.Change.TheVariants as change
 use Rattle.stock.specs.Told.{told, one, amount, since, named_by, positive}
 use Rattle.stock.specs.Keyed.{rises_by, key_before, row_key, shipment_of, number_of, entry_of}
-use Rattle.stock.specs.Pages.{PageFacts, is_document, advice_at, order_at, document_at, awaited, held, IsSound, AreSorted}
+use Rattle.stock.specs.Pages.{PageFacts, is_document, advice_at, order_at, document_at, awaited, held, IsSound, AreSorted, is_in_lines}
 use Rattle.stock.specs.Puts.{put}
+use Rattle.stock.specs.Parts.{Named, IsPart}
 use Rattle.stock.specs.Shows.{Shows, sent_if, sent_under, document_of, is_numbered_within}
 use Rattle.stock.specs.Steps.{decides, heard, said_of_found, IsAcknowledged}
 use Rattle.stock.specs.Stops.{document_changes}
@@ -33,6 +34,7 @@ acknowledged_sound a old new step room sound = record {
   distinct = sorted_distinct new.rows sorted.rows;
   expected = λ x y. omega (arith, ap (told (amount Expected) x y) step.rows, sound.expected x y, ap (λ (ks : List PageAdvice). awaited ks x y) step.advices);
   reserved = λ x y. omega (arith, ap (told (amount Reservation) x y) step.rows, sound.reserved x y, ap (λ (ks : List PageOrder). held ks x y) step.orders);
+  in_lines = ap (list_all is_in_lines) step.orders ∙ sound.in_lines;
   covered = λ x y. omega (arith, ap (told (amount Reservation) x y) step.rows, ap (told (amount OnHand) x y) step.rows, sound.covered x y);
   bounded = λ c x y. omega (arith, ap (told (amount c) x y) step.rows, sound.bounded c x y, step.next.entries, step.next.recent);
   numbered = omega (arith, sound.numbered, step.next.entries);
@@ -119,25 +121,25 @@ unheard k a ds own n = elim (cases_Bool (eqb a.document n)) [
   | inr e ↦ sym (other_heard k n a ds e)
 ]
 
-quiet : (a : Acknowledgment) (p : PageFacts) → IsSound p → option_map (heard p.entries a) (document_at a.document p.documents) ≡ document_at a.document p.documents
+quiet : (a : Acknowledgment) (p : PageFacts) → AreSorted p → option_map (heard p.entries a) (document_at a.document p.documents) ≡ document_at a.document p.documents
     → IsAcknowledged a p (put [] p)
-quiet a p sound own = record {
+quiet a p sorted own = record {
   rows = refl;
   advices = refl;
   orders = refl;
   documents = unheard p.entries a p.documents own;
-  sorted = sound.sorted.documents;
+  sorted = sorted.documents;
   next = record { entries = refl; recent = refl };
 }
 
-decided : (a : Acknowledgment) (p : PageFacts) (d : PageDocument) → IsSound p → document_at a.document p.documents ≡ Some d → decides p.entries a d ≡ true
+decided : (a : Acknowledgment) (p : PageFacts) (d : PageDocument) → AreSorted p → document_at a.document p.documents ≡ Some d → decides p.entries a d ≡ true
     → IsAcknowledged a p (put (change.Document a.document a.accepts ∷ []) p)
-decided a p d sound found yes_it = record {
+decided a p d sorted found yes_it = record {
   rows = refl;
   advices = refl;
   orders = refl;
   documents = λ n. ap (λ (o : Option PageDocument). document_at n (said_of_found o a.accepts p.documents)) found ∙ document_put n said p.documents ∙ at n (eqb d.n n) refl;
-  sorted = said_sorted a.document a.accepts p.documents sound.sorted.documents;
+  sorted = said_sorted a.document a.accepts p.documents sorted.documents;
   next = record { entries = refl; recent = refl };
 }
   where
@@ -157,21 +159,30 @@ decided a p d sound found yes_it = record {
     at n false e = sym (other_heard p.entries n a p.documents (ap (λ (m : ℕ). eqb m n) (sym number) ∙ e))
 
 -- the changes of an acknowledgment make the page that heard it
-pub acknowledged_put : (a : Acknowledgment) (p : PageFacts) → IsSound p → IsAcknowledged a p (put (document_changes p a) p)
-acknowledged_put a p sound = by (document_at a.document p.documents) refl
+pub acknowledged_put : (a : Acknowledgment) (p : PageFacts) → AreSorted p → IsAcknowledged a p (put (document_changes p a) p)
+acknowledged_put a p sorted = by (document_at a.document p.documents) refl
   where
     made : (v : Bool) → list_any (decides p.entries a) p.documents ≡ v → IsAcknowledged a p (put (cond v (change.Document a.document a.accepts ∷ []) []) p)
         → IsAcknowledged a p (put (document_changes p a) p)
     made v e h = subst (λ (u : Bool). IsAcknowledged a p (put (cond u (change.Document a.document a.accepts ∷ []) []) p)) (sym e) h
 
     with_it : (d : PageDocument) (v : Bool) → document_at a.document p.documents ≡ Some d → decides p.entries a d ≡ v → IsAcknowledged a p (put (document_changes p a) p)
-    with_it d true h e = made true (decides_some p.entries a p.documents d sound.sorted.documents h ∙ e) (decided a p d sound h e)
-    with_it d false h e = made false (decides_some p.entries a p.documents d sound.sorted.documents h ∙ e)
-        (quiet a p sound (ap (option_map (heard p.entries a)) h ∙ ap Some (not_heard p.entries a d e) ∙ sym h))
+    with_it d true h e = made true (decides_some p.entries a p.documents d sorted.documents h ∙ e) (decided a p d sorted h e)
+    with_it d false h e = made false (decides_some p.entries a p.documents d sorted.documents h ∙ e)
+        (quiet a p sorted (ap (option_map (heard p.entries a)) h ∙ ap Some (not_heard p.entries a d e) ∙ sym h))
 
     by : (o : Option PageDocument) → document_at a.document p.documents ≡ o → IsAcknowledged a p (put (document_changes p a) p)
-    by None h = made false (decides_none p.entries a p.documents h) (quiet a p sound (ap (option_map (heard p.entries a)) h ∙ sym h))
+    by None h = made false (decides_none p.entries a p.documents h) (quiet a p sorted (ap (option_map (heard p.entries a)) h ∙ sym h))
     by (Some d) h = with_it d (decides p.entries a d) h refl
+
+-- what an acknowledgment changes on a part
+pub document_part : (n : Named) (p P : PageFacts) (a : Acknowledgment) → IsPart n p P → AreSorted p → n.documents a.document ≡ true → document_changes p a ≡ document_changes P a
+document_part n p P a part sorted is = ap (λ (v : Bool). cond v (change.Document a.document a.accepts ∷ []) []) (by (document_at a.document p.documents) refl)
+  where
+    by : (o : Option PageDocument) → document_at a.document p.documents ≡ o → list_any (decides p.entries a) p.documents ≡ list_any (decides P.entries a) P.documents
+    by None h = decides_none p.entries a p.documents h ∙ sym (decides_none P.entries a P.documents (sym (part.documents a.document is) ∙ h))
+    by (Some d) h = decides_some p.entries a p.documents d sorted.documents h ∙ ap (λ (m : ℕ). decides m a d) part.entries
+        ∙ sym (decides_some P.entries a P.documents d part.sorted.documents (sym (part.documents a.document is) ∙ h))
 
 lt_le : (m k : ℕ) → ltb m (k + 1) ≡ leb m k
 lt_le m k = elim (cases_Bool (leb m k)) [

@@ -2,6 +2,7 @@
 use Rattle.std.proofs.Common.{◌≡◌, ℕ, ◌+◌, ◌<◌, ◌^◌, Bool, true, false, not, cond, List, [], ◌∷◌, ◌++◌, refl, ap, sym, ◌∙◌, arith, Option, Some, None}
 use Rattle.std.proofs.lemmas.List.{append-nil}
 use Rattle.std.proofs.lemmas.Grind.{flat_map-append}
+use Rattle.std.specs.List.{list_all}
 use Rattle.std.specs.Prelude.{bytes_eq, is_some, option_map, flat_map, nat_lt}
 use Rattle.std.specs.Option.{option_or}
 use Rattle.profile.specs.Lists.{or_else}
@@ -12,7 +13,7 @@ use Rattle.profile.specs.Events.{Event, Advised, quantity_of, advice_if, advice_
 use Rattle.profile.specs.Movements.{Expected, OnHand, Reservation}
 use Rattle.sets_in.specs.Limits.{HasFewLines}
 use Rattle.stock.specs.Told.{told, amount, named_by, positive}
-use Rattle.stock.specs.Pages.{PageFacts, advice_at, order_at, document_at, awaited, held, IsSound, AreSorted}
+use Rattle.stock.specs.Pages.{PageFacts, advice_at, order_at, document_at, awaited, held, IsSound, AreSorted, is_in_lines}
 use Rattle.stock.specs.Shows.{Shows, is_numbered_within}
 use Rattle.stock.specs.Steps.{opened, IsAnnounced}
 use Rattle.stock.proofs.Sums.{named_append}
@@ -43,6 +44,7 @@ announced_sound a old new step few unknown room sound = record {
     ap (was (λ (k : PageAdvice). cond k.is_open (quantity_of k.lines i l) 0)) unknown,
   );
   reserved = λ i l. omega (arith, step.rows.amounts Reservation i l, sound.reserved i l, ap (λ (ks : List PageOrder). held ks i l) step.orders);
+  in_lines = ap (list_all is_in_lines) step.orders ∙ sound.in_lines;
   covered = λ i l. omega (arith, step.rows.amounts Reservation i l, step.rows.amounts OnHand i l, sound.covered i l);
   bounded = λ c i l. omega (arith, step.rows.amounts c i l, sound.bounded c i l, given_le Expected (advised a) c i l, advised_le a few, step.next.entries, step.next.recent);
   numbered = omega (arith, sound.numbered, step.next.entries);

@@ -17,7 +17,7 @@ use Rattle.stock.specs.Told.{told, one, amount, since, given, named_by, positive
 use Rattle.stock.specs.Moved.{set_by}
 use Rattle.profile.specs.Bytes.{comes_before}
 use Rattle.stock.specs.Keyed.{rises_by, shipment_of, number_of}
-use Rattle.stock.specs.Pages.{PageFacts, advice_at, order_at, awaited, held, IsSound, AreSorted}
+use Rattle.stock.specs.Pages.{PageFacts, advice_at, order_at, awaited, held, IsSound, AreSorted, is_in_lines}
 use Rattle.stock.proofs.KeyLemmas.{sorted_distinct, sent_sorted, advices_once, orders_once, documents_once}
 use Rattle.stock.specs.Shows.{Shows, is_numbered_within}
 use Rattle.stock.specs.Steps.{is_unknown, is_below, is_on_hand, IsRecounted}
@@ -126,6 +126,7 @@ recounted_sound n sheet old new step is_sheet covers room sound = record {
   distinct = sorted_distinct new.rows step.rows.sorted;
   expected = λ a b. omega (arith, step.rows.others Expected a b refl, sound.expected a b, ap (λ (ks : List PageAdvice). awaited ks a b) step.advices);
   reserved = λ a b. omega (arith, step.rows.others Reservation a b refl, sound.reserved a b, ap (λ (ks : List PageOrder). held ks a b) step.orders);
+  in_lines = ap (list_all is_in_lines) step.orders ∙ sound.in_lines;
   covered = λ a b. elim (cases_Bool (list_any (is_pair a b) sheet)) [
     | inl e ↦ omega (arith, now a b, ap (λ (v : Bool). cond v (quantity_of sheet a b) (told (amount OnHand) a b old.rows)) e, step.rows.others Reservation a b refl, not_below old.rows sheet a b covers e)
     | inr e ↦ omega (arith, now a b, ap (λ (v : Bool). cond v (quantity_of sheet a b) (told (amount OnHand) a b old.rows)) e, step.rows.others Reservation a b refl, sound.covered a b)

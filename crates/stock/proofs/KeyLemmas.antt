@@ -6,19 +6,19 @@ use Rattle.std.proofs.lemmas.List.{get_or_default}
 use Rattle.std.proofs.lemmas.Slice.Eq.{bytes_eq-Decides}
 use Rattle.std.specs.Prelude.{bytes_eq, find, nat_lt, count_by, sum_by}
 use Rattle.std.specs.Option.{option_or}
-use Rattle.std.specs.List.{insert}
+use Rattle.std.specs.List.{insert, list_all}
 use Rattle.profile.specs.Bytes.{comes_before}
 use Rattle.profile.specs.Movements.{Column, Expected, OnHand, Reservation, Shipped}
 use Rattle.profile.specs.Rows.{LotRow}
 use Rattle.profile.specs.Page.{PageAdvice, PageOrder, PageDocument}
 use Rattle.stock.specs.Keyed.{Pair, key_before, row_key, put_row, IsSorted, shipment_of, number_of, entry_of, rises_by, put_advice, put_order, put_document, IsRank}
 use Rattle.stock.specs.Moved.{IsPlace}
-use Rattle.stock.specs.Pages.{is_shipment, is_number, is_document, advice_at, order_at, document_at, IsAt}
+use Rattle.stock.specs.Pages.{is_shipment, is_number, is_document, advice_at, order_at, document_at, IsAt, is_in_lines}
 use Rattle.stock.specs.Steps.{sent_unless, with_sent, said_of_found, with_said}
 use Rattle.stock.specs.Told.{is_row, told, one, raised, lowered, IsDistinct}
 use Rattle.stock.proofs.Orders.{IsStrict}
 use Rattle.stock.proofs.Texts.{texts_never, texts_through, texts_total}
-use Rattle.stock.proofs.Keys.{IsTest, was, sum_found, count_once, find_put, put_rises, set_rises, sum_put, at_set, rank_insert, none_apart, rises_at}
+use Rattle.stock.proofs.Keys.{IsTest, all_put, was, sum_found, count_once, find_put, put_rises, set_rises, sum_put, at_set, rank_insert, none_apart, rises_at}
 use Rattle.stock.proofs.Finds.{put_new, find_at, element_at}
 
 pub texts_strict : IsStrict comes_before
@@ -178,6 +178,9 @@ order_sum f k ks sorted = sum_put comes_before texts_strict number_of f k (is_nu
 
 pub advices_put_sorted : (k : PageAdvice) (ks new : List PageAdvice) → new ≡ put_advice k ks → rises_by comes_before shipment_of ks ≡ true → rises_by comes_before shipment_of new ≡ true
 advices_put_sorted k ks new e sorted = ap (rises_by comes_before shipment_of) e ∙ put_rises comes_before texts_strict shipment_of k ks sorted
+
+pub orders_put_in_lines : (k : PageOrder) (ks new : List PageOrder) → new ≡ put_order k ks → is_in_lines k ≡ true → list_all is_in_lines ks ≡ true → list_all is_in_lines new ≡ true
+orders_put_in_lines k ks new e lies all = ap (list_all is_in_lines) e ∙ all_put comes_before texts_strict number_of is_in_lines k ks lies all
 
 pub orders_put_sorted : (k : PageOrder) (ks new : List PageOrder) → new ≡ put_order k ks → rises_by comes_before number_of ks ≡ true → rises_by comes_before number_of new ≡ true
 orders_put_sorted k ks new e sorted = ap (rises_by comes_before number_of) e ∙ put_rises comes_before texts_strict number_of k ks sorted

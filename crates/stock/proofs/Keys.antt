@@ -54,7 +54,7 @@ module _ {X K : Type 0} (less : K → K → Bool) (strict : IsStrict less) (key 
   put_front x [] h = refl
   put_front x (y ∷ ys) h = rw (and_parts (less (key x) (key y)) (list_all (λ z. less (key x) (key z)) ys) h).0 refl
 
-  all_put : (p : X → Bool) (x : X) (ys : List X) → p x ≡ true → list_all p ys ≡ true → list_all p (put_by less key x ys) ≡ true
+  pub all_put : (p : X → Bool) (x : X) (ys : List X) → p x ≡ true → list_all p ys ≡ true → list_all p (put_by less key x ys) ≡ true
   all_put p x [] e h = and_true (p x) true e refl
   all_put p x (y ∷ ys) e h = let a = and_parts (p y) (list_all p ys) h in elim (cases_Bool (less (key x) (key y))) [
     | inl f ↦ rw f (and_true (p x) (list_all p (y ∷ ys)) e h)

@@ -14,8 +14,9 @@ pub blank_sound : IsSound (record { rows = []; advices = []; orders = []; docume
 blank_sound = record {
   sorted = record { rows = refl; advices = refl; orders = refl; documents = refl };
   distinct = λ a b. omega arith;
-  expected = λ a b. refl;
-  reserved = λ a b. refl;
+  expected = λ a b. omega arith;
+  reserved = λ a b. omega arith;
+  in_lines = refl;
   covered = λ a b. omega arith;
   bounded = λ c a b. omega arith;
   numbered = omega arith;
@@ -45,6 +46,7 @@ next_sound p room sound = record {
   distinct = sound.distinct;
   expected = sound.expected;
   reserved = sound.reserved;
+  in_lines = sound.in_lines;
   covered = sound.covered;
   bounded = λ c i l. omega (arith, sound.bounded c i l, sound.few);
   numbered = omega (arith, room);

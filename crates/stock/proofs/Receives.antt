@@ -18,7 +18,7 @@ use Rattle.profile.specs.Movements.{Column, Expected, OnHand, Reservation, colum
 use Rattle.stock.specs.Told.{told, amount, since, given, named_by, positive}
 use Rattle.profile.specs.Bytes.{comes_before}
 use Rattle.stock.specs.Keyed.{rises_by, number_of, put_advice}
-use Rattle.stock.specs.Pages.{PageFacts, is_shipment, advice_at, order_at, document_at, awaited, held, IsSound, AreSorted}
+use Rattle.stock.specs.Pages.{PageFacts, is_shipment, advice_at, order_at, document_at, awaited, held, IsSound, AreSorted, is_in_lines}
 use Rattle.stock.specs.Shows.{Shows, sent_if, sent_under, document_of, is_numbered_within}
 use Rattle.stock.specs.Steps.{closed_advice, with_sent, IsReceived}
 use Rattle.stock.proofs.Keys.{was}
@@ -62,6 +62,7 @@ received_sound n k sheet old new step known opened is_sheet room sound = record 
     ap (λ (v : Bool). cond v (quantity_of k.lines a b) 0) opened,
   );
   reserved = λ a b. omega (arith, step.rows.amounts Reservation a b, sound.reserved a b, ap (λ (ks : List PageOrder). held ks a b) step.orders);
+  in_lines = ap (list_all is_in_lines) step.orders ∙ sound.in_lines;
   covered = λ a b. omega (arith, step.rows.amounts Reservation a b, step.rows.amounts OnHand a b, sound.covered a b);
   bounded = λ c a b. omega (arith, step.rows.amounts c a b, sound.bounded c a b, given_at_most OnHand sheet c a b, is_sheet.little a b, step.next.entries, step.next.recent);
   numbered = omega (arith, sound.numbered, step.next.entries);

@@ -12,7 +12,7 @@ use Rattle.profile.specs.Page.{PageAdvice, PageOrder, page_order, reserved_lines
 use Rattle.profile.specs.Events.{Event, Ordered, quantity_of, order_if, order_under, Reserved, picks, count_naming, order_fault, order_fault_where, repeated, same_order_item, repeated_item, wrong_order_total}
 use Rattle.profile.specs.Movements.{Column, Expected, OnHand, Reservation, Shipped}
 use Rattle.stock.specs.Told.{told, amount, given, named_by, positive}
-use Rattle.stock.specs.Pages.{PageFacts, advice_at, order_at, document_at, awaited, held, IsSound, AreSorted}
+use Rattle.stock.specs.Pages.{PageFacts, advice_at, order_at, document_at, awaited, held, IsSound, AreSorted, is_in_lines}
 use Rattle.stock.specs.Shows.{Shows, is_numbered_within, NamesEachOnce}
 use Rattle.stock.specs.Steps.{opened_order, IsReserved}
 use Rattle.stock.proofs.Moves.{came_push, went_push, came_comes, went_comes}
@@ -20,7 +20,7 @@ use Rattle.stock.proofs.Finds.{first_found_push, map_none}
 use Rattle.profile.specs.Bytes.{comes_before}
 use Rattle.stock.specs.Keyed.{rises_by, shipment_of, entry_of}
 use Rattle.stock.proofs.Keys.{was}
-use Rattle.stock.proofs.KeyLemmas.{sorted_distinct, order_sum, order_put_new, orders_put_sorted, advices_once, orders_once, documents_once}
+use Rattle.stock.proofs.KeyLemmas.{sorted_distinct, order_sum, orders_put_in_lines, order_put_new, orders_put_sorted, advices_once, orders_once, documents_once}
 use Rattle.stock.proofs.PageLemmas.{all_numbered_same}
 use Rattle.stock.proofs.Views.{order_seen, unpicked, order_view}
 use Rattle.stock.proofs.Events.{found_kept, or_else_left, any_kept, all_push, advice_kept, document_kept, counted_kept, picked_kept}
@@ -39,8 +39,8 @@ within_bound p shares allotted sound Reservation a b = omega (arith, sound.bound
 within_bound p shares allotted sound Shipped a b = omega (arith, sound.bounded Shipped a b)
 
 pub reserved_sound : (o : Order) (shares : List Line) (old new : PageFacts) → IsReserved o shares old new → IsAllotted old.rows shares
-    → order_at o.number old.orders ≡ None → old.recent < 1000 → IsSound old → IsSound new
-reserved_sound o shares old new step allotted unknown room sound = record {
+    → is_in_lines (opened_order o shares) ≡ true → order_at o.number old.orders ≡ None → old.recent < 1000 → IsSound old → IsSound new
+reserved_sound o shares old new step allotted lies unknown room sound = record {
   sorted = sorted;
   distinct = sorted_distinct new.rows step.rows.sorted;
   expected = λ a b. omega (arith, step.rows.amounts Expected a b, sound.expected a b, ap (λ (ks : List PageAdvice). awaited ks a b) step.advices);
@@ -52,6 +52,7 @@ reserved_sound o shares old new step allotted unknown room sound = record {
     order_sum (λ (k : PageOrder). cond k.is_open (quantity_of k.reserved a b) 0) (opened_order o shares) old.orders sound.sorted.orders,
     ap (was (λ (k : PageOrder). cond k.is_open (quantity_of k.reserved a b) 0)) unknown,
   );
+  in_lines = orders_put_in_lines (opened_order o shares) old.orders new.orders step.orders lies sound.in_lines;
   covered = λ a b. omega (arith, step.rows.amounts Reservation a b, step.rows.amounts OnHand a b, sound.covered a b, allotted.within a b);
   bounded = λ c a b. omega (arith, step.rows.amounts c a b, within_bound old shares allotted sound c a b, step.next.entries, step.next.recent);
   numbered = omega (arith, sound.numbered, step.next.entries);

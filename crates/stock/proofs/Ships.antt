@@ -18,7 +18,7 @@ use Rattle.profile.specs.Bytes.{comes_before}
 use Rattle.stock.specs.Keyed.{rises_by, shipment_of, put_order}
 use Rattle.stock.specs.Pages.{PageFacts, is_number, advice_at, order_at, awaited, held, IsSound, AreSorted}
 use Rattle.stock.proofs.Keys.{was}
-use Rattle.stock.proofs.KeyLemmas.{sorted_distinct, order_sum, order_put, orders_put_sorted, sent_sorted, advices_once, orders_once, documents_once}
+use Rattle.stock.proofs.KeyLemmas.{sorted_distinct, order_sum, orders_put_in_lines, order_put, orders_put_sorted, sent_sorted, advices_once, orders_once, documents_once}
 use Rattle.stock.specs.Shows.{Shows, is_numbered_within, NamesEachOnce}
 use Rattle.stock.specs.Steps.{closed_order, exceeds, IsPicked}
 use Rattle.stock.proofs.Moves.{came_push, went_push, came_append, went_append, came_comes, went_comes, came_goes, went_goes}
@@ -77,6 +77,7 @@ picked_sound n k sheet old new step known opened is_sheet covers room sound = re
     ap (was (held_part a b)) known,
     ap (λ (v : Bool). cond v (quantity_of k.reserved a b) 0) opened,
   );
+  in_lines = orders_put_in_lines (closed_order k) old.orders new.orders step.orders refl sound.in_lines;
   covered = λ a b. omega (arith, step.rows.amounts Reservation a b, step.rows.amounts OnHand a b, sound.covered a b, within_reserved k.reserved sheet a b covers (is_sheet.once a b));
   bounded = λ c a b. omega (arith, step.rows.amounts c a b, sound.bounded c a b, given_at_most Shipped sheet c a b, is_sheet.little a b, step.next.entries, step.next.recent);
   numbered = omega (arith, sound.numbered, step.next.entries);

@@ -1,11 +1,12 @@
 -- A page as its tables have it, and what is true of every page.
-use Rattle.std.specs.Prelude.{ℕ, ◌≤◌, ◌≡◌, ◌+◌, ◌*◌, Bool, true, List, if◌then◌else◌, ◌==◌, None, Option, bytes_eq, sum_by, count_by, find, length, take, slice_index_or, ◌<◌, nat_lt}
+use Rattle.std.specs.Prelude.{ℕ, ◌≤◌, ◌≡◌, ◌+◌, ◌*◌, Bool, true, List, if◌then◌else◌, ◌==◌, None, Option, bytes_eq, sum_by, count_by, find, length, take, map, slice_index_or, ◌<◌, nat_lt}
+use Rattle.std.specs.List.{list_all}
 use Rattle.profile.specs.Limits.{most_recounted, most_entries, most_sets}
 use Rattle.profile.specs.Rows.{LotRow}
 use Rattle.profile.specs.Page.{PageAdvice, PageOrder, PageDocument}
 use Rattle.profile.specs.Events.{quantity_of}
 use Rattle.profile.specs.Movements.{Column, Expected, OnHand, Reservation}
-use Rattle.profile.specs.Bytes.{comes_before}
+use Rattle.profile.specs.Bytes.{comes_before, is_one_of}
 use Rattle.stock.specs.Keyed.{IsSorted, rises_by, shipment_of, number_of, entry_of}
 use Rattle.stock.specs.Told.{told, amount, IsDistinct}
 
@@ -62,13 +63,17 @@ pub record AreSorted (p : PageFacts) : Type 0 where
   pub orders : rises_by comes_before number_of p.orders ≡ true
   pub documents : rises_by nat_lt entry_of p.documents ≡ true
 
--- Of every page: nothing is below 0, no more is reserved than is on hand, what is expected and reserved belongs to what is
--- open, no sum leaves 64 bits, and each key stands once, in order.
+-- what is reserved for an order is of items of its lines
+abbrev pub is_in_lines : PageOrder → Bool
+is_in_lines k = list_all (λ l. is_one_of (map (λ m. m.item) k.lines) l.item) k.reserved
+
+-- Of every page: nothing is below 0, no more is reserved than is on hand, what is open is expected and reserved, no sum leaves 64 bits, and each key stands once, in order.
 pub record IsSound (p : PageFacts) : Type 0 where
   pub sorted : AreSorted p
   pub distinct : IsDistinct p.rows
-  pub expected : (item lot : List ℕ) → told (amount Expected) item lot p.rows ≡ awaited p.advices item lot
-  pub reserved : (item lot : List ℕ) → told (amount Reservation) item lot p.rows ≡ held p.orders item lot
+  pub expected : (item lot : List ℕ) → awaited p.advices item lot ≤ told (amount Expected) item lot p.rows
+  pub reserved : (item lot : List ℕ) → held p.orders item lot ≤ told (amount Reservation) item lot p.rows
+  pub in_lines : list_all is_in_lines p.orders ≡ true
   pub covered : (item lot : List ℕ) → told (amount Reservation) item lot p.rows ≤ told (amount OnHand) item lot p.rows
   pub bounded : (c : Column) (item lot : List ℕ) → told (amount c) item lot p.rows ≤ (most_recounted + 1) * most_events p
   pub numbered : p.entries ≤ most_entries

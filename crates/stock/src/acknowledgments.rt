@@ -1,8 +1,9 @@
-ghost use Rattle.std.specs.Prelude.{◌≡◌, ◌<◌, ◌+◌, ◌++◌, [], ◌∷◌, List, IfOk};
+ghost use Rattle.std.specs.Prelude.{◌≡◌, ◌<◌, ◌+◌, ◌++◌, [], ◌∷◌, List, IfOk, true};
 ghost use Rattle.std.specs.List.{list_any};
 ghost use Rattle.profile.specs.Limits.{most_sets};
 ghost use Rattle.profile.specs.Events.{Event, Acknowledged};
-ghost use Rattle.stock.specs.Pages.{IsSound};
+ghost use Rattle.stock.specs.Pages.{PageFacts, IsSound};
+ghost use Rattle.stock.specs.Parts.{Named, IsPart};
 ghost use Rattle.stock.specs.Puts.{put};
 ghost use Rattle.stock.specs.Shows.{Shows};
 ghost use Rattle.stock.specs.Steps.{decides};
@@ -29,8 +30,9 @@ fn is_decisive(page: &Page, ack: &AckIn) -> bool
 /// and kind, if none before it did. Want of memory is the one error.
 pub fn acknowledge(alloc: Global, page: &Page, ack: &AckIn) -> Result<Step, AllocError>
     requires { page.now.recent < most_sets }
-    ensures ok { IfOk result (λ step. (es : List Event) → Shows page.now es → Shows (put step.changes.items page.now) (es ++ Acknowledged (page.now.entries + 1) ack.now ∷ [])) }
-    ensures changes { IfOk result (λ step. step.changes.items ≡ document_changes page.now ack.now) }
+    ensures ok { IfOk result (λ step. (n : Named) (P : PageFacts) (es : List Event) → IsPart n page.now P → n.documents ack.now.document ≡ true → Shows P es
+        → Shows (put step.changes.items P) (es ++ Acknowledged (page.now.entries + 1) ack.now ∷ [])) }
+    ensures changes { IfOk result (λ step. (n : Named) (P : PageFacts) → IsPart n page.now P → n.documents ack.now.document ≡ true → step.changes.items ≡ document_changes P ack.now) }
     ensures sound { IfOk result (λ step. IsSound (put step.changes.items page.now)) }
 {
     let mut changes = Vec::new(alloc);

@@ -1,8 +1,9 @@
-ghost use Rattle.std.specs.Prelude.{◌≡◌, ◌<◌, ◌++◌, ◌≤◌, [], ◌∷◌, List, None, IfOk, IfErr, length};
+ghost use Rattle.std.specs.Prelude.{◌≡◌, ◌<◌, ◌++◌, ◌≤◌, [], ◌∷◌, List, None, true, IfOk, IfErr, length};
 ghost use Rattle.profile.specs.Limits.{most_lines, most_sets};
 ghost use Rattle.profile.specs.Events.{Event, Advised, advice_fault};
 ghost use Rattle.profile.specs.Means.{advised as meant_lines};
-ghost use Rattle.stock.specs.Pages.{IsSound, advice_at};
+ghost use Rattle.stock.specs.Pages.{PageFacts, IsSound, advice_at};
+ghost use Rattle.stock.specs.Parts.{Named, IsPart, NamesAdvice};
 ghost use Rattle.stock.specs.Puts.{put};
 ghost use Rattle.stock.specs.Shows.{Shows};
 ghost use Rattle.stock.specs.Steps.{IsAnnounced, opened};
@@ -33,8 +34,8 @@ fn opened(alloc: Global, advice: &Advice, lines: Vec<Goods>) -> Result<KnownAdvi
 fn changes(alloc: Global, page: &Page, advice: &Advice) -> Result<Vec<Change>, AllocError>
     requires unknown { advice_at advice.now.shipment page.now.advices ≡ None }
     requires room { page.now.recent < most_sets }
-    ensures made { IfOk result (λ changes. IsAnnounced advice.now page.now (put changes.items page.now)) }
-    ensures exact { IfOk result (λ changes. changes.items ≡ advice_changes advice.now.shipment page.now (put changes.items page.now)) }
+    ensures made { IfOk result (λ changes. (n : Named) (P : PageFacts) → IsPart n page.now P → NamesAdvice n advice.now → IsAnnounced advice.now P (put changes.items P)) }
+    ensures exact { IfOk result (λ changes. (n : Named) (P : PageFacts) → IsPart n page.now P → NamesAdvice n advice.now → changes.items ≡ advice_changes advice.now.shipment P (put changes.items P)) }
     ensures sound { IfOk result (λ changes. IsSound (put changes.items page.now)) }
 {
     let set_lines = advice.lines();
@@ -51,9 +52,9 @@ fn changes(alloc: Global, page: &Page, advice: &Advice) -> Result<Vec<Change>, A
 /// position (a known shipment number, a pair that stands twice, a W03 that isn't the sum), or want of memory.
 pub fn announce(alloc: Global, page: &Page, advice: &Advice) -> Result<Step, Stop>
     requires { page.now.recent < most_sets }
-    ensures ok { IfOk result (λ step. (es : List Event) → Shows page.now es → (advice_fault es advice.now ≡ None) × Shows (put step.changes.items page.now) (es ++ Advised advice.now ∷ [])) }
-    ensures err { IfErr result (λ stop. (es : List Event) → Shows page.now es → StopsFor (advice_fault es advice.now) stop) }
-    ensures changes { IfOk result (λ step. step.changes.items ≡ advice_changes advice.now.shipment page.now (put step.changes.items page.now)) }
+    ensures ok { IfOk result (λ step. (n : Named) (P : PageFacts) (es : List Event) → IsPart n page.now P → NamesAdvice n advice.now → Shows P es → (advice_fault es advice.now ≡ None) × Shows (put step.changes.items P) (es ++ Advised advice.now ∷ [])) }
+    ensures err { IfErr result (λ stop. (n : Named) (P : PageFacts) (es : List Event) → IsPart n page.now P → n.shipments advice.now.shipment ≡ true → Shows P es → StopsFor (advice_fault es advice.now) stop) }
+    ensures changes { IfOk result (λ step. (n : Named) (P : PageFacts) → IsPart n page.now P → NamesAdvice n advice.now → step.changes.items ≡ advice_changes advice.now.shipment P (put step.changes.items P)) }
     ensures sound { IfOk result (λ step. IsSound (put step.changes.items page.now)) }
 {
     let is_known = page.has_advice(advice.shipment());

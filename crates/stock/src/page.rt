@@ -1,8 +1,9 @@
-ghost use Rattle.std.specs.Prelude.{◌≡◌, ◌<◌, ◌+◌, List, [], ◌∷◌, IfOk, MatchOption, is_some, None, Some};
+ghost use Rattle.std.specs.Prelude.{◌≡◌, ◌<◌, ◌+◌, List, [], ◌∷◌, IfOk, MatchOption, is_some, None, Some, true};
 ghost use Rattle.profile.specs.Limits.{most_entries};
 ghost use Rattle.profile.specs.Events.{Event, Enrolment};
 ghost use Rattle.profile.specs.Movements.{OnHand, balance};
 ghost use Rattle.stock.specs.Pages.{PageFacts, IsSound, advice_at, order_at, document_at, next_entry};
+ghost use Rattle.stock.specs.Parts.{Named, IsPart};
 ghost use Rattle.stock.specs.Puts.{put};
 ghost use Rattle.stock.specs.Shows.{Shows};
 ghost use Rattle.stock.specs.Told.{told, amount};
@@ -161,7 +162,7 @@ impl Page {
     /// What is on hand of a pair, in the unit EA: 0 where there is no row of it.
     pub fn on_hand(&self, item: &[u8], lot: &[u8]) -> u64
         ensures told { result ≡ told (amount OnHand) item.now lot.now self.now.rows }
-        ensures balance { (es : List Event) → Shows self.now es → result ≡ balance es OnHand item.now lot.now }
+        ensures balance { (n : Named) (P : PageFacts) (es : List Event) → IsPart n self.now P → n.items item.now ≡ true → Shows P es → result ≡ balance es OnHand item.now lot.now }
     {
         let rows = self.rows();
         amount_of(rows, Column::OnHand, item, lot)

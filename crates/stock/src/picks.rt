@@ -3,7 +3,8 @@ ghost use Rattle.std.specs.List.{list_any};
 ghost use Rattle.profile.specs.Limits.{most_sets};
 ghost use Rattle.profile.specs.Clerk.{picked};
 ghost use Rattle.profile.specs.Events.{Event};
-ghost use Rattle.stock.specs.Pages.{IsSound, order_at};
+ghost use Rattle.stock.specs.Pages.{PageFacts, IsSound, order_at};
+ghost use Rattle.stock.specs.Parts.{Named, IsPart, NamesPick, are_items};
 ghost use Rattle.stock.specs.Puts.{put};
 ghost use Rattle.stock.specs.Shows.{Shows};
 ghost use Rattle.stock.specs.Steps.{IsPicked, exceeds};
@@ -32,8 +33,10 @@ fn changes(
     requires known { order_at order.now.number page.now.orders ≡ Some order.now }
     requires is_open { order.now.is_open ≡ true }
     requires covered { list_any (exceeds order.now.reserved) sheet.now ≡ false }
-    ensures made { IfOk result (λ changes. IsPicked (page.now.entries + 1) order.now sheet.now page.now (put changes.items page.now)) }
-    ensures exact { IfOk result (λ changes. changes.items ≡ order_changes order.now.number page.now (put changes.items page.now) ++ Sent (page.now.entries + 1) Shipment ∷ []) }
+    ensures made { IfOk result (λ changes. (n : Named) (P : PageFacts) → IsPart n page.now P → are_items n order.now.reserved ≡ true → are_items n sheet.now ≡ true
+        → IsPicked (page.now.entries + 1) order.now sheet.now P (put changes.items P)) }
+    ensures exact { IfOk result (λ changes. (n : Named) (P : PageFacts) → IsPart n page.now P → are_items n order.now.reserved ≡ true → are_items n sheet.now ≡ true
+        → changes.items ≡ order_changes order.now.number P (put changes.items P) ++ Sent (page.now.entries + 1) Shipment ∷ []) }
     ensures sound { IfOk result (λ changes. IsSound (put changes.items page.now)) }
 {
     let goods = sheet.lines(alloc)?;
@@ -55,10 +58,11 @@ fn changes(
 /// exceeds what is reserved for the order of its pair), each over all lines, or want of memory.
 pub fn pick(alloc: Global, page: &Page, number: &[u8], sheet: &Sheet) -> Result<Step, Stop>
     requires { page.now.recent < most_sets }
-    ensures ok { IfOk result (λ step. (es : List Event) → Shows page.now es
-        → (e : Event) × (picked es (page.now.entries + 1) number.now sheet.now ≡ Ok e) × Shows (put step.changes.items page.now) (es ++ e ∷ [])) }
-    ensures err { IfErr result (λ stop. (es : List Event) → Shows page.now es → StopsAct (picked es (page.now.entries + 1) number.now sheet.now) stop) }
-    ensures changes { IfOk result (λ step. step.changes.items ≡ order_changes number.now page.now (put step.changes.items page.now) ++ Sent (page.now.entries + 1) Shipment ∷ []) }
+    ensures ok { IfOk result (λ step. (n : Named) (P : PageFacts) (es : List Event) → IsPart n page.now P → NamesPick n page.now number.now sheet.now → Shows P es
+        → (e : Event) × (picked es (page.now.entries + 1) number.now sheet.now ≡ Ok e) × Shows (put step.changes.items P) (es ++ e ∷ [])) }
+    ensures err { IfErr result (λ stop. (n : Named) (P : PageFacts) (es : List Event) → IsPart n page.now P → n.orders number.now ≡ true → Shows P es → StopsAct (picked es (page.now.entries + 1) number.now sheet.now) stop) }
+    ensures changes { IfOk result (λ step. (n : Named) (P : PageFacts) → IsPart n page.now P → NamesPick n page.now number.now sheet.now
+        → step.changes.items ≡ order_changes number.now P (put step.changes.items P) ++ Sent (page.now.entries + 1) Shipment ∷ []) }
     ensures sound { IfOk result (λ step. IsSound (put step.changes.items page.now)) }
 {
     // what is known of every page

@@ -2,7 +2,8 @@ ghost use Rattle.std.specs.Prelude.{◌≡◌, ◌<◌, ◌+◌, ◌++◌, [], �
 ghost use Rattle.profile.specs.Limits.{most_sets};
 ghost use Rattle.profile.specs.Clerk.{counted};
 ghost use Rattle.profile.specs.Events.{Event};
-ghost use Rattle.stock.specs.Pages.{IsSound, advice_at};
+ghost use Rattle.stock.specs.Pages.{PageFacts, IsSound, advice_at};
+ghost use Rattle.stock.specs.Parts.{Named, IsPart, NamesCount, are_items};
 ghost use Rattle.stock.specs.Puts.{put};
 ghost use Rattle.stock.specs.Shows.{Shows};
 ghost use Rattle.stock.specs.Steps.{IsReceived};
@@ -30,8 +31,10 @@ fn changes(
     requires room { page.now.recent < most_sets }
     requires known { advice_at advice.now.shipment page.now.advices ≡ Some advice.now }
     requires is_open { advice.now.is_open ≡ true }
-    ensures made { IfOk result (λ changes. IsReceived (page.now.entries + 1) advice.now sheet.now page.now (put changes.items page.now)) }
-    ensures exact { IfOk result (λ changes. changes.items ≡ advice_changes advice.now.shipment page.now (put changes.items page.now) ++ Sent (page.now.entries + 1) Receipt ∷ []) }
+    ensures made { IfOk result (λ changes. (n : Named) (P : PageFacts) → IsPart n page.now P → are_items n advice.now.lines ≡ true → are_items n sheet.now ≡ true
+        → IsReceived (page.now.entries + 1) advice.now sheet.now P (put changes.items P)) }
+    ensures exact { IfOk result (λ changes. (n : Named) (P : PageFacts) → IsPart n page.now P → are_items n advice.now.lines ≡ true → are_items n sheet.now ≡ true
+        → changes.items ≡ advice_changes advice.now.shipment P (put changes.items P) ++ Sent (page.now.entries + 1) Receipt ∷ []) }
     ensures sound { IfOk result (λ changes. IsSound (put changes.items page.now)) }
 {
     let goods = sheet.lines(alloc)?;
@@ -58,10 +61,11 @@ fn changes(
 /// says is on hand. The error is 22 (there is no such advice), 23 (it was counted), or want of memory.
 pub fn receive(alloc: Global, page: &Page, shipment: &[u8], sheet: &Sheet) -> Result<Step, Stop>
     requires { page.now.recent < most_sets }
-    ensures ok { IfOk result (λ step. (es : List Event) → Shows page.now es
-        → (e : Event) × (counted es (page.now.entries + 1) shipment.now sheet.now ≡ Ok e) × Shows (put step.changes.items page.now) (es ++ e ∷ [])) }
-    ensures err { IfErr result (λ stop. (es : List Event) → Shows page.now es → StopsAct (counted es (page.now.entries + 1) shipment.now sheet.now) stop) }
-    ensures changes { IfOk result (λ step. step.changes.items ≡ advice_changes shipment.now page.now (put step.changes.items page.now) ++ Sent (page.now.entries + 1) Receipt ∷ []) }
+    ensures ok { IfOk result (λ step. (n : Named) (P : PageFacts) (es : List Event) → IsPart n page.now P → NamesCount n page.now shipment.now sheet.now → Shows P es
+        → (e : Event) × (counted es (page.now.entries + 1) shipment.now sheet.now ≡ Ok e) × Shows (put step.changes.items P) (es ++ e ∷ [])) }
+    ensures err { IfErr result (λ stop. (n : Named) (P : PageFacts) (es : List Event) → IsPart n page.now P → n.shipments shipment.now ≡ true → Shows P es → StopsAct (counted es (page.now.entries + 1) shipment.now sheet.now) stop) }
+    ensures changes { IfOk result (λ step. (n : Named) (P : PageFacts) → IsPart n page.now P → NamesCount n page.now shipment.now sheet.now
+        → step.changes.items ≡ advice_changes shipment.now P (put step.changes.items P) ++ Sent (page.now.entries + 1) Receipt ∷ []) }
     ensures sound { IfOk result (λ step. IsSound (put step.changes.items page.now)) }
 {
     let Some(advice) = page.advice(shipment) else {

@@ -1,10 +1,11 @@
-ghost use Rattle.std.specs.Prelude.{◌≡◌, ◌<◌, ◌+◌, ◌++◌, [], ◌∷◌, List, Ok, IfOk, IfErr, false};
+ghost use Rattle.std.specs.Prelude.{◌≡◌, ◌<◌, ◌+◌, ◌++◌, [], ◌∷◌, List, Ok, IfOk, IfErr, true, false};
 ghost use Rattle.std.specs.List.{list_any, list_all};
 ghost use Rattle.profile.specs.Limits.{most_sets};
 ghost use Rattle.profile.specs.Clerk.{recounted};
 ghost use Rattle.profile.specs.Events.{Event};
 ghost use Rattle.stock.specs.Keyed.{IsSorted};
-ghost use Rattle.stock.specs.Pages.{IsSound};
+ghost use Rattle.stock.specs.Pages.{PageFacts, IsSound};
+ghost use Rattle.stock.specs.Parts.{Named, IsPart, are_items};
 ghost use Rattle.stock.specs.Puts.{put};
 ghost use Rattle.stock.specs.Shows.{Shows};
 ghost use Rattle.stock.specs.Steps.{IsRecounted, is_unknown, is_below, is_on_hand};
@@ -81,8 +82,8 @@ fn changes(alloc: Global, page: &Page, sheet: &Sheet) -> Result<Vec<Change>, All
     requires room { page.now.recent < most_sets }
     requires known { list_any (is_unknown page.now.rows) sheet.now ≡ false }
     requires covered { list_any (is_below page.now.rows) sheet.now ≡ false }
-    ensures made { IfOk result (λ changes. IsRecounted (page.now.entries + 1) sheet.now page.now (put changes.items page.now)) }
-    ensures exact { IfOk result (λ changes. changes.items ≡ row_changes page.now (put changes.items page.now) ++ Sent (page.now.entries + 1) Adjustment ∷ []) }
+    ensures made { IfOk result (λ changes. (n : Named) (P : PageFacts) → IsPart n page.now P → are_items n sheet.now ≡ true → IsRecounted (page.now.entries + 1) sheet.now P (put changes.items P)) }
+    ensures exact { IfOk result (λ changes. (n : Named) (P : PageFacts) → IsPart n page.now P → are_items n sheet.now ≡ true → changes.items ≡ row_changes P (put changes.items P) ++ Sent (page.now.entries + 1) Adjustment ∷ []) }
     ensures sound { IfOk result (λ changes. IsSound (put changes.items page.now)) }
 {
     let goods = sheet.lines(alloc)?;
@@ -102,10 +103,10 @@ fn changes(alloc: Global, page: &Page, sheet: &Sheet) -> Result<Vec<Change>, All
 /// want of memory.
 pub fn recount(alloc: Global, page: &Page, sheet: &Sheet) -> Result<Step, Stop>
     requires { page.now.recent < most_sets }
-    ensures ok { IfOk result (λ step. (es : List Event) → Shows page.now es
-        → (e : Event) × (recounted es (page.now.entries + 1) sheet.now ≡ Ok e) × Shows (put step.changes.items page.now) (es ++ e ∷ [])) }
-    ensures err { IfErr result (λ stop. (es : List Event) → Shows page.now es → StopsAct (recounted es (page.now.entries + 1) sheet.now) stop) }
-    ensures changes { IfOk result (λ step. step.changes.items ≡ row_changes page.now (put step.changes.items page.now) ++ Sent (page.now.entries + 1) Adjustment ∷ []) }
+    ensures ok { IfOk result (λ step. (n : Named) (P : PageFacts) (es : List Event) → IsPart n page.now P → are_items n sheet.now ≡ true → Shows P es
+        → (e : Event) × (recounted es (page.now.entries + 1) sheet.now ≡ Ok e) × Shows (put step.changes.items P) (es ++ e ∷ [])) }
+    ensures err { IfErr result (λ stop. (n : Named) (P : PageFacts) (es : List Event) → IsPart n page.now P → are_items n sheet.now ≡ true → Shows P es → StopsAct (recounted es (page.now.entries + 1) sheet.now) stop) }
+    ensures changes { IfOk result (λ step. (n : Named) (P : PageFacts) → IsPart n page.now P → are_items n sheet.now ≡ true → step.changes.items ≡ row_changes P (put step.changes.items P) ++ Sent (page.now.entries + 1) Adjustment ∷ []) }
     ensures sound { IfOk result (λ step. IsSound (put step.changes.items page.now)) }
 {
     let goods = sheet.lines(alloc)?;

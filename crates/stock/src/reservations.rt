@@ -1,10 +1,11 @@
-ghost use Rattle.std.specs.Prelude.{◌≡◌, ◌<◌, ◌++◌, [], ◌∷◌, List, None, IfOk, IfErr, option_map};
+ghost use Rattle.std.specs.Prelude.{true, ◌≡◌, ◌<◌, ◌++◌, [], ◌∷◌, List, None, IfOk, IfErr, option_map};
 ghost use Rattle.profile.specs.Limits.{most_sets};
 ghost use Rattle.profile.specs.Allotment.{order_shares};
 ghost use Rattle.profile.specs.Events.{Event, Ordered, order_fault, repeated, same_order_item};
 ghost use Rattle.profile.specs.Page.{reserved_lines};
 ghost use Rattle.stock.specs.Lots.{all_shares_in};
-ghost use Rattle.stock.specs.Pages.{IsSound, order_at};
+ghost use Rattle.stock.specs.Pages.{PageFacts, IsSound, order_at};
+ghost use Rattle.stock.specs.Parts.{Named, IsPart, NamesOrder};
 ghost use Rattle.stock.specs.Puts.{put};
 ghost use Rattle.stock.specs.Shows.{Shows};
 ghost use Rattle.stock.specs.Steps.{IsReserved, opened_order};
@@ -64,8 +65,8 @@ fn changes(
     requires unknown { order_at order.now.number page.now.orders ≡ None }
     requires once { repeated same_order_item [] order.now.lines ≡ None }
     requires allotted { shares.now ≡ all_shares_in page.now.rows order.now.lines }
-    ensures made { IfOk result (λ changes. IsReserved order.now shares.now page.now (put changes.items page.now)) }
-    ensures exact { IfOk result (λ changes. changes.items ≡ order_changes order.now.number page.now (put changes.items page.now)) }
+    ensures made { IfOk result (λ changes. (n : Named) (P : PageFacts) → IsPart n page.now P → NamesOrder n order.now → IsReserved order.now shares.now P (put changes.items P)) }
+    ensures exact { IfOk result (λ changes. (n : Named) (P : PageFacts) → IsPart n page.now P → NamesOrder n order.now → changes.items ≡ order_changes order.now.number P (put changes.items P)) }
     ensures sound { IfOk result (λ changes. IsSound (put changes.items page.now)) }
 {
     let lines = reserved(alloc, shares)?;
@@ -82,9 +83,10 @@ fn changes(
 /// known order number, an item that stands twice, a W76 that isn't the sum), or want of memory.
 pub fn reserve(alloc: Global, page: &Page, order: &Order) -> Result<Step, Stop>
     requires { page.now.recent < most_sets }
-    ensures ok { IfOk result (λ step. (es : List Event) → Shows page.now es → (order_fault es order.now ≡ None) × Shows (put step.changes.items page.now) (es ++ Ordered order.now (order_shares es order.now) ∷ [])) }
-    ensures err { IfErr result (λ stop. (es : List Event) → Shows page.now es → StopsFor (order_fault es order.now) stop) }
-    ensures changes { IfOk result (λ step. step.changes.items ≡ order_changes order.now.number page.now (put step.changes.items page.now)) }
+    ensures ok { IfOk result (λ step. (n : Named) (P : PageFacts) (es : List Event) → IsPart n page.now P → NamesOrder n order.now → Shows P es
+        → (order_fault es order.now ≡ None) × Shows (put step.changes.items P) (es ++ Ordered order.now (order_shares es order.now) ∷ [])) }
+    ensures err { IfErr result (λ stop. (n : Named) (P : PageFacts) (es : List Event) → IsPart n page.now P → n.orders order.now.number ≡ true → Shows P es → StopsFor (order_fault es order.now) stop) }
+    ensures changes { IfOk result (λ step. (n : Named) (P : PageFacts) → IsPart n page.now P → NamesOrder n order.now → step.changes.items ≡ order_changes order.now.number P (put step.changes.items P)) }
     ensures sound { IfOk result (λ step. IsSound (put step.changes.items page.now)) }
 {
     let is_known = page.has_order(order.number());

@@ -1,4 +1,4 @@
-use Rattle.std.proofs.Common.{◌≡◌, ◌∙◌, ◌∷◌, [], ◌++◌, map, arith, ap, List, length}
+use Rattle.std.proofs.Common.{◌≡◌, refl, ◌∙◌, ◌∷◌, [], ◌++◌, map, arith, ap, List, length}
 use Rattle.std.proofs.lemmas.List.{length-map}
 use Rattle.profile.specs.Means.{AdviceLine, Line, advised}
 use Rattle.profile.specs.Movements.{Expected}
@@ -9,7 +9,8 @@ use Rattle.stock.specs.Told.{amount, changed_rows}
 use Rattle.stock.specs.Touched.{IsTouched}
 use Rattle.stock.proofs.Announces.{advised_fits, announced_sound}
 use Rattle.stock.proofs.Leads.{touched_less}
-use Rattle.stock.proofs.Steppings.{announced_put}
+use Rattle.stock.specs.Parts.{all_named}
+use Rattle.stock.proofs.PartLemmas.{announced_whole, part_of_self, all_items}
 use Rattle.stock.proofs.announcements.changes.Goals as goal
 
 pub add_lines-requires-clause-fits : goal.add_lines-requires-clause-fits
@@ -25,7 +26,7 @@ pub opened-requires-clause-few : goal.opened-requires-clause-few
 opened-requires-clause-few c = omega (arith, c.lines-set_lines.ensures.few.few, ap (λ (ls : List Line). length ls) c.in_ok-lines.ensures, ap (λ (ls : List AdviceLine). length ls) c.lines-set_lines.ensures.lines, length-map c.lines-set_lines.result.now (λ (l : AdviceLine). l.line))
 
 pub returns-clause-made : goal.returns-clause-made
-returns-clause-made c =
+returns-clause-made c = λ n P part names.
     let p = c.args.page.now in
     let a = c.args.advice.now in
     let t0 = c.in_ok-touched.touched.items in
@@ -37,10 +38,10 @@ returns-clause-made c =
     let changed : c.in_ok-changes.changes.items ≡ map change.Stock (changed_rows p.rows t1) = rw (c.rows-rows.ensures.rows, c.deref-3.ensures.value) at c.in_ok-changes.ensures in
     let pushed : c.push.new.self.items ≡ map change.Stock (changed_rows p.rows t1) ++ change.Advice (opened a) ∷ [] =
     c.in_ok-push.ensures.items ∙ (λ i. changed i ++ change.Advice (c.in_ok-opened.ensures i) ∷ []) in
-    rw pushed (announced_put a p t0 t1 c.rows-rows.ensures.sound.sorted.rows touched moved).made
+    rw pushed (announced_whole n a p P t0 t1 part names touched moved).made
 
 pub returns-clause-exact : goal.returns-clause-exact
-returns-clause-exact c =
+returns-clause-exact c = λ n P part names.
     let p = c.args.page.now in
     let a = c.args.advice.now in
     let t0 = c.in_ok-touched.touched.items in
@@ -52,8 +53,10 @@ returns-clause-exact c =
     let changed : c.in_ok-changes.changes.items ≡ map change.Stock (changed_rows p.rows t1) = rw (c.rows-rows.ensures.rows, c.deref-3.ensures.value) at c.in_ok-changes.ensures in
     let pushed : c.push.new.self.items ≡ map change.Stock (changed_rows p.rows t1) ++ change.Advice (opened a) ∷ [] =
     c.in_ok-push.ensures.items ∙ (λ i. changed i ++ change.Advice (c.in_ok-opened.ensures i) ∷ []) in
-    rw pushed (announced_put a p t0 t1 c.rows-rows.ensures.sound.sorted.rows touched moved).exact
+    rw pushed (announced_whole n a p P t0 t1 part names touched moved).exact
 
 pub returns-clause-sound : goal.returns-clause-sound
 returns-clause-sound c =
-    announced_sound c.args.advice.now c.args.page.now _ (returns-clause-made c) c.lines-set_lines.ensures.few c.requires.unknown c.requires.room c.rows-rows.ensures.sound
+    announced_sound c.args.advice.now c.args.page.now _
+    (returns-clause-made c all_named c.args.page.now (part_of_self all_named c.args.page.now c.rows-rows.ensures.sound.sorted) (record { shipment = refl; items = all_items (advised c.args.advice.now) }))
+    c.lines-set_lines.ensures.few c.requires.unknown c.requires.room c.rows-rows.ensures.sound

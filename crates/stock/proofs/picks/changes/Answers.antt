@@ -12,7 +12,8 @@ use Rattle.stock.specs.Touched.{IsTouched}
 use Rattle.stock.proofs.Leads.{among_first, among_second, touched_less, touched_there}
 use Rattle.stock.proofs.Pairs.{sheet_facts}
 use Rattle.stock.proofs.Ships.{held_there, within_reserved, picked_sound}
-use Rattle.stock.proofs.Steppings.{picked_put}
+use Rattle.stock.specs.Parts.{all_named}
+use Rattle.stock.proofs.PartLemmas.{picked_whole, part_of_self, all_items}
 use Rattle.stock.proofs.picks.changes.Goals as goal
 
 pub ship-requires-clause-on_hand : goal.ship-requires-clause-on_hand
@@ -66,7 +67,7 @@ ship-requires-clause-there c =
     (held_there p k.number k c.rows-rows.ensures.sound c.requires.known c.requires.is_open))
 
 pub returns-clause-made : goal.returns-clause-made
-returns-clause-made c =
+returns-clause-made c = λ n P part lines_named sheet_named.
     let p = c.args.page.now in
     let k = c.args.order.now in
     let sheet = c.args.sheet.now in
@@ -81,10 +82,10 @@ returns-clause-made c =
     let pushed : c.push-2.new.self.items ≡ (map change.Stock (changed_rows p.rows t1) ++ change.Order (closed_order k) ∷ []) ++ change.Sent (p.entries + 1) Shipment ∷ [] =
     c.in_ok-push-2.ensures.items ∙ ap (λ (cs : List Change). cs ++ change.Sent c.next_number.result Shipment ∷ []) (c.in_ok-push.ensures.items ∙ (λ i. changed i ++ change.Order (c.in_ok-closed.ensures i) ∷ []))
     ∙ ap (λ (n : ℕ). (map change.Stock (changed_rows p.rows t1) ++ change.Order (closed_order k) ∷ []) ++ change.Sent n Shipment ∷ []) c.next_number.ensures in
-    rw pushed (picked_put (p.entries + 1) k sheet p t0 t1 c.rows-rows.ensures.sound.sorted.rows touched moved).made
+    rw pushed (picked_whole n (p.entries + 1) k sheet p P t0 t1 part lines_named sheet_named touched moved).made
 
 pub returns-clause-exact : goal.returns-clause-exact
-returns-clause-exact c =
+returns-clause-exact c = λ n P part lines_named sheet_named.
     let p = c.args.page.now in
     let k = c.args.order.now in
     let sheet = c.args.sheet.now in
@@ -99,8 +100,9 @@ returns-clause-exact c =
     let pushed : c.push-2.new.self.items ≡ (map change.Stock (changed_rows p.rows t1) ++ change.Order (closed_order k) ∷ []) ++ change.Sent (p.entries + 1) Shipment ∷ [] =
     c.in_ok-push-2.ensures.items ∙ ap (λ (cs : List Change). cs ++ change.Sent c.next_number.result Shipment ∷ []) (c.in_ok-push.ensures.items ∙ (λ i. changed i ++ change.Order (c.in_ok-closed.ensures i) ∷ []))
     ∙ ap (λ (n : ℕ). (map change.Stock (changed_rows p.rows t1) ++ change.Order (closed_order k) ∷ []) ++ change.Sent n Shipment ∷ []) c.next_number.ensures in
-    rw pushed (picked_put (p.entries + 1) k sheet p t0 t1 c.rows-rows.ensures.sound.sorted.rows touched moved).exact
+    rw pushed (picked_whole n (p.entries + 1) k sheet p P t0 t1 part lines_named sheet_named touched moved).exact
 
 pub returns-clause-sound : goal.returns-clause-sound
-returns-clause-sound c = picked_sound (c.args.page.now.entries + 1) c.args.order.now c.args.sheet.now c.args.page.now _ (returns-clause-made c) c.requires.known c.requires.is_open
+returns-clause-sound c = picked_sound (c.args.page.now.entries + 1) c.args.order.now c.args.sheet.now c.args.page.now _
+    (returns-clause-made c all_named c.args.page.now (part_of_self all_named c.args.page.now c.rows-rows.ensures.sound.sorted) (all_items c.args.order.now.reserved) (all_items c.args.sheet.now)) c.requires.known c.requires.is_open
     (sheet_facts c.args.sheet.now c.lines.ensures.sheet) c.requires.covered c.requires.room c.rows-rows.ensures.sound

@@ -1,4 +1,4 @@
-use Rattle.std.proofs.Common.{◌≡◌, ◌∙◌, ◌++◌, ◌∷◌, [], ◌+◌, List, ℕ, refl, sym, ap, true, false}
+use Rattle.std.proofs.Common.{Some, ℕ, ◌≡◌, ◌∙◌, ◌++◌, ◌∷◌, [], ◌+◌, List, ℕ, refl, sym, ap, true, false}
 use Rattle.std.proofs.lemmas.Slice.Eq.{bytes_eq-Decides}
 use Rattle.std.specs.List.{list_any}
 use Rattle.profile.specs.Refusals.{UnknownOrder, OrderClosed, NotReserved}
@@ -15,21 +15,21 @@ use Rattle.stock.proofs.Ships.{held_fits, order_known, picked_shows, picked_unkn
 use Rattle.stock.proofs.picks.pick.Goals as goal
 
 pub returns-in_default-clause-err : goal.returns-in_default-clause-err
-returns-in_default-clause-err c = λ es shows.
-    (UnknownOrder, picked_unknown c.args.page.now es (c.args.page.now.entries + 1) c.args.number.now c.args.sheet.now shows c.in_default.ensures, refl)
+returns-in_default-clause-err c = λ n P es part is shows.
+    (UnknownOrder, picked_unknown P es (c.args.page.now.entries + 1) c.args.number.now c.args.sheet.now shows (sym (part.orders c.args.number.now is) ∙ c.in_default.ensures), refl)
 
 pub returns-then-not-order-clause-err : goal.returns-then-not-order-clause-err
-returns-then-not-order-clause-err c = λ es shows.
-    (OrderClosed, picked_closed c.args.page.now es (c.args.page.now.entries + 1) c.args.number.now c.in-Some.order.now c.args.sheet.now shows c.in-Some.ensures (ap (λ (k : PageOrder). k.is_open) (sym c.order-2.view_is) ∙ c.if-not-order.true), refl)
+returns-then-not-order-clause-err c = λ n P es part is shows.
+    (OrderClosed, picked_closed P es (c.args.page.now.entries + 1) c.args.number.now c.in-Some.order.now c.args.sheet.now shows (sym (part.orders c.args.number.now is) ∙ c.in-Some.ensures) (ap (λ (k : PageOrder). k.is_open) (sym c.order-2.view_is) ∙ c.if-not-order.true), refl)
 
 pub exceeds-requires : goal.exceeds-requires
 exceeds-requires c = rw (c.deref.ensures.value, ap (λ (k : PageOrder). k.reserved) c.order-2.view_is) (held_fits c.args.page.now c.args.number.now c.in-Some.order.now c.rows.ensures.sound c.in-Some.ensures (ap (λ (k : PageOrder). k.is_open) (sym c.order-2.view_is) ∙ c.if-not-order.false))
 
 pub returns-then-exceeds-clause-err : goal.returns-then-exceeds-clause-err
-returns-then-exceeds-clause-err c = λ es shows.
+returns-then-exceeds-clause-err c = λ n P es part is shows.
     let k = c.in-Some.order.now in
     let over : list_any (exceeds k.reserved) c.args.sheet.now ≡ true = rw (c.deref.ensures.value, ap (λ (k : PageOrder). k.reserved) c.order-2.view_is, c.deref-2.ensures.value, c.in_ok-goods.ensures.lines) at (sym c.if-exceeds.ensures) in
-    (NotReserved, picked_excess c.args.page.now es (c.args.page.now.entries + 1) c.args.number.now k c.args.sheet.now shows c.in-Some.ensures (ap (λ (k : PageOrder). k.is_open) (sym c.order-2.view_is) ∙ c.if-not-order.false) over, refl)
+    (NotReserved, picked_excess P es (c.args.page.now.entries + 1) c.args.number.now k c.args.sheet.now shows (sym (part.orders c.args.number.now is) ∙ c.in-Some.ensures) (ap (λ (k : PageOrder). k.is_open) (sym c.order-2.view_is) ∙ c.if-not-order.false) over, refl)
 
 pub changes-requires-clause-known : goal.changes-requires-clause-known
 changes-requires-clause-known c =
@@ -44,19 +44,22 @@ pub changes-requires-clause-covered : goal.changes-requires-clause-covered
 changes-requires-clause-covered c = rw (c.deref.ensures.value, ap (λ (k : PageOrder). k.reserved) c.order-2.view_is, c.deref-2.ensures.value, c.in_ok-goods.ensures.lines) at (sym c.if-exceeds.ensures)
 
 pub returns-clause-ok : goal.returns-clause-ok
-returns-clause-ok c = λ es shows.
-    let n = c.args.page.now.entries + 1 in
+returns-clause-ok c = λ n P es part names shows.
+    let m = c.args.page.now.entries + 1 in
     let k = c.in-Some.order.now in
     let covers : list_any (exceeds k.reserved) c.args.sheet.now ≡ false = rw (c.deref.ensures.value, ap (λ (k : PageOrder). k.reserved) c.order-2.view_is, c.deref-2.ensures.value, c.in_ok-goods.ensures.lines) at (sym c.if-exceeds.ensures) in
-    let r = order_known c.args.page.now es c.args.number.now k shows c.in-Some.ensures in (
-      Picked n r.0.order r.0.shares c.args.sheet.now,
-      picked_ok c.args.page.now es n c.args.number.now r.0 k c.args.sheet.now shows r.1 r.2 (ap (λ (k : PageOrder). k.is_open) (sym c.order-2.view_is) ∙ c.if-not-order.false) covers,
-      picked_shows n k r.0 c.args.sheet.now c.args.number.now c.args.page.now _ es refl c.in_ok-changes.ensures.made c.in-Some.ensures r.1 r.2 (ap (λ (k : PageOrder). k.is_open) (sym c.order-2.view_is) ∙ c.if-not-order.false) shows,
+    let there : order_at c.args.number.now P.orders ≡ Some k = sym (part.orders c.args.number.now names.number) ∙ c.in-Some.ensures in
+    let r = order_known P es c.args.number.now k shows there in (
+      Picked m r.0.order r.0.shares c.args.sheet.now,
+      picked_ok P es m c.args.number.now r.0 k c.args.sheet.now shows r.1 r.2 (ap (λ (k : PageOrder). k.is_open) (sym c.order-2.view_is) ∙ c.if-not-order.false) covers,
+      picked_shows m k r.0 c.args.sheet.now c.args.number.now P _ es (ap (λ (x : ℕ). x + 1) part.entries)
+          (c.in_ok-changes.ensures.made n P part (names.reserved k c.in-Some.ensures) names.sheet) there r.1 r.2 (ap (λ (k : PageOrder). k.is_open) (sym c.order-2.view_is) ∙ c.if-not-order.false) shows,
     )
 
 pub returns-clause-changes : goal.returns-clause-changes
-returns-clause-changes c =
+returns-clause-changes c = λ n P part names.
     let k = c.in-Some.order.now in
     let p = c.args.page.now in
     let key : k.number ≡ c.args.number.now = (bytes_eq-Decides k.number c.args.number.now).0 (found_says (is_number c.args.number.now) p.orders k c.in-Some.ensures) in
-    c.in_ok-changes.ensures.exact ∙ ap (λ (s : List ℕ). order_changes s p (put c.in_ok-changes.changes.items p) ++ Sent (p.entries + 1) Shipment ∷ []) key
+    c.in_ok-changes.ensures.exact n P part (names.reserved k c.in-Some.ensures) names.sheet
+    ∙ ap (λ (s : List ℕ). order_changes s P (put c.in_ok-changes.changes.items P) ++ Sent (p.entries + 1) Shipment ∷ []) key

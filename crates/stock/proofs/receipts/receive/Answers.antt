@@ -1,4 +1,4 @@
-use Rattle.std.proofs.Common.{◌≡◌, ◌∙◌, ◌++◌, ◌∷◌, [], ◌+◌, List, ℕ, refl, sym, ap}
+use Rattle.std.proofs.Common.{Some, ◌≡◌, ◌∙◌, ◌++◌, ◌∷◌, [], ◌+◌, List, ℕ, refl, sym, ap}
 use Rattle.std.proofs.lemmas.Slice.Eq.{bytes_eq-Decides}
 use Rattle.profile.specs.Refusals.{UnknownAdvice, AdviceClosed}
 use Rattle.profile.specs.Events.{Counted}
@@ -12,12 +12,15 @@ use Rattle.stock.proofs.Receives.{advice_known, received_shows, counted_unknown,
 use Rattle.stock.proofs.receipts.receive.Goals as goal
 
 pub returns-in_default-clause-err : goal.returns-in_default-clause-err
-returns-in_default-clause-err c = λ es shows.
-    (UnknownAdvice, counted_unknown c.args.page.now es (c.args.page.now.entries + 1) c.args.shipment.now c.args.sheet.now shows c.in_default.ensures, refl)
+returns-in_default-clause-err c = λ n P es part is shows.
+    (UnknownAdvice, counted_unknown P es (c.args.page.now.entries + 1) c.args.shipment.now c.args.sheet.now shows (sym (part.advices c.args.shipment.now is) ∙ c.in_default.ensures), refl)
 
 pub returns-then-not-is_open-clause-err : goal.returns-then-not-is_open-clause-err
-returns-then-not-is_open-clause-err c = λ es shows.
-    (AdviceClosed, counted_closed c.args.page.now es (c.args.page.now.entries + 1) c.args.shipment.now c.in-Some.advice.now c.args.sheet.now shows c.in-Some.ensures (sym c.if-not-is_open.ensures), refl)
+returns-then-not-is_open-clause-err c = λ n P es part is shows. (
+  AdviceClosed,
+  counted_closed P es (c.args.page.now.entries + 1) c.args.shipment.now c.in-Some.advice.now c.args.sheet.now shows (sym (part.advices c.args.shipment.now is) ∙ c.in-Some.ensures) (sym c.if-not-is_open.ensures),
+  refl,
+)
 
 pub changes-requires-clause-known : goal.changes-requires-clause-known
 changes-requires-clause-known c =
@@ -29,18 +32,21 @@ pub changes-requires-clause-is_open : goal.changes-requires-clause-is_open
 changes-requires-clause-is_open c = sym c.if-not-is_open.ensures
 
 pub returns-clause-ok : goal.returns-clause-ok
-returns-clause-ok c = λ es shows.
-    let n = c.args.page.now.entries + 1 in
+returns-clause-ok c = λ n P es part names shows.
+    let m = c.args.page.now.entries + 1 in
     let k = c.in-Some.advice.now in
-    let a = advice_known c.args.page.now es c.args.shipment.now k shows c.in-Some.ensures in (
-      Counted n a.0 c.args.sheet.now,
-      counted_ok es n c.args.shipment.now a.0 k c.args.sheet.now a.1 a.2 (sym c.if-not-is_open.ensures),
-      received_shows n k a.0 c.args.sheet.now c.args.shipment.now c.args.page.now _ es refl c.in_ok-changes.ensures.made c.in-Some.ensures a.1 a.2 shows,
+    let there : advice_at c.args.shipment.now P.advices ≡ Some k = sym (part.advices c.args.shipment.now names.shipment) ∙ c.in-Some.ensures in
+    let a = advice_known P es c.args.shipment.now k shows there in (
+      Counted m a.0 c.args.sheet.now,
+      counted_ok es m c.args.shipment.now a.0 k c.args.sheet.now a.1 a.2 (sym c.if-not-is_open.ensures),
+      received_shows m k a.0 c.args.sheet.now c.args.shipment.now P _ es (ap (λ (x : ℕ). x + 1) part.entries)
+          (c.in_ok-changes.ensures.made n P part (names.lines k c.in-Some.ensures) names.sheet) there a.1 a.2 shows,
     )
 
 pub returns-clause-changes : goal.returns-clause-changes
-returns-clause-changes c =
+returns-clause-changes c = λ n P part names.
     let k = c.in-Some.advice.now in
     let p = c.args.page.now in
     let key : k.shipment ≡ c.args.shipment.now = (bytes_eq-Decides k.shipment c.args.shipment.now).0 (found_says (is_shipment c.args.shipment.now) p.advices k c.in-Some.ensures) in
-    c.in_ok-changes.ensures.exact ∙ ap (λ (s : List ℕ). advice_changes s p (put c.in_ok-changes.changes.items p) ++ Sent (p.entries + 1) Receipt ∷ []) key
+    c.in_ok-changes.ensures.exact n P part (names.lines k c.in-Some.ensures) names.sheet
+    ∙ ap (λ (s : List ℕ). advice_changes s P (put c.in_ok-changes.changes.items P) ++ Sent (p.entries + 1) Receipt ∷ []) key

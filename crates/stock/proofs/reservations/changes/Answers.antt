@@ -1,4 +1,4 @@
-use Rattle.std.proofs.Common.{◌≡◌, ◌∙◌, ◌∷◌, [], ◌++◌, map, arith, sym, subst}
+use Rattle.std.proofs.Common.{List, true, refl, ◌≡◌, ◌∙◌, ◌∷◌, [], ◌++◌, map, arith, sym, subst}
 use Rattle.profile.specs.Movements.{Reservation}
 use Rattle.profile.specs.Page.{reserved_lines}
 use Rattle.stock.specs.declared.steps.Change.TheVariants as change
@@ -9,7 +9,11 @@ use Rattle.stock.specs.Touched.{IsTouched}
 use Rattle.stock.proofs.Allots.{IsAllotted, allotted}
 use Rattle.stock.proofs.Leads.{touched_less}
 use Rattle.stock.proofs.Reserves.{reserved_fits, reserved_sound}
-use Rattle.stock.proofs.Steppings.{reserved_put}
+use Rattle.profile.specs.Means.{Line}
+use Rattle.stock.specs.Parts.{all_named, are_items}
+use Rattle.stock.proofs.PartLemmas.{reserved_whole, part_of_self, all_ordered}
+use Rattle.stock.proofs.PartShares.{opened_in_lines, reserved_items}
+use Rattle.stock.specs.Pages.{is_in_lines}
 use Rattle.stock.proofs.reservations.changes.Goals as goal
 
 pub add_lines-requires-clause-fits : goal.add_lines-requires-clause-fits
@@ -25,7 +29,7 @@ add_lines-requires-clause-fits c =
     rw lines2 (λ x y. omega (arith, touched_less (reserved_lines shares) p.rows t0 touched (amount Reservation) x y, reserved_fits p shares facts c.rows-rows.ensures.sound x y))
 
 pub returns-clause-made : goal.returns-clause-made
-returns-clause-made c =
+returns-clause-made c = λ n P part names.
     let p = c.args.page.now in
     let o = c.args.order.now in
     let shares = c.args.shares.now in
@@ -36,12 +40,13 @@ returns-clause-made c =
     let t1 = c.add_lines.new.rows.items in
     let moved : IsAdded Reservation (reserved_lines shares) t0 t1 = rw lines2 at c.in_ok-add_lines.ensures in
     let changed : c.in_ok-changes.changes.items ≡ map change.Stock (changed_rows p.rows t1) = rw (c.rows-rows.ensures.rows, c.deref-3.ensures.value) at c.in_ok-changes.ensures in
+    let items : are_items n (reserved_lines shares) ≡ true = subst (λ (ls : List Line). are_items n (reserved_lines ls) ≡ true) (sym c.requires.allotted) (reserved_items n p o.lines names.items) in
     let pushed : c.push.new.self.items ≡ map change.Stock (changed_rows p.rows t1) ++ change.Order (opened_order o shares) ∷ [] =
     c.in_ok-push.ensures.items ∙ (λ i. changed i ++ change.Order (c.in_ok-opened.ensures i) ∷ []) in
-    rw pushed (reserved_put o shares p t0 t1 c.rows-rows.ensures.sound.sorted.rows touched moved).made
+    rw pushed (reserved_whole n o shares p P t0 t1 part items touched moved).made
 
 pub returns-clause-exact : goal.returns-clause-exact
-returns-clause-exact c =
+returns-clause-exact c = λ n P part names.
     let p = c.args.page.now in
     let o = c.args.order.now in
     let shares = c.args.shares.now in
@@ -52,12 +57,15 @@ returns-clause-exact c =
     let t1 = c.add_lines.new.rows.items in
     let moved : IsAdded Reservation (reserved_lines shares) t0 t1 = rw lines2 at c.in_ok-add_lines.ensures in
     let changed : c.in_ok-changes.changes.items ≡ map change.Stock (changed_rows p.rows t1) = rw (c.rows-rows.ensures.rows, c.deref-3.ensures.value) at c.in_ok-changes.ensures in
+    let items : are_items n (reserved_lines shares) ≡ true = subst (λ (ls : List Line). are_items n (reserved_lines ls) ≡ true) (sym c.requires.allotted) (reserved_items n p o.lines names.items) in
     let pushed : c.push.new.self.items ≡ map change.Stock (changed_rows p.rows t1) ++ change.Order (opened_order o shares) ∷ [] =
     c.in_ok-push.ensures.items ∙ (λ i. changed i ++ change.Order (c.in_ok-opened.ensures i) ∷ []) in
-    rw pushed (reserved_put o shares p t0 t1 c.rows-rows.ensures.sound.sorted.rows touched moved).exact
+    rw pushed (reserved_whole n o shares p P t0 t1 part items touched moved).exact
 
 pub returns-clause-sound : goal.returns-clause-sound
 returns-clause-sound c =
     let p = c.args.page.now in
     let facts : IsAllotted p.rows c.args.shares.now = subst (IsAllotted p.rows) (sym c.requires.allotted) (allotted p.rows c.args.order.now.lines c.rows-rows.ensures.sound.distinct c.requires.once) in
-    reserved_sound c.args.order.now c.args.shares.now p _ (returns-clause-made c) facts c.requires.unknown c.requires.room c.rows-rows.ensures.sound
+    let lies = subst (λ (ls : List Line). is_in_lines (opened_order c.args.order.now ls) ≡ true) (sym c.requires.allotted) (opened_in_lines c.args.order.now p) in
+    reserved_sound c.args.order.now c.args.shares.now p _
+    (returns-clause-made c all_named p (part_of_self all_named p c.rows-rows.ensures.sound.sorted) (record { number = refl; items = all_ordered c.args.order.now.lines })) facts lies c.requires.unknown c.requires.room c.rows-rows.ensures.sound

@@ -1,0 +1,61 @@
+-- What is named of sets that are taken, and of a command.
+-- (Put here for whoever carries `rules` to pages in part: take it as it is. A set's names are asked for only where the set has no fault: neither
+-- one of its envelope nor one of its segments; so that what a scan of all segments names is shown to be enough.)
+use Rattle.std.specs.Prelude.{ℕ, ◌≡◌, true, false, List, [], ◌∷◌, Option, Some, None}
+use Rattle.profile.specs.Bytes.{Delims}
+use Rattle.profile.specs.Cut.{Segment, cut}
+use Rattle.profile.specs.Words.{SetKind, ShipmentAdvice, ShippingOrder, FunctionalAcknowledgment, kind_words}
+use Rattle.profile.specs.Structure.{Set, Group, kind_of, examined, groups_of}
+use Rattle.profile.specs.Means.{advice_of, order_of, acknowledgment_of}
+use Rattle.profile.specs.Faults.{set_fault}
+use Rattle.profile.specs.Header.{delims_of, is_unreadable}
+use Rattle.profile.specs.Halt.{structure_note}
+use Rattle.profile.specs.Register.{Act, Count, Pick, Recount, Command, Interchange, Enrol, Clerk}
+use Rattle.stock.specs.Pages.{PageFacts}
+use Rattle.stock.specs.Parts.{Named, IsPart, NamesAdvice, NamesOrder, NamesCount, NamesPick, are_items}
+
+-- what a set is about is named
+abbrev pub NamesSet : Named → SetKind → List Segment → Type 0
+NamesSet n ShipmentAdvice ss = NamesAdvice n (advice_of ss)
+NamesSet n ShippingOrder ss = NamesOrder n (order_of ss)
+NamesSet n FunctionalAcknowledgment ss = n.documents (acknowledgment_of ss).document ≡ true
+
+-- of a set without fault
+abbrev pub NamesJudged : Delims → Named → SetKind → Set → Option ℕ → Type 0
+NamesJudged d n kind s (Some code) = Unit {0}
+NamesJudged d n kind s None = set_fault d (kind_words kind) s.segments ≡ None → NamesSet n kind s.segments
+
+abbrev pub NamesUnder : Delims → Named → Option SetKind → Set × Option ℕ → Type 0
+NamesUnder d n None p = Unit {0}
+NamesUnder d n (Some kind) p = NamesJudged d n kind p.0 p.1
+
+abbrev pub NamesSets : Delims → Named → Option SetKind → List (Set × Option ℕ) → Type 0
+NamesSets d n kind [] = Unit {0}
+NamesSets d n kind (p ∷ ps) = NamesUnder d n kind p × NamesSets d n kind ps
+
+-- of each set of a group, and of each group
+abbrev pub NamesGroup : Delims → Named → Group → Type 0
+NamesGroup d n g = NamesSets d n (kind_of g) (examined g)
+
+abbrev pub NamesGroups : Delims → Named → List Group → Type 0
+NamesGroups d n [] = Unit {0}
+NamesGroups d n (g ∷ gs) = NamesGroup d n g × NamesGroups d n gs
+
+-- what an act is about is named, and with the advice or order that it names the items of that
+abbrev pub NamesAct : Named → PageFacts → Act → Type 0
+NamesAct n p (Count shipment sheet) = NamesCount n p shipment sheet
+NamesAct n p (Pick number sheet) = NamesPick n p number sheet
+NamesAct n p (Recount sheet) = are_items n sheet ≡ true
+
+-- what a command needs of the page is named; of an interchange that can't be read, or is halted, nothing
+abbrev pub NamesFor : Named → PageFacts → Command → Type 0
+NamesFor n p (Interchange text) = is_unreadable text ≡ false → structure_note text ≡ None
+    → NamesGroups (delims_of text) n (groups_of ((cut (delims_of text) text).segments))
+NamesFor n p (Enrol w) = Unit {0}
+NamesFor n p (Clerk w ticket act) = NamesAct n p act
+
+-- the part p of the page P has what a command needs
+pub record HasNeeded (c : Command) (p P : PageFacts) : Type 0 where
+  pub named : Named
+  pub part : IsPart named p P
+  pub names : NamesFor named p c
