@@ -11,7 +11,7 @@ use Rattle.profile.specs.Cut.{cut}
 use Rattle.profile.specs.Structure.{groups_of}
 use Rattle.profile.specs.History.{History, tellings}
 use Rattle.profile.specs.Texts.{Told, answer}
-use Rattle.profile.specs.Register.{Interchange, Deed, Enrolled, Received, Performed, Entry, mark, deed_mark, interchange_mark, body_of}
+use Rattle.profile.specs.Register.{Command, Interchange, Deed, Enrolled, Received, Performed, Entry, mark, deed_mark, interchange_mark, body_of}
 use Rattle.profile.specs.Refusals.{Unreadable, Note, Duplicate}
 use Rattle.profile.specs.Reply.{Accepted, Refused, refusal_answer, interchange_entry}
 use Rattle.profile.specs.Decision as known
@@ -19,6 +19,9 @@ use Rattle.sets_out.specs.Headings.{heading_of}
 use Rattle.sets_out.specs.Interchanges.{answer_of}
 use Rattle.sets_out.proofs.TextLaws.{answer-told}
 use Rattle.stock.specs.Pages.{PageFacts}
+use Rattle.stock.specs.Parts.{Named, IsPart}
+use Rattle.stock.specs.declared.steps.Change.{Change}
+use Rattle.rules.specs.Needs.{NamesGroups, HasNeeded}
 use Rattle.profile.specs.Lists.{or_else}
 use Rattle.profile.specs.Halt.{header_notes, structure_notes, structure_note}
 use Rattle.envelope.specs.Conditions.{first_note}
@@ -42,28 +45,29 @@ again_other W text t r k out entry key other is =
     again_by W text t k.entry k.outgoing k.entry.deed refl key (ap (λ (b : List ℕ). bytes_eq b text) (sym body) ∙ other) ∙ ap (Refused Duplicate) (sym is)
 
 -- an interchange that is accepted under the next number
-pub accepted_out : (W w : Who) (t : Moment) (number : ℕ) (text header : List ℕ) (p new : PageFacts) (told : List Told) (out : List ℕ) (h : History)
-    → header ≡ text → number ≡ p.entries + 1 → AreGroupsTaken (delims_of text) (groups_of ((cut (delims_of text) text).segments)) p new told
-    → out ≡ answer_of (delims_of header) W w t number (heading_of header) told → IsPageOf p h → w ≡ sender text
+pub accepted_out : (W w : Who) (t : Moment) (number : ℕ) (text header : List ℕ) (p new P : PageFacts) (cs : List Change) (told : List Told) (out : List ℕ) (h : History) (n : Named)
+    → header ≡ text → number ≡ p.entries + 1 → AreGroupsTaken (delims_of text) (groups_of ((cut (delims_of text) text).segments)) p new cs told
+    → out ≡ answer_of (delims_of header) W w t number (heading_of header) told → IsPart n p P → NamesGroups (delims_of text) n (groups_of ((cut (delims_of text) text).segments)) → IsPageOf P h → w ≡ sender text
     → out ≡ known.out_by W h (interchange_entry text t)
-accepted_out W w t number text header p new told out h same is groups made of from =
-    let n = p.entries + 1 in
-    let ts = tellings h.events n text in
+accepted_out W w t number text header p new P cs told out h n same is groups made part names of from =
+    let m = p.entries + 1 in
+    let ts = tellings h.events m text in
     made ∙ ap (λ (x : List ℕ). answer_of (delims_of x) W w t number (heading_of x) told) same
     ∙ ap (λ k. answer_of (delims_of text) W w t k (heading_of text) told) is
-    ∙ ap (λ (x : List Told). answer_of (delims_of text) W w t n (heading_of text) x) (groups.told h.events of.shows)
-    ∙ sym (answer-told W w t n text ts)
-    ∙ ap (λ (x : Who). answer W x t n text ts) from
-    ∙ ap (λ k. answer W (sender text) t (k + 1) text (tellings h.events (k + 1) text)) of.entries
+    ∙ ap (λ (x : List Told). answer_of (delims_of text) W w t m (heading_of text) x) (groups.told n P h.events part names of.shows)
+    ∙ sym (answer-told W w t m text ts)
+    ∙ ap (λ (x : Who). answer W x t m text ts) from
+    ∙ ap (λ k. answer W (sender text) t (k + 1) text (tellings h.events (k + 1) text)) (part.entries ∙ of.entries)
 
-pub accepted_reply : (W w : Who) (t : Moment) (number : ℕ) (text header : List ℕ) (p new : PageFacts) (told : List Told) (out : List ℕ) (e : Written) (h : History)
-    → header ≡ text → number ≡ p.entries + 1 → p.entries < most_entries → AreGroupsTaken (delims_of text) (groups_of ((cut (delims_of text) text).segments)) p new told
+pub accepted_reply : (W w : Who) (t : Moment) (number : ℕ) (text header : List ℕ) (p new P : PageFacts) (cs : List Change) (told : List Told) (out : List ℕ) (e : Written) (h : History) (n : Named)
+    → header ≡ text → number ≡ p.entries + 1 → p.entries < most_entries → AreGroupsTaken (delims_of text) (groups_of ((cut (delims_of text) text).segments)) p new cs told
     → out ≡ answer_of (delims_of header) W w t number (heading_of header) told
-    → e ≡ record { who = w; key = interchange_mark (isa header 13); n = number; moment = t; body = text } → IsPageOf p h → w ≡ sender text
+    → e ≡ record { who = w; key = interchange_mark (isa header 13); n = number; moment = t; body = text }
+    → IsPart n p P → NamesGroups (delims_of text) n (groups_of ((cut (delims_of text) text).segments)) → IsPageOf P h → w ≡ sender text
     → (known.accepted_by W h (interchange_entry text t) ≡ Accepted out) × (e ≡ written_as (p.entries + 1) (interchange_entry text t))
-accepted_reply W w t number text header p new told out e h same is few groups made entered of from =
-    let room : nat_lt most_entries (h.numbered + 1) ≡ false = le-ltb most_entries (h.numbered + 1) (omega (arith, few, of.entries)) in (
-      rw room (ap Accepted (sym (accepted_out W w t number text header p new told out h same is groups made of from))),
+accepted_reply W w t number text header p new P cs told out e h n same is few groups made entered part names of from =
+    let room : nat_lt most_entries (h.numbered + 1) ≡ false = le-ltb most_entries (h.numbered + 1) (omega (arith, few, part.entries, of.entries)) in (
+      rw room (ap Accepted (sym (accepted_out W w t number text header p new P cs told out h n same is groups made part names of from))),
       entered ∙ ap (λ (x : List ℕ). record { who = w; key = interchange_mark (isa x 13); n = number; moment = t; body = text }) same
           ∙ ap (λ k. record { who = w; key = interchange_mark (isa text 13); n = k; moment = t; body = text }) is
           ∙ ap (λ (x : Who). record { who = x; key = interchange_mark (isa text 13); n = p.entries + 1; moment = t; body = text }) from,
@@ -92,9 +96,9 @@ pub accepted_new : (W : Who) (h : History) (text : List ℕ) (t : Moment) (n : �
 accepted_new W h text t n found d is reply = subst (λ (o : Option ℕ). IsReply n (Interchange text) t (known.interchange_new W h text t o) d) (sym is) reply
 
 -- who has no page has no history
-pub no_page : (held : Option (Bor PageFacts)) (h : Option History) → held ≡ None → StandsFor held h → h ≡ None
-no_page held None is stands = refl
-no_page held (Some x) is stands = absurd (subst (λ (o : Option (Bor PageFacts)). StandsFor o (Some x)) is stands)
+pub no_page : (c : Command) (held : Option (Bor PageFacts)) (h : Option History) → held ≡ None → StandsFor c held h → h ≡ None
+no_page c held None is stands = refl
+no_page c held (Some x) is stands = absurd (subst (λ (o : Option (Bor PageFacts)). StandsFor c o (Some x)) is stands)
 
 -- a sender that is no partner names no depositor
 both_no : (a : Bool) → (a && false) ≡ false
@@ -122,7 +126,7 @@ stranger_reply W h k text header t n d same is reply =
 
 -- the reply to a known control number
 again_given : (W : Who) (h : Option History) (k : Option known.Recalled) (text : List ℕ) (t : Moment) (n : ℕ) (d : Decision) (p : Bor PageFacts) (r : Recalled)
-    → StandsFor (Some p) h → IsRecalled (Some r) k → IsUnder (interchange_mark (isa text 13)) k
+    → StandsFor (Interchange text) (Some p) h → IsRecalled (Some r) k → IsUnder (interchange_mark (isa text 13)) k
     → ((n : ℕ) (K : known.Recalled) → IsEntry r K → mark K.entry ≡ interchange_mark (isa text 13) → IsReply n (Interchange text) t (known.interchange_again W text t K) d)
     → IsReply n (Interchange text) t (known.interchange_known W h k text t) d
 again_given W None k text t n d p r held is under reply = absurd held
@@ -134,25 +138,25 @@ pub given_again : (W : Who) (held : Option (Bor PageFacts)) (o : Option Recalled
     → ((n : ℕ) (K : known.Recalled) → IsEntry r K → mark K.entry ≡ interchange_mark (isa text 13) → IsReply n (Interchange text) t (known.interchange_again W text t K) d)
     → IsReply (entries_of held) (Interchange text) t (known.interchange_known W h k text t) d
 given_again W held o h k text t d p r page recalled given reply =
-    again_given W h k text t (entries_of held) d p r (subst (λ (x : Option (Bor PageFacts)). StandsFor x h) page given.page)
+    again_given W h k text t (entries_of held) d p r (subst (λ (x : Option (Bor PageFacts)). StandsFor (Interchange text) x h) page given.page)
     (subst (λ (x : Option Recalled). IsRecalled x k) recalled given.known) given.under reply
 
 -- the reply to a new control number
 new_given : (W : Who) (h : Option History) (k : Option known.Recalled) (text : List ℕ) (t : Moment) (d : Decision) (p : Bor PageFacts)
-    → StandsFor (Some p) h → IsRecalled None k
-    → ((H : History) → IsPageOf p.now H → IsReply p.now.entries (Interchange text) t (known.interchange_new W H text t (known.new_note W text)) d)
+    → StandsFor (Interchange text) (Some p) h → IsRecalled None k
+    → ((H : History) (P : PageFacts) → HasNeeded (Interchange text) p.now P → IsPageOf P H → IsReply p.now.entries (Interchange text) t (known.interchange_new W H text t (known.new_note W text)) d)
     → IsReply p.now.entries (Interchange text) t (known.interchange_known W h k text t) d
 new_given W None k text t d p held is reply = absurd held
 new_given W (Some h) (Some k) text t d p held is reply = absurd is
-new_given W (Some h) None text t d p held is reply = reply h held
+new_given W (Some h) None text t d p held is reply = reply h held.0 held.1 held.2
 
 pub given_new : (W : Who) (held : Option (Bor PageFacts)) (o : Option Recalled) (h : Option History) (k : Option known.Recalled) (text : List ℕ) (t : Moment) (d : Decision) (p : Bor PageFacts)
     → held ≡ Some p → o ≡ None → IsGiven held o (Interchange text) h k
-    → ((H : History) → IsPageOf p.now H → IsReply p.now.entries (Interchange text) t (known.interchange_new W H text t (known.new_note W text)) d)
+    → ((H : History) (P : PageFacts) → HasNeeded (Interchange text) p.now P → IsPageOf P H → IsReply p.now.entries (Interchange text) t (known.interchange_new W H text t (known.new_note W text)) d)
     → IsReply (entries_of held) (Interchange text) t (known.interchange_known W h k text t) d
 given_new W held o h k text t d p page recalled given reply =
     subst (λ (x : Option (Bor PageFacts)). IsReply (entries_of x) (Interchange text) t (known.interchange_known W h k text t) d) (sym page)
-    (new_given W h k text t d p (subst (λ (x : Option (Bor PageFacts)). StandsFor x h) page given.page) (subst (λ (x : Option Recalled). IsRecalled x k) recalled given.known) reply)
+    (new_given W h k text t d p (subst (λ (x : Option (Bor PageFacts)). StandsFor (Interchange text) x h) page given.page) (subst (λ (x : Option Recalled). IsRecalled x k) recalled given.known) reply)
 
 -- the reply to a text that can be read
 pub readable_reply : (W : Who) (h : Option History) (k : Option known.Recalled) (text : List ℕ) (t : Moment) (n : ℕ) (d : Decision) → is_unreadable text ≡ false

@@ -1,5 +1,5 @@
 -- The changes of accepted commands lead from the page of a history to that of one entry more.
-use Rattle.std.proofs.Common.{◌≡◌, ℕ, ◌+◌, List, [], ◌∷◌, ◌++◌, Option, Some, None, Ok, false, sym, ap, subst}
+use Rattle.std.proofs.Common.{◌≡◌, ℕ, ◌+◌, List, [], ◌∷◌, ◌++◌, Option, Some, None, Ok, false, sym, ap, subst, ◌∙◌}
 use Rattle.std.specs.Prelude.{Result, is_some}
 use Rattle.std.specs.Borrow.{Bor}
 use Rattle.profile.specs.Moments.{Moment}
@@ -14,45 +14,48 @@ use Rattle.profile.specs.Texts.{Told}
 use Rattle.profile.specs.Register.{Act, Command, Received, Performed}
 use Rattle.profile.specs.Reply.{interchange_entry, clerk_entry}
 use Rattle.stock.specs.declared.steps.Change.{Change}
-use Rattle.stock.specs.Pages.{PageFacts, AreSorted, next_entry}
+use Rattle.stock.specs.Pages.{PageFacts}
 use Rattle.stock.specs.Puts.{put}
 use Rattle.stock.specs.Shows.{Shows}
 use Rattle.stock.proofs.PageLemmas.{next_shows}
-use Rattle.rules.specs.Judging.{AreGroupsTaken, IsLed}
+use Rattle.stock.specs.Parts.{Named, IsPart}
+use Rattle.rules.specs.Needs.{NamesGroups, NamesAct}
+use Rattle.rules.specs.Judging.{after, AreGroupsTaken}
 use Rattle.rules.specs.Proper.{AreProper}
-use Rattle.rules.specs.Decided.{IsPageOf, IsNoEntry, AreLeading, LeadsOn, LeadsFrom, ChangesNothing, led_to}
+use Rattle.rules.specs.Decided.{IsPageOf, IsNoEntry, AreLeading, LeadsOn, LeadsFrom, ChangesNothing}
 use Rattle.rules.specs.declared.decisions.Decision.{Decision}
 use Rattle.rules.specs.declared.decisions.Decision.TheVariants.{Stored, Refused, Accepted}
 use Rattle.rules.proofs.Plays.{added_of}
 
-pub interchange_leads : (text : List ℕ) (t : Moment) (p new : PageFacts) (told : List Told) (cs : List Change) (h : History)
-    → AreGroupsTaken (delims_of text) (groups_of ((cut (delims_of text) text).segments)) p new told → IsLed cs p new → IsPageOf p h
-    → AreSorted p → AreLeading p cs (after_entry h (interchange_entry text t))
-interchange_leads text t p new told cs h taken led of sorted =
+pub interchange_leads : (text : List ℕ) (t : Moment) (p new P : PageFacts) (told : List Told) (cs : List Change) (h : History) (n : Named)
+    → AreGroupsTaken (delims_of text) (groups_of ((cut (delims_of text) text).segments)) p new cs told → IsPart n p P → NamesGroups (delims_of text) n (groups_of ((cut (delims_of text) text).segments))
+    → IsPageOf P h → AreLeading P cs (after_entry h (interchange_entry text t))
+interchange_leads text t p new P told cs h n taken part names of =
     let events = h.events ++ events_added h.events (h.numbered + 1) (Received text) in
-    let there : Shows new events = subst (λ (k : ℕ). Shows new (h.events ++ events_added h.events (k + 1) (Received text))) of.entries (taken.shows h.events of.shows) in
-    let same : next_entry new ≡ led_to cs p = ap next_entry led.same in
+    let there : Shows (after cs new.recent P) events =
+    subst (λ (k : ℕ). Shows (after cs new.recent P) (h.events ++ events_added h.events (k + 1) (Received text))) (part.entries ∙ of.entries) (taken.shows n P h.events part names of.shows) in
     record {
-      sorted = sorted;
+      sorted = part.sorted;
       page = record {
-        shows = subst (λ (q : PageFacts). Shows q events) same (next_shows new events there);
+        shows = next_shows (after cs new.recent P) events there;
         entries = ap (λ n. n + 1) of.entries;
       };
-      proper = led.proper h.events of.shows;
+      proper = taken.proper n P h.events part names of.shows;
     }
 
-pub act_leads : (w : Who) (ticket : List ℕ) (act : Act) (t : Moment) (p : PageFacts) (cs : List Change) (h : History)
-    → ((es : List Event) → Shows p es → (e : Event) × (performed es (p.entries + 1) act ≡ Ok e) × Shows (put cs p) (es ++ e ∷ []) × AreProper p cs) → IsPageOf p h
-    → AreSorted p → AreLeading p cs (after_entry h (clerk_entry w ticket act t))
-act_leads w ticket act t p cs h steps of sorted =
-    let found = steps h.events of.shows in
-    let here : performed h.events (h.numbered + 1) act ≡ Ok found.0 = subst (λ (k : ℕ). performed h.events (k + 1) act ≡ Ok found.0) of.entries found.1 in
-    let there : Shows (put cs p) (h.events ++ events_added h.events (h.numbered + 1) (Performed ticket act)) =
-    subst (λ (o : Result Event Refusal). Shows (put cs p) (h.events ++ added_of o)) (sym here) found.2 in
+pub act_leads : (w : Who) (ticket : List ℕ) (act : Act) (t : Moment) (p P : PageFacts) (cs : List Change) (h : History) (n : Named)
+    → ((n : Named) (P : PageFacts) (es : List Event) → IsPart n p P → NamesAct n p act → Shows P es
+    → (e : Event) × (performed es (p.entries + 1) act ≡ Ok e) × Shows (put cs P) (es ++ e ∷ []) × AreProper P cs)
+    → IsPart n p P → NamesAct n p act → IsPageOf P h → AreLeading P cs (after_entry h (clerk_entry w ticket act t))
+act_leads w ticket act t p P cs h n steps part names of =
+    let found = steps n P h.events part names of.shows in
+    let here : performed h.events (h.numbered + 1) act ≡ Ok found.0 = subst (λ (k : ℕ). performed h.events (k + 1) act ≡ Ok found.0) (part.entries ∙ of.entries) found.1 in
+    let there : Shows (put cs P) (h.events ++ events_added h.events (h.numbered + 1) (Performed ticket act)) =
+    subst (λ (o : Result Event Refusal). Shows (put cs P) (h.events ++ added_of o)) (sym here) found.2 in
     record {
-      sorted = sorted;
+      sorted = part.sorted;
       page = record {
-        shows = next_shows (put cs p) (h.events ++ events_added h.events (h.numbered + 1) (Performed ticket act)) there;
+        shows = next_shows (put cs P) (h.events ++ events_added h.events (h.numbered + 1) (Performed ticket act)) there;
         entries = ap (λ n. n + 1) of.entries;
       };
       proper = found.3;

@@ -23,6 +23,7 @@ use Rattle.stock.specs.Pages.{PageFacts, AreSorted}
 use Rattle.stock.specs.Shows.{Shows}
 use Rattle.stock.specs.declared.steps.Change.{Change}
 use Rattle.stock.proofs.Texts.{texts_never}
+use Rattle.rules.specs.Needs.{HasNeeded}
 use Rattle.rules.specs.Decided.{IsPageOf, AreLeading, StandsFor, LeadsFrom, led_to}
 use Rattle.rules.specs.Tabled.{table_changes, LeadsInTables}
 use Rattle.rules.specs.declared.decisions.Decision.{Decision}
@@ -286,34 +287,35 @@ named_own W L (Interchange text) t next =
 named_own W L (Enrol w) t next = refl
 named_own W L (Clerk w ticket act) t next = refl
 
-led_from_none : (W : Who) (L : List Entry) (e : Entry) (cs : List Change) (o : Option History) → IsLegal W L → IsLegal W (L ++ e ∷ []) → standing (own L e.who) ≡ o → StandsFor None o → cs ≡ []
+led_from_none : (c : Command) (W : Who) (L : List Entry) (e : Entry) (cs : List Change) (o : Option History) → IsLegal W L → IsLegal W (L ++ e ∷ []) → standing (own L e.who) ≡ o → StandsFor c None o → cs ≡ []
     → LeadOn W L e (table_changes e.who cs)
-led_from_none W L e cs None legal next none stands nothing_changes =
+led_from_none c W L e cs None legal next none stands nothing_changes =
     subst (λ (ds : List Change). LeadOn W L e (table_changes e.who ds)) (sym nothing_changes) (enrolment_leads W L e legal next (is_new W L e next none))
-led_from_none W L e cs (Some h) legal next some stands nothing_changes = absurd stands
+led_from_none c W L e cs (Some h) legal next some stands nothing_changes = absurd stands
 
-led_from_some : (W : Who) (L : List Entry) (e : Entry) (p : Bor PageFacts) (cs : List Change) (o : Option History) → IsLegal W L → IsLegal W (L ++ e ∷ []) → standing (own L e.who) ≡ o → StandsFor (Some p) o
-    → ((h : History) → IsPageOf p.now h → AreLeading p.now cs (after_entry h e)) → LeadOn W L e (table_changes e.who cs)
-led_from_some W L e p cs None legal next none stands leads = absurd stands
-led_from_some W L e p cs (Some h) legal next some stands leads =
+led_from_some : (c : Command) (W : Who) (L : List Entry) (e : Entry) (p : Bor PageFacts) (cs : List Change) (o : Option History) → IsLegal W L → IsLegal W (L ++ e ∷ []) → standing (own L e.who) ≡ o → StandsFor c (Some p) o
+    → ((h : History) (P : PageFacts) → HasNeeded c p.now P → IsPageOf P h → AreLeading P cs (after_entry h e)) → LeadOn W L e (table_changes e.who cs)
+led_from_some c W L e p cs None legal next none stands leads = absurd stands
+led_from_some c W L e p cs (Some h) legal next some stands leads =
     let was = old (own L e.who) h some in
-    let of : IsPageOf p.now (history (own L e.who)) = subst (IsPageOf p.now) was.same stands in
+    let P = stands.0 in
+    let of : IsPageOf P (history (own L e.who)) = subst (IsPageOf P) was.same stands.2 in
     let numbered : is_numbered e ≡ true = (legal_follow W (L ++ e ∷ []) L e [] next refl).numbered ∙ ap not was.some in
-    numbered_leads W L e p.now cs legal next numbered of (leads (history (own L e.who)) of)
+    numbered_leads W L e P cs legal next numbered of (leads (history (own L e.who)) P stands.1 of)
 
 -- what a decision changes by the page of the depositor that the command names leads on in the tables
 pub tables_lead : (page : Option (Bor PageFacts)) (c : Command) (t : Moment) (d : Decision) → LeadsFrom page c t d
-    → (W : Who) (L : List Entry) → StandsFor page (standing (own_of L c)) → LeadsInTables W L c t d
+    → (W : Who) (L : List Entry) → StandsFor c page (standing (own_of L c)) → LeadsInTables W L c t d
 tables_lead page c t (Stored text) leads W L stands = tt
 tables_lead page c t (Refused refusal text) leads W L stands = tt
 tables_lead None c t (Accepted row changes text) leads W L stands = λ legal next.
     let e = entry_of c t in
-    led_from_none W L e changes.items (standing (own L e.who)) legal next refl (subst (λ (M : List Entry). StandsFor None (standing M)) (named_own W L c t next) stands) leads
+    led_from_none c W L e changes.items (standing (own L e.who)) legal next refl (subst (λ (M : List Entry). StandsFor c None (standing M)) (named_own W L c t next) stands) leads
 tables_lead (Some p) c t (Accepted row changes text) leads W L stands = λ legal next.
     let e = entry_of c t in
-    led_from_some W L e p changes.items (standing (own L e.who)) legal next refl (subst (λ (M : List Entry). StandsFor (Some p) (standing M)) (named_own W L c t next) stands) leads
+    led_from_some c W L e p changes.items (standing (own L e.who)) legal next refl (subst (λ (M : List Entry). StandsFor c (Some p) (standing M)) (named_own W L c t next) stands) leads
 
 pub all_lead : {E : Type 0} (page : Option (Bor PageFacts)) (r : Result Decision E) (c : Command) (t : Moment) → IfOk r (LeadsFrom page c t)
-    → IfOk r (λ d. (W : Who) (L : List Entry) → StandsFor page (standing (own_of L c)) → LeadsInTables W L c t d)
+    → IfOk r (λ d. (W : Who) (L : List Entry) → StandsFor c page (standing (own_of L c)) → LeadsInTables W L c t d)
 all_lead page (Ok d) c t leads = tables_lead page c t d leads
 all_lead page (Err e) c t leads = tt

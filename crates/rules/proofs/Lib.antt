@@ -34,3 +34,5 @@ pub mod NeedNames
 pub mod LeadsOn
 pub mod Defines
 pub mod RowsTabled
+pub mod SetsNamed
+pub mod Whole

@@ -15,7 +15,11 @@ use Rattle.profile.specs.Texts.{ToldSet, Told, told_set, told_of, answered}
 use Rattle.envelope.specs.Parts.{SetOf, set_under, GroupOf, group_under}
 use Rattle.stock.specs.Pages.{PageFacts}
 use Rattle.stock.specs.Shows.{Shows}
-use Rattle.rules.specs.Judging.{passed, told_events, AreTaken, IsGroupTaken, AreGroupsTaken, IsSmall, is_answered, told_with, told_if}
+use Rattle.stock.specs.declared.steps.Change.{Change}
+use Rattle.stock.specs.Parts.{Named, IsPart}
+use Rattle.rules.specs.Needs.{NamesSets, NamesGroup, NamesGroups}
+use Rattle.rules.proofs.Led.{after_none, after_both, same_both, part_behind, proper_behind}
+use Rattle.rules.specs.Judging.{after, passed, told_events, AreTaken, IsGroupTaken, AreGroupsTaken, IsSmall, is_answered, told_with, told_if}
 use Rattle.rules.proofs.Verdicts.{tellings_append}
 use Rattle.rules.proofs.Takes.{examined_length, examined_more, examined_closed, taken_both}
 
@@ -48,11 +52,11 @@ set_closed g d items faults i x f same found within here fault none =
 
 -- one set more
 pub sets_go_on : (g : Group) (d : Delims) (kind : Option SetKind) (items : List SetOf) (faults : List (Option ℕ)) (i : ℕ) (x : SetOf) (f : Option ℕ)
-    (start mid new : PageFacts) (told : List ToldSet) (t : ToldSet) (all : List ToldSet)
+    (start mid new : PageFacts) (cs ds es : List Change) (told : List ToldSet) (t : ToldSet) (all : List ToldSet)
     → items ≡ map (set_under d) g.sets → faults ≡ envelope_faults g → i < length items → x ≡ get_or items i x → f ≡ get_or faults i f
-    → AreTaken d kind (take i (examined g)) start mid told → AreTaken x.delims kind ((x.set, f) ∷ []) mid new (t ∷ []) → all ≡ told ++ t ∷ []
-    → AreTaken d kind (take (i + 1) (examined g)) start new all
-sets_go_on g d kind items faults i x f start mid new told t all same found within here fault before step is =
+    → AreTaken d kind (take i (examined g)) start mid cs told → AreTaken x.delims kind ((x.set, f) ∷ []) mid new ds (t ∷ []) → es ≡ cs ++ ds → all ≡ told ++ t ∷ []
+    → AreTaken d kind (take (i + 1) (examined g)) start new es all
+sets_go_on g d kind items faults i x f start mid new cs ds es told t all same found within here fault before step joined is =
     let read = read_map (set_under d) g.sets items i x x.set same within here in
     let at : f ≡ get_or (map (λ (p : Examined). p.1) (examined g)) i None =
     fault ∙ get_or_default faults i f None (fault_within g d items faults i same found within) ∙ ap (λ (fs : List (Option ℕ)). get_or fs i None) found in
@@ -61,26 +65,29 @@ sets_go_on g d kind items faults i x f start mid new told t all same found withi
     ap (λ (s : Set). (s, f)) whose ∙ ap (λ (o : Option ℕ). (get_or g.sets i x.set, o)) at in
     let more : take (i + 1) (examined g) ≡ take i (examined g) ++ (x.set, f) ∷ [] =
     examined_more (kind_of g) g.sets i x.set read.0 ∙ ap (λ (p : Examined). take i (examined g) ++ p ∷ []) (sym pair) in
-    let one : AreTaken d kind ((x.set, f) ∷ []) mid new (t ∷ []) =
-    subst (λ (e : Delims). AreTaken e kind ((x.set, f) ∷ []) mid new (t ∷ [])) (ap (λ (s : SetOf). s.delims) read.1) step in
-    let both : AreTaken d kind (take i (examined g) ++ (x.set, f) ∷ []) start new (told ++ t ∷ []) = taken_both d kind (take i (examined g)) ((x.set, f) ∷ []) start mid new told (t ∷ []) before one in
-    subst (λ (ps : List Examined). AreTaken d kind ps start new all) (sym more)
-    (subst (λ (ts : List ToldSet). AreTaken d kind (take i (examined g) ++ (x.set, f) ∷ []) start new ts) (sym is) both)
+    let one : AreTaken d kind ((x.set, f) ∷ []) mid new ds (t ∷ []) =
+    subst (λ (e : Delims). AreTaken e kind ((x.set, f) ∷ []) mid new ds (t ∷ [])) (ap (λ (s : SetOf). s.delims) read.1) step in
+    let both : AreTaken d kind (take i (examined g) ++ (x.set, f) ∷ []) start new (cs ++ ds) (told ++ t ∷ []) = taken_both d kind (take i (examined g)) ((x.set, f) ∷ []) start mid new cs ds told (t ∷ []) before one in
+    subst (λ (ps : List Examined). AreTaken d kind ps start new es all) (sym more)
+    (subst (λ (ts : List ToldSet). AreTaken d kind (take i (examined g) ++ (x.set, f) ∷ []) start new es ts) (sym is)
+    (subst (λ (fs : List Change). AreTaken d kind (take i (examined g) ++ (x.set, f) ∷ []) start new fs (told ++ t ∷ [])) (sym joined) both))
 
 -- all sets
-pub sets_all : (g : Group) (d : Delims) (kind : Option SetKind) (items : List SetOf) (i : ℕ) (start new : PageFacts) (told : List ToldSet)
-    → items ≡ map (set_under d) g.sets → length items ≤ i → AreTaken d kind (take i (examined g)) start new told → AreTaken d kind (examined g) start new told
-sets_all g d kind items i start new told same end before =
-    subst (λ (ps : List Examined). AreTaken d kind ps start new told)
+pub sets_all : (g : Group) (d : Delims) (kind : Option SetKind) (items : List SetOf) (i : ℕ) (start new : PageFacts) (cs : List Change) (told : List ToldSet)
+    → items ≡ map (set_under d) g.sets → length items ≤ i → AreTaken d kind (take i (examined g)) start new cs told → AreTaken d kind (examined g) start new cs told
+sets_all g d kind items i start new cs told same end before =
+    subst (λ (ps : List Examined). AreTaken d kind ps start new cs told)
     (take_all i (examined g) (omega (arith, end, ap length same, length-map g.sets (set_under d), examined_length (kind_of g) [] g.sets))) before
 
 -- Groups.
 
 -- a group with a fault leaves the page
-pub group_kept : (g : Group) (d : Delims) (p : PageFacts) (fault : ℕ) → group_fault g ≡ Some fault → IsGroupTaken d g p p []
+pub group_kept : (g : Group) (d : Delims) (p : PageFacts) (fault : ℕ) → group_fault g ≡ Some fault → IsGroupTaken d g p p [] []
 group_kept g d p fault is = record {
-  shows = λ es shows. rw is (subst (Shows p) (sym (append-nil es)) shows);
-  told = λ es shows. rw is refl;
+  same = refl;
+  shows = λ n P es part names shows. rw is (subst (Shows (after [] p.recent P)) (sym (append-nil es)) (subst (λ (q : PageFacts). Shows q es) (after_none n p P part) shows));
+  proper = λ n P es part names shows. tt;
+  told = λ n P es part names shows. rw is refl;
   entries = refl;
   recent = omega arith;
 }
@@ -95,20 +102,27 @@ telling_verdicts : (d : Delims) (es : List Event) (n : ℕ) (g : Group) (kind : 
 telling_verdicts d es n g kind none is =
     ap (λ (o : Option ℕ). cond (is_none o) (verdicts_on d es n (kind_of g) (examined g)) []) none ∙ ap (λ (k : Option SetKind). verdicts_on d es n k (examined g)) is
 
-pub group_taken : (g : Group) (d : Delims) (kind : SetKind) (p q : PageFacts) (sets : List ToldSet) → group_fault g ≡ None → kind_of g ≡ Some kind
-    → AreTaken d (Some kind) (examined g) p q sets → IsGroupTaken d g p q sets
-group_taken g d kind p q sets none is taken = record {
-  shows = λ es shows. subst (λ (vs : List Verdict). Shows q (es ++ passed vs)) (sym (telling_verdicts d es (p.entries + 1) g kind none is)) (taken.shows es shows);
-  told = λ es shows. taken.told es shows ∙ ap (map told_set) (sym (telling_verdicts d es (p.entries + 1) g kind none is));
+pub group_taken : (g : Group) (d : Delims) (kind : SetKind) (p q : PageFacts) (cs : List Change) (sets : List ToldSet) → group_fault g ≡ None → kind_of g ≡ Some kind
+    → AreTaken d (Some kind) (examined g) p q cs sets → IsGroupTaken d g p q cs sets
+group_taken g d kind p q cs sets none is taken = record {
+  same = taken.same;
+  shows = λ n P es part names shows. subst (λ (vs : List Verdict). Shows (after cs q.recent P) (es ++ passed vs)) (sym (telling_verdicts d es (p.entries + 1) g kind none is)) (taken.shows n P es part (under n names) shows);
+  proper = λ n P es part names shows. taken.proper n P es part (under n names) shows;
+  told = λ n P es part names shows. taken.told n P es part (under n names) shows ∙ ap (map told_set) (sym (telling_verdicts d es (p.entries + 1) g kind none is));
   entries = taken.entries;
   recent = omega (arith, taken.recent, examined_length (kind_of g) [] g.sets);
 }
+  where
+    under : (n : Named) → NamesGroup d n g → NamesSets d n (Some kind) (examined g)
+    under n names = subst (λ (k : Option SetKind). NamesSets d n k (examined g)) is names
 
 -- no group was taken yet
-pub no_groups : (d : Delims) (p : PageFacts) → AreGroupsTaken d [] p p []
+pub no_groups : (d : Delims) (p : PageFacts) → AreGroupsTaken d [] p p [] []
 no_groups d p = record {
-  shows = λ es shows. subst (Shows p) (sym (append-nil es)) shows;
-  told = λ es shows. refl;
+  same = refl;
+  shows = λ n P es part names shows. subst (Shows (after [] p.recent P)) (sym (append-nil es)) (subst (λ (q : PageFacts). Shows q es) (after_none n p P part) shows);
+  proper = λ n P es part names shows. tt;
+  told = λ n P es part names shows. refl;
   entries = refl;
   recent = omega arith;
 }
@@ -122,54 +136,71 @@ answered_one g fault vs sets is = by_test (is_answered g) refl
     by_test true e = rw e (ap (λ (x : Told). x ∷ []) is)
     by_test false e = rw e refl
 
-pub group_one : (g : Group) (d : Delims) (p q : PageFacts) (sets : List ToldSet) → IsGroupTaken d g p q sets → AreGroupsTaken d (g ∷ []) p q (told_if g sets)
-group_one g d p q sets taken = record {
-  shows = λ es shows. subst (λ (more : List Event). Shows q (es ++ more)) (sym (append-nil (events_told (telling_of d es (p.entries + 1) g)))) (taken.shows es shows);
-  told = λ es shows. sym (answered_one g (group_fault g) ((telling_of d es (p.entries + 1) g).verdicts) sets (ap (told_with g) (sym (taken.told es shows))));
+pub group_one : (g : Group) (d : Delims) (p q : PageFacts) (cs : List Change) (sets : List ToldSet) → IsGroupTaken d g p q cs sets → AreGroupsTaken d (g ∷ []) p q cs (told_if g sets)
+group_one g d p q cs sets taken = record {
+  same = taken.same;
+  shows = λ n P es part names shows. subst (λ (more : List Event). Shows (after cs q.recent P) (es ++ more)) (sym (append-nil (events_told (telling_of d es (p.entries + 1) g)))) (taken.shows n P es part names.0 shows);
+  proper = λ n P es part names shows. taken.proper n P es part names.0 shows;
+  told = λ n P es part names shows. sym (answered_one g (group_fault g) ((telling_of d es (p.entries + 1) g).verdicts) sets (ap (told_with g) (sym (taken.told n P es part names.0 shows))));
   entries = taken.entries;
   recent = omega (arith, taken.recent);
 }
 
+groups_named : (d : Delims) (n : Named) (gs hs : List Group) → NamesGroups d n (gs ++ hs) → NamesGroups d n gs × NamesGroups d n hs
+groups_named d n [] hs names = (tt, names)
+groups_named d n (g ∷ gs) hs names = let rest = groups_named d n gs hs names.1 in ((names.0, rest.0), rest.1)
+
 -- one list of groups after another
-pub groups_both : (d : Delims) (gs hs : List Group) (old mid new : PageFacts) (some more : List Told)
-    → AreGroupsTaken d gs old mid some → AreGroupsTaken d hs mid new more → AreGroupsTaken d (gs ++ hs) old new (some ++ more)
-groups_both d gs hs old mid new some more first second = record {
-  shows = λ es shows.
-      let n = old.entries + 1 in
-      let ts = tellings_on d es n gs in
-      let us = tellings_on d (es ++ told_events ts) n hs in
-      let later : Shows new ((es ++ told_events ts) ++ told_events us) =
-      subst (λ k. Shows new ((es ++ told_events ts) ++ told_events (tellings_on d (es ++ told_events ts) (k + 1) hs))) first.entries (second.shows (es ++ told_events ts) (first.shows es shows)) in
-      let all : (es ++ told_events ts) ++ told_events us ≡ es ++ told_events (tellings_on d es n (gs ++ hs)) =
+pub groups_both : (d : Delims) (gs hs : List Group) (old mid new : PageFacts) (cs ds : List Change) (some more : List Told)
+    → AreGroupsTaken d gs old mid cs some → AreGroupsTaken d hs mid new ds more → AreGroupsTaken d (gs ++ hs) old new (cs ++ ds) (some ++ more)
+groups_both d gs hs old mid new cs ds some more first second = record {
+  same = same_both cs ds old mid new first.same second.same;
+  shows = λ n P es part names shows.
+      let both = groups_named d n gs hs names in
+      let m = old.entries + 1 in
+      let ts = tellings_on d es m gs in
+      let us = tellings_on d (es ++ told_events ts) m hs in
+      let q = after cs mid.recent P in
+      let later : Shows (after ds new.recent q) ((es ++ told_events ts) ++ told_events us) =
+      subst (λ k. Shows (after ds new.recent q) ((es ++ told_events ts) ++ told_events (tellings_on d (es ++ told_events ts) (k + 1) hs))) first.entries
+      (second.shows n q (es ++ told_events ts) (part_behind n cs old mid P first.same part) both.1 (first.shows n P es part both.0 shows)) in
+      let all : (es ++ told_events ts) ++ told_events us ≡ es ++ told_events (tellings_on d es m (gs ++ hs)) =
       append_assoc es (told_events ts) (told_events us)
-      ∙ ap (λ (x : List Event). es ++ x) (sym (ap told_events (tellings_append d es n gs hs) ∙ flat_map-append events_told ts us)) in
-      subst (Shows new) all later;
-  told = λ es shows.
-      let n = old.entries + 1 in
-      let ts = tellings_on d es n gs in
-      let us = tellings_on d (es ++ told_events ts) n hs in
+      ∙ ap (λ (x : List Event). es ++ x) (sym (ap told_events (tellings_append d es m gs hs) ∙ flat_map-append events_told ts us)) in
+      subst (λ (x : PageFacts). Shows x (es ++ told_events (tellings_on d es m (gs ++ hs)))) (after_both cs ds mid.recent new.recent P) (subst (Shows (after ds new.recent q)) all later);
+  proper = λ n P es part names shows.
+      let both = groups_named d n gs hs names in
+      let q = after cs mid.recent P in
+      proper_behind cs ds mid.recent P (first.proper n P es part both.0 shows)
+      (second.proper n q (es ++ told_events (tellings_on d es (old.entries + 1) gs)) (part_behind n cs old mid P first.same part) both.1 (first.shows n P es part both.0 shows));
+  told = λ n P es part names shows.
+      let both = groups_named d n gs hs names in
+      let m = old.entries + 1 in
+      let ts = tellings_on d es m gs in
+      let us = tellings_on d (es ++ told_events ts) m hs in
       let later : more ≡ map told_of (answered us) =
-      subst (λ k. more ≡ map told_of (answered (tellings_on d (es ++ told_events ts) (k + 1) hs))) first.entries (second.told (es ++ told_events ts) (first.shows es shows)) in
-      ap (λ (x : List Told). some ++ x) later ∙ ap (λ (x : List Told). x ++ map told_of (answered us)) (first.told es shows)
-      ∙ sym (ap (λ (x : List Telling). map told_of (answered x)) (tellings_append d es n gs hs)
+      subst (λ k. more ≡ map told_of (answered (tellings_on d (es ++ told_events ts) (k + 1) hs))) first.entries
+      (second.told n (after cs mid.recent P) (es ++ told_events ts) (part_behind n cs old mid P first.same part) both.1 (first.shows n P es part both.0 shows)) in
+      ap (λ (x : List Told). some ++ x) later ∙ ap (λ (x : List Told). x ++ map told_of (answered us)) (first.told n P es part both.0 shows)
+      ∙ sym (ap (λ (x : List Telling). map told_of (answered x)) (tellings_append d es m gs hs)
       ∙ ap (map told_of) (filter-append (λ (t : Telling). is_answered t.group) ts us) ∙ map-append told_of (answered ts) (answered us));
   entries = second.entries ∙ first.entries;
   recent = omega (arith, first.recent, second.recent, sum_by-append (λ (g : Group). length g.sets) gs hs);
 }
 
 -- one group more
-pub groups_go_on : (d : Delims) (groups : List Group) (items : List GroupOf) (i : ℕ) (x : GroupOf) (start mid new : PageFacts) (told : List Told) (sets : List ToldSet)
+pub groups_go_on : (d : Delims) (groups : List Group) (items : List GroupOf) (i : ℕ) (x : GroupOf) (start mid new : PageFacts) (cs ds : List Change) (told : List Told) (sets : List ToldSet)
     → items ≡ map (group_under d) groups → i < length items → x ≡ get_or items i x
-    → AreGroupsTaken d (take i groups) start mid told → IsGroupTaken x.delims x.group mid new sets
-    → AreGroupsTaken d (take (i + 1) groups) start new (told ++ told_if x.group sets)
-groups_go_on d groups items i x start mid new told sets same within here before step =
+    → AreGroupsTaken d (take i groups) start mid cs told → IsGroupTaken x.delims x.group mid new ds sets
+    → AreGroupsTaken d (take (i + 1) groups) start new (cs ++ ds) (told ++ told_if x.group sets)
+groups_go_on d groups items i x start mid new cs ds told sets same within here before step =
     let read = read_map (group_under d) groups items i x x.group same within here in
     let whose : x.group ≡ get_or groups i x.group = ap (λ (g : GroupOf). g.group) read.1 in
-    let one : IsGroupTaken d x.group mid new sets = subst (λ (e : Delims). IsGroupTaken e x.group mid new sets) (ap (λ (g : GroupOf). g.delims) read.1) step in
+    let one : IsGroupTaken d x.group mid new ds sets = subst (λ (e : Delims). IsGroupTaken e x.group mid new ds sets) (ap (λ (g : GroupOf). g.delims) read.1) step in
     let more : take (i + 1) groups ≡ take i groups ++ x.group ∷ [] =
     take_more groups i x.group read.0 ∙ ap (λ (g : Group). take i groups ++ g ∷ []) (sym whose) in
-    subst (λ (gs : List Group). AreGroupsTaken d gs start new (told ++ told_if x.group sets)) (sym more)
-    (groups_both d (take i groups) (x.group ∷ []) start mid new told (told_if x.group sets) before (group_one x.group d mid new sets one))
+    subst (λ (gs : List Group). AreGroupsTaken d gs start new (cs ++ ds) (told ++ told_if x.group sets)) (sym more)
+    (groups_both d (take i groups) (x.group ∷ []) start mid new cs ds told (told_if x.group sets) before (group_one x.group d mid new ds sets one))
 
 -- there is room for a group more
 pub group_room : (d : Delims) (groups : List Group) (items : List GroupOf) (i : ℕ) (x : GroupOf) (start page : PageFacts)

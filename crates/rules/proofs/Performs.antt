@@ -2,7 +2,7 @@
 use Rattle.std.proofs.Common.{◌≡◌, ℕ, ◌+◌, ◌*◌, ◌≤◌, Bool, true, false, not, inl, inr, List, [], ◌∷◌, Option, Some, None, Ok, Err, refl, sym, ap, ◌∙◌, subst, arith, map}
 use Rattle.std.specs.Prelude.{Result, option_map, count_by, codes, nat_lt, if◌then◌else◌}
 use Rattle.std.specs.List.{AllByRecursion, list_any}
-use Rattle.std.proofs.lemmas.Bool.{cases_Bool}
+use Rattle.std.proofs.lemmas.Bool.{cases_Bool, and_parts}
 use Rattle.profile.specs.Moments.{Moment}
 use Rattle.profile.specs.Header.{Who}
 use Rattle.profile.specs.Means.{Line, Advice, OrderLine}
@@ -24,7 +24,9 @@ use Rattle.sets_out.specs.Documents.{AdjustedLine, ShippedLine, adjusted_for, sh
 use Rattle.sets_out.proofs.BodyLaws.{body_944-for, body_945-for, body_947-for}
 use Rattle.sets_out.specs.declared.envelopes.Envelope.{Envelope}
 use Rattle.stock.specs.Pages.{PageFacts, advice_at, order_at}
+use Rattle.stock.specs.Parts.{Named, IsPart, are_items}
 use Rattle.stock.specs.Shows.{Shows}
+use Rattle.rules.specs.Needs.{HasNeeded}
 use Rattle.stock.specs.Told.{told, amount}
 use Rattle.stock.proofs.Tells.{pair_is}
 use Rattle.stock.proofs.Sums.{own_pair}
@@ -157,35 +159,47 @@ adjustment_is w p es n sheet e text shows is good made =
     ∙ ap (λ (b : List Segment). document_text w.warehouse w.depositor w.moment w.number (codes "AW") (codes "947") b) (sym (body_947-for w.moment w.number (on_hand_now es sheet) sheet))
     ∙ ap (document_of w.warehouse w.depositor w.moment w.number) (sym (recounted_event es n sheet e is))
 
+-- what the part of a page has on hand of named items
+adjusted_part : (n : Named) (p P : PageFacts) (ls : List Line) → IsPart n p P → are_items n ls ≡ true → map (adjusted_from p) ls ≡ map (adjusted_from P) ls
+adjusted_part n p P [] part all = refl
+adjusted_part n p P (l ∷ ls) part all =
+    let q = and_parts (n.items l.item) (are_items n ls) all in
+    ap (λ x. record { item = l.item; lot = l.lot; before = x; after = l.quantity } ∷ map (adjusted_from p) ls) (part.rows (amount OnHand) l.item l.lot q.0)
+    ∙ ap (λ (x : List AdjustedLine). adjusted_from P l ∷ x) (adjusted_part n p P ls part q.1)
+
+pub adjustment_part : (w : Envelope) (n : Named) (p P : PageFacts) (sheet : List Line) → IsPart n p P → are_items n sheet ≡ true → adjustment_text w p sheet ≡ adjustment_text w P sheet
+adjustment_part w n p P sheet part all =
+    ap (λ (ls : List AdjustedLine). document_text w.warehouse w.depositor w.moment w.number (codes "AW") (codes "947") (adjustment_body w.moment w.number ls)) (adjusted_part n p P sheet part all)
+
 -- Replies to new tickets.
 
-pub act_done : (W : Who) (p : PageFacts) (h : History) (en : Entry) (act : Act) (e : Event) (n : ℕ) (c : Command) (t : Moment) (d : Decision) → IsPageOf p h → performed h.events (p.entries + 1) act ≡ Ok e
+pub act_done : (W : Who) (m : ℕ) (h : History) (en : Entry) (act : Act) (e : Event) (n : ℕ) (c : Command) (t : Moment) (d : Decision) → m ≡ h.numbered → performed h.events (m + 1) act ≡ Ok e
     → IsReply n c t (known.accepted_by W h en) d → IsReply n c t (known.act_new W h en act) d
-act_done W p h en act e n c t d of done reply =
-    let there : performed h.events (h.numbered + 1) act ≡ Ok e = ap (λ k. performed h.events (k + 1) act) (sym of.entries) ∙ done in
+act_done W m h en act e n c t d same done reply =
+    let there : performed h.events (h.numbered + 1) act ≡ Ok e = ap (λ k. performed h.events (k + 1) act) (sym same) ∙ done in
     subst (λ (o : Result Event Refusal). IsReply n c t (known.act_told W h en o) d) (sym there) reply
 
-pub act_told_of : (W : Who) (p : PageFacts) (h : History) (en : Entry) (act : Act) (n : ℕ) (c : Command) (t : Moment) (d : Decision) → IsPageOf p h
-    → IsReply n c t (known.act_told W h en (performed h.events (p.entries + 1) act)) d → IsReply n c t (known.act_new W h en act) d
-act_told_of W p h en act n c t d of reply =
-    subst (λ (o : Result Event Refusal). IsReply n c t (known.act_told W h en o) d) (ap (λ k. performed h.events (k + 1) act) of.entries) reply
+pub act_told_of : (W : Who) (m : ℕ) (h : History) (en : Entry) (act : Act) (n : ℕ) (c : Command) (t : Moment) (d : Decision) → m ≡ h.numbered
+    → IsReply n c t (known.act_told W h en (performed h.events (m + 1) act)) d → IsReply n c t (known.act_new W h en act) d
+act_told_of W m h en act n c t d same reply =
+    subst (λ (o : Result Event Refusal). IsReply n c t (known.act_told W h en o) d) (ap (λ k. performed h.events (k + 1) act) same) reply
 
 -- the reply to an act of a depositor with a page
 clerk_stands : (W w : Who) (ticket : List ℕ) (act : Act) (t : Moment) (d : Decision) (p : Bor PageFacts) (o : Option Recalled) (h : Option History) (k : Option known.Recalled)
-    → StandsFor (Some p) h → IsRecalled o k → IsUnder (ticket_mark ticket) k
-    → ((H : History) (K : Option known.Recalled) → IsPageOf p.now H → IsRecalled o K → IsUnder (ticket_mark ticket) K
+    → StandsFor (Clerk w ticket act) (Some p) h → IsRecalled o k → IsUnder (ticket_mark ticket) k
+    → ((H : History) (P : PageFacts) (K : Option known.Recalled) → HasNeeded (Clerk w ticket act) p.now P → IsPageOf P H → IsRecalled o K → IsUnder (ticket_mark ticket) K
     → IsReply p.now.entries (Clerk w ticket act) t (known.clerk_by W (Some H) K w ticket act t) d)
     → IsReply p.now.entries (Clerk w ticket act) t (known.clerk_by W h k w ticket act t) d
 clerk_stands W w ticket act t d p o None k held is under reply = absurd held
-clerk_stands W w ticket act t d p o (Some h) k held is under reply = reply h k held is under
+clerk_stands W w ticket act t d p o (Some h) k held is under reply = reply h held.0 k held.1 held.2 is under
 
 pub clerk_given : (V W w : Who) (ticket : List ℕ) (act : Act) (t : Moment) (d : Decision) (held : Option (Bor PageFacts)) (p : Bor PageFacts) (o : Option Recalled) (h : Option History) (k : Option known.Recalled)
     → V ≡ W → held ≡ Some p → IsGiven held o (Clerk w ticket act) h k
-    → ((H : History) (K : Option known.Recalled) → IsPageOf p.now H → IsRecalled o K → IsUnder (ticket_mark ticket) K
+    → ((H : History) (P : PageFacts) (K : Option known.Recalled) → HasNeeded (Clerk w ticket act) p.now P → IsPageOf P H → IsRecalled o K → IsUnder (ticket_mark ticket) K
     → IsReply p.now.entries (Clerk w ticket act) t (known.clerk_by V (Some H) K w ticket act t) d)
     → IsReply (entries_of held) (Clerk w ticket act) t (known.clerk_by W h k w ticket act t) d
 clerk_given V W w ticket act t d held p o h k house page given reply =
     subst (λ (x : Option (Bor PageFacts)). IsReply (entries_of x) (Clerk w ticket act) t (known.clerk_by W h k w ticket act t) d) (sym page)
-    (clerk_stands W w ticket act t d p o h k (subst (λ (x : Option (Bor PageFacts)). StandsFor x h) page given.page) given.known given.under
-    (subst (λ (x : Who). (H : History) (K : Option known.Recalled) → IsPageOf p.now H → IsRecalled o K → IsUnder (ticket_mark ticket) K
+    (clerk_stands W w ticket act t d p o h k (subst (λ (x : Option (Bor PageFacts)). StandsFor (Clerk w ticket act) x h) page given.page) given.known given.under
+    (subst (λ (x : Who). (H : History) (P : PageFacts) (K : Option known.Recalled) → HasNeeded (Clerk w ticket act) p.now P → IsPageOf P H → IsRecalled o K → IsUnder (ticket_mark ticket) K
     → IsReply p.now.entries (Clerk w ticket act) t (known.clerk_by x (Some H) K w ticket act t) d) house reply))

@@ -20,25 +20,33 @@ use Rattle.profile.proofs.ReadingLaws.{act_of-canonical}
 use Rattle.sets_out.specs.Headings.{heading_of}
 use Rattle.sets_out.specs.Interchanges.{answer_of}
 use Rattle.sets_out.proofs.TextLaws.{answer-told}
-use Rattle.stock.specs.Pages.{PageFacts, next_entry}
+use Rattle.stock.specs.Pages.{PageFacts, AreSorted, next_entry}
+use Rattle.stock.specs.Parts.{all_named}
+use Rattle.stock.specs.declared.steps.Change.{Change}
+use Rattle.stock.proofs.PartLemmas.{part_of_self}
 use Rattle.stock.specs.Shows.{Shows}
 use Rattle.rules.specs.Written.{Written, written_as}
-use Rattle.rules.specs.Judging.{AreGroupsTaken}
+use Rattle.rules.specs.Judging.{AreGroupsTaken, after}
+use Rattle.rules.proofs.Whole.{all_groups}
 use Rattle.rules.specs.Decided.{IsPageOf}
 use Rattle.rules.specs.Played.{number_after, IsBefore, IsPlayed, IsReplayed, is_clean}
 
 -- Interchanges.
 
-pub grouped_played : (W w : Who) (t : Moment) (number : ℕ) (text : List ℕ) (p new : PageFacts) (told : List Told) (out : List ℕ) (h : History)
-    → AreGroupsTaken (delims_of text) (groups_of ((cut (delims_of text) text).segments)) p new told
+pub grouped_played : (W w : Who) (t : Moment) (number : ℕ) (text : List ℕ) (p new : PageFacts) (cs : List Change) (told : List Told) (out : List ℕ) (h : History)
+    → AreGroupsTaken (delims_of text) (groups_of ((cut (delims_of text) text).segments)) p new cs told → AreSorted p
     → out ≡ answer_of (delims_of text) W w t number (heading_of text) told → IsPageOf p h → number ≡ h.numbered + 1
     → IsPlayed W h (record { who = w; moment = t; deed = Received text }) new out
-grouped_played W w t number text p new told out h groups made of is =
+grouped_played W w t number text p new cs told out h groups sorted made of is =
+    let part = part_of_self all_named p sorted in
+    let names = all_groups (delims_of text) (groups_of ((cut (delims_of text) text).segments)) in
     let n = h.numbered + 1 in
     let ts = tellings h.events n text in
-    let same : told ≡ map told_of (answered ts) = subst (λ (k : ℕ). told ≡ map told_of (answered (tellings h.events (k + 1) text))) of.entries (groups.told h.events of.shows) in
+    let same : told ≡ map told_of (answered ts) = subst (λ (k : ℕ). told ≡ map told_of (answered (tellings h.events (k + 1) text))) of.entries (groups.told all_named p h.events part names of.shows) in
+    let there : Shows (after cs new.recent p) (h.events ++ events_added h.events (h.numbered + 1) (Received text)) =
+    subst (λ (k : ℕ). Shows (after cs new.recent p) (h.events ++ events_added h.events (k + 1) (Received text))) of.entries (groups.shows all_named p h.events part names of.shows) in
     record {
-      shows = subst (λ (k : ℕ). Shows new (h.events ++ events_added h.events (k + 1) (Received text))) of.entries (groups.shows h.events of.shows);
+      shows = subst (λ (q : PageFacts). Shows q (h.events ++ events_added h.events (h.numbered + 1) (Received text))) (sym groups.same) there;
       entries = groups.entries ∙ of.entries;
       outgoing = made ∙ ap (λ k. answer_of (delims_of text) W w t k (heading_of text) told) is
           ∙ ap (λ (x : List Told). answer_of (delims_of text) W w t n (heading_of text) x) same

@@ -20,7 +20,12 @@ use Rattle.tables.specs.Judged.{IsClosed}
 use Rattle.rules.specs.declared.judging.Verdict.{Verdict as Settled}
 use Rattle.rules.specs.declared.judging.Verdict.TheVariants.{Passed, Rejected}
 use Rattle.rules.specs.Proper.{AreProper}
-use Rattle.rules.specs.Judging.{passed, IsVerdict, AreTaken}
+use Rattle.stock.specs.declared.steps.Change.{Change}
+use Rattle.stock.specs.Parts.{Named, IsPart}
+use Rattle.rules.specs.Needs.{NamesUnder}
+use Rattle.rules.proofs.SetsNamed.{NamesPassed, sets_named}
+use Rattle.rules.proofs.Led.{after_none, after_both, same_both, part_behind, proper_behind}
+use Rattle.rules.specs.Judging.{after, passed, IsVerdict, AreTaken}
 use Rattle.rules.proofs.Verdicts.{verdicts_append}
 
 abbrev Examined : Type 0
@@ -30,34 +35,44 @@ abbrev told_as : Set → Option Rejection → ToldSet
 told_as s r = record { number = element (head_of s) 1; control = control_of s; rejection = r }
 
 -- nothing was taken yet
-pub none_taken : (d : Delims) (kind : Option SetKind) (p : PageFacts) → AreTaken d kind [] p p []
+pub none_taken : (d : Delims) (kind : Option SetKind) (p : PageFacts) → AreTaken d kind [] p p [] []
 none_taken d kind p = record {
-  shows = λ es shows. subst (Shows p) (sym (append-nil es)) shows;
-  told = λ es shows. refl;
+  same = refl;
+  shows = λ n P es part names shows. subst (Shows (after [] p.recent P)) (sym (append-nil es)) (subst (λ (q : PageFacts). Shows q es) (after_none n p P part) shows);
+  proper = λ n P es part names shows. tt;
+  told = λ n P es part names shows. refl;
   entries = refl;
   recent = omega arith;
 }
 
 -- a set that is rejected leaves the page
 pub taken_rejected : (d : Delims) (kind : Option SetKind) (p : PageFacts) (s : Set) (fault : Option ℕ) (r : Rejection) (told : ToldSet)
-    → ((es : List Event) → Shows p es → outcome_of d es (p.entries + 1) kind fault s ≡ Err r) → told ≡ told_as s (Some r)
-    → AreTaken d kind ((s, fault) ∷ []) p p (told ∷ [])
+    → ((n : Named) (P : PageFacts) (es : List Event) → IsPart n p P → NamesUnder d n kind (s, fault) → Shows P es → outcome_of d es (p.entries + 1) kind fault s ≡ Err r) → told ≡ told_as s (Some r)
+    → AreTaken d kind ((s, fault) ∷ []) p p [] (told ∷ [])
 taken_rejected d kind p s fault r told outcome is = record {
-  shows = λ es shows. rw (outcome es shows) (subst (Shows p) (sym (append-nil es)) shows);
-  told = λ es shows. rw (outcome es shows) (ap (λ (x : ToldSet). x ∷ []) is);
+  same = refl;
+  shows = λ n P es part names shows. rw (outcome n P es part names.0 shows)
+      (subst (Shows (after [] p.recent P)) (sym (append-nil es)) (subst (λ (q : PageFacts). Shows q es) (after_none n p P part) shows));
+  proper = λ n P es part names shows. tt;
+  told = λ n P es part names shows. rw (outcome n P es part names.0 shows) (ap (λ (x : ToldSet). x ∷ []) is);
   entries = refl;
   recent = omega arith;
 }
 
 -- a set that passes adds its event
-pub taken_passed : (d : Delims) (kind : Option SetKind) (p q : PageFacts) (s : Set) (fault : Option ℕ) (told : ToldSet)
-    → ((es : List Event) → Shows p es → (e : Event) × (outcome_of d es (p.entries + 1) kind fault s ≡ Ok e) × Shows q (es ++ e ∷ [])) → told ≡ told_as s None
-    → q.entries ≡ p.entries → q.recent ≡ p.recent + 1 → AreTaken d kind ((s, fault) ∷ []) p q (told ∷ [])
-taken_passed d kind p q s fault told outcome is entries recent = record {
-  shows = λ es shows. let o = outcome es shows in rw o.1 o.2;
-  told = λ es shows. let o = outcome es shows in rw o.1 (ap (λ (x : ToldSet). x ∷ []) is);
-  entries = entries;
-  recent = omega (arith, recent);
+pub taken_passed : (d : Delims) (kind : Option SetKind) (p : PageFacts) (cs : List Change) (s : Set) (fault : Option ℕ) (told : ToldSet)
+    → ((n : Named) (P : PageFacts) (es : List Event) → IsPart n p P → NamesUnder d n kind (s, fault) → Shows P es
+    → (e : Event) × (outcome_of d es (p.entries + 1) kind fault s ≡ Ok e) × Shows (put cs P) (es ++ e ∷ []) × AreProper P cs) → told ≡ told_as s None
+    → AreTaken d kind ((s, fault) ∷ []) p (put cs p) cs (told ∷ [])
+taken_passed d kind p cs s fault told outcome is = record {
+  same = refl;
+  shows = λ n P es part names shows.
+      let o = outcome n P es part names.0 shows in
+      rw o.1 (subst (λ (r : ℕ). Shows (after cs (r + 1) P) (es ++ o.0 ∷ [])) (sym part.recent) o.2);
+  proper = λ n P es part names shows. (outcome n P es part names.0 shows).3;
+  told = λ n P es part names shows. let o = outcome n P es part names.0 shows in rw o.1 (ap (λ (x : ToldSet). x ∷ []) is);
+  entries = refl;
+  recent = omega arith;
 }
 
 -- the events of verdicts put together
@@ -65,26 +80,37 @@ pub passed_append : (vs ws : List Verdict) → passed (vs ++ ws) ≡ passed vs +
 passed_append vs ws = filter_map-append event_of vs ws
 
 -- one list of sets after another
-pub taken_both : (d : Delims) (kind : Option SetKind) (ps qs : List Examined) (old mid new : PageFacts) (some more : List ToldSet)
-    → AreTaken d kind ps old mid some → AreTaken d kind qs mid new more → AreTaken d kind (ps ++ qs) old new (some ++ more)
-taken_both d kind ps qs old mid new some more first second = record {
-  shows = λ es shows.
-      let n = old.entries + 1 in
-      let vs = verdicts_on d es n kind ps in
-      let ws = verdicts_on d (es ++ passed vs) n kind qs in
-      let later : Shows new ((es ++ passed vs) ++ passed ws) =
-      subst (λ k. Shows new ((es ++ passed vs) ++ passed (verdicts_on d (es ++ passed vs) (k + 1) kind qs))) first.entries (second.shows (es ++ passed vs) (first.shows es shows)) in
-      let all : (es ++ passed vs) ++ passed ws ≡ es ++ passed (verdicts_on d es n kind (ps ++ qs)) =
-      append_assoc es (passed vs) (passed ws) ∙ ap (λ (x : List Event). es ++ x) (sym (ap passed (verdicts_append d es n kind ps qs) ∙ passed_append vs ws)) in
-      subst (Shows new) all later;
-  told = λ es shows.
-      let n = old.entries + 1 in
-      let vs = verdicts_on d es n kind ps in
-      let ws = verdicts_on d (es ++ passed vs) n kind qs in
+pub taken_both : (d : Delims) (kind : Option SetKind) (ps qs : List Examined) (old mid new : PageFacts) (cs ds : List Change) (some more : List ToldSet)
+    → AreTaken d kind ps old mid cs some → AreTaken d kind qs mid new ds more → AreTaken d kind (ps ++ qs) old new (cs ++ ds) (some ++ more)
+taken_both d kind ps qs old mid new cs ds some more first second = record {
+  same = same_both cs ds old mid new first.same second.same;
+  shows = λ n P es part names shows.
+      let both = sets_named d n kind ps qs names in
+      let m = old.entries + 1 in
+      let vs = verdicts_on d es m kind ps in
+      let ws = verdicts_on d (es ++ passed vs) m kind qs in
+      let q = after cs mid.recent P in
+      let later : Shows (after ds new.recent q) ((es ++ passed vs) ++ passed ws) =
+      subst (λ k. Shows (after ds new.recent q) ((es ++ passed vs) ++ passed (verdicts_on d (es ++ passed vs) (k + 1) kind qs))) first.entries
+      (second.shows n q (es ++ passed vs) (part_behind n cs old mid P first.same part) both.1 (first.shows n P es part both.0 shows)) in
+      let all : (es ++ passed vs) ++ passed ws ≡ es ++ passed (verdicts_on d es m kind (ps ++ qs)) =
+      append_assoc es (passed vs) (passed ws) ∙ ap (λ (x : List Event). es ++ x) (sym (ap passed (verdicts_append d es m kind ps qs) ∙ passed_append vs ws)) in
+      subst (λ (x : PageFacts). Shows x (es ++ passed (verdicts_on d es m kind (ps ++ qs)))) (after_both cs ds mid.recent new.recent P) (subst (Shows (after ds new.recent q)) all later);
+  proper = λ n P es part names shows.
+      let both = sets_named d n kind ps qs names in
+      let q = after cs mid.recent P in
+      proper_behind cs ds mid.recent P (first.proper n P es part both.0 shows)
+      (second.proper n q (es ++ passed (verdicts_on d es (old.entries + 1) kind ps)) (part_behind n cs old mid P first.same part) both.1 (first.shows n P es part both.0 shows));
+  told = λ n P es part names shows.
+      let both = sets_named d n kind ps qs names in
+      let m = old.entries + 1 in
+      let vs = verdicts_on d es m kind ps in
+      let ws = verdicts_on d (es ++ passed vs) m kind qs in
       let later : more ≡ map told_set ws =
-      subst (λ k. more ≡ map told_set (verdicts_on d (es ++ passed vs) (k + 1) kind qs)) first.entries (second.told (es ++ passed vs) (first.shows es shows)) in
-      ap (λ (x : List ToldSet). some ++ x) later ∙ ap (λ (x : List ToldSet). x ++ map told_set ws) (first.told es shows)
-      ∙ sym (ap (map told_set) (verdicts_append d es n kind ps qs) ∙ map-append told_set vs ws);
+      subst (λ k. more ≡ map told_set (verdicts_on d (es ++ passed vs) (k + 1) kind qs)) first.entries
+      (second.told n (after cs mid.recent P) (es ++ passed vs) (part_behind n cs old mid P first.same part) both.1 (first.shows n P es part both.0 shows)) in
+      ap (λ (x : List ToldSet). some ++ x) later ∙ ap (λ (x : List ToldSet). x ++ map told_set ws) (first.told n P es part both.0 shows)
+      ∙ sym (ap (map told_set) (verdicts_append d es m kind ps qs) ∙ map-append told_set vs ws);
   entries = second.entries ∙ first.entries;
   recent = omega (arith, first.recent, second.recent, length-append ps qs);
 }
@@ -124,17 +150,6 @@ examined_closed kind earlier [] i d within none = absurd (omega (arith, within))
 examined_closed kind earlier (s ∷ ss) zero d within none = fault_closed kind earlier s none
 examined_closed kind earlier (s ∷ ss) (suc i) d within none = examined_closed kind (control_of s ∷ earlier) ss i d (omega (arith, within)) none
 
--- a set that was judged passed, or is rejected
-pub taken_judged : (d : Delims) (kind : SetKind) (p q : PageFacts) (s : Set) (told : ToldSet)
-    → ((es : List Event) → Shows p es → (e : Event) × (by_segment (judged d es (p.entries + 1) kind s.segments) ≡ Ok e) × Shows q (es ++ e ∷ [])) → told ≡ told_as s None
-    → q.entries ≡ p.entries → q.recent ≡ p.recent + 1 → AreTaken d (Some kind) ((s, None) ∷ []) p q (told ∷ [])
-taken_judged d kind p q s told outcome is entries recent = taken_passed d (Some kind) p q s None told outcome is entries recent
-
-pub taken_faulty : (d : Delims) (kind : SetKind) (p : PageFacts) (s : Set) (r : Rejection) (told : ToldSet)
-    → ((es : List Event) → Shows p es → by_segment (judged d es (p.entries + 1) kind s.segments) ≡ Err r) → told ≡ told_as s (Some r)
-    → AreTaken d (Some kind) ((s, None) ∷ []) p p (told ∷ [])
-taken_faulty d kind p s r told outcome is = taken_rejected d (Some kind) p s None r told outcome is
-
 -- SE stands last in a set that is closed
 abbrev ends : Segment → Bool
 ends s = has_id (codes "SE") s
@@ -166,32 +181,27 @@ pieces_closed ps s fault same framed closed none = ap (λ (ss : List Segment). e
 
 -- a set whose verdict is known, by the pieces that it holds
 abbrev IsJudgedAs : (d : Delims) (kind : SetKind) (p : PageFacts) (ps : List Piece) (v : Settled) → Type 0
-IsJudgedAs d kind p ps v = (e : Delims) → AreOf e ps → (es : List Event) → Shows p es → IsVerdict p es (by_segment (judged e es (p.entries + 1) kind (segments_of ps))) v
+IsJudgedAs d kind p ps v = (e : Delims) → AreOf e ps → (n : Named) (P : PageFacts) (es : List Event) → IsPart n p P → NamesPassed e n kind (segments_of ps) → Shows P es
+    → IsVerdict P es (by_segment (judged e es (p.entries + 1) kind (segments_of ps))) v
 
-pub judged_proper : (d : Delims) (kind : SetKind) (p : PageFacts) (ps : List Piece) (v : Settled) (step : Step) → AreOf d ps → IsJudgedAs d kind p ps v → v ≡ Passed step
-    → (es : List Event) → Shows p es → AreProper p step.changes.items
-judged_proper d kind p ps v step of is passes es shows =
-    let w : IsVerdict p es (by_segment (judged d es (p.entries + 1) kind (segments_of ps))) (Passed step) =
-    subst (λ (x : Settled). IsVerdict p es (by_segment (judged d es (p.entries + 1) kind (segments_of ps))) x) passes (is d of es shows) in
-    w.3
+pub take_passed : (d : Delims) (kind : SetKind) (p : PageFacts) (ps : List Piece) (s : Set) (fault : Option ℕ) (v : Settled) (step : Step) (page : PageFacts) (cs : List Change) (told : ToldSet)
+    → segments_of ps ≡ s.segments → AreOf d ps → fault ≡ None → IsJudgedAs d kind p ps v → v ≡ Passed step → page ≡ put step.changes.items p → cs ≡ step.changes.items → told ≡ told_as s None
+    → AreTaken d (Some kind) ((s, fault) ∷ []) p page cs (told ∷ [])
+take_passed d kind p ps s fault v step page cs told same of none is passes here changed shown =
+    let all : AreTaken d (Some kind) ((s, None) ∷ []) p (put step.changes.items p) step.changes.items (told ∷ []) = taken_passed d (Some kind) p step.changes.items s None told
+    (λ n P es part names shows. let w : IsVerdict P es (by_segment (judged d es (p.entries + 1) kind (segments_of ps))) (Passed step) =
+    subst (λ (x : Settled). IsVerdict P es (by_segment (judged d es (p.entries + 1) kind (segments_of ps))) x) passes
+    (is d of n P es part (subst (NamesPassed d n kind) (sym same) names) shows) in
+    (w.0, ap (λ (ss : List Segment). by_segment (judged d es (p.entries + 1) kind ss)) (sym same) ∙ w.1, w.2, w.3))
+    shown in
+    rw (none, here, changed) all
 
-pub take_passed : (d : Delims) (kind : SetKind) (p : PageFacts) (ps : List Piece) (s : Set) (fault : Option ℕ) (v : Settled) (step : Step) (page : PageFacts) (told : ToldSet)
-    → segments_of ps ≡ s.segments → AreOf d ps → fault ≡ None → IsJudgedAs d kind p ps v → v ≡ Passed step → page ≡ put step.changes.items p → told ≡ told_as s None
-    → AreTaken d (Some kind) ((s, fault) ∷ []) p page (told ∷ [])
-take_passed d kind p ps s fault v step page told same of none is passes here shown =
-    let q = put step.changes.items p in
-    let all : AreTaken d (Some kind) ((s, None) ∷ []) p q (told ∷ []) = taken_judged d kind p q s told
-    (λ es shows. let w : IsVerdict p es (by_segment (judged d es (p.entries + 1) kind (segments_of ps))) (Passed step) =
-    subst (λ (x : Settled). IsVerdict p es (by_segment (judged d es (p.entries + 1) kind (segments_of ps))) x) passes (is d of es shows) in
-    (w.0, ap (λ (ss : List Segment). by_segment (judged d es (p.entries + 1) kind ss)) (sym same) ∙ w.1, w.2))
-    shown refl refl in
-    rw (none, here) all
-
-pub take_rejected : (d : Delims) (kind : SetKind) (p : PageFacts) (ps : List Piece) (s : Set) (fault : Option ℕ) (v : Settled) (r : Rejection) (page : PageFacts) (told : ToldSet)
-    → segments_of ps ≡ s.segments → AreOf d ps → fault ≡ None → IsJudgedAs d kind p ps v → v ≡ Rejected r → page ≡ p → told ≡ told_as s (Some r)
-    → AreTaken d (Some kind) ((s, fault) ∷ []) p page (told ∷ [])
-take_rejected d kind p ps s fault v r page told same of none is rejects here shown =
-    let all : AreTaken d (Some kind) ((s, None) ∷ []) p p (told ∷ []) = taken_faulty d kind p s r told
-    (λ es shows. ap (λ (ss : List Segment). by_segment (judged d es (p.entries + 1) kind ss)) (sym same)
-    ∙ subst (λ (x : Settled). IsVerdict p es (by_segment (judged d es (p.entries + 1) kind (segments_of ps))) x) rejects (is d of es shows)) shown in
-    rw (none, here) all
+pub take_rejected : (d : Delims) (kind : SetKind) (p : PageFacts) (ps : List Piece) (s : Set) (fault : Option ℕ) (v : Settled) (r : Rejection) (page : PageFacts) (cs : List Change) (told : ToldSet)
+    → segments_of ps ≡ s.segments → AreOf d ps → fault ≡ None → IsJudgedAs d kind p ps v → v ≡ Rejected r → page ≡ p → cs ≡ [] → told ≡ told_as s (Some r)
+    → AreTaken d (Some kind) ((s, fault) ∷ []) p page cs (told ∷ [])
+take_rejected d kind p ps s fault v r page cs told same of none is rejects here changed shown =
+    let all : AreTaken d (Some kind) ((s, None) ∷ []) p p [] (told ∷ []) = taken_rejected d (Some kind) p s None r told
+    (λ n P es part names shows. ap (λ (ss : List Segment). by_segment (judged d es (p.entries + 1) kind ss)) (sym same)
+    ∙ subst (λ (x : Settled). IsVerdict P es (by_segment (judged d es (p.entries + 1) kind (segments_of ps))) x) rejects
+    (is d of n P es part (subst (NamesPassed d n kind) (sym same) names) shows)) shown in
+    rw (none, here, changed) all

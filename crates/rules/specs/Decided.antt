@@ -11,6 +11,7 @@ use Rattle.stock.specs.Pages.{PageFacts, AreSorted, next_entry}
 use Rattle.stock.specs.Puts.{put}
 use Rattle.stock.specs.declared.steps.Change.{Change}
 use Rattle.stock.specs.Shows.{Shows}
+use Rattle.rules.specs.Needs.{HasNeeded}
 use Rattle.rules.specs.Proper.{AreProper}
 use Rattle.rules.specs.Told.{refusal_of}
 use Rattle.rules.specs.Written.{Recalled, written_as, unnumbered}
@@ -22,12 +23,24 @@ pub record IsPageOf (p : PageFacts) (h : History) : Type 0 where
   pub shows : Shows p h.events
   pub entries : p.entries ≡ h.numbered
 
--- the page of a depositor with this history; a stranger has neither
-abbrev pub StandsFor : Option (Bor PageFacts) → Option History → Type 0
-StandsFor None None = Unit {0}
-StandsFor None (Some h) = ⊥
-StandsFor (Some p) None = ⊥
-StandsFor (Some p) (Some h) = IsPageOf p.now h
+-- what a command needs of the page of a depositor with this history; a stranger has neither
+abbrev pub StandsFor : meant.Command → Option (Bor PageFacts) → Option History → Type 0
+StandsFor c None None = Unit {0}
+StandsFor c None (Some h) = ⊥
+StandsFor c (Some p) None = ⊥
+StandsFor c (Some p) (Some h) = (P : PageFacts) × HasNeeded c p.now P × IsPageOf P h
+
+-- a whole page of a depositor with this history; a stranger has neither
+abbrev pub IsWholeFor : Option (Bor PageFacts) → Option History → Type 0
+IsWholeFor None None = Unit {0}
+IsWholeFor None (Some h) = ⊥
+IsWholeFor (Some p) None = ⊥
+IsWholeFor (Some p) (Some h) = IsPageOf p.now h
+
+-- the page, if there is one, stands in order, as every page does
+abbrev pub IsHeldInOrder : Option (Bor PageFacts) → Type 0
+IsHeldInOrder None = Unit {0}
+IsHeldInOrder (Some p) = AreSorted p.now
 
 -- an entry as it is written down, and the text that went out for it
 abbrev pub IsEntry : Recalled → known.Recalled → Type 0
@@ -46,7 +59,7 @@ IsUnder key (Some k) = meant.mark k.entry ≡ key
 
 -- what a decision on a command is given: the page of the depositor that it names, and what is known under its key
 pub record IsGiven (held : Option (Bor PageFacts)) (recalled : Option Recalled) (c : meant.Command) (h : Option History) (k : Option known.Recalled) : Type 0 where
-  pub page : StandsFor held h
+  pub page : StandsFor c held h
   pub known : IsRecalled recalled k
   pub under : IsUnder (meant.command_mark c) k
   -- who is no partner has no history
@@ -87,11 +100,12 @@ pub record AreLeading (p : PageFacts) (cs : List Change) (h : History) : Type 0 
   pub page : IsPageOf (led_to cs p) h
   pub proper : AreProper p cs
 
--- the changes of an accepted command lead from the page of a history to that of the history with the command's entry
+-- the changes of an accepted command lead from each page that p has the needed part of, the page of a history, to that of the
+-- history with the command's entry
 abbrev pub LeadsOn : PageFacts → meant.Command → Moment → Decision → Type 0
 LeadsOn p c t (Stored text) = Unit {0}
 LeadsOn p c t (Refused r text) = Unit {0}
-LeadsOn p c t (Accepted e changes text) = (h : History) → IsPageOf p h → AreLeading p changes.items (after_entry h (entry_of c t))
+LeadsOn p c t (Accepted e changes text) = (h : History) (P : PageFacts) → HasNeeded c p P → IsPageOf P h → AreLeading P changes.items (after_entry h (entry_of c t))
 
 -- a depositor that enrols has no page, and nothing changes on one
 abbrev pub ChangesNothing : Decision → Type 0

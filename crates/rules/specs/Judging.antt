@@ -13,7 +13,9 @@ use Rattle.tables.specs.Judged.{told}
 use Rattle.stock.specs.Pages.{PageFacts, IsSound}
 use Rattle.stock.specs.Puts.{put, put_change}
 use Rattle.stock.specs.declared.steps.Change.{Change}
+use Rattle.stock.specs.Parts.{Named, IsPart}
 use Rattle.stock.specs.Shows.{Shows}
+use Rattle.rules.specs.Needs.{NamesSets, NamesGroup, NamesGroups}
 use Rattle.stock.specs.declared.steps.Stop.{Stop}
 use Rattle.rules.specs.Proper.{AreProper}
 use Rattle.stock.specs.declared.steps.Stop.TheVariants as stopped
@@ -44,10 +46,9 @@ abbrev pub CanBePut : PageFacts → Verdict → Type 0
 CanBePut p (Passed step) = IsSound (put step.changes.items p)
 CanBePut p (Rejected r) = Unit {0}
 
--- proper changes, and what they lead to in the same entry, however many events they are of
-pub record IsLed (cs : List Change) (old new : PageFacts) : Type 0 where
-  pub same : new ≡ record (fold put_change old cs) { entries = old.entries; recent = new.recent }
-  pub proper : (es : List Event) → Shows old es → AreProper old cs
+-- a page with changes put in, in the same entry, however many events they are of
+abbrev pub after : List Change → ℕ → PageFacts → PageFacts
+after cs r P = record (fold put_change P cs) { entries = P.entries; recent = r }
 
 -- the events of verdicts, and of tellings
 abbrev pub passed : List Told → List Event
@@ -56,17 +57,22 @@ passed vs = filter_map event_of vs
 abbrev pub told_events : List Telling → List Event
 told_events ts = flat_map events_told ts
 
--- examined sets were taken one after another, under the number of the next entry
-pub record AreTaken (d : Delims) (kind : Option SetKind) (ps : List (Set × Option ℕ)) (old new : PageFacts) (sets : List ToldSet) : Type 0 where
-  pub shows : (es : List Event) → Shows old es → Shows new (es ++ passed (verdicts_on d es (old.entries + 1) kind ps))
-  pub told : (es : List Event) → Shows old es → sets ≡ map told_set (verdicts_on d es (old.entries + 1) kind ps)
+-- examined sets were taken one after another, under the number of the next entry: what holds for each page of which the old
+-- one is a part that has what the sets name
+pub record AreTaken (d : Delims) (kind : Option SetKind) (ps : List (Set × Option ℕ)) (old new : PageFacts) (cs : List Change) (sets : List ToldSet) : Type 0 where
+  pub same : new ≡ after cs new.recent old
+  pub shows : (n : Named) (P : PageFacts) (es : List Event) → IsPart n old P → NamesSets d n kind ps → Shows P es → Shows (after cs new.recent P) (es ++ passed (verdicts_on d es (old.entries + 1) kind ps))
+  pub proper : (n : Named) (P : PageFacts) (es : List Event) → IsPart n old P → NamesSets d n kind ps → Shows P es → AreProper P cs
+  pub told : (n : Named) (P : PageFacts) (es : List Event) → IsPart n old P → NamesSets d n kind ps → Shows P es → sets ≡ map told_set (verdicts_on d es (old.entries + 1) kind ps)
   pub entries : new.entries ≡ old.entries
   pub recent : new.recent ≤ old.recent + length ps
 
 -- a group was taken: its sets, or none of them where it has a fault
-pub record IsGroupTaken (d : Delims) (g : Group) (old new : PageFacts) (sets : List ToldSet) : Type 0 where
-  pub shows : (es : List Event) → Shows old es → Shows new (es ++ events_told (telling_of d es (old.entries + 1) g))
-  pub told : (es : List Event) → Shows old es → sets ≡ map told_set ((telling_of d es (old.entries + 1) g).verdicts)
+pub record IsGroupTaken (d : Delims) (g : Group) (old new : PageFacts) (cs : List Change) (sets : List ToldSet) : Type 0 where
+  pub same : new ≡ after cs new.recent old
+  pub shows : (n : Named) (P : PageFacts) (es : List Event) → IsPart n old P → NamesGroup d n g → Shows P es → Shows (after cs new.recent P) (es ++ events_told (telling_of d es (old.entries + 1) g))
+  pub proper : (n : Named) (P : PageFacts) (es : List Event) → IsPart n old P → NamesGroup d n g → Shows P es → AreProper P cs
+  pub told : (n : Named) (P : PageFacts) (es : List Event) → IsPart n old P → NamesGroup d n g → Shows P es → sets ≡ map told_set ((telling_of d es (old.entries + 1) g).verdicts)
   pub entries : new.entries ≡ old.entries
   pub recent : new.recent ≤ old.recent + length g.sets
 
@@ -93,8 +99,10 @@ abbrev pub IsSmall : Group → Type 0
 IsSmall g = (ge : Segment) → g.tail ≡ Some ge → IsAmount 9 (element ge 1)
 
 -- groups were taken one after another
-pub record AreGroupsTaken (d : Delims) (gs : List Group) (old new : PageFacts) (groups : List ToldGroup) : Type 0 where
-  pub shows : (es : List Event) → Shows old es → Shows new (es ++ told_events (tellings_on d es (old.entries + 1) gs))
-  pub told : (es : List Event) → Shows old es → groups ≡ map told_of (answered (tellings_on d es (old.entries + 1) gs))
+pub record AreGroupsTaken (d : Delims) (gs : List Group) (old new : PageFacts) (cs : List Change) (groups : List ToldGroup) : Type 0 where
+  pub same : new ≡ after cs new.recent old
+  pub shows : (n : Named) (P : PageFacts) (es : List Event) → IsPart n old P → NamesGroups d n gs → Shows P es → Shows (after cs new.recent P) (es ++ told_events (tellings_on d es (old.entries + 1) gs))
+  pub proper : (n : Named) (P : PageFacts) (es : List Event) → IsPart n old P → NamesGroups d n gs → Shows P es → AreProper P cs
+  pub told : (n : Named) (P : PageFacts) (es : List Event) → IsPart n old P → NamesGroups d n gs → Shows P es → groups ≡ map told_of (answered (tellings_on d es (old.entries + 1) gs))
   pub entries : new.entries ≡ old.entries
   pub recent : new.recent ≤ old.recent + sum_by (λ g. length g.sets) gs

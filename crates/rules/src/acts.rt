@@ -9,7 +9,9 @@ ghost use Rattle.profile.specs.Moments.{Moment};
 ghost use Rattle.profile.specs.History.{History, after_entry};
 ghost use Rattle.profile.specs.Register as register;
 ghost use Rattle.profile.specs.Reply as replies;
-ghost use Rattle.stock.specs.Pages.{IsSound};
+ghost use Rattle.stock.specs.Pages.{PageFacts, IsSound};
+ghost use Rattle.stock.specs.Parts.{Named, IsPart};
+ghost use Rattle.rules.specs.Needs.{NamesAct, HasNeeded};
 ghost use Rattle.stock.specs.Puts.{put};
 ghost use Rattle.stock.specs.Shows.{Shows};
 ghost use Rattle.stock.specs.Stops.{StopsAct};
@@ -32,9 +34,10 @@ use stock::{Change, Page, Step, Stop, pick, receive, recount};
 /// What an act's event changes on the page.
 pub(crate) fn perform(alloc: Global, page: &Page, act: &Act<'_>) -> Result<Step, Stop>
     requires { page.now.recent < most_sets }
-    ensures ok { IfOk result (λ step. (es : List Event) → Shows page.now es
-        → (e : Event) × (performed es (page.now.entries + 1) (act_of act.now) ≡ Ok e) × Shows (put step.changes.items page.now) (es ++ e ∷ []) × AreProper page.now step.changes.items) }
-    ensures err { IfErr result (λ stop. (es : List Event) → Shows page.now es → StopsAct (performed es (page.now.entries + 1) (act_of act.now)) stop) }
+    ensures ok { IfOk result (λ step. (n : Named) (P : PageFacts) (es : List Event) → IsPart n page.now P → NamesAct n page.now (act_of act.now) → Shows P es
+        → (e : Event) × (performed es (page.now.entries + 1) (act_of act.now) ≡ Ok e) × Shows (put step.changes.items P) (es ++ e ∷ []) × AreProper P step.changes.items) }
+    ensures err { IfErr result (λ stop. (n : Named) (P : PageFacts) (es : List Event) → IsPart n page.now P → NamesAct n page.now (act_of act.now) → Shows P es
+        → StopsAct (performed es (page.now.entries + 1) (act_of act.now)) stop) }
     ensures sound { IfOk result (λ step. IsSound (put step.changes.items page.now)) }
 {
     match act {
@@ -100,11 +103,11 @@ fn accepted(
     changes: Vec<Change>,
 ) -> Result<Decision, AllocError>
     requires number { envelope.now.number ≡ page.now.entries + 1 }
-    requires led { (h : History) → IsPageOf page.now h
-        → AreLeading page.now changes.items (after_entry h (replies.clerk_entry envelope.now.depositor ticket.now (act_of act.now) envelope.now.moment)) }
+    requires led { (h : History) (P : PageFacts) → HasNeeded (register.Clerk envelope.now.depositor ticket.now (act_of act.now)) page.now P → IsPageOf P h
+        → AreLeading P changes.items (after_entry h (replies.clerk_entry envelope.now.depositor ticket.now (act_of act.now) envelope.now.moment)) }
     ensures comes { IfOk result (Makes (register.Clerk envelope.now.depositor ticket.now (act_of act.now)) envelope.now.moment) }
     ensures leads { IfOk result (LeadsOn page.now (register.Clerk envelope.now.depositor ticket.now (act_of act.now)) envelope.now.moment) }
-    ensures reply { IfOk result (λ d. (h : History) (e : Event) → IsPageOf page.now h → performed h.events (page.now.entries + 1) (act_of act.now) ≡ Ok e
+    ensures reply { IfOk result (λ d. (h : History) (P : PageFacts) (e : Event) → HasNeeded (register.Clerk envelope.now.depositor ticket.now (act_of act.now)) page.now P → IsPageOf P h → performed h.events (page.now.entries + 1) (act_of act.now) ≡ Ok e
         → IsReply page.now.entries (register.Clerk envelope.now.depositor ticket.now (act_of act.now)) envelope.now.moment
         (recalled.accepted_by envelope.now.warehouse h (replies.clerk_entry envelope.now.depositor ticket.now (act_of act.now) envelope.now.moment)) d) }
 {
@@ -132,7 +135,7 @@ fn fresh(
     requires rest { page.now.recent ≡ 0 }
     ensures comes { IfOk result (Makes (register.Clerk envelope.now.depositor ticket.now (act_of act.now)) envelope.now.moment) }
     ensures leads { IfOk result (LeadsOn page.now (register.Clerk envelope.now.depositor ticket.now (act_of act.now)) envelope.now.moment) }
-    ensures reply { IfOk result (λ d. (h : History) → IsPageOf page.now h
+    ensures reply { IfOk result (λ d. (h : History) (P : PageFacts) → HasNeeded (register.Clerk envelope.now.depositor ticket.now (act_of act.now)) page.now P → IsPageOf P h
         → IsReply page.now.entries (register.Clerk envelope.now.depositor ticket.now (act_of act.now)) envelope.now.moment
         (recalled.act_new envelope.now.warehouse h (replies.clerk_entry envelope.now.depositor ticket.now (act_of act.now) envelope.now.moment) (act_of act.now)) d) }
 {
@@ -172,7 +175,7 @@ pub(crate) fn clerk(
     requires rest { page.now.recent ≡ 0 }
     ensures comes { IfOk result (Makes (register.Clerk envelope.now.depositor ticket.now (act_of act.now)) envelope.now.moment) }
     ensures leads { IfOk result (LeadsOn page.now (register.Clerk envelope.now.depositor ticket.now (act_of act.now)) envelope.now.moment) }
-    ensures reply { IfOk result (λ d. (h : History) (k : Option recalled.Recalled) → IsPageOf page.now h → IsRecalled (option_copied known.entry) k → IsUnder (register.ticket_mark ticket.now) k
+    ensures reply { IfOk result (λ d. (h : History) (P : PageFacts) (k : Option recalled.Recalled) → HasNeeded (register.Clerk envelope.now.depositor ticket.now (act_of act.now)) page.now P → IsPageOf P h → IsRecalled (option_copied known.entry) k → IsUnder (register.ticket_mark ticket.now) k
         → IsReply page.now.entries (register.Clerk envelope.now.depositor ticket.now (act_of act.now)) envelope.now.moment
         (recalled.clerk_by envelope.now.warehouse (Some h) k envelope.now.depositor ticket.now (act_of act.now) envelope.now.moment) d) }
 {

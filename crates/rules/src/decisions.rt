@@ -7,7 +7,7 @@ ghost use Rattle.profile.specs.Reply.{enrolment_entry};
 ghost use Rattle.rules.specs.Asked.{act_of, asked};
 ghost use Rattle.profile.specs.Header.{Who as Partner};
 ghost use Rattle.profile.specs.Register as register;
-ghost use Rattle.rules.specs.Decided.{Makes, IsAtRest, IsGiven, StandsFor, IsReply, LeadsFrom, entries_of};
+ghost use Rattle.rules.specs.Decided.{Makes, IsAtRest, IsGiven, IsWholeFor, StandsFor, IsReply, LeadsFrom, entries_of};
 ghost use Rattle.rules.specs.Tabled.{LeadsInTables};
 ghost use Rattle.rules.specs.Written.{written_as};
 
@@ -62,7 +62,7 @@ fn enrol(
 ) -> Result<Decision, AllocError>
     ensures comes { IfOk result (Makes (register.Enrol who) moment) }
     ensures leads { IfOk result (LeadsFrom page.entry (register.Enrol who) moment) }
-    ensures reply { IfOk result (λ d. (h : Option History) (k : Option meant.Recalled) (W : Partner) → StandsFor page.entry h
+    ensures reply { IfOk result (λ d. (h : Option History) (k : Option meant.Recalled) (W : Partner) → StandsFor (register.Enrol who) page.entry h
         → IsReply (entries_of page.entry) (register.Enrol who) moment (meant.reply_by W h k (register.Enrol who) moment) d) }
 {
     if page.is_some() {
@@ -104,9 +104,19 @@ fn perform(
     clerk(alloc, &envelope, page, known, ticket, act)
 }
 
+/// Nothing runs; what is known: a whole page has what any command needs of it.
+pub fn stands_whole(page: Option<&Page>)
+    ensures { (c : register.Command) (h : Option History) → IsWholeFor page.entry h → StandsFor c page.entry h }
+{
+    if let Some(page) = page {
+        let _ = page.rows();
+    }
+}
+
 /// What a command comes to, by the page of the depositor that it names, if that is enrolled, and what is known under its
 /// key: the defined reply, with the entry that is to be recorded, and the changes that lead from the tables of every legal
-/// register with that page to those with the entry. Only want of memory keeps it from being decided.
+/// register with that page to those with the entry. The page may be a part of the whole one that has what the command names.
+/// Only want of memory keeps it from being decided.
 pub fn decide(
     alloc: Global,
     warehouse: &Warehouse,
@@ -118,7 +128,7 @@ pub fn decide(
     requires { IsAtRest page }
     ensures comes { IfOk result (Makes (asked command.now) moment) }
     ensures leads { IfOk result (LeadsFrom page.entry (asked command.now) moment) }
-    ensures tables { IfOk result (λ d. (W : Partner) (L : List register.Entry) → StandsFor page.entry (standing (own_of L (asked command.now))) → LeadsInTables W L (asked command.now) moment d) }
+    ensures tables { IfOk result (λ d. (W : Partner) (L : List register.Entry) → StandsFor (asked command.now) page.entry (standing (own_of L (asked command.now))) → LeadsInTables W L (asked command.now) moment d) }
     ensures reply { IfOk result (λ d. (h : Option History) (k : Option meant.Recalled) → IsGiven page.entry (option_copied known.entry) (asked command.now) h k
         → IsReply (entries_of page.entry) (asked command.now) moment (meant.reply_by warehouse.now h k (asked command.now) moment) d) }
 {

@@ -9,7 +9,10 @@ ghost use Rattle.profile.specs.Clerk.{is_sheet, performed, RecountSheet};
 ghost use Rattle.profile.specs.Events.{Event};
 ghost use Rattle.profile.specs.Texts.{total_of, document_of};
 ghost use Rattle.rules.specs.Asked.{act_of};
+ghost use Rattle.stock.specs.Pages.{PageFacts};
+ghost use Rattle.stock.specs.Parts.{Named, IsPart};
 ghost use Rattle.stock.specs.Shows.{Shows};
+ghost use Rattle.rules.specs.Needs.{NamesAct};
 ghost use Rattle.sets_out.specs.Interchanges.{handed_text};
 
 use crate::commands::Act;
@@ -359,7 +362,8 @@ pub(crate) fn document(
     page: &Page,
     act: &Act<'_>,
 ) -> Result<Vec<u8>, AllocError>
-    ensures { IfOk result (λ text. (es : List Event) (e : Event) → Shows page.now es → performed es envelope.now.number (act_of act.now) ≡ Ok e
+    ensures { IfOk result (λ text. (n : Named) (P : PageFacts) (es : List Event) (e : Event) → IsPart n page.now P → NamesAct n page.now (act_of act.now) → Shows P es
+        → performed es envelope.now.number (act_of act.now) ≡ Ok e
         → text.items ≡ document_of envelope.now.warehouse envelope.now.depositor envelope.now.moment envelope.now.number e) }
 {
     match act {

@@ -1,6 +1,6 @@
 //! What an interchange comes to.
-ghost use Rattle.std.specs.Prelude.{◌≡◌, ◌+◌, ℕ, List, None, Option, IfOk, option_copied};
-ghost use Rattle.profile.specs.Header.{isa as meant_isa, sender};
+ghost use Rattle.std.specs.Prelude.{◌≡◌, ◌+◌, ℕ, false, List, None, Option, IfOk, option_copied};
+ghost use Rattle.profile.specs.Header.{is_unreadable, isa as meant_isa, sender};
 ghost use Rattle.profile.specs.Halt.{structure_note};
 ghost use Rattle.profile.specs.History.{History};
 ghost use Rattle.profile.specs.Register as register;
@@ -11,6 +11,8 @@ ghost use Rattle.profile.specs.Cut.{cut};
 ghost use Rattle.profile.specs.Header.{delims_of};
 ghost use Rattle.profile.specs.Structure.{groups_of};
 ghost use Rattle.envelope.specs.Conditions.{IsTold};
+ghost use Rattle.stock.specs.Pages.{PageFacts};
+ghost use Rattle.rules.specs.Needs.{HasNeeded};
 ghost use Rattle.rules.specs.Decided.{IsNoEntry, Makes, IsPageOf, IsEntry, IsGiven, IsReply, IsAtRest, LeadsOn, LeadsFrom, entries_of};
 
 use crate::answers::{answer, refusal};
@@ -94,13 +96,14 @@ fn accepted(
 ) -> Result<Decision, AllocError>
     requires same { header.now ≡ text.now }
     requires parts { interchange.now ≡ record { delims = delims_of text.now; groups = groups_of (cut (delims_of text.now) text.now).segments } }
+    requires readable { is_unreadable text.now ≡ false }
     requires clean { structure_note text.now ≡ None }
     requires number { envelope.number ≡ page.now.entries + 1 }
     requires rest { page.now.recent ≡ 0 }
     requires whose { envelope.depositor ≡ sender text.now }
     ensures comes { IfOk result (Makes (register.Interchange text.now) envelope.moment) }
     ensures leads { IfOk result (LeadsOn page.now (register.Interchange text.now) envelope.moment) }
-    ensures reply { IfOk result (λ d. (h : History) → IsPageOf page.now h
+    ensures reply { IfOk result (λ d. (h : History) (P : PageFacts) → HasNeeded (register.Interchange text.now) page.now P → IsPageOf P h
         → IsReply page.now.entries (register.Interchange text.now) envelope.moment (recalled.accepted_by envelope.warehouse h (replies.interchange_entry text.now envelope.moment)) d) }
 {
     if page.entries() >= MOST_ENTRIES {
@@ -145,11 +148,12 @@ fn fresh(
     moment: Moment,
 ) -> Result<Decision, AllocError>
     requires same { header.now ≡ text.now }
+    requires readable { is_unreadable text.now ≡ false }
     requires rest { page.now.recent ≡ 0 }
     requires whose { who ≡ sender text.now }
     ensures comes { IfOk result (Makes (register.Interchange text.now) moment) }
     ensures leads { IfOk result (LeadsOn page.now (register.Interchange text.now) moment) }
-    ensures reply { IfOk result (λ d. (h : History) → IsPageOf page.now h
+    ensures reply { IfOk result (λ d. (h : History) (P : PageFacts) → HasNeeded (register.Interchange text.now) page.now P → IsPageOf P h
         → IsReply page.now.entries (register.Interchange text.now) moment (recalled.interchange_new warehouse.now h text.now moment (recalled.new_note warehouse.now text.now)) d) }
 {
     if let Some(code) = header_note(header, &warehouse.who()) {
@@ -178,6 +182,7 @@ fn readable(
     moment: Moment,
 ) -> Result<Decision, AllocError>
     requires same { header.now ≡ text.now }
+    requires readable { is_unreadable text.now ≡ false }
     requires rest { IsAtRest page }
     ensures comes { IfOk result (Makes (register.Interchange text.now) moment) }
     ensures leads { IfOk result (LeadsFrom page.entry (register.Interchange text.now) moment) }

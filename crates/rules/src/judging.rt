@@ -1,16 +1,20 @@
 //! What a set comes to over a page.
-ghost use Rattle.std.specs.Prelude.{◌≡◌, ◌<◌, ◌+◌, ◌-◌, ◌^◌, List, Some, IfOk, IfErr, length};
+ghost use Rattle.std.specs.Prelude.{◌≡◌, ◌<◌, ◌+◌, ◌-◌, ◌^◌, List, None, Some, IfOk, IfErr, length};
 ghost use Rattle.profile.specs.Limits.{most_sets};
 ghost use Rattle.profile.specs.Cut.{segments_of, AreOf};
 ghost use Rattle.profile.specs.Bytes.{Delims as Delimiters};
 ghost use Rattle.profile.specs.Events.{Event};
 ghost use Rattle.profile.specs.History as meant;
+ghost use Rattle.profile.specs.Faults.{set_fault};
 ghost use Rattle.profile.specs.Words as kinds;
-ghost use Rattle.stock.specs.Pages.{IsSound};
+ghost use Rattle.profile.specs.Words.{kind_words};
+ghost use Rattle.stock.specs.Pages.{PageFacts, IsSound};
+ghost use Rattle.stock.specs.Parts.{Named, IsPart};
 ghost use Rattle.stock.specs.Puts.{put};
 ghost use Rattle.stock.specs.Shows.{Shows};
 ghost use Rattle.tables.specs.Judged.{IsClosed, told};
 ghost use Rattle.tables.specs.Kinds.{kind_of};
+ghost use Rattle.rules.specs.Needs.{NamesSet};
 ghost use Rattle.rules.specs.Judging.{IsStep, IsStop, IsVerdict, CanBePut};
 
 use segments::Segment;
@@ -52,8 +56,10 @@ fn in_segment<'a>(fault: &SetFault<'a>) -> Rejection<'a>
 fn advised(alloc: Global, page: &Page, set: &Checked<'_>) -> Result<Step, Stop>
     requires kind { set.now.kind ≡ kinds.ShipmentAdvice }
     requires room { page.now.recent < most_sets }
-    ensures ok { IfOk result (λ step. (es : List Event) → Shows page.now es → IsStep page.now es (meant.traded es (page.now.entries + 1) set.now.kind (segments_of set.now.pieces)) step.changes.items) }
-    ensures err { IfErr result (λ stop. (es : List Event) → Shows page.now es → IsStop (meant.traded es (page.now.entries + 1) set.now.kind (segments_of set.now.pieces)) stop) }
+    ensures ok { IfOk result (λ step. (n : Named) (P : PageFacts) (es : List Event) → IsPart n page.now P → NamesSet n set.now.kind (segments_of set.now.pieces) → Shows P es
+        → IsStep P es (meant.traded es (page.now.entries + 1) set.now.kind (segments_of set.now.pieces)) step.changes.items) }
+    ensures err { IfErr result (λ stop. (n : Named) (P : PageFacts) (es : List Event) → IsPart n page.now P → NamesSet n set.now.kind (segments_of set.now.pieces) → Shows P es
+        → IsStop (meant.traded es (page.now.entries + 1) set.now.kind (segments_of set.now.pieces)) stop) }
     ensures sound { IfOk result (λ step. IsSound (put step.changes.items page.now)) }
 {
     let advice = advice(alloc, set)?;
@@ -64,8 +70,10 @@ fn advised(alloc: Global, page: &Page, set: &Checked<'_>) -> Result<Step, Stop>
 fn ordered(alloc: Global, page: &Page, set: &Checked<'_>) -> Result<Step, Stop>
     requires kind { set.now.kind ≡ kinds.ShippingOrder }
     requires room { page.now.recent < most_sets }
-    ensures ok { IfOk result (λ step. (es : List Event) → Shows page.now es → IsStep page.now es (meant.traded es (page.now.entries + 1) set.now.kind (segments_of set.now.pieces)) step.changes.items) }
-    ensures err { IfErr result (λ stop. (es : List Event) → Shows page.now es → IsStop (meant.traded es (page.now.entries + 1) set.now.kind (segments_of set.now.pieces)) stop) }
+    ensures ok { IfOk result (λ step. (n : Named) (P : PageFacts) (es : List Event) → IsPart n page.now P → NamesSet n set.now.kind (segments_of set.now.pieces) → Shows P es
+        → IsStep P es (meant.traded es (page.now.entries + 1) set.now.kind (segments_of set.now.pieces)) step.changes.items) }
+    ensures err { IfErr result (λ stop. (n : Named) (P : PageFacts) (es : List Event) → IsPart n page.now P → NamesSet n set.now.kind (segments_of set.now.pieces) → Shows P es
+        → IsStop (meant.traded es (page.now.entries + 1) set.now.kind (segments_of set.now.pieces)) stop) }
     ensures sound { IfOk result (λ step. IsSound (put step.changes.items page.now)) }
 {
     let order = order(alloc, set)?;
@@ -76,8 +84,10 @@ fn ordered(alloc: Global, page: &Page, set: &Checked<'_>) -> Result<Step, Stop>
 fn acknowledged(alloc: Global, page: &Page, set: &Checked<'_>) -> Result<Step, Stop>
     requires kind { set.now.kind ≡ kinds.FunctionalAcknowledgment }
     requires room { page.now.recent < most_sets }
-    ensures ok { IfOk result (λ step. (es : List Event) → Shows page.now es → IsStep page.now es (meant.traded es (page.now.entries + 1) set.now.kind (segments_of set.now.pieces)) step.changes.items) }
-    ensures err { IfErr result (λ stop. (es : List Event) → Shows page.now es → IsStop (meant.traded es (page.now.entries + 1) set.now.kind (segments_of set.now.pieces)) stop) }
+    ensures ok { IfOk result (λ step. (n : Named) (P : PageFacts) (es : List Event) → IsPart n page.now P → NamesSet n set.now.kind (segments_of set.now.pieces) → Shows P es
+        → IsStep P es (meant.traded es (page.now.entries + 1) set.now.kind (segments_of set.now.pieces)) step.changes.items) }
+    ensures err { IfErr result (λ stop. (n : Named) (P : PageFacts) (es : List Event) → IsPart n page.now P → NamesSet n set.now.kind (segments_of set.now.pieces) → Shows P es
+        → IsStop (meant.traded es (page.now.entries + 1) set.now.kind (segments_of set.now.pieces)) stop) }
     ensures sound { IfOk result (λ step. IsSound (put step.changes.items page.now)) }
 {
     let ack = ack(alloc, set)?;
@@ -87,8 +97,10 @@ fn acknowledged(alloc: Global, page: &Page, set: &Checked<'_>) -> Result<Step, S
 // The step of a set without a fault of its own, or its trade fault.
 fn traded(alloc: Global, page: &Page, set: &Checked<'_>) -> Result<Step, Stop>
     requires { page.now.recent < most_sets }
-    ensures ok { IfOk result (λ step. (es : List Event) → Shows page.now es → IsStep page.now es (meant.traded es (page.now.entries + 1) set.now.kind (segments_of set.now.pieces)) step.changes.items) }
-    ensures err { IfErr result (λ stop. (es : List Event) → Shows page.now es → IsStop (meant.traded es (page.now.entries + 1) set.now.kind (segments_of set.now.pieces)) stop) }
+    ensures ok { IfOk result (λ step. (n : Named) (P : PageFacts) (es : List Event) → IsPart n page.now P → NamesSet n set.now.kind (segments_of set.now.pieces) → Shows P es
+        → IsStep P es (meant.traded es (page.now.entries + 1) set.now.kind (segments_of set.now.pieces)) step.changes.items) }
+    ensures err { IfErr result (λ stop. (n : Named) (P : PageFacts) (es : List Event) → IsPart n page.now P → NamesSet n set.now.kind (segments_of set.now.pieces) → Shows P es
+        → IsStop (meant.traded es (page.now.entries + 1) set.now.kind (segments_of set.now.pieces)) stop) }
     ensures sound { IfOk result (λ step. IsSound (put step.changes.items page.now)) }
 {
     match set.kind() {
@@ -101,7 +113,8 @@ fn traded(alloc: Global, page: &Page, set: &Checked<'_>) -> Result<Step, Stop>
 // What a set without a fault of its own came to.
 fn settled<'a>(alloc: Global, page: &Page, set: &Checked<'a>) -> Result<Verdict<'a>, AllocError>
     requires { page.now.recent < most_sets }
-    ensures value { IfOk result (λ v. (es : List Event) → Shows page.now es → IsVerdict page.now es (meant.by_segment (meant.traded es (page.now.entries + 1) set.now.kind (segments_of set.now.pieces))) v) }
+    ensures value { IfOk result (λ v. (n : Named) (P : PageFacts) (es : List Event) → IsPart n page.now P → NamesSet n set.now.kind (segments_of set.now.pieces) → Shows P es
+        → IsVerdict P es (meant.by_segment (meant.traded es (page.now.entries + 1) set.now.kind (segments_of set.now.pieces))) v) }
     ensures fits { IfOk result (CanBePut page.now) }
 {
     match traded(alloc, page, set) {
@@ -122,8 +135,9 @@ pub(crate) fn judged<'a>(
     requires few { length segments.now < 2 ^ 32 - 1 }
     requires closed { IsClosed segments.now }
     requires room { page.now.recent < most_sets }
-    ensures value { IfOk result (λ v. (d : Delimiters) → AreOf d segments.now → (es : List Event) → Shows page.now es
-        → IsVerdict page.now es (meant.by_segment (meant.judged d es (page.now.entries + 1) (kind_of kind) (segments_of segments.now))) v) }
+    ensures value { IfOk result (λ v. (d : Delimiters) → AreOf d segments.now → (n : Named) (P : PageFacts) (es : List Event) → IsPart n page.now P
+        → (set_fault d (kind_words (kind_of kind)) (segments_of segments.now) ≡ None → NamesSet n (kind_of kind) (segments_of segments.now)) → Shows P es
+        → IsVerdict P es (meant.by_segment (meant.judged d es (page.now.entries + 1) (kind_of kind) (segments_of segments.now))) v) }
     ensures fits { IfOk result (CanBePut page.now) }
 {
     match judge(kind, segments) {

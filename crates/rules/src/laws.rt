@@ -1,10 +1,10 @@
 //! Laws of replies and of registers: nothing runs, each contract is a law.
-ghost use Rattle.std.specs.Prelude.{◌≡◌, ◌++◌, ◌∷◌, ℕ, List, Some, None, map, true};
+ghost use Rattle.std.specs.Prelude.{◌≡◌, ◌++◌, ◌∷◌, ℕ, List, Option, Some, None, map, true};
 ghost use Rattle.profile.specs.Accepted.{IsLegal, after, depositor_of, own_of, reply_to};
 ghost use Rattle.profile.specs.Header.{Who, isa};
 ghost use Rattle.profile.specs.Moments.{Moment};
 ghost use Rattle.profile.specs.Register.{Act, Clerk, Command, Entry, Interchange, Known, Performed, Received, interchange_mark, known, next_number, own, ticket_mark};
-ghost use Rattle.profile.specs.History.{events, history};
+ghost use Rattle.profile.specs.History.{History, events, history};
 ghost use Rattle.profile.specs.Page.{page_of};
 ghost use Rattle.profile.specs.Reply.{Stored, stored};
 ghost use Rattle.profile.specs.Events.{Event};
@@ -13,7 +13,8 @@ ghost use Rattle.stock.specs.Pages.{PageFacts, IsSound};
 ghost use Rattle.stock.specs.Shows.{Shows, sent_under};
 ghost use Rattle.stock.specs.Puts.{put};
 ghost use Rattle.stock.specs.declared.steps.Change.{Change};
-ghost use Rattle.rules.specs.Decided.{IsPageOf};
+ghost use Rattle.std.specs.Borrow.{Bor};
+ghost use Rattle.rules.specs.Decided.{IsPageOf, IsHeldInOrder, IsWholeFor, StandsFor};
 ghost use Rattle.rules.specs.Defined.{IsDefined};
 ghost use Rattle.rules.specs.Played.{CanFollow};
 ghost use Rattle.profile.specs.Need.{need_of};
@@ -79,4 +80,9 @@ pub fn pages_are_the_defined_ones()
 /// What a count names.
 pub fn temporary()
     ensures { (p P : PageFacts) → ((s : List ℕ) (k : PageOrder) → order_at s P.orders ≡ Some k → (t : List ℕ) → is_one_of (items_of k.reserved) t ≡ true → is_one_of (map (λ l. l.item) k.lines) t ≡ true) → (c : Command) → IsPart (named_of (need_of c) P) p P → NamesFor (named_of (need_of c) P) p c }
+{}
+
+/// A whole page has what any command needs of it.
+pub fn a_whole_page_has_what_is_needed()
+    ensures { (c : Command) (page : Option (Bor PageFacts)) (h : Option History) → IsHeldInOrder page → IsWholeFor page h → StandsFor c page h }
 {}

@@ -72,6 +72,8 @@ fn grouped(
     ensures played { IfOk result (λ r. (h : History) → IsPageOf page h → envelope.number ≡ h.numbered + 1
         → IsPlayed envelope.warehouse h (record { who = envelope.depositor; moment = envelope.moment; deed = register.Received header.now }) r.page r.outgoing.items) }
 {
+    // what is known of every page
+    let _ = page.rows();
     let groups = take_groups(alloc, page, interchange)?;
     let outgoing = answer(alloc, envelope, header, &groups.told)?;
     Ok(Replayed {
@@ -153,6 +155,8 @@ fn stepped(
         × ((es : List Event) (e : Event) → Shows page es → performed es envelope.now.number (act_of act.now) ≡ Ok e
         → r.outgoing.items ≡ document_of envelope.now.warehouse envelope.now.depositor envelope.now.moment envelope.now.number e)) }
 {
+    // what is known of every page
+    let _ = page.rows();
     let outgoing = document(alloc, envelope, &page, act)?;
     Ok(Replayed {
         page: page.with(step)?,
@@ -172,6 +176,8 @@ fn done(
     ensures played { IfOk result (λ r. (h : History) (ticket : List ℕ) → IsPageOf page h → envelope.number ≡ h.numbered + 1
         → IsPlayed envelope.warehouse h (clerk_entry envelope.depositor ticket (act_of act.now) envelope.moment) r.page r.outgoing.items) }
 {
+    // what is known of every page
+    let _ = page.rows();
     match perform(alloc, &page, act) {
         Ok(step) => stepped(alloc, &envelope, page, act, &step),
         Err(stop) => stopped(alloc, page, stop),

@@ -8,7 +8,7 @@ ghost use Rattle.profile.specs.Texts.{stated_sets};
 ghost use Rattle.stock.specs.Pages.{IsSound};
 ghost use Rattle.stock.specs.Puts.{put};
 ghost use Rattle.tables.specs.Kinds.{kind_of};
-ghost use Rattle.rules.specs.Judging.{AreTaken, IsGroupTaken, AreGroupsTaken, IsSmall, IsLed, is_answered, told_with, told_if};
+ghost use Rattle.rules.specs.Judging.{AreTaken, IsGroupTaken, AreGroupsTaken, IsSmall, is_answered, told_with, told_if};
 
 use crate::judging::{Verdict, judged};
 use envelope::{Group, Interchange, Set};
@@ -91,8 +91,7 @@ fn take_set<'a>(
 ) -> Result<TakenSet<'a>, AllocError>
     requires room { page.recent < most_sets }
     requires closed { fault ≡ None → set.now.set.is_closed ≡ true }
-    ensures taken { IfOk result (λ t. AreTaken set.now.delims (Some (kind_of kind)) ((set.now.set, fault) ∷ []) page t.page (t.told ∷ [])) }
-    ensures led { IfOk result (λ t. IsLed t.changes.items page t.page) }
+    ensures { IfOk result (λ t. AreTaken set.now.delims (Some (kind_of kind)) ((set.now.set, fault) ∷ []) page t.page t.changes.items (t.told ∷ [])) }
 {
     if let Some(code) = fault {
         let rejection = Rejection {
@@ -115,8 +114,7 @@ fn take_sets<'a>(
     group: &'a Group<'a>,
 ) -> Result<TakenSets<'a>, AllocError>
     requires { start.recent + length group.now.group.sets ≤ most_sets }
-    ensures taken { IfOk result (λ t. AreTaken group.now.delims (Some (kind_of kind)) (meant.examined group.now.group) start t.page t.told.items) }
-    ensures led { IfOk result (λ t. IsLed t.changes.items start t.page) }
+    ensures { IfOk result (λ t. AreTaken group.now.delims (Some (kind_of kind)) (meant.examined group.now.group) start t.page t.changes.items t.told.items) }
 {
     let faults = group.set_faults(alloc)?;
     let mut page = start;
@@ -149,8 +147,7 @@ fn take_group<'a>(
     group: &'a Group<'a>,
 ) -> Result<TakenSets<'a>, AllocError>
     requires { start.recent + length group.now.group.sets ≤ most_sets }
-    ensures taken { IfOk result (λ t. IsGroupTaken group.now.delims group.now.group start t.page t.told.items) }
-    ensures led { IfOk result (λ t. IsLed t.changes.items start t.page) }
+    ensures { IfOk result (λ t. IsGroupTaken group.now.delims group.now.group start t.page t.changes.items t.told.items) }
 {
     let kind = SetKind::of_function(function(group));
     match (group.fault(), kind) {
@@ -234,8 +231,7 @@ pub(crate) fn take_groups<'a>(
 ) -> Result<TakenGroups<'a>, AllocError>
     requires room { start.recent + sum_by (λ g. length g.sets) interchange.now.groups ≤ most_sets }
     requires small { AllByRecursion IsSmall interchange.now.groups }
-    ensures taken { IfOk result (λ t. AreGroupsTaken interchange.now.delims interchange.now.groups start t.page t.told.items) }
-    ensures led { IfOk result (λ t. IsLed t.changes.items start t.page) }
+    ensures { IfOk result (λ t. AreGroupsTaken interchange.now.delims interchange.now.groups start t.page t.changes.items t.told.items) }
 {
     let mut page = start;
     let mut changes = Vec::new(alloc);

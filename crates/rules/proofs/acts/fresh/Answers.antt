@@ -1,4 +1,4 @@
-use Rattle.std.proofs.Common.{rules, ◌+◌}
+use Rattle.std.proofs.Common.{◌+◌, ◌∙◌}
 use Rattle.std.proofs.lemmas.Result.{IfOk-weaker}
 use Rattle.profile.specs.Register.{Clerk}
 use Rattle.profile.specs.Reply.{clerk_entry}
@@ -12,25 +12,24 @@ pub returns-in-Ok-clause-reply : goal.returns-in-Ok-clause-reply
 returns-in-Ok-clause-reply c =
     let e = c.args.envelope.now in
     let act = act_of c.args.act.now in
-    IfOk-weaker c.accepted.result _ _ (λ d reply h of.
-    let found = c.in-Ok.ensures.ok h.events of.shows in
-    act_done e.warehouse c.args.page.now h (clerk_entry e.depositor c.args.ticket.now act e.moment) act found.0 c.args.page.now.entries (Clerk e.depositor c.args.ticket.now act) e.moment d of found.1
-    (reply h found.0 of found.1)) c.accepted.ensures.reply
+    IfOk-weaker c.accepted.result _ _ (λ d reply h P has of.
+    let found = c.in-Ok.ensures.ok has.named P h.events has.part has.names of.shows in
+    act_done e.warehouse c.args.page.now.entries h (clerk_entry e.depositor c.args.ticket.now act e.moment) act found.0 c.args.page.now.entries (Clerk e.depositor c.args.ticket.now act) e.moment d (has.part.entries ∙ of.entries) found.1
+    (reply h P found.0 has of found.1)) c.accepted.ensures.reply
 
 pub returns-in-Err-clause-reply : goal.returns-in-Err-clause-reply
 returns-in-Err-clause-reply c =
     let e = c.args.envelope.now in
     let act = act_of c.args.act.now in
-    IfOk-weaker c.refused.result _ _ (λ d reply h of.
-    act_told_of e.warehouse c.args.page.now h (clerk_entry e.depositor c.args.ticket.now act e.moment) act c.args.page.now.entries (Clerk e.depositor c.args.ticket.now act) e.moment d of
-    (reply h.events (c.args.page.now.entries + 1) act (c.in-Err.ensures.err h.events of.shows)
+    IfOk-weaker c.refused.result _ _ (λ d reply h P has of.
+    act_told_of e.warehouse c.args.page.now.entries h (clerk_entry e.depositor c.args.ticket.now act e.moment) act c.args.page.now.entries (Clerk e.depositor c.args.ticket.now act) e.moment d (has.part.entries ∙ of.entries)
+    (reply h.events (c.args.page.now.entries + 1) act (c.in-Err.ensures.err has.named P h.events has.part has.names of.shows)
     e.warehouse h (clerk_entry e.depositor c.args.ticket.now act e.moment) c.args.page.now.entries (Clerk e.depositor c.args.ticket.now act) e.moment)) c.refused.ensures.reply
 
 pub accepted-requires-clause-led : goal.accepted-requires-clause-led
 accepted-requires-clause-led c =
     let e = c.args.envelope.now in
-    let sound : IsSound c.args.page.now = search rules in
-    λ h of. act_leads e.depositor c.args.ticket.now (act_of c.args.act.now) e.moment c.args.page.now c.in-Ok.step.changes.items h c.in-Ok.ensures.ok of sound.sorted
+    λ h P has of. act_leads e.depositor c.args.ticket.now (act_of c.args.act.now) e.moment c.args.page.now P c.in-Ok.step.changes.items h has.named c.in-Ok.ensures.ok has.part has.names of
 
 pub returns-in-Err-clause-leads : goal.returns-in-Err-clause-leads
 returns-in-Err-clause-leads c =

@@ -2,7 +2,7 @@ use Rattle.std.proofs.Common.{ℕ, List, ◌++◌, ap, ◌∙◌}
 use Rattle.profile.specs.Bytes.{Delims}
 use Rattle.profile.specs.Header.{delims_of}
 use Rattle.profile.specs.Texts.{Told}
-use Rattle.sets_out.specs.Headings.{Heading, heading_of}
+use Rattle.sets_out.specs.Headings.{Heading}
 use Rattle.sets_out.specs.Interchanges.{answer_of}
 use Rattle.rules.proofs.answers.answer.Goals as goal
 

@@ -1,4 +1,4 @@
-use Rattle.std.proofs.Common.{rules, List, ap, ◌∙◌, sym, subst, arith, length}
+use Rattle.std.proofs.Common.{List, ap, ◌∙◌, sym, subst, arith, length}
 use Rattle.profile.specs.Texts.{Told}
 use Rattle.sets_out.specs.Headings.{heading_of}
 use Rattle.sets_out.specs.Interchanges.{answer_of}
@@ -27,23 +27,23 @@ take_groups-requires-clause-small c =
     subst (λ (i : GroupsOf). AllByRecursion IsSmall i.groups) (sym c.requires.parts) (content c.args.text.now c.requires.clean).0
 
 pub returns-clause-reply : goal.returns-clause-reply
-returns-clause-reply c = λ h of.
+returns-clause-reply c = λ h P has of.
     let e = c.args.envelope in
     let told = c.in_ok-groups.groups.told.items in
-    let taken : AreGroupsTaken (delims_of c.args.text.now) (groups_of ((cut (delims_of c.args.text.now) c.args.text.now).segments)) c.args.page.now c.in_ok-groups.groups.page told =
-    subst (λ (i : GroupsOf). AreGroupsTaken i.delims i.groups c.args.page.now c.in_ok-groups.groups.page told) c.requires.parts
-    (subst (λ (p : PageFacts). AreGroupsTaken c.args.interchange.now.delims c.args.interchange.now.groups p c.in_ok-groups.groups.page told) c.in_ok-copy.ensures c.in_ok-groups.ensures.taken) in
-    accepted_reply e.warehouse e.depositor e.moment e.number c.args.text.now c.args.header.now c.args.page.now c.in_ok-groups.groups.page told c.in_ok-outgoing.outgoing.items c.in_ok-entry.entry h
+    let cs = c.in_ok-groups.groups.changes.items in
+    let taken : AreGroupsTaken (delims_of c.args.text.now) (groups_of ((cut (delims_of c.args.text.now) c.args.text.now).segments)) c.args.page.now c.in_ok-groups.groups.page cs told =
+    subst (λ (i : GroupsOf). AreGroupsTaken i.delims i.groups c.args.page.now c.in_ok-groups.groups.page cs told) c.requires.parts
+    (subst (λ (p : PageFacts). AreGroupsTaken c.args.interchange.now.delims c.args.interchange.now.groups p c.in_ok-groups.groups.page cs told) c.in_ok-copy.ensures c.in_ok-groups.ensures) in
+    accepted_reply e.warehouse e.depositor e.moment e.number c.args.text.now c.args.header.now c.args.page.now c.in_ok-groups.groups.page P cs told c.in_ok-outgoing.outgoing.items c.in_ok-entry.entry h has.named
     c.requires.same c.requires.number (omega (arith, c.if-entries-ge-MOST_ENTRIES.false, c.entries.ensures)) taken
     (c.in_ok-outgoing.ensures ∙ ap (λ (ts : List Told). answer_of (delims_of c.args.header.now) e.warehouse e.depositor e.moment e.number (heading_of c.args.header.now) ts) c.deref.ensures.value)
-    c.in_ok-entry.ensures of c.requires.whose
+    c.in_ok-entry.ensures has.part (has.names c.requires.readable c.requires.clean) of c.requires.whose
 
 pub returns-clause-leads : goal.returns-clause-leads
-returns-clause-leads c = λ h of.
-    let sound : IsSound c.args.page.now = search rules in
+returns-clause-leads c = λ h P has of.
     let told = c.in_ok-groups.groups.told.items in
-    let taken : AreGroupsTaken (delims_of c.args.text.now) (groups_of ((cut (delims_of c.args.text.now) c.args.text.now).segments)) c.args.page.now c.in_ok-groups.groups.page told =
-    subst (λ (i : GroupsOf). AreGroupsTaken i.delims i.groups c.args.page.now c.in_ok-groups.groups.page told) c.requires.parts
-    (subst (λ (p : PageFacts). AreGroupsTaken c.args.interchange.now.delims c.args.interchange.now.groups p c.in_ok-groups.groups.page told) c.in_ok-copy.ensures c.in_ok-groups.ensures.taken) in
-    interchange_leads c.args.text.now c.args.envelope.moment c.args.page.now c.in_ok-groups.groups.page told c.in_ok-groups.groups.changes.items h taken
-    (subst (λ (p : PageFacts). IsLed c.in_ok-groups.groups.changes.items p c.in_ok-groups.groups.page) c.in_ok-copy.ensures c.in_ok-groups.ensures.led) of sound.sorted
+    let cs = c.in_ok-groups.groups.changes.items in
+    let taken : AreGroupsTaken (delims_of c.args.text.now) (groups_of ((cut (delims_of c.args.text.now) c.args.text.now).segments)) c.args.page.now c.in_ok-groups.groups.page cs told =
+    subst (λ (i : GroupsOf). AreGroupsTaken i.delims i.groups c.args.page.now c.in_ok-groups.groups.page cs told) c.requires.parts
+    (subst (λ (p : PageFacts). AreGroupsTaken c.args.interchange.now.delims c.args.interchange.now.groups p c.in_ok-groups.groups.page cs told) c.in_ok-copy.ensures c.in_ok-groups.ensures) in
+    interchange_leads c.args.text.now c.args.envelope.moment c.args.page.now c.in_ok-groups.groups.page P told cs h has.named taken has.part (has.names c.requires.readable c.requires.clean) of

@@ -15,7 +15,7 @@ returns-in_default-clause-reply c =
     let none : (h : Option History) (k : Option recalled.Recalled) → IsGiven c.args.page (option_copied c.args.known) (Interchange c.args.text.now) h k → h ≡ None =
     λ h k given. elim c.in_default.branch [
       | in_default-via-in-Some+in_default w ↦ given.stranger (no_sender c.args.text.now c.args.header.now c.sender.result c.requires.same c.sender.ensures w.in_default.is-1)
-      | in_default-via-in_default w ↦ no_page c.args.page h w.in_default.is-0 given.page
+      | in_default-via-in_default w ↦ no_page (Interchange c.args.text.now) c.args.page h w.in_default.is-0 given.page
     ] in
     IfOk-weaker c.noted.result _ _ (λ d reply h k given.
     stranger_reply c.args.warehouse.now h k c.args.text.now c.args.header.now c.args.moment (entries_of c.args.page) d c.requires.same (none h k given)

@@ -3,23 +3,25 @@ use Rattle.std.proofs.lemmas.Result.{IfErr-weaker}
 use Rattle.profile.specs.Cut.{segments_of}
 use Rattle.profile.specs.Allotment.{order_shares}
 use Rattle.profile.specs.Events.{Ordered}
+use Rattle.rules.proofs.SetsNamed.{order_named}
 use Rattle.rules.proofs.Judges.{ordered_ok, ordered_stops}
 use Rattle.rules.proofs.Propers.{ordered_proper, both_ok}
 use Rattle.rules.proofs.judging.ordered.Goals as goal
 
 pub returns-clause-ok : goal.returns-clause-ok
-returns-clause-ok c = both_ok c.reserve.result _ _ _ (λ step h is es shows.
-    let n = c.args.page.now.entries + 1 in
+returns-clause-ok c = both_ok c.reserve.result _ _ _ (λ step h is n P es part names shows.
+    let m = c.args.page.now.entries + 1 in
     let ss = segments_of c.args.set.now.pieces in
-    let found = h es shows in (
+    let named = order_named n c.args.set.now.kind ss c.in_ok-order.order c.requires.kind c.in_ok-order.ensures.value names in
+    let found = h n P es part named shows in (
       Ordered c.in_ok-order.order (order_shares es c.in_ok-order.order),
-      ordered_ok es n c.args.set.now.kind ss c.in_ok-order.order c.requires.kind c.in_ok-order.ensures.value found.0,
+      ordered_ok es m c.args.set.now.kind ss c.in_ok-order.order c.requires.kind c.in_ok-order.ensures.value found.0,
       found.1,
-      ordered_proper c.args.page.now es c.in_ok-order.order (order_shares es c.in_ok-order.order) step.changes.items shows found.0 found.1 is,
+      ordered_proper P es c.in_ok-order.order (order_shares es c.in_ok-order.order) step.changes.items shows found.0 found.1 (is n P part named),
     )) c.reserve.ensures.ok c.reserve.ensures.changes
 
 pub returns-clause-err : goal.returns-clause-err
-returns-clause-err c = IfErr-weaker c.reserve.result _ _ (λ stop h es shows.
-    let n = c.args.page.now.entries + 1 in
+returns-clause-err c = IfErr-weaker c.reserve.result _ _ (λ stop h n P es part names shows.
+    let m = c.args.page.now.entries + 1 in
     let ss = segments_of c.args.set.now.pieces in
-    ordered_stops es n c.args.set.now.kind ss c.in_ok-order.order stop c.requires.kind c.in_ok-order.ensures.value (h es shows)) c.reserve.ensures.err
+    ordered_stops es m c.args.set.now.kind ss c.in_ok-order.order stop c.requires.kind c.in_ok-order.ensures.value (h n P es part (order_named n c.args.set.now.kind ss c.in_ok-order.order c.requires.kind c.in_ok-order.ensures.value names).number shows)) c.reserve.ensures.err

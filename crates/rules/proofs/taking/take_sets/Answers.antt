@@ -1,9 +1,7 @@
-use Rattle.std.proofs.Common.{List, Some, arith, sym, subst}
-use Rattle.stock.specs.declared.steps.Change.{Change}
+use Rattle.std.proofs.Common.{Some, arith}
 use Rattle.tables.specs.Kinds.{kind_of}
+use Rattle.rules.proofs.Takes.{none_taken}
 use Rattle.rules.proofs.Loops.{fault_within, set_closed, sets_go_on, sets_all}
-use Rattle.rules.specs.Judging.{IsLed}
-use Rattle.rules.proofs.Led.{led_both}
 use Rattle.rules.proofs.taking.take_sets.Goals as goal
 
 pub index-requires : goal.index-requires
@@ -16,15 +14,14 @@ take_set-requires-clause-closed c =
     c.sets-set-items.ensures c.in_ok-faults.ensures c.loop-i-test.true c.set-item.is c.index.ensures
 
 pub loop-i-preserved : goal.loop-i-preserved
-loop-i-preserved c = record {
-  taken = sets_go_on c.args.group.now.group c.args.group.now.delims (Some (kind_of c.args.kind)) c.sets-set-items.result.now c.in_ok-faults.faults.items c.loop-i.i c.set-item.result c.index.result.now
-      c.args.start c.loop-i.page c.in_ok-taken.taken.page c.loop-i.told.items c.in_ok-taken.taken.told c.push.new.self.items
-      c.sets-set-items.ensures c.in_ok-faults.ensures c.loop-i-test.true c.set-item.is c.index.ensures c.loop-i.invariant.taken c.in_ok-taken.ensures.taken c.in_ok-push.ensures.items;
-  led = subst (λ (cs : List Change). IsLed cs c.args.start c.in_ok-taken.taken.page) (sym c.in_ok-append.ensures.items)
-      (led_both c.loop-i.changes.items c.in_ok-taken.taken.changes.items c.args.start c.loop-i.page c.in_ok-taken.taken.page c.loop-i.invariant.led c.in_ok-taken.ensures.led (λ es shows. (_, c.loop-i.invariant.taken.shows es shows)));
-}
+loop-i-preserved c = sets_go_on c.args.group.now.group c.args.group.now.delims (Some (kind_of c.args.kind)) c.sets-set-items.result.now c.in_ok-faults.faults.items c.loop-i.i c.set-item.result c.index.result.now
+    c.args.start c.loop-i.page c.in_ok-taken.taken.page c.loop-i.changes.items c.in_ok-taken.taken.changes.items _ c.loop-i.told.items c.in_ok-taken.taken.told c.push.new.self.items
+    c.sets-set-items.ensures c.in_ok-faults.ensures c.loop-i-test.true c.set-item.is c.index.ensures c.loop-i.invariant c.in_ok-taken.ensures c.in_ok-append.ensures.items c.in_ok-push.ensures.items
 
-pub returns-clause-taken : goal.returns-clause-taken
-returns-clause-taken c =
-    sets_all c.args.group.now.group c.args.group.now.delims (Some (kind_of c.args.kind)) c.sets-set-items.result.now c.loop-i.i c.args.start c.loop-i.page c.loop-i.told.items
-    c.sets-set-items.ensures (omega (arith, c.loop-i-test.false)) c.loop-i.invariant.taken
+pub returns : goal.returns
+returns c =
+    sets_all c.args.group.now.group c.args.group.now.delims (Some (kind_of c.args.kind)) c.sets-set-items.result.now c.loop-i.i c.args.start c.loop-i.page c.loop-i.changes.items c.loop-i.told.items
+    c.sets-set-items.ensures (omega (arith, c.loop-i-test.false)) c.loop-i.invariant
+
+pub loop-i-init : goal.loop-i-init
+loop-i-init c = rw (c.new-changes.ensures.items, c.new-told.ensures.items, c.start.view_is) (none_taken c.args.group.now.delims (Some (kind_of c.args.kind)) c.args.start)

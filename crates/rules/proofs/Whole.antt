@@ -1,0 +1,56 @@
+-- A whole page is a part of itself that has all that a command can name.
+use Rattle.std.proofs.Common.{ℕ, List, [], ◌∷◌, Option, Some, None, refl}
+use Rattle.std.specs.Borrow.{Bor}
+use Rattle.profile.specs.Bytes.{Delims}
+use Rattle.profile.specs.Cut.{Segment, cut}
+use Rattle.profile.specs.Words.{SetKind, ShipmentAdvice, ShippingOrder, FunctionalAcknowledgment}
+use Rattle.profile.specs.Structure.{Set, Group, kind_of, examined, groups_of}
+use Rattle.profile.specs.Header.{delims_of}
+use Rattle.profile.specs.History.{History}
+use Rattle.profile.specs.Means.{advised, advice_of, order_of}
+use Rattle.profile.specs.Register.{Act, Count, Pick, Recount, Command, Interchange, Enrol, Clerk}
+use Rattle.stock.specs.Pages.{PageFacts, AreSorted}
+use Rattle.stock.specs.Parts.{all_named}
+use Rattle.stock.proofs.PartLemmas.{part_of_self, all_items, all_ordered}
+use Rattle.rules.specs.Decided.{IsWholeFor, IsHeldInOrder, StandsFor}
+use Rattle.rules.specs.Needs.{NamesSet, NamesJudged, NamesUnder, NamesSets, NamesGroups, NamesAct, NamesFor, HasNeeded}
+
+all_set : (kind : SetKind) (ss : List Segment) → NamesSet all_named kind ss
+all_set ShipmentAdvice ss = record { shipment = refl; items = all_items (advised (advice_of ss)) }
+all_set ShippingOrder ss = record { number = refl; items = all_ordered ((order_of ss).lines) }
+all_set FunctionalAcknowledgment ss = refl
+
+all_judged : (d : Delims) (kind : SetKind) (s : Set) (fault : Option ℕ) → NamesJudged d all_named kind s fault
+all_judged d kind s None = λ none. all_set kind s.segments
+all_judged d kind s (Some code) = tt
+
+all_under : (d : Delims) (kind : Option SetKind) (p : Set × Option ℕ) → NamesUnder d all_named kind p
+all_under d None p = tt
+all_under d (Some kind) p = all_judged d kind p.0 p.1
+
+all_sets : (d : Delims) (kind : Option SetKind) (ps : List (Set × Option ℕ)) → NamesSets d all_named kind ps
+all_sets d kind [] = tt
+all_sets d kind (p ∷ ps) = (all_under d kind p, all_sets d kind ps)
+
+pub all_groups : (d : Delims) (gs : List Group) → NamesGroups d all_named gs
+all_groups d [] = tt
+all_groups d (g ∷ gs) = (all_sets d (kind_of g) (examined g), all_groups d gs)
+
+pub all_act : (p : PageFacts) (act : Act) → NamesAct all_named p act
+all_act p (Count shipment sheet) = record { shipment = refl; sheet = all_items sheet; lines = λ k h. all_items k.lines }
+all_act p (Pick number sheet) = record { number = refl; sheet = all_items sheet; reserved = λ k h. all_items k.reserved }
+all_act p (Recount sheet) = all_items sheet
+
+all_for : (p : PageFacts) (c : Command) → NamesFor all_named p c
+all_for p (Interchange text) = λ readable clean. all_groups (delims_of text) (groups_of ((cut (delims_of text) text).segments))
+all_for p (Enrol w) = tt
+all_for p (Clerk w ticket act) = all_act p act
+
+pub whole_has : (c : Command) (p : PageFacts) → AreSorted p → HasNeeded c p p
+whole_has c p sorted = record { named = all_named; part = part_of_self all_named p sorted; names = all_for p c }
+
+pub whole_stands : (c : Command) (held : Option (Bor PageFacts)) (h : Option History) → IsHeldInOrder held → IsWholeFor held h → StandsFor c held h
+whole_stands c None None sorted whole = tt
+whole_stands c None (Some h) sorted whole = whole
+whole_stands c (Some p) None sorted whole = whole
+whole_stands c (Some p) (Some h) sorted whole = (p.now, whole_has c p.now sorted, whole)
