@@ -220,9 +220,8 @@ impl<S: Alter + Drop> Keeper for Book<S> {
         if self.shut {
             return Err(Fault::Reopen);
         }
-        let text = partner_text(self.alloc, &who)?;
         let mark = key.text(self.alloc)?;
-        self.tables.known_of(self.alloc, who, &text, &mark)
+        self.tables.known_of(self.alloc, who, &mark)
     }
 
     /// Appends an entry, with the rows that it changes and the text that goes out for it, in one transaction. After a fault of
