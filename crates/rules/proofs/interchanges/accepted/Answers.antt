@@ -2,7 +2,7 @@ use Rattle.std.proofs.Common.{List, ap, ◌∙◌, sym, subst, arith, length}
 use Rattle.profile.specs.Texts.{Told}
 use Rattle.sets_out.specs.Headings.{heading_of}
 use Rattle.sets_out.specs.Interchanges.{answer_of}
-use Rattle.stock.specs.Pages.{PageFacts, IsSound}
+use Rattle.stock.specs.Pages.{PageFacts}
 use Rattle.std.specs.Prelude.{sum_by}
 use Rattle.std.specs.List.{AllByRecursion}
 use Rattle.profile.specs.Structure.{Group, groups_of}
@@ -12,7 +12,6 @@ use Rattle.envelope.specs.Parts.{GroupsOf}
 use Rattle.rules.specs.Judging.{IsSmall, AreGroupsTaken}
 use Rattle.rules.proofs.Content.{content}
 use Rattle.rules.proofs.Decides.{accepted_reply}
-use Rattle.rules.specs.Judging.{IsLed}
 use Rattle.rules.proofs.Leading.{interchange_leads}
 use Rattle.rules.proofs.interchanges.accepted.Goals as goal
 
