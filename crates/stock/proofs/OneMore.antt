@@ -55,9 +55,9 @@ rows_added column lines p sound =
   where
     nothing : (a b : List ℕ) → told one a b p.rows ≡ 0 → list_any (is_pair a b) lines ≡ false
         → (told since a b p.rows ≡ 0) × ((c : Column) → told (amount c) a b p.rows + given column lines c a b ≡ 0)
-    nothing a b none no = (
+    nothing a b none unnamed_it = (
       told_absent since a b p.rows none,
-      λ c. omega (arith, told_absent (amount c) a b p.rows none, given_at_most column lines c a b, unnamed a b lines no),
+      λ c. omega (arith, told_absent (amount c) a b p.rows none, given_at_most column lines c a b, unnamed a b lines unnamed_it),
     )
 
 pub announced_more : (p : PageFacts) (es : List Event) (a : Advice) → IsSound p → Shows p es → p.recent < 1000 → HasFewLines a.lines → advice_fault es a ≡ None
