@@ -1,12 +1,16 @@
 -- The page with one event more exists.
-use Rattle.std.proofs.Common.{◌≡◌, ℕ, ◌+◌, ◌-◌, ◌<◌, ◌≤◌, max, Bool, true, false, ◌&&◌, ◌||◌, cond, List, [], ◌∷◌, ◌++◌, refl, ap, sym, ◌∙◌, subst, arith, inl, inr, Option, Some, None, Ok, Err, Result}
+use Rattle.std.proofs.Common.{◌≡◌, ℕ, ◌+◌, ◌-◌, ◌<◌, ◌≤◌, ◌^◌, max, Bool, true, false, ◌&&◌, ◌||◌, cond, List, [], ◌∷◌, ◌++◌, refl, ap, sym, ◌∙◌, subst, arith, inl, inr, Option, Some, None, Ok, Err, Result}
 use Rattle.std.proofs.lemmas.Bool.{cases_Bool}
 use Rattle.std.proofs.lemmas.Slice.Eq.{bytes_eq-Decides}
-use Rattle.std.specs.Prelude.{bytes_eq, codes}
+use Rattle.std.specs.Prelude.{bytes_eq, codes, length, All, map}
+use Rattle.std.proofs.lemmas.List.{length-map}
+use Rattle.std.proofs.lemmas.List.Elements.{All-map}
 use Rattle.std.specs.List.{list_any}
 use Rattle.profile.specs.Events.{Event, Advised, Ordered, Acknowledged, Counted, Picked, Recounted, is_pair, quantity_of, advice_fault, order_fault}
+use Rattle.profile.specs.Clerk.{counted, picked, recounted, on_hand_now}
 use Rattle.profile.specs.Allotment.{order_shares}
-use Rattle.profile.specs.Means.{Line, Advice, advised, Order, Acknowledgment}
+use Rattle.profile.specs.Limits.{most_lines, most_quantity}
+use Rattle.profile.specs.Means.{Line, AdviceLine, Advice, advised, Order, Acknowledgment}
 use Rattle.profile.specs.Movements.{Column, Expected, OnHand, Reservation, Shipped}
 use Rattle.profile.specs.Page.{PageAdvice, PageOrder, reserved_lines}
 use Rattle.profile.specs.Rows.{LotRow}
@@ -14,19 +18,20 @@ use Rattle.sets_in.specs.Limits.{HasFewLines}
 use Rattle.stock.specs.Keyed.{put_advice, put_order}
 use Rattle.stock.specs.Lots.{all_shares_in}
 use Rattle.stock.specs.Moved.{IsAdded, IsCounted, IsShipped, IsSet, set_by}
-use Rattle.stock.specs.Pages.{PageFacts, IsSound, advice_at, order_at}
+use Rattle.stock.specs.Pages.{PageFacts, IsSound, is_shipment, is_number, advice_at, order_at}
 use Rattle.stock.specs.Puts.{put}
 use Rattle.stock.specs.Shows.{Shows}
-use Rattle.stock.specs.Steps.{opened, opened_order, IsAnnounced, IsReserved, IsReceived, IsPicked, IsRecounted, IsAcknowledged}
+use Rattle.stock.specs.Steps.{opened, opened_order, closed_advice, closed_order, with_sent, exceeds, is_unknown, is_below, is_on_hand, IsAnnounced, IsReserved, IsReceived, IsPicked, IsRecounted, IsAcknowledged}
 use Rattle.stock.specs.Stops.{document_changes}
-use Rattle.stock.specs.Told.{told, one, since, amount, given, named_by}
+use Rattle.stock.specs.Told.{told, one, since, amount, given, named_by, first_number}
 use Rattle.stock.proofs.Acknowledges.{acknowledged_put, acknowledged_sound, acknowledged_shows}
 use Rattle.stock.proofs.Allots.{IsAllotted, allotted}
 use Rattle.stock.proofs.Announces.{announced_sound, announced_shows, advice_fault_shown, advice_unknown}
 use Rattle.stock.proofs.Existing.{IsMade, rows_made}
 use Rattle.stock.proofs.PartShares.{opened_in_lines}
-use Rattle.stock.proofs.Pairs.{quantity_no}
-use Rattle.stock.proofs.Receives.{given_at_most}
+use Rattle.stock.proofs.Pairs.{IsSheet, quantity_no}
+use Rattle.stock.proofs.Finds.{found_says}
+use Rattle.stock.proofs.Receives.{given_at_most, expected_there, advice_known, counted_unknown, counted_closed, counted_ok, received_sound, received_shows}
 use Rattle.stock.proofs.Reserves.{reserved_sound, reserved_shows, order_fault_shown, order_unknown, order_items_once}
 use Rattle.stock.proofs.Shares.{all_shares_shown}
 use Rattle.stock.proofs.Tells.{told_absent}
@@ -60,15 +65,42 @@ rows_added column lines p sound =
       λ c. omega (arith, told_absent (amount c) a b p.rows none, given_at_most column lines c a b, unnamed a b lines unnamed_it),
     )
 
-pub announced_more : (p : PageFacts) (es : List Event) (a : Advice) → IsSound p → Shows p es → p.recent < 1000 → HasFewLines a.lines → advice_fault es a ≡ None
+-- an advice with its lines at no place brings as much
+placeless : AdviceLine → AdviceLine
+placeless l = record l { position = 0 }
+
+same_lines : (ls : List AdviceLine) → map (λ l. l.line) (map placeless ls) ≡ map (λ l. l.line) ls
+unfolding placeless
+same_lines [] = refl
+same_lines (l ∷ ls) = ap (λ xs. l.line ∷ xs) (same_lines ls)
+
+little : (ls : List AdviceLine) → length ls ≤ most_lines → All (λ (l : AdviceLine). l.line.quantity ≤ most_quantity) ls → HasFewLines (map placeless ls)
+unfolding placeless
+little ls few small = record {
+  few = omega (arith, few, length-map ls placeless);
+  small = All-map (λ (l : AdviceLine). l.line.quantity ≤ most_quantity) placeless ls small;
+  placed = All-map (λ (l : AdviceLine). l.position < 2 ^ 32 - 1) placeless ls (λ i d within. omega arith);
+}
+
+pub announced_more : (p : PageFacts) (es : List Event) (a : Advice) → IsSound p → Shows p es → p.recent < 1000
+    → length a.lines ≤ most_lines → All (λ (l : AdviceLine). l.line.quantity ≤ most_quantity) a.lines → advice_fault es a ≡ None
     → (q : PageFacts) × IsOneMore p es (Advised a) q
-announced_more p es a sound shows room few none =
+announced_more p es a sound shows room few small none =
     let rows = rows_added Expected (advised a) p sound in
     let q : PageFacts = record p { rows = rows.0; advices = put_advice (opened a) p.advices; recent = p.recent + 1 } in
     let unknown = advice_unknown (advice_at a.shipment p.advices) a (advice_fault_shown p es a shows ∙ none) in
     let step : IsAnnounced a p q = record { rows = rows.1; advices = refl; orders = refl; documents = refl; next = record { entries = refl; recent = refl } } in
+    let b : Advice = record a { lines = map placeless a.lines } in
+    let same : advised b ≡ advised a = same_lines a.lines in
+    let like : IsAnnounced b p q = record {
+      rows = subst (λ (ls : List Line). IsAdded Expected ls p.rows q.rows) (sym same) rows.1;
+      advices = ap (λ (ls : List Line). put_advice (record { shipment = a.shipment; order = a.order; lines = ls; is_open = true }) p.advices) (sym same);
+      orders = refl;
+      documents = refl;
+      next = record { entries = refl; recent = refl };
+    } in
     (q, record {
-      sound = announced_sound a p q step few unknown room sound;
+      sound = announced_sound b p q like (little a.lines few small) unknown room sound;
       shows = announced_shows a p q es step unknown shows;
       entries = refl;
       recent = refl;
@@ -104,3 +136,65 @@ acknowledged_more p es a sound shows room =
       entries = refl;
       recent = refl;
     })
+
+-- A count.
+
+same_ok : {X Y : Type 0} (r : Result X Y) (x y : X) → r ≡ Ok x → r ≡ Ok y → x ≡ y
+same_ok r x y h k = cc (h, k)
+
+rows_counted : (n : ℕ) (lines sheet : List Line) (p : PageFacts) → IsSound p → ((a b : List ℕ) → quantity_of lines a b ≤ told (amount Expected) a b p.rows)
+    → (new : List LotRow) × IsCounted n lines sheet p.rows new
+rows_counted n lines sheet p sound enough =
+    let m = rows_made number left sheet p.rows sound.sorted.rows nothing in
+    (m.0, record {
+      sorted = m.1.sorted;
+      amounts = λ c a b. omega (arith, m.1.amounts c a b, within c a b);
+      sinces = m.1.sinces;
+      named = m.1.named;
+    })
+  where
+    number : List ℕ → List ℕ → ℕ
+    number a b = first_number n (list_any (is_pair a b) sheet) (told since a b p.rows)
+
+    left : Column → List ℕ → List ℕ → ℕ
+    left c a b = told (amount c) a b p.rows + given OnHand sheet c a b - given Expected lines c a b
+
+    within : (c : Column) (a b : List ℕ) → given Expected lines c a b ≤ told (amount c) a b p.rows
+    within Expected a b = enough a b
+    within OnHand a b = omega arith
+    within Reservation a b = omega arith
+    within Shipped a b = omega arith
+
+    nothing : (a b : List ℕ) → told one a b p.rows ≡ 0 → list_any (is_pair a b) sheet ≡ false → (number a b ≡ 0) × ((c : Column) → left c a b ≡ 0)
+    nothing a b none unnamed_it = (
+      rw (unnamed_it, told_absent since a b p.rows none) refl,
+      λ c. omega (arith, told_absent (amount c) a b p.rows none, given_at_most OnHand sheet c a b, unnamed a b sheet unnamed_it),
+    )
+
+pub counted_more : (p : PageFacts) (es : List Event) (n : ℕ) (s : List ℕ) (sheet : List Line) (e : Event) → IsSound p → Shows p es → p.recent < 1000
+    → n ≡ p.entries + 1 → IsSheet sheet → counted es n s sheet ≡ Ok e → (q : PageFacts) × IsOneMore p es e q
+counted_more p es n s sheet e sound shows room follows is_sheet is = by (advice_at s p.advices) refl
+  where
+    made : (k : PageAdvice) → advice_at s p.advices ≡ Some k → k.is_open ≡ true → (q : PageFacts) × IsOneMore p es e q
+    made k there is_open =
+        let a = advice_known p es s k shows there in
+        let same : Counted n a.0 sheet ≡ e = same_ok (counted es n s sheet) (Counted n a.0 sheet) e (counted_ok es n s a.0 k sheet a.1 a.2 is_open) is in
+        let key : k.shipment ≡ s = (bytes_eq-Decides k.shipment s).0 (found_says (is_shipment s) p.advices k there) in
+        let here : advice_at k.shipment p.advices ≡ Some k = ap (λ (t : List ℕ). advice_at t p.advices) key ∙ there in
+        let rows = rows_counted n k.lines sheet p sound (expected_there p s k sound there is_open) in
+        let q : PageFacts = record p { rows = rows.0; advices = put_advice (closed_advice k) p.advices; documents = with_sent n (codes "RE") p.documents; recent = p.recent + 1 } in
+        let step : IsReceived n k sheet p q = record { rows = rows.1; advices = refl; orders = refl; documents = refl; next = record { entries = refl; recent = refl } } in
+        (q, record {
+          sound = received_sound n k sheet p q step here is_open is_sheet room sound;
+          shows = subst (λ (x : Event). Shows q (es ++ x ∷ [])) same (received_shows n k a.0 sheet s p q es follows step there a.1 a.2 shows);
+          entries = refl;
+          recent = refl;
+        })
+
+    by_open : (k : PageAdvice) (v : Bool) → advice_at s p.advices ≡ Some k → k.is_open ≡ v → (q : PageFacts) × IsOneMore p es e q
+    by_open k true there is_open = made k there is_open
+    by_open k false there shut = let refused = counted_closed p es n s k sheet shows there shut in absurd (cc (refused, is))
+
+    by : (o : Option PageAdvice) → advice_at s p.advices ≡ o → (q : PageFacts) × IsOneMore p es e q
+    by None there = let refused = counted_unknown p es n s sheet shows there in absurd (cc (refused, is))
+    by (Some k) there = by_open k k.is_open there refl
