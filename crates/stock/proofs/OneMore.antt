@@ -31,6 +31,7 @@ use Rattle.stock.proofs.Existing.{IsMade, rows_made}
 use Rattle.stock.proofs.PartShares.{opened_in_lines}
 use Rattle.stock.proofs.Pairs.{IsSheet, quantity_no}
 use Rattle.stock.proofs.Finds.{found_says}
+use Rattle.stock.proofs.Ships.{held_there, within_reserved, order_known, picked_unknown, picked_closed, picked_excess, picked_ok, picked_sound, picked_shows}
 use Rattle.stock.proofs.Receives.{given_at_most, expected_there, advice_known, counted_unknown, counted_closed, counted_ok, received_sound, received_shows}
 use Rattle.stock.proofs.Reserves.{reserved_sound, reserved_shows, order_fault_shown, order_unknown, order_items_once}
 use Rattle.stock.proofs.Shares.{all_shares_shown}
@@ -197,4 +198,68 @@ counted_more p es n s sheet e sound shows room follows is_sheet is = by (advice_
 
     by : (o : Option PageAdvice) → advice_at s p.advices ≡ o → (q : PageFacts) × IsOneMore p es e q
     by None there = let refused = counted_unknown p es n s sheet shows there in absurd (cc (refused, is))
+    by (Some k) there = by_open k k.is_open there refl
+
+-- A pick.
+
+rows_shipped : (reserved sheet : List Line) (p : PageFacts) → IsSound p → ((a b : List ℕ) → quantity_of reserved a b ≤ told (amount Reservation) a b p.rows)
+    → ((a b : List ℕ) → quantity_of sheet a b ≤ quantity_of reserved a b) → (new : List LotRow) × IsShipped reserved sheet p.rows new
+rows_shipped reserved sheet p sound enough covers =
+    let m = rows_made number left [] p.rows sound.sorted.rows nothing in
+    (m.0, record {
+      sorted = m.1.sorted;
+      amounts = λ c a b. omega (arith, m.1.amounts c a b, within c a b);
+      sinces = m.1.sinces;
+      named = λ a b. omega (arith, m.1.named a b);
+    })
+  where
+    number : List ℕ → List ℕ → ℕ
+    number a b = told since a b p.rows
+
+    left : Column → List ℕ → List ℕ → ℕ
+    left c a b = told (amount c) a b p.rows + given Shipped sheet c a b - given OnHand sheet c a b - given Reservation reserved c a b
+
+    within : (c : Column) (a b : List ℕ) → given OnHand sheet c a b + given Reservation reserved c a b ≤ told (amount c) a b p.rows
+    within Expected a b = omega arith
+    within OnHand a b = omega (arith, covers a b, enough a b, sound.covered a b)
+    within Reservation a b = omega (arith, enough a b)
+    within Shipped a b = omega arith
+
+    nothing : (a b : List ℕ) → told one a b p.rows ≡ 0 → list_any (is_pair a b) [] ≡ false → (number a b ≡ 0) × ((c : Column) → left c a b ≡ 0)
+    nothing a b none unnamed_it = (
+      told_absent since a b p.rows none,
+      λ c. omega (arith, told_absent (amount c) a b p.rows none, given_at_most Shipped sheet c a b, covers a b, enough a b, told_absent (amount Reservation) a b p.rows none),
+    )
+
+pub picked_more : (p : PageFacts) (es : List Event) (n : ℕ) (s : List ℕ) (sheet : List Line) (e : Event) → IsSound p → Shows p es → p.recent < 1000
+    → n ≡ p.entries + 1 → IsSheet sheet → picked es n s sheet ≡ Ok e → (q : PageFacts) × IsOneMore p es e q
+picked_more p es n s sheet e sound shows room follows is_sheet is = by (order_at s p.orders) refl
+  where
+    made : (k : PageOrder) → order_at s p.orders ≡ Some k → k.is_open ≡ true → list_any (exceeds k.reserved) sheet ≡ false → (q : PageFacts) × IsOneMore p es e q
+    made k there is_open covers =
+        let r = order_known p es s k shows there in
+        let same : Picked n r.0.order r.0.shares sheet ≡ e =
+        same_ok (picked es n s sheet) (Picked n r.0.order r.0.shares sheet) e (picked_ok p es n s r.0 k sheet shows r.1 r.2 is_open covers) is in
+        let key : k.number ≡ s = (bytes_eq-Decides k.number s).0 (found_says (is_number s) p.orders k there) in
+        let here : order_at k.number p.orders ≡ Some k = ap (λ (t : List ℕ). order_at t p.orders) key ∙ there in
+        let rows = rows_shipped k.reserved sheet p sound (held_there p s k sound there is_open) (λ a b. within_reserved k.reserved sheet a b covers (is_sheet.once a b)) in
+        let q : PageFacts = record p { rows = rows.0; orders = put_order (closed_order k) p.orders; documents = with_sent n (codes "SW") p.documents; recent = p.recent + 1 } in
+        let step : IsPicked n k sheet p q = record { rows = rows.1; advices = refl; orders = refl; documents = refl; next = record { entries = refl; recent = refl } } in
+        (q, record {
+          sound = picked_sound n k sheet p q step here is_open is_sheet covers room sound;
+          shows = subst (λ (x : Event). Shows q (es ++ x ∷ [])) same (picked_shows n k r.0 sheet s p q es follows step there r.1 r.2 is_open shows);
+          entries = refl;
+          recent = refl;
+        })
+
+    by_excess : (k : PageOrder) (v : Bool) → order_at s p.orders ≡ Some k → k.is_open ≡ true → list_any (exceeds k.reserved) sheet ≡ v → (q : PageFacts) × IsOneMore p es e q
+    by_excess k false there is_open covers = made k there is_open covers
+    by_excess k true there is_open over = let refused = picked_excess p es n s k sheet shows there is_open over in absurd (cc (refused, is))
+
+    by_open : (k : PageOrder) (v : Bool) → order_at s p.orders ≡ Some k → k.is_open ≡ v → (q : PageFacts) × IsOneMore p es e q
+    by_open k true there is_open = by_excess k (list_any (exceeds k.reserved) sheet) there is_open refl
+    by_open k false there shut = let refused = picked_closed p es n s k sheet shows there shut in absurd (cc (refused, is))
+
+    by : (o : Option PageOrder) → order_at s p.orders ≡ o → (q : PageFacts) × IsOneMore p es e q
+    by None there = let refused = picked_unknown p es n s sheet shows there in absurd (cc (refused, is))
     by (Some k) there = by_open k k.is_open there refl
