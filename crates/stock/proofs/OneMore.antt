@@ -1,17 +1,17 @@
 -- The page with one event more exists.
 use Rattle.std.proofs.Common.{◌≡◌, ℕ, ◌+◌, ◌-◌, ◌<◌, ◌≤◌, ◌^◌, max, Bool, true, false, ◌&&◌, ◌||◌, cond, List, [], ◌∷◌, ◌++◌, refl, ap, sym, ◌∙◌, subst, arith, inl, inr, Option, Some, None, Ok, Err, Result}
-use Rattle.std.proofs.lemmas.Bool.{cases_Bool}
+use Rattle.std.proofs.lemmas.Bool.{cases_Bool, eqb-false}
 use Rattle.std.proofs.lemmas.Slice.Eq.{bytes_eq-Decides}
 use Rattle.std.specs.Prelude.{bytes_eq, codes, length, All, map}
 use Rattle.std.proofs.lemmas.List.{length-map}
 use Rattle.std.proofs.lemmas.List.Elements.{All-map}
-use Rattle.std.specs.List.{list_any}
+use Rattle.std.specs.List.{list_any, list_all}
 use Rattle.profile.specs.Events.{Event, Advised, Ordered, Acknowledged, Counted, Picked, Recounted, is_pair, quantity_of, advice_fault, order_fault}
 use Rattle.profile.specs.Clerk.{counted, picked, recounted, on_hand_now}
 use Rattle.profile.specs.Allotment.{order_shares}
 use Rattle.profile.specs.Limits.{most_lines, most_quantity}
 use Rattle.profile.specs.Means.{Line, AdviceLine, Advice, advised, Order, Acknowledgment}
-use Rattle.profile.specs.Movements.{Column, Expected, OnHand, Reservation, Shipped}
+use Rattle.profile.specs.Movements.{Column, Expected, OnHand, Reservation, Shipped, column_eq}
 use Rattle.profile.specs.Page.{PageAdvice, PageOrder, reserved_lines}
 use Rattle.profile.specs.Rows.{LotRow}
 use Rattle.sets_in.specs.Limits.{HasFewLines}
@@ -31,11 +31,12 @@ use Rattle.stock.proofs.Existing.{IsMade, rows_made}
 use Rattle.stock.proofs.PartShares.{opened_in_lines}
 use Rattle.stock.proofs.Pairs.{IsSheet, quantity_no}
 use Rattle.stock.proofs.Finds.{found_says}
+use Rattle.stock.proofs.Corrects.{recounted_unknown, recounted_below, recounted_same, recounted_ok, recounted_sound, recounted_shows}
 use Rattle.stock.proofs.Ships.{held_there, within_reserved, order_known, picked_unknown, picked_closed, picked_excess, picked_ok, picked_sound, picked_shows}
 use Rattle.stock.proofs.Receives.{given_at_most, expected_there, advice_known, counted_unknown, counted_closed, counted_ok, received_sound, received_shows}
 use Rattle.stock.proofs.Reserves.{reserved_sound, reserved_shows, order_fault_shown, order_unknown, order_items_once}
 use Rattle.stock.proofs.Shares.{all_shares_shown}
-use Rattle.stock.proofs.Tells.{told_absent}
+use Rattle.stock.proofs.Tells.{told_absent, pair_is}
 
 -- a page that stands for one event more
 pub record IsOneMore (p : PageFacts) (es : List Event) (e : Event) (q : PageFacts) : Type 0 where
@@ -263,3 +264,82 @@ picked_more p es n s sheet e sound shows room follows is_sheet is = by (order_at
     by : (o : Option PageOrder) → order_at s p.orders ≡ o → (q : PageFacts) × IsOneMore p es e q
     by None there = let refused = picked_unknown p es n s sheet shows there in absurd (cc (refused, is))
     by (Some k) there = by_open k k.is_open there refl
+
+-- A recount.
+
+-- a pair that a sheet of known pairs names has a row
+unknown_unnamed : (rows : List LotRow) (ls : List Line) (a b : List ℕ) → list_any (is_unknown rows) ls ≡ false → told one a b rows ≡ 0 → list_any (is_pair a b) ls ≡ false
+unknown_unnamed rows [] a b h none = refl
+unknown_unnamed rows (l ∷ ls) a b h none =
+    let u = neither (is_unknown rows l) (list_any (is_unknown rows) ls) h in
+    elim (cases_Bool (is_pair a b l)) [
+      | inl e ↦
+          let same = pair_is a b l e in
+          let nought : told since l.item l.lot rows ≡ 0 = (λ i. told since (same.0 i) (same.1 i) rows) ∙ told_absent since a b rows none in
+          absurd (eqb-false (told since l.item l.lot rows) 0 u.0 nought)
+      | inr e ↦ rw e (unknown_unnamed rows ls a b u.1 none)
+    ]
+
+set_unnamed : (a b : List ℕ) (ls : List Line) (n : ℕ) → list_any (is_pair a b) ls ≡ false → set_by ls a b n ≡ n
+set_unnamed a b [] n h = refl
+set_unnamed a b (l ∷ ls) n h =
+    let u = neither (is_pair a b l) (list_any (is_pair a b) ls) h in
+    ap (λ (v : Bool). set_by ls a b (cond v l.quantity n)) u.0 ∙ set_unnamed a b ls n u.1
+
+rows_set : (sheet : List Line) (p : PageFacts) → IsSound p → list_any (is_unknown p.rows) sheet ≡ false → (new : List LotRow) × IsSet sheet p.rows new
+rows_set sheet p sound known =
+    let m = rows_made number left [] p.rows sound.sorted.rows nothing in
+    (m.0, record {
+      sorted = m.1.sorted;
+      on_hand = m.1.amounts OnHand;
+      others = λ c a b apart. m.1.amounts c a b ∙ kept c a b apart;
+      sinces = m.1.sinces;
+      named = λ a b. omega (arith, m.1.named a b);
+    })
+  where
+    number : List ℕ → List ℕ → ℕ
+    number a b = told since a b p.rows
+
+    left : Column → List ℕ → List ℕ → ℕ
+    left OnHand a b = set_by sheet a b (told (amount OnHand) a b p.rows)
+    left Expected a b = told (amount Expected) a b p.rows
+    left Reservation a b = told (amount Reservation) a b p.rows
+    left Shipped a b = told (amount Shipped) a b p.rows
+
+    kept : (c : Column) (a b : List ℕ) → column_eq OnHand c ≡ false → left c a b ≡ told (amount c) a b p.rows
+    kept OnHand a b apart = absurd (cc)
+    kept Expected a b apart = refl
+    kept Reservation a b apart = refl
+    kept Shipped a b apart = refl
+
+    nought : (a b : List ℕ) → told one a b p.rows ≡ 0 → (c : Column) → left c a b ≡ 0
+    nought a b none OnHand =
+        set_unnamed a b sheet (told (amount OnHand) a b p.rows) (unknown_unnamed p.rows sheet a b known none) ∙ told_absent (amount OnHand) a b p.rows none
+    nought a b none Expected = told_absent (amount Expected) a b p.rows none
+    nought a b none Reservation = told_absent (amount Reservation) a b p.rows none
+    nought a b none Shipped = told_absent (amount Shipped) a b p.rows none
+
+    nothing : (a b : List ℕ) → told one a b p.rows ≡ 0 → list_any (is_pair a b) [] ≡ false → (number a b ≡ 0) × ((c : Column) → left c a b ≡ 0)
+    nothing a b none unnamed_it = (told_absent since a b p.rows none, nought a b none)
+
+pub recounted_more : (p : PageFacts) (es : List Event) (n : ℕ) (sheet : List Line) (e : Event) → IsSound p → Shows p es → p.recent < 1000
+    → n ≡ p.entries + 1 → IsSheet sheet → recounted es n sheet ≡ Ok e → (q : PageFacts) × IsOneMore p es e q
+recounted_more p es n sheet e sound shows room follows is_sheet is =
+    by (list_any (is_unknown p.rows) sheet) (list_any (is_below p.rows) sheet) (list_all (is_on_hand p.rows) sheet) refl refl refl
+  where
+    by : (u b o : Bool) → list_any (is_unknown p.rows) sheet ≡ u → list_any (is_below p.rows) sheet ≡ b → list_all (is_on_hand p.rows) sheet ≡ o → (q : PageFacts) × IsOneMore p es e q
+    by true b o known covers differs = let refused = recounted_unknown p es n sheet shows known in absurd (cc (refused, is))
+    by false true o known covers differs = let refused = recounted_below p es n sheet shows known covers in absurd (cc (refused, is))
+    by false false true known covers differs = let refused = recounted_same p es n sheet shows known covers differs in absurd (cc (refused, is))
+    by false false false known covers differs =
+        let same : Recounted n (on_hand_now es sheet) sheet ≡ e =
+        same_ok (recounted es n sheet) (Recounted n (on_hand_now es sheet) sheet) e (recounted_ok p es n sheet shows known covers differs) is in
+        let rows = rows_set sheet p sound known in
+        let q : PageFacts = record p { rows = rows.0; documents = with_sent n (codes "AW") p.documents; recent = p.recent + 1 } in
+        let step : IsRecounted n sheet p q = record { rows = rows.1; advices = refl; orders = refl; documents = refl; next = record { entries = refl; recent = refl } } in
+        (q, record {
+          sound = recounted_sound n sheet p q step is_sheet covers room sound;
+          shows = subst (λ (x : Event). Shows q (es ++ x ∷ [])) same (recounted_shows n sheet p q es follows step is_sheet shows);
+          entries = refl;
+          recent = refl;
+        })
