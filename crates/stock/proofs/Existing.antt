@@ -1,8 +1,7 @@
 -- Rows with given amounts exist.
-use Rattle.std.proofs.Common.{◌≡◌, ℕ, ◌+◌, ◌≤◌, max, Bool, true, false, ◌&&◌, ◌||◌, cond, List, [], ◌∷◌, ◌++◌, map, refl, ap, sym, ◌∙◌, arith, inl, inr}
+use Rattle.std.proofs.Common.{◌≡◌, ℕ, ◌≤◌, max, Bool, true, false, ◌||◌, cond, List, [], ◌∷◌, ◌++◌, map, refl, sym, ◌∙◌, arith, inl, inr}
 use Rattle.std.proofs.lemmas.Bool.{cases_Bool}
 use Rattle.std.proofs.lemmas.List.Folds.{list_any-append}
-use Rattle.std.specs.Prelude.{bytes_eq}
 use Rattle.std.specs.List.{list_any}
 use Rattle.profile.specs.Events.{is_pair}
 use Rattle.profile.specs.Means.{Line}
@@ -11,7 +10,7 @@ use Rattle.profile.specs.Rows.{LotRow}
 use Rattle.stock.specs.Keyed.{IsSorted, put_row}
 use Rattle.stock.specs.Told.{told, one, since, amount, is_row, named_by}
 use Rattle.stock.proofs.KeyLemmas.{put_sorted, told_put, sorted_distinct}
-use Rattle.stock.proofs.Tells.{row_is, pair_is, told_cons, part_yes, part_no, told_absent}
+use Rattle.stock.proofs.Tells.{pair_is, told_cons, part_yes, part_no}
 
 -- the row of a pair with a number and amounts
 abbrev row_for : (List ℕ → List ℕ → ℕ) → (Column → List ℕ → List ℕ → ℕ) → List ℕ → List ℕ → LotRow

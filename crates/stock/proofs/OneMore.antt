@@ -1,8 +1,8 @@
 -- The page with one event more exists.
-use Rattle.std.proofs.Common.{◌≡◌, ℕ, ◌+◌, ◌-◌, ◌<◌, ◌≤◌, ◌^◌, max, Bool, true, false, ◌&&◌, ◌||◌, cond, List, [], ◌∷◌, ◌++◌, refl, ap, sym, ◌∙◌, subst, arith, inl, inr, Option, Some, None, Ok, Err, Result}
+use Rattle.std.proofs.Common.{◌≡◌, ℕ, ◌+◌, ◌-◌, ◌<◌, ◌≤◌, ◌^◌, Bool, true, false, ◌||◌, cond, List, [], ◌∷◌, ◌++◌, refl, ap, sym, ◌∙◌, subst, arith, inl, inr, Option, Some, None, Ok, Result}
 use Rattle.std.proofs.lemmas.Bool.{cases_Bool, eqb-false}
 use Rattle.std.proofs.lemmas.Slice.Eq.{bytes_eq-Decides}
-use Rattle.std.specs.Prelude.{bytes_eq, codes, length, All, map}
+use Rattle.std.specs.Prelude.{codes, length, All, map}
 use Rattle.std.proofs.lemmas.List.{length-map}
 use Rattle.std.proofs.lemmas.List.Elements.{All-map}
 use Rattle.std.specs.List.{list_any, list_all}
@@ -23,11 +23,11 @@ use Rattle.stock.specs.Puts.{put}
 use Rattle.stock.specs.Shows.{Shows}
 use Rattle.stock.specs.Steps.{opened, opened_order, closed_advice, closed_order, with_sent, exceeds, is_unknown, is_below, is_on_hand, IsAnnounced, IsReserved, IsReceived, IsPicked, IsRecounted, IsAcknowledged}
 use Rattle.stock.specs.Stops.{document_changes}
-use Rattle.stock.specs.Told.{told, one, since, amount, given, named_by, first_number}
+use Rattle.stock.specs.Told.{told, one, since, amount, given, first_number}
 use Rattle.stock.proofs.Acknowledges.{acknowledged_put, acknowledged_sound, acknowledged_shows}
 use Rattle.stock.proofs.Allots.{IsAllotted, allotted}
 use Rattle.stock.proofs.Announces.{announced_sound, announced_shows, advice_fault_shown, advice_unknown}
-use Rattle.stock.proofs.Existing.{IsMade, rows_made}
+use Rattle.stock.proofs.Existing.{rows_made}
 use Rattle.stock.proofs.PartShares.{opened_in_lines}
 use Rattle.stock.proofs.Pairs.{IsSheet, quantity_no}
 use Rattle.stock.proofs.Finds.{found_says}
