@@ -21,7 +21,7 @@ use Rattle.books.proofs.Sendings.{legal_sent}
 use Rattle.books.proofs.ShowingTexts.{stock_rows_text, stock_rows_is, stock_rows_plain, outbox_text, outbox_is, outbox_plain}
 use Rattle.books.proofs.ShownRows.{stock_rows_shown, outgoing_rows_shown}
 
-sound_layout : (db : Database) (lies : IsLayout db.schema) → IsDatabase db → IsSound (beside lies.others) db.trees
+pub sound_layout : (db : Database) (lies : IsLayout db.schema) → IsDatabase db → IsSound (beside lies.others) db.trees
 sound_layout db lies sound = subst (λ (s : Schema). IsSound s db.trees) lies.is sound
 
 stock_found : (W : Who) (L : List Entry) (who : Who) (db : Database) (rows : List Row) → is_partner who ≡ true → IsDatabase db → Stands W L db

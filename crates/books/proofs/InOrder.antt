@@ -49,7 +49,7 @@ module _ {X : Type 0} (cmp : X → X → Ordering) (total : IsTotalOrder cmp) wh
       let first : AtMost x y = ap is_gt (total.antisymm x y) ∙ turned _ (sorted 0 x (omega arith) (omega arith)) in
       (first, all_weaker _ (AtMost x) (λ z. upto total x y z first) ys up.0)
 
-  ascending_from_sorted : (xs : List X) → IsSorted cmp xs → IsAscending AtMost xs
+  pub ascending_from_sorted : (xs : List X) → IsSorted cmp xs → IsAscending AtMost xs
   ascending_from_sorted [] sorted = tt
   ascending_from_sorted (x ∷ xs) sorted =
       let tail : IsSorted cmp xs = λ k d p q. rw add-one (rw add-one at (sorted (suc k) d (omega arith) (omega arith))) in

@@ -98,7 +98,7 @@ outgoing_are W L = each_block IsOutgoing who_text (λ w. map outgoing_cells (out
 
 -- Stock.
 
-abbrev line_pair : Line → Pair
+abbrev pub line_pair : Line → Pair
 line_pair l = (l.item, l.lot)
 
 pub lots_rise : (es : List Event) → rises_by pairs_in_order row_key (running_rows es) ≡ true
@@ -117,7 +117,7 @@ advice_in : Event → Option Advice
 advice_in (Advised a) = Some a
 advice_in e = None
 
-advices_rise : (es : List Event) → rises_by comes_before shipment_of (page_advices es) ≡ true
+pub advices_rise : (es : List Event) → rises_by comes_before shipment_of (page_advices es) ≡ true
 unfolding advice_in
 advices_rise es =
     rises_map comes_before (page_advice es) (λ (a : Advice). a.shipment) shipment_of (λ a. refl) (advices_of es)
@@ -129,7 +129,7 @@ advice_ordered L = table_ordered advice_schema 2 (λ t row. refl) L advice_rows
     (λ a b. last_cell (comes_before a.shipment b.shipment) (comes_before b.shipment a.shipment)) (page_advices (events M)) ∙ advices_rise (events M))
     (λ M. each_mapped (IsKeyed advice_schema 2) advice_cells (page_advices (events M)) (λ a t. record { key = refl; cells = refl }))
 
-abbrev advised_cells : ℕ × Line → TableRow
+abbrev pub advised_cells : ℕ × Line → TableRow
 advised_cells p = Number p.0 ∷ Text p.1.item ∷ Text p.1.lot ∷ Number p.1.quantity ∷ []
 
 -- lines of cells that begin with their numbers
@@ -154,7 +154,7 @@ order_in : Event → Option Reserved
 order_in (Ordered o shares) = Some (record { order = o; shares = shares })
 order_in e = None
 
-orders_rise : (es : List Event) → rises_by comes_before number_of (page_orders es) ≡ true
+pub orders_rise : (es : List Event) → rises_by comes_before number_of (page_orders es) ≡ true
 unfolding order_in
 orders_rise es =
     rises_map comes_before (page_order es) (λ (r : Reserved). r.order.number) number_of (λ r. refl) (orders_of es)
@@ -173,7 +173,7 @@ orders_ordered L = table_ordered orders_schema 2 (λ t row. refl) L orders_rows
     (λ a b. (λ i. key_before (order_key a i) (order_key b i)) ∙ last_cell (comes_before a.number b.number) (comes_before b.number a.number)) (page_orders (events M)) ∙ orders_rise (events M))
     (λ M. each_mapped (IsKeyed orders_schema 2) orders_cells (page_orders (events M)) (λ o t. record { key = ap (λ (c : List Cell). Text t ∷ c) (order_key o); cells = refl }))
 
-abbrev ordered_cells : ℕ × PageLine → TableRow
+abbrev pub ordered_cells : ℕ × PageLine → TableRow
 ordered_cells p = Number p.0 ∷ Text p.1.item ∷ text_or_null p.1.pin ∷ Number p.1.quantity ∷ []
 
 -- the last cells of a line play no part in its key
@@ -195,11 +195,11 @@ order_line_ordered L = table_ordered order_line_schema 3 (λ t row. refl) L orde
 
 -- Reservations.
 
-abbrev reserved_cells : Line → TableRow
+abbrev pub reserved_cells : Line → TableRow
 reserved_cells l = Text l.item ∷ Text l.lot ∷ Number l.quantity ∷ []
 
 -- what is reserved for an order of a page stands by item and lot
-reserved_rise : (es : List Event) (r : Reserved) → rises_by pairs_in_order line_pair (page_order es r).reserved ≡ true
+pub reserved_rise : (es : List Event) (r : Reserved) → rises_by pairs_in_order line_pair (page_order es r).reserved ≡ true
 reserved_rise es r = by (page_order es r).is_open
   where
     by : (b : Bool) → rises_by pairs_in_order line_pair (if b then reserved_lines r.shares else []) ≡ true

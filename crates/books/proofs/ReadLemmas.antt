@@ -60,13 +60,13 @@ last_two text h = ap value (take_whole (drop 10 text) 2 (omega (arith, drop_long
 pub none_some : {A : Type 0} (o : Option A) (a : A) → o ≡ None → o ≡ Some a → ⊥
 none_some o a p q = cc
 
-same_text_value : (v w : List ℕ) → ◌≡◌ {A = Value} (Text v) (Text w) → v ≡ w
+pub same_text_value : (v w : List ℕ) → ◌≡◌ {A = Value} (Text v) (Text w) → v ≡ w
 same_text_value v w e = cc
 
 same_blob_value : (v w : List ℕ) → ◌≡◌ {A = Value} (Blob v) (Blob w) → v ≡ w
 same_blob_value v w e = cc
 
-same_number_value : (m n : ℕ) → ◌≡◌ {A = Value} (Int (pos m)) (Int (pos n)) → m ≡ n
+pub same_number_value : (m n : ℕ) → ◌≡◌ {A = Value} (Int (pos m)) (Int (pos n)) → m ≡ n
 same_number_value m n e = cc
 
 pub moment_shown : (row : Row) (w : Written) (text : List ℕ) → row ≡ entry_shown w → is_moment w.moment ≡ true → column row 2 ≡ Text text → moment_of text ≡ Some w.moment

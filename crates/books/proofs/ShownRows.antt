@@ -50,20 +50,20 @@ then_less Equal Equal = refl
 then_less Equal Greater = refl
 then_less Greater p = refl
 
-both_equal : (o p : Ordering) → is_eq (ordering_then o (ordering_then p Equal)) ≡ true → (is_eq o ≡ true) × (is_eq p ≡ true)
+pub both_equal : (o p : Ordering) → is_eq (ordering_then o (ordering_then p Equal)) ≡ true → (is_eq o ≡ true) × (is_eq p ≡ true)
 both_equal Less p h = absurd (let e : ◌≡◌ {A = Bool} false true = h in cc)
 both_equal Equal Less h = absurd (let e : ◌≡◌ {A = Bool} false true = h in cc)
 both_equal Equal Equal h = (refl, refl)
 both_equal Equal Greater h = absurd (let e : ◌≡◌ {A = Bool} false true = h in cc)
 both_equal Greater p h = absurd (let e : ◌≡◌ {A = Bool} false true = h in cc)
 
-pairs_ranked : (i l j m : List ℕ) → is_lt (ordering_then (value_cmp (value.Text i) (value.Text j)) (ordering_then (value_cmp (value.Text l) (value.Text m)) Equal)) ≡ pairs_in_order (i, l) (j, m)
+pub pairs_ranked : (i l j m : List ℕ) → is_lt (ordering_then (value_cmp (value.Text i) (value.Text j)) (ordering_then (value_cmp (value.Text l) (value.Text m)) Equal)) ≡ pairs_in_order (i, l) (j, m)
 pairs_ranked i l j m =
     (λ p. is_lt (ordering_then (value_cmp-Text i j p) (ordering_then (value_cmp-Text l m p) Equal)))
     ∙ then_less (slice_cmp nat_cmp i j) (slice_cmp nat_cmp l m)
     ∙ ap (λ (b : Bool). comes_before i j || (b && comes_before l m)) (is_eq-slice_cmp i j)
 
-text_is : (i j : List ℕ) → is_eq (value_cmp (value.Text i) (value.Text j)) ≡ true → i ≡ j
+pub text_is : (i j : List ℕ) → is_eq (value_cmp (value.Text i) (value.Text j)) ≡ true → i ≡ j
 text_is i j h = (bytes_eq-Decides i j).0 (sym (is_eq-slice_cmp i j) ∙ ap is_eq (sym (value_cmp-Text i j)) ∙ h)
 
 -- Stock.
@@ -105,7 +105,7 @@ stock_rows_shown others W L who db rows legal partner sound held a =
 abbrev out_out : OutRow → Output
 out_out r = (value.Int (pos r.n) ∷ [], out_shown r)
 
-numbers_ranked : (m n : ℕ) → is_lt (ordering_then (value_cmp (value.Int (pos m)) (value.Int (pos n))) Equal) ≡ nat_lt m n
+pub numbers_ranked : (m n : ℕ) → is_lt (ordering_then (value_cmp (value.Int (pos m)) (value.Int (pos n))) Equal) ≡ nat_lt m n
 numbers_ranked m n = (λ p. is_lt (ordering_then (value_cmp-Int (pos m) (pos n) p) Equal)) ∙ by (nat_lt m n) (nat_lt n m)
   where
     by : (b d : Bool) → is_lt (ordering_then (cond b Less (cond d Greater Equal)) Equal) ≡ b
@@ -113,7 +113,7 @@ numbers_ranked m n = (λ p. is_lt (ordering_then (value_cmp-Int (pos m) (pos n) 
     by false true = refl
     by false false = refl
 
-number_is : (m n : ℕ) → is_eq (ordering_then (value_cmp (value.Int (pos m)) (value.Int (pos n))) Equal) ≡ true → m ≡ n
+pub number_is : (m n : ℕ) → is_eq (ordering_then (value_cmp (value.Int (pos m)) (value.Int (pos n))) Equal) ≡ true → m ≡ n
 number_is m n h = by (nat_lt m n) (nat_lt n m) refl refl (sym (λ p. is_eq (ordering_then (value_cmp-Int (pos m) (pos n) p) Equal)) ∙ h)
   where
     by : (b d : Bool) → nat_lt m n ≡ b → nat_lt n m ≡ d → is_eq (ordering_then (cond b Less (cond d Greater Equal)) Equal) ≡ true → m ≡ n

@@ -60,7 +60,7 @@ module _ (who key : List ℕ) where
       let same : a.ordered ≡ a.kept = in_order under_query a.kept a.ordered rising a.same a.sorted in
       a.shown ∙ ap (map (λ (o : Output). o.1)) (same ∙ is) ∙ map-both (output under_query) (λ (o : Output). o.1) (map env_of (filter whose (db 1))) ∙ map-both env_of (λ e. (output under_query e).1) (filter whose (db 1))
 
-equal_bytes : (a b : List ℕ) → equal Binary (value.Text a) (value.Text b) ≡ bytes_eq a b
+pub equal_bytes : (a b : List ℕ) → equal Binary (value.Text a) (value.Text b) ≡ bytes_eq a b
 equal_bytes a b = equal_texts a b ∙ ap is_eq (value_cmp-Text a b) ∙ is_eq-slice_cmp a b
 
 and_truth : (b : Bool) → (b && true) ≡ b

@@ -16,7 +16,7 @@ on_err : {T E : Type 0} {A B : Type 0} (r : Result T E) → (A → B) → OnErr 
 on_err (Ok x) f h = tt
 on_err (Err e) f h = f h
 
-same_survives : (s : State) → Survives s s (λ _. ⊥)
+pub same_survives : (s : State) → Survives s s (λ _. ⊥)
 same_survives s = record {
   clean = omega arith;
   shield = λ h. h;

@@ -1,8 +1,10 @@
 -- What asking the tables tells, what it leaves, and why it fails.
-use Rattle.std.specs.Prelude.{◌≡◌, ℕ, List, None, Ok, IsTrue, codes}
+use Rattle.std.specs.Prelude.{◌≡◌, ◌≢◌, ◌≤◌, ℕ, List, None, Some, Ok, Result, IsTrue, IfErr, OnOk, codes}
 use Rattle.sqlite.specs.Order.{Row}
 use Rattle.sqlite.specs.Clock.{timed}
 use Rattle.sqlite.specs.Effect.{Database, Reads}
+use Rattle.sqlite.specs.Held.{state}
+use Rattle.sqlite.specs.Store.{Ghosts}
 use Rattle.sqlite.specs.Listing.{understood, reads_listing, IsSourceOf}
 use Rattle.sqlite.specs.State.{State, HasCleanDisk, Survives}
 use Rattle.sqlite_resolve.specs.declared.compiled.Compiled.{Compiled}
@@ -11,7 +13,9 @@ use Rattle.profile.specs.Register.{Entry}
 use Rattle.store.specs.declared.fault.Fault.{Fault}
 use Rattle.store.specs.declared.fault.Fault.TheVariants.{Store, Reopen, NotThisBook, Device}
 use Rattle.books.specs.Exits.{IsAsBefore, StandsWhileOpen}
+use Rattle.books.specs.Kept.{Kept}
 use Rattle.books.specs.Layout.{IsLayout}
+use Rattle.books.specs.Limits.{NoMore}
 use Rattle.books.specs.Rises.{Rises}
 
 -- the text is a statement under the schema that is there, and where it is a query these rows are its answer
@@ -36,3 +40,13 @@ pub record IsAskFault (fault : Fault) (old new : State) (refused more : ℕ) : T
   pub not_this : fault ≡ NotThisBook → HasCleanDisk new → (W : Who) (L : List Entry) → StandsWhileOpen old W L → ⊥
   pub reopen : fault ≡ Reopen → ⊥
   pub device : fault ≡ Device → ⊥
+
+-- What a query leaves, whatever it tells: the tables as they were, a refused call counted and no other, and no more calls left
+-- than before, of which there was one where it answers Ok.
+pub record Asked {S T : Type 0} (store : Ghosts S) (old new : Kept S) (result : Result T Fault) : Type 0 where
+  pub left : IsAsked (state store old.conn) (state store new.conn)
+  pub fault : IfErr result (λ f. IsAskFault f (state store old.conn) (state store new.conn) old.refused new.refused)
+  pub counts : old.refused ≤ new.refused
+  pub uncounted : OnOk result (new.refused ≡ old.refused)
+  pub limit : NoMore old.limit new.limit
+  pub allowed : OnOk result (old.limit ≢ Some 0)

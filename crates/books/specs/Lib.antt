@@ -13,6 +13,7 @@ pub mod Appending
 pub mod Kept
 pub mod Exits
 pub mod Contents
+pub mod Looking
 pub mod Asking
 pub mod Recorded
 pub mod Taken

@@ -1,11 +1,11 @@
-ghost use Rattle.std.specs.Prelude.{◌≡◌, ◌≢◌, ◌⊎◌, ◌≤◌, List, [], IfErr, IfOk, OnErr, OnOk, IsErrOf, length, Some};
+ghost use Rattle.std.specs.Prelude.{◌≡◌, ◌≢◌, ◌⊎◌, List, [], IfErr, IfOk, OnErr, OnOk, IsErrOf, length, Some};
 ghost use Rattle.profile.specs.Header.{Who as Partner};
 ghost use Rattle.profile.specs.Register as register;
 ghost use Rattle.sqlite.specs.Held.{state};
 ghost use Rattle.sqlite.specs.Order.{Row as Cells};
 ghost use Rattle.sqlite.specs.State.{HasCleanDisk};
 ghost use Rattle.store.specs.Replayed.{all_written};
-ghost use Rattle.books.specs.Asking.{Finds, IsAsked, IsAskFault, house_text};
+ghost use Rattle.books.specs.Asking.{Asked, Finds, IsAsked, house_text};
 ghost use Rattle.books.specs.Exits.{StandsWhileOpen};
 ghost use Rattle.books.specs.Limits.{NoMore};
 ghost use Rattle.books.specs.Recorded.{IsHouse};
@@ -13,32 +13,23 @@ ghost use Rattle.books.specs.Rises.{Rises};
 
 use crate::connected::Tables;
 use crate::reading::{entries_in, house_of};
-use crate::texts::partner_text;
 use rules::{Entry, Warehouse, Who};
 use sqlite::Alter;
-use sqlite::types::ValueRef;
 use std::alloc::Global;
 use store::Fault;
 
 impl<S: Alter + Drop> Tables<S> {
     /// A depositor's entries as they are written down, in their order. 43 where a row shows none.
-    #[tactic(auto, using(crate::proofs::Limited::no_more_trans, crate::proofs::Limited::no_more_same))]
     pub(crate) fn own_entries(&mut self, alloc: Global, who: Who) -> Result<Vec<Entry>, Fault>
         ensures entries { HasCleanDisk (state S.Store self.new.conn) → (W : Partner) (L : List register.Entry)
             → StandsWhileOpen (state S.Store self.old.conn) W L
             → IfOk result (λ entries. entries.items ≡ all_written (register.own L who)) }
-        ensures asked { IsAsked (state S.Store self.old.conn) (state S.Store self.new.conn) }
-        ensures fault { IfErr result (λ f. IsAskFault f (state S.Store self.old.conn)
-            (state S.Store self.new.conn) self.old.refused self.new.refused) }
-        ensures counts { self.old.refused ≤ self.new.refused }
-        ensures uncounted { OnOk result (self.new.refused ≡ self.old.refused) }
-        ensures limit { NoMore self.old.limit self.new.limit }
-        ensures allowed { OnOk result (self.old.limit ≢ Some 0) }
+        ensures asked { Asked S.Store self.old self.new result }
     {
-        let text = partner_text(alloc, &who)?;
-        let rows = self.ask(
+        let rows = self.of_depositor(
+            alloc,
             "SELECT mark, n, moment, body FROM entry WHERE who = ?1 ORDER BY seq",
-            &[ValueRef::Text(&text)],
+            who,
         )?;
         match entries_in(alloc, &who, &rows)? {
             Some(entries) => Ok(entries),

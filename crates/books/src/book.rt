@@ -10,7 +10,7 @@ ghost use Rattle.sqlite.specs.State.{HasCleanDisk, Survives};
 ghost use Rattle.sqlite.specs.Held.{state};
 ghost use Rattle.sqlite.specs.Order.{Row as Cells};
 ghost use Rattle.store.specs.Replayed.{all_written};
-ghost use Rattle.store.specs.Held.{IsHeldFor};
+ghost use Rattle.store.specs.Held.{IsHeld};
 ghost use Rattle.store.specs.Standing.{IsUsable, IsUnchanged, IsQueryFault, IsNext, IsFault, IsCommitFault, LeavesEither, GoesOn};
 ghost use Rattle.books.specs.Asking.{Finds, IsAsked, house_text};
 ghost use Rattle.books.specs.Exits.{IsAsBefore, StandsWhileOpen};
@@ -25,7 +25,7 @@ ghost use Rattle.books.specs.Taken.{has_book_table};
 
 use crate::connected::Tables;
 use crate::texts::partner_text;
-use rules::{Change, Entry, Key, Known, Page, Warehouse, Who};
+use rules::{Change, Entry, Key, Known, Need, Page, Warehouse, Who};
 use sqlite::Alter;
 use std::alloc::Global;
 use std::marker::Model;
@@ -186,10 +186,10 @@ impl<S: Alter + Drop> Keeper for Book<S> {
     }
 
     #[tactic(auto, using(crate::proofs::Limited::no_more_trans, crate::proofs::Limited::no_more_same))]
-    fn load(&mut self, who: Who) -> Result<Option<Page>, Fault>
+    fn load(&mut self, who: Who, need: &Need) -> Result<Option<Page>, Fault>
         ensures page { (standing_of S.Store self.new).doubt ≡ 0 → (L : List register.Entry)
             → (standing_of S.Store self.old).keeps L → IsLegal (standing_of S.Store self.old).warehouse L
-            → IfOk result (λ page. IsHeldFor page (decided.standing (register.own L who))) }
+            → IfOk result (λ page. IsHeld need.now page (decided.standing (register.own L who))) }
         ensures rest { IfOk result IsHeldAtRest }
         ensures same { IsUnchanged (standing_of S.Store self.old) (standing_of S.Store self.new) }
         ensures fault { IfErr result (λ fault. IsQueryFault fault (standing_of S.Store self.old)
@@ -200,7 +200,7 @@ impl<S: Alter + Drop> Keeper for Book<S> {
         ensures allowed { OnOk result (self.old.tables.limit ≢ Some 0) }
     {
         let mut own = self.own_book(who)?;
-        own.load(who)
+        own.load(who, need)
     }
 
     #[tactic(auto, using(crate::proofs::Limited::no_more_trans, crate::proofs::Limited::no_more_same))]
@@ -220,9 +220,8 @@ impl<S: Alter + Drop> Keeper for Book<S> {
         if self.shut {
             return Err(Fault::Reopen);
         }
-        let text = partner_text(self.alloc, &who)?;
         let mark = key.text(self.alloc)?;
-        self.tables.known_of(self.alloc, who, &text, &mark)
+        self.tables.known_of(self.alloc, who, &mark)
     }
 
     /// Appends an entry, with the rows that it changes and the text that goes out for it, in one transaction. After a fault of

@@ -1,6 +1,7 @@
 //! A warehouse's book in SQLite tables: what a crash leaves is a prefix of what was answered.
 #![tactic(auto)]
 
+mod advised;
 mod appending;
 mod asking;
 mod book;
@@ -8,8 +9,13 @@ mod calls;
 mod changing;
 mod connected;
 mod enrolled;
+mod goods;
 pub mod laws;
+mod looking;
+mod lots;
 mod making;
+mod numbers;
+mod orders;
 mod reading;
 mod recalled;
 mod recording;

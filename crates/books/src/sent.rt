@@ -1,4 +1,4 @@
-ghost use Rattle.std.specs.Prelude.{◌≡◌, ◌≤◌, List, Some, MatchOption, IfOk, IfErr, map, option_map, filter, length, nat_lt, ◌≢◌, OnOk};
+ghost use Rattle.std.specs.Prelude.{◌≡◌, List, Some, MatchOption, IfOk, map, option_map, filter, length, nat_lt};
 ghost use Rattle.profile.specs.Header.{Who as Partner};
 ghost use Rattle.profile.specs.Register as register;
 ghost use Rattle.profile.specs.Rows as meant;
@@ -7,22 +7,19 @@ ghost use Rattle.sqlite.specs.State.{HasCleanDisk};
 ghost use Rattle.sqlite_rules.specs.Lists.{Has};
 ghost use Rattle.rules.specs.Kinds.{kind_text};
 ghost use Rattle.store.specs.Sent.{state_name};
-ghost use Rattle.books.specs.Asking.{IsAsked, IsAskFault};
+ghost use Rattle.books.specs.Asking.{Asked};
 ghost use Rattle.books.specs.Exits.{StandsWhileOpen};
-ghost use Rattle.books.specs.Limits.{NoMore};
 ghost use Rattle.books.specs.Showing.{out_shown, IsSent};
 
 use crate::connected::Tables;
 use crate::reading::{blob_at, number_at, text_at};
-use crate::texts::partner_text;
 use rules::Who;
-use sqlite::types::ValueRef;
 use sqlite::{Alter, Row};
 use std::alloc::{AllocError, Global};
 use store::{DocumentState, Fault, OutKind, OutRow};
 
-// The kind with this word.
-fn kind_of(text: &[u8]) -> Option<OutKind>
+/// The kind with this word.
+pub(crate) fn kind_of(text: &[u8]) -> Option<OutKind>
     ensures { MatchOption result ((kind : OutKind) → text.now ≡ kind_text kind
         → ⊥) (λ kind. text.now ≡ kind_text kind) }
 {
@@ -103,23 +100,16 @@ pub(crate) fn out_rows_in(alloc: Global, rows: &[Row]) -> Result<Option<Vec<OutR
 impl<S: Alter + Drop> Tables<S> {
     /// The texts that went out to a depositor, by number, as the rows of `outgoing` say, but for the empty ones; nothing of a
     /// stranger. 43 where a row shows no text.
-    #[tactic(auto, using(crate::proofs::Limited::no_more_trans, crate::proofs::Limited::no_more_same))]
     pub(crate) fn sent_rows(&mut self, alloc: Global, who: Who) -> Result<Vec<OutRow>, Fault>
         ensures rows { HasCleanDisk (state S.Store self.new.conn) → (W : Partner) (L : List register.Entry)
             → StandsWhileOpen (state S.Store self.old.conn) W L
             → IfOk result (λ rows. rows.items ≡ meant.outbox_rows W (register.own L who)) }
-        ensures asked { IsAsked (state S.Store self.old.conn) (state S.Store self.new.conn) }
-        ensures fault { IfErr result (λ f. IsAskFault f (state S.Store self.old.conn)
-            (state S.Store self.new.conn) self.old.refused self.new.refused) }
-        ensures counts { self.old.refused ≤ self.new.refused }
-        ensures uncounted { OnOk result (self.new.refused ≡ self.old.refused) }
-        ensures limit { NoMore self.old.limit self.new.limit }
-        ensures allowed { OnOk result (self.old.limit ≢ Some 0) }
+        ensures asked { Asked S.Store self.old self.new result }
     {
-        let text = partner_text(alloc, &who)?;
-        let rows = self.ask(
+        let rows = self.of_depositor(
+            alloc,
             "SELECT n, kind, content, state FROM outgoing WHERE who = ?1 ORDER BY n",
-            &[ValueRef::Text(&text)],
+            who,
         )?;
         match out_rows_in(alloc, &rows)? {
             Some(shown) => Ok(shown),

@@ -1,12 +1,11 @@
-ghost use Rattle.std.specs.Prelude.{◌≡◌, ◌≤◌, List, IfOk, IfErr, option_map, ◌≢◌, OnOk, Some};
+ghost use Rattle.std.specs.Prelude.{◌≡◌, List, IfOk, option_map};
 ghost use Rattle.profile.specs.Header.{Who as Partner};
 ghost use Rattle.profile.specs.Register as register;
 ghost use Rattle.profile.specs.Rows as meant;
 ghost use Rattle.sqlite.specs.Held.{state};
 ghost use Rattle.sqlite.specs.State.{HasCleanDisk};
-ghost use Rattle.books.specs.Asking.{IsAsked, IsAskFault};
+ghost use Rattle.books.specs.Asking.{Asked};
 ghost use Rattle.books.specs.Exits.{StandsWhileOpen};
-ghost use Rattle.books.specs.Limits.{NoMore};
 
 use crate::connected::Tables;
 use rules::Who;
@@ -16,7 +15,6 @@ use store::{Fault, OutRow, StockRow};
 
 impl<S: Alter + Drop> Tables<S> {
     /// What a depositor has, by item and lot, as its running rows say; None of a stranger.
-    #[tactic(auto, using(crate::proofs::Limited::no_more_trans, crate::proofs::Limited::no_more_same))]
     pub(crate) fn stock_of(
         &mut self,
         alloc: Global,
@@ -25,13 +23,7 @@ impl<S: Alter + Drop> Tables<S> {
         ensures rows { HasCleanDisk (state S.Store self.new.conn) → (W : Partner) (L : List register.Entry)
             → StandsWhileOpen (state S.Store self.old.conn) W L
             → IfOk result (λ rows. option_map (λ v. v.items) rows ≡ meant.stock_of L who) }
-        ensures asked { IsAsked (state S.Store self.old.conn) (state S.Store self.new.conn) }
-        ensures fault { IfErr result (λ f. IsAskFault f (state S.Store self.old.conn)
-            (state S.Store self.new.conn) self.old.refused self.new.refused) }
-        ensures counts { self.old.refused ≤ self.new.refused }
-        ensures uncounted { OnOk result (self.new.refused ≡ self.old.refused) }
-        ensures limit { NoMore self.old.limit self.new.limit }
-        ensures allowed { OnOk result (self.old.limit ≢ Some 0) }
+        ensures asked { Asked S.Store self.old self.new result }
     {
         if !self.is_enrolled(alloc, who)? {
             return Ok(None);
@@ -44,7 +36,6 @@ impl<S: Alter + Drop> Tables<S> {
 
     /// The texts that went out to a depositor, by number, but for the empty ones, as the rows of `outgoing` say; None of a
     /// stranger.
-    #[tactic(auto, using(crate::proofs::Limited::no_more_trans, crate::proofs::Limited::no_more_same))]
     pub(crate) fn outbox_of(
         &mut self,
         alloc: Global,
@@ -53,13 +44,7 @@ impl<S: Alter + Drop> Tables<S> {
         ensures rows { HasCleanDisk (state S.Store self.new.conn) → (W : Partner) (L : List register.Entry)
             → StandsWhileOpen (state S.Store self.old.conn) W L
             → IfOk result (λ rows. option_map (λ v. v.items) rows ≡ meant.outbox_of W L who) }
-        ensures asked { IsAsked (state S.Store self.old.conn) (state S.Store self.new.conn) }
-        ensures fault { IfErr result (λ f. IsAskFault f (state S.Store self.old.conn)
-            (state S.Store self.new.conn) self.old.refused self.new.refused) }
-        ensures counts { self.old.refused ≤ self.new.refused }
-        ensures uncounted { OnOk result (self.new.refused ≡ self.old.refused) }
-        ensures limit { NoMore self.old.limit self.new.limit }
-        ensures allowed { OnOk result (self.old.limit ≢ Some 0) }
+        ensures asked { Asked S.Store self.old self.new result }
     {
         if !self.is_enrolled(alloc, who)? {
             return Ok(None);

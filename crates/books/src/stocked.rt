@@ -1,19 +1,16 @@
-ghost use Rattle.std.specs.Prelude.{◌≡◌, ◌≤◌, List, Some, IfOk, IfErr, map, option_map, ◌≢◌, OnOk};
+ghost use Rattle.std.specs.Prelude.{◌≡◌, List, Some, IfOk, map, option_map};
 ghost use Rattle.profile.specs.Header.{Who as Partner};
 ghost use Rattle.profile.specs.Register as register;
 ghost use Rattle.profile.specs.Rows as meant;
 ghost use Rattle.sqlite.specs.Held.{state};
 ghost use Rattle.sqlite.specs.State.{HasCleanDisk};
-ghost use Rattle.books.specs.Asking.{IsAsked, IsAskFault};
+ghost use Rattle.books.specs.Asking.{Asked};
 ghost use Rattle.books.specs.Exits.{StandsWhileOpen};
-ghost use Rattle.books.specs.Limits.{NoMore};
 ghost use Rattle.books.specs.Showing.{stock_shown};
 
 use crate::connected::Tables;
 use crate::reading::{number_at, text_at};
-use crate::texts::partner_text;
 use rules::Who;
-use sqlite::types::ValueRef;
 use sqlite::{Alter, Row};
 use std::alloc::{AllocError, Global};
 use store::{Fault, StockRow};
@@ -70,23 +67,16 @@ pub(crate) fn stock_rows_in(
 
 impl<S: Alter + Drop> Tables<S> {
     /// What a depositor has, by item and lot, as its running rows say; nothing of a stranger. 43 where a row shows no stock.
-    #[tactic(auto, using(crate::proofs::Limited::no_more_trans, crate::proofs::Limited::no_more_same))]
     pub(crate) fn stock_rows(&mut self, alloc: Global, who: Who) -> Result<Vec<StockRow>, Fault>
         ensures rows { HasCleanDisk (state S.Store self.new.conn) → (W : Partner) (L : List register.Entry)
             → StandsWhileOpen (state S.Store self.old.conn) W L
             → IfOk result (λ rows. rows.items ≡ meant.stock_rows (register.own L who)) }
-        ensures asked { IsAsked (state S.Store self.old.conn) (state S.Store self.new.conn) }
-        ensures fault { IfErr result (λ f. IsAskFault f (state S.Store self.old.conn)
-            (state S.Store self.new.conn) self.old.refused self.new.refused) }
-        ensures counts { self.old.refused ≤ self.new.refused }
-        ensures uncounted { OnOk result (self.new.refused ≡ self.old.refused) }
-        ensures limit { NoMore self.old.limit self.new.limit }
-        ensures allowed { OnOk result (self.old.limit ≢ Some 0) }
+        ensures asked { Asked S.Store self.old self.new result }
     {
-        let text = partner_text(alloc, &who)?;
-        let rows = self.ask(
+        let rows = self.of_depositor(
+            alloc,
             "SELECT item, lot, expected, on_hand, reserved, shipped FROM stock WHERE who = ?1 ORDER BY item, lot",
-            &[ValueRef::Text(&text)],
+            who,
         )?;
         match stock_rows_in(alloc, &rows)? {
             Some(shown) => Ok(shown),

@@ -7,7 +7,7 @@ use profile::MOST_NUMBER;
 use reports::{NoSheet, outbox_list, pick_list, stock_csv, stock_report};
 use std::alloc::Global;
 use std::io;
-use store::{Fault, Ident, Keeper, OutRow, Refusal, Who};
+use store::{Fault, Ident, Keeper, Need, OutRow, Refusal, Who};
 
 /// What is to be shown, its words tested.
 #[derive(Clone, Copy)]
@@ -77,7 +77,8 @@ fn order<K: Keeper, W: io::Write, E: io::Write>(
 ) -> Result<ExitStatus, CommandError>
     ensures { IsUnchanged (K.standing book.old) (K.standing book.new) }
 {
-    let Some(page) = book.load(who)? else {
+    let need = Need::order(alloc, number.as_bytes())?;
+    let Some(page) = book.load(who, &need)? else {
         return tell_refusal(alloc, err, Refusal::UnknownDepositor);
     };
     match pick_list(alloc, &page, number.as_bytes()) {

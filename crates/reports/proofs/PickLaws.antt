@@ -5,13 +5,17 @@ use Rattle.std.proofs.lemmas.List.Folds.{flat_map-map}
 use Rattle.profile.specs.Lists.{in_order, first_found, or_else}
 use Rattle.profile.specs.Means.{Line, OrderLine}
 use Rattle.profile.specs.Events.{Event, Enrolment, Advised, Ordered, Acknowledged, Counted, Picked, Recounted, pair_before, Reserved, order_if, order_under, is_order_open}
+use Rattle.profile.specs.History.{History}
+use Rattle.profile.specs.Need.{need_of_number}
 use Rattle.profile.specs.Page.{reserved_lines, page_line, page_order}
 use Rattle.profile.specs.Refusals.{OrderClosed}
 use Rattle.profile.specs.Reports.{pick_lines, pick_sheet, pick_list}
+use Rattle.profile.proofs.NeedLaws.{alone}
 use Rattle.profile.proofs.TextLaws.{text_is}
 use Rattle.sheets.proofs.PairLaws.{before_through, one_pair}
 use Rattle.stock.specs.Pages.{PageFacts, order_at}
 use Rattle.stock.specs.Shows.{Shows}
+use Rattle.rules.specs.Decided.{IsHeldPart}
 use Rattle.reports.specs.Picking.{held_of, order_lines, order_sheet, listed}
 use Rattle.reports.proofs.FilterLaws.{filter_in_order, filters}
 
@@ -83,5 +87,9 @@ listed_is es number = by_order (order_under number es) refl
         by_open r e (found_is (order_if number) (λ r. r.order.number ≡ number) (number_of number) es r e) (is_order_open number es) refl
         ∙ ap (λ o. listed (option_map (page_order es) o)) (sym e)
 
-pub shown_list : (p : PageFacts) (es : List Event) (number : List ℕ) → Shows p es → pick_list es number ≡ listed (order_at number p.orders)
-shown_list p es number shows = listed_is es number ∙ ap listed (sym (shows.orders number))
+shown_list : (P : PageFacts) (es : List Event) (number : List ℕ) → Shows P es → pick_list es number ≡ listed (order_at number P.orders)
+shown_list P es number shows = listed_is es number ∙ ap listed (sym (shows.orders number))
+
+-- a part of the page that has the order will do
+pub part_list : (p : PageFacts) (h : History) (number : List ℕ) → IsHeldPart (need_of_number number) p h → pick_list h.events number ≡ listed (order_at number p.orders)
+part_list p h number held = shown_list held.whole h.events number held.page.shows ∙ ap listed (sym (held.part.orders number (alone number)))

@@ -1,10 +1,11 @@
 ghost use Rattle.std.specs.Prelude.{◌≡◌, ◌++◌, ◌-◌, List, Some, Ok, IfOk, IfErr, OnOk, flat_map, option_to_list};
-ghost use Rattle.profile.specs.Events.{Event};
+ghost use Rattle.profile.specs.History.{History};
+ghost use Rattle.profile.specs.Need.{need_of_number};
 ghost use Rattle.profile.specs.Reports as meant;
 ghost use Rattle.profile.specs.Texts.{total_of};
 ghost use Rattle.reports.specs.Picking.{held_of, held_lines, address_line, order_lines, order_sheet, listed, Explains};
 ghost use Rattle.stock.specs.Pages.{order_at};
-ghost use Rattle.stock.specs.Shows.{Shows};
+ghost use Rattle.rules.specs.Decided.{IsHeldPart};
 
 use crate::columns::{append_left, append_right};
 use itoa::Buffer;
@@ -158,13 +159,13 @@ fn sheet_on(alloc: Global, page: &Page, number: &[u8]) -> Result<Vec<u8>, NoShee
     }
 }
 
-/// The picking sheet of an open order of the page: its number, where it goes, and for each of its lines what is reserved, by lot
+/// The picking sheet of an open order, by a page that has the order: its number, where it goes, and for each of its lines what is reserved, by lot
 /// bytes, and what is short. UnknownOrder (24) and OrderClosed (25) are answered exactly where the order is unknown or closed,
 /// OutOfMemory (40) where a growth was refused.
 pub fn pick_list(alloc: Global, page: &Page, number: &[u8]) -> Result<Vec<u8>, NoSheet>
-    // Of each events that the page stands for.
-    ensures ok { IfOk result (λ text. (es : List Event) → Shows page.now es → meant.pick_list es number.now ≡ Ok text.items) }
-    ensures err { IfErr result (λ why. (es : List Event) → Shows page.now es → Explains (meant.pick_list es number.now) why) }
+    // Of the history of which the page has the part that is needed.
+    ensures ok { IfOk result (λ text. (h : History) → IsHeldPart (need_of_number number.now) page.now h → meant.pick_list h.events number.now ≡ Ok text.items) }
+    ensures err { IfErr result (λ why. (h : History) → IsHeldPart (need_of_number number.now) page.now h → Explains (meant.pick_list h.events number.now) why) }
 
     // The same of the page alone.
     ensures sheet { IfOk result (λ text. listed (order_at number.now page.now.orders) ≡ Ok text.items) }

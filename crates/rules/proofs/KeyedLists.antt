@@ -60,7 +60,7 @@ find_map {X} {Y} g p q same (x ∷ xs) = elim (cases_Bool (p x)) [
 ]
 
 -- whether what is found passes what all pass
-all_found : {X : Type 0} (p is : X → Bool) (xs : List X) (x : X) → list_all p xs ≡ true → find is xs ≡ Some x → p x ≡ true
+pub all_found : {X : Type 0} (p is : X → Bool) (xs : List X) (x : X) → list_all p xs ≡ true → find is xs ≡ Some x → p x ≡ true
 all_found p is [] x h f = absurd (cc (f))
 all_found {X} p is (y ∷ ys) x h f = let a = and_parts (p y) (list_all p ys) h in by (is y) a.0 (all_found p is ys x a.1) f
   where

@@ -15,10 +15,11 @@ use Rattle.profile.specs.Page.{PageAdvice, PageOrder}
 use Rattle.profile.specs.Need.{Need, advices_in, all_together, is_number_of, items_in, items_of, need_of, need_of_act, need_of_segments, need_of_text, orders_in}
 use Rattle.profile.proofs.NeedLaws.{Within, alone, in_left, in_right, within_left, within_right}
 use Rattle.profile.proofs.NamesLaws.{TwoAtLeast, advice_items, document_named, names_groups, need_of_group, need_of_groups, need_of_set, order_items, order_named, shipment_named, two_segments}
-use Rattle.stock.specs.Pages.{PageFacts, advice_at, order_at}
+use Rattle.stock.specs.Pages.{PageFacts, IsSound, advice_at, is_in_lines, is_number, order_at}
 use Rattle.stock.specs.Parts.{IsClosed, IsPart, Named, are_items}
 use Rattle.rules.specs.Needs.{NamesAct, NamesFor, NamesGroup, NamesGroups, NamesJudged, NamesSet, NamesSets, NamesUnder}
 use Rattle.rules.specs.Naming.{as_page, named_of}
+use Rattle.rules.proofs.KeyedLists.{all_found}
 use Rattle.rules.proofs.NamesFound.{all_among, found_among, mapped, one_of_all, others_closed, those_closed}
 
 module _ (need : Need) (P : PageFacts) where
@@ -104,7 +105,7 @@ module _ (need : Need) (P : PageFacts) where
   orders_closed inside = others_closed (λ (k : PageOrder). is_one_of need.orders k.number) (λ (k : PageOrder). k.lines) (λ l. l.item) (λ (k : PageOrder). k.reserved) (λ (l : Line). l.item)
       (is_one_of all_items) P.orders inside orders_lines
 
-  pub need_closed : list_all (λ (k : PageOrder). list_all (λ (l : Line). is_one_of (map (λ m. m.item) k.lines) l.item) k.reserved) P.orders ≡ true → IsClosed (named_of need P) P
+  need_closed : list_all is_in_lines P.orders ≡ true → IsClosed (named_of need P) P
   need_closed inside = record { advices = advices_closed; orders = orders_closed inside }
 
 -- what is reserved for an order is of items of its lines
@@ -133,7 +134,19 @@ module _ (p P : PageFacts) (inside : ReservedInLines P) where
   act_named (Recount sheet) part = sheet_named (need_of_act (Recount sheet)) P sheet (λ t h. h)
 
   -- what a command names is what it needs
-  pub command_named : (c : Command) → IsPart (named_of (need_of c) P) p P → NamesFor (named_of (need_of c) P) p c
+  command_named : (c : Command) → IsPart (named_of (need_of c) P) p P → NamesFor (named_of (need_of c) P) p c
   command_named (Interchange text) part = λ readable passes. group_named (need_of_text text) P (delims_of text) (groups_of ((cut (delims_of text) text).segments)) (names_groups text readable passes)
   command_named (Enrol w) part = tt
   command_named (Clerk w ticket act) part = act_named act part
+
+-- so it is of every sound page
+module _ (P : PageFacts) (sound : IsSound P) where
+  in_lines : ReservedInLines P
+  in_lines s k h t i =
+      one_of_all (λ (l : Line). l.item) (is_one_of (map (λ m. m.item) k.lines)) k.reserved (all_found is_in_lines (is_number s) P.orders k sound.in_lines h) t i
+
+  pub needed : (p : PageFacts) (c : Command) → IsPart (named_of (need_of c) P) p P → NamesFor (named_of (need_of c) P) p c
+  needed p c part = command_named p P in_lines c part
+
+  pub closed : (need : Need) → IsClosed (named_of need P) P
+  closed need = need_closed need P sound.in_lines

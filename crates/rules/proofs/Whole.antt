@@ -9,11 +9,14 @@ use Rattle.profile.specs.Header.{delims_of}
 use Rattle.profile.specs.History.{History}
 use Rattle.profile.specs.Means.{advised, advice_of, order_of}
 use Rattle.profile.specs.Register.{Act, Count, Pick, Recount, Command, Interchange, Enrol, Clerk}
-use Rattle.stock.specs.Pages.{PageFacts, AreSorted}
+use Rattle.stock.specs.Pages.{PageFacts, IsSound}
 use Rattle.stock.specs.Parts.{all_named}
 use Rattle.stock.proofs.PartLemmas.{part_of_self, all_items, all_ordered}
-use Rattle.rules.specs.Decided.{IsWholeFor, IsHeldInOrder, StandsFor}
-use Rattle.rules.specs.Needs.{NamesSet, NamesJudged, NamesUnder, NamesSets, NamesGroups, NamesAct, NamesFor, HasNeeded}
+use Rattle.rules.specs.Decided.{IsHeldPart, IsPageOf, StandsFor}
+use Rattle.rules.specs.Needs.{NamesSet, NamesJudged, NamesUnder, NamesSets, NamesGroups, NamesAct}
+use Rattle.rules.specs.Naming.{named_of}
+use Rattle.profile.specs.Need.{Need, need_of}
+use Rattle.rules.proofs.NeedNames.{needed}
 
 all_set : (kind : SetKind) (ss : List Segment) → NamesSet all_named kind ss
 all_set ShipmentAdvice ss = record { shipment = refl; items = all_items (advised (advice_of ss)) }
@@ -41,16 +44,10 @@ all_act p (Count shipment sheet) = record { shipment = refl; sheet = all_items s
 all_act p (Pick number sheet) = record { number = refl; sheet = all_items sheet; reserved = λ k h. all_items k.reserved }
 all_act p (Recount sheet) = all_items sheet
 
-all_for : (p : PageFacts) (c : Command) → NamesFor all_named p c
-all_for p (Interchange text) = λ readable clean. all_groups (delims_of text) (groups_of ((cut (delims_of text) text).segments))
-all_for p (Enrol w) = tt
-all_for p (Clerk w ticket act) = all_act p act
+pub whole_held : (need : Need) (P : PageFacts) (h : History) → IsSound P → IsPageOf P h → IsHeldPart need P h
+whole_held need P h sound is = record { whole = P; sound = sound; page = is; part = part_of_self (named_of need P) P sound.sorted }
 
-pub whole_has : (c : Command) (p : PageFacts) → AreSorted p → HasNeeded c p p
-whole_has c p sorted = record { named = all_named; part = part_of_self all_named p sorted; names = all_for p c }
-
-pub whole_stands : (c : Command) (held : Option (Bor PageFacts)) (h : Option History) → IsHeldInOrder held → IsWholeFor held h → StandsFor c held h
-whole_stands c None None sorted whole = tt
-whole_stands c None (Some h) sorted whole = whole
-whole_stands c (Some p) None sorted whole = whole
-whole_stands c (Some p) (Some h) sorted whole = (p.now, whole_has c p.now sorted, whole)
+-- the part that a command's need names has what the command needs
+pub held_stands : (c : Command) (p : Bor PageFacts) (h : History) → IsHeldPart (need_of c) p.now h → StandsFor c (Some p) (Some h)
+held_stands c p h held =
+    (held.whole, record { named = named_of (need_of c) held.whole; part = held.part; names = needed held.whole held.sound p.now c held.part }, held.page)

@@ -4,13 +4,16 @@ use Rattle.std.specs.Borrow.{Bor}
 use Rattle.profile.specs.Moments.{Moment}
 use Rattle.profile.specs.Register as meant
 use Rattle.profile.specs.History.{History, after_entry}
+use Rattle.profile.specs.Need.{Need}
 use Rattle.profile.specs.Reply as replies
 use Rattle.profile.specs.Decision as known
 use Rattle.profile.specs.Accepted.{entry_of, depositor_of}
-use Rattle.stock.specs.Pages.{PageFacts, AreSorted, next_entry}
+use Rattle.stock.specs.Pages.{PageFacts, AreSorted, IsSound, next_entry}
+use Rattle.stock.specs.Parts.{IsPart}
 use Rattle.stock.specs.Puts.{put}
 use Rattle.stock.specs.declared.steps.Change.{Change}
 use Rattle.stock.specs.Shows.{Shows}
+use Rattle.rules.specs.Naming.{named_of}
 use Rattle.rules.specs.Needs.{HasNeeded}
 use Rattle.rules.specs.Proper.{AreProper}
 use Rattle.rules.specs.Told.{refusal_of}
@@ -30,17 +33,12 @@ StandsFor c None (Some h) = ⊥
 StandsFor c (Some p) None = ⊥
 StandsFor c (Some p) (Some h) = (P : PageFacts) × HasNeeded c p.now P × IsPageOf P h
 
--- a whole page of a depositor with this history; a stranger has neither
-abbrev pub IsWholeFor : Option (Bor PageFacts) → Option History → Type 0
-IsWholeFor None None = Unit {0}
-IsWholeFor None (Some h) = ⊥
-IsWholeFor (Some p) None = ⊥
-IsWholeFor (Some p) (Some h) = IsPageOf p.now h
-
--- the page, if there is one, stands in order, as every page does
-abbrev pub IsHeldInOrder : Option (Bor PageFacts) → Type 0
-IsHeldInOrder None = Unit {0}
-IsHeldInOrder (Some p) = AreSorted p.now
+-- the part that is needed of the page of a depositor with this history
+pub record IsHeldPart (need : Need) (p : PageFacts) (h : History) : Type 0 where
+  pub whole : PageFacts
+  pub sound : IsSound whole
+  pub page : IsPageOf whole h
+  pub part : IsPart (named_of need whole) p whole
 
 -- an entry as it is written down, and the text that went out for it
 abbrev pub IsEntry : Recalled → known.Recalled → Type 0

@@ -1,6 +1,6 @@
 -- What is named of sets that are taken, and of a command.
--- (Put here for whoever carries `rules` to pages in part: take it as it is. A set's names are asked for only where the set has no fault: neither
--- one of its envelope nor one of its segments; so that what a scan of all segments names is shown to be enough.)
+-- A set's names are asked for only where it has no fault, neither one of its envelope nor one of its segments: so what one scan of
+-- all segments names is enough.
 use Rattle.std.specs.Prelude.{ℕ, ◌≡◌, true, false, List, [], ◌∷◌, Option, Some, None}
 use Rattle.profile.specs.Bytes.{Delims}
 use Rattle.profile.specs.Cut.{Segment, cut}

@@ -7,7 +7,7 @@ ghost use Rattle.profile.specs.Reply.{enrolment_entry};
 ghost use Rattle.rules.specs.Asked.{act_of, asked};
 ghost use Rattle.profile.specs.Header.{Who as Partner};
 ghost use Rattle.profile.specs.Register as register;
-ghost use Rattle.rules.specs.Decided.{Makes, IsAtRest, IsGiven, IsWholeFor, StandsFor, IsReply, LeadsFrom, entries_of};
+ghost use Rattle.rules.specs.Decided.{Makes, IsAtRest, IsGiven, StandsFor, IsReply, LeadsFrom, entries_of};
 ghost use Rattle.rules.specs.Tabled.{LeadsInTables};
 ghost use Rattle.rules.specs.Written.{written_as};
 
@@ -102,15 +102,6 @@ fn perform(
         number: page.next_number(),
     };
     clerk(alloc, &envelope, page, known, ticket, act)
-}
-
-/// Nothing runs; what is known: a whole page has what any command needs of it.
-pub fn stands_whole(page: Option<&Page>)
-    ensures { (c : register.Command) (h : Option History) → IsWholeFor page.entry h → StandsFor c page.entry h }
-{
-    if let Some(page) = page {
-        let _ = page.rows();
-    }
 }
 
 /// What a command comes to, by the page of the depositor that it names, if that is enrolled, and what is known under its

@@ -1,5 +1,5 @@
 //! Laws of replies and of registers: nothing runs, each contract is a law.
-ghost use Rattle.std.specs.Prelude.{◌≡◌, ◌++◌, ◌∷◌, ℕ, List, Option, Some, None, map, true};
+ghost use Rattle.std.specs.Prelude.{◌≡◌, ◌++◌, ◌∷◌, ℕ, List, Some, None};
 ghost use Rattle.profile.specs.Accepted.{IsLegal, after, depositor_of, own_of, reply_to};
 ghost use Rattle.profile.specs.Header.{Who, isa};
 ghost use Rattle.profile.specs.Moments.{Moment};
@@ -14,17 +14,13 @@ ghost use Rattle.stock.specs.Shows.{Shows, sent_under};
 ghost use Rattle.stock.specs.Puts.{put};
 ghost use Rattle.stock.specs.declared.steps.Change.{Change};
 ghost use Rattle.std.specs.Borrow.{Bor};
-ghost use Rattle.rules.specs.Decided.{IsPageOf, IsHeldInOrder, IsWholeFor, StandsFor};
+ghost use Rattle.rules.specs.Decided.{IsPageOf, IsHeldPart, StandsFor};
 ghost use Rattle.rules.specs.Defined.{IsDefined};
 ghost use Rattle.rules.specs.Played.{CanFollow};
-ghost use Rattle.profile.specs.Need.{need_of};
-ghost use Rattle.stock.specs.Parts.{IsPart};
+ghost use Rattle.profile.specs.Need.{Need, need_of};
+ghost use Rattle.stock.specs.Parts.{IsClosed, IsPart};
 ghost use Rattle.rules.specs.Needs.{NamesFor};
 ghost use Rattle.rules.specs.Naming.{named_of};
-ghost use Rattle.profile.specs.Bytes.{is_one_of};
-ghost use Rattle.profile.specs.Need.{items_of};
-ghost use Rattle.profile.specs.Page.{PageOrder};
-ghost use Rattle.stock.specs.Pages.{order_at};
 ghost use Rattle.rules.specs.Tabled.{stock_part, stock_puts, with_rows};
 
 /// The reply to a command looks at the own entries of the depositor that it names, and at no other's.
@@ -77,12 +73,23 @@ pub fn pages_are_the_defined_ones()
     ensures { (W : Who) (L : List Entry) (w : Who) (p : PageFacts) → IsLegal W L → IsSound p → IsPageOf p (history (own L w)) → IsDefined p (page_of (own L w)) }
 {}
 
-/// What a count names.
-pub fn temporary()
-    ensures { (p P : PageFacts) → ((s : List ℕ) (k : PageOrder) → order_at s P.orders ≡ Some k → (t : List ℕ) → is_one_of (items_of k.reserved) t ≡ true → is_one_of (map (λ l. l.item) k.lines) t ≡ true) → (c : Command) → IsPart (named_of (need_of c) P) p P → NamesFor (named_of (need_of c) P) p c }
+/// The part of a page that a command's need names has what the command needs.
+pub fn what_is_named_is_needed()
+    ensures { (P : PageFacts) → IsSound P → (p : PageFacts) (c : Command) → IsPart (named_of (need_of c) P) p P → NamesFor (named_of (need_of c) P) p c }
 {}
 
-/// A whole page has what any command needs of it.
-pub fn a_whole_page_has_what_is_needed()
-    ensures { (c : Command) (page : Option (Bor PageFacts)) (h : Option History) → IsHeldInOrder page → IsWholeFor page h → StandsFor c page h }
+/// A need names with an advice the items of its lines, and with an order those of what is reserved for it; so the part that it
+/// names of a page is a page.
+pub fn what_is_named_is_closed()
+    ensures { (P : PageFacts) → IsSound P → (need : Need) → IsClosed (named_of need P) P }
+{}
+
+/// A whole page is the part of itself that is needed, whatever is.
+pub fn a_whole_page_is_a_part_of_itself()
+    ensures { (need : Need) (P : PageFacts) (h : History) → IsSound P → IsPageOf P h → IsHeldPart need P h }
+{}
+
+/// The part that a command's need names of a depositor's page is all that a decision on it is given.
+pub fn a_part_stands_for_its_page()
+    ensures { (c : Command) (page : Bor PageFacts) (h : History) → IsHeldPart (need_of c) page.now h → StandsFor c (Some page) (Some h) }
 {}

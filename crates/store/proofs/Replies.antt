@@ -24,7 +24,9 @@ use Rattle.rules.specs.Decided.{StandsFor, IsRecalled, IsGiven, IsReply, entries
 use Rattle.rules.specs.Written.{Recalled}
 use Rattle.rules.specs.declared.decisions.Decision.{Decision}
 use Rattle.profile.specs.History.{History}
-use Rattle.store.specs.Held.{IsHeldFor, IsDecided}
+use Rattle.store.specs.Held.{IsHeld, IsDecided}
+use Rattle.profile.specs.Need.{need_of}
+use Rattle.rules.proofs.Whole.{held_stands}
 use Rattle.store.specs.Standing.{Standing, IsNext, IsUsable, LeavesEither}
 use Rattle.store.specs.Runs.{all_asked, asked_at, can_be_given}
 use Rattle.rules.specs.Asked.{asked}
@@ -227,33 +229,33 @@ recalled_under W key M = recalled_found W key (known key M) (found key M)
 
 -- The decision that a page and what is recalled lead to.
 
-pub stands_from : (b : Option (Bor PageFacts)) (o : Option History) → IsHeldFor (option_copied b) o → StandsFor b o
-stands_from None None h = tt
-stands_from None (Some x) h = h
-stands_from (Some p) None h = h
-stands_from (Some p) (Some x) h = h
+pub stands_from : (c : Command) (b : Option (Bor PageFacts)) (o : Option History) → IsHeld (need_of c) (option_copied b) o → StandsFor c b o
+stands_from c None None h = tt
+stands_from c None (Some x) h = h
+stands_from c (Some p) None h = h
+stands_from c (Some p) (Some x) h = held_stands c p x h
 
 -- the history of a depositor that has none is empty
 numbers_none : (M : List Entry) → (length M == 0) ≡ true → 0 ≡ (history M).numbered
 numbers_none [] h = refl
 numbers_none (e ∷ M) h = absurd (omega (arith, eqb-true (length (e ∷ M)) 0 h))
 
-numbered_by : (b : Option (Bor PageFacts)) (M : List Entry) (l : Bool) → (length M == 0) ≡ l → StandsFor b (if l then None else Some (history M)) → entries_of b ≡ (history M).numbered
-numbered_by None M true e h = numbers_none M e
-numbered_by None M false e h = absurd h
-numbered_by (Some p) M true e h = absurd h
-numbered_by (Some p) M false e h = h.entries
+numbered_by : (c : Command) (b : Option (Bor PageFacts)) (M : List Entry) (l : Bool) → (length M == 0) ≡ l → StandsFor c b (if l then None else Some (history M)) → entries_of b ≡ (history M).numbered
+numbered_by c None M true e h = numbers_none M e
+numbered_by c None M false e h = absurd h
+numbered_by c (Some p) M true e h = absurd h
+numbered_by c (Some p) M false e h = h.1.part.entries ∙ h.2.entries
 
-numbered_is : (b : Option (Bor PageFacts)) (M : List Entry) → StandsFor b (standing M) → entries_of b ≡ (history M).numbered
-numbered_is b M h = numbered_by b M (length M == 0) refl h
+numbered_is : (c : Command) (b : Option (Bor PageFacts)) (M : List Entry) → StandsFor c b (standing M) → entries_of b ≡ (history M).numbered
+numbered_is c b M h = numbered_by c b M (length M == 0) refl h
 
 pub decided : (W : Who) (L : List Entry) (c : Command) (t : Moment) (d : Decision) (b : Option (Bor PageFacts)) (r : Option Recalled)
-    → IsHeldFor (option_copied b) (standing (own_of L c)) → IsRecalled r (recalled W (command_mark c) (own_of L c))
+    → IsHeld (need_of c) (option_copied b) (standing (own_of L c)) → IsRecalled r (recalled W (command_mark c) (own_of L c))
     → ((h : Option History) (k : Option meant.Recalled) → IsGiven b r c h k → IsReply (entries_of b) c t (reply_by W h k c t) d)
     → IsDecided W L c t d
 decided W L c t d b r page there decides =
     let M = own_of L c in
-    let stands = stands_from b (standing M) page in
+    let stands = stands_from c b (standing M) page in
     let given : IsGiven b r c (standing M) (recalled W (command_mark c) M) = record {
       page = stands;
       known = there;
@@ -261,7 +263,7 @@ decided W L c t d b r page there decides =
       stranger = λ none. ap standing (unnamed L c none);
     } in
     let replied = decides (standing M) (recalled W (command_mark c) M) given in
-    subst (λ n. IsReply n c t (reply_to W L c t) d) (numbered_is b M stands)
+    subst (λ n. IsReply n c t (reply_to W L c t) d) (numbered_is c b M stands)
     (subst (λ a. IsReply (entries_of b) c t a d) (sym (reply-by W M c t)) replied)
 
 -- what is recalled of the same entries, under the same key, in the same house

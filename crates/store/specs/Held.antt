@@ -4,12 +4,20 @@ use Rattle.profile.specs.History.{History, history}
 use Rattle.stock.specs.Pages.{PageFacts}
 use Rattle.profile.specs.Header.{Who}
 use Rattle.profile.specs.Moments.{Moment}
+use Rattle.profile.specs.Need.{Need}
 use Rattle.profile.specs.Register.{Command, Entry}
 use Rattle.profile.specs.Accepted.{own_of, reply_to}
-use Rattle.rules.specs.Decided.{IsPageOf, IsReply}
+use Rattle.rules.specs.Decided.{IsHeldPart, IsPageOf, IsReply}
 use Rattle.rules.specs.declared.decisions.Decision.{Decision}
 
--- the page of a depositor with this history; a stranger has neither
+-- the part that is needed of the page of a depositor with this history; a stranger has none
+abbrev pub IsHeld : Need → Option PageFacts → Option History → Type 0
+IsHeld need None None = Unit {0}
+IsHeld need None (Some h) = ⊥
+IsHeld need (Some p) None = ⊥
+IsHeld need (Some p) (Some h) = IsHeldPart need p h
+
+-- the whole page of a depositor with this history; a stranger has neither
 abbrev pub IsHeldFor : Option PageFacts → Option History → Type 0
 IsHeldFor None None = Unit {0}
 IsHeldFor None (Some h) = ⊥

@@ -5,12 +5,12 @@ ghost use Rattle.profile.specs.Decision as decided;
 ghost use Rattle.profile.specs.Rows.{stock_of, outbox_of};
 ghost use Rattle.rules.specs.Asked.{mark_of};
 ghost use Rattle.rules.specs.Decided.{IsHeldAtRest, IsRecalled};
-ghost use Rattle.store.specs.Held.{IsHeldFor};
+ghost use Rattle.store.specs.Held.{IsHeld};
 ghost use Rattle.store.specs.Standing.{Standing, IsUsable, IsNext, IsUnchanged, GoesOn, LeavesEither, IsFault, IsQueryFault, IsCommitFault};
 
 use crate::fault::Fault;
 use crate::rows::{OutRow, StockRow};
-use rules::{Change, Entry, Key, Known, Page, Warehouse, Who};
+use rules::{Change, Entry, Key, Known, Need, Page, Warehouse, Who};
 
 /// A book of a warehouse: the register of what was accepted, and what it comes to. What a book keeps, and what a crash may
 /// leave of it, is told by the ghost member `standing`.
@@ -23,10 +23,10 @@ pub trait Keeper {
     fn warehouse(&self) -> Warehouse
         ensures { result ≡ (standing self.now).warehouse };
 
-    /// The page of a depositor, with no event since its last entry; None for a stranger.
-    fn load(&mut self, who: Who) -> Result<Option<Page>, Fault>
+    /// The part that is needed of a depositor's page, or more of it, with no event since its last entry; None for a stranger.
+    fn load(&mut self, who: Who, need: &Need) -> Result<Option<Page>, Fault>
         ensures page { (standing self.new).doubt ≡ 0 → (L : List register.Entry) → (standing self.old).keeps L → IsLegal (standing self.old).warehouse L
-            → IfOk result (λ page. IsHeldFor page (decided.standing (register.own L who))) }
+            → IfOk result (λ page. IsHeld need.now page (decided.standing (register.own L who))) }
         ensures rest { IfOk result IsHeldAtRest }
         ensures same { IsUnchanged (standing self.old) (standing self.new) }
         ensures fault { IfErr result (λ fault. IsQueryFault fault (standing self.old) (standing self.new)) }

@@ -13,7 +13,7 @@ pub use keeping::Keeper;
 pub use replaying::ReplayBook;
 pub use rows::{DocumentState, OutRow, StockRow};
 pub use rules::{
-    Act, Change, Command, Decision, Entry, Ident, Key, Known, Line, Moment, OutKind, Page, Refusal,
-    Row, Sheet, SheetKind, Warehouse, Who, decide, subject,
+    Act, Change, Command, Decision, Entry, Ident, Key, Known, Line, Moment, Need, OutKind, Page,
+    Refusal, Row, Sheet, SheetKind, Warehouse, Who, decide, need, subject,
 };
 pub use serving::{Outcome, Reply, outbox, run, stock, submit};

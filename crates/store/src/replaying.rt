@@ -1,15 +1,15 @@
-ghost use Rattle.std.specs.Prelude.{◌≡◌, [], ◌∷◌, ◌++◌, List, None, IfOk, OnOk, OnErr, MatchOption, find, map, option_map, ℕ, ◌<◌, ◌+◌, length, take, slice_index_or as get_or, option_to_list};
+ghost use Rattle.std.specs.Prelude.{◌≡◌, [], ◌∷◌, ◌++◌, List, None, IfOk, OnOk, OnErr, MatchOption, find, map, option_map, Option, ℕ, ◌<◌, ◌+◌, length, take, slice_index_or as get_or, option_to_list};
 ghost use Rattle.profile.specs.Accepted.{IsLegal};
 ghost use Rattle.profile.specs.Decision.{standing as standing_of, recalled};
 ghost use Rattle.profile.specs.Register as register;
 ghost use Rattle.profile.specs.Reply.{out};
 ghost use Rattle.profile.specs.Rows.{stock_rows, stock_of, outbox_rows, outbox_of};
-ghost use Rattle.profile.specs.History.{history, events};
+ghost use Rattle.profile.specs.History.{History, history, events};
 ghost use Rattle.profile.specs.Header.{Who as Partner};
 ghost use Rattle.rules.specs.Decided.{IsHeldAtRest, IsRecalled, IsPageOf};
 ghost use Rattle.rules.specs.Written.{written};
 ghost use Rattle.stock.specs.Pages.{IsAt};
-ghost use Rattle.store.specs.Held.{IsHeldFor};
+ghost use Rattle.store.specs.Held.{IsHeld, IsHeldFor};
 ghost use Rattle.store.specs.Replayed.{all_written, is_under};
 ghost use Rattle.store.specs.Sent.{sent_on};
 ghost use Rattle.store.specs.Standing.{IsUsable};
@@ -17,7 +17,7 @@ ghost use Rattle.store.specs.Standing.{IsUsable};
 use crate::fault::Fault;
 use crate::keeping::Keeper;
 use crate::rows::{OutRow, StockRow};
-use rules::{Change, Entry, Key, Known, Page, Warehouse, Who, replay};
+use rules::{Change, Entry, Key, Known, Need, Page, Warehouse, Who, replay};
 use std::alloc::{AllocError, Global};
 use std::marker::Model;
 
@@ -99,6 +99,18 @@ fn page_behind(
         page = with_entry(alloc, warehouse, page, entry, who)?;
     }
     Ok(page)
+}
+
+// The whole page is the part of itself that is needed.
+fn held(page: Option<Page>, _need: &Need) -> Option<Page>
+    ensures same { result ≡ page }
+    ensures held { (h : Option History) → IsHeldFor page h → IsHeld _need.now result h }
+{
+    if let Some(page) = &page {
+        // what is known of every page
+        let _ = page.rows();
+    }
+    page
 }
 
 // The text that went out for an entry, with these before it.
@@ -262,8 +274,9 @@ impl Keeper for ReplayBook {
         self.warehouse
     }
 
-    fn load(&mut self, who: Who) -> Result<Option<Page>, Fault> {
-        Ok(page_behind(self.alloc, &self.warehouse, &self.entries, &who)?)
+    fn load(&mut self, who: Who, need: &Need) -> Result<Option<Page>, Fault> {
+        let page = page_behind(self.alloc, &self.warehouse, &self.entries, &who)?;
+        Ok(held(page, need))
     }
 
     fn known(&mut self, who: Who, key: &Key<'_>) -> Result<Option<Known>, Fault> {
@@ -282,12 +295,12 @@ impl Keeper for ReplayBook {
     }
 
     fn stock_rows(&mut self, who: Who) -> Result<Option<Vec<StockRow>>, Fault> {
-        let page = self.load(who)?;
+        let page = page_behind(self.alloc, &self.warehouse, &self.entries, &who)?;
         Ok(rows_for(self.alloc, page)?)
     }
 
     fn outbox(&mut self, who: Who) -> Result<Option<Vec<OutRow>>, Fault> {
-        let page = self.load(who)?;
+        let page = page_behind(self.alloc, &self.warehouse, &self.entries, &who)?;
         Ok(sent_to(self.alloc, &self.warehouse, &self.entries, page, &who)?)
     }
 

@@ -8,14 +8,15 @@ ghost use Rattle.profile.specs.Rows.{stock_of, outbox_of};
 ghost use Rattle.rules.specs.Asked.{asked};
 ghost use Rattle.rules.specs.Decided.{IsHeldAtRest, IsRecalled};
 ghost use Rattle.rules.specs.Tabled.{LeadsInTables};
-ghost use Rattle.store.specs.Held.{IsHeldFor, IsDecided};
+ghost use Rattle.store.specs.Held.{IsHeld, IsDecided};
+ghost use Rattle.profile.specs.Need.{need_of};
 ghost use Rattle.store.specs.Runs.{told, all_asked, can_be_given, UnlessAccepted};
 ghost use Rattle.store.specs.Standing.{Standing, IsUsable, IsUnchanged, GoesOn, IsFault, IsQueryFault, IsRunFault, LeavesEither};
 
 use crate::fault::Fault;
 use crate::keeping::Keeper;
 use crate::rows::{OutRow, StockRow};
-use rules::{Command, Decision, Known, Moment, Page, Refusal, Who, decide, subject};
+use rules::{Command, Decision, Known, Moment, Page, Refusal, Who, decide, need, subject};
 use std::alloc::Global;
 
 /// What is answered to a command.
@@ -34,14 +35,15 @@ pub enum Reply {
     },
 }
 
-// The page of the depositor that a command names, and what is known under the command's key. The book is as before.
+// What a command needs of the page of the depositor that it names, and what is known under the command's key. The book is as before.
 #[tactic(auto, using(crate::proofs::Changes::unchanged_trans, crate::proofs::Changes::unchanged_refl))]
 fn recall<K: Keeper>(
+    alloc: Global,
     keeper: &mut K,
     command: &Command<'_>,
 ) -> Result<(Option<Page>, Option<Known>), Fault>
     ensures page { (K.standing keeper.new).doubt ≡ 0 → (L : List register.Entry) → (K.standing keeper.old).keeps L → IsLegal (K.standing keeper.old).warehouse L
-        → IfOk result (λ found. IsHeldFor found.0 (standing_of (own_of L (asked command.now)))) }
+        → IfOk result (λ found. IsHeld (need_of (asked command.now)) found.0 (standing_of (own_of L (asked command.now)))) }
     ensures known { (K.standing keeper.new).doubt ≡ 0 → (L : List register.Entry) → (K.standing keeper.old).keeps L → IsLegal (K.standing keeper.old).warehouse L
         → IfOk result (λ found. IsRecalled found.1 (recalled (K.standing keeper.old).warehouse (register.command_mark (asked command.now)) (own_of L (asked command.now)))) }
     ensures rest { IfOk result (λ found. IsHeldAtRest found.0) }
@@ -51,7 +53,8 @@ fn recall<K: Keeper>(
     let Some(named) = subject(command) else {
         return Ok((None, None));
     };
-    let page = keeper.load(named.0)?;
+    let need = need(alloc, command)?;
+    let page = keeper.load(named.0, &need)?;
     let known = keeper.known(named.0, &named.1)?;
     Ok((page, known))
 }
@@ -71,7 +74,7 @@ fn judge<K: Keeper>(
     ensures fault { IfErr result (λ fault. IsQueryFault fault (K.standing keeper.old) (K.standing keeper.new)) }
 {
     let warehouse = keeper.warehouse();
-    let (page, known) = recall(keeper, command)?;
+    let (page, known) = recall(alloc, keeper, command)?;
     Ok(decide(
         alloc,
         &warehouse,

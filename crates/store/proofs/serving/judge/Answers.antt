@@ -4,7 +4,8 @@ use Rattle.profile.specs.Decision.{standing, recalled, reply_by}
 use Rattle.profile.specs.Register.{command_mark}
 use Rattle.rules.specs.Asked.{asked}
 use Rattle.rules.specs.Decided.{IsRecalled, IsReply, entries_of}
-use Rattle.store.specs.Held.{IsHeldFor}
+use Rattle.profile.specs.Need.{need_of}
+use Rattle.store.specs.Held.{IsHeld}
 use Rattle.store.proofs.Replies.{decided, stands_from}
 use Rattle.store.proofs.serving.judge.Goals as goal
 
@@ -15,7 +16,7 @@ returns-clause-decision g c = λ clean L keeps legal.
     let page = c.in_ok-page.ensures.page clean L keeps legal in
     let there = c.in_ok-page.ensures.known clean L keeps legal in
     decided old.warehouse L asking c.args.moment c.in_ok-decide.field-0 _ _
-    (subst (λ p. IsHeldFor p (standing (own_of L asking))) (sym c.as_ref.ensures.value) page)
+    (subst (λ p. IsHeld (need_of asking) p (standing (own_of L asking))) (sym c.as_ref.ensures.value) page)
     (subst (λ r. IsRecalled r (recalled old.warehouse (command_mark asking) (own_of L asking))) (sym c.as_ref-2.ensures.value) there)
     (λ h k given. subst (λ W. IsReply (entries_of c.as_ref.result) asking c.args.moment (reply_by W h k asking c.args.moment) c.in_ok-decide.field-0) c.warehouse-warehouse.ensures (c.in_ok-decide.ensures.reply h k given))
 
@@ -24,4 +25,4 @@ returns-clause-tables g c = λ clean L keeps legal.
     let old = g.K.Keeper.standing c.args.keeper.now in
     let asking = asked c.args.command.now in
     c.in_ok-decide.ensures.tables old.warehouse L
-    (stands_from _ (standing (own_of L asking)) (subst (λ p. IsHeldFor p (standing (own_of L asking))) (sym c.as_ref.ensures.value) (c.in_ok-page.ensures.page clean L keeps legal)))
+    (stands_from asking _ (standing (own_of L asking)) (subst (λ p. IsHeld (need_of asking) p (standing (own_of L asking))) (sym c.as_ref.ensures.value) (c.in_ok-page.ensures.page clean L keeps legal)))

@@ -1,8 +1,10 @@
 use Rattle.std.proofs.Common.{sym, subst}
 use Rattle.profile.specs.Accepted.{IsLegal}
 use Rattle.profile.specs.Decision.{standing}
+use Rattle.profile.specs.Register.{own}
 use Rattle.rules.specs.Asked.{asked}
-use Rattle.store.specs.Held.{IsHeldFor}
+use Rattle.profile.specs.Need.{Need, need_of}
+use Rattle.store.specs.Held.{IsHeld}
 use Rattle.store.proofs.Changes.{clean_before, unchanged_trans}
 use Rattle.store.proofs.Replies.{recalled_at, owner_none, owner_some, named_key}
 use Rattle.store.proofs.serving.recall.Goals as goal
@@ -21,8 +23,8 @@ returns-clause-page g c = λ clean L keeps legal.
     let new = g.K.Keeper.standing c.known.new.self in
     let early = clean_before mid new c.known.ensures.same.goes clean in
     let names = c.in-Some.ensures in
-    subst (λ M. IsHeldFor c.in_ok-page.page (standing M)) (sym (owner_some L (asked c.args.command.now) _ _ names))
-    (c.in_ok-page.ensures.page early L keeps legal)
+    subst (λ M. IsHeld (need_of (asked c.args.command.now)) c.in_ok-page.page (standing M)) (sym (owner_some L (asked c.args.command.now) _ _ names))
+    (subst (λ (n : Need). IsHeld n c.in_ok-page.page (standing (own L c.in-Some.named.0))) c.in_ok-need.ensures (c.in_ok-page.ensures.page early L keeps legal))
 
 pub returns-clause-known : goal.returns-clause-known
 returns-clause-known g c = λ clean L keeps legal.

@@ -8,8 +8,8 @@ use super::worked::{
 use std::alloc::Global;
 use std::test::Fail;
 use store::{
-    Change, Command, Entry, Fault, Keeper, Key, Known, Moment, OutRow, Page, ReplayBook, Reply,
-    SheetKind, StockRow, Warehouse, Who, outbox, run, stock, submit,
+    Change, Command, Entry, Fault, Keeper, Key, Known, Moment, Need, OutRow, Page, ReplayBook,
+    Reply, SheetKind, StockRow, Warehouse, Who, outbox, run, stock, submit,
 };
 
 // A 997 from the depositor that accepts the 944 under number 2, under control number 2.
@@ -52,11 +52,11 @@ impl Keeper for BreakingBook {
         self.book.warehouse()
     }
 
-    fn load(&mut self, who: Who) -> Result<Option<Page>, Fault> {
+    fn load(&mut self, who: Who, need: &Need) -> Result<Option<Page>, Fault> {
         if self.shut {
             return Err(Fault::Reopen);
         }
-        self.book.load(who)
+        self.book.load(who, need)
     }
 
     fn known(&mut self, who: Who, key: &Key<'_>) -> Result<Option<Known>, Fault> {

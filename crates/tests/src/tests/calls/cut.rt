@@ -8,7 +8,9 @@ use books::{Book, Tables};
 use sqlite::{Alter, Connection};
 use std::alloc::Global;
 use std::test::Fail;
-use store::{Command, Fault, Keeper, Key, Moment, Sheet, SheetKind, Warehouse, Who, submit};
+use store::{
+    Command, Fault, Keeper, Key, Moment, Need, Sheet, SheetKind, Warehouse, Who, submit,
+};
 
 // The calls that make a book: nine tables, the row of `book`, and the commit.
 const MAKING: u64 = 11;
@@ -49,7 +51,7 @@ fn ends_with<K: Keeper>(
     fault: Fault,
 ) -> bool {
     is_fault(&submit(alloc, book, count, moment), fault)
-        && is_fault(&book.load(who), fault)
+        && is_fault(&book.load(who, &Need::nothing(alloc)), fault)
         && is_fault(&book.known(who, &Key::Ticket(b"T1")), fault)
         && is_fault(&book.stock_rows(who), fault)
         && is_fault(&book.outbox(who), fault)
