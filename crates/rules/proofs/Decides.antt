@@ -118,6 +118,13 @@ no_sender text header o same is none = by_test (is_partner (sender text)) refl (
         ∙ ap (λ (b : Bool). cond b (Some (sender text)) None) (both_no (not (is_unreadable text)))
 
 -- the reply to a stranger
+pub sender_is : (text header : List ℕ) (o : Option Who) (w : Who) → header ≡ text → o ≡ (if is_partner (sender header) then Some (sender header) else None) → o ≡ Some w → w ≡ sender text
+sender_is text header o w same is some = by (is_partner (sender header)) (sym is ∙ some)
+  where
+    by : (v : Bool) → (if v then Some (sender header) else None) ≡ Some w → w ≡ sender text
+    by true e = let here : sender header ≡ w = cc (e) in sym here ∙ ap sender same
+    by false e = absurd (cc (e))
+
 pub stranger_reply : (W : Who) (h : Option History) (k : Option known.Recalled) (text header : List ℕ) (t : Moment) (n : ℕ) (d : Decision) → header ≡ text → h ≡ None
     → IsReply n (Interchange text) t (Refused (Note 6) (refusal_answer W header t (Note 6))) d → IsReply n (Interchange text) t (known.interchange_known W h k text t) d
 stranger_reply W h k text header t n d same is reply =

@@ -22,7 +22,7 @@ use Rattle.stock.specs.Parts.{Named, IsPart}
 use Rattle.rules.specs.Needs.{NamesGroups, NamesAct}
 use Rattle.rules.specs.Judging.{after, AreGroupsTaken}
 use Rattle.rules.specs.Proper.{AreProper}
-use Rattle.rules.specs.Decided.{IsPageOf, IsNoEntry, AreLeading, LeadsOn, LeadsFrom, ChangesNothing}
+use Rattle.rules.specs.Decided.{Makes, IsPageOf, IsNoEntry, AreLeading, LeadsOn, LeadsFrom, ChangesNothing}
 use Rattle.rules.specs.declared.decisions.Decision.{Decision}
 use Rattle.rules.specs.declared.decisions.Decision.TheVariants.{Stored, Refused, Accepted}
 use Rattle.rules.proofs.Plays.{added_of}
@@ -60,6 +60,12 @@ act_leads w ticket act t p P cs h n steps part names of =
       };
       proper = found.3;
     }
+
+-- what makes no entry makes none
+pub nothing_made : (c : Command) (t : Moment) (d : Decision) → IsNoEntry d → Makes c t d
+nothing_made c t (Stored text) none = tt
+nothing_made c t (Refused r text) none = tt
+nothing_made c t (Accepted e cs text) none = absurd none
 
 -- what makes no entry leads nowhere
 pub nowhere : (p : PageFacts) (c : Command) (t : Moment) (d : Decision) → IsNoEntry d → LeadsOn p c t d

@@ -1,8 +1,8 @@
 -- Documents and replies of clerks' acts, as the definitions have them.
-use Rattle.std.proofs.Common.{◌≡◌, ℕ, ◌+◌, ◌*◌, ◌≤◌, Bool, true, false, not, inl, inr, List, [], ◌∷◌, Option, Some, None, Ok, Err, refl, sym, ap, ◌∙◌, subst, arith, map}
+use Rattle.std.proofs.Common.{◌≡◌, ℕ, ◌+◌, ◌*◌, ◌≤◌, ◌<◌, Bool, true, false, not, inl, inr, List, [], ◌∷◌, Option, Some, None, Ok, Err, refl, sym, ap, ◌∙◌, subst, arith, map}
 use Rattle.std.specs.Prelude.{Result, option_map, count_by, codes, nat_lt, if◌then◌else◌}
 use Rattle.std.specs.List.{AllByRecursion, list_any}
-use Rattle.std.proofs.lemmas.Bool.{cases_Bool, and_parts}
+use Rattle.std.proofs.lemmas.Bool.{cases_Bool, and_parts, le-ltb}
 use Rattle.profile.specs.Moments.{Moment}
 use Rattle.profile.specs.Header.{Who}
 use Rattle.profile.specs.Means.{Line, Advice, OrderLine}
@@ -17,6 +17,8 @@ use Rattle.profile.specs.Decision as known
 use Rattle.rules.specs.Decided.{IsPageOf, IsReply, IsRecalled, IsUnder, IsGiven, StandsFor, entries_of}
 use Rattle.rules.specs.declared.decisions.Decision.{Decision}
 use Rattle.profile.specs.Page.{PageAdvice, PageOrder, page_advice, page_order, page_line}
+use Rattle.profile.specs.Limits.{most_entries}
+use Rattle.profile.specs.Reply.{Accepted, clerk_entry}
 use Rattle.profile.specs.Refusals.{Refusal, AdviceClosed, OrderClosed, NotReserved, UnknownLot, BelowReserved, NoDifference}
 use Rattle.profile.specs.Texts.{document_of, document_text, total_of}
 use Rattle.profile.specs.Cut.{Segment}
@@ -183,6 +185,21 @@ pub act_told_of : (W : Who) (m : ℕ) (h : History) (en : Entry) (act : Act) (n 
     → IsReply n c t (known.act_told W h en (performed h.events (m + 1) act)) d → IsReply n c t (known.act_new W h en act) d
 act_told_of W m h en act n c t d same reply =
     subst (λ (o : Result Event Refusal). IsReply n c t (known.act_told W h en o) d) (ap (λ k. performed h.events (k + 1) act) same) reply
+
+-- an act that was performed is accepted under the next number
+pub act_accepted : (w : Envelope) (m : ℕ) (ticket : List ℕ) (act : Act) (h : History) (e : Event) (out : List ℕ) → m ≡ h.numbered → m < most_entries
+    → performed h.events (m + 1) act ≡ Ok e → w.number ≡ m + 1 → out ≡ document_of w.warehouse w.depositor w.moment w.number e
+    → known.accepted_by w.warehouse h (clerk_entry w.depositor ticket act w.moment) ≡ Accepted out
+act_accepted w m ticket act h e out same few done number made =
+    let room : nat_lt most_entries (h.numbered + 1) ≡ false = le-ltb most_entries (h.numbered + 1) (omega (arith, few, same)) in
+    let there : performed h.events (h.numbered + 1) act ≡ Ok e = ap (λ k. performed h.events (k + 1) act) (sym same) ∙ done in
+    let is : out ≡ document_of w.warehouse w.depositor w.moment (h.numbered + 1) e = made ∙ ap (λ k. document_of w.warehouse w.depositor w.moment k e) (number ∙ ap (λ k. k + 1) same) in
+    rw (room, there) (ap Accepted (sym is))
+
+pub none_known : (o : Option Recalled) (k : Option known.Recalled) → o ≡ None → IsRecalled o k → k ≡ None
+none_known None None is there = refl
+none_known None (Some k) is there = absurd there
+none_known (Some r) k is there = absurd (cc (is))
 
 -- the reply to an act of a depositor with a page
 clerk_stands : (W w : Who) (ticket : List ℕ) (act : Act) (t : Moment) (d : Decision) (p : Bor PageFacts) (o : Option Recalled) (h : Option History) (k : Option known.Recalled)

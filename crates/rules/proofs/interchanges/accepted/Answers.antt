@@ -12,7 +12,6 @@ use Rattle.envelope.specs.Parts.{GroupsOf}
 use Rattle.rules.specs.Judging.{IsSmall, AreGroupsTaken}
 use Rattle.rules.proofs.Content.{content}
 use Rattle.rules.proofs.Decides.{accepted_reply}
-use Rattle.rules.specs.Judging.{IsLed}
 use Rattle.rules.proofs.Leading.{interchange_leads}
 use Rattle.rules.proofs.interchanges.accepted.Goals as goal
 

@@ -9,7 +9,7 @@ use Rattle.profile.specs.Reply.{interchange_entry}
 use Rattle.rules.specs.Decided.{IsReply}
 use Rattle.envelope.specs.Conditions.{first_note}
 use Rattle.rules.proofs.Decides.{noted_header, noted_segments, noted_new, accepted_new}
-use Rattle.rules.proofs.Leading.{nowhere}
+use Rattle.rules.proofs.Leading.{nothing_made, nowhere}
 use Rattle.rules.proofs.interchanges.fresh.Goals as goal
 
 pub returns-in-Some-clause-reply : goal.returns-in-Some-clause-reply
@@ -47,3 +47,9 @@ returns-in-Some-clause-leads c = IfOk-weaker c.noted.result _ _ (λ d none. nowh
 
 pub returns-in-Err-clause-leads : goal.returns-in-Err-clause-leads
 returns-in-Err-clause-leads c = IfOk-weaker c.halted.result _ _ (λ d none. nowhere c.args.page.now (Interchange c.args.text.now) c.args.moment d none) c.halted.ensures.comes
+
+pub returns-in-Some-clause-comes : goal.returns-in-Some-clause-comes
+returns-in-Some-clause-comes c = IfOk-weaker c.noted.result _ _ (λ d none. nothing_made (Interchange c.args.text.now) c.args.moment d none) c.noted.ensures.comes
+
+pub returns-in-Err-clause-comes : goal.returns-in-Err-clause-comes
+returns-in-Err-clause-comes c = IfOk-weaker c.halted.result _ _ (λ d none. nothing_made (Interchange c.args.text.now) c.args.moment d none) c.halted.ensures.comes

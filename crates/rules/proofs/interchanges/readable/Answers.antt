@@ -5,7 +5,7 @@ use Rattle.profile.specs.History.{History}
 use Rattle.profile.specs.Register.{Interchange}
 use Rattle.profile.specs.Decision as recalled
 use Rattle.rules.specs.Decided.{IsGiven, entries_of}
-use Rattle.rules.proofs.Decides.{no_page, no_sender, stranger_reply, given_again, given_new}
+use Rattle.rules.proofs.Decides.{no_page, no_sender, sender_is, stranger_reply, given_again, given_new}
 use Rattle.rules.proofs.interchanges.readable.Goals.{in_default-via-in-Some+in_default, in_default-via-in_default}
 use Rattle.rules.proofs.Leading.{nowhere_from, from_page}
 use Rattle.rules.proofs.interchanges.readable.Goals as goal
@@ -39,3 +39,6 @@ returns-in-Some-clause-leads c = IfOk-weaker c.again.result _ _ (λ d none. nowh
 
 pub returns-in-None-clause-leads : goal.returns-in-None-clause-leads
 returns-in-None-clause-leads c = IfOk-weaker c.fresh.result _ _ (λ d leads. from_page c.args.page c.in-Some-Some.page (Interchange c.args.text.now) c.args.moment d c.in-Some-Some.is-0 leads) c.fresh.ensures.leads
+
+pub fresh-requires-clause-whose : goal.fresh-requires-clause-whose
+fresh-requires-clause-whose c = sender_is c.args.text.now c.args.header.now c.sender.result c.in-Some-Some.who c.requires.same c.sender.ensures c.in-Some-Some.is-1
