@@ -16,7 +16,7 @@ use Rattle.envelope.specs.Parts.{SetOf, set_under, GroupOf, group_under}
 use Rattle.stock.specs.Pages.{PageFacts}
 use Rattle.stock.specs.Shows.{Shows}
 use Rattle.stock.specs.declared.steps.Change.{Change}
-use Rattle.stock.specs.Parts.{Named, IsPart}
+use Rattle.stock.specs.Parts.{Named}
 use Rattle.rules.specs.Needs.{NamesSets, NamesGroup, NamesGroups}
 use Rattle.rules.proofs.Led.{after_none, after_both, same_both, part_behind, proper_behind}
 use Rattle.rules.specs.Judging.{after, passed, told_events, AreTaken, IsGroupTaken, AreGroupsTaken, IsSmall, is_answered, told_with, told_if}

@@ -1,23 +1,22 @@
 -- What a command names is all that it needs of a page.
-use Rattle.std.proofs.Common.{◌≡◌, ℕ, Bool, true, false, List, [], ◌∷◌, ◌++◌, map, refl, sym, ap, ◌∙◌, Option, Some, None, codes}
-use Rattle.std.specs.Prelude.{flat_map, find}
+use Rattle.std.proofs.Common.{◌≡◌, ℕ, true, List, [], ◌∷◌, ◌++◌, map, refl, sym, ap, ◌∙◌, Option, Some, None}
+use Rattle.std.specs.Prelude.{flat_map}
 use Rattle.std.specs.List.{list_all}
 use Rattle.profile.specs.Bytes.{Delims, is_one_of}
-use Rattle.profile.specs.Cut.{Segment, cut}
-use Rattle.profile.specs.Header.{delims_of, is_unreadable}
-use Rattle.profile.specs.Halt.{structure_note}
+use Rattle.profile.specs.Cut.{cut}
+use Rattle.profile.specs.Header.{delims_of}
 use Rattle.profile.specs.Words.{SetKind, ShippingOrder, ShipmentAdvice, FunctionalAcknowledgment, kind_words}
 use Rattle.profile.specs.Faults.{set_fault}
 use Rattle.profile.specs.Structure.{Set, Group, control_of, envelope_fault, examined_on, groups_of, kind_of}
 use Rattle.profile.specs.Means.{Line, advised, advice_of, order_of}
 use Rattle.profile.specs.Register.{Act, Count, Pick, Recount, Command, Interchange, Enrol, Clerk}
 use Rattle.profile.specs.Page.{PageAdvice, PageOrder}
-use Rattle.profile.specs.Need.{Need, advices_in, all_together, is_number_of, items_in, items_of, need_of, need_of_act, need_of_segments, need_of_text, orders_in}
+use Rattle.profile.specs.Need.{Need, advices_in, all_together, items_in, items_of, need_of, need_of_act, need_of_text, orders_in}
 use Rattle.profile.proofs.NeedLaws.{Within, alone, in_left, in_right, within_left, within_right}
 use Rattle.profile.proofs.NamesLaws.{TwoAtLeast, advice_items, document_named, names_groups, need_of_group, need_of_groups, need_of_set, order_items, order_named, shipment_named, two_segments}
 use Rattle.stock.specs.Pages.{PageFacts, IsSound, advice_at, is_in_lines, is_number, order_at}
 use Rattle.stock.specs.Parts.{IsClosed, IsPart, Named, are_items}
-use Rattle.rules.specs.Needs.{NamesAct, NamesFor, NamesGroup, NamesGroups, NamesJudged, NamesSet, NamesSets, NamesUnder}
+use Rattle.rules.specs.Needs.{NamesAct, NamesFor, NamesGroups, NamesJudged, NamesSet, NamesSets, NamesUnder}
 use Rattle.rules.specs.Naming.{as_page, named_of}
 use Rattle.rules.proofs.KeyedLists.{all_found}
 use Rattle.rules.proofs.NamesFound.{all_among, found_among, mapped, one_of_all, others_closed, those_closed}
@@ -60,15 +59,17 @@ module _ (need : Need) (P : PageFacts) where
 
     names_sets : (kind : Option SetKind) (earlier : List (List ℕ)) (ss : List Set) → Within (all_together (map need_of_set ss)) need → NamesSets d n kind (examined_on kind earlier ss)
     names_sets kind earlier [] w = tt
-    names_sets kind earlier (s ∷ ss) w =
-        (names_under kind earlier s (within_left (need_of_set s) (all_together (map need_of_set ss)) need w),
-        names_sets kind (control_of s ∷ earlier) ss (within_right (need_of_set s) (all_together (map need_of_set ss)) need w))
+    names_sets kind earlier (s ∷ ss) w = (
+      names_under kind earlier s (within_left (need_of_set s) (all_together (map need_of_set ss)) need w),
+      names_sets kind (control_of s ∷ earlier) ss (within_right (need_of_set s) (all_together (map need_of_set ss)) need w),
+    )
 
     group_named : (gs : List Group) → Within (need_of_groups gs) need → NamesGroups d n gs
     group_named [] w = tt
-    group_named (g ∷ gs) w =
-        (names_sets (kind_of g) [] g.sets (within_left (need_of_group g) (need_of_groups gs) need w),
-        group_named gs (within_right (need_of_group g) (need_of_groups gs) need w))
+    group_named (g ∷ gs) w = (
+      names_sets (kind_of g) [] g.sets (within_left (need_of_group g) (need_of_groups gs) need w),
+      group_named gs (within_right (need_of_group g) (need_of_groups gs) need w),
+    )
 
   -- ---- acts
 

@@ -2,13 +2,12 @@
 use Rattle.std.proofs.Common.{ℕ, List, [], ◌∷◌, Option, Some, None, refl}
 use Rattle.std.specs.Borrow.{Bor}
 use Rattle.profile.specs.Bytes.{Delims}
-use Rattle.profile.specs.Cut.{Segment, cut}
+use Rattle.profile.specs.Cut.{Segment}
 use Rattle.profile.specs.Words.{SetKind, ShipmentAdvice, ShippingOrder, FunctionalAcknowledgment}
-use Rattle.profile.specs.Structure.{Set, Group, kind_of, examined, groups_of}
-use Rattle.profile.specs.Header.{delims_of}
+use Rattle.profile.specs.Structure.{Set, Group, kind_of, examined}
 use Rattle.profile.specs.History.{History}
 use Rattle.profile.specs.Means.{advised, advice_of, order_of}
-use Rattle.profile.specs.Register.{Act, Count, Pick, Recount, Command, Interchange, Enrol, Clerk}
+use Rattle.profile.specs.Register.{Act, Count, Pick, Recount, Command}
 use Rattle.stock.specs.Pages.{PageFacts, IsSound}
 use Rattle.stock.specs.Parts.{all_named}
 use Rattle.stock.proofs.PartLemmas.{part_of_self, all_items, all_ordered}

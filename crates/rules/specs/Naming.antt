@@ -1,5 +1,4 @@
 -- What a need names of a page.
-use Rattle.std.specs.Prelude.{List}
 use Rattle.profile.specs.Bytes.{is_one_of}
 use Rattle.profile.specs.Page.{Page}
 use Rattle.profile.specs.Need.{Need, items_in, is_number_of}

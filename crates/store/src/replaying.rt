@@ -255,6 +255,17 @@ fn sent_to(
     }
 }
 
+impl ReplayBook {
+    // The whole page of a depositor; None for a stranger.
+    fn page(&self, who: &Who) -> Result<Option<Page>, AllocError>
+        ensures page { (L : List register.Entry) → self.now.entries ≡ all_written L → IsLegal self.now.warehouse L
+            → IfOk result (λ page. IsHeldFor page (standing_of (register.own L who.now))) }
+        ensures rest { IfOk result IsHeldAtRest }
+    {
+        page_behind(self.alloc, &self.warehouse, &self.entries, who)
+    }
+}
+
 impl Keeper for ReplayBook {
     ghost use Rattle.std.specs.Prelude.{false, ◌≡◌};
     ghost use Rattle.profile.specs.Accepted.{IsLegal};
@@ -275,7 +286,7 @@ impl Keeper for ReplayBook {
     }
 
     fn load(&mut self, who: Who, need: &Need) -> Result<Option<Page>, Fault> {
-        let page = page_behind(self.alloc, &self.warehouse, &self.entries, &who)?;
+        let page = self.page(&who)?;
         Ok(held(page, need))
     }
 
@@ -295,12 +306,12 @@ impl Keeper for ReplayBook {
     }
 
     fn stock_rows(&mut self, who: Who) -> Result<Option<Vec<StockRow>>, Fault> {
-        let page = page_behind(self.alloc, &self.warehouse, &self.entries, &who)?;
+        let page = self.page(&who)?;
         Ok(rows_for(self.alloc, page)?)
     }
 
     fn outbox(&mut self, who: Who) -> Result<Option<Vec<OutRow>>, Fault> {
-        let page = page_behind(self.alloc, &self.warehouse, &self.entries, &who)?;
+        let page = self.page(&who)?;
         Ok(sent_to(self.alloc, &self.warehouse, &self.entries, page, &who)?)
     }
 

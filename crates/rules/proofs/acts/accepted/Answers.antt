@@ -1,4 +1,4 @@
-use Rattle.std.proofs.Common.{◌+◌, ◌∙◌, ap, arith}
+use Rattle.std.proofs.Common.{◌∙◌, ap, arith}
 use Rattle.profile.specs.Clerk.{performed}
 use Rattle.profile.specs.Reply.{clerk_entry}
 use Rattle.rules.specs.Asked.{act_of}
@@ -11,6 +11,6 @@ returns-clause-reply c = λ h P e has of done.
     let w = c.args.envelope.now in
     let act = act_of c.args.act.now in (
       act_accepted w c.args.page.now.entries c.args.ticket.now act h e c.in_ok-outgoing.outgoing.items (has.part.entries ∙ of.entries) (omega (arith, c.if-entries-ge-MOST_ENTRIES.false, c.entries.ensures)) done c.requires.number
-      (c.in_ok-outgoing.ensures has.named P h.events e has.part has.names of.shows (ap (λ k. performed h.events k act) c.requires.number ∙ done)),
+          (c.in_ok-outgoing.ensures has.named P h.events e has.part has.names of.shows (ap (λ k. performed h.events k act) c.requires.number ∙ done)),
       c.in_ok-entry.ensures ∙ ap (λ k. written_as k (clerk_entry w.depositor c.args.ticket.now act w.moment)) c.requires.number,
     )

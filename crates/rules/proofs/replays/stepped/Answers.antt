@@ -1,4 +1,3 @@
-use Rattle.std.proofs.Common.{◌≡◌}
 use Rattle.stock.specs.Parts.{all_named}
 use Rattle.stock.proofs.PartLemmas.{part_of_self}
 use Rattle.rules.specs.Asked.{act_of}
