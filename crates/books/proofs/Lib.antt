@@ -62,3 +62,4 @@ mod KnownTexts
 mod UnderKey
 mod SentUnder
 mod Looked
+pub mod Fits

@@ -1,4 +1,4 @@
-ghost use Rattle.std.specs.Prelude.{◌≡◌, ◌∷◌, [], ℕ, List, Some, true, false, MatchOption, IfOk, map, option_map, All, pos, length, ◌≤◌};
+ghost use Rattle.std.specs.Prelude.{◌≡◌, ◌∷◌, [], ℕ, List, Some, true, false, MatchOption, IfOk, map, option_map, All, pos, length, ◌≤◌, ◌<◌, ◌^◌};
 ghost use Rattle.profile.specs.Header.{Who as Partner};
 ghost use Rattle.profile.specs.Bytes as bytes;
 ghost use Rattle.profile.specs.Moments.{Moment as Parts, is_moment};
@@ -78,6 +78,17 @@ pub(crate) fn number_at(row: &Row, at: usize) -> Option<u64>
     match row.get_ref(at) {
         Ok(value) => number_in(value),
         Err(_) => None,
+    }
+}
+
+/// The number in a column, of at most 32 bits; None where it is another.
+pub(crate) fn small_at(row: &Row, at: usize) -> Option<u32>
+    ensures { MatchOption result ((n : ℕ) → n < 2 ^ 32 → column row.now at ≡ Int (pos n)
+        → ⊥) (λ n. column row.now at ≡ Int (pos n)) }
+{
+    match number_at(row, at) {
+        Some(n) => u32::try_from(n).ok(),
+        None => None,
     }
 }
 
