@@ -36,3 +36,4 @@ pub mod Defines
 pub mod RowsTabled
 pub mod SetsNamed
 pub mod Whole
+pub mod LegalPages

@@ -12,3 +12,4 @@ pub mod Defined
 pub mod Kinds
 pub mod Needs
 pub mod Naming
+pub mod LegalPages
