@@ -37,3 +37,4 @@ pub mod RowsTabled
 pub mod SetsNamed
 pub mod Whole
 pub mod LegalPages
+pub mod Small

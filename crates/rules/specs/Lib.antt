@@ -13,3 +13,4 @@ pub mod Kinds
 pub mod Needs
 pub mod Naming
 pub mod LegalPages
+pub mod Fitting
