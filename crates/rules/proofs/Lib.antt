@@ -38,3 +38,4 @@ pub mod SetsNamed
 pub mod Whole
 pub mod LegalPages
 pub mod Small
+pub mod SmallEvents

@@ -1,5 +1,5 @@
-use Rattle.rules.proofs.Small.{small_at, judged_small}
+use Rattle.rules.proofs.SmallEvents.{events_small}
 use Rattle.rules.proofs.laws.what_a_page_lists_fits.Goals as goal
 
 pub returns : goal.returns
-returns c = λ W L w legal. let x = judged_small in ?
+returns c = λ W L w legal. let x = events_small in ?
