@@ -39,3 +39,4 @@ pub mod Whole
 pub mod LegalPages
 pub mod Small
 pub mod SmallEvents
+pub mod Fits
