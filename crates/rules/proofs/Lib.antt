@@ -37,3 +37,6 @@ pub mod RowsTabled
 pub mod SetsNamed
 pub mod Whole
 pub mod LegalPages
+pub mod Small
+pub mod SmallEvents
+pub mod Fits

@@ -17,6 +17,7 @@ ghost use Rattle.stock.specs.declared.steps.Change.{Change};
 ghost use Rattle.std.specs.Borrow.{Bor};
 ghost use Rattle.rules.specs.Decided.{IsPageOf, IsHeldPart, StandsFor};
 ghost use Rattle.rules.specs.Defined.{IsDefined};
+ghost use Rattle.rules.specs.Fitting.{IsFitting};
 ghost use Rattle.rules.specs.LegalPages.{IsLegalPage};
 ghost use Rattle.rules.specs.Played.{CanFollow};
 ghost use Rattle.profile.specs.Need.{Need, need_of};
@@ -99,4 +100,10 @@ pub fn a_part_stands_for_its_page()
 /// A depositor of a legal register has a page: a sound one of its own entries, with no event since the last of them.
 pub fn a_legal_register_has_pages()
     ensures { (W : Who) (L : List Entry) (w : Who) (h : History) → IsLegal W L → standing (own L w) ≡ Some h → (P : PageFacts) × IsLegalPage P h }
+{}
+
+/// What the page of a depositor of a legal register lists fits: at most 99 lines of an advice, quantities of at most 99,999, and
+/// numbers of entries.
+pub fn what_a_page_lists_fits()
+    ensures { (W : Who) (L : List Entry) (w : Who) → IsLegal W L → IsFitting (page_of (own L w)) }
 {}
