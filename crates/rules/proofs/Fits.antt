@@ -1,22 +1,21 @@
 -- What the page of a depositor of a legal register lists fits.
-use Rattle.std.proofs.Common.{◌≡◌, ℕ, ◌+◌, ◌≤◌, Bool, true, false, ◌&&◌, ◌||◌, List, [], ◌∷◌, map, length, Option, Some, None, refl, sym, ap, ◌∙◌, inl, inr, subst, arith, le-leb, leb-true}
+use Rattle.std.proofs.Common.{◌≡◌, ℕ, ◌+◌, ◌≤◌, Bool, true, false, ◌&&◌, List, [], ◌∷◌, map, length, Some, None, refl, ap, ◌∙◌, arith, le-leb, leb-true}
 use Rattle.std.specs.Prelude.{nat_le, nat_lt, filter, flat_map, if◌then◌else◌, unwrap_or, ◌==◌}
 use borrow.Author.Tests.{eqb-true}
 use Rattle.std.specs.Cmp.Derive.{both_true}
 use Rattle.std.specs.List.{list_all, list_any}
-use Rattle.std.proofs.lemmas.Bool.{cases_Bool}
 use Rattle.std.proofs.lemmas.List.{length-map}
 use Rattle.std.proofs.lemmas.List.Folds.{list_all-map}
-use Rattle.profile.specs.Limits.{most_lines, most_quantity, most_entries}
+use Rattle.profile.specs.Limits.{most_lines, most_entries}
 use Rattle.profile.specs.Bytes.{comes_before}
 use Rattle.profile.specs.Lists.{placed, in_order, or_else}
 use Rattle.profile.specs.Header.{Who}
-use Rattle.profile.specs.Means.{Line, AdviceLine, Advice, advised, OrderLine}
+use Rattle.profile.specs.Means.{Line, AdviceLine, Advice, OrderLine}
 use Rattle.profile.specs.Events.{Event, Enrolment, Advised, Ordered, Acknowledged, Counted, Picked, Recounted, pair_before, Reserved, is_pair, first_count, since, is_order_open}
 use Rattle.profile.specs.Register.{Entry, own}
 use Rattle.profile.specs.History.{events, history}
 use Rattle.profile.specs.Rows.{lot_row, named, running_rows}
-use Rattle.profile.specs.Page.{PageAdvice, PageOrder, PageLine, advices_of, orders_of, reserved_lines, page_advice, page_line, page_order, page_advices, page_orders, page_of}
+use Rattle.profile.specs.Page.{PageLine, advices_of, orders_of, reserved_lines, page_advice, page_line, page_order, page_advices, page_orders, page_of}
 use Rattle.profile.specs.Decision.{standing}
 use Rattle.profile.specs.Accepted.{IsLegal}
 use Rattle.profile.proofs.TextLaws.{both_parts}
@@ -75,7 +74,7 @@ advice_fits es a small =
     (ap (λ (n : ℕ). nat_le n most_lines) (length-map a.lines (λ (l : AdviceLine). l.line)) ∙ k.0)
     (list_all-map is_fitting_line (λ (l : AdviceLine). l.line) a.lines ∙ k.1)
 
-advices_fit : (es : List Event) → AreSmall es → list_all is_fitting_advice (page_advices es) ≡ true
+pub advices_fit : (es : List Event) → AreSmall es → list_all is_fitting_advice (page_advices es) ≡ true
 advices_fit es small =
     list_all-map is_fitting_advice (page_advice es) (advices_of es)
     ∙ all_so is_small_advice (λ (a : Advice). is_fitting_advice (page_advice es a)) (advices_of es) (advice_fits es)

@@ -11,10 +11,10 @@ use Rattle.profile.specs.Limits.{most_lines, most_quantity}
 use Rattle.profile.specs.Cut.{Segment, element, has_id, places_of}
 use Rattle.profile.specs.Words.{SetKind, ShippingOrder, ShipmentAdvice, FunctionalAcknowledgment, kind_words, words_940, words_943}
 use Rattle.profile.specs.Faults.{SetFault, set_fault, fault_from}
-use Rattle.profile.specs.Means.{Line, AdviceLine, OrderLine, Order, segment_at, advice_line, advice_of, order_line, order_of}
-use Rattle.profile.specs.Events.{Event, Enrolment, Advised, Ordered, Acknowledged, Counted, Picked, Recounted, advice_fault, order_fault}
+use Rattle.profile.specs.Means.{AdviceLine, OrderLine, Order, segment_at, advice_line, advice_of, order_line, order_of}
+use Rattle.profile.specs.Events.{Event, Advised, Ordered, advice_fault, order_fault}
 use Rattle.profile.specs.Movements.{free}
-use Rattle.profile.specs.Allotment.{shares_after, shares_from, line_shares, order_shares, lots_for}
+use Rattle.profile.specs.Allotment.{shares_after, line_shares, order_shares, lots_for}
 use Rattle.profile.specs.History.{unless, traded, judged}
 use Rattle.profile.proofs.FaultsLaws.{set_fault-from}
 use Rattle.profile.proofs.TextLaws.{both_parts}
@@ -22,7 +22,7 @@ use Rattle.sets_in.specs.Amounts.{IsAmount, HaveAmounts}
 use Rattle.sets_in.specs.Places.{places_from}
 use Rattle.sets_in.proofs.Values.{amount_bound}
 use Rattle.sets_in.proofs.Sound.{goods_amounts, ordered_amounts, amount_at}
-use Rattle.sets_in.proofs.Most.{few_goods, few_ordered}
+use Rattle.sets_in.proofs.Most.{few_goods}
 use Rattle.rules.specs.Fitting.{is_fitting_line}
 use Rattle.rules.proofs.Judges.{judged_sound, judged_faulty}
 

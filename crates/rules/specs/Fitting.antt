@@ -1,5 +1,5 @@
 -- What the page of a depositor lists fits: at most 99 lines of an advice, quantities of at most 99,999, and numbers of entries.
-use Rattle.std.specs.Prelude.{ℕ, ◌≡◌, ◌≤◌, ◌+◌, Bool, true, ◌&&◌, length, nat_le}
+use Rattle.std.specs.Prelude.{◌≡◌, ◌≤◌, ◌+◌, Bool, true, ◌&&◌, length, nat_le}
 use Rattle.std.specs.List.{list_all}
 use Rattle.profile.specs.Limits.{most_lines, most_quantity, most_entries}
 use Rattle.profile.specs.Means.{Line}
