@@ -6,11 +6,15 @@ use Rattle.std.specs.List.{list_all}
 use Rattle.sqlite_rules.specs.Lists.{Has}
 use Rattle.profile.specs.Limits.{most_entries, most_lines, most_quantity}
 use Rattle.profile.specs.Means.{Line}
-use Rattle.profile.specs.Page.{PageAdvice, PageLine, PageOrder}
+use Rattle.profile.specs.Page.{PageAdvice, PageLine, PageOrder, page_of}
+use Rattle.profile.specs.History.{events}
+use Rattle.profile.specs.Register.{Entry}
 use Rattle.profile.specs.Rows.{LotRow}
 use Rattle.stock.specs.Pages.{advice_at, is_number, is_shipment, order_at}
 use Rattle.rules.specs.Fitting.{is_fitting_advice, is_fitting_line, is_fitting_order, is_fitting_ordered, is_fitting_row}
+use Rattle.rules.proofs.Fits.{advices_fit}
 use Rattle.rules.proofs.KeyedLists.{all_found}
+use Rattle.rules.proofs.SmallEvents.{events_small}
 use Rattle.books.specs.Looking.{lines_advised, lines_ordered, lines_reserved}
 
 -- what holds of all holds of each
@@ -53,3 +57,7 @@ ordered_fit s ks all = (order_fits (order_at s ks) (λ k found. all_found is_fit
 
 pub reserved_fit : (s : List ℕ) (ks : List PageOrder) → list_all is_fitting_order ks ≡ true → list_all is_fitting_line (lines_reserved (order_at s ks)) ≡ true
 reserved_fit s ks all = (order_fits (order_at s ks) (λ k found. all_found is_fitting_order (is_number s) ks k all found)).1
+
+-- an advice of any entries has no more lines than a set
+pub too_many : (s : List ℕ) (M : List Entry) (lines : List Line) → lines ≡ lines_advised (advice_at s (page_of M).advices) → most_lines < length lines → ⊥
+too_many s M lines same many = omega (arith, ap (λ (ls : List Line). length ls) same, many, advised_few s (page_of M).advices (advices_fit (events M) (events_small M)))
