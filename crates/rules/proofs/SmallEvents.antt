@@ -1,5 +1,5 @@
 -- All events of a list of entries are small.
-use Rattle.std.proofs.Common.{◌≡◌, ℕ, ◌+◌, Bool, true, false, List, [], ◌∷◌, ◌++◌, Option, Some, None, Ok, Err, refl, sym, ap, ◌∙◌, subst}
+use Rattle.std.proofs.Common.{◌≡◌, ℕ, ◌+◌, Bool, true, false, List, [], ◌∷◌, ◌++◌, Option, Some, None, Ok, Err, refl, ap}
 use Rattle.std.specs.Prelude.{Result, is_none, fold, if◌then◌else◌, option_to_list}
 use Rattle.std.specs.Cmp.Derive.{both_true}
 use Rattle.std.specs.List.{list_all, cons_option}
@@ -57,7 +57,8 @@ telling_small d es n g = by (is_none (group_fault g))
     by true = verdicts_small d es n (kind_of g) (examined g)
     by false = refl
 
-tellings_small : (d : Delims) (es : List Event) (n : ℕ) (gs : List Group) → AreSmall (told_events (tellings_on d es n gs))
+tellings_small : (d : Delims) (es : List Event) (n : ℕ) (gs : List Group)
+    → AreSmall (told_events (tellings_on d es n gs))
 tellings_small d es n [] = refl
 tellings_small d es n (g ∷ gs) =
     let told = events_told (telling_of d es n g) in

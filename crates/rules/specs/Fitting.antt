@@ -1,5 +1,6 @@
--- What the page of a depositor lists fits: at most 99 lines of an advice, quantities of at most 99,999, and numbers of entries.
-use Rattle.std.specs.Prelude.{ℕ, ◌≡◌, ◌≤◌, ◌+◌, Bool, true, ◌&&◌, length, nat_le}
+-- What the page of a depositor lists fits: at most 99 lines of an advice, quantities of at most 99,999, and numbers of
+-- entries.
+use Rattle.std.specs.Prelude.{◌≡◌, ◌≤◌, ◌+◌, Bool, true, ◌&&◌, length, nat_le}
 use Rattle.std.specs.List.{list_all}
 use Rattle.profile.specs.Limits.{most_lines, most_quantity, most_entries}
 use Rattle.profile.specs.Means.{Line}
@@ -9,7 +10,7 @@ use Rattle.profile.specs.Page.{Page, PageAdvice, PageOrder}
 abbrev pub is_fitting_line : Line → Bool
 is_fitting_line l = nat_le l.quantity most_quantity
 
--- since is the number of an entry, or 0
+-- the number of the count that named its pair first is that of an entry
 abbrev pub is_fitting_row : LotRow → Bool
 is_fitting_row r = nat_le r.since (most_entries + 1)
 
