@@ -69,9 +69,9 @@ advices_small (Recounted n before sheet ∷ es) small = advices_small es small
 
 advice_fits : (es : List Event) (a : Advice) → is_small_advice a ≡ true → is_fitting_advice (page_advice es a) ≡ true
 advice_fits es a small =
-    let k = both_parts (nat_le (length a.lines) most_lines) (list_all (λ (l : AdviceLine). is_small l.line.quantity) a.lines) small in
-    both_true
-    (ap (λ (n : ℕ). nat_le n most_lines) (length-map a.lines (λ (l : AdviceLine). l.line)) ∙ k.0)
+    let lines = list_all (λ (l : AdviceLine). is_small l.line.quantity) a.lines in
+    let k = both_parts (nat_le (length a.lines) most_lines) lines small in
+    both_true (ap (λ (n : ℕ). nat_le n most_lines) (length-map a.lines (λ (l : AdviceLine). l.line)) ∙ k.0)
     (list_all-map is_fitting_line (λ (l : AdviceLine). l.line) a.lines ∙ k.1)
 
 pub advices_fit : (es : List Event) → AreSmall es → list_all is_fitting_advice (page_advices es) ≡ true
@@ -95,7 +95,8 @@ orders_small (Advised a ∷ es) small =
     orders_small es ((both_parts (is_small_event (Advised a)) (list_all is_small_event es) small).1)
 orders_small (Ordered o shares ∷ es) small =
     let k = both_parts (is_small_event (Ordered o shares)) (list_all is_small_event es) small in
-    placed_so is_small_order order_before (record { order = o; shares = shares }) (orders_of es) k.0 (orders_small es k.1)
+    let r : Reserved = record { order = o; shares = shares } in
+    placed_so is_small_order order_before r (orders_of es) k.0 (orders_small es k.1)
 orders_small (Acknowledged n a ∷ es) small = orders_small es small
 orders_small (Counted n a sheet ∷ es) small = orders_small es small
 orders_small (Picked n o shares sheet ∷ es) small = orders_small es small
@@ -109,7 +110,8 @@ reserved_fit shares small =
 
 order_fits : (es : List Event) (r : Reserved) → is_small_order r ≡ true → is_fitting_order (page_order es r) ≡ true
 order_fits es r small =
-    let k = both_parts (list_all (λ (l : OrderLine). is_small l.quantity) r.order.lines) (list_all is_fitting_line r.shares) small in
+    let lines = list_all (λ (l : OrderLine). is_small l.quantity) r.order.lines in
+    let k = both_parts lines (list_all is_fitting_line r.shares) small in
     both_true (list_all-map (λ (l : PageLine). is_small l.quantity) page_line r.order.lines ∙ k.0)
     (by (is_order_open r.order.number es) k.1)
   where
@@ -134,7 +136,8 @@ since_within most (Enrolment ∷ es) item lot h = since_within most es item lot 
 since_within most (Advised a ∷ es) item lot h = since_within most es item lot h
 since_within most (Ordered o shares ∷ es) item lot h = since_within most es item lot h
 since_within most (Acknowledged n a ∷ es) item lot h =
-    since_within most es item lot ((both_parts (nat_lt 0 n && nat_le n most) (list_all (is_numbered_within most) es) h).1)
+    let k = both_parts (nat_lt 0 n && nat_le n most) (list_all (is_numbered_within most) es) h in
+    since_within most es item lot k.1
 since_within most (Counted n a sheet ∷ es) item lot h =
     let k = both_parts (nat_lt 0 n && nat_le n most) (list_all (is_numbered_within most) es) h in
     by (list_any (is_pair item lot) sheet) (leb-true n most ((both_parts (nat_lt 0 n) (nat_le n most) k.0).1))
@@ -145,9 +148,11 @@ since_within most (Counted n a sheet ∷ es) item lot h =
     by true le more = le
     by false le more = more
 since_within most (Picked n o shares sheet ∷ es) item lot h =
-    since_within most es item lot ((both_parts (nat_lt 0 n && nat_le n most) (list_all (is_numbered_within most) es) h).1)
+    let k = both_parts (nat_lt 0 n && nat_le n most) (list_all (is_numbered_within most) es) h in
+    since_within most es item lot k.1
 since_within most (Recounted n before sheet ∷ es) item lot h =
-    since_within most es item lot ((both_parts (nat_lt 0 n && nat_le n most) (list_all (is_numbered_within most) es) h).1)
+    let k = both_parts (nat_lt 0 n && nat_le n most) (list_all (is_numbered_within most) es) h in
+    since_within most es item lot k.1
 
 lines_fit : (es : List Event) (ls : List Line) → ((item lot : List ℕ) → since es item lot ≤ most_entries + 1)
     → list_all is_fitting_row (map (lot_row es) ls) ≡ true
@@ -187,5 +192,9 @@ page_fits W L w legal = by (own L w) refl
         let page = legal_page W L w h legal (ap standing is ∙ some_standing k M) in
         let P = page.0 in
         entries_fit (k ∷ M)
-        (λ item lot. omega (arith, since_within (P.entries + 1) h.events item lot page.1.page.shows.numbers, page.1.sound.numbered))
+        (λ item lot. omega (
+          arith,
+          since_within (P.entries + 1) h.events item lot page.1.page.shows.numbers,
+          page.1.sound.numbered,
+        ))
         (omega (arith, page.1.page.entries, page.1.sound.numbered))

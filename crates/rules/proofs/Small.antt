@@ -30,8 +30,10 @@ abbrev pub is_small : ℕ → Bool
 is_small q = nat_le q most_quantity
 
 abbrev pub is_small_event : Event → Bool
-is_small_event (Advised a) = nat_le (length a.lines) most_lines && list_all (λ (l : AdviceLine). is_small l.line.quantity) a.lines
-is_small_event (Ordered o shares) = list_all (λ (l : OrderLine). is_small l.quantity) o.lines && list_all is_fitting_line shares
+is_small_event (Advised a) =
+    nat_le (length a.lines) most_lines && list_all (λ (l : AdviceLine). is_small l.line.quantity) a.lines
+is_small_event (Ordered o shares) =
+    list_all (λ (l : OrderLine). is_small l.quantity) o.lines && list_all is_fitting_line shares
 is_small_event e = true
 
 pub all_two : {X : Type 0} (p : X → Bool) (xs ys : List X) → list_all p xs ≡ true → list_all p ys ≡ true
@@ -39,6 +41,10 @@ pub all_two : {X : Type 0} (p : X → Bool) (xs ys : List X) → list_all p xs �
 all_two p xs ys a b = list_all-append p xs ys ∙ both_true a b
 
 -- Quantities at places.
+
+-- the segments with the id, each with its place
+abbrev placed_with : List ℕ → ℕ → List Segment → List (ℕ × Segment)
+placed_with id n ss = filter (λ (q : ℕ × Segment). has_id id q.1) (enumerate_from n ss)
 
 -- what holds at each segment with the id holds at its place
 at_places : (id : List ℕ) (p : ℕ → Bool) (n : ℕ) (ss : List Segment)
@@ -53,7 +59,8 @@ at_places id p n (s ∷ ss) h =
     later i k = let same : n + 1 + i ≡ n + suc i = omega arith in ap p same ∙ k
 
     by : (b : Bool) → (b ≡ true → p n ≡ true) → list_all p (places_from id (n + 1) ss) ≡ true
-        → list_all p (map (λ (q : ℕ × Segment). q.0) (cond b ((n, s) ∷ filter (λ (q : ℕ × Segment). has_id id q.1) (enumerate_from (n + 1) ss)) (filter (λ (q : ℕ × Segment). has_id id q.1) (enumerate_from (n + 1) ss)))) ≡ true
+        → (let rest = placed_with id (n + 1) ss in
+        list_all p (map (λ (q : ℕ × Segment). q.0) (cond b ((n, s) ∷ rest) rest)) ≡ true)
     by true here there = both_true (here refl) there
     by false here there = there
 
@@ -64,9 +71,9 @@ pub small_at : (id : List ℕ) (ss : List Segment) → HaveAmounts id 1 QUANTITY
     → list_all (λ (n : ℕ). is_small (value (element (segment_at ss n) 1))) (places_of id ss) ≡ true
 small_at id ss amounts = at_places id (λ (n : ℕ). is_small (value (element (segment_at ss n) 1))) 1 ss
     (λ i e.
-        let same : 1 + i - 1 ≡ i = omega arith in
-        ap (λ (k : ℕ). is_small (value (element (unwrap_or (slice_get ss k) []) 1))) same
-        ∙ amount_small (element (unwrap_or (slice_get ss i) []) 1) (amount_at id 1 QUANTITY_DIGITS ss i amounts e))
+    let same : 1 + i - 1 ≡ i = omega arith in
+    ap (λ (k : ℕ). is_small (value (element (unwrap_or (slice_get ss k) []) 1))) same
+    ∙ amount_small (element (unwrap_or (slice_get ss i) []) 1) (amount_at id 1 QUANTITY_DIGITS ss i amounts e))
 
 -- Sets without fault.
 
@@ -96,7 +103,8 @@ ordered_small d ss none =
 
 -- Shares are at most what is wanted.
 
-shares_small : (earlier : ℕ) (fs : List ℕ) (w : ℕ) → w ≤ most_quantity → list_all is_small (shares_after earlier fs w) ≡ true
+shares_small : (earlier : ℕ) (fs : List ℕ) (w : ℕ) → w ≤ most_quantity
+    → list_all is_small (shares_after earlier fs w) ≡ true
 shares_small earlier [] w le = refl
 shares_small earlier (f ∷ fs) w le =
     both_true (le-leb (min f (w - earlier)) most_quantity (omega (arith, le))) (shares_small (earlier + f) fs w le)

@@ -57,7 +57,8 @@ telling_small d es n g = by (is_none (group_fault g))
     by true = verdicts_small d es n (kind_of g) (examined g)
     by false = refl
 
-tellings_small : (d : Delims) (es : List Event) (n : ℕ) (gs : List Group) → AreSmall (told_events (tellings_on d es n gs))
+tellings_small : (d : Delims) (es : List Event) (n : ℕ) (gs : List Group)
+    → AreSmall (told_events (tellings_on d es n gs))
 tellings_small d es n [] = refl
 tellings_small d es n (g ∷ gs) =
     let told = events_told (telling_of d es n g) in
