@@ -1,5 +1,5 @@
 -- How a part of a page grows: what is found under one more key is put into it.
-use Rattle.std.proofs.Common.{◌≡◌, ℕ, Bool, true, false, ◌&&◌, ◌||◌, cond, eqb, List, [], ◌∷◌, refl, ap, sym, ◌∙◌, inl, inr, Option, Some, None}
+use Rattle.std.proofs.Common.{◌≡◌, ℕ, Bool, true, false, ◌||◌, ◌==◌, eqb, List, [], ◌∷◌, refl, ap, sym, ◌∙◌, inl, inr, Some, None}
 use Rattle.std.proofs.lemmas.Bool.{cases_Bool, both_ways, and_parts, eqb-true, eq-eqb}
 use Rattle.std.proofs.lemmas.Slice.Eq.{bytes_eq-Decides}
 use Rattle.std.specs.Prelude.{filter, find, fold, bytes_eq, nat_lt}
@@ -100,3 +100,110 @@ module _ {X K : Type 0} (less : K → K → Bool) (strict : IsStrict less) (key 
       → put_by less key z (filter p xs) ≡ filter (λ x. p x || is x) xs
   one_more_kept p k is test xs z h found =
       ap (λ (zs : List X). fold (λ (ws : List X) (y : X). put_by less key y ws) (filter p xs) zs) (sym (found_alone k is test xs z h found)) ∙ puts_kept p is xs h
+
+-- A part that names nothing.
+
+abbrev pub none_named : Named
+none_named = record { items = λ item. false; shipments = λ s. false; orders = λ s. false; documents = λ n. false }
+
+pub nothing_part : (P : PageFacts) → part_of none_named P ≡ record (nothing_yet P.entries) { recent = P.recent }
+nothing_part P = λ i. record P {
+  rows = kept_none P.rows i;
+  advices = kept_none P.advices i;
+  orders = kept_none P.orders i;
+  documents = kept_none P.documents i;
+}
+
+-- Equality tests either way round.
+
+bytes_turned : (s t : List ℕ) → bytes_eq s t ≡ bytes_eq t s
+bytes_turned s t = elim (cases_Bool (bytes_eq s t)) [
+  | inl e ↦ e ∙ sym ((bytes_eq-Decides t s).1 (sym ((bytes_eq-Decides s t).0 e)))
+  | inr e ↦ elim (cases_Bool (bytes_eq t s)) [
+    | inl f ↦ let g : bytes_eq s t ≡ true = (bytes_eq-Decides s t).1 (sym ((bytes_eq-Decides t s).0 f)) in absurd (cc (e, g))
+    | inr f ↦ e ∙ sym f
+  ]
+]
+
+number_turned : (m n : ℕ) → eqb m n ≡ eqb n m
+number_turned m n = elim (cases_Bool (eqb m n)) [
+  | inl e ↦ e ∙ sym (eq-eqb n m (sym (eqb-true m n e)))
+  | inr e ↦ elim (cases_Bool (eqb n m)) [
+    | inl f ↦ let g : eqb m n ≡ true = eq-eqb m n (sym (eqb-true n m f)) in absurd (cc (e, g))
+    | inr f ↦ e ∙ sym f
+  ]
+]
+
+-- One more advice.
+
+advice_tested : (n : Named) (s : List ℕ) (ks : List PageAdvice)
+    → filter (λ k. n.shipments k.shipment || is_shipment s k) ks ≡ filter (λ k. n.shipments k.shipment || bytes_eq s k.shipment) ks
+advice_tested n s ks = kept_same (λ k. n.shipments k.shipment || is_shipment s k) (λ k. n.shipments k.shipment || bytes_eq s k.shipment)
+    (λ k. ap (λ v. n.shipments k.shipment || v) (bytes_turned k.shipment s)) ks
+
+pub advice_part : (P : PageFacts) (n : Named) → AreSorted P → (s : List ℕ) (k : PageAdvice) → advice_at s P.advices ≡ Some k
+    → record (part_of n P) { advices = put_advice k (part_of n P).advices } ≡ part_of (record n { shipments = λ t. n.shipments t || bytes_eq s t }) P
+advice_part P n sorted s k found =
+    let grown = one_more_kept comes_before texts_strict shipment_of (λ k. n.shipments k.shipment) s (is_shipment s) (shipment_test s) P.advices k sorted.advices found
+        ∙ advice_tested n s P.advices in
+    ap (λ (ks : List PageAdvice). record (part_of n P) { advices = ks }) grown
+
+pub advice_absent : (P : PageFacts) (n : Named) (s : List ℕ) → advice_at s P.advices ≡ None
+    → part_of n P ≡ part_of (record n { shipments = λ t. n.shipments t || bytes_eq s t }) P
+advice_absent P n s none =
+    ap (λ (ks : List PageAdvice). record (part_of n P) { advices = ks })
+    (none_more (λ k. n.shipments k.shipment) (is_shipment s) P.advices none ∙ advice_tested n s P.advices)
+
+-- One more order.
+
+order_tested : (n : Named) (s : List ℕ) (ks : List PageOrder)
+    → filter (λ k. n.orders k.number || is_number s k) ks ≡ filter (λ k. n.orders k.number || bytes_eq s k.number) ks
+order_tested n s ks = kept_same (λ k. n.orders k.number || is_number s k) (λ k. n.orders k.number || bytes_eq s k.number)
+    (λ k. ap (λ v. n.orders k.number || v) (bytes_turned k.number s)) ks
+
+pub order_part : (P : PageFacts) (n : Named) → AreSorted P → (s : List ℕ) (k : PageOrder) → order_at s P.orders ≡ Some k
+    → record (part_of n P) { orders = put_order k (part_of n P).orders } ≡ part_of (record n { orders = λ t. n.orders t || bytes_eq s t }) P
+order_part P n sorted s k found =
+    let grown = one_more_kept comes_before texts_strict number_of (λ k. n.orders k.number) s (is_number s) (number_test s) P.orders k sorted.orders found
+        ∙ order_tested n s P.orders in
+    ap (λ (ks : List PageOrder). record (part_of n P) { orders = ks }) grown
+
+pub order_absent : (P : PageFacts) (n : Named) (s : List ℕ) → order_at s P.orders ≡ None
+    → part_of n P ≡ part_of (record n { orders = λ t. n.orders t || bytes_eq s t }) P
+order_absent P n s none =
+    ap (λ (ks : List PageOrder). record (part_of n P) { orders = ks })
+    (none_more (λ k. n.orders k.number) (is_number s) P.orders none ∙ order_tested n s P.orders)
+
+-- One more document.
+
+document_tested : (n : Named) (m : ℕ) (ds : List PageDocument)
+    → filter (λ d. n.documents d.n || is_document m d) ds ≡ filter (λ d. n.documents d.n || eqb m d.n) ds
+document_tested n m ds = kept_same (λ d. n.documents d.n || is_document m d) (λ d. n.documents d.n || eqb m d.n)
+    (λ d. ap (λ v. n.documents d.n || v) (number_turned d.n m)) ds
+
+pub document_part : (P : PageFacts) (n : Named) → AreSorted P → (m : ℕ) (d : PageDocument) → document_at m P.documents ≡ Some d
+    → record (part_of n P) { documents = put_document d (part_of n P).documents } ≡ part_of (record n { documents = λ j. n.documents j || (m == j) }) P
+document_part P n sorted m d found =
+    let grown = one_more_kept nat_lt numbers_strict entry_of (λ d. n.documents d.n) m (is_document m) (document_test m) P.documents d sorted.documents found
+        ∙ document_tested n m P.documents in
+    ap (λ (ds : List PageDocument). record (part_of n P) { documents = ds }) grown
+
+pub document_absent : (P : PageFacts) (n : Named) (m : ℕ) → document_at m P.documents ≡ None
+    → part_of n P ≡ part_of (record n { documents = λ j. n.documents j || (m == j) }) P
+document_absent P n m none =
+    ap (λ (ds : List PageDocument). record (part_of n P) { documents = ds })
+    (none_more (λ d. n.documents d.n) (is_document m) P.documents none ∙ document_tested n m P.documents)
+
+-- The lots of one more item.
+
+row_tested : (n : Named) (item : List ℕ) (rows : List LotRow)
+    → filter (λ r. n.items r.item || bytes_eq r.item item) rows ≡ filter (λ r. n.items r.item || bytes_eq item r.item) rows
+row_tested n item rows = kept_same (λ r. n.items r.item || bytes_eq r.item item) (λ r. n.items r.item || bytes_eq item r.item)
+    (λ r. ap (λ v. n.items r.item || v) (bytes_turned r.item item)) rows
+
+pub lots_part : (P : PageFacts) (n : Named) → AreSorted P → (item : List ℕ)
+    → record (part_of n P) { rows = fold (λ (ws : List LotRow) (r : LotRow). put_row r ws) (part_of n P).rows (filter (λ r. bytes_eq r.item item) P.rows) }
+        ≡ part_of (record n { items = λ t. n.items t || bytes_eq item t }) P
+lots_part P n sorted item =
+    let grown = puts_kept key_before pairs_strict row_key (λ r. n.items r.item) (λ r. bytes_eq r.item item) P.rows sorted.rows ∙ row_tested n item P.rows in
+    ap (λ (rows : List LotRow). record (part_of n P) { rows = rows }) grown
