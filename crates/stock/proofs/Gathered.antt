@@ -68,21 +68,23 @@ module _ {X K : Type 0} (less : K → K → Bool) (strict : IsStrict less) (key 
   puts_kept p q (x ∷ xs) h =
       let a = and_parts (list_all (λ z. less (key x) (key z)) xs) (rises_by less key xs) h in
       let after = puts_after x (filter p xs) (filter q xs) (all_filter (λ z. less (key x) (key z)) q xs a.0)
-          ∙ ap (λ (ys : List X). x ∷ ys) (puts_kept p q xs a.1) in
+      ∙ ap (λ (ys : List X). x ∷ ys) (puts_kept p q xs a.1) in
+      let into : List X → List X = λ us. fold (λ (ws : List X) (z : X). put_by less key z ws) us (filter q xs) in
       let front = put_front less strict key x (filter p xs) (all_filter (λ z. less (key x) (key z)) p xs a.0) in
       elim (cases_Bool (p x)) [
         | inl e ↦ elim (cases_Bool (q x)) [
-          | inl f ↦ rw (e, f) (ap (λ (us : List X). fold (λ (ws : List X) (z : X). put_by less key z ws) us (filter q xs)) (put_same x (filter p xs)) ∙ after)
+          | inl f ↦ rw (e, f) (ap into (put_same x (filter p xs)) ∙ after)
           | inr f ↦ rw (e, f) after
         ]
         | inr e ↦ elim (cases_Bool (q x)) [
-          | inl f ↦ rw (e, f) (ap (λ (us : List X). fold (λ (ws : List X) (z : X). put_by less key z ws) us (filter q xs)) front ∙ after)
+          | inl f ↦ rw (e, f) (ap into front ∙ after)
           | inr f ↦ rw (e, f) (puts_kept p q xs a.1)
         ]
       ]
 
   -- what is found under a key is all that has it
-  found_alone : (k : K) (is : X → Bool) → IsTest key k is → (xs : List X) (z : X) → rises_by less key xs ≡ true → find is xs ≡ Some z → filter is xs ≡ z ∷ []
+  found_alone : (k : K) (is : X → Bool) → IsTest key k is → (xs : List X) (z : X) → rises_by less key xs ≡ true → find is xs ≡ Some z
+      → filter is xs ≡ z ∷ []
   found_alone k is test [] z h found = absurd (cc (found))
   found_alone k is test (x ∷ xs) z h found =
       let a = and_parts (list_all (λ z. less (key x) (key z)) xs) (rises_by less key xs) h in
@@ -91,15 +93,17 @@ module _ {X K : Type 0} (less : K → K → Bool) (strict : IsStrict less) (key 
             let same : Some x ≡ Some z = rw e at found in
             let is_it : x ≡ z = cc (same) in
             let above : list_all (λ y. less k (key y)) xs ≡ true = ap (λ (j : K). list_all (λ y. less j (key y)) xs) (sym (test.says x e)) ∙ a.0 in
-            rw e (ap (λ (ys : List X). x ∷ ys) (not_found is xs (find_above less strict key k is test xs above)) ∙ ap (λ (y : X). y ∷ []) is_it)
+            let rest = not_found is xs (find_above less strict key k is test xs above) in
+            rw e (ap (λ (ys : List X). x ∷ ys) rest ∙ ap (λ (y : X). y ∷ []) is_it)
         | inr e ↦ rw e (found_alone k is test xs z a.1 (rw e at found))
       ]
 
   -- one more key: what is found under it is put in
-  pub one_more_kept : (p : X → Bool) (k : K) (is : X → Bool) → IsTest key k is → (xs : List X) (z : X) → rises_by less key xs ≡ true → find is xs ≡ Some z
-      → put_by less key z (filter p xs) ≡ filter (λ x. p x || is x) xs
+  pub one_more_kept : (p : X → Bool) (k : K) (is : X → Bool) → IsTest key k is → (xs : List X) (z : X) → rises_by less key xs ≡ true
+      → find is xs ≡ Some z → put_by less key z (filter p xs) ≡ filter (λ x. p x || is x) xs
   one_more_kept p k is test xs z h found =
-      ap (λ (zs : List X). fold (λ (ws : List X) (y : X). put_by less key y ws) (filter p xs) zs) (sym (found_alone k is test xs z h found)) ∙ puts_kept p is xs h
+      ap (λ (zs : List X). fold (λ (ws : List X) (y : X). put_by less key y ws) (filter p xs) zs) (sym (found_alone k is test xs z h found))
+      ∙ puts_kept p is xs h
 
 -- A part that names nothing.
 
@@ -141,16 +145,17 @@ advice_tested : (n : Named) (s : List ℕ) (ks : List PageAdvice)
 advice_tested n s ks = kept_same (λ k. n.shipments k.shipment || is_shipment s k) (λ k. n.shipments k.shipment || bytes_eq s k.shipment)
     (λ k. ap (λ v. n.shipments k.shipment || v) (bytes_turned k.shipment s)) ks
 
-pub advice_part : (P : PageFacts) (n : Named) → AreSorted P → (s : List ℕ) (k : PageAdvice) → advice_at s P.advices ≡ Some k
-    → record (part_of n P) { advices = put_advice k (part_of n P).advices } ≡ part_of (record n { shipments = λ t. n.shipments t || bytes_eq s t }) P
-advice_part P n sorted s k found =
-    let grown = one_more_kept comes_before texts_strict shipment_of (λ k. n.shipments k.shipment) s (is_shipment s) (shipment_test s) P.advices k sorted.advices found
-        ∙ advice_tested n s P.advices in
+pub advice_part : (n : Named) (P : PageFacts) → AreSorted P → (s : List ℕ) (k : PageAdvice) → advice_at s P.advices ≡ Some k
+    → record (part_of n P) { advices = put_advice k (part_of n P).advices }
+    ≡ part_of (record n { shipments = λ t. n.shipments t || bytes_eq s t }) P
+advice_part n P sorted s k found =
+    let grown = one_more_kept comes_before texts_strict shipment_of (λ k. n.shipments k.shipment) s (is_shipment s) (shipment_test s)
+    P.advices k sorted.advices found ∙ advice_tested n s P.advices in
     ap (λ (ks : List PageAdvice). record (part_of n P) { advices = ks }) grown
 
-pub advice_absent : (P : PageFacts) (n : Named) (s : List ℕ) → advice_at s P.advices ≡ None
+pub advice_absent : (n : Named) (P : PageFacts) (s : List ℕ) → advice_at s P.advices ≡ None
     → part_of n P ≡ part_of (record n { shipments = λ t. n.shipments t || bytes_eq s t }) P
-advice_absent P n s none =
+advice_absent n P s none =
     ap (λ (ks : List PageAdvice). record (part_of n P) { advices = ks })
     (none_more (λ k. n.shipments k.shipment) (is_shipment s) P.advices none ∙ advice_tested n s P.advices)
 
@@ -161,16 +166,17 @@ order_tested : (n : Named) (s : List ℕ) (ks : List PageOrder)
 order_tested n s ks = kept_same (λ k. n.orders k.number || is_number s k) (λ k. n.orders k.number || bytes_eq s k.number)
     (λ k. ap (λ v. n.orders k.number || v) (bytes_turned k.number s)) ks
 
-pub order_part : (P : PageFacts) (n : Named) → AreSorted P → (s : List ℕ) (k : PageOrder) → order_at s P.orders ≡ Some k
-    → record (part_of n P) { orders = put_order k (part_of n P).orders } ≡ part_of (record n { orders = λ t. n.orders t || bytes_eq s t }) P
-order_part P n sorted s k found =
-    let grown = one_more_kept comes_before texts_strict number_of (λ k. n.orders k.number) s (is_number s) (number_test s) P.orders k sorted.orders found
-        ∙ order_tested n s P.orders in
+pub order_part : (n : Named) (P : PageFacts) → AreSorted P → (s : List ℕ) (k : PageOrder) → order_at s P.orders ≡ Some k
+    → record (part_of n P) { orders = put_order k (part_of n P).orders }
+    ≡ part_of (record n { orders = λ t. n.orders t || bytes_eq s t }) P
+order_part n P sorted s k found =
+    let grown = one_more_kept comes_before texts_strict number_of (λ k. n.orders k.number) s (is_number s) (number_test s)
+    P.orders k sorted.orders found ∙ order_tested n s P.orders in
     ap (λ (ks : List PageOrder). record (part_of n P) { orders = ks }) grown
 
-pub order_absent : (P : PageFacts) (n : Named) (s : List ℕ) → order_at s P.orders ≡ None
+pub order_absent : (n : Named) (P : PageFacts) (s : List ℕ) → order_at s P.orders ≡ None
     → part_of n P ≡ part_of (record n { orders = λ t. n.orders t || bytes_eq s t }) P
-order_absent P n s none =
+order_absent n P s none =
     ap (λ (ks : List PageOrder). record (part_of n P) { orders = ks })
     (none_more (λ k. n.orders k.number) (is_number s) P.orders none ∙ order_tested n s P.orders)
 
@@ -181,16 +187,17 @@ document_tested : (n : Named) (m : ℕ) (ds : List PageDocument)
 document_tested n m ds = kept_same (λ d. n.documents d.n || is_document m d) (λ d. n.documents d.n || eqb m d.n)
     (λ d. ap (λ v. n.documents d.n || v) (number_turned d.n m)) ds
 
-pub document_part : (P : PageFacts) (n : Named) → AreSorted P → (m : ℕ) (d : PageDocument) → document_at m P.documents ≡ Some d
-    → record (part_of n P) { documents = put_document d (part_of n P).documents } ≡ part_of (record n { documents = λ j. n.documents j || (m == j) }) P
-document_part P n sorted m d found =
-    let grown = one_more_kept nat_lt numbers_strict entry_of (λ d. n.documents d.n) m (is_document m) (document_test m) P.documents d sorted.documents found
-        ∙ document_tested n m P.documents in
+pub document_part : (n : Named) (P : PageFacts) → AreSorted P → (m : ℕ) (d : PageDocument) → document_at m P.documents ≡ Some d
+    → record (part_of n P) { documents = put_document d (part_of n P).documents }
+    ≡ part_of (record n { documents = λ j. n.documents j || (m == j) }) P
+document_part n P sorted m d found =
+    let grown = one_more_kept nat_lt numbers_strict entry_of (λ d. n.documents d.n) m (is_document m) (document_test m)
+    P.documents d sorted.documents found ∙ document_tested n m P.documents in
     ap (λ (ds : List PageDocument). record (part_of n P) { documents = ds }) grown
 
-pub document_absent : (P : PageFacts) (n : Named) (m : ℕ) → document_at m P.documents ≡ None
+pub document_absent : (n : Named) (P : PageFacts) (m : ℕ) → document_at m P.documents ≡ None
     → part_of n P ≡ part_of (record n { documents = λ j. n.documents j || (m == j) }) P
-document_absent P n m none =
+document_absent n P m none =
     ap (λ (ds : List PageDocument). record (part_of n P) { documents = ds })
     (none_more (λ d. n.documents d.n) (is_document m) P.documents none ∙ document_tested n m P.documents)
 
@@ -201,9 +208,12 @@ row_tested : (n : Named) (item : List ℕ) (rows : List LotRow)
 row_tested n item rows = kept_same (λ r. n.items r.item || bytes_eq r.item item) (λ r. n.items r.item || bytes_eq item r.item)
     (λ r. ap (λ v. n.items r.item || v) (bytes_turned r.item item)) rows
 
-pub lots_part : (P : PageFacts) (n : Named) → AreSorted P → (item : List ℕ)
-    → record (part_of n P) { rows = fold (λ (ws : List LotRow) (r : LotRow). put_row r ws) (part_of n P).rows (filter (λ r. bytes_eq r.item item) P.rows) }
-        ≡ part_of (record n { items = λ t. n.items t || bytes_eq item t }) P
-lots_part P n sorted item =
-    let grown = puts_kept key_before pairs_strict row_key (λ r. n.items r.item) (λ r. bytes_eq r.item item) P.rows sorted.rows ∙ row_tested n item P.rows in
+pub lots_part : (n : Named) (P : PageFacts) → AreSorted P → (item : List ℕ)
+    → record (part_of n P) {
+      rows = fold (λ (ws : List LotRow) (r : LotRow). put_row r ws) (part_of n P).rows (filter (λ r. bytes_eq r.item item) P.rows);
+    }
+    ≡ part_of (record n { items = λ t. n.items t || bytes_eq item t }) P
+lots_part n P sorted item =
+    let grown = puts_kept key_before pairs_strict row_key (λ r. n.items r.item) (λ r. bytes_eq r.item item) P.rows sorted.rows
+    ∙ row_tested n item P.rows in
     ap (λ (rows : List LotRow). record (part_of n P) { rows = rows }) grown
