@@ -63,3 +63,4 @@ mod UnderKey
 mod SentUnder
 mod Looked
 pub mod Fits
+pub mod NeededParts
