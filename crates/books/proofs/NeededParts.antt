@@ -1,7 +1,6 @@
 -- The part that is needed of a page is put together of what is sought.
-use Rattle.std.proofs.Common.{◌≡◌, ◌==◌, ◌||◌, ◌++◌, ℕ, Bool, true, false, not, List, [], ◌∷◌, Option, Some, None, length, refl, sym, ap, ◌∙◌, subst, arith, inl, inr}
+use Rattle.std.proofs.Common.{◌≡◌, ◌==◌, ◌||◌, ◌++◌, ℕ, Bool, true, false, not, List, [], ◌∷◌, Some, None, length, refl, sym, ap, ◌∙◌, subst, arith, inl, inr}
 use Rattle.std.specs.Prelude.{bytes_eq, if◌then◌else◌}
-use Rattle.std.specs.List.{list_any}
 use Rattle.std.proofs.lemmas.Bool.{cases_Bool, eqb-true}
 use Rattle.std.proofs.lemmas.List.Folds.{list_any-append}
 use Rattle.std.proofs.lemmas.Slice.Eq.{bytes_eq-Decides}
@@ -14,7 +13,7 @@ use Rattle.profile.specs.Need.{Need, is_number_of, part}
 use Rattle.profile.specs.Page.{page_of}
 use Rattle.profile.specs.Register.{Entry, own}
 use Rattle.stock.specs.Pages.{IsSound, PageFacts}
-use Rattle.stock.specs.Parts.{Named, part_of}
+use Rattle.stock.specs.Parts.{Named}
 use Rattle.stock.proofs.PageLemmas.{blank_sound}
 use Rattle.stock.proofs.PartLaws.{part_is_part, part_sound}
 use Rattle.rules.specs.Decided.{IsHeldPart, IsPageOf}
@@ -24,7 +23,7 @@ use Rattle.rules.proofs.Defines.{defined_is, page_in_order, page_is_defined}
 use Rattle.rules.proofs.LegalPages.{legal_page}
 use Rattle.rules.proofs.NeedNames.{closed}
 use Rattle.store.specs.Held.{IsHeld}
-use Rattle.books.specs.Needed.{needed_part, part_for, with_number, with_numbers, with_text, with_texts}
+use Rattle.books.specs.Needed.{needed_part, with_number, with_numbers, with_text, with_texts}
 use Rattle.books.specs.declared.needed.Sought.{Sought}
 use Rattle.books.specs.declared.needed.Sought.TheVariants.{Advice, Order, Lots}
 

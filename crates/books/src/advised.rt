@@ -65,12 +65,7 @@ fn with_lines(bare: BareAdvice, lines: Vec<Goods>) -> Result<Option<KnownAdvice>
     if lines.len() > usize::from(MOST_LINES) {
         return Err(Fault::NotThisBook);
     }
-    Ok(Some(KnownAdvice::new(
-        bare.shipment,
-        bare.order,
-        lines,
-        bare.is_open,
-    )))
+    Ok(Some(KnownAdvice::new(bare.shipment, bare.order, lines, bare.is_open)))
 }
 
 impl<S: Alter + Drop> Tables<S> {

@@ -234,13 +234,7 @@ impl<S: Alter + Drop> Tables<S> {
     }
 
     // All but the lots.
-    fn named(
-        &mut self,
-        alloc: Global,
-        who: Who,
-        draft: Draft,
-        need: &Need,
-    ) -> Result<Draft, Fault>
+    fn named(&mut self, alloc: Global, who: Who, draft: Draft, need: &Need) -> Result<Draft, Fault>
         ensures found { Gathers S.Store self.old self.new who draft (λ n. with_numbers need.now.documents
             (with_texts Sought.Order need.now.orders (with_texts Sought.Advice need.now.shipments n))) result }
         ensures went { Went S.Store self.old self.new result }

@@ -170,25 +170,6 @@ pub(crate) fn entry_in(alloc: Global, who: &Who, row: &Row) -> Result<Option<Ent
     }))
 }
 
-/// The entries of a depositor that rows of mark, n, moment and body show; None where one of them shows none.
-pub(crate) fn entries_in(
-    alloc: Global,
-    who: &Who,
-    rows: &[Row],
-) -> Result<Option<Vec<Entry>>, AllocError>
-    ensures { (ws : List Written) → All (IsRecorded who.now) ws → rows.now ≡ map entry_shown ws
-        → IfOk result (λ entries. option_map (λ v. v.items) entries ≡ Some ws) }
-{
-    let mut entries = Vec::new(alloc);
-    for row in rows {
-        let Some(entry) = entry_in(alloc, who, row)? else {
-            return Ok(None);
-        };
-        entries.push(entry)?;
-    }
-    Ok(Some(entries))
-}
-
 // The warehouse that a row of version, qualifier and id names.
 fn house_in(row: &Row) -> Option<Warehouse>
     ensures { MatchOption result ((W : Partner) → IsHouse (row.now ∷ []) W → ⊥) (IsHouse (row.now ∷ [])) }

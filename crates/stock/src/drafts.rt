@@ -49,6 +49,20 @@ impl Draft {
         }
     }
 
+    /// The advices that were put in, by the bytes of their shipment numbers.
+    pub fn advices(&self) -> &[KnownAdvice]
+        ensures { result.now ≡ self.now.advices }
+    {
+        &self.advices
+    }
+
+    /// The orders that were put in, by the bytes of their numbers.
+    pub fn orders(&self) -> &[KnownOrder]
+        ensures { result.now ≡ self.now.orders }
+    {
+        &self.orders
+    }
+
     /// The page with what was put in, and with no event since its last entry; None where that is none: more reserved of a pair than
     /// is on hand; what is open not expected or not reserved; something reserved for an order of an item of none of its lines;
     /// or an amount above what so many entries can bring.

@@ -1,14 +1,12 @@
 use Rattle.std.proofs.Common.{◌≡◌, ◌∙◌, ap, sym, refl, subst, List, ℕ, Ok}
 use Rattle.sqlite.specs.Held.{state}
-use Rattle.sqlite.specs.State.{HasCleanDisk}
 use Rattle.profile.specs.Header.{Who}
 use Rattle.profile.specs.Page.{page_of}
 use Rattle.profile.specs.Register.{Entry, own}
 use Rattle.stock.specs.Pages.{IsSound, PageFacts}
 use Rattle.stock.specs.Puts.{nothing_yet}
 use Rattle.stock.proofs.Gathered.{nothing_part}
-use Rattle.rules.specs.Naming.{facts_of, named_of}
-use Rattle.books.specs.Exits.{StandsWhileOpen}
+use Rattle.rules.specs.Naming.{facts_of}
 use Rattle.books.specs.Needed.{none_named, part_for}
 use Rattle.books.proofs.AskedLater.{stands_later, clean_before}
 use Rattle.books.proofs.NeededParts.{sound_part}

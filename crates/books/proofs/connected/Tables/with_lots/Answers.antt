@@ -1,4 +1,4 @@
-use Rattle.std.proofs.Common.{◌≡◌, ◌∙◌, ap, List}
+use Rattle.std.proofs.Common.{◌∙◌, ap, List}
 use Rattle.std.specs.Prelude.{fold}
 use Rattle.profile.specs.Page.{page_of}
 use Rattle.profile.specs.Register.{own}
