@@ -21,6 +21,10 @@ use Rattle.profile.proofs.TextLaws.{text_is as bytes_same}
 use Rattle.stock.specs.Keyed.{shipment_of}
 use Rattle.stock.specs.Pages.{advice_at, is_shipment}
 use Rattle.stock.proofs.KeyLemmas.{texts_strict}
+use Rattle.std.specs.List.{list_all}
+use Rattle.rules.specs.Fitting.{is_fitting_line}
+use Rattle.rules.proofs.Fits.{page_fits}
+use Rattle.books.proofs.Fits.{advised_fit}
 use Rattle.books.specs.Asking.{Finds}
 use Rattle.books.specs.Exits.{StandsWhileOpen}
 use Rattle.books.specs.Layout.{advice_line_layout}
@@ -116,6 +120,8 @@ advised_found W L who shipment db rows partner sound stands h =
     ∙ second_of line_shown 1 (its_lines L who shipment)
 
 pub advised_read : (old : State) (W : Who) (L : List Entry) (who : Who) (shipment : List ℕ) → IsTrue (is_partner who) → IsLive old → StandsWhileOpen old W L → (rows : List Row)
-    → IsTrue old.is_open × Finds advice_lines_text (value.Text (who_text who) ∷ value.Text shipment ∷ []) old.now rows → (read : Option (List Line)) → ((ls : List Line) → rows ≡ map line_shown ls → read ≡ Some ls)
+    → IsTrue old.is_open × Finds advice_lines_text (value.Text (who_text who) ∷ value.Text shipment ∷ []) old.now rows → (read : Option (List Line)) → ((ls : List Line) → list_all is_fitting_line ls ≡ true → rows ≡ map line_shown ls → read ≡ Some ls)
     → read ≡ Some (lines_advised (advice_at shipment (page_of (own L who)).advices))
-advised_read old W L who shipment partner live stands rows finds read right = right _ (advised_found W L who shipment old.now rows partner (live finds.0).0 (stands finds.0) finds.1)
+advised_read old W L who shipment partner live stands rows finds read right =
+    let here = stands finds.0 in
+    right _ (advised_fit shipment (page_of (own L who)).advices (page_fits W L who here.legal).advices) (advised_found W L who shipment old.now rows partner (live finds.0).0 here finds.1)

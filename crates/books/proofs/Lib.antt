@@ -62,3 +62,5 @@ mod KnownTexts
 mod UnderKey
 mod SentUnder
 mod Looked
+pub mod Fits
+pub mod NeededParts

@@ -14,6 +14,10 @@ use Rattle.profile.specs.Rows.{LotRow, running_rows}
 use Rattle.profile.specs.Tables.{Text, TableRow, stock_cells, stock_table}
 use Rattle.profile.specs.Schema.{stock_schema}
 use Rattle.stock.specs.Keyed.{row_key, key_before as pairs_in_order}
+use Rattle.std.specs.List.{list_all}
+use Rattle.rules.specs.Fitting.{is_fitting_row}
+use Rattle.rules.proofs.Fits.{page_fits}
+use Rattle.stock.proofs.Keys.{all_filter}
 use Rattle.books.specs.Asking.{Finds}
 use Rattle.books.specs.Exits.{StandsWhileOpen}
 use Rattle.books.specs.Layout.{stock_layout}
@@ -63,6 +67,9 @@ lots_found W L who item db rows partner sound stands h =
 
 -- what rows were read as, of tables that stand while they are open
 pub lots_read : (old : State) (W : Who) (L : List Entry) (who : Who) (item : List ℕ) → IsTrue (is_partner who) → IsLive old → StandsWhileOpen old W L → (rows : List Row)
-    → IsTrue old.is_open × Finds lots_text (value.Text (who_text who) ∷ value.Text item ∷ []) old.now rows → (read : Option (List LotRow)) → ((rs : List LotRow) → rows ≡ map lot_shown rs → read ≡ Some rs)
+    → IsTrue old.is_open × Finds lots_text (value.Text (who_text who) ∷ value.Text item ∷ []) old.now rows → (read : Option (List LotRow)) → ((rs : List LotRow) → list_all is_fitting_row rs ≡ true → rows ≡ map lot_shown rs → read ≡ Some rs)
     → read ≡ Some (filter (λ r. bytes_eq r.item item) (page_of (own L who)).rows)
-lots_read old W L who item partner live stands rows finds read right = right _ (lots_found W L who item old.now rows partner (live finds.0).0 (stands finds.0) finds.1)
+lots_read old W L who item partner live stands rows finds read right =
+    let here = stands finds.0 in
+    right _ (all_filter is_fitting_row (λ (r : LotRow). bytes_eq r.item item) (page_of (own L who)).rows ((page_fits W L who here.legal).rows))
+    (lots_found W L who item old.now rows partner (live finds.0).0 here finds.1)

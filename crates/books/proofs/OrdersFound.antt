@@ -23,6 +23,10 @@ use Rattle.profile.proofs.TextLaws.{text_is as bytes_same}
 use Rattle.stock.specs.Keyed.{number_of, key_before as pairs_in_order, rises_by}
 use Rattle.stock.specs.Pages.{order_at, is_number}
 use Rattle.stock.proofs.KeyLemmas.{texts_strict}
+use Rattle.std.specs.List.{list_all}
+use Rattle.rules.specs.Fitting.{is_fitting_line, is_fitting_ordered}
+use Rattle.rules.proofs.Fits.{page_fits}
+use Rattle.books.proofs.Fits.{ordered_fit, reserved_fit}
 use Rattle.books.specs.Asking.{Finds}
 use Rattle.books.specs.Exits.{StandsWhileOpen}
 use Rattle.books.specs.Held.{values}
@@ -126,9 +130,11 @@ ordered_found W L who number db rows partner sound stands h =
     ∙ second_of order_line_shown 1 (its_lines L who number)
 
 pub ordered_read : (old : State) (W : Who) (L : List Entry) (who : Who) (number : List ℕ) → IsTrue (is_partner who) → IsLive old → StandsWhileOpen old W L → (rows : List Row)
-    → IsTrue old.is_open × Finds order_lines_text (value.Text (who_text who) ∷ value.Text number ∷ []) old.now rows → (read : Option (List PageLine)) → ((ls : List PageLine) → rows ≡ map order_line_shown ls → read ≡ Some ls)
+    → IsTrue old.is_open × Finds order_lines_text (value.Text (who_text who) ∷ value.Text number ∷ []) old.now rows → (read : Option (List PageLine)) → ((ls : List PageLine) → list_all is_fitting_ordered ls ≡ true → rows ≡ map order_line_shown ls → read ≡ Some ls)
     → read ≡ Some (lines_ordered (order_at number (page_of (own L who)).orders))
-ordered_read old W L who number partner live stands rows finds read right = right _ (ordered_found W L who number old.now rows partner (live finds.0).0 (stands finds.0) finds.1)
+ordered_read old W L who number partner live stands rows finds read right =
+    let here = stands finds.0 in
+    right _ (ordered_fit number (page_of (own L who)).orders (page_fits W L who here.legal).orders) (ordered_found W L who number old.now rows partner (live finds.0).0 here finds.1)
 
 -- What is reserved for it.
 
@@ -173,6 +179,8 @@ reserved_found W L who number db rows partner sound stands h =
     (are_keyed reservation_schema 4 (reservation_table L) (db.trees 16) (ordered.keyed Reservation) (held.keyed Reservation)))
 
 pub reserved_read : (old : State) (W : Who) (L : List Entry) (who : Who) (number : List ℕ) → IsTrue (is_partner who) → IsLive old → StandsWhileOpen old W L → (rows : List Row)
-    → IsTrue old.is_open × Finds reserved_text (value.Text (who_text who) ∷ value.Text number ∷ []) old.now rows → (read : Option (List Line)) → ((ls : List Line) → rows ≡ map line_shown ls → read ≡ Some ls)
+    → IsTrue old.is_open × Finds reserved_text (value.Text (who_text who) ∷ value.Text number ∷ []) old.now rows → (read : Option (List Line)) → ((ls : List Line) → list_all is_fitting_line ls ≡ true → rows ≡ map line_shown ls → read ≡ Some ls)
     → read ≡ Some (lines_reserved (order_at number (page_of (own L who)).orders))
-reserved_read old W L who number partner live stands rows finds read right = right _ (reserved_found W L who number old.now rows partner (live finds.0).0 (stands finds.0) finds.1)
+reserved_read old W L who number partner live stands rows finds read right =
+    let here = stands finds.0 in
+    right _ (reserved_fit number (page_of (own L who)).orders (page_fits W L who here.legal).orders) (reserved_found W L who number old.now rows partner (live finds.0).0 here finds.1)

@@ -1,13 +1,10 @@
 -- A depositor's entries can be read back, and 43 is never told of tables that stand for a register.
-use Rattle.std.proofs.Common.{◌≡◌, ℕ, List, [], ◌∷◌, ◌++◌, map, ◌&&◌, Bool, true, All, Some, Option, IsTrue, refl, sym, ap, subst, ◌∙◌, arith, append_assoc, inl, inr}
+use Rattle.std.proofs.Common.{◌≡◌, ℕ, List, [], ◌∷◌, ◌++◌, ◌&&◌, Bool, true, refl, sym, ap, subst, ◌∙◌, arith, append_assoc, inl, inr}
 use Rattle.std.specs.Prelude.{if◌then◌else◌}
 use Rattle.std.specs.List.{AllByRecursion}
 use Rattle.std.proofs.lemmas.Bool.{cases_Bool}
-use Rattle.std.proofs.lemmas.List.Elements.{All-from_recursion}
-use Rattle.sqlite.specs.Order.{Row}
 use Rattle.sqlite.specs.State.{State, HasCleanDisk}
-use Rattle.sqlite.specs.declared.types.Value.TheVariants as value
-use Rattle.profile.specs.Header.{Who, is_partner, who_eq, who_text}
+use Rattle.profile.specs.Header.{Who, is_partner, who_eq}
 use Rattle.profile.specs.Moments.{is_moment}
 use Rattle.profile.specs.Register.{Entry, own, is_numbered}
 use Rattle.profile.specs.History.{history}
@@ -16,19 +13,16 @@ use Rattle.profile.specs.Accepted.{IsLegal}
 use Rattle.profile.specs.Tables.{number_of}
 use Rattle.profile.proofs.HistoryLaws.{history-numbered}
 use Rattle.profile.proofs.TextLaws.{both_parts}
-use Rattle.rules.specs.Written.{Written}
 use Rattle.rules.specs.Played.{number_after}
 use Rattle.rules.proofs.Follows.{legal_follow}
 use Rattle.rules.proofs.Registers.{who_is}
 use Rattle.store.specs.Replayed.{written_on, all_written}
 use Rattle.store.specs.declared.fault.Fault.{Fault}
 use Rattle.store.specs.declared.fault.Fault.TheVariants.{Store, Reopen, NotThisBook, Device}
-use Rattle.books.specs.Asking.{Finds, IsAskFault}
+use Rattle.books.specs.Asking.{IsAskFault}
 use Rattle.books.specs.Exits.{StandsWhileOpen}
-use Rattle.books.specs.Recorded.{entry_shown, IsRecorded}
-use Rattle.books.proofs.Found.{own_found}
+use Rattle.books.specs.Recorded.{IsRecorded}
 use Rattle.books.proofs.Owned.{own_legal}
-use Rattle.books.proofs.ReadingTexts.{own_text}
 
 abbrev IsOf : Who → Entry → Type 0
 IsOf who e = who_eq e.who who ≡ true
@@ -53,20 +47,6 @@ recorded_on W M front (e ∷ rest) who legal is its =
 
 pub each_recorded : (W : Who) (L : List Entry) (who : Who) → IsLegal W L → AllByRecursion (IsRecorded who) (all_written (own L who))
 each_recorded W L who legal = recorded_on W (own L who) [] (own L who) who (own_legal W L who legal) refl (all_of L who)
-
-all_recorded : (W : Who) (L : List Entry) (who : Who) → IsLegal W L → All (IsRecorded who) (all_written (own L who))
-all_recorded W L who legal = All-from_recursion (IsRecorded who) (all_written (own L who)) (recorded_on W (own L who) [] (own L who) who (own_legal W L who legal) refl (all_of L who))
-
--- what rows were read as, where they were read right
-abbrev pub ReadsRight : Who → List Row → Option (List Written) → Type 0
-ReadsRight who rows read = (ws : List Written) → All (IsRecorded who) ws → rows ≡ map entry_shown ws → read ≡ Some ws
-
-module _ (old : State) (W : Who) (L : List Entry) (who : Who) (partner : IsTrue (is_partner who)) (stands : StandsWhileOpen old W L) (text : List ℕ) (told : text ≡ who_text who)
-    (rows : List Row) (finds : IsTrue old.is_open × Finds own_text (value.Text text ∷ []) old.now rows) (read : Option (List Written)) (right : ReadsRight who rows read) where
-  pub own_read : read ≡ Some (all_written (own L who))
-  own_read =
-      let here = stands finds.0 in
-      right (all_written (own L who)) (all_recorded W L who here.legal) (own_found W L who old.now rows partner here (subst (λ t. Finds own_text (value.Text t ∷ []) old.now rows) told finds.1))
 
 -- a row that shows no entry is met only where the tables stand for no register
 pub shows_none : (old new : State) (refused more : ℕ) → (HasCleanDisk new → (W : Who) (L : List Entry) → StandsWhileOpen old W L → ⊥) → IsAskFault NotThisBook old new refused more

@@ -9,7 +9,7 @@ use Rattle.store.specs.declared.fault.Fault.{Fault}
 use Rattle.store.specs.declared.fault.Fault.TheVariants.{OutOfMemory, Store, Reopen, NotThisBook, Device}
 use Rattle.profile.specs.Header.{Who}
 use Rattle.profile.specs.Register.{Entry}
-use Rattle.books.specs.Asking.{Asked, IsAsked, IsAskFault}
+use Rattle.books.specs.Asking.{Asked, Went, IsAsked, IsAskFault}
 use Rattle.books.specs.Exits.{StandsWhileOpen}
 use Rattle.books.specs.Kept.{Kept}
 use Rattle.books.specs.Limits.{NoMore}
@@ -122,13 +122,40 @@ module _ {S : Type 0} (store : Ghosts S) where
     allowed = never_ok _ _ r is;
   }
 
-  -- one query after another
-  pub asked_on : {T U : Type 0} (a b c : Kept S) (t : T) (r : Result U Fault) → Asked {T = T} store a b (Ok t) → Asked store b c r → Asked store a c r
-  asked_on a b c t r one two = record {
+  -- one after another
+  pub went_of : {T : Type 0} (old new : Kept S) (r : Result T Fault) → Asked store old new r → Went store old new r
+  went_of old new r asked = record { left = asked.left; fault = asked.fault; counts = asked.counts; uncounted = asked.uncounted; limit = asked.limit }
+
+  pub went_none : {T : Type 0} (s : Kept S) (t : T) → Went {T = T} store s s (Ok t)
+  went_none s t = record { left = unasked (state store s.conn); fault = tt; counts = omega arith; uncounted = refl; limit = no_more_refl s.limit }
+
+  pub went_on : {T U : Type 0} (a b c : Kept S) (t : T) (r : Result U Fault) → Went {T = T} store a b (Ok t) → Went store b c r → Went store a c r
+  went_on a b c t r one two = record {
     left = asked_twice (state store a.conn) (state store b.conn) (state store c.conn) one.left two.left;
     fault = if_err r (λ f h. fault_later f (state store a.conn) (state store b.conn) (state store c.conn) a.refused b.refused c.refused one.left two.left one.counts h) two.fault;
     counts = omega (arith, one.counts, two.counts);
     uncounted = on_ok r (λ e. e ∙ one.uncounted) two.uncounted;
     limit = no_more_trans a.limit b.limit c.limit one.limit two.limit;
-    allowed = always_ok r one.allowed;
   }
+
+  -- another answer of the same queries
+  pub went_as : {T U : Type 0} (old new : Kept S) (t : T) (u : U) → Went {T = T} store old new (Ok t) → Went {T = U} store old new (Ok u)
+  went_as old new t u went = record { left = went.left; fault = tt; counts = went.counts; uncounted = went.uncounted; limit = went.limit }
+
+  pub went_fails : {T U : Type 0} (old new : Kept S) (f : Fault) (r : Result U Fault) → IsErrAnd r (λ g. g ≡ f) → Went {T = T} store old new (Err f) → Went store old new r
+  went_fails old new f r is went = record {
+    left = went.left;
+    fault = if_error r (λ g e. subst (λ h. IsAskFault h (state store old.conn) (state store new.conn) old.refused new.refused) (sym e) went.fault) is;
+    counts = went.counts;
+    uncounted = never_ok _ _ r is;
+    limit = went.limit;
+  }
+
+  -- a query, and then others
+  pub asked_went : {T U : Type 0} (a b c : Kept S) (t : T) (r : Result U Fault) → Asked {T = T} store a b (Ok t) → Went store b c r → Asked store a c r
+  asked_went a b c t r one two =
+      let both = went_on a b c t r (went_of a b (Ok t) one) two in
+      record { left = both.left; fault = both.fault; counts = both.counts; uncounted = both.uncounted; limit = both.limit; allowed = always_ok r one.allowed }
+
+  pub asked_on : {T U : Type 0} (a b c : Kept S) (t : T) (r : Result U Fault) → Asked {T = T} store a b (Ok t) → Asked store b c r → Asked store a c r
+  asked_on a b c t r one two = asked_went a b c t r one (went_of b c r two)

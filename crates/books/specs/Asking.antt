@@ -41,8 +41,16 @@ pub record IsAskFault (fault : Fault) (old new : State) (refused more : ℕ) : T
   pub reopen : fault ≡ Reopen → ⊥
   pub device : fault ≡ Device → ⊥
 
--- What a query leaves, whatever it tells: the tables as they were, a refused call counted and no other, and no more calls left
--- than before, of which there was one where it answers Ok.
+-- What queries leave, any number of them and whatever they tell: the tables as they were, a refused call counted and no other,
+-- and no more calls left than before.
+pub record Went {S T : Type 0} (store : Ghosts S) (old new : Kept S) (result : Result T Fault) : Type 0 where
+  pub left : IsAsked (state store old.conn) (state store new.conn)
+  pub fault : IfErr result (λ f. IsAskFault f (state store old.conn) (state store new.conn) old.refused new.refused)
+  pub counts : old.refused ≤ new.refused
+  pub uncounted : OnOk result (new.refused ≡ old.refused)
+  pub limit : NoMore old.limit new.limit
+
+-- The same of at least one: there was a call left where it answers Ok.
 pub record Asked {S T : Type 0} (store : Ghosts S) (old new : Kept S) (result : Result T Fault) : Type 0 where
   pub left : IsAsked (state store old.conn) (state store new.conn)
   pub fault : IfErr result (λ f. IsAskFault f (state store old.conn) (state store new.conn) old.refused new.refused)

@@ -20,3 +20,4 @@ pub mod Taken
 pub mod Making
 pub mod Keeping
 pub mod Opened
+pub mod Needed

@@ -1,4 +1,5 @@
-ghost use Rattle.std.specs.Prelude.{◌≡◌, List, Some, IfOk, option_map};
+ghost use Rattle.std.specs.Prelude.{◌≡◌, ◌<◌, [], List, Some, IfErr, IfOk, length, option_map};
+ghost use Rattle.profile.specs.Limits.{most_lines};
 ghost use Rattle.profile.specs.Header.{Who as Partner};
 ghost use Rattle.profile.specs.Page.{PageAdvice, page_of};
 ghost use Rattle.profile.specs.Register as register;
@@ -11,35 +12,33 @@ ghost use Rattle.books.specs.Looking.{bare_advice, lines_advised};
 ghost use Rattle.books.specs.Showing.{advice_shown};
 
 use crate::connected::Tables;
-use crate::goods::{LineShown, lines_in};
+use crate::goods::lines_in;
 use crate::reading::{number_at, text_at};
+use profile::MOST_LINES;
 use rules::Who;
+use sets_in::Goods;
 use sqlite::{Alter, Row};
 use std::alloc::{AllocError, Global};
 use std::marker::Model;
+use stock::KnownAdvice;
 use store::Fault;
 
-/// An advice, as the running rows have it.
+// An advice as its row has it, without its lines.
 #[derive(Drop)]
-pub(crate) struct AdviceShown {
-    /// Its shipment number.
-    pub(crate) shipment: Vec<u8>,
-    /// The number of the order that it belongs to.
-    pub(crate) order: Vec<u8>,
-    /// What is advised, in the order of its set.
-    pub(crate) lines: Vec<LineShown>,
-    /// Whether it hasn't been counted yet.
-    pub(crate) is_open: bool,
+struct BareAdvice {
+    shipment: Vec<u8>,
+    order: Vec<u8>,
+    is_open: bool,
 }
 
-impl Model for AdviceShown {
+impl Model for BareAdvice {
     ghost Value = { PageAdvice };
 
-    ghost view = { λ a. record { shipment = a.shipment.items; order = a.order.items; lines = a.lines.items; is_open = a.is_open } };
+    ghost view = { λ a. record { shipment = a.shipment.items; order = a.order.items; lines = []; is_open = a.is_open } };
 }
 
 // The advice that a row of shipment, ord and is_open shows, but for its lines; None where it shows none.
-fn advice_in(alloc: Global, row: &Row) -> Result<Option<AdviceShown>, AllocError>
+fn advice_in(alloc: Global, row: &Row) -> Result<Option<BareAdvice>, AllocError>
     ensures { (a : PageAdvice) → row.now ≡ advice_shown a → IfOk result (λ shown. shown ≡ Some (bare_advice a)) }
 {
     let Some(shipment) = text_at(row, 0) else {
@@ -51,12 +50,22 @@ fn advice_in(alloc: Global, row: &Row) -> Result<Option<AdviceShown>, AllocError
     let Some(flag) = number_at(row, 2) else {
         return Ok(None);
     };
-    Ok(Some(AdviceShown {
+    Ok(Some(BareAdvice {
         shipment: Vec::from_slice(alloc, shipment)?,
         order: Vec::from_slice(alloc, order)?,
-        lines: Vec::new(alloc),
         is_open: flag == 1,
     }))
+}
+
+// An advice with its lines. 43 where they are more than an advice has.
+fn with_lines(bare: BareAdvice, lines: Vec<Goods>) -> Result<Option<KnownAdvice>, Fault>
+    ensures whole { IfOk result (λ advice. advice ≡ Some (record bare { lines = lines.items })) }
+    ensures many { IfErr result (λ fault. (fault ≡ Fault.NotThisBook) × (most_lines < length lines.items)) }
+{
+    if lines.len() > usize::from(MOST_LINES) {
+        return Err(Fault::NotThisBook);
+    }
+    Ok(Some(KnownAdvice::new(bare.shipment, bare.order, lines, bare.is_open)))
 }
 
 impl<S: Alter + Drop> Tables<S> {
@@ -66,7 +75,7 @@ impl<S: Alter + Drop> Tables<S> {
         alloc: Global,
         who: Who,
         shipment: &[u8],
-    ) -> Result<Option<AdviceShown>, Fault>
+    ) -> Result<Option<BareAdvice>, Fault>
         ensures advice { HasCleanDisk (state S.Store self.new.conn) → (W : Partner) (L : List register.Entry)
             → StandsWhileOpen (state S.Store self.old.conn) W L
             → IfOk result (λ advice. advice ≡ option_map bare_advice (advice_at shipment.now (page_of (register.own L who)).advices)) }
@@ -93,7 +102,7 @@ impl<S: Alter + Drop> Tables<S> {
         alloc: Global,
         who: Who,
         shipment: &[u8],
-    ) -> Result<Vec<LineShown>, Fault>
+    ) -> Result<Vec<Goods>, Fault>
         ensures lines { HasCleanDisk (state S.Store self.new.conn) → (W : Partner) (L : List register.Entry)
             → StandsWhileOpen (state S.Store self.old.conn) W L
             → IfOk result (λ lines. lines.items ≡ lines_advised (advice_at shipment.now (page_of (register.own L who)).advices)) }
@@ -117,20 +126,17 @@ impl<S: Alter + Drop> Tables<S> {
         alloc: Global,
         who: Who,
         shipment: &[u8],
-    ) -> Result<Option<AdviceShown>, Fault>
+    ) -> Result<Option<KnownAdvice>, Fault>
         ensures advice { HasCleanDisk (state S.Store self.new.conn) → (W : Partner) (L : List register.Entry)
             → StandsWhileOpen (state S.Store self.old.conn) W L
             → IfOk result (λ advice. advice ≡ advice_at shipment.now (page_of (register.own L who)).advices) }
         ensures asked { Asked S.Store self.old self.new result }
     {
-        let Some(mut advice) = self.bare_advice(alloc, who, shipment)? else {
+        let Some(bare) = self.bare_advice(alloc, who, shipment)? else {
             return Ok(None);
         };
         match self.advice_lines(alloc, who, shipment) {
-            Ok(lines) => {
-                advice.lines = lines;
-                Ok(Some(advice))
-            }
+            Ok(lines) => with_lines(bare, lines),
             Err(fault) => Err(fault),
         }
     }

@@ -4,7 +4,6 @@ ghost use Rattle.profile.specs.Register as register;
 ghost use Rattle.sqlite.specs.Held.{state};
 ghost use Rattle.sqlite.specs.Order.{Row as Cells};
 ghost use Rattle.sqlite.specs.State.{HasCleanDisk};
-ghost use Rattle.store.specs.Replayed.{all_written};
 ghost use Rattle.books.specs.Asking.{Asked, Finds, IsAsked, house_text};
 ghost use Rattle.books.specs.Exits.{StandsWhileOpen};
 ghost use Rattle.books.specs.Limits.{NoMore};
@@ -12,31 +11,12 @@ ghost use Rattle.books.specs.Recorded.{IsHouse};
 ghost use Rattle.books.specs.Rises.{Rises};
 
 use crate::connected::Tables;
-use crate::reading::{entries_in, house_of};
-use rules::{Entry, Warehouse, Who};
+use crate::reading::house_of;
+use rules::Warehouse;
 use sqlite::Alter;
-use std::alloc::Global;
 use store::Fault;
 
 impl<S: Alter + Drop> Tables<S> {
-    /// A depositor's entries as they are written down, in their order. 43 where a row shows none.
-    pub(crate) fn own_entries(&mut self, alloc: Global, who: Who) -> Result<Vec<Entry>, Fault>
-        ensures entries { HasCleanDisk (state S.Store self.new.conn) → (W : Partner) (L : List register.Entry)
-            → StandsWhileOpen (state S.Store self.old.conn) W L
-            → IfOk result (λ entries. entries.items ≡ all_written (register.own L who)) }
-        ensures asked { Asked S.Store self.old self.new result }
-    {
-        let rows = self.of_depositor(
-            alloc,
-            "SELECT mark, n, moment, body FROM entry WHERE who = ?1 ORDER BY seq",
-            who,
-        )?;
-        match entries_in(alloc, &who, &rows)? {
-            Some(entries) => Ok(entries),
-            None => Err(Fault::NotThisBook),
-        }
-    }
-
     /// The warehouse of the book. 43 where `book` hasn't one row, or that row has no version that is read or no warehouse.
     #[tactic(auto, using(crate::proofs::Limited::no_more_trans, crate::proofs::Limited::no_more_same))]
     pub(crate) fn house(&mut self) -> Result<Warehouse, Fault>

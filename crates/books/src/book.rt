@@ -9,13 +9,13 @@ ghost use Rattle.rules.specs.Decided.{IsHeldAtRest, IsRecalled};
 ghost use Rattle.sqlite.specs.State.{HasCleanDisk, Survives};
 ghost use Rattle.sqlite.specs.Held.{state};
 ghost use Rattle.sqlite.specs.Order.{Row as Cells};
-ghost use Rattle.store.specs.Replayed.{all_written};
 ghost use Rattle.store.specs.Held.{IsHeld};
 ghost use Rattle.store.specs.Standing.{IsUsable, IsUnchanged, IsQueryFault, IsNext, IsFault, IsCommitFault, LeavesEither, GoesOn};
 ghost use Rattle.books.specs.Asking.{Finds, IsAsked, house_text};
 ghost use Rattle.books.specs.Exits.{IsAsBefore, StandsWhileOpen};
 ghost use Rattle.books.specs.Keeping.{IsKept, IsSettled};
 ghost use Rattle.books.specs.Limits.{NoMore};
+ghost use Rattle.books.specs.Needed.{needed_part};
 ghost use Rattle.books.specs.Layout.{no_layout};
 ghost use Rattle.books.specs.Opened.{standing_of};
 ghost use Rattle.books.specs.Recorded.{IsHouse};
@@ -29,7 +29,7 @@ use rules::{Change, Entry, Key, Known, Need, Page, Warehouse, Who};
 use sqlite::Alter;
 use std::alloc::Global;
 use std::marker::Model;
-use store::{Fault, Keeper, OutRow, ReplayBook, StockRow};
+use store::{Fault, Keeper, OutRow, StockRow};
 
 // The greatest number that SQLite holds.
 const GREATEST: u64 = 9_223_372_036_854_775_807;
@@ -152,28 +152,6 @@ impl<S: Alter + Drop> Book<S> {
         } = self;
         tables
     }
-
-    // A depositor's entries, as a book in memory that replays them.
-    #[tactic(auto, using(crate::proofs::Limited::no_more_trans, crate::proofs::Limited::no_more_same))]
-    fn own_book(&mut self, who: Who) -> Result<ReplayBook, Fault>
-        ensures own { (standing_of S.Store self.new).doubt ≡ 0 → (L : List register.Entry)
-            → (standing_of S.Store self.old).keeps L → IfOk result (λ book. book.entries ≡ all_written
-            (register.own L who)) }
-        ensures warehouse { IfOk result (λ book. book.warehouse ≡ self.old.warehouse) }
-        ensures same { IsUnchanged (standing_of S.Store self.old) (standing_of S.Store self.new) }
-        ensures fault { IfErr result (λ fault. IsQueryFault fault (standing_of S.Store self.old)
-            (standing_of S.Store self.new)) }
-        ensures shut { (standing_of S.Store self.old).shut ≡ true → IsErrOf result Fault.Reopen }
-        ensures uncounted { OnOk result (self.new.tables.refused ≡ self.old.tables.refused) }
-        ensures limit { NoMore self.old.tables.limit self.new.tables.limit }
-        ensures allowed { OnOk result (self.old.tables.limit ≢ Some 0) }
-    {
-        if self.shut {
-            return Err(Fault::Reopen);
-        }
-        let entries = self.tables.own_entries(self.alloc, who)?;
-        Ok(ReplayBook::of(self.alloc, self.warehouse, entries))
-    }
 }
 
 impl<S: Alter + Drop> Keeper for Book<S> {
@@ -185,11 +163,14 @@ impl<S: Alter + Drop> Keeper for Book<S> {
         self.warehouse
     }
 
+    /// Just the part that is needed of a depositor's page, from the running rows; None for a stranger.
     #[tactic(auto, using(crate::proofs::Limited::no_more_trans, crate::proofs::Limited::no_more_same))]
     fn load(&mut self, who: Who, need: &Need) -> Result<Option<Page>, Fault>
         ensures page { (standing_of S.Store self.new).doubt ≡ 0 → (L : List register.Entry)
             → (standing_of S.Store self.old).keeps L → IsLegal (standing_of S.Store self.old).warehouse L
             → IfOk result (λ page. IsHeld need.now page (decided.standing (register.own L who))) }
+        ensures part { (standing_of S.Store self.new).doubt ≡ 0 → (L : List register.Entry)
+            → (standing_of S.Store self.old).keeps L → IfOk result (λ page. page ≡ needed_part need.now L who) }
         ensures rest { IfOk result IsHeldAtRest }
         ensures same { IsUnchanged (standing_of S.Store self.old) (standing_of S.Store self.new) }
         ensures fault { IfErr result (λ fault. IsQueryFault fault (standing_of S.Store self.old)
@@ -199,8 +180,10 @@ impl<S: Alter + Drop> Keeper for Book<S> {
         ensures limit { NoMore self.old.tables.limit self.new.tables.limit }
         ensures allowed { OnOk result (self.old.tables.limit ≢ Some 0) }
     {
-        let mut own = self.own_book(who)?;
-        own.load(who, need)
+        if self.shut {
+            return Err(Fault::Reopen);
+        }
+        self.tables.page_for(self.alloc, who, need)
     }
 
     #[tactic(auto, using(crate::proofs::Limited::no_more_trans, crate::proofs::Limited::no_more_same))]

@@ -14,6 +14,7 @@ pub mod laws;
 mod looking;
 mod lots;
 mod making;
+mod needed;
 mod numbers;
 mod orders;
 mod reading;

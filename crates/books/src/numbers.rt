@@ -1,4 +1,4 @@
-ghost use Rattle.std.specs.Prelude.{◌≡◌, List, MatchOption, Some, IfOk, Option as Maybe, Bool, option_map};
+ghost use Rattle.std.specs.Prelude.{◌≡◌, List, MatchOption, Some, IfOk, IsTrue, OnOk, Option as Maybe, Bool, option_map};
 ghost use Rattle.profile.specs.Header.{Who as Partner};
 ghost use Rattle.profile.specs.Page.{PageDocument, page_of};
 ghost use Rattle.profile.specs.Register as register;
@@ -12,7 +12,7 @@ ghost use Rattle.books.specs.Looking.{function_as, text_under, IsRowOf};
 ghost use Rattle.books.specs.Showing.{sent_shown};
 
 use crate::connected::Tables;
-use crate::reading::{number_at, text_at};
+use crate::reading::{small_at, text_at};
 use crate::recalled::content_in;
 use crate::sent::kind_of;
 use rules::{OutKind, Who};
@@ -118,10 +118,11 @@ impl<S: Alter + Drop> Tables<S> {
     /// How many numbered entries a depositor has. Each of them has its row in `outgoing`, also where nothing went out for it, and
     /// the key of that table ends in the number: so the last row under the depositor tells, and no other is read. 43 where it
     /// shows no number.
-    pub(crate) fn last_number(&mut self, alloc: Global, who: Who) -> Result<u64, Fault>
+    pub(crate) fn last_number(&mut self, alloc: Global, who: Who) -> Result<u32, Fault>
         ensures number { HasCleanDisk (state S.Store self.new.conn) → (W : Partner) (L : List register.Entry)
             → StandsWhileOpen (state S.Store self.old.conn) W L
             → IfOk result (λ n. n ≡ (page_of (register.own L who)).entries) }
+        ensures open { HasCleanDisk (state S.Store self.new.conn) → OnOk result (IsTrue (state S.Store self.old.conn).is_open) }
         ensures asked { Asked S.Store self.old self.new result }
     {
         let rows = self.of_depositor(
@@ -132,7 +133,7 @@ impl<S: Alter + Drop> Tables<S> {
         let Some(row) = rows.first() else {
             return Ok(0);
         };
-        match number_at(row, 0) {
+        match small_at(row, 0) {
             Some(n) => Ok(n),
             None => Err(Fault::NotThisBook),
         }

@@ -1,62 +1,26 @@
-ghost use Rattle.std.specs.Prelude.{◌≡◌, List, Some, IfOk, map, option_map};
+ghost use Rattle.std.specs.Prelude.{◌≡◌, ◌<◌, ◌^◌, List, Some, IfOk, map, option_map, true};
+ghost use Rattle.std.specs.List.{list_all};
 ghost use Rattle.profile.specs.Header.{Who as Partner};
 ghost use Rattle.profile.specs.Page.{PageLine, PageOrder, page_of};
 ghost use Rattle.profile.specs.Register as register;
 ghost use Rattle.sqlite.specs.Held.{state};
 ghost use Rattle.sqlite.specs.State.{HasCleanDisk};
 ghost use Rattle.stock.specs.Pages.{order_at};
+ghost use Rattle.rules.specs.Fitting.{is_fitting_ordered};
 ghost use Rattle.books.specs.Asking.{Asked};
 ghost use Rattle.books.specs.Exits.{StandsWhileOpen};
 ghost use Rattle.books.specs.Looking.{bare_order, lines_ordered, lines_reserved};
 ghost use Rattle.books.specs.Showing.{order_shown, order_line_shown};
 
 use crate::connected::Tables;
-use crate::goods::{LineShown, lines_in};
-use crate::reading::{number_at, text_at};
+use crate::goods::lines_in;
+use crate::reading::{number_at, small_at, text_at};
 use rules::Who;
-use sets_in::Address;
+use sets_in::{Address, Goods};
 use sqlite::{Alter, Row};
 use std::alloc::{AllocError, Global};
-use std::marker::Model;
+use stock::{KnownLine, KnownOrder};
 use store::Fault;
-
-/// A line of an order, as the running rows have it.
-#[derive(Drop)]
-pub(crate) struct OrderLineShown {
-    /// The item.
-    pub(crate) item: Vec<u8>,
-    /// The lot that it is pinned to, if there is one.
-    pub(crate) pin: Option<Vec<u8>>,
-    /// How much is ordered.
-    pub(crate) quantity: u64,
-}
-
-impl Model for OrderLineShown {
-    ghost Value = { PageLine };
-
-    ghost view = { λ l. record { item = l.item.items; pin = option_map (λ v. v.items) l.pin; quantity = l.quantity } };
-}
-
-/// An order, as the running rows have it.
-#[derive(Drop)]
-pub(crate) struct OrderShown {
-    /// Its number.
-    pub(crate) number: Vec<u8>,
-    /// Where it goes, if its set said so.
-    pub(crate) address: Option<Address>,
-    /// Its lines, in the order of its set.
-    pub(crate) lines: Vec<OrderLineShown>,
-    /// What is reserved for it, by item and lot; nothing where it was picked.
-    pub(crate) reserved: Vec<LineShown>,
-    /// Whether it hasn't been picked yet.
-    pub(crate) is_open: bool,
-}
-
-impl Model for OrderShown {
-    ghost Value = { PageOrder };
-
-    ghost view = { λ o. record { number = o.number.items; address = o.address; lines = o.lines.items; reserved = o.reserved.items; is_open = o.is_open } };
-}
 
 // The address in the last four columns of a row of an order: none where the name is NULL, or another than a text.
 fn address_in(alloc: Global, row: &Row) -> Result<Option<Option<Address>>, AllocError>
@@ -83,7 +47,7 @@ fn address_in(alloc: Global, row: &Row) -> Result<Option<Option<Address>>, Alloc
 }
 
 // The order that a row of ord, is_open and the address shows, but for its lines and what is reserved; None where it shows none.
-fn order_in(alloc: Global, row: &Row) -> Result<Option<OrderShown>, AllocError>
+fn order_in(alloc: Global, row: &Row) -> Result<Option<KnownOrder>, AllocError>
     ensures { (o : PageOrder) → row.now ≡ order_shown o → IfOk result (λ shown. shown ≡ Some (bare_order o)) }
 {
     let Some(number) = text_at(row, 0) else {
@@ -95,7 +59,7 @@ fn order_in(alloc: Global, row: &Row) -> Result<Option<OrderShown>, AllocError>
     let Some(address) = address_in(alloc, row)? else {
         return Ok(None);
     };
-    Ok(Some(OrderShown {
+    Ok(Some(KnownOrder {
         number: Vec::from_slice(alloc, number)?,
         address,
         lines: Vec::new(alloc),
@@ -115,17 +79,17 @@ fn pin_in(alloc: Global, row: &Row) -> Result<Option<Vec<u8>>, AllocError>
 }
 
 // The line that a row of item, lot and quantity shows; None where it shows none.
-fn order_line_in(alloc: Global, row: &Row) -> Result<Option<OrderLineShown>, AllocError>
-    ensures { (l : PageLine) → row.now ≡ order_line_shown l → IfOk result (λ shown. shown ≡ Some l) }
+fn order_line_in(alloc: Global, row: &Row) -> Result<Option<KnownLine>, AllocError>
+    ensures { (l : PageLine) → l.quantity < 2 ^ 32 → row.now ≡ order_line_shown l → IfOk result (λ shown. shown ≡ Some l) }
 {
     let Some(item) = text_at(row, 0) else {
         return Ok(None);
     };
-    let Some(quantity) = number_at(row, 2) else {
+    let Some(quantity) = small_at(row, 2) else {
         return Ok(None);
     };
     let pin = pin_in(alloc, row)?;
-    Ok(Some(OrderLineShown {
+    Ok(Some(KnownLine {
         item: Vec::from_slice(alloc, item)?,
         pin,
         quantity,
@@ -133,8 +97,8 @@ fn order_line_in(alloc: Global, row: &Row) -> Result<Option<OrderLineShown>, All
 }
 
 // The lines that rows of item, lot and quantity show; None where one of them shows none.
-fn order_lines_in(alloc: Global, rows: &[Row]) -> Result<Option<Vec<OrderLineShown>>, AllocError>
-    ensures { (ls : List PageLine) → rows.now ≡ map order_line_shown ls
+fn order_lines_in(alloc: Global, rows: &[Row]) -> Result<Option<Vec<KnownLine>>, AllocError>
+    ensures { (ls : List PageLine) → list_all is_fitting_ordered ls ≡ true → rows.now ≡ map order_line_shown ls
         → IfOk result (λ shown. option_map (λ v. v.items) shown ≡ Some ls) }
 {
     let mut shown = Vec::new(alloc);
@@ -155,7 +119,7 @@ impl<S: Alter + Drop> Tables<S> {
         alloc: Global,
         who: Who,
         number: &[u8],
-    ) -> Result<Option<OrderShown>, Fault>
+    ) -> Result<Option<KnownOrder>, Fault>
         ensures order { HasCleanDisk (state S.Store self.new.conn) → (W : Partner) (L : List register.Entry)
             → StandsWhileOpen (state S.Store self.old.conn) W L
             → IfOk result (λ order. order ≡ option_map bare_order (order_at number.now (page_of (register.own L who)).orders)) }
@@ -182,7 +146,7 @@ impl<S: Alter + Drop> Tables<S> {
         alloc: Global,
         who: Who,
         number: &[u8],
-    ) -> Result<Vec<OrderLineShown>, Fault>
+    ) -> Result<Vec<KnownLine>, Fault>
         ensures lines { HasCleanDisk (state S.Store self.new.conn) → (W : Partner) (L : List register.Entry)
             → StandsWhileOpen (state S.Store self.old.conn) W L
             → IfOk result (λ lines. lines.items ≡ lines_ordered (order_at number.now (page_of (register.own L who)).orders)) }
@@ -206,7 +170,7 @@ impl<S: Alter + Drop> Tables<S> {
         alloc: Global,
         who: Who,
         number: &[u8],
-    ) -> Result<Vec<LineShown>, Fault>
+    ) -> Result<Vec<Goods>, Fault>
         ensures lines { HasCleanDisk (state S.Store self.new.conn) → (W : Partner) (L : List register.Entry)
             → StandsWhileOpen (state S.Store self.old.conn) W L
             → IfOk result (λ lines. lines.items ≡ lines_reserved (order_at number.now (page_of (register.own L who)).orders)) }
@@ -230,7 +194,7 @@ impl<S: Alter + Drop> Tables<S> {
         alloc: Global,
         who: Who,
         number: &[u8],
-    ) -> Result<(Vec<OrderLineShown>, Vec<LineShown>), Fault>
+    ) -> Result<(Vec<KnownLine>, Vec<Goods>), Fault>
         ensures parts { HasCleanDisk (state S.Store self.new.conn) → (W : Partner) (L : List register.Entry)
             → StandsWhileOpen (state S.Store self.old.conn) W L
             → IfOk result (λ parts. (parts.0.items ≡ lines_ordered (order_at number.now (page_of (register.own L who)).orders))
@@ -250,7 +214,7 @@ impl<S: Alter + Drop> Tables<S> {
         alloc: Global,
         who: Who,
         number: &[u8],
-    ) -> Result<Option<OrderShown>, Fault>
+    ) -> Result<Option<KnownOrder>, Fault>
         ensures order { HasCleanDisk (state S.Store self.new.conn) → (W : Partner) (L : List register.Entry)
             → StandsWhileOpen (state S.Store self.old.conn) W L
             → IfOk result (λ order. order ≡ order_at number.now (page_of (register.own L who)).orders) }

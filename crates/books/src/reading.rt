@@ -1,4 +1,4 @@
-ghost use Rattle.std.specs.Prelude.{◌≡◌, ◌∷◌, [], ℕ, List, Some, true, false, MatchOption, IfOk, map, option_map, All, pos, length, ◌≤◌};
+ghost use Rattle.std.specs.Prelude.{◌≡◌, ◌∷◌, [], ℕ, List, Some, true, false, MatchOption, IfOk, map, option_map, All, pos, length, ◌≤◌, ◌<◌, ◌^◌};
 ghost use Rattle.profile.specs.Header.{Who as Partner};
 ghost use Rattle.profile.specs.Bytes as bytes;
 ghost use Rattle.profile.specs.Moments.{Moment as Parts, is_moment};
@@ -81,6 +81,17 @@ pub(crate) fn number_at(row: &Row, at: usize) -> Option<u64>
     }
 }
 
+/// The number in a column, of at most 32 bits; None where it is another.
+pub(crate) fn small_at(row: &Row, at: usize) -> Option<u32>
+    ensures { MatchOption result ((n : ℕ) → n < 2 ^ 32 → column row.now at ≡ Int (pos n)
+        → ⊥) (λ n. column row.now at ≡ Int (pos n)) }
+{
+    match number_at(row, at) {
+        Some(n) => u32::try_from(n).ok(),
+        None => None,
+    }
+}
+
 // The value of at most four bytes as digits.
 fn value(text: &[u8]) -> u64
     requires { length text.now ≤ 4 }
@@ -157,25 +168,6 @@ pub(crate) fn entry_in(alloc: Global, who: &Who, row: &Row) -> Result<Option<Ent
         moment,
         body: Vec::from_slice(alloc, body)?,
     }))
-}
-
-/// The entries of a depositor that rows of mark, n, moment and body show; None where one of them shows none.
-pub(crate) fn entries_in(
-    alloc: Global,
-    who: &Who,
-    rows: &[Row],
-) -> Result<Option<Vec<Entry>>, AllocError>
-    ensures { (ws : List Written) → All (IsRecorded who.now) ws → rows.now ≡ map entry_shown ws
-        → IfOk result (λ entries. option_map (λ v. v.items) entries ≡ Some ws) }
-{
-    let mut entries = Vec::new(alloc);
-    for row in rows {
-        let Some(entry) = entry_in(alloc, who, row)? else {
-            return Ok(None);
-        };
-        entries.push(entry)?;
-    }
-    Ok(Some(entries))
 }
 
 // The warehouse that a row of version, qualifier and id names.

@@ -1,31 +1,34 @@
 -- A page that stands for the own entries of a legal register is the one that the definitions give for them.
 use Rattle.std.proofs.Common.{◌≡◌, ℕ, ◌+◌, ◌<◌, ◌≤◌, Bool, true, false, cond, List, [], ◌∷◌, ◌++◌, Option, Some, None, refl, sym, ap, ◌∙◌, inl, inr, arith, append_assoc, append-nil}
-use Rattle.std.specs.Prelude.{find, option_map, if◌then◌else◌, ◌==◌, nat_lt}
+use Rattle.std.specs.Prelude.{find, flat_map, option_map, if◌then◌else◌, ◌==◌, nat_lt}
 use Rattle.std.specs.List.{list_all}
 use borrow.Author.Tests.{eqb-true}
 use Rattle.std.proofs.lemmas.Bool.{cases_lt, ne_eqb, eq-eqb, lt-ltb}
 use Rattle.profile.specs.Moments.{Moment}
 use Rattle.profile.specs.Header.{Who}
-use Rattle.profile.specs.Events.{Event}
-use Rattle.profile.specs.Rows.{act_function, said_of}
-use Rattle.profile.specs.Page.{PageDocument, sent_by, sent_on, documents_of, page_of}
+use Rattle.profile.specs.Events.{Event, pair_before}
+use Rattle.profile.specs.Rows.{act_function, lot_row, named, running_rows, said_of}
+use Rattle.profile.specs.Means.{Line}
+use Rattle.profile.specs.Lists.{in_order}
+use Rattle.profile.specs.Page.{Page, PageDocument, sent_by, sent_on, documents_of, page_of}
 use Rattle.profile.specs.Register.{Deed, Enrolled, Received, Performed, Entry, is_numbered, own, next_number}
 use Rattle.profile.specs.History.{history, events}
 use Rattle.profile.specs.Accepted.{IsLegal}
-use Rattle.stock.specs.Keyed.{rises_by, entry_of}
+use Rattle.stock.specs.Keyed.{IsSorted, entry_of, key_before, rises_by, row_key}
 use Rattle.stock.specs.Pages.{PageFacts, AreSorted, is_document, document_at}
 use Rattle.stock.specs.Shows.{Shows, sent_under, document_of}
-use Rattle.stock.proofs.KeyLemmas.{numbers_strict, document_test}
+use Rattle.stock.proofs.KeyLemmas.{numbers_strict, pairs_strict, document_test}
 use Rattle.rules.specs.Decided.{IsPageOf}
 use Rattle.rules.specs.Played.{no_history}
 use Rattle.rules.specs.Defined.{IsDefined}
-use Rattle.rules.proofs.KeyedLists.{both, rises_map, same_found}
+use Rattle.rules.specs.Naming.{facts_of}
+use Rattle.rules.proofs.KeyedLists.{both, order_rises, rises_map, same_found}
 use Rattle.rules.proofs.Registers.{Along1, IsDone, done_own}
 use Rattle.rules.proofs.SentUnder.{sent_of, sent_at, sent_above, sent_kept}
 use Rattle.rules.proofs.SentRows.{next_snoc}
 use Rattle.rules.proofs.Rowed.{rows_in_order}
 use Rattle.rules.proofs.Once.{advices_once, orders_once}
-use Rattle.rules.proofs.Paged.{advices_are_page, orders_are_page}
+use Rattle.rules.proofs.Paged.{advices_are_page, advices_rise, orders_are_page, orders_rise}
 
 abbrev SentOne : Type 0
 SentOne = ℕ × List ℕ
@@ -135,11 +138,13 @@ document_found es n (d ∷ sent) = by (d.0 == n) refl (document_found es n sent)
     by true e later = ap (λ (m : ℕ). Some (document_of es m d.1)) (eqb-true d.0 n e)
     by false e later = later
 
+documents_rise : (M : List Entry) → rises_by nat_lt entry_of (documents_of (events M) (sent_on 1 M)) ≡ true
+documents_rise M = rises_map nat_lt (document_said (events M)) (λ (d : SentOne). d.0) entry_of (λ d. refl) (sent_on 1 M) ∙ sent_rises 1 M
+
 documents_are : (p : PageFacts) (M : List Entry) → AreSorted p → Shows p (events M) → Along1 (λ (N : List Entry) (e : Entry). IsDone N e.deed) [] M
     → p.documents ≡ documents_of (events M) (sent_on 1 M)
 documents_are p M sorted shows done =
-    same_found nat_lt numbers_strict entry_of is_document document_test p.documents (documents_of (events M) (sent_on 1 M)) sorted.documents
-    (rises_map nat_lt (document_said (events M)) (λ (d : SentOne). d.0) entry_of (λ d. refl) (sent_on 1 M) ∙ sent_rises 1 M)
+    same_found nat_lt numbers_strict entry_of is_document document_test p.documents (documents_of (events M) (sent_on 1 M)) sorted.documents (documents_rise M)
     (λ n. shows.documents n ∙ ap (option_map (document_of (events M) n)) (sym (all_sent n M done)) ∙ sym (document_found (events M) n (sent_on 1 M)))
 
 -- a page in order, of own entries of a legal register
@@ -153,3 +158,20 @@ page_is_defined W L w p legal sorted of =
       documents = documents_are p M sorted of.shows (done_own W L w legal);
       entries = of.entries;
     }
+
+-- The page of any entries stands in order.
+
+abbrev line_key : Line → List ℕ × List ℕ
+line_key l = (l.item, l.lot)
+
+rows_rise : (es : List Event) → IsSorted (running_rows es)
+rows_rise es =
+    rises_map key_before (lot_row es) line_key row_key (λ l. refl) (in_order pair_before (flat_map named es))
+    ∙ order_rises key_before pairs_strict line_key (flat_map named es)
+
+pub page_in_order : (M : List Entry) → AreSorted (facts_of (page_of M))
+page_in_order M = record { rows = rows_rise (events M); advices = advices_rise (events M); orders = orders_rise (events M); documents = documents_rise M }
+
+-- a page that is the defined one, at rest
+pub defined_is : (p : PageFacts) (P : Page) → p.recent ≡ 0 → IsDefined p P → p ≡ facts_of P
+defined_is p P rest is = λ i. record { rows = is.rows i; advices = is.advices i; orders = is.orders i; documents = is.documents i; entries = is.entries i; recent = rest i }

@@ -36,3 +36,7 @@ pub mod Defines
 pub mod RowsTabled
 pub mod SetsNamed
 pub mod Whole
+pub mod LegalPages
+pub mod Small
+pub mod SmallEvents
+pub mod Fits

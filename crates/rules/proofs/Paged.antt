@@ -68,7 +68,7 @@ advice_found es s once =
     ∙ ap (option_map (page_advice es))
     (ap (find (is_under s)) (advices_are es) ∙ find_ordered comes_before texts_strict name s (is_under s) (under_test s) (announced es) ∙ last_is s es ∙ once_last (advice_if s) es once)
 
-advices_rise : (es : List Event) → rises_by comes_before shipment_of (page_advices es) ≡ true
+pub advices_rise : (es : List Event) → rises_by comes_before shipment_of (page_advices es) ≡ true
 advices_rise es =
     rises_map comes_before (page_advice es) name shipment_of (λ a. refl) (advices_of es)
     ∙ ap (rises_by comes_before name) (advices_are es) ∙ order_rises comes_before texts_strict name (announced es)
@@ -132,7 +132,7 @@ order_found es s once =
     ∙ ap (option_map (page_order es))
     (ap (find (is_numbered_so s)) (orders_are es) ∙ find_ordered comes_before texts_strict number s (is_numbered_so s) (numbered_test s) (ordered es) ∙ last_order_is s es ∙ once_last (order_if s) es once)
 
-orders_rise : (es : List Event) → rises_by comes_before number_of (page_orders es) ≡ true
+pub orders_rise : (es : List Event) → rises_by comes_before number_of (page_orders es) ≡ true
 orders_rise es =
     rises_map comes_before (page_order es) number number_of (λ r. refl) (orders_of es)
     ∙ ap (rises_by comes_before number) (orders_are es) ∙ order_rises comes_before texts_strict number (ordered es)

@@ -12,3 +12,5 @@ pub mod Defined
 pub mod Kinds
 pub mod Needs
 pub mod Naming
+pub mod LegalPages
+pub mod Fitting

@@ -7,6 +7,7 @@ ghost use Rattle.profile.specs.Register.{Act, Clerk, Command, Entry, Interchange
 ghost use Rattle.profile.specs.History.{History, events, history};
 ghost use Rattle.profile.specs.Page.{page_of};
 ghost use Rattle.profile.specs.Reply.{Stored, stored};
+ghost use Rattle.profile.specs.Decision.{standing};
 ghost use Rattle.profile.specs.Events.{Event};
 ghost use Rattle.profile.specs.Rows.{act_function, running_rows};
 ghost use Rattle.stock.specs.Pages.{PageFacts, IsSound};
@@ -16,6 +17,8 @@ ghost use Rattle.stock.specs.declared.steps.Change.{Change};
 ghost use Rattle.std.specs.Borrow.{Bor};
 ghost use Rattle.rules.specs.Decided.{IsPageOf, IsHeldPart, StandsFor};
 ghost use Rattle.rules.specs.Defined.{IsDefined};
+ghost use Rattle.rules.specs.Fitting.{IsFitting};
+ghost use Rattle.rules.specs.LegalPages.{IsLegalPage};
 ghost use Rattle.rules.specs.Played.{CanFollow};
 ghost use Rattle.profile.specs.Need.{Need, need_of};
 ghost use Rattle.stock.specs.Parts.{IsClosed, IsPart};
@@ -92,4 +95,15 @@ pub fn a_whole_page_is_a_part_of_itself()
 /// The part that a command's need names of a depositor's page is all that a decision on it is given.
 pub fn a_part_stands_for_its_page()
     ensures { (c : Command) (page : Bor PageFacts) (h : History) → IsHeldPart (need_of c) page.now h → StandsFor c (Some page) (Some h) }
+{}
+
+/// A depositor of a legal register has a page: a sound one of its own entries, with no event since the last of them.
+pub fn a_legal_register_has_pages()
+    ensures { (W : Who) (L : List Entry) (w : Who) (h : History) → IsLegal W L → standing (own L w) ≡ Some h → (P : PageFacts) × IsLegalPage P h }
+{}
+
+/// What the page of a depositor of a legal register lists fits: at most 99 lines of an advice, quantities of at most 99,999, and
+/// numbers of entries.
+pub fn what_a_page_lists_fits()
+    ensures { (W : Who) (L : List Entry) (w : Who) → IsLegal W L → IsFitting (page_of (own L w)) }
 {}

@@ -241,6 +241,16 @@ pub order_insert : (k : PageOrder) (ks : List PageOrder) (i : ℕ) → IsRank co
 order_insert k ks i rank none = rank_insert comes_before texts_strict number_of ks i k rank
     (λ d within e. none_apart comes_before texts_strict number_of k.number (is_number k.number) (number_test k.number) ks i d none within e)
 
+pub document_set : (d : PageDocument) (ds : List PageDocument) (i : ℕ) → rises_by nat_lt entry_of ds ≡ true → IsAt (is_document d.n) ds i → set ds i d ≡ put_document d ds
+document_set d ds i sorted at = at_set nat_lt numbers_strict entry_of ds i d sorted at.within ((document_test d.n).says (get_or ds i d) (at.here d))
+
+pub document_insert : (d : PageDocument) (ds : List PageDocument) (i : ℕ) → IsRank nat_lt entry_of ds d.n i → document_at d.n ds ≡ None → insert ds i d ≡ put_document d ds
+document_insert d ds i rank none = rank_insert nat_lt numbers_strict entry_of ds i d rank
+    (λ e within same. none_apart nat_lt numbers_strict entry_of d.n (is_document d.n) (document_test d.n) ds i e none within same)
+
+pub documents_put_sorted : (d : PageDocument) (ds new : List PageDocument) → new ≡ put_document d ds → rises_by nat_lt entry_of ds ≡ true → rises_by nat_lt entry_of new ≡ true
+documents_put_sorted d ds new e sorted = ap (rises_by nat_lt entry_of) e ∙ put_rises nat_lt numbers_strict entry_of d ds sorted
+
 pub row_set : (r : LotRow) (rows : List LotRow) (i : ℕ) → IsSorted rows → IsPlace r.item r.lot rows i → set rows i r ≡ put_row r rows
 row_set r rows i sorted at = at_set key_before pairs_strict row_key rows i r sorted at.within ((row_test r.item r.lot).says (get_or rows i r) (at.here r))
 

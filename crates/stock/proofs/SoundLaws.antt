@@ -3,42 +3,25 @@ use Rattle.std.proofs.Common.{◌≡◌, ℕ, zero, suc, ◌+◌, ◌<◌, ◌�
 use Rattle.std.proofs.lemmas.Bool.{and_parts, cases_Bool, leb-true}
 use Rattle.std.proofs.lemmas.List.{take_more}
 use Rattle.std.proofs.lemmas.List.Sums.{sum_by-append, sum_by-cons}
-use Rattle.std.specs.Prelude.{nat_le, nat_lt, sum_by}
-use Rattle.std.specs.List.{list_all, list_any, IsAllAdjacentAnswer}
+use Rattle.std.specs.Prelude.{nat_le, sum_by}
+use Rattle.std.specs.List.{list_all, list_any}
 use Rattle.std.specs.Cmp.Derive.{both_true}
-use Rattle.profile.specs.Bytes.{comes_before}
 use Rattle.profile.specs.Events.{is_pair, quantity_of}
 use Rattle.profile.specs.Limits.{most_entries}
 use Rattle.profile.specs.Means.{Line}
 use Rattle.profile.specs.Movements.{Column, Expected, OnHand, Reservation, Shipped}
 use Rattle.profile.specs.Page.{PageAdvice, PageOrder}
 use Rattle.profile.specs.Rows.{LotRow}
-use Rattle.stock.specs.Keyed.{entry_of, key_before, number_of, rises_by, row_key, shipment_of}
 use Rattle.stock.specs.Pages.{AreSorted, IsSound, PageFacts, awaited, held, is_in_lines}
-use Rattle.stock.specs.Soundness.{all_expected, all_reserved, are_sorted, is_expected, is_kept, is_reserved, is_within, most_of}
+use Rattle.stock.specs.Soundness.{all_expected, all_reserved, is_expected, is_kept, is_reserved, is_within, most_of}
 use Rattle.stock.specs.Told.{IsDistinct, amount, is_row, one, told}
 use Rattle.profile.proofs.TextLaws.{same_text}
-use Rattle.stock.proofs.Keys.{adjacent_rises, all_at, rises_at}
+use Rattle.stock.proofs.Keys.{all_at}
 use Rattle.stock.proofs.KeyLemmas.{advices_once, documents_once, orders_once, sorted_distinct}
 use Rattle.stock.proofs.LotLemmas.{told_has}
-use Rattle.stock.proofs.Orders.{Has, IsStrict}
+use Rattle.stock.proofs.Orders.{Has}
 use Rattle.stock.proofs.Pairs.{quantity_no, quantity_yes}
 use Rattle.stock.proofs.Tells.{pair_is, part_no, part_yes, told_absent, told_cons}
-
--- ---- lists in the order of their keys
-
-module _ {X K : Type 0} (less : K → K → Bool) (strict : IsStrict less) (key : X → K) where
-  not_both : (b : Bool) → b ≡ true → false ≡ b → ⊥
-  not_both b h k = let no : false ≡ true = k ∙ h in absurd (cc (no))
-
-  -- what a look at each and the next answers
-  pub rises_answer : (xs : List X) (r : Bool) → IsAllAdjacentAnswer (λ x y b. b ≡ less (key x) (key y)) xs r → r ≡ rises_by less key xs
-  rises_answer xs true h = sym (adjacent_rises less strict key xs (λ k d within. sym (h k d within)))
-  rises_answer [] false h = absurd (omega (arith, h.1))
-  rises_answer (x ∷ xs) false h = elim (cases_Bool (rises_by less key (x ∷ xs))) [
-    | inl e ↦ absurd (not_both _ (rises_at less strict key (x ∷ xs) h.0 (h.0 + 1) x e (omega arith) h.1) (h.2 x))
-    | inr e ↦ sym e
-  ]
 
 -- what stands before a place, and what stands there
 pub taken_sum : {X : Type 0} (f : X → ℕ) (xs : List X) (i : ℕ) (d : X) → i < length xs → sum_by f (take i xs) + f (get_or xs i d) ≤ sum_by f xs
@@ -181,13 +164,6 @@ at_most n m (inr h) = omega (arith, h)
 
 -- ---- pages
 
-pub sorted_parts : (p : PageFacts) → are_sorted p ≡ true → AreSorted p
-sorted_parts p h =
-    let a = and_parts (rises_by key_before row_key p.rows && rises_by comes_before shipment_of p.advices && rises_by comes_before number_of p.orders) (rises_by nat_lt entry_of p.documents) h in
-    let b = and_parts (rises_by key_before row_key p.rows && rises_by comes_before shipment_of p.advices) (rises_by comes_before number_of p.orders) a.0 in
-    let c = and_parts (rises_by key_before row_key p.rows) (rises_by comes_before shipment_of p.advices) b.0 in
-    record { rows = c.0; advices = c.1; orders = b.1; documents = a.1 }
-
 record Kept (p : PageFacts) : Type 0 where
   few : nat_le p.entries most_entries ≡ true
   rows : list_all (is_within (most_of p.entries)) p.rows ≡ true
@@ -208,8 +184,8 @@ kept_parts p h =
     record { few = d.0; rows = d.1; expected = c.1; reserved = b.1; in_lines = a.1 }
 
 -- lists that pass are those of a page
-pub kept_sound : (p : PageFacts) → p.recent ≡ 0 → are_sorted p ≡ true → is_kept p ≡ true → IsSound p
-kept_sound p rest order h = record {
+pub kept_sound : (p : PageFacts) → p.recent ≡ 0 → AreSorted p → is_kept p ≡ true → IsSound p
+kept_sound p rest sorted h = record {
   sorted = sorted;
   distinct = distinct;
   expected = λ a b. at_most _ _ (open_pass (λ (k : PageAdvice). k.is_open) (λ k. k.lines) (is_expected p.rows p.advices)
@@ -232,16 +208,10 @@ kept_sound p rest order h = record {
     k : Kept p
     k = kept_parts p h
 
-    sorted : AreSorted p
-    sorted = sorted_parts p order
-
     distinct : IsDistinct p.rows
     distinct = sorted_distinct p.rows sorted.rows
 
 -- and those of a page pass
-pub sound_sorted : (p : PageFacts) → IsSound p → are_sorted p ≡ true
-sound_sorted p sound = both_true (both_true (both_true sound.sorted.rows sound.sorted.advices) sound.sorted.orders) sound.sorted.documents
-
 pub sound_kept : (p : PageFacts) → p.recent ≡ 0 → IsSound p → is_kept p ≡ true
 sound_kept p rest sound = both_true (both_true (both_true (both_true (le-leb p.entries most_entries sound.numbered)
     (all_rows (is_within m) p.rows within))

@@ -1,11 +1,15 @@
 -- What changes make of a page.
-use Rattle.std.specs.Prelude.{◌+◌, List, fold}
+use Rattle.std.specs.Prelude.{ℕ, ◌+◌, List, [], fold}
 use Rattle.stock.specs.declared.steps.Change.{Change}
 use Rattle.stock.specs.declared.steps.Change.TheVariants.{Stock, Advice, Order, Sent, Document}
 use Rattle.stock.specs.Functions.{function_text}
 use Rattle.stock.specs.Keyed.{put_row, put_advice, put_order}
 use Rattle.stock.specs.Pages.{PageFacts}
 use Rattle.stock.specs.Steps.{with_sent, with_said}
+
+-- a page of which nothing was put in yet, of a depositor with so many numbered entries
+abbrev pub nothing_yet : ℕ → PageFacts
+nothing_yet entries = record { rows = []; advices = []; orders = []; documents = []; entries = entries; recent = 0 }
 
 -- one change
 abbrev pub put_change : PageFacts → Change → PageFacts

@@ -1,13 +1,11 @@
 -- What is checked of lists before they are a page.
-use Rattle.std.specs.Prelude.{ℕ, ◌+◌, ◌*◌, Bool, true, ◌&&◌, List, if◌then◌else◌, nat_le, nat_lt}
+use Rattle.std.specs.Prelude.{ℕ, ◌+◌, ◌*◌, Bool, true, ◌&&◌, List, if◌then◌else◌, nat_le}
 use Rattle.std.specs.List.{list_all}
-use Rattle.profile.specs.Bytes.{comes_before}
 use Rattle.profile.specs.Limits.{most_recounted, most_entries, most_sets}
 use Rattle.profile.specs.Means.{Line}
 use Rattle.profile.specs.Movements.{Expected, Reservation}
 use Rattle.profile.specs.Page.{PageAdvice, PageOrder}
 use Rattle.profile.specs.Rows.{LotRow}
-use Rattle.stock.specs.Keyed.{entry_of, key_before, number_of, rises_by, row_key, shipment_of}
 use Rattle.stock.specs.Pages.{PageFacts, awaited, held, is_in_lines}
 use Rattle.stock.specs.Told.{amount, told}
 
@@ -28,11 +26,6 @@ all_expected rows all ks = list_all (λ k. if k.is_open then list_all (is_expect
 
 abbrev pub all_reserved : List LotRow → List PageOrder → List PageOrder → Bool
 all_reserved rows all ks = list_all (λ k. if k.is_open then list_all (is_reserved rows all) k.reserved else true) ks
-
--- each list is in the order of its keys
-abbrev pub are_sorted : PageFacts → Bool
-are_sorted p = rises_by key_before row_key p.rows && rises_by comes_before shipment_of p.advices
-    && rises_by comes_before number_of p.orders && rises_by nat_lt entry_of p.documents
 
 abbrev pub most_of : ℕ → ℕ
 most_of entries = (most_recounted + 1) * (most_sets * entries)

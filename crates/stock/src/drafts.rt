@@ -1,20 +1,23 @@
-ghost use Rattle.std.specs.Prelude.{◌≡◌, IfOk};
-ghost use Rattle.stock.specs.Pages.{PageFacts, AreSorted};
-ghost use Rattle.stock.specs.Puts.{put_change};
+ghost use Rattle.std.specs.Prelude.{◌≡◌, IfOk, MatchOption};
+ghost use Rattle.stock.specs.Keyed.{put_row, put_advice, put_order, put_document};
+ghost use Rattle.stock.specs.Pages.{PageFacts, AreSorted, IsSound};
+ghost use Rattle.stock.specs.Puts.{nothing_yet, put_change};
 ghost use Rattle.stock.specs.declared.steps.Change.TheVariants as changed;
 
 use crate::documents::{Function, KnownDocument};
 use crate::known_advices::KnownAdvice;
 use crate::known_orders::KnownOrder;
+use crate::page::Page;
 use crate::rows::{Row, put_row};
-use crate::searches::{put_advice, put_order, put_said, send};
+use crate::searches::{put_advice, put_document, put_order, put_said, send};
+use crate::sound::is_kept;
 use crate::steps::Change;
-use std::alloc::AllocError;
+use std::alloc::{AllocError, Global};
 use std::marker::Model;
 
-// A page in the making: its lists are in order, and nothing more is known of it.
+/// A page in the making: its lists are in order, and nothing more is known of it.
 #[derive(Drop)]
-pub(crate) struct Draft {
+pub struct Draft {
     pub(crate) rows: Vec<Row>,
     pub(crate) advices: Vec<KnownAdvice>,
     pub(crate) orders: Vec<KnownOrder>,
@@ -32,6 +35,61 @@ impl Model for Draft {
 }
 
 impl Draft {
+    /// Nothing yet of a depositor with so many numbered entries.
+    pub fn new(alloc: Global, entries: u32) -> Draft
+        ensures { result ≡ nothing_yet entries }
+    {
+        Draft {
+            rows: Vec::new(alloc),
+            advices: Vec::new(alloc),
+            orders: Vec::new(alloc),
+            documents: Vec::new(alloc),
+            entries,
+            recent: 0,
+        }
+    }
+
+    /// The advices that were put in, by the bytes of their shipment numbers.
+    pub fn advices(&self) -> &[KnownAdvice]
+        ensures { result.now ≡ self.now.advices }
+    {
+        &self.advices
+    }
+
+    /// The orders that were put in, by the bytes of their numbers.
+    pub fn orders(&self) -> &[KnownOrder]
+        ensures { result.now ≡ self.now.orders }
+    {
+        &self.orders
+    }
+
+    /// The page with what was put in, and with no event since its last entry; None where that is none: more reserved of a pair than
+    /// is on hand; what is open not expected or not reserved; something reserved for an order of an item of none of its lines;
+    /// or an amount above what so many entries can bring.
+    pub fn page(self) -> Option<Page>
+        ensures { let lists : PageFacts = record self { recent = 0 } in MatchOption result (IsSound lists → ⊥) (λ page. page ≡ lists) }
+    {
+        let Draft {
+            rows,
+            advices,
+            orders,
+            documents,
+            entries,
+            ..
+        } = self;
+        if !is_kept(&rows, &advices, &orders, entries) {
+            return None;
+        }
+        Some(Page {
+            rows,
+            advices,
+            orders,
+            documents,
+            entries,
+            recent: 0,
+        })
+    }
+
     // The draft with one change; want of memory is the one error.
     pub(crate) fn put(self, change: &Change) -> Result<Draft, AllocError>
         ensures { IfOk result (λ draft. draft ≡ put_change self change.now) }
@@ -45,8 +103,9 @@ impl Draft {
         }
     }
 
-    fn with_row(self, row: Row) -> Result<Draft, AllocError>
-        ensures { IfOk result (λ draft. draft ≡ put_change self (changed.Stock row)) }
+    /// With a row, in the place of that of its pair; want of memory is the one error.
+    pub fn with_row(self, row: Row) -> Result<Draft, AllocError>
+        ensures { IfOk result (λ draft. draft ≡ record self { rows = put_row row self.rows }) }
     {
         let Draft {
             mut rows,
@@ -67,8 +126,9 @@ impl Draft {
         })
     }
 
-    fn with_advice(self, advice: KnownAdvice) -> Result<Draft, AllocError>
-        ensures { IfOk result (λ draft. draft ≡ put_change self (changed.Advice advice)) }
+    /// With an advice, in the place of that of its shipment number; want of memory is the one error.
+    pub fn with_advice(self, advice: KnownAdvice) -> Result<Draft, AllocError>
+        ensures { IfOk result (λ draft. draft ≡ record self { advices = put_advice advice self.advices }) }
     {
         let Draft {
             rows,
@@ -89,8 +149,9 @@ impl Draft {
         })
     }
 
-    fn with_order(self, order: KnownOrder) -> Result<Draft, AllocError>
-        ensures { IfOk result (λ draft. draft ≡ put_change self (changed.Order order)) }
+    /// With an order, in the place of that of its number; want of memory is the one error.
+    pub fn with_order(self, order: KnownOrder) -> Result<Draft, AllocError>
+        ensures { IfOk result (λ draft. draft ≡ record self { orders = put_order order self.orders }) }
     {
         let Draft {
             rows,
@@ -101,6 +162,29 @@ impl Draft {
             recent,
         } = self;
         put_order(&mut orders, order)?;
+        Ok(Draft {
+            rows,
+            advices,
+            orders,
+            documents,
+            entries,
+            recent,
+        })
+    }
+
+    /// With a document, in the place of that of its number; want of memory is the one error.
+    pub fn with_document(self, document: KnownDocument) -> Result<Draft, AllocError>
+        ensures { IfOk result (λ draft. draft ≡ record self { documents = put_document document self.documents }) }
+    {
+        let Draft {
+            rows,
+            advices,
+            orders,
+            mut documents,
+            entries,
+            recent,
+        } = self;
+        put_document(&mut documents, document)?;
         Ok(Draft {
             rows,
             advices,

@@ -28,6 +28,7 @@ pub use acknowledgments::acknowledge;
 pub use allotment::allot;
 pub use announcements::announce;
 pub use documents::{Function, KnownDocument};
+pub use drafts::Draft;
 pub use known_advices::KnownAdvice;
 pub use known_orders::{KnownLine, KnownOrder};
 pub use page::Page;

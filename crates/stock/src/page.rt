@@ -14,7 +14,6 @@ use crate::known_advices::KnownAdvice;
 use crate::known_orders::KnownOrder;
 use crate::rows::{Column, Row, amount_of};
 use crate::searches::{place_of_advice, place_of_document, place_of_order};
-use crate::sound::{are_sorted, is_kept};
 use crate::steps::Step;
 use std::alloc::{AllocError, Global};
 use std::marker::Model;
@@ -53,35 +52,6 @@ impl Page {
             entries: 0,
             recent: 0,
         }
-    }
-
-    /// The page with these lists, after so many entries and with no event since; None where they aren't those of a page: each list in the
-    /// order of its keys, each key once; no more reserved of a pair than is on hand; what is open expected and reserved; what is reserved for an
-    /// order of items of its lines; no amount above what so many entries can bring.
-    pub fn of(
-        rows: Vec<Row>,
-        advices: Vec<KnownAdvice>,
-        orders: Vec<KnownOrder>,
-        documents: Vec<KnownDocument>,
-        entries: u32,
-    ) -> Option<Page>
-        ensures { let lists : PageFacts = record { rows = rows.items; advices = advices.items; orders = orders.items; documents = documents.items; entries = entries; recent = 0 } in
-            MatchOption result (IsSound lists → ⊥) (λ page. page ≡ lists) }
-    {
-        if !are_sorted(&rows, &advices, &orders, &documents) {
-            return None;
-        }
-        if !is_kept(&rows, &advices, &orders, entries) {
-            return None;
-        }
-        Some(Page {
-            rows,
-            advices,
-            orders,
-            documents,
-            entries,
-            recent: 0,
-        })
     }
 
     /// The number of pairs on it, of an item and a lot each.

@@ -110,6 +110,23 @@ pub(crate) fn place_of_document(documents: &[KnownDocument], n: u32) -> Option<u
     None
 }
 
+/// Puts a document in the place of that of its number, or where that belongs.
+pub(crate) fn put_document(
+    documents: &mut Vec<KnownDocument>,
+    document: KnownDocument,
+) -> Result<(), AllocError>
+    requires { rises_by nat_lt entry_of documents.old.items ≡ true }
+    ensures { OnOk result (documents.new.items ≡ put_document document documents.old.items) }
+{
+    if let Some(i) = place_of_document(documents, document.n) {
+        documents[i] = document;
+        return Ok(());
+    }
+    let i = rank_of_document(documents, document.n);
+    documents.insert(i, document)?;
+    Ok(())
+}
+
 /// Adds the document that is sent under a number, unless there is one.
 pub(crate) fn send(
     documents: &mut Vec<KnownDocument>,

@@ -16,34 +16,6 @@ use crate::rows::{Column, Row, amount_of};
 use profile::{MOST_ENTRIES, MOST_RECOUNTED, MOST_SETS};
 use sets_in::Goods;
 
-// Whether each row comes before the next, by item and then lot bytes.
-fn rows_rise(rows: &[Row]) -> bool
-    ensures { result ≡ rises_by key_before row_key rows.now }
-{
-    rows.is_sorted_by(|row, next| row.is_before(&next.item, &next.lot))
-}
-
-// Whether each advice comes before the next, by shipment number.
-fn advices_rise(advices: &[KnownAdvice]) -> bool
-    ensures { result ≡ rises_by comes_before shipment_of advices.now }
-{
-    advices.is_sorted_by(|advice, next| advice.is_before(next.shipment()))
-}
-
-// Whether each order comes before the next, by number.
-fn orders_rise(orders: &[KnownOrder]) -> bool
-    ensures { result ≡ rises_by comes_before number_of orders.now }
-{
-    orders.is_sorted_by(|order, next| order.is_before(&next.number))
-}
-
-// Whether each document comes before the next, by number.
-fn documents_rise(documents: &[KnownDocument]) -> bool
-    ensures { result ≡ rises_by nat_lt entry_of documents.now }
-{
-    documents.is_sorted_by(|document, next| document.n < next.n)
-}
-
 // Whether no more is reserved of a row than is on hand, and no amount is above the most.
 fn is_within(row: &Row, most: u64) -> bool
     ensures { result ≡ meant.is_within most row.now }
@@ -233,18 +205,6 @@ fn all_in_lines(orders: &[KnownOrder]) -> bool
     ensures { result ≡ list_all pages.is_in_lines orders.now }
 {
     orders.iter().all(is_in_lines)
-}
-
-/// Whether each list is in the order of its keys, each key once.
-pub(crate) fn are_sorted(
-    rows: &[Row],
-    advices: &[KnownAdvice],
-    orders: &[KnownOrder],
-    documents: &[KnownDocument],
-) -> bool
-    ensures { (p : pages.PageFacts) → p.rows ≡ rows.now → p.advices ≡ advices.now → p.orders ≡ orders.now → p.documents ≡ documents.now → result ≡ meant.are_sorted p }
-{
-    rows_rise(rows) && advices_rise(advices) && orders_rise(orders) && documents_rise(documents)
 }
 
 /// Whether lists in order are those of a page after so many entries, with no event since.

@@ -1,4 +1,6 @@
-use Rattle.std.proofs.Common.{rules, ◌≡◌, ◌∙◌, sym, ap, subst, List, Option, Some, option_map, map, IsTrue}
+use Rattle.std.specs.List.{list_all}
+use Rattle.rules.specs.Fitting.{is_fitting_row}
+use Rattle.std.proofs.Common.{true, rules, ◌≡◌, ◌∙◌, sym, ap, subst, List, Option, Some, option_map, map, IsTrue}
 use Rattle.profile.specs.Header.{is_partner}
 use Rattle.profile.specs.Rows.{LotRow}
 use Rattle.sqlite.specs.Held.{state}
@@ -11,7 +13,7 @@ use Rattle.books.proofs.ReadLemmas.{none_some, same_some}
 use Rattle.books.proofs.connected.Tables.lots_of.Goals as goal
 
 abbrev ReadsRight : List Row → Option (List LotRow) → Type 0
-ReadsRight rows read = (rs : List LotRow) → rows ≡ map lot_shown rs → read ≡ Some rs
+ReadsRight rows read = (rs : List LotRow) → list_all is_fitting_row rs ≡ true → rows ≡ map lot_shown rs → read ≡ Some rs
 
 pub under_text-requires : goal.under_text-requires
 under_text-requires g c = lots_plain

@@ -1,0 +1,18 @@
+use Rattle.std.proofs.Common.{◌≡◌, List, Ok, take}
+use Rattle.sqlite.specs.Held.{state}
+use Rattle.sqlite.specs.State.{HasCleanDisk}
+use Rattle.profile.specs.Header.{Who}
+use Rattle.profile.specs.Register.{Entry}
+use Rattle.stock.specs.Parts.{Named}
+use Rattle.books.specs.Asking.{Went}
+use Rattle.books.specs.Exits.{StandsWhileOpen}
+use Rattle.books.specs.Needed.{part_for, with_texts}
+use Rattle.books.proofs.connected.Tables.gather.Given as goal
+
+-- what the front of the list names has come to the draft
+abbrev pub invariant-loop-name : goal.invariant-loop-name
+invariant-loop-name g l = record {
+  found : HasCleanDisk (state g.S.Store l.self.conn) → (W : Who) (L : List Entry) → StandsWhileOpen (state g.S.Store l.fn.self.conn) W L
+      → (n : Named) → l.fn.draft ≡ part_for L l.who n → l.draft ≡ part_for L l.who (with_texts l.sought (take l.name-index l.names) n);
+  went : Went {T = Unit {0}} g.S.Store l.fn.self l.self (Ok tt);
+}
