@@ -8,9 +8,7 @@ use books::{Book, Tables};
 use sqlite::{Alter, Connection};
 use std::alloc::Global;
 use std::test::Fail;
-use store::{
-    Command, Fault, Keeper, Key, Moment, Need, Sheet, SheetKind, Warehouse, Who, submit,
-};
+use store::{Command, Fault, Keeper, Key, Moment, Need, Sheet, SheetKind, Warehouse, Who, submit};
 
 // The calls that make a book: nine tables, the row of `book`, and the commit.
 const MAKING: u64 = 11;
