@@ -5,6 +5,7 @@ mod breaking;
 mod cut;
 mod exchanges;
 mod in_tables;
+mod needed;
 mod want;
 pub(crate) mod worked;
 
