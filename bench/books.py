@@ -31,13 +31,20 @@ sys.path.insert(0, HERE)
 import register  # noqa: E402
 
 AT = ["--at", "2025-03-04T09:15"]
-SIZES = [(1, 1000), (100, 1000), (100, 10_000), (100, 100_000)]
+SIZES = [(1, 1000), (1, 10_000), (1, 100_000), (100, 1000), (100, 10_000), (100, 100_000)]
 COMMANDS, RUNS = 200, 5
 
-# The texts that the program asks and writes with (crates/books). Each command asks for the page of its depositor, and for what is known
-# under its mark, with these values of the entry; where it isn't known, it asks with the mark alone.
+# The texts that the program asks and writes with (crates/books). Each command asks whether its depositor is enrolled, for the last number, for
+# the advice or the order that it names with what belongs to that, where it is there, and for the lots of its item; then for what is known under
+# its mark, and where it is known for the text of that number.
 OPENING = ["SELECT version, qualifier, id FROM book", "SELECT seq FROM entry"]
-PAGE = [("SELECT mark, n, moment, body FROM entry WHERE who = ?1 ORDER BY seq", ["who"])]
+DEPOSITOR = [("SELECT seq FROM entry WHERE who = ?1 LIMIT 1", ["who"]), ("SELECT n FROM outgoing WHERE who = ?1 ORDER BY n DESC LIMIT 1", ["who"])]
+NAMED = [[("SELECT shipment, ord, is_open FROM advice WHERE who = ?1 AND shipment = ?2", ["who", "name"])],
+         [("SELECT ord, is_open, to_name, to_one, to_two, to_place FROM orders WHERE who = ?1 AND ord = ?2", ["who", "name"])]]
+LINES = [[("SELECT item, lot, quantity FROM advice_line WHERE who = ?1 AND shipment = ?2 ORDER BY line", ["who", "name"])],
+         [("SELECT item, lot, quantity FROM order_line WHERE who = ?1 AND ord = ?2 ORDER BY line", ["who", "name"]),
+          ("SELECT item, lot, quantity FROM reservation WHERE who = ?1 AND ord = ?2 ORDER BY item, lot", ["who", "name"])]]
+LOTS = [("SELECT item, lot, since, expected, on_hand, reserved, shipped FROM stock WHERE who = ?1 AND item = ?2 ORDER BY item, lot", ["who", "item"])]
 KNOWN = [("SELECT mark, n, moment, body FROM entry WHERE who = ?1 AND mark = ?2 ORDER BY seq", ["who", "mark"]),
          ("SELECT content FROM outgoing WHERE who = ?1 AND n = ?2", ["who", "n"])]
 ENTRY = "INSERT INTO entry (seq, who, mark, n, moment, body) VALUES (?1, ?2, ?3, ?4, ?5, ?6)"
@@ -83,7 +90,7 @@ class Work:
                            (RESERVATION, who, number, item, lot, 1)]
             self.texts.append(text)
             self.answers.append(answer)
-            self.entries.append({"who": who, "mark": f"X{n:09d}", "n": n})
+            self.entries.append({"who": who, "mark": f"X{n:09d}", "n": n, "name": number, "item": item, "kind": place % 2})
             self.writes.append(writes)
 
     def folder(self, path):
@@ -114,11 +121,13 @@ class Work:
             return f"b{value.decode()}" if isinstance(value, bytes) else f"t{value}"
 
         lines = []
-        for sql in OPENING + [sql for sql, _ in PAGE + KNOWN] + [write[0] for some in self.writes for write in some]:
+        asking = DEPOSITOR + NAMED[0] + NAMED[1] + LINES[0] + LINES[1] + LOTS + KNOWN
+        for sql in OPENING + [sql for sql, _ in asking] + [write[0] for some in self.writes for write in some]:
             number(sql)
         lines += [f"Q\t{number(sql)}" for sql in OPENING] + ["O"]
         for entry, some in zip(self.entries, self.writes):
-            asked = [(sql, names) for sql, names in PAGE + KNOWN if not writes or "n" not in names]
+            lines_too = [] if writes else LINES[entry["kind"]]
+            asked = DEPOSITOR + NAMED[entry["kind"]] + lines_too + LOTS + (KNOWN[:1] if writes else KNOWN)
             lines += ["\t".join(["Q", str(number(sql)), *(typed(entry[name]) for name in names)]) for sql, names in asked]
             if writes:
                 lines += ["B"] + ["\t".join(["X", str(number(sql)), *map(typed, values)]) for sql, *values in some] + ["E"]
