@@ -5,7 +5,6 @@ mod breaking;
 mod cut;
 mod exchanges;
 mod in_tables;
-mod needed;
 mod want;
 pub(crate) mod worked;
 
