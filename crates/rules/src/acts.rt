@@ -34,9 +34,12 @@ use stock::{Change, Page, Step, Stop, pick, receive, recount};
 /// What an act's event changes on the page.
 pub(crate) fn perform(alloc: Global, page: &Page, act: &Act<'_>) -> Result<Step, Stop>
     requires { page.now.recent < most_sets }
-    ensures ok { IfOk result (λ step. (n : Named) (P : PageFacts) (es : List Event) → IsPart n page.now P → NamesAct n page.now (act_of act.now) → Shows P es
-        → (e : Event) × (performed es (page.now.entries + 1) (act_of act.now) ≡ Ok e) × Shows (put step.changes.items P) (es ++ e ∷ []) × AreProper P step.changes.items) }
-    ensures err { IfErr result (λ stop. (n : Named) (P : PageFacts) (es : List Event) → IsPart n page.now P → NamesAct n page.now (act_of act.now) → Shows P es
+    ensures ok { IfOk result (λ step. (n : Named) (P : PageFacts) (es : List Event) → IsPart n page.now P
+        → NamesAct n page.now (act_of act.now) → Shows P es
+        → (e : Event) × (performed es (page.now.entries + 1) (act_of act.now) ≡ Ok e)
+        × Shows (put step.changes.items P) (es ++ e ∷ []) × AreProper P step.changes.items) }
+    ensures err { IfErr result (λ stop. (n : Named) (P : PageFacts) (es : List Event) → IsPart n page.now P
+        → NamesAct n page.now (act_of act.now) → Shows P es
         → StopsAct (performed es (page.now.entries + 1) (act_of act.now)) stop) }
     ensures sound { IfOk result (λ step. IsSound (put step.changes.items page.now)) }
 {
@@ -70,7 +73,8 @@ fn entry(
     ticket: &[u8],
     act: &Act<'_>,
 ) -> Result<Entry, AllocError>
-    ensures { IfOk result (λ e. e ≡ written_as envelope.now.number (replies.clerk_entry envelope.now.depositor ticket.now (act_of act.now) envelope.now.moment)) }
+    ensures { IfOk result (λ e. e ≡ written_as envelope.now.number (replies.clerk_entry
+        envelope.now.depositor ticket.now (act_of act.now) envelope.now.moment)) }
 {
     Ok(Entry {
         who: envelope.depositor,
@@ -84,8 +88,10 @@ fn entry(
 // The refusal that stopped an act.
 fn refused(alloc: Global, stop: Stop) -> Result<Decision, AllocError>
     ensures comes { IfOk result (IsNoEntry) }
-    ensures reply { IfOk result (λ d. (es : List Event) (number : ℕ) (act : register.Act) → StopsAct (performed es number act) stop
-        → (W : Who) (h : History) (e : register.Entry) (n : ℕ) (c : register.Command) (t : Moment) → IsReply n c t (recalled.act_told W h e (performed es number act)) d) }
+    ensures reply { IfOk result (λ d. (es : List Event) (number : ℕ) (act : register.Act)
+        → StopsAct (performed es number act) stop
+        → (W : Who) (h : History) (e : register.Entry) (n : ℕ) (c : register.Command) (t : Moment)
+        → IsReply n c t (recalled.act_told W h e (performed es number act)) d) }
 {
     match stop {
         Stop::Refused(number) => Ok(Decision::Refused(numbered(number), Vec::new(alloc))),
@@ -103,13 +109,22 @@ fn accepted(
     changes: Vec<Change>,
 ) -> Result<Decision, AllocError>
     requires number { envelope.now.number ≡ page.now.entries + 1 }
-    requires led { (h : History) (P : PageFacts) → HasNeeded (register.Clerk envelope.now.depositor ticket.now (act_of act.now)) page.now P → IsPageOf P h
-        → AreLeading P changes.items (after_entry h (replies.clerk_entry envelope.now.depositor ticket.now (act_of act.now) envelope.now.moment)) }
-    ensures comes { IfOk result (Makes (register.Clerk envelope.now.depositor ticket.now (act_of act.now)) envelope.now.moment) }
-    ensures leads { IfOk result (LeadsOn page.now (register.Clerk envelope.now.depositor ticket.now (act_of act.now)) envelope.now.moment) }
-    ensures reply { IfOk result (λ d. (h : History) (P : PageFacts) (e : Event) → HasNeeded (register.Clerk envelope.now.depositor ticket.now (act_of act.now)) page.now P → IsPageOf P h → performed h.events (page.now.entries + 1) (act_of act.now) ≡ Ok e
-        → IsReply page.now.entries (register.Clerk envelope.now.depositor ticket.now (act_of act.now)) envelope.now.moment
-        (recalled.accepted_by envelope.now.warehouse h (replies.clerk_entry envelope.now.depositor ticket.now (act_of act.now) envelope.now.moment)) d) }
+    requires led { (h : History) (P : PageFacts)
+        → HasNeeded (register.Clerk envelope.now.depositor ticket.now (act_of act.now)) page.now P
+        → IsPageOf P h
+        → AreLeading P changes.items (after_entry h (replies.clerk_entry envelope.now.depositor ticket.now
+        (act_of act.now) envelope.now.moment)) }
+    ensures comes { IfOk result (Makes (register.Clerk envelope.now.depositor ticket.now (act_of act.now))
+        envelope.now.moment) }
+    ensures leads { IfOk result (LeadsOn page.now (register.Clerk envelope.now.depositor ticket.now (act_of
+        act.now)) envelope.now.moment) }
+    ensures reply { IfOk result (λ d. (h : History) (P : PageFacts) (e : Event)
+        → HasNeeded (register.Clerk envelope.now.depositor ticket.now (act_of act.now)) page.now P
+        → IsPageOf P h → performed h.events (page.now.entries + 1) (act_of act.now) ≡ Ok e
+        → IsReply page.now.entries (register.Clerk envelope.now.depositor ticket.now (act_of act.now))
+        envelope.now.moment
+        (recalled.accepted_by envelope.now.warehouse h (replies.clerk_entry envelope.now.depositor
+        ticket.now (act_of act.now) envelope.now.moment)) d) }
 {
     if page.entries() >= MOST_ENTRIES {
         return Ok(Decision::Refused(Refusal::NumbersUsedUp, Vec::new(alloc)));
@@ -133,11 +148,17 @@ fn fresh(
 ) -> Result<Decision, AllocError>
     requires number { envelope.now.number ≡ page.now.entries + 1 }
     requires rest { page.now.recent ≡ 0 }
-    ensures comes { IfOk result (Makes (register.Clerk envelope.now.depositor ticket.now (act_of act.now)) envelope.now.moment) }
-    ensures leads { IfOk result (LeadsOn page.now (register.Clerk envelope.now.depositor ticket.now (act_of act.now)) envelope.now.moment) }
-    ensures reply { IfOk result (λ d. (h : History) (P : PageFacts) → HasNeeded (register.Clerk envelope.now.depositor ticket.now (act_of act.now)) page.now P → IsPageOf P h
-        → IsReply page.now.entries (register.Clerk envelope.now.depositor ticket.now (act_of act.now)) envelope.now.moment
-        (recalled.act_new envelope.now.warehouse h (replies.clerk_entry envelope.now.depositor ticket.now (act_of act.now) envelope.now.moment) (act_of act.now)) d) }
+    ensures comes { IfOk result (Makes (register.Clerk envelope.now.depositor ticket.now (act_of act.now))
+        envelope.now.moment) }
+    ensures leads { IfOk result (LeadsOn page.now (register.Clerk envelope.now.depositor ticket.now (act_of
+        act.now)) envelope.now.moment) }
+    ensures reply { IfOk result (λ d. (h : History) (P : PageFacts)
+        → HasNeeded (register.Clerk envelope.now.depositor ticket.now (act_of act.now)) page.now P
+        → IsPageOf P h
+        → IsReply page.now.entries (register.Clerk envelope.now.depositor ticket.now (act_of act.now))
+        envelope.now.moment
+        (recalled.act_new envelope.now.warehouse h (replies.clerk_entry envelope.now.depositor ticket.now
+        (act_of act.now) envelope.now.moment) (act_of act.now)) d) }
 {
     // what is known of every page
     let _ = page.rows();
@@ -150,7 +171,9 @@ fn fresh(
 // What an act comes to under a known ticket: the stored text where it is the same act.
 fn again(alloc: Global, known: &Known, act: &Act<'_>) -> Result<Decision, AllocError>
     ensures comes { IfOk result (IsNoEntry) }
-    ensures reply { IfOk result (λ d. (n : ℕ) (k : recalled.Recalled) (who : Who) (ticket : List ℕ) (t : Moment) → IsEntry known.now k → register.mark k.entry ≡ register.ticket_mark ticket
+    ensures reply { IfOk result
+        (λ d. (n : ℕ) (k : recalled.Recalled) (who : Who) (ticket : List ℕ) (t : Moment)
+        → IsEntry known.now k → register.mark k.entry ≡ register.ticket_mark ticket
         → IsReply n (register.Clerk who ticket (act_of act.now)) t (recalled.act_again (act_of act.now) k) d) }
 {
     let text = act.canonical(alloc)?;
@@ -173,11 +196,18 @@ pub(crate) fn clerk(
 ) -> Result<Decision, AllocError>
     requires number { envelope.now.number ≡ page.now.entries + 1 }
     requires rest { page.now.recent ≡ 0 }
-    ensures comes { IfOk result (Makes (register.Clerk envelope.now.depositor ticket.now (act_of act.now)) envelope.now.moment) }
-    ensures leads { IfOk result (LeadsOn page.now (register.Clerk envelope.now.depositor ticket.now (act_of act.now)) envelope.now.moment) }
-    ensures reply { IfOk result (λ d. (h : History) (P : PageFacts) (k : Option recalled.Recalled) → HasNeeded (register.Clerk envelope.now.depositor ticket.now (act_of act.now)) page.now P → IsPageOf P h → IsRecalled (option_copied known.entry) k → IsUnder (register.ticket_mark ticket.now) k
-        → IsReply page.now.entries (register.Clerk envelope.now.depositor ticket.now (act_of act.now)) envelope.now.moment
-        (recalled.clerk_by envelope.now.warehouse (Some h) k envelope.now.depositor ticket.now (act_of act.now) envelope.now.moment) d) }
+    ensures comes { IfOk result (Makes (register.Clerk envelope.now.depositor ticket.now (act_of act.now))
+        envelope.now.moment) }
+    ensures leads { IfOk result (LeadsOn page.now (register.Clerk envelope.now.depositor ticket.now (act_of
+        act.now)) envelope.now.moment) }
+    ensures reply { IfOk result (λ d. (h : History) (P : PageFacts) (k : Option recalled.Recalled)
+        → HasNeeded (register.Clerk envelope.now.depositor ticket.now (act_of act.now)) page.now P
+        → IsPageOf P h → IsRecalled (option_copied known.entry) k
+        → IsUnder (register.ticket_mark ticket.now) k
+        → IsReply page.now.entries (register.Clerk envelope.now.depositor ticket.now (act_of act.now))
+        envelope.now.moment
+        (recalled.clerk_by envelope.now.warehouse (Some h) k envelope.now.depositor ticket.now (act_of
+        act.now) envelope.now.moment) d) }
 {
     match known {
         Some(known) => again(alloc, known, act),

@@ -39,7 +39,8 @@ fn noted(
 ) -> Result<Decision, AllocError>
     ensures comes { IfOk result (IsNoEntry) }
     ensures reply { IfOk result (λ d. (n : ℕ) (c : register.Command)
-        → IsReply n c moment (replies.Refused (refusals.Note code) (replies.refusal_answer warehouse.now header.now moment (refusals.Note code))) d) }
+        → IsReply n c moment (replies.Refused (refusals.Note code) (replies.refusal_answer warehouse.now
+        header.now moment (refusals.Note code))) d) }
 {
     let answer = refusal(alloc, warehouse.who(), header, moment, code)?;
     Ok(Decision::Refused(Refusal::Note(code), answer))
@@ -57,8 +58,10 @@ fn again(
 ) -> Result<Decision, AllocError>
     requires { header.now ≡ text.now }
     ensures comes { IfOk result (IsNoEntry) }
-    ensures reply { IfOk result (λ d. (n : ℕ) (k : recalled.Recalled) → IsEntry known.now k → register.mark k.entry ≡ register.interchange_mark (meant_isa text.now 13)
-        → IsReply n (register.Interchange text.now) moment (recalled.interchange_again warehouse.now text.now moment k) d) }
+    ensures reply { IfOk result (λ d. (n : ℕ) (k : recalled.Recalled) → IsEntry known.now k
+        → register.mark k.entry ≡ register.interchange_mark (meant_isa text.now 13)
+        → IsReply n (register.Interchange text.now) moment (recalled.interchange_again warehouse.now
+        text.now moment k) d) }
 {
     if known.is_of(text) {
         return Ok(Decision::Stored(known.outgoing().to_vec(alloc)?));
@@ -74,7 +77,14 @@ fn entry(
     header: &Isa<'_>,
     text: &[u8],
 ) -> Result<Entry, AllocError>
-    ensures { IfOk result (λ e. e ≡ record { who = envelope.now.depositor; key = register.interchange_mark (meant_isa header.now 13); n = envelope.now.number; moment = envelope.now.moment; body = text.now }) }
+    ensures { IfOk result (λ e. e ≡ record {
+      who = envelope.now.depositor;
+      key = register.interchange_mark
+          (meant_isa header.now 13);
+      n = envelope.now.number;
+      moment = envelope.now.moment;
+      body = text.now;
+    }) }
 {
     Ok(Entry {
         who: envelope.depositor,
@@ -95,7 +105,11 @@ fn accepted(
     text: &[u8],
 ) -> Result<Decision, AllocError>
     requires same { header.now ≡ text.now }
-    requires parts { interchange.now ≡ record { delims = delims_of text.now; groups = groups_of (cut (delims_of text.now) text.now).segments } }
+    requires parts { interchange.now ≡ record {
+      delims = delims_of text.now;
+      groups = groups_of (cut
+          (delims_of text.now) text.now).segments;
+    } }
     requires readable { is_unreadable text.now ≡ false }
     requires clean { structure_note text.now ≡ None }
     requires number { envelope.number ≡ page.now.entries + 1 }
@@ -103,8 +117,10 @@ fn accepted(
     requires whose { envelope.depositor ≡ sender text.now }
     ensures comes { IfOk result (Makes (register.Interchange text.now) envelope.moment) }
     ensures leads { IfOk result (LeadsOn page.now (register.Interchange text.now) envelope.moment) }
-    ensures reply { IfOk result (λ d. (h : History) (P : PageFacts) → HasNeeded (register.Interchange text.now) page.now P → IsPageOf P h
-        → IsReply page.now.entries (register.Interchange text.now) envelope.moment (recalled.accepted_by envelope.warehouse h (replies.interchange_entry text.now envelope.moment)) d) }
+    ensures reply { IfOk result (λ d. (h : History) (P : PageFacts)
+        → HasNeeded (register.Interchange text.now) page.now P → IsPageOf P h
+        → IsReply page.now.entries (register.Interchange text.now) envelope.moment (recalled.accepted_by
+        envelope.warehouse h (replies.interchange_entry text.now envelope.moment)) d) }
 {
     if page.entries() >= MOST_ENTRIES {
         return Ok(Decision::Refused(Refusal::NumbersUsedUp, Vec::new(alloc)));
@@ -128,8 +144,10 @@ fn halted(
     halt: Halt,
 ) -> Result<Decision, AllocError>
     ensures comes { IfOk result (IsNoEntry) }
-    ensures reply { IfOk result (λ d. (text : List ℕ) (h : History) (n : ℕ) → IsTold halt text → header.now ≡ text
-        → IsReply n (register.Interchange text) moment (recalled.interchange_new warehouse.now h text moment (structure_note text)) d) }
+    ensures reply { IfOk result (λ d. (text : List ℕ) (h : History) (n : ℕ) → IsTold halt text
+        → header.now ≡ text
+        → IsReply n (register.Interchange text) moment (recalled.interchange_new warehouse.now h text moment
+        (structure_note text)) d) }
 {
     match halt {
         Halt::Note(code) => noted(alloc, warehouse, header, moment, code),
@@ -153,8 +171,10 @@ fn fresh(
     requires whose { who ≡ sender text.now }
     ensures comes { IfOk result (Makes (register.Interchange text.now) moment) }
     ensures leads { IfOk result (LeadsOn page.now (register.Interchange text.now) moment) }
-    ensures reply { IfOk result (λ d. (h : History) (P : PageFacts) → HasNeeded (register.Interchange text.now) page.now P → IsPageOf P h
-        → IsReply page.now.entries (register.Interchange text.now) moment (recalled.interchange_new warehouse.now h text.now moment (recalled.new_note warehouse.now text.now)) d) }
+    ensures reply { IfOk result (λ d. (h : History) (P : PageFacts)
+        → HasNeeded (register.Interchange text.now) page.now P → IsPageOf P h
+        → IsReply page.now.entries (register.Interchange text.now) moment (recalled.interchange_new
+        warehouse.now h text.now moment (recalled.new_note warehouse.now text.now)) d) }
 {
     if let Some(code) = header_note(header, &warehouse.who()) {
         return noted(alloc, warehouse, header, moment, code);
@@ -186,8 +206,10 @@ fn readable(
     requires rest { IsAtRest page }
     ensures comes { IfOk result (Makes (register.Interchange text.now) moment) }
     ensures leads { IfOk result (LeadsFrom page.entry (register.Interchange text.now) moment) }
-    ensures reply { IfOk result (λ d. (h : Option History) (k : Option recalled.Recalled) → IsGiven page.entry (option_copied known.entry) (register.Interchange text.now) h k
-        → IsReply (entries_of page.entry) (register.Interchange text.now) moment (recalled.interchange_known warehouse.now h k text.now moment) d) }
+    ensures reply { IfOk result (λ d. (h : Option History) (k : Option recalled.Recalled)
+        → IsGiven page.entry (option_copied known.entry) (register.Interchange text.now) h k
+        → IsReply (entries_of page.entry) (register.Interchange text.now) moment (recalled.interchange_known
+        warehouse.now h k text.now moment) d) }
 {
     let (Some(page), Some(who)) = (page, header.sender()) else {
         return noted(alloc, warehouse, header, moment, 6);
@@ -212,8 +234,10 @@ pub(crate) fn interchange(
     requires { IsAtRest page }
     ensures comes { IfOk result (Makes (register.Interchange text.now) moment) }
     ensures leads { IfOk result (LeadsFrom page.entry (register.Interchange text.now) moment) }
-    ensures reply { IfOk result (λ d. (h : Option History) (k : Option recalled.Recalled) → IsGiven page.entry (option_copied known.entry) (register.Interchange text.now) h k
-        → IsReply (entries_of page.entry) (register.Interchange text.now) moment (recalled.interchange_by warehouse.now h k text.now moment) d) }
+    ensures reply { IfOk result (λ d. (h : Option History) (k : Option recalled.Recalled)
+        → IsGiven page.entry (option_copied known.entry) (register.Interchange text.now) h k
+        → IsReply (entries_of page.entry) (register.Interchange text.now) moment (recalled.interchange_by
+        warehouse.now h k text.now moment) d) }
 {
     match isa(text) {
         Ok(header) => readable(alloc, warehouse, page, known, &header, text, moment),

@@ -56,9 +56,12 @@ fn in_segment<'a>(fault: &SetFault<'a>) -> Rejection<'a>
 fn advised(alloc: Global, page: &Page, set: &Checked<'_>) -> Result<Step, Stop>
     requires kind { set.now.kind ≡ kinds.ShipmentAdvice }
     requires room { page.now.recent < most_sets }
-    ensures ok { IfOk result (λ step. (n : Named) (P : PageFacts) (es : List Event) → IsPart n page.now P → NamesSet n set.now.kind (segments_of set.now.pieces) → Shows P es
-        → IsStep P es (meant.traded es (page.now.entries + 1) set.now.kind (segments_of set.now.pieces)) step.changes.items) }
-    ensures err { IfErr result (λ stop. (n : Named) (P : PageFacts) (es : List Event) → IsPart n page.now P → NamesSet n set.now.kind (segments_of set.now.pieces) → Shows P es
+    ensures ok { IfOk result (λ step. (n : Named) (P : PageFacts) (es : List Event) → IsPart n page.now P
+        → NamesSet n set.now.kind (segments_of set.now.pieces) → Shows P es
+        → IsStep P es (meant.traded es (page.now.entries + 1) set.now.kind (segments_of set.now.pieces))
+        step.changes.items) }
+    ensures err { IfErr result (λ stop. (n : Named) (P : PageFacts) (es : List Event) → IsPart n page.now P
+        → NamesSet n set.now.kind (segments_of set.now.pieces) → Shows P es
         → IsStop (meant.traded es (page.now.entries + 1) set.now.kind (segments_of set.now.pieces)) stop) }
     ensures sound { IfOk result (λ step. IsSound (put step.changes.items page.now)) }
 {
@@ -70,9 +73,12 @@ fn advised(alloc: Global, page: &Page, set: &Checked<'_>) -> Result<Step, Stop>
 fn ordered(alloc: Global, page: &Page, set: &Checked<'_>) -> Result<Step, Stop>
     requires kind { set.now.kind ≡ kinds.ShippingOrder }
     requires room { page.now.recent < most_sets }
-    ensures ok { IfOk result (λ step. (n : Named) (P : PageFacts) (es : List Event) → IsPart n page.now P → NamesSet n set.now.kind (segments_of set.now.pieces) → Shows P es
-        → IsStep P es (meant.traded es (page.now.entries + 1) set.now.kind (segments_of set.now.pieces)) step.changes.items) }
-    ensures err { IfErr result (λ stop. (n : Named) (P : PageFacts) (es : List Event) → IsPart n page.now P → NamesSet n set.now.kind (segments_of set.now.pieces) → Shows P es
+    ensures ok { IfOk result (λ step. (n : Named) (P : PageFacts) (es : List Event) → IsPart n page.now P
+        → NamesSet n set.now.kind (segments_of set.now.pieces) → Shows P es
+        → IsStep P es (meant.traded es (page.now.entries + 1) set.now.kind (segments_of set.now.pieces))
+        step.changes.items) }
+    ensures err { IfErr result (λ stop. (n : Named) (P : PageFacts) (es : List Event) → IsPart n page.now P
+        → NamesSet n set.now.kind (segments_of set.now.pieces) → Shows P es
         → IsStop (meant.traded es (page.now.entries + 1) set.now.kind (segments_of set.now.pieces)) stop) }
     ensures sound { IfOk result (λ step. IsSound (put step.changes.items page.now)) }
 {
@@ -84,9 +90,12 @@ fn ordered(alloc: Global, page: &Page, set: &Checked<'_>) -> Result<Step, Stop>
 fn acknowledged(alloc: Global, page: &Page, set: &Checked<'_>) -> Result<Step, Stop>
     requires kind { set.now.kind ≡ kinds.FunctionalAcknowledgment }
     requires room { page.now.recent < most_sets }
-    ensures ok { IfOk result (λ step. (n : Named) (P : PageFacts) (es : List Event) → IsPart n page.now P → NamesSet n set.now.kind (segments_of set.now.pieces) → Shows P es
-        → IsStep P es (meant.traded es (page.now.entries + 1) set.now.kind (segments_of set.now.pieces)) step.changes.items) }
-    ensures err { IfErr result (λ stop. (n : Named) (P : PageFacts) (es : List Event) → IsPart n page.now P → NamesSet n set.now.kind (segments_of set.now.pieces) → Shows P es
+    ensures ok { IfOk result (λ step. (n : Named) (P : PageFacts) (es : List Event) → IsPart n page.now P
+        → NamesSet n set.now.kind (segments_of set.now.pieces) → Shows P es
+        → IsStep P es (meant.traded es (page.now.entries + 1) set.now.kind (segments_of set.now.pieces))
+        step.changes.items) }
+    ensures err { IfErr result (λ stop. (n : Named) (P : PageFacts) (es : List Event) → IsPart n page.now P
+        → NamesSet n set.now.kind (segments_of set.now.pieces) → Shows P es
         → IsStop (meant.traded es (page.now.entries + 1) set.now.kind (segments_of set.now.pieces)) stop) }
     ensures sound { IfOk result (λ step. IsSound (put step.changes.items page.now)) }
 {
@@ -97,9 +106,12 @@ fn acknowledged(alloc: Global, page: &Page, set: &Checked<'_>) -> Result<Step, S
 // The step of a set without a fault of its own, or its trade fault.
 fn traded(alloc: Global, page: &Page, set: &Checked<'_>) -> Result<Step, Stop>
     requires { page.now.recent < most_sets }
-    ensures ok { IfOk result (λ step. (n : Named) (P : PageFacts) (es : List Event) → IsPart n page.now P → NamesSet n set.now.kind (segments_of set.now.pieces) → Shows P es
-        → IsStep P es (meant.traded es (page.now.entries + 1) set.now.kind (segments_of set.now.pieces)) step.changes.items) }
-    ensures err { IfErr result (λ stop. (n : Named) (P : PageFacts) (es : List Event) → IsPart n page.now P → NamesSet n set.now.kind (segments_of set.now.pieces) → Shows P es
+    ensures ok { IfOk result (λ step. (n : Named) (P : PageFacts) (es : List Event) → IsPart n page.now P
+        → NamesSet n set.now.kind (segments_of set.now.pieces) → Shows P es
+        → IsStep P es (meant.traded es (page.now.entries + 1) set.now.kind (segments_of set.now.pieces))
+        step.changes.items) }
+    ensures err { IfErr result (λ stop. (n : Named) (P : PageFacts) (es : List Event) → IsPart n page.now P
+        → NamesSet n set.now.kind (segments_of set.now.pieces) → Shows P es
         → IsStop (meant.traded es (page.now.entries + 1) set.now.kind (segments_of set.now.pieces)) stop) }
     ensures sound { IfOk result (λ step. IsSound (put step.changes.items page.now)) }
 {
@@ -113,8 +125,10 @@ fn traded(alloc: Global, page: &Page, set: &Checked<'_>) -> Result<Step, Stop>
 // What a set without a fault of its own came to.
 fn settled<'a>(alloc: Global, page: &Page, set: &Checked<'a>) -> Result<Verdict<'a>, AllocError>
     requires { page.now.recent < most_sets }
-    ensures value { IfOk result (λ v. (n : Named) (P : PageFacts) (es : List Event) → IsPart n page.now P → NamesSet n set.now.kind (segments_of set.now.pieces) → Shows P es
-        → IsVerdict P es (meant.by_segment (meant.traded es (page.now.entries + 1) set.now.kind (segments_of set.now.pieces))) v) }
+    ensures value { IfOk result (λ v. (n : Named) (P : PageFacts) (es : List Event) → IsPart n page.now P
+        → NamesSet n set.now.kind (segments_of set.now.pieces) → Shows P es
+        → IsVerdict P es (meant.by_segment (meant.traded es (page.now.entries + 1) set.now.kind (segments_of
+        set.now.pieces))) v) }
     ensures fits { IfOk result (CanBePut page.now) }
 {
     match traded(alloc, page, set) {
@@ -135,9 +149,12 @@ pub(crate) fn judged<'a>(
     requires few { length segments.now < 2 ^ 32 - 1 }
     requires closed { IsClosed segments.now }
     requires room { page.now.recent < most_sets }
-    ensures value { IfOk result (λ v. (d : Delimiters) → AreOf d segments.now → (n : Named) (P : PageFacts) (es : List Event) → IsPart n page.now P
-        → (set_fault d (kind_words (kind_of kind)) (segments_of segments.now) ≡ None → NamesSet n (kind_of kind) (segments_of segments.now)) → Shows P es
-        → IsVerdict P es (meant.by_segment (meant.judged d es (page.now.entries + 1) (kind_of kind) (segments_of segments.now))) v) }
+    ensures value { IfOk result (λ v. (d : Delimiters) → AreOf d segments.now
+        → (n : Named) (P : PageFacts) (es : List Event) → IsPart n page.now P
+        → (set_fault d (kind_words (kind_of kind)) (segments_of segments.now) ≡ None
+        → NamesSet n (kind_of kind) (segments_of segments.now)) → Shows P es
+        → IsVerdict P es (meant.by_segment (meant.judged d es (page.now.entries + 1) (kind_of kind)
+        (segments_of segments.now))) v) }
     ensures fits { IfOk result (CanBePut page.now) }
 {
     match judge(kind, segments) {

@@ -28,27 +28,32 @@ ghost use Rattle.rules.specs.Tabled.{stock_part, stock_puts, with_rows};
 
 /// The reply to a command looks at the own entries of the depositor that it names, and at no other's.
 pub fn replies_look_at_own_entries()
-    ensures { (W : Who) (K L : List Entry) (c : Command) (t : Moment) → ((d : Who) → depositor_of c ≡ Some d → own K d ≡ own L d)
+    ensures { (W : Who) (K L : List Entry) (c : Command) (t : Moment) → ((d : Who) → depositor_of c ≡ Some d
+        → own K d ≡ own L d)
         → reply_to W K c t ≡ reply_to W L c t }
 {}
 
 /// An interchange that is known with the same bytes is answered with the text that went out for it, and nothing comes of it.
 pub fn a_known_interchange_is_answered_again()
-    ensures { (W : Who) (L : List Entry) (text : List ℕ) (t : Moment) (k : Known) → known (interchange_mark (isa text 13)) (own_of L (Interchange text)) ≡ Some k
+    ensures { (W : Who) (L : List Entry) (text : List ℕ) (t : Moment) (k : Known)
+        → known (interchange_mark (isa text 13)) (own_of L (Interchange text)) ≡ Some k
         → k.entry.deed ≡ Received text
         → (reply_to W L (Interchange text) t ≡ Stored (stored W k)) × (after W L (Interchange text, t) ≡ L) }
 {}
 
 /// An act that is known under its ticket is answered with its document, and nothing comes of it.
 pub fn a_known_act_is_answered_again()
-    ensures { (W : Who) (L : List Entry) (w : Who) (ticket : List ℕ) (act : Act) (t : Moment) (k : Known) → known (ticket_mark ticket) (own L w) ≡ Some k
+    ensures { (W : Who) (L : List Entry) (w : Who) (ticket : List ℕ) (act : Act) (t : Moment) (k : Known)
+        → known (ticket_mark ticket) (own L w) ≡ Some k
         → k.entry.deed ≡ Performed ticket act
-        → (reply_to W L (Clerk w ticket act) t ≡ Stored (stored W k)) × (after W L (Clerk w ticket act, t) ≡ L) }
+        → (reply_to W L (Clerk w ticket act) t ≡ Stored (stored W k))
+        × (after W L (Clerk w ticket act, t) ≡ L) }
 {}
 
 /// Each entry of a legal register can be replayed after those of its depositor that stand before it.
 pub fn legal_entries_can_be_replayed()
-    ensures { (W : Who) (L before : List Entry) (e : Entry) (behind : List Entry) → IsLegal W L → L ≡ before ++ e ∷ behind → CanFollow (own before e.who) e }
+    ensures { (W : Who) (L before : List Entry) (e : Entry) (behind : List Entry) → IsLegal W L
+        → L ≡ before ++ e ∷ behind → CanFollow (own before e.who) e }
 {}
 
 /// The rows of a page are those that the definitions give for the events that it stands for, by item and lot bytes.
@@ -58,27 +63,34 @@ pub fn rows_are_the_running_rows()
 
 /// The rows of pairs among the changes of an event lead from a depositor's rows of the table `stock` to those of one event more.
 pub fn changed_rows_lead_on_in_the_table()
-    ensures { (w : Who) (p : PageFacts) (es fs : List Event) (cs : List Change) → IsSound p → Shows p es → IsSound (put cs p) → Shows (put cs p) fs
+    ensures { (w : Who) (p : PageFacts) (es fs : List Event) (cs : List Change) → IsSound p → Shows p es
+        → IsSound (put cs p) → Shows (put cs p) fs
         → with_rows (stock_part w (running_rows es)) (stock_puts w cs) ≡ stock_part w (running_rows fs) }
 {}
 
 /// In a legal register the events of a depositor say of an act's number which document it sent, and of any other entry's number
 /// that there is none.
 pub fn events_say_what_was_sent()
-    ensures acts { (W : Who) (L : List Entry) (w : Who) (before : List Entry) (e : Entry) (behind : List Entry) (ticket : List ℕ) (act : Act) → IsLegal W L
-        → own L w ≡ before ++ e ∷ behind → e.deed ≡ Performed ticket act → sent_under (next_number before) (events (own L w)) ≡ Some (act_function act) }
-    ensures others { (W : Who) (L : List Entry) (w : Who) (before : List Entry) (e : Entry) (behind : List Entry) (text : List ℕ) → IsLegal W L
-        → own L w ≡ before ++ e ∷ behind → e.deed ≡ Received text → sent_under (next_number before) (events (own L w)) ≡ None }
+    ensures acts { (W : Who) (L : List Entry) (w : Who) (before : List Entry) (e : Entry) (behind : List
+        Entry) (ticket : List ℕ) (act : Act) → IsLegal W L
+        → own L w ≡ before ++ e ∷ behind → e.deed ≡ Performed ticket act
+        → sent_under (next_number before) (events (own L w)) ≡ Some (act_function act) }
+    ensures others { (W : Who) (L : List Entry) (w : Who) (before : List Entry) (e : Entry) (behind : List
+        Entry) (text : List ℕ) → IsLegal W L
+        → own L w ≡ before ++ e ∷ behind → e.deed ≡ Received text
+        → sent_under (next_number before) (events (own L w)) ≡ None }
 {}
 
 /// A page that stands for the own entries of a depositor of a legal register is the one that the definitions give for them.
 pub fn pages_are_the_defined_ones()
-    ensures { (W : Who) (L : List Entry) (w : Who) (p : PageFacts) → IsLegal W L → IsSound p → IsPageOf p (history (own L w)) → IsDefined p (page_of (own L w)) }
+    ensures { (W : Who) (L : List Entry) (w : Who) (p : PageFacts) → IsLegal W L → IsSound p
+        → IsPageOf p (history (own L w)) → IsDefined p (page_of (own L w)) }
 {}
 
 /// The part of a page that a command's need names has what the command needs.
 pub fn what_is_named_is_needed()
-    ensures { (P : PageFacts) → IsSound P → (p : PageFacts) (c : Command) → IsPart (named_of (need_of c) P) p P → NamesFor (named_of (need_of c) P) p c }
+    ensures { (P : PageFacts) → IsSound P → (p : PageFacts) (c : Command)
+        → IsPart (named_of (need_of c) P) p P → NamesFor (named_of (need_of c) P) p c }
 {}
 
 /// A need names with an advice the items of its lines, and with an order those of what is reserved for it; so the part that it
@@ -94,12 +106,14 @@ pub fn a_whole_page_is_a_part_of_itself()
 
 /// The part that a command's need names of a depositor's page is all that a decision on it is given.
 pub fn a_part_stands_for_its_page()
-    ensures { (c : Command) (page : Bor PageFacts) (h : History) → IsHeldPart (need_of c) page.now h → StandsFor c (Some page) (Some h) }
+    ensures { (c : Command) (page : Bor PageFacts) (h : History) → IsHeldPart (need_of c) page.now h
+        → StandsFor c (Some page) (Some h) }
 {}
 
 /// A depositor of a legal register has a page: a sound one of its own entries, with no event since the last of them.
 pub fn a_legal_register_has_pages()
-    ensures { (W : Who) (L : List Entry) (w : Who) (h : History) → IsLegal W L → standing (own L w) ≡ Some h → (P : PageFacts) × IsLegalPage P h }
+    ensures { (W : Who) (L : List Entry) (w : Who) (h : History) → IsLegal W L → standing (own L w) ≡ Some h
+        → (P : PageFacts) × IsLegalPage P h }
 {}
 
 /// What the page of a depositor of a legal register lists fits: at most 99 lines of an advice, quantities of at most 99,999, and

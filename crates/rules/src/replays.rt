@@ -65,12 +65,21 @@ fn grouped(
     header: &Isa<'_>,
     interchange: &Interchange<'_>,
 ) -> Result<Replayed, AllocError>
-    requires parts { interchange.now ≡ record { delims = delims_of header.now; groups = groups_of (cut (delims_of header.now) header.now).segments } }
+    requires parts { interchange.now ≡ record {
+      delims = delims_of header.now;
+      groups = groups_of (cut
+          (delims_of header.now) header.now).segments;
+    } }
     requires clean { structure_note header.now ≡ None }
     requires rest { page.recent ≡ 0 }
     ensures entries { IfOk result (λ r. r.page.entries ≡ page.entries) }
     ensures played { IfOk result (λ r. (h : History) → IsPageOf page h → envelope.number ≡ h.numbered + 1
-        → IsPlayed envelope.warehouse h (record { who = envelope.depositor; moment = envelope.moment; deed = register.Received header.now }) r.page r.outgoing.items) }
+        → IsPlayed envelope.warehouse h (record {
+          who = envelope.depositor;
+          moment = envelope.moment;
+          deed =
+              register.Received header.now;
+        }) r.page r.outgoing.items) }
 {
     // what is known of every page
     let _ = page.rows();
@@ -104,8 +113,14 @@ fn structured(
     requires same { header.now ≡ text.now }
     requires rest { page.recent ≡ 0 }
     ensures entries { IfOk result (λ r. r.page.entries ≡ page.entries) }
-    ensures played { IfOk result (λ r. (h : History) → IsPageOf page h → envelope.number ≡ h.numbered + 1 → structure_note text.now ≡ None
-        → IsPlayed envelope.warehouse h (record { who = envelope.depositor; moment = envelope.moment; deed = register.Received text.now }) r.page r.outgoing.items) }
+    ensures played { IfOk result (λ r. (h : History) → IsPageOf page h → envelope.number ≡ h.numbered + 1
+        → structure_note text.now ≡ None
+        → IsPlayed envelope.warehouse h (record {
+          who = envelope.depositor;
+          moment = envelope.moment;
+          deed =
+              register.Received text.now;
+        }) r.page r.outgoing.items) }
 {
     match structure(alloc, text, header) {
         Ok(interchange) => grouped(alloc, envelope, page, header, &interchange),
@@ -122,8 +137,14 @@ fn received(
 ) -> Result<Replayed, AllocError>
     requires { page.recent ≡ 0 }
     ensures entries { IfOk result (λ r. r.page.entries ≡ page.entries) }
-    ensures played { IfOk result (λ r. (h : History) → IsPageOf page h → envelope.number ≡ h.numbered + 1 → is_clean (register.Received text.now) ≡ true
-        → IsPlayed envelope.warehouse h (record { who = envelope.depositor; moment = envelope.moment; deed = register.Received text.now }) r.page r.outgoing.items) }
+    ensures played { IfOk result (λ r. (h : History) → IsPageOf page h → envelope.number ≡ h.numbered + 1
+        → is_clean (register.Received text.now) ≡ true
+        → IsPlayed envelope.warehouse h (record {
+          who = envelope.depositor;
+          moment = envelope.moment;
+          deed =
+              register.Received text.now;
+        }) r.page r.outgoing.items) }
 {
     match isa(text) {
         Ok(header) => structured(alloc, envelope, page, &header, text),
@@ -134,7 +155,8 @@ fn received(
 // An act that was stopped came to nothing.
 fn stopped(alloc: Global, page: Page, stop: Stop) -> Result<Replayed, AllocError>
     ensures { IfOk result (λ r. (r.page ≡ page) × (r.outgoing.items ≡ [])
-        × ((outcome : Result Event Refusal) → StopsAct outcome stop → (refusal : Refusal) × (outcome ≡ Err refusal))) }
+        × ((outcome : Result Event Refusal) → StopsAct outcome stop → (refusal : Refusal)
+        × (outcome ≡ Err refusal))) }
 {
     match stop {
         Stop::OutOfMemory => Err(AllocError),
@@ -152,8 +174,10 @@ fn stepped(
 ) -> Result<Replayed, AllocError>
     requires { IsSound (put step.now.changes.items page) }
     ensures { IfOk result (λ r. (r.page ≡ put step.now.changes.items page)
-        × ((es : List Event) (e : Event) → Shows page es → performed es envelope.now.number (act_of act.now) ≡ Ok e
-        → r.outgoing.items ≡ document_of envelope.now.warehouse envelope.now.depositor envelope.now.moment envelope.now.number e)) }
+        × ((es : List Event) (e : Event) → Shows page es
+        → performed es envelope.now.number (act_of act.now) ≡ Ok e
+        → r.outgoing.items ≡ document_of envelope.now.warehouse envelope.now.depositor envelope.now.moment
+        envelope.now.number e)) }
 {
     // what is known of every page
     let _ = page.rows();
@@ -173,8 +197,10 @@ fn done(
 ) -> Result<Replayed, AllocError>
     requires { page.recent ≡ 0 }
     ensures entries { IfOk result (λ r. r.page.entries ≡ page.entries) }
-    ensures played { IfOk result (λ r. (h : History) (ticket : List ℕ) → IsPageOf page h → envelope.number ≡ h.numbered + 1
-        → IsPlayed envelope.warehouse h (clerk_entry envelope.depositor ticket (act_of act.now) envelope.moment) r.page r.outgoing.items) }
+    ensures played { IfOk result (λ r. (h : History) (ticket : List ℕ) → IsPageOf page h
+        → envelope.number ≡ h.numbered + 1
+        → IsPlayed envelope.warehouse h (clerk_entry envelope.depositor ticket (act_of act.now)
+        envelope.moment) r.page r.outgoing.items) }
 {
     // what is known of every page
     let _ = page.rows();
@@ -193,9 +219,11 @@ fn performed(
 ) -> Result<Replayed, AllocError>
     requires { page.recent ≡ 0 }
     ensures entries { IfOk result (λ r. r.page.entries ≡ page.entries) }
-    ensures played { IfOk result (λ r. (h : History) (ticket : List ℕ) (act : register.Act) → IsPageOf page h → envelope.number ≡ h.numbered + 1
+    ensures played { IfOk result (λ r. (h : History) (ticket : List ℕ) (act : register.Act)
+        → IsPageOf page h → envelope.number ≡ h.numbered + 1
         → is_act act ≡ true → text.now ≡ register.canonical act
-        → IsPlayed envelope.warehouse h (clerk_entry envelope.depositor ticket act envelope.moment) r.page r.outgoing.items) }
+        → IsPlayed envelope.warehouse h (clerk_entry envelope.depositor ticket act envelope.moment) r.page
+        r.outgoing.items) }
 {
     match read(alloc, text)? {
         Some(read) => done(alloc, envelope, page, &read.act()),
@@ -223,8 +251,10 @@ fn numbered(
 ) -> Result<Replayed, AllocError>
     requires { page.recent ≡ 0 }
     ensures rest { IfOk result (λ r. r.page.recent ≡ 0) }
-    ensures replayed { IfOk result (λ r. (h : History) (e : register.Entry) → IsPageOf page h → register.is_numbered e ≡ true
-        → entry.now ≡ written_as (number_after h e) e → number_after h e ≤ most_entries → is_entry e ≡ true → is_clean e.deed ≡ true
+    ensures replayed { IfOk result (λ r. (h : History) (e : register.Entry) → IsPageOf page h
+        → register.is_numbered e ≡ true
+        → entry.now ≡ written_as (number_after h e) e → number_after h e ≤ most_entries → is_entry e ≡ true
+        → is_clean e.deed ≡ true
         → IsReplayed warehouse.now h e r.page r.outgoing.items) }
 {
     if !entry.is_numbered() || page.entries() >= MOST_ENTRIES {
@@ -258,7 +288,8 @@ pub fn replay(
     requires { IsHeldAtRest page }
     ensures rest { IfOk result (λ r. r.page.recent ≡ 0) }
     ensures replayed { IfOk result (λ r. (h : History) (e : register.Entry) → IsBefore page h e
-        → entry.now ≡ written_as (number_after h e) e → number_after h e ≤ most_entries → is_entry e ≡ true → is_clean e.deed ≡ true
+        → entry.now ≡ written_as (number_after h e) e → number_after h e ≤ most_entries → is_entry e ≡ true
+        → is_clean e.deed ≡ true
         → IsReplayed warehouse.now h e r.page r.outgoing.items) }
 {
     match page {

@@ -79,7 +79,8 @@ fn append_elements(out: &mut Vec<u8>, separator: u8, elements: &[&[u8]]) -> Resu
 // Appends the two elements of a side, or a beginning of them.
 #[tactic(auto, using(segments::proofs::ExtendsLemmas::extends_trans, segments::proofs::ExtendsLemmas::extends_append))]
 fn append_party(out: &mut Vec<u8>, separator: u8, party: &Party<'_>) -> Result<(), AllocError>
-    ensures ok { OnOk result (out.new.items ≡ out.old.items ++ flat_map (λ e. separator ∷ e) (party.now.qualifier ∷ party.now.id ∷ [])) }
+    ensures ok { OnOk result (out.new.items ≡ out.old.items ++ flat_map
+        (λ e. separator ∷ e) (party.now.qualifier ∷ party.now.id ∷ [])) }
     ensures kept { Extends out.old.items out.new.items }
 {
     append_elements(out, separator, &[party.qualifier, party.id])?;
@@ -90,7 +91,8 @@ fn append_party(out: &mut Vec<u8>, separator: u8, party: &Party<'_>) -> Result<(
 // Appends ISA and its elements before the sides, or a beginning of that.
 #[tactic(auto, using(segments::proofs::ExtendsLemmas::extends_trans, segments::proofs::ExtendsLemmas::extends_append))]
 fn append_opening(out: &mut Vec<u8>, separator: u8) -> Result<(), AllocError>
-    ensures ok { OnOk result (out.new.items ≡ out.old.items ++ joined separator (codes "ISA" ∷ codes "00" ∷ padded 10 [] ∷ codes "00" ∷ padded 10 [] ∷ [])) }
+    ensures ok { OnOk result (out.new.items ≡ out.old.items ++ joined separator (codes "ISA" ∷ codes "00" ∷
+        padded 10 [] ∷ codes "00" ∷ padded 10 [] ∷ [])) }
     ensures kept { Extends out.old.items out.new.items }
 {
     let ten = &SPACES[..BLANK_BYTES];
@@ -102,7 +104,8 @@ fn append_opening(out: &mut Vec<u8>, separator: u8) -> Result<(), AllocError>
 // Appends the last elements of a segment and its terminator, or a beginning of that.
 #[tactic(auto, using(segments::proofs::ExtendsLemmas::extends_trans, segments::proofs::ExtendsLemmas::extends_append))]
 fn append_tail(out: &mut Vec<u8>, delims: Delims, elements: &[&[u8]]) -> Result<(), AllocError>
-    ensures ok { OnOk result (out.new.items ≡ out.old.items ++ (flat_map (λ e. delims.separator ∷ e.now) elements.now ++ delims.terminator ∷ [])) }
+    ensures ok { OnOk result (out.new.items ≡ out.old.items ++ (flat_map
+        (λ e. delims.separator ∷ e.now) elements.now ++ delims.terminator ∷ [])) }
     ensures kept { Extends out.old.items out.new.items }
 {
     append_elements(out, delims.separator(), elements)?;
@@ -117,8 +120,10 @@ fn append_closing(
     moment: &Moment,
     number: u32,
 ) -> Result<(), AllocError>
-    ensures ok { OnOk result (out.new.items ≡ out.old.items ++ (flat_map (λ e. delims.separator ∷ e) (date6 moment.now ∷ time4 moment.now ∷ codes "U" ∷ codes "00401"
-        ∷ zero_filled 9 number ∷ codes "0" ∷ codes "P" ∷ (delims.component ∷ []) ∷ []) ++ delims.terminator ∷ [])) }
+    ensures ok { OnOk result (out.new.items ≡ out.old.items ++ (flat_map
+        (λ e. delims.separator ∷ e) (date6 moment.now ∷ time4 moment.now ∷ codes "U" ∷ codes "00401"
+        ∷ zero_filled 9 number ∷ codes "0" ∷ codes "P" ∷ (delims.component ∷ []) ∷ []) ++ delims.terminator
+        ∷ [])) }
     ensures kept { Extends out.old.items out.new.items }
 {
     let date = date(moment);
@@ -151,7 +156,8 @@ pub(crate) fn append_isa(
     moment: &Moment,
     number: u32,
 ) -> Result<usize, AllocError>
-    ensures ok { IfOk result (λ n. Appends delims out.old.items out.new.items (isa_segment delims warehouse.now to.now moment.now number ∷ []) n) }
+    ensures ok { IfOk result (λ n. Appends delims out.old.items out.new.items (isa_segment delims
+        warehouse.now to.now moment.now number ∷ []) n) }
     ensures kept { Extends out.old.items out.new.items }
 {
     append_opening(out, delims.separator())?;
@@ -168,7 +174,8 @@ pub(crate) fn append_iea(
     groups: u8,
     number: u32,
 ) -> Result<usize, AllocError>
-    ensures ok { IfOk result (λ n. Appends delims out.old.items out.new.items ((codes "IEA" ∷ decimal groups ∷ zero_filled 9 number ∷ []) ∷ []) n) }
+    ensures ok { IfOk result (λ n. Appends delims out.old.items out.new.items
+        ((codes "IEA" ∷ decimal groups ∷ zero_filled 9 number ∷ []) ∷ []) n) }
     ensures kept { Extends out.old.items out.new.items }
 {
     let mut buffer = Buffer::new();
@@ -185,7 +192,8 @@ pub(crate) fn append_gs(
     function: &[u8],
 ) -> Result<usize, AllocError>
     ensures ok { IfOk result (λ n. Appends delims out.old.items out.new.items
-        ((codes "GS" ∷ function.now ∷ envelope.now.warehouse.id ∷ envelope.now.depositor.id ∷ date8 envelope.now.moment ∷ time4 envelope.now.moment
+        ((codes "GS" ∷ function.now ∷ envelope.now.warehouse.id ∷ envelope.now.depositor.id ∷ date8
+        envelope.now.moment ∷ time4 envelope.now.moment
         ∷ decimal envelope.now.number ∷ codes "X" ∷ codes "004010" ∷ []) ∷ []) n) }
     ensures kept { Extends out.old.items out.new.items }
 {
@@ -210,7 +218,8 @@ pub(crate) fn append_ge(
     sets: usize,
     number: u32,
 ) -> Result<usize, AllocError>
-    ensures ok { IfOk result (λ n. Appends delims out.old.items out.new.items ((codes "GE" ∷ decimal sets ∷ decimal number ∷ []) ∷ []) n) }
+    ensures ok { IfOk result (λ n. Appends delims out.old.items out.new.items
+        ((codes "GE" ∷ decimal sets ∷ decimal number ∷ []) ∷ []) n) }
     ensures kept { Extends out.old.items out.new.items }
 {
     let mut buffer = Buffer::new();
@@ -227,7 +236,8 @@ pub(crate) fn append_st(
     number: &[u8],
     place: u64,
 ) -> Result<usize, AllocError>
-    ensures ok { IfOk result (λ n. Appends delims out.old.items out.new.items ((codes "ST" ∷ number.now ∷ zero_filled 4 place ∷ []) ∷ []) n) }
+    ensures ok { IfOk result (λ n. Appends delims out.old.items out.new.items
+        ((codes "ST" ∷ number.now ∷ zero_filled 4 place ∷ []) ∷ []) n) }
     ensures kept { Extends out.old.items out.new.items }
 {
     let control = digits::<LEAST_SET_CONTROL>(place);
@@ -241,7 +251,8 @@ pub(crate) fn append_se(
     segments: usize,
     place: u64,
 ) -> Result<usize, AllocError>
-    ensures ok { IfOk result (λ n. Appends delims out.old.items out.new.items ((codes "SE" ∷ decimal segments ∷ zero_filled 4 place ∷ []) ∷ []) n) }
+    ensures ok { IfOk result (λ n. Appends delims out.old.items out.new.items
+        ((codes "SE" ∷ decimal segments ∷ zero_filled 4 place ∷ []) ∷ []) n) }
     ensures kept { Extends out.old.items out.new.items }
 {
     let mut buffer = Buffer::new();

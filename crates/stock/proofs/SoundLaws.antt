@@ -128,7 +128,7 @@ module _ {X : Type 0} (is_open : X → Bool) (lines : X → List Line) where
         | inr e ↦ elim (lines_pass p q same a b ls parts.1) [ inl found ↦ inl found | inr none ↦ inr (quantity_no a b l ls e ∙ none) ]
       ]
 
-  open_pass : (p : Line → Bool) (q : List ℕ → List ℕ → Bool) → ((l : Line) → p l ≡ q l.item l.lot) → (a b : List ℕ) (ks : List X) → all_open p ks ≡ true
+  pub open_pass : (p : Line → Bool) (q : List ℕ → List ℕ → Bool) → ((l : Line) → p l ≡ q l.item l.lot) → (a b : List ℕ) (ks : List X) → all_open p ks ≡ true
       → (q a b ≡ true) ⊎ (opens ks a b ≡ 0)
   open_pass p q same a b [] h = inr refl
   open_pass p q same a b (k ∷ ks) h =
@@ -150,7 +150,7 @@ module _ {X : Type 0} (is_open : X → Bool) (lines : X → List Line) where
   every_line p h [] = refl
   every_line p h (l ∷ ls) = both_true (h l) (every_line p h ls)
 
-  every_open : (p : Line → Bool) → ((l : Line) → p l ≡ true) → (ks : List X) → all_open p ks ≡ true
+  pub every_open : (p : Line → Bool) → ((l : Line) → p l ≡ true) → (ks : List X) → all_open p ks ≡ true
   every_open p h [] = refl
   every_open p h (k ∷ ks) = elim (cases_Bool (is_open k)) [
     | inl e ↦ both_true (ap (λ (v : Bool). cond v (list_all p (lines k)) true) e ∙ every_line p h (lines k)) (every_open p h ks)
@@ -158,7 +158,7 @@ module _ {X : Type 0} (is_open : X → Bool) (lines : X → List Line) where
   ]
 
 -- what no line exceeds no pair exceeds
-at_most : (n m : ℕ) → (nat_le n m ≡ true) ⊎ (n ≡ 0) → n ≤ m
+pub at_most : (n m : ℕ) → (nat_le n m ≡ true) ⊎ (n ≡ 0) → n ≤ m
 at_most n m (inl h) = leb-true n m h
 at_most n m (inr h) = omega (arith, h)
 

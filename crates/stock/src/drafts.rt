@@ -77,7 +77,7 @@ impl Draft {
             entries,
             ..
         } = self;
-        if !is_kept(&rows, &advices, &orders, entries) {
+        if !is_kept(*rows.allocator(), &rows, &advices, &orders, entries) {
             return None;
         }
         Some(Page {

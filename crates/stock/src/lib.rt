@@ -12,6 +12,7 @@ mod faults;
 mod known_advices;
 mod known_orders;
 pub mod laws;
+mod left;
 mod lines;
 mod lots;
 mod page;

@@ -185,7 +185,8 @@ fn rank_of(rows: &[Row], item: &[u8], lot: &[u8]) -> usize
 // The place of the row of a pair.
 pub(crate) fn place_of(rows: &[Row], item: &[u8], lot: &[u8]) -> Option<usize>
     requires { IsSorted rows.now }
-    ensures { MatchOption result (told one item.now lot.now rows.now ≡ 0) (λ i. IsPlace item.now lot.now rows.now i) }
+    ensures { MatchOption result (told one item.now lot.now rows.now ≡ 0)
+        (λ i. IsPlace item.now lot.now rows.now i) }
 {
     let i = rank_of(rows, item, lot);
     if i == rows.len() {
@@ -278,7 +279,8 @@ fn add_line(
     line: &Goods,
 ) -> Result<(), AllocError>
     requires sorted { IsSorted rows.old.items }
-    requires fits { told (amount (column_of column)) line.now.item line.now.lot rows.old.items + line.now.quantity < 2 ^ 64 }
+    requires fits { told (amount (column_of column)) line.now.item line.now.lot rows.old.items +
+        line.now.quantity < 2 ^ 64 }
     ensures { OnOk result (IsAdded (column_of column) (line.now ∷ []) rows.old.items rows.new.items) }
 {
     let i = placed(alloc, rows, line)?;
@@ -290,7 +292,8 @@ fn add_line(
 // Takes a line from a column.
 fn take_line(rows: &mut Vec<Row>, column: Column, line: &Goods)
     requires sorted { IsSorted rows.old.items }
-    requires there { line.now.quantity ≤ told (amount (column_of column)) line.now.item line.now.lot rows.old.items }
+    requires there { line.now.quantity ≤ told (amount (column_of column)) line.now.item line.now.lot
+        rows.old.items }
     ensures { IsTaken (column_of column) (line.now ∷ []) rows.old.items rows.new.items }
 {
     if let Some(i) = place_of(rows, &line.item, &line.lot) {
@@ -302,7 +305,8 @@ fn take_line(rows: &mut Vec<Row>, column: Column, line: &Goods)
 // Adds a line to a column of its row, if there is one.
 fn raise_line(rows: &mut Vec<Row>, column: Column, line: &Goods)
     requires sorted { IsSorted rows.old.items }
-    requires fits { told (amount (column_of column)) line.now.item line.now.lot rows.old.items + line.now.quantity < 2 ^ 64 }
+    requires fits { told (amount (column_of column)) line.now.item line.now.lot rows.old.items +
+        line.now.quantity < 2 ^ 64 }
     requires there { told one line.now.item line.now.lot rows.old.items ≡ 0 → line.now.quantity ≡ 0 }
     ensures { IsRaised (column_of column) (line.now ∷ []) rows.old.items rows.new.items }
 {
@@ -315,8 +319,10 @@ fn raise_line(rows: &mut Vec<Row>, column: Column, line: &Goods)
 // Adds the lines to a column of their rows; a line whose pair has no row is of nothing.
 pub(crate) fn raise_lines(rows: &mut Vec<Row>, column: Column, lines: &[Goods])
     requires sorted { IsSorted rows.old.items }
-    requires fits { (item lot : List ℕ) → told (amount (column_of column)) item lot rows.old.items + quantity_of lines.now item lot < 2 ^ 64 }
-    requires there { (item lot : List ℕ) → told one item lot rows.old.items ≡ 0 → quantity_of lines.now item lot ≡ 0 }
+    requires fits { (item lot : List ℕ)
+        → told (amount (column_of column)) item lot rows.old.items + quantity_of lines.now item lot < 2 ^ 64 }
+    requires there { (item lot : List ℕ) → told one item lot rows.old.items ≡ 0
+        → quantity_of lines.now item lot ≡ 0 }
     ensures { IsRaised (column_of column) lines.now rows.old.items rows.new.items }
 {
     for line in lines {
@@ -327,9 +333,12 @@ pub(crate) fn raise_lines(rows: &mut Vec<Row>, column: Column, lines: &[Goods])
 // Takes the sheet from what is on hand and adds it to what was shipped; takes what was reserved.
 pub(crate) fn ship(rows: &mut Vec<Row>, reserved: &[Goods], sheet: &[Goods])
     requires sorted { IsSorted rows.old.items }
-    requires on_hand { (item lot : List ℕ) → quantity_of sheet.now item lot ≤ told (amount OnHand) item lot rows.old.items }
-    requires fits { (item lot : List ℕ) → told (amount Shipped) item lot rows.old.items + quantity_of sheet.now item lot < 2 ^ 64 }
-    requires there { (item lot : List ℕ) → quantity_of reserved.now item lot ≤ told (amount Reservation) item lot rows.old.items }
+    requires on_hand { (item lot : List ℕ)
+        → quantity_of sheet.now item lot ≤ told (amount OnHand) item lot rows.old.items }
+    requires fits { (item lot : List ℕ)
+        → told (amount Shipped) item lot rows.old.items + quantity_of sheet.now item lot < 2 ^ 64 }
+    requires there { (item lot : List ℕ)
+        → quantity_of reserved.now item lot ≤ told (amount Reservation) item lot rows.old.items }
     ensures { IsShipped reserved.now sheet.now rows.old.items rows.new.items }
 {
     take_lines(rows, Column::OnHand, sheet);
@@ -368,7 +377,8 @@ pub(crate) fn add_lines(
     lines: &[Goods],
 ) -> Result<(), AllocError>
     requires sorted { IsSorted rows.old.items }
-    requires fits { (item lot : List ℕ) → told (amount (column_of column)) item lot rows.old.items + quantity_of lines.now item lot < 2 ^ 64 }
+    requires fits { (item lot : List ℕ)
+        → told (amount (column_of column)) item lot rows.old.items + quantity_of lines.now item lot < 2 ^ 64 }
     ensures { OnOk result (IsAdded (column_of column) lines.now rows.old.items rows.new.items) }
 {
     for line in lines {
@@ -380,7 +390,8 @@ pub(crate) fn add_lines(
 // Takes the lines from a column.
 pub(crate) fn take_lines(rows: &mut Vec<Row>, column: Column, lines: &[Goods])
     requires sorted { IsSorted rows.old.items }
-    requires there { (item lot : List ℕ) → quantity_of lines.now item lot ≤ told (amount (column_of column)) item lot rows.old.items }
+    requires there { (item lot : List ℕ)
+        → quantity_of lines.now item lot ≤ told (amount (column_of column)) item lot rows.old.items }
     ensures { IsTaken (column_of column) lines.now rows.old.items rows.new.items }
 {
     for line in lines {
@@ -422,8 +433,10 @@ pub(crate) fn count(
 ) -> Result<(), AllocError>
     requires positive { 0 < n }
     requires sorted { IsSorted rows.old.items }
-    requires there { (item lot : List ℕ) → quantity_of expected.now item lot ≤ told (amount Expected) item lot rows.old.items }
-    requires fits { (item lot : List ℕ) → told (amount OnHand) item lot rows.old.items + quantity_of sheet.now item lot < 2 ^ 64 }
+    requires there { (item lot : List ℕ)
+        → quantity_of expected.now item lot ≤ told (amount Expected) item lot rows.old.items }
+    requires fits { (item lot : List ℕ)
+        → told (amount OnHand) item lot rows.old.items + quantity_of sheet.now item lot < 2 ^ 64 }
     ensures { OnOk result (IsCounted n expected.now sheet.now rows.old.items rows.new.items) }
 {
     take_lines(rows, Column::Expected, expected);

@@ -1,5 +1,5 @@
 //! Whether lists are those of a page: what is true of every page is checked of them.
-ghost use Rattle.std.specs.Prelude.{◌≡◌, ◌+◌, ◌<◌, ◌^◌, MatchOption, map, nat_le, nat_lt, true, bytes_eq, if◌then◌else◌};
+ghost use Rattle.std.specs.Prelude.{◌≡◌, ◌+◌, ◌<◌, ◌^◌, IfOk, MatchOption, map, nat_le, nat_lt, true, bytes_eq, if◌then◌else◌};
 ghost use Rattle.std.specs.List.{list_all, list_any};
 ghost use Rattle.profile.specs.Bytes.{comes_before, is_one_of};
 ghost use Rattle.profile.specs.Events as events;
@@ -11,10 +11,12 @@ ghost use Rattle.stock.specs.Soundness as meant;
 use crate::documents::KnownDocument;
 use crate::known_advices::KnownAdvice;
 use crate::known_orders::{KnownLine, KnownOrder};
+use crate::left::{amounts, take_awaited, take_held};
 use crate::lines::is_of;
 use crate::rows::{Column, Row, amount_of};
 use profile::{MOST_ENTRIES, MOST_RECOUNTED, MOST_SETS};
 use sets_in::Goods;
+use std::alloc::{AllocError, Global};
 
 // Whether no more is reserved of a row than is on hand, and no amount is above the most.
 fn is_within(row: &Row, most: u64) -> bool
@@ -150,8 +152,9 @@ fn order_reserved(rows: &[Row], orders: &[KnownOrder], order: &KnownOrder) -> bo
     !order.is_open || are_reserved(rows, orders, &order.reserved)
 }
 
-// Whether all that open advices bring is expected.
-fn all_expected(rows: &[Row], advices: &[KnownAdvice]) -> bool
+// Whether each line of each open advice is expected. It compares each with all, and asks for no
+// memory.
+fn each_expected(rows: &[Row], advices: &[KnownAdvice]) -> bool
     requires { IsSorted rows.now }
     ensures { result ≡ meant.all_expected rows.now advices.now advices.now }
 {
@@ -163,8 +166,9 @@ fn all_expected(rows: &[Row], advices: &[KnownAdvice]) -> bool
     true
 }
 
-// Whether all that open orders hold is reserved.
-fn all_reserved(rows: &[Row], orders: &[KnownOrder]) -> bool
+// Whether each line of each open order is reserved. It compares each with all, and asks for no
+// memory.
+fn each_reserved(rows: &[Row], orders: &[KnownOrder]) -> bool
     requires { IsSorted rows.now }
     ensures { result ≡ meant.all_reserved rows.now orders.now orders.now }
 {
@@ -174,6 +178,50 @@ fn all_reserved(rows: &[Row], orders: &[KnownOrder]) -> bool
         }
     }
     true
+}
+
+// The same of the advices with one look at each line, where there is memory for the sums.
+fn expected_at_once(
+    alloc: Global,
+    rows: &[Row],
+    advices: &[KnownAdvice],
+) -> Result<bool, AllocError>
+    requires { IsSorted rows.now }
+    ensures { IfOk result (λ enough. enough ≡ meant.all_expected rows.now advices.now advices.now) }
+{
+    let mut left = amounts(alloc, rows, Column::Expected)?;
+    Ok(take_awaited(rows, &mut left, advices))
+}
+
+// The same of the orders with one look at each line, where there is memory for the sums.
+fn reserved_at_once(alloc: Global, rows: &[Row], orders: &[KnownOrder]) -> Result<bool, AllocError>
+    requires { IsSorted rows.now }
+    ensures { IfOk result (λ enough. enough ≡ meant.all_reserved rows.now orders.now orders.now) }
+{
+    let mut left = amounts(alloc, rows, Column::Reservation)?;
+    Ok(take_held(rows, &mut left, orders))
+}
+
+// Whether all that open advices bring is expected.
+fn all_expected(alloc: Global, rows: &[Row], advices: &[KnownAdvice]) -> bool
+    requires { IsSorted rows.now }
+    ensures { result ≡ meant.all_expected rows.now advices.now advices.now }
+{
+    match expected_at_once(alloc, rows, advices) {
+        Ok(enough) => enough,
+        Err(_) => each_expected(rows, advices),
+    }
+}
+
+// Whether all that open orders hold is reserved.
+fn all_reserved(alloc: Global, rows: &[Row], orders: &[KnownOrder]) -> bool
+    requires { IsSorted rows.now }
+    ensures { result ≡ meant.all_reserved rows.now orders.now orders.now }
+{
+    match reserved_at_once(alloc, rows, orders) {
+        Ok(enough) => enough,
+        Err(_) => each_reserved(rows, orders),
+    }
 }
 
 // Whether one of the lines is of the item.
@@ -209,6 +257,7 @@ fn all_in_lines(orders: &[KnownOrder]) -> bool
 
 /// Whether lists in order are those of a page after so many entries, with no event since.
 pub(crate) fn is_kept(
+    alloc: Global,
     rows: &[Row],
     advices: &[KnownAdvice],
     orders: &[KnownOrder],
@@ -219,7 +268,7 @@ pub(crate) fn is_kept(
 {
     entries <= MOST_ENTRIES
         && are_within(rows, entries)
-        && all_expected(rows, advices)
-        && all_reserved(rows, orders)
+        && all_expected(alloc, rows, advices)
+        && all_reserved(alloc, rows, orders)
         && all_in_lines(orders)
 }

@@ -1,4 +1,4 @@
-use Rattle.std.proofs.Common.{ℕ, List, ◌+◌, map, subst}
+use Rattle.std.proofs.Common.{List, ◌+◌, map, subst}
 use Rattle.sets_out.specs.Appends.{Appends}
 use Rattle.sets_out.specs.Documents.{PickedLot, ShippedLine, shipped_line, shipped_lot}
 use Rattle.sets_out.proofs.AppendsLaws.{appends_then}

@@ -1,6 +1,6 @@
 use Rattle.std.proofs.Common.{◌≡◌, take, true}
 use Rattle.stock.specs.Soundness.{all_reserved}
-use Rattle.stock.proofs.sound.all_reserved.Given as goal
+use Rattle.stock.proofs.sound.each_reserved.Given as goal
 
 -- all orders so far pass
 abbrev pub invariant-loop-order : goal.invariant-loop-order

@@ -1,6 +1,6 @@
 use Rattle.std.proofs.Common.{◌≡◌, take, true}
 use Rattle.stock.specs.Soundness.{all_expected}
-use Rattle.stock.proofs.sound.all_expected.Given as goal
+use Rattle.stock.proofs.sound.each_expected.Given as goal
 
 -- all advices so far pass
 abbrev pub invariant-loop-advice : goal.invariant-loop-advice

@@ -1,0 +1,15 @@
+use Rattle.std.proofs.Common.{take, ◌+◌, ◌∷◌, []}
+use Rattle.profile.specs.Events.{quantity_of}
+use Rattle.stock.proofs.Lefts.{less_end, less_more, line_least, line_next}
+use Rattle.stock.proofs.left.take_lines.Goals as goal
+
+pub returns-then-not-take_line : goal.returns-then-not-take_line
+returns-then-not-take_line c =
+    less_end c.args.rows.now (quantity_of (take c.loop-line.line-index c.args.lines.now)) (quantity_of (c.line-item.result ∷ [])) (quantity_of c.args.lines.now) _ _ _
+    (line_least c.args.lines.now c.loop-line.line-index c.line-item.result c.loop-line-test.true c.line-item.is) c.loop-line.invariant c.if-not-take_line.ensures
+
+pub loop-line-preserved : goal.loop-line-preserved
+loop-line-preserved c =
+    less_more c.args.rows.now (quantity_of (take c.loop-line.line-index c.args.lines.now)) (quantity_of (c.line-item.result ∷ []))
+    (quantity_of (take (c.loop-line.line-index + 1) c.args.lines.now)) _ _ _
+    (line_next c.args.lines.now c.loop-line.line-index c.line-item.result c.loop-line-test.true c.line-item.is) c.loop-line.invariant c.if-not-take_line.ensures
