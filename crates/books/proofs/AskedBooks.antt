@@ -1,32 +1,26 @@
 -- What asking a book's tables leaves of the book, and what opening makes of them.
 use Rattle.std.proofs.Common.{◌≡◌, ◌≤◌, inl, inr, ℕ, List, Bool, false, Result, Ok, Err, IfErr, length, refl, sym, subst}
-use Rattle.std.specs.Prelude.{IsErrAnd}
 use Rattle.sqlite.specs.Tree.{Trees}
 use Rattle.sqlite.specs.State.{State, HasCleanDisk}
 use Rattle.profile.specs.Header.{Who}
 use Rattle.profile.specs.Register.{Entry}
 use Rattle.store.specs.declared.fault.Fault.{Fault}
 use Rattle.store.specs.Standing.{IsUnchanged, IsUsable, IsQueryFault}
-use Rattle.books.specs.Asking.{IsAsked, IsAskFault}
-use Rattle.books.specs.Exits.{StandsWhileOpen}
+use Rattle.book_tables.specs.Asking.{IsAsked, IsAskFault}
+use Rattle.book_tables.specs.Exits.{StandsWhileOpen}
 use Rattle.books.specs.Keeping.{IsKept, IsSettled, standing_in}
-use Rattle.books.specs.Standing.{Stands}
+use Rattle.book_tables.proofs.AskedLater.{stands_later}
 
 -- no more is left than was
 no_new : (old new : State) (W : Who) (L : List Entry) → HasCleanDisk new → IsAsked old new → StandsWhileOpen old W L → (db : Trees) → new.may_leave db → old.may_leave db
 no_new old new W L clean asked stands db may = elim (asked.crash.crash clean db may) [ inl before ↦ before | inr none ↦ absurd (none (λ o. let here = stands o in here.schema)) ]
-
-pub stands_still : (old new : State) (W : Who) (L : List Entry) → HasCleanDisk new → IsAsked old new → StandsWhileOpen old W L → StandsWhileOpen new W L
-stands_still old new W L clean asked stands =
-    let before = asked.same clean (λ o. let here = stands o in here.schema) in
-    (λ o. subst (Stands W L) (sym (before.now o)) (stands (before.was_open o)))
 
 -- a query leaves the book as it was
 pub asked_unchanged : (old new : State) (W : Who) (n refused more : ℕ) (shut : Bool) → refused ≤ more → IsAsked old new → IsUnchanged (standing_in old W n refused shut) (standing_in new W n more shut)
 asked_unchanged old new W n refused more shut grew asked = record {
   goes = record { warehouse = refl; doubt = asked.crash.clean; refusals = grew };
   shut = refl;
-  keeps = λ clean L k. record { count = k.count; stands = stands_still old new W L clean asked k.stands };
+  keeps = λ clean L k. record { count = k.count; stands = stands_later old new W L clean asked k.stands };
   stand = λ clean L k was db may. was db (no_new old new W L clean asked k.stands db may);
   no_more = λ clean L k M left. (left.0, no_new old new W L clean asked k.stands left.0 left.1, left.2);
 }
@@ -40,16 +34,17 @@ asked_fault_at f old new W n refused more shut h = record {
   device = h.device;
 }
 
--- an error that is handed on
-pub err_as : {T E : Type 0} (P : E → Type 0) (r : Result T E) (e : E) → IsErrAnd r (λ f. f ≡ e) → P e → IfErr r P
-err_as P (Ok x) e h p = tt
-err_as P (Err f) e h p = subst P (sym h) p
+-- why asking the tables failed is why asking the book did
+pub asked_faults : {T : Type 0} (r : Result T Fault) (old new : State) (W : Who) (n refused more : ℕ) (shut : Bool) → IfErr r (λ f. IsAskFault f old new refused more)
+    → IfErr r (λ f. IsQueryFault f (standing_in old W n refused shut) (standing_in new W n more shut))
+asked_faults (Ok x) old new W n refused more shut h = tt
+asked_faults (Err f) old new W n refused more shut h = asked_fault_at f old new W n refused more shut h
 
 -- Opening.
 
 pub opened_kept : (old new : State) (W : Who) (n : ℕ) (L : List Entry) → HasCleanDisk new → IsAsked old new → n ≡ length L → StandsWhileOpen old W L → IsKept new W n L
 opened_kept old new W n L clean asked count was =
-    record { count = count; stands = stands_still old new W L clean asked was }
+    record { count = count; stands = stands_later old new W L clean asked was }
 
 pub opened_usable : (old new : State) (W : Who) (n refused : ℕ) (L : List Entry) → HasCleanDisk new → IsAsked old new → n ≡ length L → (house : Who) → house ≡ W → IsSettled old W L → IsUsable (standing_in new house n refused false) L
 opened_usable old new W n refused L clean asked count house same was =

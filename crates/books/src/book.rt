@@ -10,21 +10,21 @@ ghost use Rattle.sqlite.specs.State.{HasCleanDisk, Survives};
 ghost use Rattle.sqlite.specs.Held.{state};
 ghost use Rattle.sqlite.specs.Order.{Row as Cells};
 ghost use Rattle.store.specs.Held.{IsHeld};
+ghost use Rattle.store.specs.Sent.{text_of};
 ghost use Rattle.store.specs.Standing.{IsUsable, IsUnchanged, IsQueryFault, IsNext, IsFault, IsCommitFault, LeavesEither, GoesOn};
-ghost use Rattle.books.specs.Asking.{Finds, IsAsked, house_text};
-ghost use Rattle.books.specs.Exits.{IsAsBefore, StandsWhileOpen};
-ghost use Rattle.books.specs.Keeping.{IsKept, IsSettled};
-ghost use Rattle.books.specs.Limits.{NoMore};
-ghost use Rattle.books.specs.Needed.{needed_part};
-ghost use Rattle.books.specs.Layout.{no_layout};
+ghost use Rattle.book_tables.specs.Asking.{Finds, IsAsked, house_text};
+ghost use Rattle.book_tables.specs.Exits.{IsAsBefore, StandsWhileOpen};
+ghost use Rattle.books.specs.Keeping.{IsKept};
+ghost use Rattle.book_tables.specs.Limits.{NoMore};
+ghost use Rattle.book_tables.specs.Needed.{needed_part};
+ghost use Rattle.book_tables.specs.Layout.{no_layout};
 ghost use Rattle.books.specs.Opened.{standing_of};
-ghost use Rattle.books.specs.Recorded.{IsHouse};
-ghost use Rattle.books.specs.Rises.{Rises};
-ghost use Rattle.books.specs.Standing.{StandsIn};
-ghost use Rattle.books.specs.Taken.{has_book_table};
+ghost use Rattle.book_tables.specs.Recorded.{IsHouse};
+ghost use Rattle.book_tables.specs.Rises.{Rises};
+ghost use Rattle.book_tables.specs.Standing.{StandsIn};
+ghost use Rattle.book_tables.specs.Taken.{has_book_table};
 
-use crate::connected::Tables;
-use crate::texts::partner_text;
+use book_tables::{Tables, partner_text};
 use rules::{Change, Entry, Key, Known, Need, Page, Warehouse, Who};
 use sqlite::Alter;
 use std::alloc::Global;
@@ -57,7 +57,7 @@ impl<S: Alter + Drop> Model for Book<S> {
 impl<S: Alter + Drop> Book<S> {
     /// Makes the tables of an empty register of the warehouse. A fault hands the tables back: 43 where the store has a table with
     /// the name of a table of the book already, which leaves it as it is, and 40 or 41 where a call was refused.
-    #[tactic(auto, using(crate::proofs::Limited::no_more_trans, crate::proofs::Limited::no_more_same))]
+    #[tactic(auto, using(book_tables::proofs::Limited::no_more_trans, book_tables::proofs::Limited::no_more_same))]
     pub fn create(
         alloc: Global,
         mut tables: Tables<S>,
@@ -66,6 +66,7 @@ impl<S: Alter + Drop> Book<S> {
         ensures usable { IfOk result (λ b. HasCleanDisk (state S.Store b.tables.conn)
             → (state S.Store tables.conn).now.schema ≡ no_layout → IsUsable (standing_of S.Store b) []) }
         ensures warehouse { IfOk result (λ b. b.warehouse ≡ warehouse) }
+        ensures opened { IfOk result (λ b. b.shut ≡ false) }
         ensures before { IfErr result (λ e. HasCleanDisk (state S.Store e.1.conn)
             → IsAsBefore (state S.Store tables.conn) (state S.Store e.1.conn)) }
         ensures crash { IfErr result (λ e. Survives (state S.Store tables.conn) (state S.Store e.1.conn) (λ db.
@@ -99,15 +100,16 @@ impl<S: Alter + Drop> Book<S> {
 
     /// Opens the book that tables hold. A fault hands the tables back as they were: 40 or 41 where a call was refused, 43 where
     /// `book` hasn't one row, or that row has another version than 1 or no warehouse.
-    #[tactic(auto, using(crate::proofs::Limited::no_more_trans, crate::proofs::Limited::no_more_same))]
+    #[tactic(auto, using(book_tables::proofs::Limited::no_more_trans, book_tables::proofs::Limited::no_more_same))]
     pub fn open_from(alloc: Global, mut tables: Tables<S>) -> Result<Book<S>, (Fault, Tables<S>)>
         ensures usable { IfOk result (λ b. HasCleanDisk (state S.Store b.tables.conn)
-            → (W : Partner) (L : List register.Entry) → IsSettled (state S.Store tables.conn) W L
+            → (W : Partner) (L : List register.Entry) → StandsWhileOpen (state S.Store tables.conn) W L
             → IsUsable (standing_of S.Store b) L) }
         ensures keeps { IfOk result (λ b. HasCleanDisk (state S.Store b.tables.conn)
             → (W : Partner) (L : List register.Entry) → StandsWhileOpen (state S.Store tables.conn) W L
             → (b.warehouse ≡ W) × IsKept (state S.Store b.tables.conn) W b.entries L) }
         ensures opened { IfOk result (λ b. b.shut ≡ false) }
+        ensures still { IfOk result (λ b. IsAsked (state S.Store tables.conn) (state S.Store b.tables.conn)) }
         ensures house { IfOk result (λ b. HasCleanDisk (state S.Store b.tables.conn)
             → (rows : List Cells) × Finds house_text [] (state S.Store tables.conn).now rows
             × IsHouse rows b.warehouse) }
@@ -127,6 +129,7 @@ impl<S: Alter + Drop> Book<S> {
         ensures limit_back { IfErr result (λ e. NoMore tables.limit e.1.limit) }
         ensures allowed { OnOk result (tables.limit ≢ Some 0) }
     {
+        tables.settle();
         match tables.found() {
             Ok(found) => Ok(Book {
                 alloc,
@@ -164,7 +167,7 @@ impl<S: Alter + Drop> Keeper for Book<S> {
     }
 
     /// Just the part that is needed of a depositor's page, from the running rows; None for a stranger.
-    #[tactic(auto, using(crate::proofs::Limited::no_more_trans, crate::proofs::Limited::no_more_same))]
+    #[tactic(auto, using(book_tables::proofs::Limited::no_more_trans, book_tables::proofs::Limited::no_more_same))]
     fn load(&mut self, who: Who, need: &Need) -> Result<Option<Page>, Fault>
         ensures page { (standing_of S.Store self.new).doubt ≡ 0 → (L : List register.Entry)
             → (standing_of S.Store self.old).keeps L → IsLegal (standing_of S.Store self.old).warehouse L
@@ -186,7 +189,7 @@ impl<S: Alter + Drop> Keeper for Book<S> {
         self.tables.page_for(self.alloc, who, need)
     }
 
-    #[tactic(auto, using(crate::proofs::Limited::no_more_trans, crate::proofs::Limited::no_more_same))]
+    #[tactic(auto, using(book_tables::proofs::Limited::no_more_trans, book_tables::proofs::Limited::no_more_same))]
     fn known(&mut self, who: Who, key: &Key<'_>) -> Result<Option<Known>, Fault>
         ensures entry { (standing_of S.Store self.new).doubt ≡ 0 → (L : List register.Entry)
             → (standing_of S.Store self.old).keeps L → IsLegal (standing_of S.Store self.old).warehouse L
@@ -209,7 +212,7 @@ impl<S: Alter + Drop> Keeper for Book<S> {
 
     /// Appends an entry, with the rows that it changes and the text that goes out for it, in one transaction. After a fault of
     /// the store the book has to be opened again, and answers 42 until then. 41 where the numbers that SQLite has for entries are used up.
-    #[tactic(auto, using(crate::proofs::Limited::no_more_trans, crate::proofs::Limited::no_more_same))]
+    #[tactic(auto, using(book_tables::proofs::Limited::no_more_trans, book_tables::proofs::Limited::no_more_same))]
     fn commit(&mut self, entry: &Entry, changes: &[Change], outgoing: &[u8]) -> Result<(), Fault>
         ensures ok { (standing_of S.Store self.new).doubt ≡ 0 → (L : List register.Entry) (e : register.Entry)
             → IsUsable (standing_of S.Store self.old) L
@@ -226,7 +229,8 @@ impl<S: Alter + Drop> Keeper for Book<S> {
         ensures store { IsErrOf result Fault.Store → (standing_of S.Store self.new).shut ≡ true }
         ensures used_up { self.old.shut ≡ false → 2 ^ 63 - 1 ≤ self.old.entries → IsErrOf result Fault.Store }
         ensures shut { (standing_of S.Store self.old).shut ≡ true
-            → IsErrOf result Fault.Reopen × IsUnchanged (standing_of S.Store self.old) (standing_of S.Store self.new) }
+            → IsErrOf result Fault.Reopen
+            × IsUnchanged (standing_of S.Store self.old) (standing_of S.Store self.new) }
         ensures goes { GoesOn (standing_of S.Store self.old) (standing_of S.Store self.new) }
         ensures uncounted { OnOk result (self.new.tables.refused ≡ self.old.tables.refused) }
         ensures limit { NoMore self.old.tables.limit self.new.tables.limit }
@@ -253,7 +257,7 @@ impl<S: Alter + Drop> Keeper for Book<S> {
         }
     }
 
-    #[tactic(auto, using(crate::proofs::Limited::no_more_trans, crate::proofs::Limited::no_more_same))]
+    #[tactic(auto, using(book_tables::proofs::Limited::no_more_trans, book_tables::proofs::Limited::no_more_same))]
     fn stock_rows(&mut self, who: Who) -> Result<Option<Vec<StockRow>>, Fault>
         ensures rows { (standing_of S.Store self.new).doubt ≡ 0 → (L : List register.Entry)
             → (standing_of S.Store self.old).keeps L → IsLegal (standing_of S.Store self.old).warehouse L
@@ -272,7 +276,7 @@ impl<S: Alter + Drop> Keeper for Book<S> {
         self.tables.stock_of(self.alloc, who)
     }
 
-    #[tactic(auto, using(crate::proofs::Limited::no_more_trans, crate::proofs::Limited::no_more_same))]
+    #[tactic(auto, using(book_tables::proofs::Limited::no_more_trans, book_tables::proofs::Limited::no_more_same))]
     fn outbox(&mut self, who: Who) -> Result<Option<Vec<OutRow>>, Fault>
         ensures rows { (standing_of S.Store self.new).doubt ≡ 0 → (L : List register.Entry)
             → (standing_of S.Store self.old).keeps L → IsLegal (standing_of S.Store self.old).warehouse L
@@ -290,6 +294,26 @@ impl<S: Alter + Drop> Keeper for Book<S> {
             return Err(Fault::Reopen);
         }
         self.tables.outbox_of(self.alloc, who)
+    }
+
+    #[tactic(auto, using(book_tables::proofs::Limited::no_more_trans, book_tables::proofs::Limited::no_more_same))]
+    fn text(&mut self, who: Who, n: u32) -> Result<Option<Option<Vec<u8>>>, Fault>
+        ensures text { (standing_of S.Store self.new).doubt ≡ 0 → (L : List register.Entry)
+            → (standing_of S.Store self.old).keeps L → IsLegal (standing_of S.Store self.old).warehouse L
+            → IfOk result (λ text. option_map (option_map (λ v. v.items)) text ≡ text_of
+            (standing_of S.Store self.old).warehouse L who n) }
+        ensures same { IsUnchanged (standing_of S.Store self.old) (standing_of S.Store self.new) }
+        ensures fault { IfErr result (λ fault. IsQueryFault fault (standing_of S.Store self.old)
+            (standing_of S.Store self.new)) }
+        ensures shut { (standing_of S.Store self.old).shut ≡ true → IsErrOf result Fault.Reopen }
+        ensures uncounted { OnOk result (self.new.tables.refused ≡ self.old.tables.refused) }
+        ensures limit { NoMore self.old.tables.limit self.new.tables.limit }
+        ensures allowed { OnOk result (self.old.tables.limit ≢ Some 0) }
+    {
+        if self.shut {
+            return Err(Fault::Reopen);
+        }
+        self.tables.text_of(self.alloc, who, n)
     }
 
     fn refused(&self) -> u64 {

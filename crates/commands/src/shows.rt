@@ -7,7 +7,7 @@ use profile::MOST_NUMBER;
 use reports::{NoSheet, outbox_list, pick_list, stock_csv, stock_report};
 use std::alloc::Global;
 use std::io;
-use store::{Fault, Ident, Keeper, Need, OutRow, Refusal, Who};
+use store::{Fault, Ident, Keeper, Need, Refusal, Who};
 
 /// What is to be shown, its words tested.
 #[derive(Clone, Copy)]
@@ -109,15 +109,14 @@ fn outbox<K: Keeper, W: io::Write, E: io::Write>(
     }
 }
 
-// Prints the text of a number, if one of the rows has it.
+// Prints the text that went out, if one did.
 fn tell_content<W: io::Write>(
-    rows: &[OutRow],
-    number: u32,
+    text: Option<Vec<u8>>,
     out: &mut W,
 ) -> Result<ExitStatus, CommandError> {
-    match rows.iter().find(|row| row.n == number) {
-        Some(row) => {
-            tell_text(out, &row.content)?;
+    match text {
+        Some(text) => {
+            tell_text(out, &text)?;
             Ok(ExitStatus::Done)
         }
         None => Ok(ExitStatus::Refused),
@@ -136,8 +135,8 @@ fn content<K: Keeper, W: io::Write, E: io::Write>(
 ) -> Result<ExitStatus, CommandError>
     ensures { IsUnchanged (K.standing book.old) (K.standing book.new) }
 {
-    match store::outbox(book, who)? {
-        Some(rows) => tell_content(&rows, number, out),
+    match store::text(book, who, number)? {
+        Some(text) => tell_content(text, out),
         None => tell_refusal(alloc, err, Refusal::UnknownDepositor),
     }
 }

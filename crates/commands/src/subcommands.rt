@@ -130,7 +130,8 @@ fn with<'a>(
     command: Result<Command<'a>, AllocError>,
     arg: Arg<'a>,
 ) -> Result<Command<'a>, AllocError>
-    ensures { (s : Shape) (r : Rule) → IfOk command.entry (IsCommand s) → IsRule r arg.entry → IfOk result (IsCommand (meant.and_rule s r)) }
+    ensures { (s : Shape) (r : Rule) → IfOk command.entry (IsCommand s) → IsRule r arg.entry
+        → IfOk result (IsCommand (meant.and_rule s r)) }
 {
     // A match in place of `?`, since the proof names what it finds.
     match command {
@@ -395,7 +396,8 @@ fn with_acts<'a>(
     place: Place,
     parser: Result<Command<'a>, AllocError>,
 ) -> Result<Command<'a>, AllocError>
-    ensures { (a : App) → IfOk parser.entry (λ c. app_of c ≡ a) → IfOk result (λ c. app_of c ≡ meant.with_all place a meant.act_subcommands) }
+    ensures { (a : App) → IfOk parser.entry (λ c. app_of c ≡ a)
+        → IfOk result (λ c. app_of c ≡ meant.with_all place a meant.act_subcommands) }
 {
     let parser = join_at(alloc, place, parser, enrol(alloc));
     let parser = join_at(alloc, place, parser, roster(alloc));
@@ -412,7 +414,8 @@ fn with_shows<'a>(
     place: Place,
     parser: Result<Command<'a>, AllocError>,
 ) -> Result<Command<'a>, AllocError>
-    ensures { (a : App) → IfOk parser.entry (λ c. app_of c ≡ a) → IfOk result (λ c. app_of c ≡ meant.with_all place a meant.show_subcommands) }
+    ensures { (a : App) → IfOk parser.entry (λ c. app_of c ≡ a)
+        → IfOk result (λ c. app_of c ≡ meant.with_all place a meant.show_subcommands) }
 {
     let parser = join_at(alloc, place, parser, stock(alloc));
     let parser = join_at(alloc, place, parser, orders(alloc));
@@ -425,7 +428,8 @@ fn with_lines<'a>(
     place: Place,
     parser: Result<Command<'a>, AllocError>,
 ) -> Result<Command<'a>, AllocError>
-    ensures { (a : App) → IfOk parser.entry (λ c. app_of c ≡ a) → IfOk result (λ c. app_of c ≡ meant.with_all place a meant.script_subcommands) }
+    ensures { (a : App) → IfOk parser.entry (λ c. app_of c ≡ a)
+        → IfOk result (λ c. app_of c ≡ meant.with_all place a meant.script_subcommands) }
 {
     let parser = join_at(alloc, place, parser, init(alloc));
     let parser = with_acts(alloc, place, parser);

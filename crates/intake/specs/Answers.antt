@@ -1,6 +1,6 @@
 -- What a response says, and the texts that it is written by.
 use Rattle.std.specs.Prelude.{ℕ, List, [], ◌++◌, Option, Some, None, codes, option_map}
-use Rattle.profile.specs.Response.{Response, header, plain_type, x12_type, phrase}
+use Rattle.profile.specs.Response.{Response, bare, header, phrase, plain_type, with_body, x12_type}
 use Rattle.intake.specs.declared.response.Status.{Status}
 use Rattle.intake.specs.declared.response.Status.TheVariants.{Okay, NoContent, BadRequest, NotFound, MethodNotAllowed, Conflict, LengthRequired, PayloadTooLarge, UnprocessableEntity, NotImplemented, ServiceUnavailable}
 use Rattle.intake.specs.declared.response.MediaType.{MediaType}
@@ -75,3 +75,9 @@ fixed_text PayloadTooLarge = codes "413 Payload Too Large\n"
 fixed_text UnprocessableEntity = codes "422 Unprocessable Entity\n"
 fixed_text NotImplemented = codes "501 Not Implemented\n"
 fixed_text ServiceUnavailable = codes "503 Service Unavailable\n"
+
+-- the response with the text under a number of a depositor, if there is one
+abbrev pub told_text : Option (Option (List ℕ)) → Response
+told_text None = bare 404
+told_text (Some None) = bare 404
+told_text (Some (Some text)) = with_body 200 x12_type text

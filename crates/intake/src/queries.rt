@@ -8,7 +8,7 @@ ghost use Rattle.profile.specs.Reports as reports;
 ghost use Rattle.profile.specs.Response.{Get, OtherMethod, is_plain_number, content_response, found_for, resp, with_body, plain_type, x12_type, bare};
 ghost use Rattle.profile.specs.Rows.{stock_of, outbox_of};
 ghost use Rattle.store.specs.Standing.{IsUnchanged, IsQueryFault};
-ghost use Rattle.intake.specs.Answers.{seen};
+ghost use Rattle.intake.specs.Answers.{seen, told_text};
 ghost use Rattle.intake.specs.Routes.{seen_route};
 
 use crate::replies::with_text;
@@ -16,12 +16,14 @@ use crate::response::{Allow, MediaType, Response, Status, bare_response, not_all
 use crate::routes::Route;
 use reports::{outbox_list, stock_report};
 use std::alloc::Global;
-use store::{Fault, Keeper, OutRow, Who};
+use store::{Fault, Keeper, Who};
 
 // The stock report of the depositor that a part of a path names.
 fn stock_at<K: Keeper>(alloc: Global, keeper: &mut K, who: &str) -> Result<Response, Fault>
-    ensures response { (K.standing keeper.new).doubt ≡ 0 → (L : List Entry) → (K.standing keeper.old).keeps L → IsLegal (K.standing keeper.old).warehouse L
-        → IfOk result (λ r. seen r ≡ found_for who.now (stock_of L) (λ rows. with_body 200 plain_type (reports.stock_report rows))) }
+    ensures response { (K.standing keeper.new).doubt ≡ 0 → (L : List Entry)
+        → (K.standing keeper.old).keeps L → IsLegal (K.standing keeper.old).warehouse L
+        → IfOk result (λ r. seen r ≡ found_for who.now (stock_of L)
+        (λ rows. with_body 200 plain_type (reports.stock_report rows))) }
     ensures same { IsUnchanged (K.standing keeper.old) (K.standing keeper.new) }
     ensures fault { IfErr result (λ fault. IsQueryFault fault (K.standing keeper.old) (K.standing keeper.new)) }
 {
@@ -36,8 +38,10 @@ fn stock_at<K: Keeper>(alloc: Global, keeper: &mut K, who: &str) -> Result<Respo
 
 // The list of what went out to the depositor that a part of a path names.
 fn outbox_at<K: Keeper>(alloc: Global, keeper: &mut K, who: &str) -> Result<Response, Fault>
-    ensures response { (K.standing keeper.new).doubt ≡ 0 → (L : List Entry) → (K.standing keeper.old).keeps L → IsLegal (K.standing keeper.old).warehouse L
-        → IfOk result (λ r. seen r ≡ found_for who.now (outbox_of (K.standing keeper.old).warehouse L) (λ rows. with_body 200 plain_type (reports.outbox_list rows))) }
+    ensures response { (K.standing keeper.new).doubt ≡ 0 → (L : List Entry)
+        → (K.standing keeper.old).keeps L → IsLegal (K.standing keeper.old).warehouse L
+        → IfOk result (λ r. seen r ≡ found_for who.now (outbox_of (K.standing keeper.old).warehouse L)
+        (λ rows. with_body 200 plain_type (reports.outbox_list rows))) }
     ensures same { IsUnchanged (K.standing keeper.old) (K.standing keeper.new) }
     ensures fault { IfErr result (λ fault. IsQueryFault fault (K.standing keeper.old) (K.standing keeper.new)) }
 {
@@ -77,22 +81,22 @@ fn plain_number(text: &[u8]) -> Option<u32>
     Some(number)
 }
 
-// The text that went out under a number, or 404.
-fn content_in(rows: Vec<OutRow>, number: u32) -> Response
-    ensures { seen result ≡ unwrap_or (option_map (λ r. with_body 200 x12_type r.content) (find (λ r. r.n == number) rows.items)) (bare 404) }
+// The text that went out, or 404 where none did, or to a stranger.
+fn content_of(text: Option<Option<Vec<u8>>>) -> Response
+    ensures { seen result ≡ told_text (option_map (option_map (λ v. v.items)) text) }
 {
-    for row in rows {
-        if row.n == number {
-            return with_text(Status::Okay, MediaType::Interchange, row.content);
-        }
+    match text {
+        Some(Some(text)) => with_text(Status::Okay, MediaType::Interchange, text),
+        Some(None) | None => bare_response(Status::NotFound),
     }
-    bare_response(Status::NotFound)
 }
 
 // The text that went out under the number that a part of a path names, to the depositor that another names.
 fn content_at<K: Keeper>(keeper: &mut K, who: &str, n: &str) -> Result<Response, Fault>
-    ensures response { (K.standing keeper.new).doubt ≡ 0 → (L : List Entry) → (K.standing keeper.old).keeps L → IsLegal (K.standing keeper.old).warehouse L
-        → IfOk result (λ r. seen r ≡ found_for who.now (outbox_of (K.standing keeper.old).warehouse L) (content_response n.now)) }
+    ensures response { (K.standing keeper.new).doubt ≡ 0 → (L : List Entry)
+        → (K.standing keeper.old).keeps L → IsLegal (K.standing keeper.old).warehouse L
+        → IfOk result (λ r. seen r ≡ found_for who.now (outbox_of (K.standing keeper.old).warehouse L)
+        (content_response n.now)) }
     ensures same { IsUnchanged (K.standing keeper.old) (K.standing keeper.new) }
     ensures fault { IfErr result (λ fault. IsQueryFault fault (K.standing keeper.old) (K.standing keeper.new)) }
 {
@@ -102,10 +106,7 @@ fn content_at<K: Keeper>(keeper: &mut K, who: &str, n: &str) -> Result<Response,
     let Some(number) = plain_number(n.as_bytes()) else {
         return Ok(bare_response(Status::NotFound));
     };
-    match store::outbox(keeper, who)? {
-        Some(rows) => Ok(content_in(rows, number)),
-        None => Ok(bare_response(Status::NotFound)),
-    }
+    Ok(content_of(store::text(keeper, who, number)?))
 }
 
 /// The response to a request by GET. The book is as before. A fault is that of the query, or want of memory for the response.
@@ -114,8 +115,11 @@ pub(crate) fn got<K: Keeper>(
     keeper: &mut K,
     route: &Route<'_>,
 ) -> Result<Response, Fault>
-    ensures response { (K.standing keeper.new).doubt ≡ 0 → (L : List Entry) → (K.standing keeper.old).keeps L → IsLegal (K.standing keeper.old).warehouse L
-        → (body : List ℕ) (t : Minute) → IfOk result (λ r. seen r ≡ resp (K.standing keeper.old).warehouse L Get (seen_route route.now) body t) }
+    ensures response { (K.standing keeper.new).doubt ≡ 0 → (L : List Entry)
+        → (K.standing keeper.old).keeps L → IsLegal (K.standing keeper.old).warehouse L
+        → (body : List ℕ) (t : Minute)
+        → IfOk result (λ r. seen r ≡ resp (K.standing keeper.old).warehouse L Get (seen_route route.now)
+        body t) }
     ensures same { IsUnchanged (K.standing keeper.old) (K.standing keeper.new) }
     ensures fault { IfErr result (λ fault. IsQueryFault fault (K.standing keeper.old) (K.standing keeper.new)) }
 {
@@ -130,7 +134,8 @@ pub(crate) fn got<K: Keeper>(
 
 /// The response to a request by a method that no path allows.
 pub(crate) fn not_served(route: &Route<'_>) -> Response
-    ensures { (W : Partner) (L : List Entry) (body : List ℕ) (t : Minute) → seen result ≡ resp W L OtherMethod (seen_route route.now) body t }
+    ensures { (W : Partner) (L : List Entry) (body : List ℕ) (t : Minute)
+        → seen result ≡ resp W L OtherMethod (seen_route route.now) body t }
 {
     match *route {
         Route::Exchange => not_allowed_response(Allow::Post),

@@ -24,15 +24,20 @@ fn hand_in<K: Keeper>(
     body: &[u8],
     moment: Moment,
 ) -> Result<Response, Fault>
-    ensures response { (K.standing keeper.new).doubt ≡ 0 → (L : List Entry) → (K.standing keeper.old).keeps L → IsLegal (K.standing keeper.old).warehouse L
-        → IfOk result (λ r. seen r ≡ reply_response (reply_to (K.standing keeper.old).warehouse L (Interchange body.now) moment)) }
-    ensures repeated { (K.standing keeper.new).doubt ≡ 0 → (L : List Entry) → (K.standing keeper.old).keeps L → IsLegal (K.standing keeper.old).warehouse L
+    ensures response { (K.standing keeper.new).doubt ≡ 0 → (L : List Entry)
+        → (K.standing keeper.old).keeps L → IsLegal (K.standing keeper.old).warehouse L
+        → IfOk result (λ r. seen r ≡ reply_response (reply_to (K.standing keeper.old).warehouse L
+        (Interchange body.now) moment)) }
+    ensures repeated { (K.standing keeper.new).doubt ≡ 0 → (L : List Entry)
+        → (K.standing keeper.old).keeps L → IsLegal (K.standing keeper.old).warehouse L
         → is_accepted (reply_to (K.standing keeper.old).warehouse L (Interchange body.now) moment) ≡ false
         → OnOk result (IsUnchanged (K.standing keeper.old) (K.standing keeper.new)) }
     ensures taken { (K.standing keeper.new).doubt ≡ 0 → (L : List Entry) → IsUsable (K.standing keeper.old) L
-        → OnOk result (IsUsable (K.standing keeper.new) (after (K.standing keeper.old).warehouse L (Interchange body.now, moment))) }
+        → OnOk result (IsUsable (K.standing keeper.new) (after (K.standing keeper.old).warehouse L
+        (Interchange body.now, moment))) }
     ensures left { (K.standing keeper.new).doubt ≡ 0 → (L : List Entry) → IsUsable (K.standing keeper.old) L
-        → OnErr result (LeavesEither (K.standing keeper.new) L (after (K.standing keeper.old).warehouse L (Interchange body.now, moment))) }
+        → OnErr result (LeavesEither (K.standing keeper.new) L (after (K.standing keeper.old).warehouse L
+        (Interchange body.now, moment))) }
     ensures opened { OnOk result ((K.standing keeper.new).shut ≡ false) }
     ensures fault { IfErr result (λ fault. IsFault fault (K.standing keeper.old) (K.standing keeper.new)) }
     ensures goes { GoesOn (K.standing keeper.old) (K.standing keeper.new) }
@@ -49,17 +54,26 @@ fn posted<K: Keeper>(
     body: &[u8],
     moment: Moment,
 ) -> Result<Response, Fault>
-    ensures response { (K.standing keeper.new).doubt ≡ 0 → (L : List Entry) → (K.standing keeper.old).keeps L → IsLegal (K.standing keeper.old).warehouse L
-        → IfOk result (λ r. seen r ≡ resp (K.standing keeper.old).warehouse L Post (seen_route route.now) body.now moment) }
-    ensures kept { is_exchange Post (seen_route route.now) ≡ false → IsUnchanged (K.standing keeper.old) (K.standing keeper.new) }
-    ensures repeated { is_exchange Post (seen_route route.now) ≡ true → (K.standing keeper.new).doubt ≡ 0 → (L : List Entry) → (K.standing keeper.old).keeps L → IsLegal (K.standing keeper.old).warehouse L
+    ensures response { (K.standing keeper.new).doubt ≡ 0 → (L : List Entry)
+        → (K.standing keeper.old).keeps L → IsLegal (K.standing keeper.old).warehouse L
+        → IfOk result (λ r. seen r ≡ resp (K.standing keeper.old).warehouse L Post (seen_route route.now)
+        body.now moment) }
+    ensures kept { is_exchange Post (seen_route route.now) ≡ false
+        → IsUnchanged (K.standing keeper.old) (K.standing keeper.new) }
+    ensures repeated { is_exchange Post (seen_route route.now) ≡ true → (K.standing keeper.new).doubt ≡ 0
+        → (L : List Entry) → (K.standing keeper.old).keeps L → IsLegal (K.standing keeper.old).warehouse L
         → is_accepted (reply_to (K.standing keeper.old).warehouse L (Interchange body.now) moment) ≡ false
         → OnOk result (IsUnchanged (K.standing keeper.old) (K.standing keeper.new)) }
-    ensures taken { is_exchange Post (seen_route route.now) ≡ true → (K.standing keeper.new).doubt ≡ 0 → (L : List Entry) → IsUsable (K.standing keeper.old) L
-        → OnOk result (IsUsable (K.standing keeper.new) (after (K.standing keeper.old).warehouse L (Interchange body.now, moment))) }
-    ensures left { is_exchange Post (seen_route route.now) ≡ true → (K.standing keeper.new).doubt ≡ 0 → (L : List Entry) → IsUsable (K.standing keeper.old) L
-        → OnErr result (LeavesEither (K.standing keeper.new) L (after (K.standing keeper.old).warehouse L (Interchange body.now, moment))) }
-    ensures opened { is_exchange Post (seen_route route.now) ≡ true → OnOk result ((K.standing keeper.new).shut ≡ false) }
+    ensures taken { is_exchange Post (seen_route route.now) ≡ true → (K.standing keeper.new).doubt ≡ 0
+        → (L : List Entry) → IsUsable (K.standing keeper.old) L
+        → OnOk result (IsUsable (K.standing keeper.new) (after (K.standing keeper.old).warehouse L
+        (Interchange body.now, moment))) }
+    ensures left { is_exchange Post (seen_route route.now) ≡ true → (K.standing keeper.new).doubt ≡ 0
+        → (L : List Entry) → IsUsable (K.standing keeper.old) L
+        → OnErr result (LeavesEither (K.standing keeper.new) L (after (K.standing keeper.old).warehouse L
+        (Interchange body.now, moment))) }
+    ensures opened { is_exchange Post (seen_route route.now) ≡ true
+        → OnOk result ((K.standing keeper.new).shut ≡ false) }
     ensures fault { IfErr result (λ fault. IsFault fault (K.standing keeper.old) (K.standing keeper.new)) }
     ensures goes { GoesOn (K.standing keeper.old) (K.standing keeper.new) }
 {
@@ -78,17 +92,27 @@ fn answered<K: Keeper>(
     body: &[u8],
     moment: Moment,
 ) -> Result<Response, Fault>
-    ensures response { (K.standing keeper.new).doubt ≡ 0 → (L : List Entry) → (K.standing keeper.old).keeps L → IsLegal (K.standing keeper.old).warehouse L
-        → IfOk result (λ r. seen r ≡ resp (K.standing keeper.old).warehouse L (seen_method method) (seen_route route.now) body.now moment) }
-    ensures kept { is_exchange (seen_method method) (seen_route route.now) ≡ false → IsUnchanged (K.standing keeper.old) (K.standing keeper.new) }
-    ensures repeated { is_exchange (seen_method method) (seen_route route.now) ≡ true → (K.standing keeper.new).doubt ≡ 0 → (L : List Entry) → (K.standing keeper.old).keeps L
-        → IsLegal (K.standing keeper.old).warehouse L → is_accepted (reply_to (K.standing keeper.old).warehouse L (Interchange body.now) moment) ≡ false
+    ensures response { (K.standing keeper.new).doubt ≡ 0 → (L : List Entry)
+        → (K.standing keeper.old).keeps L → IsLegal (K.standing keeper.old).warehouse L
+        → IfOk result (λ r. seen r ≡ resp (K.standing keeper.old).warehouse L (seen_method method)
+        (seen_route route.now) body.now moment) }
+    ensures kept { is_exchange (seen_method method) (seen_route route.now) ≡ false
+        → IsUnchanged (K.standing keeper.old) (K.standing keeper.new) }
+    ensures repeated { is_exchange (seen_method method) (seen_route route.now) ≡ true
+        → (K.standing keeper.new).doubt ≡ 0 → (L : List Entry) → (K.standing keeper.old).keeps L
+        → IsLegal (K.standing keeper.old).warehouse L
+        → is_accepted (reply_to (K.standing keeper.old).warehouse L (Interchange body.now) moment) ≡ false
         → OnOk result (IsUnchanged (K.standing keeper.old) (K.standing keeper.new)) }
-    ensures taken { is_exchange (seen_method method) (seen_route route.now) ≡ true → (K.standing keeper.new).doubt ≡ 0 → (L : List Entry) → IsUsable (K.standing keeper.old) L
-        → OnOk result (IsUsable (K.standing keeper.new) (after (K.standing keeper.old).warehouse L (Interchange body.now, moment))) }
-    ensures left { is_exchange (seen_method method) (seen_route route.now) ≡ true → (K.standing keeper.new).doubt ≡ 0 → (L : List Entry) → IsUsable (K.standing keeper.old) L
-        → OnErr result (LeavesEither (K.standing keeper.new) L (after (K.standing keeper.old).warehouse L (Interchange body.now, moment))) }
-    ensures opened { is_exchange (seen_method method) (seen_route route.now) ≡ true → OnOk result ((K.standing keeper.new).shut ≡ false) }
+    ensures taken { is_exchange (seen_method method) (seen_route route.now) ≡ true
+        → (K.standing keeper.new).doubt ≡ 0 → (L : List Entry) → IsUsable (K.standing keeper.old) L
+        → OnOk result (IsUsable (K.standing keeper.new) (after (K.standing keeper.old).warehouse L
+        (Interchange body.now, moment))) }
+    ensures left { is_exchange (seen_method method) (seen_route route.now) ≡ true
+        → (K.standing keeper.new).doubt ≡ 0 → (L : List Entry) → IsUsable (K.standing keeper.old) L
+        → OnErr result (LeavesEither (K.standing keeper.new) L (after (K.standing keeper.old).warehouse L
+        (Interchange body.now, moment))) }
+    ensures opened { is_exchange (seen_method method) (seen_route route.now) ≡ true
+        → OnOk result ((K.standing keeper.new).shut ≡ false) }
     ensures fault { IfErr result (λ fault. IsFault fault (K.standing keeper.old) (K.standing keeper.new)) }
     ensures goes { GoesOn (K.standing keeper.old) (K.standing keeper.new) }
 {
@@ -108,8 +132,10 @@ pub(crate) fn respond_at<K: Keeper>(
     body: &[u8],
     moment: Moment,
 ) -> Response
-    ensures answered { IsAnswered (K.standing keeper.old) (K.standing keeper.new) moment (handed_in (seen_method method) (seen_route route.now) body.now)
-        (λ L. resp (K.standing keeper.old).warehouse L (seen_method method) (seen_route route.now) body.now moment) (seen result) }
+    ensures answered { IsAnswered (K.standing keeper.old) (K.standing keeper.new) moment (handed_in
+        (seen_method method) (seen_route route.now) body.now)
+        (λ L. resp (K.standing keeper.old).warehouse L (seen_method method) (seen_route route.now) body.now
+        moment) (seen result) }
     ensures goes { GoesOn (K.standing keeper.old) (K.standing keeper.new) }
 {
     match answered(alloc, keeper, method, route, body, moment) {
@@ -130,8 +156,10 @@ pub fn respond<K: Keeper>(
     body: &[u8],
     moment: Moment,
 ) -> Response
-    ensures answered { IsAnswered (K.standing keeper.old) (K.standing keeper.new) moment (handed_in (method_of method.now) (route_of path.now) body.now)
-        (λ L. resp (K.standing keeper.old).warehouse L (method_of method.now) (route_of path.now) body.now moment) (seen result) }
+    ensures answered { IsAnswered (K.standing keeper.old) (K.standing keeper.new) moment (handed_in
+        (method_of method.now) (route_of path.now) body.now)
+        (λ L. resp (K.standing keeper.old).warehouse L (method_of method.now) (route_of path.now) body.now
+        moment) (seen result) }
     ensures goes { GoesOn (K.standing keeper.old) (K.standing keeper.new) }
 {
     match find_route(alloc, path) {

@@ -48,7 +48,7 @@ act_told act w s (Performed ticket done) out = by_test (bytes_eq (canonical done
     by_test false e = rw e refl
 
 -- no command is accepted of a depositor that has an entry under its key
-known_told : (W : Who) (h : History) (k : decided.Recalled) (c : Command) (t : Moment) → is_accepted (reply_by W (Some h) (Some k) c t) ≡ false
+pub known_told : (W : Who) (h : History) (k : decided.Recalled) (c : Command) (t : Moment) → is_accepted (reply_by W (Some h) (Some k) c t) ≡ false
 known_told W h k (Interchange text) t = by_test (is_unreadable text) refl
   where
     by_test : (b : Bool) → is_unreadable text ≡ b → is_accepted (reply_by W (Some h) (Some k) (Interchange text) t) ≡ false
@@ -67,13 +67,13 @@ recalled_some W key M e h =
       ap (λ (o : Option Known). option_map (λ (k : Known). record { entry = k.entry; outgoing = stored W k }) o) f.1,
     )
 
-key_is : (c : Command) (t : Moment) → bytes_eq (mark (entry_of c t)) (command_mark c) ≡ true
+pub key_is : (c : Command) (t : Moment) → bytes_eq (mark (entry_of c t)) (command_mark c) ≡ true
 key_is (Interchange text) t = same_text (interchange_mark (isa text 13))
 key_is (Enrol w) t = same_text (command_mark (Enrol w))
 key_is (Clerk w ticket act) t = same_text (ticket_mark ticket)
 
 -- whose entries an accepted command looks at, in any register
-owner_in : (W : Who) (L : List Entry) (c : Command) (t : Moment) → is_accepted (reply_to W L c t) ≡ true → (N : List Entry) → own_of N c ≡ own N (entry_of c t).who
+pub owner_in : (W : Who) (L : List Entry) (c : Command) (t : Moment) → is_accepted (reply_to W L c t) ≡ true → (N : List Entry) → own_of N c ≡ own N (entry_of c t).who
 owner_in W L (Interchange text) t h N = by_test (not (is_unreadable text) && is_partner (sender text)) refl
   where
     by_test : (b : Bool) → (not (is_unreadable text) && is_partner (sender text)) ≡ b → own_of N (Interchange text) ≡ own N (sender text)

@@ -1,9 +1,9 @@
 -- The rows of the outbox, by what a page says of its documents.
-use Rattle.std.specs.Prelude.{ℕ, Bool, List, [], codes, ◌==◌, nat_lt, length, filter, find, Option, Some, None}
+use Rattle.std.specs.Prelude.{ℕ, Bool, List, [], codes, ◌==◌, nat_lt, length, filter, find, option_map, Option, Some, None}
 use Rattle.profile.specs.Header.{Who}
 use Rattle.profile.specs.Register.{Deed, Performed, Entry}
 use Rattle.profile.specs.Events.{Event}
-use Rattle.profile.specs.Rows.{OutRow, act_kind, state_text, outgoing_on}
+use Rattle.profile.specs.Rows.{OutRow, act_kind, outbox_of, outbox_rows, outgoing_on, state_text}
 use Rattle.profile.specs.Page.{PageDocument}
 use Rattle.store.specs.declared.rows.DocumentState.{DocumentState}
 use Rattle.store.specs.declared.rows.DocumentState.TheVariants.{Unasked, Open, Accepted, Refused}
@@ -27,6 +27,14 @@ abbrev pub sent_row : List PageDocument → Deed → ℕ → List ℕ → OutRow
 sent_row ds (Performed ticket act) n content =
     record { n = n; kind = act_kind act; content = content; state = state_text (said_under n ds) }
 sent_row ds d n content = record { n = n; kind = codes "ANS"; content = content; state = codes "-" }
+
+-- the text that entries of a depositor sent out under a number, but for an empty one
+abbrev pub text_under : Who → List Entry → ℕ → Option (List ℕ)
+text_under W M n = option_map (λ r. r.content) (find (λ r. r.n == n) (outbox_rows W M))
+
+-- the same of a depositor of a register; none of a stranger
+abbrev pub text_of : Who → List Entry → Who → ℕ → Option (Option (List ℕ))
+text_of W L who n = option_map (λ rows. option_map (λ r. r.content) (find (λ r. r.n == n) rows)) (outbox_of W L who)
 
 -- the rows of what a depositor's entries sent out, when these are all of its events
 abbrev pub sent_on : Who → List Event → List Entry → List OutRow

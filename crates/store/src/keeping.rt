@@ -6,6 +6,7 @@ ghost use Rattle.profile.specs.Rows.{stock_of, outbox_of};
 ghost use Rattle.rules.specs.Asked.{mark_of};
 ghost use Rattle.rules.specs.Decided.{IsHeldAtRest, IsRecalled};
 ghost use Rattle.store.specs.Held.{IsHeld};
+ghost use Rattle.store.specs.Sent.{text_of};
 ghost use Rattle.store.specs.Standing.{Standing, IsUsable, IsNext, IsUnchanged, GoesOn, LeavesEither, IsFault, IsQueryFault, IsCommitFault};
 
 use crate::fault::Fault;
@@ -25,7 +26,8 @@ pub trait Keeper {
 
     /// The part that is needed of a depositor's page, or more of it, with no event since its last entry; None for a stranger.
     fn load(&mut self, who: Who, need: &Need) -> Result<Option<Page>, Fault>
-        ensures page { (standing self.new).doubt ≡ 0 → (L : List register.Entry) → (standing self.old).keeps L → IsLegal (standing self.old).warehouse L
+        ensures page { (standing self.new).doubt ≡ 0 → (L : List register.Entry)
+            → (standing self.old).keeps L → IsLegal (standing self.old).warehouse L
             → IfOk result (λ page. IsHeld need.now page (decided.standing (register.own L who))) }
         ensures rest { IfOk result IsHeldAtRest }
         ensures same { IsUnchanged (standing self.old) (standing self.new) }
@@ -34,28 +36,36 @@ pub trait Keeper {
 
     /// A depositor's entry under a key, with the text that went out for it; None where there is none.
     fn known(&mut self, who: Who, key: &Key<'_>) -> Result<Option<Known>, Fault>
-        ensures entry { (standing self.new).doubt ≡ 0 → (L : List register.Entry) → (standing self.old).keeps L → IsLegal (standing self.old).warehouse L
-            → IfOk result (λ known. IsRecalled known (decided.recalled (standing self.old).warehouse (mark_of key.now) (register.own L who))) }
+        ensures entry { (standing self.new).doubt ≡ 0 → (L : List register.Entry)
+            → (standing self.old).keeps L → IsLegal (standing self.old).warehouse L
+            → IfOk result (λ known. IsRecalled known (decided.recalled (standing self.old).warehouse
+            (mark_of key.now) (register.own L who))) }
         ensures same { IsUnchanged (standing self.old) (standing self.new) }
         ensures fault { IfErr result (λ fault. IsQueryFault fault (standing self.old) (standing self.new)) }
         ensures shut { (standing self.old).shut ≡ true → IsErrOf result Fault.Reopen };
 
     /// Appends an entry, with the rows that it changes and the text that goes out for it, in one transaction.
     fn commit(&mut self, entry: &Entry, changes: &[Change], outgoing: &[u8]) -> Result<(), Fault>
-        ensures ok { (standing self.new).doubt ≡ 0 → (L : List register.Entry) (e : register.Entry) → IsUsable (standing self.old) L
-            → IsNext (standing self.old).warehouse L e entry.now changes.now outgoing.now → OnOk result (IsUsable (standing self.new) (L ++ e ∷ [])) }
-        ensures left { (standing self.new).doubt ≡ 0 → (L : List register.Entry) (e : register.Entry) → IsUsable (standing self.old) L
-            → IsNext (standing self.old).warehouse L e entry.now changes.now outgoing.now → OnErr result (LeavesEither (standing self.new) L (L ++ e ∷ [])) }
+        ensures ok { (standing self.new).doubt ≡ 0 → (L : List register.Entry) (e : register.Entry)
+            → IsUsable (standing self.old) L
+            → IsNext (standing self.old).warehouse L e entry.now changes.now outgoing.now
+            → OnOk result (IsUsable (standing self.new) (L ++ e ∷ [])) }
+        ensures left { (standing self.new).doubt ≡ 0 → (L : List register.Entry) (e : register.Entry)
+            → IsUsable (standing self.old) L
+            → IsNext (standing self.old).warehouse L e entry.now changes.now outgoing.now
+            → OnErr result (LeavesEither (standing self.new) L (L ++ e ∷ [])) }
         ensures opened { OnOk result ((standing self.new).shut ≡ false) }
         ensures fault { IfErr result (λ fault. IsFault fault (standing self.old) (standing self.new)) }
         ensures kinds { IfErr result IsCommitFault }
         ensures store { IsErrOf result Fault.Store → (standing self.new).shut ≡ true }
-        ensures shut { (standing self.old).shut ≡ true → IsErrOf result Fault.Reopen × IsUnchanged (standing self.old) (standing self.new) }
+        ensures shut { (standing self.old).shut ≡ true → IsErrOf result Fault.Reopen
+            × IsUnchanged (standing self.old) (standing self.new) }
         ensures goes { GoesOn (standing self.old) (standing self.new) };
 
     /// The stock rows of a depositor, by item and lot; None for a stranger.
     fn stock_rows(&mut self, who: Who) -> Result<Option<Vec<StockRow>>, Fault>
-        ensures rows { (standing self.new).doubt ≡ 0 → (L : List register.Entry) → (standing self.old).keeps L → IsLegal (standing self.old).warehouse L
+        ensures rows { (standing self.new).doubt ≡ 0 → (L : List register.Entry)
+            → (standing self.old).keeps L → IsLegal (standing self.old).warehouse L
             → IfOk result (λ rows. option_map (λ v. v.items) rows ≡ stock_of L who) }
         ensures same { IsUnchanged (standing self.old) (standing self.new) }
         ensures fault { IfErr result (λ fault. IsQueryFault fault (standing self.old) (standing self.new)) }
@@ -63,8 +73,20 @@ pub trait Keeper {
 
     /// The texts that went out to a depositor, by number; None for a stranger.
     fn outbox(&mut self, who: Who) -> Result<Option<Vec<OutRow>>, Fault>
-        ensures rows { (standing self.new).doubt ≡ 0 → (L : List register.Entry) → (standing self.old).keeps L → IsLegal (standing self.old).warehouse L
-            → IfOk result (λ rows. option_map (λ v. v.items) rows ≡ outbox_of (standing self.old).warehouse L who) }
+        ensures rows { (standing self.new).doubt ≡ 0 → (L : List register.Entry)
+            → (standing self.old).keeps L → IsLegal (standing self.old).warehouse L
+            → IfOk result (λ rows. option_map
+            (λ v. v.items) rows ≡ outbox_of (standing self.old).warehouse L who) }
+        ensures same { IsUnchanged (standing self.old) (standing self.new) }
+        ensures fault { IfErr result (λ fault. IsQueryFault fault (standing self.old) (standing self.new)) }
+        ensures shut { (standing self.old).shut ≡ true → IsErrOf result Fault.Reopen };
+
+    /// The text that went out to a depositor under a number; None for a stranger, and Some(None) where nothing went out under it.
+    fn text(&mut self, who: Who, n: u32) -> Result<Option<Option<Vec<u8>>>, Fault>
+        ensures text { (standing self.new).doubt ≡ 0 → (L : List register.Entry)
+            → (standing self.old).keeps L → IsLegal (standing self.old).warehouse L
+            → IfOk result (λ text. option_map (option_map
+            (λ v. v.items)) text ≡ text_of (standing self.old).warehouse L who n) }
         ensures same { IsUnchanged (standing self.old) (standing self.new) }
         ensures fault { IfErr result (λ fault. IsQueryFault fault (standing self.old) (standing self.new)) }
         ensures shut { (standing self.old).shut ≡ true → IsErrOf result Fault.Reopen };

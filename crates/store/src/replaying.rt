@@ -1,4 +1,4 @@
-ghost use Rattle.std.specs.Prelude.{◌≡◌, [], ◌∷◌, ◌++◌, List, None, IfOk, OnOk, OnErr, MatchOption, find, map, option_map, Option, ℕ, ◌<◌, ◌+◌, length, take, slice_index_or as get_or, option_to_list};
+ghost use Rattle.std.specs.Prelude.{◌≡◌, ◌==◌, [], ◌∷◌, ◌++◌, List, None, IfOk, OnOk, OnErr, MatchOption, find, map, option_map, Option, ℕ, ◌<◌, ◌+◌, length, take, slice_index_or as get_or, option_to_list};
 ghost use Rattle.profile.specs.Accepted.{IsLegal};
 ghost use Rattle.profile.specs.Decision.{standing as standing_of, recalled};
 ghost use Rattle.profile.specs.Register as register;
@@ -72,8 +72,10 @@ fn with_entry(
     who: &Who,
 ) -> Result<Option<Page>, AllocError>
     requires { IsHeldAtRest page }
-    ensures page { (L behind : List register.Entry) (i : ℕ) → IsLegal warehouse.now (L ++ behind) → i < length (all_written L) → entry.now ≡ get_or (all_written L) i entry.now
-        → IsHeldFor page (standing_of (register.own (take i L) who.now)) → IfOk result (λ next. IsHeldFor next (standing_of (register.own (take (i + 1) L) who.now))) }
+    ensures page { (L behind : List register.Entry) (i : ℕ) → IsLegal warehouse.now (L ++ behind)
+        → i < length (all_written L) → entry.now ≡ get_or (all_written L) i entry.now
+        → IsHeldFor page (standing_of (register.own (take i L) who.now))
+        → IfOk result (λ next. IsHeldFor next (standing_of (register.own (take (i + 1) L) who.now))) }
     ensures rest { IfOk result IsHeldAtRest }
 {
     if entry.is_of(who) {
@@ -90,7 +92,8 @@ fn page_behind(
     entries: &[Entry],
     who: &Who,
 ) -> Result<Option<Page>, AllocError>
-    ensures page { (L behind : List register.Entry) → entries.now ≡ all_written L → IsLegal warehouse.now (L ++ behind)
+    ensures page { (L behind : List register.Entry) → entries.now ≡ all_written L
+        → IsLegal warehouse.now (L ++ behind)
         → IfOk result (λ page. IsHeldFor page (standing_of (register.own L who.now))) }
     ensures rest { IfOk result IsHeldAtRest }
 {
@@ -120,8 +123,10 @@ fn outgoing_behind(
     before: &[Entry],
     entry: &Entry,
 ) -> Result<Vec<u8>, AllocError>
-    ensures { (L : List register.Entry) (e : register.Entry) (behind : List register.Entry) → before.now ≡ all_written L → entry.now ≡ written L e
-        → IsLegal warehouse.now (L ++ e ∷ behind) → IfOk result (λ text. text.items ≡ out warehouse.now (register.own L e.who) e) }
+    ensures { (L : List register.Entry) (e : register.Entry) (behind : List register.Entry)
+        → before.now ≡ all_written L → entry.now ≡ written L e
+        → IsLegal warehouse.now (L ++ e ∷ behind)
+        → IfOk result (λ text. text.items ≡ out warehouse.now (register.own L e.who) e) }
 {
     let page = page_behind(alloc, warehouse, before, &entry.who())?;
     Ok(replay(alloc, warehouse, page, entry)?.outgoing)
@@ -129,7 +134,8 @@ fn outgoing_behind(
 
 // The place of a depositor's first entry under a key.
 fn place_of(entries: &[Entry], who: &Who, key: &[u8]) -> Option<usize>
-    ensures { MatchOption result (find (is_under who.now key.now) entries.now ≡ None) (λ i. IsAt (is_under who.now key.now) entries.now i) }
+    ensures { MatchOption result (find (is_under who.now key.now) entries.now ≡ None)
+        (λ i. IsAt (is_under who.now key.now) entries.now i) }
 {
     for (i, entry) in entries.iter().enumerate() {
         if entry.is_under(who, key) {
@@ -170,7 +176,8 @@ fn append(entries: &mut Vec<Entry>, entry: &Entry) -> Result<(), AllocError>
 
 // The rows that a depositor is shown, by item and lot.
 fn shown(alloc: Global, page: &Page) -> Result<Vec<StockRow>, AllocError>
-    ensures { IfOk result (λ rows. (M : List register.Entry) → IsPageOf page.now (history M) → rows.items ≡ stock_rows M) }
+    ensures { IfOk result (λ rows. (M : List register.Entry) → IsPageOf page.now (history M)
+        → rows.items ≡ stock_rows M) }
 {
     let mut rows = Vec::new(alloc);
     for row in page.rows() {
@@ -181,7 +188,9 @@ fn shown(alloc: Global, page: &Page) -> Result<Vec<StockRow>, AllocError>
 
 // The rows that a depositor with this page is shown; a stranger has none.
 fn rows_for(alloc: Global, page: Option<Page>) -> Result<Option<Vec<StockRow>>, AllocError>
-    ensures { IfOk result (λ rows. (L : List register.Entry) (who : Partner) → IsHeldFor page (standing_of (register.own L who)) → option_map (λ v. v.items) rows ≡ stock_of L who) }
+    ensures { IfOk result (λ rows. (L : List register.Entry) (who : Partner)
+        → IsHeldFor page (standing_of (register.own L who))
+        → option_map (λ v. v.items) rows ≡ stock_of L who) }
 {
     match page {
         Some(page) => Ok(Some(shown(alloc, &page)?)),
@@ -200,9 +209,11 @@ fn sent_at(
     who: &Who,
 ) -> Result<Option<OutRow>, AllocError>
     requires { i < length entries.now }
-    ensures { IfOk result (λ row. (L : List register.Entry) → entries.now ≡ all_written L → IsLegal warehouse.now L → IsPageOf page.now (history (register.own L who.now))
+    ensures { IfOk result (λ row. (L : List register.Entry) → entries.now ≡ all_written L
+        → IsLegal warehouse.now L → IsPageOf page.now (history (register.own L who.now))
         → sent_on warehouse.now (events (register.own L who.now)) (register.own (take (i + 1) L) who.now)
-        ≡ sent_on warehouse.now (events (register.own L who.now)) (register.own (take i L) who.now) ++ option_to_list row) }
+        ≡ sent_on warehouse.now (events (register.own L who.now)) (register.own (take i L) who.now) ++
+        option_to_list row) }
 {
     let entry = &entries[i];
     if !entry.is_of(who) {
@@ -226,7 +237,8 @@ fn sent(
     page: &Page,
     who: &Who,
 ) -> Result<Vec<OutRow>, AllocError>
-    ensures { IfOk result (λ rows. (L : List register.Entry) → entries.now ≡ all_written L → IsLegal warehouse.now L → IsPageOf page.now (history (register.own L who.now))
+    ensures { IfOk result (λ rows. (L : List register.Entry) → entries.now ≡ all_written L
+        → IsLegal warehouse.now L → IsPageOf page.now (history (register.own L who.now))
         → rows.items ≡ outbox_rows warehouse.now (register.own L who.now)) }
 {
     let mut rows = Vec::new(alloc);
@@ -246,7 +258,8 @@ fn sent_to(
     page: Option<Page>,
     who: &Who,
 ) -> Result<Option<Vec<OutRow>>, AllocError>
-    ensures { IfOk result (λ rows. (L : List register.Entry) → entries.now ≡ all_written L → IsLegal warehouse.now L → IsHeldFor page (standing_of (register.own L who.now))
+    ensures { IfOk result (λ rows. (L : List register.Entry) → entries.now ≡ all_written L
+        → IsLegal warehouse.now L → IsHeldFor page (standing_of (register.own L who.now))
         → option_map (λ v. v.items) rows ≡ outbox_of warehouse.now L who.now) }
 {
     match page {
@@ -255,10 +268,23 @@ fn sent_to(
     }
 }
 
+// The content of the row under a number.
+fn content_of(rows: Vec<OutRow>, n: u32) -> Option<Vec<u8>>
+    ensures { option_map (λ v. v.items) result ≡ option_map (λ r. r.content) (find (λ r. r.n == n) rows.items) }
+{
+    for row in rows {
+        if row.n == n {
+            return Some(row.content);
+        }
+    }
+    None
+}
+
 impl ReplayBook {
     // The whole page of a depositor; None for a stranger.
     fn page(&self, who: &Who) -> Result<Option<Page>, AllocError>
-        ensures page { (L : List register.Entry) → self.now.entries ≡ all_written L → IsLegal self.now.warehouse L
+        ensures page { (L : List register.Entry) → self.now.entries ≡ all_written L
+            → IsLegal self.now.warehouse L
             → IfOk result (λ page. IsHeldFor page (standing_of (register.own L who.now))) }
         ensures rest { IfOk result IsHeldAtRest }
     {
@@ -313,6 +339,13 @@ impl Keeper for ReplayBook {
     fn outbox(&mut self, who: Who) -> Result<Option<Vec<OutRow>>, Fault> {
         let page = self.page(&who)?;
         Ok(sent_to(self.alloc, &self.warehouse, &self.entries, page, &who)?)
+    }
+
+    fn text(&mut self, who: Who, n: u32) -> Result<Option<Option<Vec<u8>>>, Fault> {
+        match self.outbox(who)? {
+            Some(rows) => Ok(Some(content_of(rows, n))),
+            None => Ok(None),
+        }
     }
 
     fn refused(&self) -> u64 {

@@ -10,6 +10,7 @@ ghost use Rattle.rules.specs.Decided.{IsHeldAtRest, IsRecalled};
 ghost use Rattle.rules.specs.Tabled.{LeadsInTables};
 ghost use Rattle.store.specs.Held.{IsHeld, IsDecided};
 ghost use Rattle.profile.specs.Need.{need_of};
+ghost use Rattle.store.specs.Sent.{text_of};
 ghost use Rattle.store.specs.Runs.{told, all_asked, can_be_given, UnlessAccepted};
 ghost use Rattle.store.specs.Standing.{Standing, IsUsable, IsUnchanged, GoesOn, IsFault, IsQueryFault, IsRunFault, LeavesEither};
 
@@ -42,10 +43,14 @@ fn recall<K: Keeper>(
     keeper: &mut K,
     command: &Command<'_>,
 ) -> Result<(Option<Page>, Option<Known>), Fault>
-    ensures page { (K.standing keeper.new).doubt ≡ 0 → (L : List register.Entry) → (K.standing keeper.old).keeps L → IsLegal (K.standing keeper.old).warehouse L
-        → IfOk result (λ found. IsHeld (need_of (asked command.now)) found.0 (standing_of (own_of L (asked command.now)))) }
-    ensures known { (K.standing keeper.new).doubt ≡ 0 → (L : List register.Entry) → (K.standing keeper.old).keeps L → IsLegal (K.standing keeper.old).warehouse L
-        → IfOk result (λ found. IsRecalled found.1 (recalled (K.standing keeper.old).warehouse (register.command_mark (asked command.now)) (own_of L (asked command.now)))) }
+    ensures page { (K.standing keeper.new).doubt ≡ 0 → (L : List register.Entry)
+        → (K.standing keeper.old).keeps L → IsLegal (K.standing keeper.old).warehouse L
+        → IfOk result (λ found. IsHeld (need_of (asked command.now)) found.0 (standing_of (own_of L (asked
+        command.now)))) }
+    ensures known { (K.standing keeper.new).doubt ≡ 0 → (L : List register.Entry)
+        → (K.standing keeper.old).keeps L → IsLegal (K.standing keeper.old).warehouse L
+        → IfOk result (λ found. IsRecalled found.1 (recalled (K.standing keeper.old).warehouse
+        (register.command_mark (asked command.now)) (own_of L (asked command.now)))) }
     ensures rest { IfOk result (λ found. IsHeldAtRest found.0) }
     ensures same { IsUnchanged (K.standing keeper.old) (K.standing keeper.new) }
     ensures fault { IfErr result (λ fault. IsQueryFault fault (K.standing keeper.old) (K.standing keeper.new)) }
@@ -66,9 +71,11 @@ fn judge<K: Keeper>(
     command: &Command<'_>,
     moment: Moment,
 ) -> Result<Decision, Fault>
-    ensures decision { (K.standing keeper.new).doubt ≡ 0 → (L : List register.Entry) → (K.standing keeper.old).keeps L → IsLegal (K.standing keeper.old).warehouse L
+    ensures decision { (K.standing keeper.new).doubt ≡ 0 → (L : List register.Entry)
+        → (K.standing keeper.old).keeps L → IsLegal (K.standing keeper.old).warehouse L
         → IfOk result (IsDecided (K.standing keeper.old).warehouse L (asked command.now) moment) }
-    ensures tables { (K.standing keeper.new).doubt ≡ 0 → (L : List register.Entry) → (K.standing keeper.old).keeps L → IsLegal (K.standing keeper.old).warehouse L
+    ensures tables { (K.standing keeper.new).doubt ≡ 0 → (L : List register.Entry)
+        → (K.standing keeper.old).keeps L → IsLegal (K.standing keeper.old).warehouse L
         → IfOk result (LeadsInTables (K.standing keeper.old).warehouse L (asked command.now) moment) }
     ensures same { IsUnchanged (K.standing keeper.old) (K.standing keeper.new) }
     ensures fault { IfErr result (λ fault. IsQueryFault fault (K.standing keeper.old) (K.standing keeper.new)) }
@@ -94,16 +101,27 @@ pub fn submit<K: Keeper>(
     command: &Command<'_>,
     moment: Moment,
 ) -> Result<Reply, Fault>
-    ensures reply { (K.standing keeper.new).doubt ≡ 0 → (L : List register.Entry) → (K.standing keeper.old).keeps L → IsLegal (K.standing keeper.old).warehouse L
-        → IfOk result (λ reply. told reply ≡ reply_to (K.standing keeper.old).warehouse L (asked command.now) moment) }
-    ensures ok { (K.standing keeper.new).doubt ≡ 0 → (L : List register.Entry) → IsUsable (K.standing keeper.old) L → is_command (asked command.now) ≡ true
-        → OnOk result (IsUsable (K.standing keeper.new) (after (K.standing keeper.old).warehouse L (asked command.now, moment))) }
-    ensures left { (K.standing keeper.new).doubt ≡ 0 → (L : List register.Entry) → IsUsable (K.standing keeper.old) L → is_command (asked command.now) ≡ true
-        → OnErr result (LeavesEither (K.standing keeper.new) L (after (K.standing keeper.old).warehouse L (asked command.now, moment))) }
-    ensures kept { IfOk result (λ reply. UnlessAccepted reply (IsUnchanged (K.standing keeper.old) (K.standing keeper.new))) }
+    ensures reply { (K.standing keeper.new).doubt ≡ 0 → (L : List register.Entry)
+        → (K.standing keeper.old).keeps L → IsLegal (K.standing keeper.old).warehouse L
+        → IfOk result (λ reply. told reply ≡ reply_to (K.standing keeper.old).warehouse L (asked
+        command.now) moment) }
+    ensures ok { (K.standing keeper.new).doubt ≡ 0 → (L : List register.Entry)
+        → IsUsable (K.standing keeper.old) L → is_command (asked command.now) ≡ true
+        → OnOk result (IsUsable (K.standing keeper.new) (after (K.standing keeper.old).warehouse L (
+          asked
+              command.now,
+          moment,
+        ))) }
+    ensures left { (K.standing keeper.new).doubt ≡ 0 → (L : List register.Entry)
+        → IsUsable (K.standing keeper.old) L → is_command (asked command.now) ≡ true
+        → OnErr result (LeavesEither (K.standing keeper.new) L (after (K.standing keeper.old).warehouse L
+        (asked command.now, moment))) }
+    ensures kept { IfOk result
+        (λ reply. UnlessAccepted reply (IsUnchanged (K.standing keeper.old) (K.standing keeper.new))) }
     ensures opened { OnOk result ((K.standing keeper.new).shut ≡ false) }
     ensures fault { IfErr result (λ fault. IsFault fault (K.standing keeper.old) (K.standing keeper.new)) }
-    ensures shut { (K.standing keeper.old).shut ≡ true → IsErrOf result Fault.Reopen × IsUnchanged (K.standing keeper.old) (K.standing keeper.new) }
+    ensures shut { (K.standing keeper.old).shut ≡ true → IsErrOf result Fault.Reopen
+        × IsUnchanged (K.standing keeper.old) (K.standing keeper.new) }
     ensures goes { GoesOn (K.standing keeper.old) (K.standing keeper.new) }
 {
     if keeper.must_reopen() {
@@ -125,7 +143,8 @@ pub fn submit<K: Keeper>(
 
 /// What a depositor has, by item and lot; None for a stranger. The book is as before.
 pub fn stock<K: Keeper>(keeper: &mut K, who: Who) -> Result<Option<Vec<StockRow>>, Fault>
-    ensures rows { (K.standing keeper.new).doubt ≡ 0 → (L : List register.Entry) → (K.standing keeper.old).keeps L → IsLegal (K.standing keeper.old).warehouse L
+    ensures rows { (K.standing keeper.new).doubt ≡ 0 → (L : List register.Entry)
+        → (K.standing keeper.old).keeps L → IsLegal (K.standing keeper.old).warehouse L
         → IfOk result (λ rows. option_map (λ v. v.items) rows ≡ stock_of L who) }
     ensures same { IsUnchanged (K.standing keeper.old) (K.standing keeper.new) }
     ensures fault { IfErr result (λ fault. IsQueryFault fault (K.standing keeper.old) (K.standing keeper.new)) }
@@ -136,13 +155,29 @@ pub fn stock<K: Keeper>(keeper: &mut K, who: Who) -> Result<Option<Vec<StockRow>
 
 /// The texts that went out to a depositor, by number; None for a stranger. The book is as before.
 pub fn outbox<K: Keeper>(keeper: &mut K, who: Who) -> Result<Option<Vec<OutRow>>, Fault>
-    ensures rows { (K.standing keeper.new).doubt ≡ 0 → (L : List register.Entry) → (K.standing keeper.old).keeps L → IsLegal (K.standing keeper.old).warehouse L
-        → IfOk result (λ rows. option_map (λ v. v.items) rows ≡ outbox_of (K.standing keeper.old).warehouse L who) }
+    ensures rows { (K.standing keeper.new).doubt ≡ 0 → (L : List register.Entry)
+        → (K.standing keeper.old).keeps L → IsLegal (K.standing keeper.old).warehouse L
+        → IfOk result (λ rows. option_map
+        (λ v. v.items) rows ≡ outbox_of (K.standing keeper.old).warehouse L who) }
     ensures same { IsUnchanged (K.standing keeper.old) (K.standing keeper.new) }
     ensures fault { IfErr result (λ fault. IsQueryFault fault (K.standing keeper.old) (K.standing keeper.new)) }
     ensures shut { (K.standing keeper.old).shut ≡ true → IsErrOf result Fault.Reopen }
 {
     keeper.outbox(who)
+}
+
+/// The text that went out to a depositor under a number; None for a stranger, and Some(None) where nothing went out under it. The
+/// book is as before.
+pub fn text<K: Keeper>(keeper: &mut K, who: Who, n: u32) -> Result<Option<Option<Vec<u8>>>, Fault>
+    ensures text { (K.standing keeper.new).doubt ≡ 0 → (L : List register.Entry)
+        → (K.standing keeper.old).keeps L → IsLegal (K.standing keeper.old).warehouse L
+        → IfOk result (λ text. option_map (option_map
+        (λ v. v.items)) text ≡ text_of (K.standing keeper.old).warehouse L who n) }
+    ensures same { IsUnchanged (K.standing keeper.old) (K.standing keeper.new) }
+    ensures fault { IfErr result (λ fault. IsQueryFault fault (K.standing keeper.old) (K.standing keeper.new)) }
+    ensures shut { (K.standing keeper.old).shut ≡ true → IsErrOf result Fault.Reopen }
+{
+    keeper.text(who, n)
 }
 
 /// What a list of commands came to.
@@ -162,14 +197,23 @@ fn answer_next<K: Keeper>(
     moment: Moment,
     replies: &mut Vec<Reply>,
 ) -> Result<(), Fault>
-    ensures reply { (K.standing keeper.new).doubt ≡ 0 → (L : List register.Entry) → (K.standing keeper.old).keeps L → IsLegal (K.standing keeper.old).warehouse L
-        → OnOk result (map told replies.new.items ≡ map told replies.old.items ++ reply_to (K.standing keeper.old).warehouse L (asked command.now) moment ∷ []) }
-    ensures ok { (K.standing keeper.new).doubt ≡ 0 → (L : List register.Entry) → IsUsable (K.standing keeper.old) L → is_command (asked command.now) ≡ true
-        → OnOk result (IsUsable (K.standing keeper.new) (after (K.standing keeper.old).warehouse L (asked command.now, moment))) }
+    ensures reply { (K.standing keeper.new).doubt ≡ 0 → (L : List register.Entry)
+        → (K.standing keeper.old).keeps L → IsLegal (K.standing keeper.old).warehouse L
+        → OnOk result (map told replies.new.items ≡ map told replies.old.items ++ reply_to (K.standing
+        keeper.old).warehouse L (asked command.now) moment ∷ []) }
+    ensures ok { (K.standing keeper.new).doubt ≡ 0 → (L : List register.Entry)
+        → IsUsable (K.standing keeper.old) L → is_command (asked command.now) ≡ true
+        → OnOk result (IsUsable (K.standing keeper.new) (after (K.standing keeper.old).warehouse L (
+          asked
+              command.now,
+          moment,
+        ))) }
     ensures more { OnOk result (length replies.new.items ≡ length replies.old.items + 1) }
     ensures no_more { OnErr result (replies.new.items ≡ replies.old.items) }
-    ensures left { (K.standing keeper.new).doubt ≡ 0 → (L : List register.Entry) → IsUsable (K.standing keeper.old) L → is_command (asked command.now) ≡ true
-        → OnErr result (LeavesEither (K.standing keeper.new) L (after (K.standing keeper.old).warehouse L (asked command.now, moment))) }
+    ensures left { (K.standing keeper.new).doubt ≡ 0 → (L : List register.Entry)
+        → IsUsable (K.standing keeper.old) L → is_command (asked command.now) ≡ true
+        → OnErr result (LeavesEither (K.standing keeper.new) L (after (K.standing keeper.old).warehouse L
+        (asked command.now, moment))) }
     ensures opened { OnOk result ((K.standing keeper.old).shut ≡ (K.standing keeper.new).shut) }
     ensures fault { IfErr result (λ fault. IsFault fault (K.standing keeper.old) (K.standing keeper.new)) }
     ensures goes { GoesOn (K.standing keeper.old) (K.standing keeper.new) }
@@ -186,18 +230,27 @@ fn answer_next<K: Keeper>(
 pub fn run<K: Keeper>(alloc: Global, keeper: &mut K, commands: &[(Command<'_>, Moment)]) -> Outcome
     ensures all { IsNone result.fault → length result.replies.items ≡ length commands.now }
     ensures stopped { IsSome result.fault → length result.replies.items < length commands.now }
-    ensures replies { (K.standing keeper.new).doubt ≡ 0 → (L : List register.Entry) → IsUsable (K.standing keeper.old) L → can_be_given commands.now ≡ true
-        → map told result.replies.items ≡ replies_on (K.standing keeper.old).warehouse L (take (length result.replies.items) (all_asked commands.now)) }
-    ensures left { (K.standing keeper.new).doubt ≡ 0 → (L : List register.Entry) → IsUsable (K.standing keeper.old) L → can_be_given commands.now ≡ true
+    ensures replies { (K.standing keeper.new).doubt ≡ 0 → (L : List register.Entry)
+        → IsUsable (K.standing keeper.old) L → can_be_given commands.now ≡ true
+        → map told result.replies.items ≡ replies_on (K.standing keeper.old).warehouse L (take (length
+        result.replies.items) (all_asked commands.now)) }
+    ensures left { (K.standing keeper.new).doubt ≡ 0 → (L : List register.Entry)
+        → IsUsable (K.standing keeper.old) L → can_be_given commands.now ≡ true
         → (K.standing keeper.new).shut ≡ false
-        → IsUsable (K.standing keeper.new) (accepted_on (K.standing keeper.old).warehouse L (take (length result.replies.items) (all_asked commands.now))) }
-    ensures broken { (K.standing keeper.new).doubt ≡ 0 → (L : List register.Entry) → IsUsable (K.standing keeper.old) L → can_be_given commands.now ≡ true
+        → IsUsable (K.standing keeper.new) (accepted_on (K.standing keeper.old).warehouse L (take (length
+        result.replies.items) (all_asked commands.now))) }
+    ensures broken { (K.standing keeper.new).doubt ≡ 0 → (L : List register.Entry)
+        → IsUsable (K.standing keeper.old) L → can_be_given commands.now ≡ true
         → (K.standing keeper.new).shut ≡ true
         → IsSome result.fault × LeavesEither (K.standing keeper.new)
-        (accepted_on (K.standing keeper.old).warehouse L (take (length result.replies.items) (all_asked commands.now)))
-        (accepted_on (K.standing keeper.old).warehouse L (take (length result.replies.items + 1) (all_asked commands.now))) }
+        (accepted_on (K.standing keeper.old).warehouse L (take (length result.replies.items) (all_asked
+        commands.now)))
+        (accepted_on (K.standing keeper.old).warehouse L (take (length result.replies.items + 1) (all_asked
+        commands.now))) }
     ensures goes { GoesOn (K.standing keeper.old) (K.standing keeper.new) }
-    ensures fault { IfSome result.fault (λ fault. IsRunFault fault (can_be_given commands.now) (K.standing keeper.old) (K.standing keeper.new)) }
+    ensures fault { IfSome result.fault
+        (λ fault. IsRunFault fault (can_be_given commands.now) (K.standing keeper.old) (K.standing
+        keeper.new)) }
 {
     let mut replies = Vec::new(alloc);
     for (command, moment) in commands {

@@ -5,6 +5,8 @@ mod breaking;
 mod cut;
 mod exchanges;
 mod in_tables;
+mod needed;
+mod stops;
 mod want;
 pub(crate) mod worked;
 

@@ -96,6 +96,13 @@ impl Keeper for BreakingBook {
         self.book.outbox(who)
     }
 
+    fn text(&mut self, who: Who, n: u32) -> Result<Option<Option<Vec<u8>>>, Fault> {
+        if self.shut {
+            return Err(Fault::Reopen);
+        }
+        self.book.text(who, n)
+    }
+
     fn refused(&self) -> u64 {
         self.refused
     }

@@ -53,6 +53,7 @@ fn ends_with<K: Keeper>(
         && is_fault(&book.known(who, &Key::Ticket(b"T1")), fault)
         && is_fault(&book.stock_rows(who), fault)
         && is_fault(&book.outbox(who), fault)
+        && is_fault(&book.text(who, 1), fault)
 }
 
 // Whether a book of which one call was refused fails from then on: where a commit was cut it has to

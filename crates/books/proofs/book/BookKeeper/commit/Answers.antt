@@ -1,7 +1,7 @@
 use Rattle.std.proofs.Common.{◌≡◌, ◌+◌, [], ◌∷◌, ◌++◌, ap, ◌∙◌, refl}
 use Rattle.profile.specs.Header.{who_text}
 use Rattle.sqlite.specs.Held.{state}
-use Rattle.books.specs.Exits.{Extends}
+use Rattle.book_tables.specs.Exits.{Extends}
 use Rattle.books.proofs.KeepingLemmas.{is_appended, usable_now, leaves_one_of, length_push}
 use Rattle.books.proofs.book.BookKeeper.commit.Goals as goal
 

@@ -3,8 +3,7 @@ use Rattle.profile.specs.Decision.{recalled}
 use Rattle.profile.specs.Register.{own}
 use Rattle.rules.specs.Decided.{IsRecalled}
 use Rattle.sqlite.specs.Held.{state}
-use Rattle.books.proofs.AskedBooks.{asked_unchanged}
-use Rattle.books.proofs.AskedLater.{asked_faults}
+use Rattle.books.proofs.AskedBooks.{asked_faults, asked_unchanged}
 use Rattle.books.proofs.book.BookKeeper.known.Goals as goal
 
 pub returns-clause-entry : goal.returns-clause-entry

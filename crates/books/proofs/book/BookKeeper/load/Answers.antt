@@ -5,9 +5,8 @@ use Rattle.profile.specs.Register.{own}
 use Rattle.sqlite.specs.Held.{state}
 use Rattle.stock.specs.Pages.{PageFacts}
 use Rattle.store.specs.Held.{IsHeld}
-use Rattle.books.proofs.AskedBooks.{asked_unchanged}
-use Rattle.books.proofs.AskedLater.{asked_faults}
-use Rattle.books.proofs.NeededParts.{held_needed}
+use Rattle.books.proofs.AskedBooks.{asked_faults, asked_unchanged}
+use Rattle.book_tables.proofs.NeededParts.{held_needed}
 use Rattle.books.proofs.book.BookKeeper.load.Goals as goal
 
 pub returns-clause-page : goal.returns-clause-page

@@ -1,6 +1,5 @@
 use Rattle.sqlite.specs.Held.{state}
-use Rattle.books.proofs.AskedBooks.{asked_unchanged}
-use Rattle.books.proofs.AskedLater.{asked_faults}
+use Rattle.books.proofs.AskedBooks.{asked_faults, asked_unchanged}
 use Rattle.books.proofs.book.BookKeeper.stock_rows.Goals as goal
 
 pub returns-clause-rows : goal.returns-clause-rows

@@ -1,0 +1,127 @@
+-- What a text that only reads leaves of the tables, and what it finds.
+use Rattle.std.proofs.Common.{◌≡◌, inl, inr, ℕ, List, [], None, Some, Option, false, IsTrue, sym, ap, subst, subst₂, ◌∙◌, arith, append-nil}
+use Rattle.sqlite.specs.Order.{Row}
+use Rattle.sqlite.specs.Command.{Command}
+use Rattle.sqlite.specs.Effect.{Database, Reads}
+use Rattle.sqlite.specs.State.{State, Shown, ShowsRows, IsUnchanged, IsRolledBack, FailsToQuery, FailsToShow, IsNotRun, Survives, CommitsShowing, HasCleanDisk}
+use Rattle.sqlite.specs.Clock.{timed}
+use Rattle.sqlite.specs.Given.{IsPlain}
+use Rattle.sqlite.specs.Listing.{understood, reads_listing, IsSourceOf}
+use Rattle.sqlite.specs.declared.error.Error.{Error}
+use Rattle.sqlite_schema.specs.declared.command.Returning.{Returning}
+use Rattle.sqlite.proofs.StateLemmas.{survives_then, survives_weaker}
+use Rattle.sqlite.proofs.Callers.{command_of, never_commits}
+use Rattle.book_tables.specs.Layout.{Others, beside, IsLayout}
+use Rattle.book_tables.proofs.Beside.{still_lies}
+use Rattle.book_tables.specs.Exits.{IsAsBefore}
+use Rattle.book_tables.specs.Asking.{Finds, IsAsked}
+
+unchanged_before : (old new : State) → IsUnchanged old new → IsAsBefore old new
+unchanged_before old new h = record { was_open = λ _. h.0.was_open; now = λ _. h.0.now_is; committed = λ _. h.0.committed_is }
+
+before_trans : (a b c : State) → IsUnchanged a b → IsAsBefore b c → IsAsBefore a c
+before_trans a b c p q = record { was_open = λ _. p.0.was_open; now = λ o. q.now o ∙ p.0.now_is; committed = λ o. q.committed o ∙ p.0.committed_is }
+
+undone_before : (old new : State) → (IsTrue old.is_open → old.now ≡ old.committed) → IsRolledBack old new → IsAsBefore old new
+undone_before old new settled h = record { was_open = h.was_open; now = λ still. (h.undone still).0 ∙ sym (settled (h.was_open still)); committed = λ still. (h.undone still).1 }
+
+shown_before : (sql : List ℕ) (given : Row) (old new : State) (rows : List Row) → ((others : Others) → IsPlain (understood (beside others) sql)) → IsLayout old.now.schema → Shown sql given old new rows → IsAsBefore old new
+unfolding Shown
+shown_before sql given old new rows text has h =
+    let plain = subst IsPlain (ap (λ s. understood s sql) (sym has.is) ∙ h.1.is) (text has.others) in
+    unchanged_before old new (subst (ShowsRows old new sql h.0 (timed given h.0.formats h.1.now) rows) plain.0 h.2).3
+
+fails_before : (sql : List ℕ) (given : Row) (old new : State) (e : Error) → (IsTrue old.is_open → old.now ≡ old.committed) → FailsToQuery sql given old new e → IsAsBefore old new
+unfolding FailsToQuery IsNotRun
+fails_before sql given old new e settled (inl (inl it)) = unchanged_before old new it.1
+fails_before sql given old new e settled (inl (inr it)) = undone_before old new settled it.3
+fails_before sql given old new e settled (inr it) = go it.0.returning it.2
+  where
+    go : (what : Option Returning) → FailsToShow old new sql it.0 (timed given it.0.formats it.1.now) e what → IsAsBefore old new
+    go None f = unchanged_before old new f.3
+    go (Some what) (inl f) = unchanged_before old new f.1
+    go (Some what) (inr f) = undone_before old new settled f.3
+
+-- the text was not understood, or the store failed at it
+pub not_prepared : (old new : State) (sql : List ℕ) (e : Error) → (IsTrue old.is_open → old.now ≡ old.committed) → (HasCleanDisk new → (given : Row) → IsNotRun old new sql given e) → Survives old new (λ _. ⊥) → IsAsked old new
+unfolding IsNotRun
+not_prepared old new sql e settled fails survives = record {
+  same = λ clean has. elim (fails clean []) [ inl it ↦ unchanged_before old new it.1 | inr it ↦ undone_before old new settled it.3 ];
+  crash = survives_weaker old new _ _ (λ _ db none. absurd none) survives;
+}
+
+-- the text was prepared, and then a call was refused unmade
+pub prepared_asked : (old mid : State) → (HasCleanDisk mid → IsUnchanged old mid) → Survives old mid (λ _. ⊥) → IsAsked old mid
+prepared_asked old mid prepared survives = record {
+  same = λ clean has. unchanged_before old mid (prepared clean);
+  crash = survives_weaker old mid _ _ (λ _ db none. absurd none) survives;
+}
+
+-- A text that was prepared is over an open store; under the book's schema it commits nothing.
+module _ (sql : List ℕ) (text : (others : Others) → IsPlain (understood (beside others) sql)) (given : Row) (prepared_text : List ℕ) (old mid new : State) (prepared : HasCleanDisk mid → (prepared_text ≡ sql) × IsUnchanged old mid) (first : Survives old mid (λ _. ⊥)) (second : Survives mid new (CommitsShowing prepared_text given mid)) where
+  early : HasCleanDisk new → HasCleanDisk mid
+  early clean = omega (arith, second.clean, clean)
+
+  crash : Survives old new (λ _. (IsTrue old.is_open → IsLayout old.now.schema) → ⊥)
+  crash = survives_then old mid new _ _ _ (λ _ db none. absurd none) (λ clean db may.
+      let p = prepared (early clean) in
+      (λ has. let lies = has p.1.0.was_open in never_commits sql given mid db (subst (λ s. IsPlain (understood s sql)) (sym (ap (λ (d : Database). d.schema) p.1.0.now_is ∙ lies.is)) (text lies.others)) (subst (λ t. CommitsShowing t given mid db) p.0 may))) first second
+
+  pub shown_asked : (rows : List Row) → (HasCleanDisk new → Shown prepared_text given mid new rows) → IsAsked old new
+  shown_asked rows shown = record {
+    same = λ clean has.
+        let p = prepared (early clean) in
+        before_trans old mid new p.1 (shown_before sql given mid new rows text (still_lies old.now.schema mid.now.schema (ap (λ (d : Database). d.schema) p.1.0.now_is) (has p.1.0.was_open)) (subst (λ t. Shown t given mid new rows) p.0 (shown clean)));
+    crash = crash;
+  }
+
+  pub failed_asked : (e : Error) → (IsTrue old.is_open → old.now ≡ old.committed) → (HasCleanDisk new → FailsToQuery prepared_text given mid new e) → IsAsked old new
+  failed_asked e settled fails = record {
+    same = λ clean has.
+        let p = prepared (early clean) in
+        before_trans old mid new p.1 (fails_before prepared_text given mid new e (λ _. p.1.0.now_is ∙ settled p.1.0.was_open ∙ sym p.1.0.committed_is) (fails clean));
+    crash = crash;
+  }
+
+  pub shown_found : (rows : List Row) → (HasCleanDisk new → Shown prepared_text given mid new rows) → HasCleanDisk new → IsTrue old.is_open × Finds sql given old.now rows
+  unfolding Shown
+  shown_found rows shown clean =
+      let p = prepared (early clean) in
+      let h = subst (λ t. Shown t given mid new rows) p.0 (shown clean) in
+      let finds : Finds sql given mid.now rows = record {
+        compiled = h.0;
+        is = h.1.is;
+        moment = h.1.now;
+        answer = λ none. let it = subst (ShowsRows mid new sql h.0 (timed given h.0.formats h.1.now) rows) none h.2 in (it.0, it.1, it.2);
+      } in
+      (p.1.0.was_open, subst (λ (d : Database). Finds sql given d rows) p.1.0.now_is finds)
+
+-- under the book's schema the rows are those of the command that the text is
+pub found : (sql : List ℕ) (params : Row) (db : Database) (rows : List Row) (command : Command) → IsLayout db.schema → ((others : Others) → IsPlain (understood (beside others) sql))
+    → ((others : Others) → (command_of (understood (beside others) sql) ≡ command) × (reads_listing (beside others) sql ≡ false))
+    → Finds sql params db rows → Reads command db params rows
+found sql params db rows command lies text text_is h =
+    let has = lies.is in
+    let is = text_is lies.others in
+    let known = sym h.is ∙ ap (λ s. understood s sql) has in
+    let bare = subst IsPlain (sym known) (text lies.others) in
+    let it = h.answer bare.0 in
+    let source : it.0 ≡ db = subst (λ b. IsSourceOf b db it.0) (ap (λ s. reads_listing s sql) has ∙ is.1) it.1 in
+    let given : timed params h.compiled.formats h.moment ≡ params = ap (λ formats. timed params formats h.moment) bare.1 ∙ append-nil params in
+    subst (λ p. Reads command db p rows) given (subst₂ (λ k d. Reads k d (timed params h.compiled.formats h.moment) rows) (ap command_of known ∙ is.0) source it.2)
+
+-- two queries, one after the other
+pub asked_twice : (old mid new : State) → IsAsked old mid → IsAsked mid new → IsAsked old new
+asked_twice old mid new first second = record {
+  same = λ clean has.
+      let a = first.same (early clean) has in
+      let b = second.same clean (schema_still clean has) in
+      record { was_open = λ o. a.was_open (b.was_open o); now = λ o. b.now o ∙ a.now (b.was_open o); committed = λ o. b.committed o ∙ a.committed (b.was_open o) };
+  crash = survives_then old mid new _ _ _ (λ _ db none. none) (λ clean db other has. other (schema_still clean has)) first.crash second.crash;
+}
+  where
+    early : HasCleanDisk new → HasCleanDisk mid
+    early clean = omega (arith, second.crash.clean, clean)
+
+    schema_still : HasCleanDisk new → (IsTrue old.is_open → IsLayout old.now.schema) → IsTrue mid.is_open → IsLayout mid.now.schema
+    schema_still clean has o = let a = first.same (early clean) has in still_lies old.now.schema mid.now.schema (ap (λ (d : Database). d.schema) (a.now o)) (has (a.was_open o))

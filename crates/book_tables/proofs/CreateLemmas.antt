@@ -1,0 +1,149 @@
+-- What making the tables does.
+use Rattle.std.proofs.Common.{◌≡◌, ℕ, pos, List, [], ◌∷◌, false, None, Ok, refl, sym, ap, subst, ◌∙◌}
+use Rattle.sqlite.specs.declared.types.Value.TheVariants as value
+use Rattle.sqlite.specs.Table.{Table}
+use Rattle.sqlite.specs.Schema.{Schema}
+use Rattle.profile.specs.Schema as profile
+use Rattle.profile.specs.Header.{Who}
+use Rattle.profile.specs.Accepted.{IsLegal}
+use Rattle.book_tables.specs.Held.{Holds}
+use Rattle.book_tables.specs.Standing.{BookTable, Outgoing, Stock, Advice, AdviceLine, Orders, OrderLine, Reservation, schema_of, tree_of, width_of, rows_of, AreByKey}
+use Rattle.book_tables.specs.Exits.{HasGrown}
+use Rattle.sqlite.specs.Order.{Row}
+use Rattle.sqlite.specs.Command.TheVariants.{CreateTable}
+use Rattle.sqlite.specs.Change.{created}
+use Rattle.sqlite.specs.Does.{Tally, lacks_sequence}
+use Rattle.sqlite.specs.Effect.{Database, IsDatabase}
+use Rattle.sqlite.specs.State.{State, Writes, Executes}
+use Rattle.sqlite.specs.Listing.{understood}
+use Rattle.sqlite.specs.Given.{IsPlain}
+use Rattle.sqlite.specs.Compile.{table_defined_by}
+use Rattle.sqlite_catalog.specs.Calls.{CreatesTable}
+use Rattle.sqlite.proofs.Callers.{command_of, statement_of, runs_as}
+use Rattle.book_tables.specs.Layout.{book_text, entry_text, outgoing_text, stock_text, advice_text, advice_line_text, orders_text, order_line_text, reservation_text}
+use Rattle.book_tables.specs.Layout.{book_layout, entry_layout, outgoing_layout, stock_layout, advice_layout, advice_line_layout, orders_layout, order_line_layout, reservation_layout}
+use Rattle.book_tables.specs.Layout.{first_layouts}
+use Rattle.book_tables.specs.Making.{HasMade, HasBook}
+use Rattle.book_tables.proofs.MakingTexts.{at_first}
+use Rattle.book_tables.proofs.MakingTexts.{book_is, book_runs, book_plain, entry_is, entry_runs, entry_plain, outgoing_is, outgoing_runs, outgoing_plain, stock_is, stock_runs, stock_plain, advice_is, advice_runs, advice_plain, advice_line_is, advice_line_runs, advice_line_plain, orders_is, orders_runs, orders_plain, order_line_is, order_line_runs, order_line_plain, reservation_is, reservation_runs, reservation_plain}
+use Rattle.book_tables.proofs.WritingTexts.{insert_book_text}
+use Rattle.book_tables.proofs.Beside.{lies_alone}
+use Rattle.book_tables.proofs.Inserts.{inserts_book}
+use Rattle.book_tables.proofs.LeadsLemmas.{apart}
+use Rattle.sqlite.specs.Edit.{next_rowid}
+use Rattle.sqlite.specs.Tree.{put_row}
+use Rattle.book_tables.proofs.Values.{went, same_value}
+
+-- a table was made, and no other was written
+creates : (sql : List ℕ) (before after : Schema) (table : Table) (old new : State) (count : ℕ) → old.now.schema ≡ before
+    → (command_of (understood before sql) ≡ CreateTable) × (statement_of sql (understood before sql) ≡ sql) → IsPlain (understood before sql) → table_defined_by sql ≡ Ok table
+    → created before table ≡ after → lacks_sequence after ≡ false
+    → Executes sql [] old new (Ok count)
+    → IsDatabase new.now × (new.now.schema ≡ after) × CreatesTable before sql old.now.trees after new.now.trees
+creates sql before after table old new count has is plain_text defined makes lone h =
+    let w = subst (λ t. Writes old new None CreateTable t [] count) is.1 (runs_as sql [] old new before has CreateTable is.0 plain_text count h) in
+    let all = went w.changed in
+    let first = went all.1 in
+    let made = subst (λ s. CreatesTable s sql old.now.trees first.0.schema first.0.trees) has first.1 in
+    let both : Ok made.table ≡ Ok table = sym made.defined ∙ defined in
+    let same : made.table ≡ table = same_value both in
+    let schema : first.0.schema ≡ after = made.is ∙ ap (created before) same ∙ makes in
+    let plain : lacks_sequence first.0.schema ≡ false = ap lacks_sequence schema ∙ lone in
+    let now : new.now ≡ first.0 = ap (λ (p : Tally × Database). p.1) (same_value all.2) ∙ same_value (rw plain at first.2) in (
+      w.sound,
+      ap (λ (d : Database). d.schema) now ∙ schema,
+      subst (λ (d : Database). CreatesTable before sql old.now.trees after d.trees) (sym now) (subst (λ s. CreatesTable before sql old.now.trees s first.0.trees) schema made),
+    )
+
+pub made_first : (a b c d : State) (m n o : ℕ) → HasMade 0 0 a.now → Executes book_text [] a b (Ok m) → Executes entry_text [] b c (Ok n) → Executes outgoing_text [] c d (Ok o)
+    → HasMade 3 3 d.now × IsDatabase d.now
+made_first a b c d m n o was p q r =
+    let x = creates book_text (first_layouts 0 0) (first_layouts 1 0) (at_first book_layout) a b m was.schema book_runs book_plain book_is refl refl p in
+    let y = creates entry_text (first_layouts 1 0) (first_layouts 2 2) (at_first entry_layout) b c n x.1 entry_runs entry_plain entry_is refl refl q in
+    let z = creates outgoing_text (first_layouts 2 2) (first_layouts 3 3) (at_first outgoing_layout) c d o y.1 outgoing_runs outgoing_plain outgoing_is refl refl r in (
+      record {
+        schema = z.1;
+        empty = (z.2.others.0 ∙ y.2.others.0 ∙ x.2.empty, (z.2.others.1.0 ∙ y.2.empty, (z.2.empty, tt)));
+      },
+      z.0,
+    )
+
+pub made_second : (a b c d : State) (m n o : ℕ) → HasMade 3 3 a.now → Executes stock_text [] a b (Ok m) → Executes advice_text [] b c (Ok n) → Executes advice_line_text [] c d (Ok o)
+    → HasMade 6 6 d.now × IsDatabase d.now
+made_second a b c d m n o was p q r =
+    let x = creates stock_text (first_layouts 3 3) (first_layouts 4 4) (at_first stock_layout) a b m was.schema stock_runs stock_plain stock_is refl refl p in
+    let y = creates advice_text (first_layouts 4 4) (first_layouts 5 5) (at_first advice_layout) b c n x.1 advice_runs advice_plain advice_is refl refl q in
+    let z = creates advice_line_text (first_layouts 5 5) (first_layouts 6 6) (at_first advice_line_layout) c d o y.1 advice_line_runs advice_line_plain advice_line_is refl refl r in (
+      record {
+        schema = z.1;
+        empty = (z.2.others.0 ∙ y.2.others.0 ∙ x.2.others.0 ∙ was.empty.0, (z.2.others.1.0 ∙ y.2.others.1.0 ∙ x.2.others.1.0 ∙ was.empty.1.0, (z.2.others.1.1.0 ∙ y.2.others.1.1.0 ∙ x.2.others.1.1.0 ∙ was.empty.1.1.0, (z.2.others.1.1.1.0 ∙ y.2.others.1.1.1.0 ∙ x.2.empty, (z.2.others.1.1.1.1.0 ∙ y.2.empty, (z.2.empty, tt))))));
+      },
+      z.0,
+    )
+
+pub made_third : (a b c d : State) (m n o : ℕ) → HasMade 6 6 a.now → Executes orders_text [] a b (Ok m) → Executes order_line_text [] b c (Ok n) → Executes reservation_text [] c d (Ok o)
+    → HasMade 9 9 d.now × IsDatabase d.now
+made_third a b c d m n o was p q r =
+    let x = creates orders_text (first_layouts 6 6) (first_layouts 7 7) (at_first orders_layout) a b m was.schema orders_runs orders_plain orders_is refl refl p in
+    let y = creates order_line_text (first_layouts 7 7) (first_layouts 8 8) (at_first order_line_layout) b c n x.1 order_line_runs order_line_plain order_line_is refl refl q in
+    let z = creates reservation_text (first_layouts 8 8) (first_layouts 9 9) (at_first reservation_layout) c d o y.1 reservation_runs reservation_plain reservation_is refl refl r in (
+      record {
+        schema = z.1;
+        empty = (z.2.others.0 ∙ y.2.others.0 ∙ x.2.others.0 ∙ was.empty.0, (z.2.others.1.0 ∙ y.2.others.1.0 ∙ x.2.others.1.0 ∙ was.empty.1.0, (z.2.others.1.1.0 ∙ y.2.others.1.1.0 ∙ x.2.others.1.1.0 ∙ was.empty.1.1.0, (z.2.others.1.1.1.0 ∙ y.2.others.1.1.1.0 ∙ x.2.others.1.1.1.0 ∙ was.empty.1.1.1.0, (z.2.others.1.1.1.1.0 ∙ y.2.others.1.1.1.1.0 ∙ x.2.others.1.1.1.1.0 ∙ was.empty.1.1.1.1.0, (z.2.others.1.1.1.1.1.0 ∙ y.2.others.1.1.1.1.1.0 ∙ x.2.others.1.1.1.1.1.0 ∙ was.empty.1.1.1.1.1.0, (z.2.others.1.1.1.1.1.1.0 ∙ y.2.others.1.1.1.1.1.1.0 ∙ x.2.empty, (z.2.others.1.1.1.1.1.1.1.0 ∙ y.2.empty, (z.2.empty, tt)))))))));
+      },
+      z.0,
+    )
+
+-- the row of `book`
+pub made_book : (a b : State) (m : ℕ) (qualifier id : List ℕ) → HasMade 9 9 a.now → Executes insert_book_text (value.Int (pos 1) ∷ value.Text qualifier ∷ value.Text id ∷ []) a b (Ok m) → HasBook qualifier id b.now
+made_book a b m qualifier id was h =
+    let it = inserts_book (pos 1) qualifier id a b m (lies_alone a.now.schema was.schema) h in
+    record { schema = it.schema ∙ was.schema; sound = it.sound; book = it.rows ∙ ap (λ (rows : List Row). put_row (value.Int (next_rowid rows) ∷ value.Int (pos 1) ∷ value.Text qualifier ∷ value.Text id ∷ []) rows) (let all = was.empty in all.0); empty = (it.others.1.0 (apart 1 0 refl) ∙ was.empty.1.0, (it.others.1.1.0 (apart 4 0 refl) ∙ was.empty.1.1.0, (it.others.1.1.1.0 (apart 6 0 refl) ∙ was.empty.1.1.1.0, (it.others.1.1.1.1.0 (apart 8 0 refl) ∙ was.empty.1.1.1.1.0, (it.others.1.1.1.1.1.0 (apart 10 0 refl) ∙ was.empty.1.1.1.1.1.0, (it.others.1.1.1.1.1.1.0 (apart 12 0 refl) ∙ was.empty.1.1.1.1.1.1.0, (it.others.1.1.1.1.1.1.1.0 (apart 14 0 refl) ∙ was.empty.1.1.1.1.1.1.1.0, (it.others.1.1.1.1.1.1.1.1.0 (apart 16 0 refl) ∙ was.empty.1.1.1.1.1.1.1.1.0, tt)))))))) }
+
+-- the tables of an empty register
+holds_none : Holds [] []
+holds_none = record { rise = tt; sound = λ row none. absurd none; complete = λ cells none. absurd none }
+
+is_by_key_none : (s : profile.Schema) (k : ℕ) → AreByKey s k []
+is_by_key_none s k = record { by_key = refl; each = λ row none. absurd none }
+
+holds_empty : (t : BookTable) (qualifier id : List ℕ) (db : Database) → HasBook qualifier id db → Holds [] (db.trees (tree_of t))
+holds_empty t qualifier id db h = subst (Holds []) (sym (empty t)) holds_none
+  where
+    empty : (t : BookTable) → db.trees (tree_of t) ≡ []
+    empty Outgoing = h.empty.1.0
+    empty Stock = h.empty.1.1.0
+    empty Advice = h.empty.1.1.1.0
+    empty AdviceLine = h.empty.1.1.1.1.0
+    empty Orders = h.empty.1.1.1.1.1.0
+    empty OrderLine = h.empty.1.1.1.1.1.1.0
+    empty Reservation = h.empty.1.1.1.1.1.1.1.0
+
+no_rows : (W : Who) (t : BookTable) → rows_of W [] t ≡ []
+no_rows W Outgoing = refl
+no_rows W Stock = refl
+no_rows W Advice = refl
+no_rows W AdviceLine = refl
+no_rows W Orders = refl
+no_rows W OrderLine = refl
+no_rows W Reservation = refl
+
+pub stands_empty : (W : Who) (s : State) → IsLegal W [] → HasBook W.qualifier W.id s.now → HasGrown s W []
+stands_empty W s legal h =
+    record {
+      stands = record {
+        legal = legal;
+        schema = lies_alone s.now.schema h.schema;
+        rows = record {
+          book = h.book;
+          entry = let rows = h.empty in rows.0;
+          keyed = λ t. subst (λ rows. Holds rows (s.now.trees (tree_of t))) (sym (no_rows W t)) (holds_empty t W.qualifier W.id s.now h);
+        };
+      };
+      sound = h.sound;
+      ordered = record {
+        entry = λ row none. absurd none;
+        outgoing = λ row none. absurd none;
+        keyed = λ t. subst (AreByKey (schema_of t) (width_of t)) (sym (no_rows W t)) (is_by_key_none (schema_of t) (width_of t));
+      };
+    }

@@ -1,0 +1,53 @@
+-- What the queries of running rows find in tables that stand for a register.
+use Rattle.std.proofs.Common.{◌≡◌, ℕ, List, [], ◌∷◌, map, filter, length, true, Some, Option, IsTrue, subst}
+use Rattle.std.specs.Prelude.{nat_lt}
+use Rattle.sqlite_rules.specs.Lists.{Has}
+use Rattle.sqlite.specs.State.{State, IsLive}
+use Rattle.sqlite.specs.declared.types.Value.TheVariants as value
+use Rattle.sqlite.specs.Order.{Row}
+use Rattle.sqlite.specs.Schema.{Schema}
+use Rattle.sqlite.specs.Effect.{Database, IsDatabase}
+use Rattle.sqlite_catalog.specs.Listing.{IsSound}
+use Rattle.profile.specs.Header.{Who, is_partner, who_text}
+use Rattle.profile.specs.Register.{Entry, own}
+use Rattle.profile.specs.Rows.{StockRow, OutRow, stock_rows, outgoing_rows, outbox_rows}
+use Rattle.book_tables.specs.Asking.{Finds}
+use Rattle.book_tables.specs.Layout.{beside, IsLayout}
+use Rattle.book_tables.specs.Exits.{StandsWhileOpen}
+use Rattle.book_tables.specs.Showing.{stock_shown, out_shown, IsSent}
+use Rattle.book_tables.specs.Standing.{Stock, Outgoing, Stands}
+use Rattle.book_tables.proofs.Asked.{found}
+use Rattle.book_tables.proofs.Sendings.{legal_sent}
+use Rattle.book_tables.proofs.ShowingTexts.{stock_rows_text, stock_rows_is, stock_rows_plain, outbox_text, outbox_is, outbox_plain}
+use Rattle.book_tables.proofs.ShownRows.{stock_rows_shown, outgoing_rows_shown}
+
+pub sound_layout : (db : Database) (lies : IsLayout db.schema) → IsDatabase db → IsSound (beside lies.others) db.trees
+sound_layout db lies sound = subst (λ (s : Schema). IsSound s db.trees) lies.is sound
+
+stock_found : (W : Who) (L : List Entry) (who : Who) (db : Database) (rows : List Row) → is_partner who ≡ true → IsDatabase db → Stands W L db
+    → Finds stock_rows_text (value.Text (who_text who) ∷ []) db rows → rows ≡ map stock_shown (stock_rows (own L who))
+stock_found W L who db rows partner sound stands h =
+    let read = found stock_rows_text (value.Text (who_text who) ∷ []) db rows _ stands.schema stock_rows_plain stock_rows_is h in
+    let held = stands.rows in
+    stock_rows_shown (let lies = stands.schema in lies.others) W L who db.trees rows stands.legal partner (sound_layout db stands.schema sound) (held.keyed Stock) (read.answer value.Null)
+
+outgoing_found : (W : Who) (L : List Entry) (who : Who) (db : Database) (rows : List Row) → is_partner who ≡ true → IsDatabase db → Stands W L db
+    → Finds outbox_text (value.Text (who_text who) ∷ []) db rows → rows ≡ map out_shown (outgoing_rows W (own L who))
+outgoing_found W L who db rows partner sound stands h =
+    let read = found outbox_text (value.Text (who_text who) ∷ []) db rows _ stands.schema outbox_plain outbox_is h in
+    let held = stands.rows in
+    outgoing_rows_shown (let lies = stands.schema in lies.others) W L who db.trees rows stands.legal partner (sound_layout db stands.schema sound) (held.keyed Outgoing) (read.answer value.Null)
+
+-- Rows that are read back of tables that stand while they are open.
+module _ (old : State) (W : Who) (L : List Entry) (who : Who) (partner : IsTrue (is_partner who)) (live : IsLive old) (stands : StandsWhileOpen old W L) (text : List ℕ) (told : text ≡ who_text who) (rows : List Row) where
+  pub stock_read : IsTrue old.is_open × Finds stock_rows_text (value.Text text ∷ []) old.now rows → (read : Option (List StockRow)) → ((rs : List StockRow) → rows ≡ map stock_shown rs → read ≡ Some rs)
+      → read ≡ Some (stock_rows (own L who))
+  stock_read finds read right =
+      right (stock_rows (own L who)) (stock_found W L who old.now rows partner (live finds.0).0 (stands finds.0) (subst (λ t. Finds stock_rows_text (value.Text t ∷ []) old.now rows) told finds.1))
+
+  pub sent_read : IsTrue old.is_open × Finds outbox_text (value.Text text ∷ []) old.now rows → (read : Option (List OutRow))
+      → ((rs : List OutRow) → ((r : OutRow) → Has rs r → IsSent r) → rows ≡ map out_shown rs → read ≡ Some (filter (λ (r : OutRow). nat_lt 0 (length r.content)) rs)) → read ≡ Some (outbox_rows W (own L who))
+  sent_read finds read right =
+      let here = stands finds.0 in
+      right (outgoing_rows W (own L who)) (legal_sent W L who here.legal)
+      (outgoing_found W L who old.now rows partner (live finds.0).0 here (subst (λ t. Finds outbox_text (value.Text t ∷ []) old.now rows) told finds.1))

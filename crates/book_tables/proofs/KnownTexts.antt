@@ -1,0 +1,48 @@
+-- The texts that look up a depositor's entry under a key, and what an entry sent out.
+use Rattle.std.proofs.Common.{◌≡◌, codes, ℕ, List, [], ◌∷◌, refl, false}
+use Rattle.sqlite.specs.Command.TheVariants.{Select}
+use Rattle.sqlite.specs.Term.{col, op2}
+use Rattle.sqlite_sql.specs.declared.ops.BinaryOp.TheVariants.{Compare}
+use Rattle.sqlite_sql.specs.declared.ops.CompareOp.TheVariants.{Eq}
+use Rattle.sqlite.specs.Collation.TheVariants.{Binary}
+use Rattle.sqlite_value.specs.Keys.{ascending}
+use Rattle.sqlite.specs.Query.{Query}
+use Rattle.sqlite_tied.specs.Compute.{everything}
+use Rattle.sqlite.specs.Listing.{understood, reads_listing}
+use Rattle.sqlite.specs.Given.{IsPlain}
+use Rattle.sqlite.proofs.Callers.{command_of}
+use Rattle.book_tables.specs.Layout.{Others, beside}
+use Rattle.book_tables.proofs.ReadingTexts.{ordered_from}
+use Rattle.book_tables.proofs.WritingTexts.{where_key}
+
+-- The entry under a key.
+
+abbrev pub under_text : List ℕ
+under_text = codes "SELECT mark, n, moment, body FROM entry WHERE who = ?1 AND mark = ?2 ORDER BY seq"
+
+abbrev pub under_query : Query
+under_query = ordered_from 1 (op2 (Compare Eq Binary) (col 1 2) (col 0 0) ∷ op2 (Compare Eq Binary) (col 1 3) (col 0 1) ∷ []) (col 1 3 ∷ col 1 4 ∷ col 1 5 ∷ col 1 6 ∷ []) ((col 1 0, ascending Binary) ∷ [])
+
+pub under_is : (others : Others) → (command_of (understood (beside others) under_text) ≡ Select (record { lets = []; body = under_query }) (codes "mark" ∷ codes "n" ∷ codes "moment" ∷ codes "body" ∷ [])) × (reads_listing (beside others) under_text ≡ false)
+unfolding understood everything
+under_is others = (refl, refl)
+
+pub under_plain : (others : Others) → IsPlain (understood (beside others) under_text)
+unfolding understood everything
+under_plain others = (refl, refl)
+
+-- What an entry sent out.
+
+abbrev pub content_text : List ℕ
+content_text = codes "SELECT content FROM outgoing WHERE who = ?1 AND n = ?2"
+
+abbrev pub content_query : Query
+content_query = ordered_from 4 (where_key 0 2) (col 1 4 ∷ []) []
+
+pub content_is : (others : Others) → (command_of (understood (beside others) content_text) ≡ Select (record { lets = []; body = content_query }) (codes "content" ∷ [])) × (reads_listing (beside others) content_text ≡ false)
+unfolding understood everything
+content_is others = (refl, refl)
+
+pub content_plain : (others : Others) → IsPlain (understood (beside others) content_text)
+unfolding understood everything
+content_plain others = (refl, refl)

@@ -1,0 +1,192 @@
+-- What each statement leads to, as a change of the definitions' tables.
+use Rattle.std.proofs.Common.{◌≡◌, ◌≢◌, inl, inr, ℕ, pos, List, [], ◌∷◌, map, filter, not, codes, Bool, true, false, refl, sym, ap, subst, ◌∙◌, arith}
+use Rattle.std.specs.Prelude.{nat_eq, Option, if◌then◌else◌}
+use Rattle.std.proofs.lemmas.Bool.{cases_Bool}
+use Rattle.std.proofs.lemmas.Bool.Decides.{nat_tests}
+use Rattle.sqlite.specs.Tree.{put_row}
+use Rattle.sqlite.specs.Effect.{Database}
+use Rattle.sqlite.specs.Order.{Row}
+use Rattle.sqlite_rules.specs.Lists.{Has}
+use Rattle.sqlite.specs.declared.types.Value.TheVariants as value
+use Rattle.profile.specs.Tables.{TableRow}
+use Rattle.profile.specs.Schema as schema
+use Rattle.profile.specs.Schema.{outgoing_schema, entry_schema}
+use Rattle.profile.specs.Changes.{changed_by, Puts, SetsState as Sets, Frees, with_state, is_reserved_for}
+use Rattle.profile.specs.Rows.{state_text}
+use Rattle.book_tables.specs.Held.{values, entry_values, Holds}
+use Rattle.book_tables.specs.Leading.{Keeps}
+use Rattle.book_tables.specs.Standing.{BookTable, Outgoing, Stock, Advice, AdviceLine, Orders, OrderLine, Reservation, schema_of, name_of, tree_of, width_of}
+use Rattle.book_tables.specs.Standing.{Filled, with_rows, named, HasKey, AreByKey, IsOutgoing, IsEntry}
+use Rattle.book_tables.specs.Steps.{WritesInto, Spares, PutByKey, TakenByKey, SetsState}
+use Rattle.book_tables.proofs.Beside.{still_lies}
+use Rattle.book_tables.proofs.PutRows.{put_old}
+use Rattle.book_tables.proofs.HoldsLemmas.{put_ordered, put_holds, freed_ordered, freed_holds, stated_each, stated_ordered, stated_holds, entry_put}
+
+same_number : (n : ℕ) → nat_eq n n ≡ true
+same_number n = grind (arith, nat_tests)
+
+pub apart : (m n : ℕ) → nat_eq m n ≡ false → m ≢ n
+apart m n h e = let f : ◌≡◌ {A = Bool} true false = sym (same_number n) ∙ subst (λ (x : ℕ). nat_eq x n ≡ false) e h in cc
+
+are_one : (m n : ℕ) → nat_eq m n ≡ true → m ≡ n
+are_one m n h = grind (arith, nat_tests, h)
+
+-- a statement on one table leaves each other one as it was
+spared : (t : BookTable) (tree : ℕ) (old new : Database) → Spares tree old new → tree_of t ≢ tree → new.trees (tree_of t) ≡ old.trees (tree_of t)
+spared Outgoing tree old new others other = others.1.1.0 other
+spared Stock tree old new others other = others.1.1.1.0 other
+spared Advice tree old new others other = others.1.1.1.1.0 other
+spared AdviceLine tree old new others other = others.1.1.1.1.1.0 other
+spared Orders tree old new others other = others.1.1.1.1.1.1.0 other
+spared OrderLine tree old new others other = others.1.1.1.1.1.1.1.0 other
+spared Reservation tree old new others other = others.1.1.1.1.1.1.1.1.0 other
+
+-- the table with a tree
+abbrev table_at : ℕ → BookTable
+table_at n =
+    if nat_eq n 4 then Outgoing else (if nat_eq n 6 then Stock else (if nat_eq n 8 then Advice else (if nat_eq n 10 then AdviceLine else
+    (if nat_eq n 12 then Orders else (if nat_eq n 14 then OrderLine else Reservation)))))
+
+is_at : (t : BookTable) → table_at (tree_of t) ≡ t
+is_at Outgoing = refl
+is_at Stock = refl
+is_at Advice = refl
+is_at AdviceLine = refl
+is_at Orders = refl
+is_at OrderLine = refl
+is_at Reservation = refl
+
+one_tree : (t u : BookTable) → tree_of t ≡ tree_of u → t ≡ u
+one_tree t u e = sym (is_at t) ∙ ap table_at e ∙ is_at u
+
+not_book : (t : BookTable) → nat_eq 0 (tree_of t) ≡ false
+not_book Outgoing = refl
+not_book Stock = refl
+not_book Advice = refl
+not_book AdviceLine = refl
+not_book Orders = refl
+not_book OrderLine = refl
+not_book Reservation = refl
+
+not_entry : (t : BookTable) → nat_eq 1 (tree_of t) ≡ false
+not_entry Outgoing = refl
+not_entry Stock = refl
+not_entry Advice = refl
+not_entry AdviceLine = refl
+not_entry Orders = refl
+not_entry OrderLine = refl
+not_entry Reservation = refl
+
+-- what holds of a table's new rows and of the others' old ones holds of all
+each_table : (P : BookTable → List TableRow → Type 0) (t : BookTable) (rows : List TableRow) (f : Filled) → P t rows
+    → ((u : BookTable) → nat_eq (tree_of t) (tree_of u) ≡ false → P u (f.keyed u)) → (u : BookTable) → P u (if nat_eq (tree_of t) (tree_of u) then rows else f.keyed u)
+each_table P t rows f here others u = elim (cases_Bool (nat_eq (tree_of t) (tree_of u))) [
+  | inl same ↦ rw same (subst (λ v. P v rows) (one_tree t u (are_one (tree_of t) (tree_of u) same)) here)
+  | inr other ↦ rw other (others u other)
+]
+
+other_way : (m n : ℕ) → nat_eq m n ≡ false → n ≢ m
+other_way m n h e = apart m n h (sym e)
+
+-- the rows of one table are replaced
+module _ (t : BookTable) (rows : List TableRow) (Rows : List Row → List Row → Type 0) (f : Filled) (old new : Database) (k : Keeps f old) (did : WritesInto (tree_of t) Rows old new) where
+  pub keeps_with : Holds rows (new.trees (tree_of t)) → AreByKey (schema_of t) (width_of t) rows
+      → ((row : TableRow) → Has (let g = with_rows t rows f in g.keyed Outgoing) row → IsOutgoing row) → Keeps (with_rows t rows f) new
+  keeps_with held sorted outgoing = record {
+    schema = still_lies old.schema new.schema did.schema k.schema;
+    sound = did.sound;
+    rows = record {
+      book = did.others.0 (apart 0 (tree_of t) (not_book t)) ∙ k.rows.book;
+      entry = did.others.1.0 (apart 1 (tree_of t) (not_entry t)) ∙ k.rows.entry;
+      keyed = each_table (λ u us. Holds us (new.trees (tree_of u))) t rows f held
+          (λ u other. subst (Holds (f.keyed u)) (sym (spared u (tree_of t) old new did.others (other_way (tree_of t) (tree_of u) other))) (k.rows.keyed u));
+    };
+    ordered = record {
+      entry = k.ordered.entry;
+      outgoing = outgoing;
+      keyed = each_table (λ u us. AreByKey (schema_of u) (width_of u) us) t rows f sorted (λ u other. k.ordered.keyed u);
+    };
+  }
+
+-- a row is put into a table
+put_named : (t : BookTable) (row : TableRow) (f : Filled) → changed_by (named f) (Puts (name_of t) row ∷ []) ≡ named (with_rows t (schema.put_row (schema_of t) row (f.keyed t)) f)
+put_named Outgoing row f = refl
+put_named Stock row f = refl
+put_named Advice row f = refl
+put_named AdviceLine row f = refl
+put_named Orders row f = refl
+put_named OrderLine row f = refl
+put_named Reservation row f = refl
+
+-- an outgoing row is one
+abbrev pub IsRowOf : BookTable → TableRow → Type 0
+IsRowOf Outgoing row = IsOutgoing row
+IsRowOf t row = Unit {0}
+
+put_outgoing : (t : BookTable) (row : TableRow) (f : Filled) → IsRowOf t row → ((r : TableRow) → Has (f.keyed Outgoing) r → IsOutgoing r)
+    → (r : TableRow) → Has (let g = with_rows t (schema.put_row (schema_of t) row (f.keyed t)) f in g.keyed Outgoing) r → IsOutgoing r
+put_outgoing Outgoing row f is were r there = elim (put_old outgoing_schema row (f.keyed Outgoing) r there) [ inl new ↦ subst IsOutgoing (sym new) is | inr old ↦ were r old ]
+put_outgoing Stock row f is were r there = were r there
+put_outgoing Advice row f is were r there = were r there
+put_outgoing AdviceLine row f is were r there = were r there
+put_outgoing Orders row f is were r there = were r there
+put_outgoing OrderLine row f is were r there = were r there
+put_outgoing Reservation row f is were r there = were r there
+
+pub leads_put : (t : BookTable) (row : TableRow) (f : Filled) (old new : Database) → HasKey (schema_of t) (width_of t) row → IsRowOf t row → Keeps f old
+    → WritesInto (tree_of t) (PutByKey (width_of t) (values row)) old new → (g : Filled) × (changed_by (named f) (Puts (name_of t) row ∷ []) ≡ named g) × Keeps g new
+leads_put t row f old new has is k did =
+    let rows = f.keyed t in
+    let sorted = k.ordered.keyed t in (
+      with_rows t (schema.put_row (schema_of t) row rows) f,
+      put_named t row f,
+      keeps_with t (schema.put_row (schema_of t) row rows) (PutByKey (width_of t) (values row)) f old new k did
+          (put_holds (schema_of t) (width_of t) row rows sorted has (old.trees (tree_of t)) (new.trees (tree_of t)) (k.rows.keyed t) did.rows)
+          (put_ordered (schema_of t) (width_of t) row rows sorted has) (put_outgoing t row f is k.ordered.outgoing),
+    )
+
+pub leads_entry : (row : TableRow) (f : Filled) (old new : Database) → IsEntry row → Keeps f old → WritesInto 1 (λ before after. after ≡ put_row (entry_values row) before) old new
+    → (g : Filled) × (changed_by (named f) (Puts (codes "entry") row ∷ []) ≡ named g) × Keeps g new
+leads_entry row f old new is k did =
+    let g : Filled = record f { entry = schema.put_row entry_schema row f.entry } in (
+      g,
+      refl,
+      record {
+        schema = still_lies old.schema new.schema did.schema k.schema;
+        sound = did.sound;
+        rows = record {
+          book = did.others.0 (apart 0 1 refl) ∙ k.rows.book;
+          entry = did.rows ∙ ap (put_row (entry_values row)) k.rows.entry ∙ sym (entry_put row f.entry is k.ordered.entry);
+          keyed = λ u. subst (Holds (f.keyed u)) (sym (spared u 1 old new did.others (other_way 1 (tree_of u) (not_entry u)))) (k.rows.keyed u);
+        };
+        ordered = record {
+          entry = λ r there. elim (put_old entry_schema row f.entry r there) [ inl new ↦ subst IsEntry (sym new) is | inr old ↦ k.ordered.entry r old ];
+          outgoing = k.ordered.outgoing;
+          keyed = k.ordered.keyed;
+        };
+      },
+    )
+
+pub leads_state : (who : List ℕ) (n : ℕ) (said : Option Bool) (f : Filled) (old new : Database) → Keeps f old → WritesInto 4 (SetsState who (pos n) (state_text said)) old new
+    → (g : Filled) × (changed_by (named f) (Sets who n said ∷ []) ≡ named g) × Keeps g new
+leads_state who n said f old new k did =
+    let rows = f.keyed Outgoing in
+    let each = k.ordered.outgoing in
+    let sorted = k.ordered.keyed Outgoing in (
+      with_rows Outgoing (map (with_state who n (state_text said)) rows) f,
+      refl,
+      keeps_with Outgoing (map (with_state who n (state_text said)) rows) (SetsState who (pos n) (state_text said)) f old new k did
+          (stated_holds who n (state_text said) rows each sorted (old.trees 4) (new.trees 4) (k.rows.keyed Outgoing) did.rows)
+          (stated_ordered who n (state_text said) rows each sorted) (stated_each who n (state_text said) rows each sorted),
+    )
+
+pub leads_free : (who order : List ℕ) (f : Filled) (old new : Database) → Keeps f old → WritesInto 16 (TakenByKey 2 (value.Text who ∷ value.Text order ∷ [])) old new
+    → (g : Filled) × (changed_by (named f) (Frees who order ∷ []) ≡ named g) × Keeps g new
+leads_free who order f old new k did =
+    let rows = f.keyed Reservation in (
+      with_rows Reservation (filter (λ row. not (is_reserved_for who order row)) rows) f,
+      refl,
+      keeps_with Reservation (filter (λ row. not (is_reserved_for who order row)) rows) (TakenByKey 2 (value.Text who ∷ value.Text order ∷ [])) f old new k did
+          (freed_holds who order rows (old.trees 16) (new.trees 16) (k.rows.keyed Reservation) did.rows)
+          (freed_ordered who order rows (k.ordered.keyed Reservation)) k.ordered.outgoing,
+    )

@@ -1,0 +1,66 @@
+pub mod Limited
+mod Owned
+mod Rising
+pub mod Ordered
+mod Parts
+mod Sorts
+mod ShowingTexts
+mod Showing
+mod ShownRows
+mod Places
+mod Sendings
+mod MakingTexts
+mod Values
+mod PutLemmas
+mod KeyLemmas
+mod UpsertLemmas
+mod WritingTexts
+mod Beside
+mod Upserts
+mod KeyedInserts
+mod Inserts
+mod Passing
+mod Freeing
+mod Stating
+mod CellOrder
+mod PutRows
+mod HoldsLemmas
+mod LeadsLemmas
+mod StepLemmas
+mod Writes
+mod Led
+mod LeadingLemmas
+mod Lines
+mod Applied
+mod AppendingLemmas
+pub mod Growing
+mod CreateLemmas
+pub mod OneRegister
+mod InOrder
+mod Asked
+mod ReadingTexts
+mod Found
+mod ReadLemmas
+mod OwnEntries
+mod FoundRows
+mod HasEntries
+pub mod AskedLater
+mod Queries
+mod NeedTexts
+mod Under
+mod Finding
+mod UnderTables
+mod LotsFound
+mod AdvicesFound
+mod OrdersFound
+mod DocumentRows
+mod SentFound
+mod LastFound
+mod Wholes
+mod KnownTexts
+mod UnderKey
+mod SentUnder
+mod Looked
+pub mod Fits
+pub mod NeededParts
+pub mod OnceKept

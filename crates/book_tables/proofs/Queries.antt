@@ -1,0 +1,161 @@
+-- Queries, one after another.
+use Rattle.std.proofs.Common.{List, ◌≡◌, ◌⊎◌, ◌∙◌, inl, inr, ℕ, Result, Ok, Err, Some, IfErr, OnErr, OnOk, arith, refl, sym, subst}
+use Rattle.std.specs.Prelude.{◌≢◌, IsErrAnd}
+use Rattle.sqlite.specs.Held.{state}
+use Rattle.sqlite.specs.Store.{Ghosts}
+use Rattle.sqlite.specs.State.{State, HasCleanDisk}
+use Rattle.sqlite.proofs.StateLemmas.{survives_weaker}
+use Rattle.store.specs.declared.fault.Fault.{Fault}
+use Rattle.store.specs.declared.fault.Fault.TheVariants.{OutOfMemory, Store, Reopen, NotThisBook, Device}
+use Rattle.profile.specs.Header.{Who}
+use Rattle.profile.specs.Register.{Entry}
+use Rattle.book_tables.specs.Asking.{Asked, Went, IsAsked, IsAskFault}
+use Rattle.book_tables.specs.Exits.{StandsWhileOpen}
+use Rattle.book_tables.specs.Kept.{Kept}
+use Rattle.book_tables.specs.Limits.{NoMore}
+use Rattle.book_tables.specs.Rises.{Rises}
+use Rattle.book_tables.proofs.Asked.{asked_twice}
+use Rattle.book_tables.proofs.AskedLater.{fault_later}
+use Rattle.book_tables.proofs.OwnEntries.{shows_none}
+use Rattle.book_tables.proofs.Limited.{no_more_refl, no_more_trans}
+use Rattle.book_tables.proofs.StepLemmas.{on_ok}
+use Rattle.book_tables.proofs.Writes.{same_survives}
+
+-- a query that failed for want of memory
+pub memory_fault : (f : Fault) (old new : State) (refused more : ℕ) → f ≡ OutOfMemory → IsAskFault f old new refused more
+memory_fault f old new refused more is = record {
+  store = λ e. absurd (let d : ◌≡◌ {A = Fault} OutOfMemory Store = sym is ∙ e in cc);
+  not_this = λ e. absurd (let d : ◌≡◌ {A = Fault} OutOfMemory NotThisBook = sym is ∙ e in cc);
+  reopen = λ e. let d : ◌≡◌ {A = Fault} OutOfMemory Reopen = sym is ∙ e in cc;
+  device = λ e. let d : ◌≡◌ {A = Fault} OutOfMemory Device = sym is ∙ e in cc;
+}
+
+-- a call of the store failed, and was counted
+call_fault : (f : Fault) (old new : State) (refused more : ℕ) → (f ≡ OutOfMemory) ⊎ (f ≡ Store) → Rises refused more → IsAskFault f old new refused more
+call_fault f old new refused more (inl is) rises = memory_fault f old new refused more is
+call_fault f old new refused more (inr is) rises = record {
+  store = λ _. rises;
+  not_this = λ e. absurd (let d : ◌≡◌ {A = Fault} Store NotThisBook = sym is ∙ e in cc);
+  reopen = λ e. let d : ◌≡◌ {A = Fault} Store Reopen = sym is ∙ e in cc;
+  device = λ e. let d : ◌≡◌ {A = Fault} Store Device = sym is ∙ e in cc;
+}
+
+always_ok : {T E : Type 0} {A : Type 0} (r : Result T E) → A → OnOk r A
+always_ok (Ok x) a = a
+always_ok (Err e) a = tt
+
+if_err : {T E : Type 0} {P Q : E → Type 0} (r : Result T E) → ((e : E) → P e → Q e) → IfErr r P → IfErr r Q
+if_err (Ok x) f h = tt
+if_err (Err e) f h = f e h
+
+if_error : {T E : Type 0} {P Q : E → Type 0} (r : Result T E) → ((e : E) → P e → Q e) → IsErrAnd r P → IfErr r Q
+if_error (Ok x) f h = tt
+if_error (Err e) f h = f e h
+
+never_ok : {T E : Type 0} (A : Type 0) (P : E → Type 0) (r : Result T E) → IsErrAnd r P → OnOk r A
+never_ok A P (Ok x) h = absurd h
+never_ok A P (Err e) h = tt
+
+unasked : (s : State) → IsAsked s s
+unasked s = record {
+  same = λ clean has. record { was_open = λ h. h; now = λ _. refl; committed = λ _. refl };
+  crash = survives_weaker s s _ _ (λ _ db none. absurd none) (same_survives s);
+}
+
+module _ {S : Type 0} (store : Ghosts S) where
+  -- what failed for want of memory before it asked anything
+  pub asked_none : {T : Type 0} (s : Kept S) (r : Result T Fault) → IsErrAnd r (λ f. f ≡ OutOfMemory) → Asked store s s r
+  asked_none s r is = record {
+    left = unasked (state store s.conn);
+    fault = if_error r (λ f e. memory_fault f (state store s.conn) (state store s.conn) s.refused s.refused e) is;
+    counts = omega arith;
+    uncounted = never_ok _ _ r is;
+    limit = no_more_refl s.limit;
+    allowed = never_ok _ _ r is;
+  }
+
+  -- one text that was asked
+  pub asked_once : {T : Type 0} (old new : Kept S) (r : Result T Fault) → IsAsked (state store old.conn) (state store new.conn) → IfErr r (λ f. (f ≡ OutOfMemory) ⊎ (f ≡ Store))
+      → OnErr r (Rises old.refused new.refused) → OnOk r (new.refused ≡ old.refused) → NoMore old.limit new.limit → OnOk r (old.limit ≢ Some 0) → Asked store old new r
+  asked_once old new (Ok x) left named counted uncounted limit allowed = record {
+    left = left;
+    fault = tt;
+    counts = omega (arith, uncounted);
+    uncounted = uncounted;
+    limit = limit;
+    allowed = allowed;
+  }
+  asked_once old new (Err f) left named counted uncounted limit allowed = record {
+    left = left;
+    fault = call_fault f (state store old.conn) (state store new.conn) old.refused new.refused named counted;
+    counts = counted.up;
+    uncounted = tt;
+    limit = limit;
+    allowed = tt;
+  }
+
+  -- what is made of the rows of a query that answered: Ok, or why it fails
+  pub asked_then : {T U : Type 0} (old new : Kept S) (t : T) (r : Result U Fault) → Asked {T = T} store old new (Ok t) → IfErr r (λ f. IsAskFault f (state store old.conn) (state store new.conn) old.refused new.refused)
+      → Asked store old new r
+  asked_then old new t r asked fault = record {
+    left = asked.left;
+    fault = fault;
+    counts = asked.counts;
+    uncounted = always_ok r asked.uncounted;
+    limit = asked.limit;
+    allowed = always_ok r asked.allowed;
+  }
+
+  -- the rows of a query show nothing that tables would show which stand for a register
+  pub asked_wrong : {T U : Type 0} (old new : Kept S) (t : T) → Asked {T = T} store old new (Ok t)
+      → (HasCleanDisk (state store new.conn) → (W : Who) (L : List Entry) → StandsWhileOpen (state store old.conn) W L → ⊥) → Asked {T = U} store old new (Err NotThisBook)
+  asked_wrong old new t asked never = asked_then old new t (Err NotThisBook) asked (shows_none (state store old.conn) (state store new.conn) old.refused new.refused never)
+
+  -- an error that is handed on
+  pub asked_fails : {T U : Type 0} (old new : Kept S) (f : Fault) (r : Result U Fault) → IsErrAnd r (λ g. g ≡ f) → Asked {T = T} store old new (Err f) → Asked store old new r
+  asked_fails old new f r is asked = record {
+    left = asked.left;
+    fault = if_error r (λ g e. subst (λ h. IsAskFault h (state store old.conn) (state store new.conn) old.refused new.refused) (sym e) asked.fault) is;
+    counts = asked.counts;
+    uncounted = never_ok _ _ r is;
+    limit = asked.limit;
+    allowed = never_ok _ _ r is;
+  }
+
+  -- one after another
+  pub went_of : {T : Type 0} (old new : Kept S) (r : Result T Fault) → Asked store old new r → Went store old new r
+  went_of old new r asked = record { left = asked.left; fault = asked.fault; counts = asked.counts; uncounted = asked.uncounted; limit = asked.limit }
+
+  pub went_none : {T : Type 0} (s : Kept S) (t : T) → Went {T = T} store s s (Ok t)
+  went_none s t = record { left = unasked (state store s.conn); fault = tt; counts = omega arith; uncounted = refl; limit = no_more_refl s.limit }
+
+  pub went_on : {T U : Type 0} (a b c : Kept S) (t : T) (r : Result U Fault) → Went {T = T} store a b (Ok t) → Went store b c r → Went store a c r
+  went_on a b c t r one two = record {
+    left = asked_twice (state store a.conn) (state store b.conn) (state store c.conn) one.left two.left;
+    fault = if_err r (λ f h. fault_later f (state store a.conn) (state store b.conn) (state store c.conn) a.refused b.refused c.refused one.left two.left one.counts h) two.fault;
+    counts = omega (arith, one.counts, two.counts);
+    uncounted = on_ok r (λ e. e ∙ one.uncounted) two.uncounted;
+    limit = no_more_trans a.limit b.limit c.limit one.limit two.limit;
+  }
+
+  -- another answer of the same queries
+  pub went_as : {T U : Type 0} (old new : Kept S) (t : T) (u : U) → Went {T = T} store old new (Ok t) → Went {T = U} store old new (Ok u)
+  went_as old new t u went = record { left = went.left; fault = tt; counts = went.counts; uncounted = went.uncounted; limit = went.limit }
+
+  pub went_fails : {T U : Type 0} (old new : Kept S) (f : Fault) (r : Result U Fault) → IsErrAnd r (λ g. g ≡ f) → Went {T = T} store old new (Err f) → Went store old new r
+  went_fails old new f r is went = record {
+    left = went.left;
+    fault = if_error r (λ g e. subst (λ h. IsAskFault h (state store old.conn) (state store new.conn) old.refused new.refused) (sym e) went.fault) is;
+    counts = went.counts;
+    uncounted = never_ok _ _ r is;
+    limit = went.limit;
+  }
+
+  -- a query, and then others
+  pub asked_went : {T U : Type 0} (a b c : Kept S) (t : T) (r : Result U Fault) → Asked {T = T} store a b (Ok t) → Went store b c r → Asked store a c r
+  asked_went a b c t r one two =
+      let both = went_on a b c t r (went_of a b (Ok t) one) two in
+      record { left = both.left; fault = both.fault; counts = both.counts; uncounted = both.uncounted; limit = both.limit; allowed = always_ok r one.allowed }
+
+  pub asked_on : {T U : Type 0} (a b c : Kept S) (t : T) (r : Result U Fault) → Asked {T = T} store a b (Ok t) → Asked store b c r → Asked store a c r
+  asked_on a b c t r one two = asked_went a b c t r one (went_of b c r two)

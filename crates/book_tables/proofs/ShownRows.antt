@@ -1,0 +1,142 @@
+-- The running rows that the queries show of a depositor are those of the definitions.
+use Rattle.std.proofs.Common.{◌≡◌, inl, inr, ℕ, pos, List, [], ◌∷◌, map, ◌&&◌, ◌||◌, cond, Bool, true, false, refl, sym, ap, ◌∙◌}
+use Rattle.std.specs.Prelude.{nat_lt}
+use Rattle.std.specs.Ordering.{is_lt, is_eq, ordering_then, nat_cmp}
+use Rattle.std.specs.Cmp.Lexicographic.{slice_cmp}
+use Rattle.std.specs.declared.cmp.Ordering.{Ordering}
+use Rattle.std.specs.declared.cmp.Ordering.TheVariants.{Less, Equal, Greater}
+use Rattle.std.proofs.lemmas.Map.Text.{is_eq-slice_cmp}
+use Rattle.std.proofs.lemmas.Slice.Eq.{bytes_eq-Decides}
+use Rattle.sqlite.specs.declared.types.Value.TheVariants as value
+use Rattle.sqlite.specs.Order.{Row, value_cmp}
+use Rattle.sqlite.specs.Query.{IsAnswer, Output}
+use Rattle.sqlite.specs.Program.{overlay}
+use Rattle.sqlite.specs.Tree.{Trees}
+use Rattle.sqlite_value.proofs.OrderLemmas.{value_cmp-Text, value_cmp-Int}
+use Rattle.sqlite_catalog.specs.Listing.{IsSound}
+use Rattle.sqlite_rules.specs.Lists.{Has}
+use Rattle.profile.specs.Bytes.{comes_before}
+use Rattle.profile.specs.Header.{Who, is_partner, who_text}
+use Rattle.profile.specs.Register.{Entry, own}
+use Rattle.profile.specs.History.{events}
+use Rattle.profile.specs.Accepted.{IsLegal}
+use Rattle.profile.specs.Rows.{LotRow, OutRow, shown_row, running_rows, stock_rows, outgoing_rows}
+use Rattle.profile.specs.Tables.{Text, TableRow, depositors, for_each, stock_cells, stock_table, outgoing_cells, outgoing_table}
+use Rattle.profile.specs.Schema.{stock_schema, outgoing_schema}
+use Rattle.stock.specs.Keyed.{row_key, key_before as pairs_in_order}
+use Rattle.stock.proofs.KeyLemmas.{numbers_strict}
+use Rattle.book_tables.specs.Held.{Holds}
+use Rattle.book_tables.specs.Layout.{Others, beside, stock_layout, outgoing_layout}
+use Rattle.book_tables.specs.Showing.{stock_shown, out_shown}
+use Rattle.book_tables.specs.Standing.{Stock, Outgoing, AreOrdered, filled}
+use Rattle.book_tables.proofs.HoldsLemmas.{are_keyed}
+use Rattle.book_tables.proofs.Ordered.{all_ordered, lots_rise, sent_rise}
+use Rattle.book_tables.proofs.Parts.{stock_part, outgoing_part}
+use Rattle.book_tables.proofs.Rising.{each_block}
+use Rattle.book_tables.proofs.Showing.{IsShown, shown_rows}
+use Rattle.book_tables.proofs.ShowingTexts.{stock_columns, stock_order, stock_rows_query, outbox_columns, outbox_order, outbox_query}
+use Rattle.book_tables.proofs.UpsertLemmas.{only_row}
+
+-- each row of a table of depositors begins with a text
+pub begun : (L : List Entry) (rows : List Entry → List TableRow) (row : TableRow) → Has (for_each L rows) row → (s : List ℕ) × (r : TableRow) × (row ≡ Text s ∷ r)
+begun L rows = each_block (λ row. (s : List ℕ) × (r : TableRow) × (row ≡ Text s ∷ r)) who_text (λ w. rows (own L w)) (depositors L) (λ w r there. (who_text w, r, refl))
+
+-- The order of a pair of texts.
+
+then_less : (o p : Ordering) → is_lt (ordering_then o (ordering_then p Equal)) ≡ (is_lt o || (is_eq o && is_lt p))
+then_less Less p = refl
+then_less Equal Less = refl
+then_less Equal Equal = refl
+then_less Equal Greater = refl
+then_less Greater p = refl
+
+pub both_equal : (o p : Ordering) → is_eq (ordering_then o (ordering_then p Equal)) ≡ true → (is_eq o ≡ true) × (is_eq p ≡ true)
+both_equal Less p h = absurd (let e : ◌≡◌ {A = Bool} false true = h in cc)
+both_equal Equal Less h = absurd (let e : ◌≡◌ {A = Bool} false true = h in cc)
+both_equal Equal Equal h = (refl, refl)
+both_equal Equal Greater h = absurd (let e : ◌≡◌ {A = Bool} false true = h in cc)
+both_equal Greater p h = absurd (let e : ◌≡◌ {A = Bool} false true = h in cc)
+
+pub pairs_ranked : (i l j m : List ℕ) → is_lt (ordering_then (value_cmp (value.Text i) (value.Text j)) (ordering_then (value_cmp (value.Text l) (value.Text m)) Equal)) ≡ pairs_in_order (i, l) (j, m)
+pairs_ranked i l j m =
+    (λ p. is_lt (ordering_then (value_cmp-Text i j p) (ordering_then (value_cmp-Text l m p) Equal)))
+    ∙ then_less (slice_cmp nat_cmp i j) (slice_cmp nat_cmp l m)
+    ∙ ap (λ (b : Bool). comes_before i j || (b && comes_before l m)) (is_eq-slice_cmp i j)
+
+pub text_is : (i j : List ℕ) → is_eq (value_cmp (value.Text i) (value.Text j)) ≡ true → i ≡ j
+text_is i j h = (bytes_eq-Decides i j).0 (sym (is_eq-slice_cmp i j) ∙ ap is_eq (sym (value_cmp-Text i j)) ∙ h)
+
+-- Stock.
+
+abbrev stock_out : LotRow → Output
+stock_out r = (value.Text r.item ∷ value.Text r.lot ∷ [], stock_shown (shown_row r))
+
+stock_is : (W : Who) (L : List Entry) (who : Who) → IsLegal W L → is_partner who ≡ true
+    → IsShown pairs_in_order row_key stock_cells 6 3 stock_columns stock_order stock_out (who_text who) (stock_table L) (running_rows (events (own L who)))
+stock_is W L who legal partner = record {
+  lies = λ db. refl;
+  part = stock_part W L who legal partner;
+  firsts = begun L (λ M. map stock_cells (running_rows (events M)));
+  rises = lots_rise (events (own L who));
+  puts = λ id r. refl;
+  ranks = λ a b. pairs_ranked a.item a.lot b.item b.lot;
+  tied = λ a b h.
+      let both = both_equal (value_cmp (value.Text a.item) (value.Text b.item)) (value_cmp (value.Text a.lot) (value.Text b.lot)) h in
+      let item = text_is a.item b.item both.0 in
+      let lot = text_is a.lot b.lot both.1 in
+      λ i. value.Text (who_text who) ∷ value.Text (item i) ∷ value.Text (lot i) ∷ [];
+}
+
+map_map : {A B C : Type 0} (f : A → B) (g : B → C) (xs : List A) → map g (map f xs) ≡ map (λ x. g (f x)) xs
+map_map f g [] = refl
+map_map f g (x ∷ xs) = ap (λ ys. g (f x) ∷ ys) (map_map f g xs)
+
+-- the answer of a partner's stock is its stock rows
+pub stock_rows_shown : (others : Others) (W : Who) (L : List Entry) (who : Who) (db : Trees) (rows : List Row) → IsLegal W L → is_partner who ≡ true → IsSound (beside others) db → Holds (stock_table L) (db 6)
+    → IsAnswer stock_rows_query (overlay db []) (value.Text (who_text who) ∷ []) rows → rows ≡ map stock_shown (stock_rows (own L who))
+stock_rows_shown others W L who db rows legal partner sound held a =
+    let ordered : AreOrdered (filled W L) = all_ordered W L in
+    shown_rows pairs_in_order row_key stock_cells 6 3 stock_columns stock_order stock_out (who_text who) (stock_table L) (running_rows (events (own L who))) (stock_is W L who legal partner) db held
+    (only_row others stock_layout.name 6 3 stock_layout.checks stock_layout.columns db (inr (inr (inr (inl refl)))) sound (are_keyed stock_schema 3 (stock_table L) (db 6) (ordered.keyed Stock) held)) rows a
+    ∙ sym (map_map shown_row stock_shown (running_rows (events (own L who))))
+
+-- What went out.
+
+abbrev out_out : OutRow → Output
+out_out r = (value.Int (pos r.n) ∷ [], out_shown r)
+
+pub numbers_ranked : (m n : ℕ) → is_lt (ordering_then (value_cmp (value.Int (pos m)) (value.Int (pos n))) Equal) ≡ nat_lt m n
+numbers_ranked m n = (λ p. is_lt (ordering_then (value_cmp-Int (pos m) (pos n) p) Equal)) ∙ by (nat_lt m n) (nat_lt n m)
+  where
+    by : (b d : Bool) → is_lt (ordering_then (cond b Less (cond d Greater Equal)) Equal) ≡ b
+    by true d = refl
+    by false true = refl
+    by false false = refl
+
+pub number_is : (m n : ℕ) → is_eq (ordering_then (value_cmp (value.Int (pos m)) (value.Int (pos n))) Equal) ≡ true → m ≡ n
+number_is m n h = by (nat_lt m n) (nat_lt n m) refl refl (sym (λ p. is_eq (ordering_then (value_cmp-Int (pos m) (pos n) p) Equal)) ∙ h)
+  where
+    by : (b d : Bool) → nat_lt m n ≡ b → nat_lt n m ≡ d → is_eq (ordering_then (cond b Less (cond d Greater Equal)) Equal) ≡ true → m ≡ n
+    by true d e f g = absurd (let k : ◌≡◌ {A = Bool} false true = g in cc)
+    by false true e f g = absurd (let k : ◌≡◌ {A = Bool} false true = g in cc)
+    by false false e f g = numbers_strict.total m n e f
+
+outgoing_is : (W : Who) (L : List Entry) (who : Who) → IsLegal W L → is_partner who ≡ true
+    → IsShown nat_lt (λ (r : OutRow). r.n) outgoing_cells 4 2 outbox_columns outbox_order out_out (who_text who) (outgoing_table W L) (outgoing_rows W (own L who))
+outgoing_is W L who legal partner = record {
+  lies = λ db. refl;
+  part = outgoing_part W L who legal partner;
+  firsts = begun L (λ M. map outgoing_cells (outgoing_rows W M));
+  rises = sent_rise W (events (own L who)) [] (own L who);
+  puts = λ id r. refl;
+  ranks = λ a b. numbers_ranked a.n b.n;
+  tied = λ a b h. let same = number_is a.n b.n h in λ i. value.Text (who_text who) ∷ value.Int (pos (same i)) ∷ [];
+}
+
+-- the answer of what went out to a partner is all of its outgoing rows
+pub outgoing_rows_shown : (others : Others) (W : Who) (L : List Entry) (who : Who) (db : Trees) (rows : List Row) → IsLegal W L → is_partner who ≡ true → IsSound (beside others) db → Holds (outgoing_table W L) (db 4)
+    → IsAnswer outbox_query (overlay db []) (value.Text (who_text who) ∷ []) rows → rows ≡ map out_shown (outgoing_rows W (own L who))
+outgoing_rows_shown others W L who db rows legal partner sound held a =
+    let ordered : AreOrdered (filled W L) = all_ordered W L in
+    shown_rows nat_lt (λ (r : OutRow). r.n) outgoing_cells 4 2 outbox_columns outbox_order out_out (who_text who) (outgoing_table W L) (outgoing_rows W (own L who)) (outgoing_is W L who legal partner) db held
+    (only_row others outgoing_layout.name 4 2 outgoing_layout.checks outgoing_layout.columns db (inr (inr (inl refl))) sound (are_keyed outgoing_schema 2 (outgoing_table W L) (db 4) (ordered.keyed Outgoing) held)) rows a

@@ -1,0 +1,13 @@
+use Rattle.std.proofs.Common.{◌∙◌}
+use Rattle.sqlite.specs.Held.{state}
+use Rattle.book_tables.proofs.Found.{count_found}
+use Rattle.book_tables.proofs.ReadingTexts.{count_plain}
+use Rattle.book_tables.proofs.connected.Tables.count.Goals as goal
+
+pub ask-requires : goal.ask-requires
+ask-requires g c = count_plain
+
+pub returns-clause-count : goal.returns-clause-count
+returns-clause-count g c = λ clean W L stands.
+    let finds = c.in_ok-rows.ensures.finds clean in
+    c.len.ensures ∙ c.in_ok-rows.rows.ok.0 ∙ count_found W L (state g.S.Store c.args.self.now.conn).now c.in_ok-rows.rows.items (stands finds.0) finds.1

@@ -1,0 +1,18 @@
+use Rattle.std.proofs.Common.{◌≡◌, List, Ok, take}
+use Rattle.sqlite.specs.Held.{state}
+use Rattle.sqlite.specs.State.{HasCleanDisk}
+use Rattle.profile.specs.Header.{Who}
+use Rattle.profile.specs.Register.{Entry}
+use Rattle.stock.specs.Parts.{Named}
+use Rattle.book_tables.specs.Asking.{Went}
+use Rattle.book_tables.specs.Exits.{StandsWhileOpen}
+use Rattle.book_tables.specs.Needed.{part_for, with_numbers}
+use Rattle.book_tables.proofs.connected.Tables.gather_numbers.Given as goal
+
+-- what the front of the list names has come to the draft
+abbrev pub invariant-loop-n : goal.invariant-loop-n
+invariant-loop-n g l = record {
+  found : HasCleanDisk (state g.S.Store l.self.conn) → (W : Who) (L : List Entry) → StandsWhileOpen (state g.S.Store l.fn.self.conn) W L
+      → (n : Named) → l.fn.draft ≡ part_for L l.who n → l.draft ≡ part_for L l.who (with_numbers (take l.n-index l.numbers) n);
+  went : Went {T = Unit {0}} g.S.Store l.fn.self l.self (Ok tt);
+}

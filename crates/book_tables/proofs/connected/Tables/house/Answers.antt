@@ -1,0 +1,33 @@
+use Rattle.std.proofs.Common.{List, subst}
+use Rattle.profile.specs.Header.{Who}
+use Rattle.sqlite.specs.Held.{state}
+use Rattle.sqlite.specs.Order.{Row}
+use Rattle.book_tables.specs.Recorded.{IsHouse}
+use Rattle.book_tables.proofs.Found.{house_found, one_house}
+use Rattle.book_tables.proofs.ReadingTexts.{house_plain}
+use Rattle.book_tables.proofs.connected.Tables.house.Goals as goal
+
+pub ask-requires : goal.ask-requires
+ask-requires g c = house_plain
+
+pub returns-in-Some-clause-house : goal.returns-in-Some-clause-house
+returns-in-Some-clause-house g c = λ clean.
+    (c.in_ok-rows.rows.items, (c.in_ok-rows.ensures.finds clean).1, subst (λ (rows : List Row). IsHouse rows c.in-Some.warehouse) c.deref.ensures.value c.in-Some.ensures)
+
+pub returns-clause-none : goal.returns-clause-none
+returns-clause-none g c = λ clean _.
+    (c.in_ok-rows.rows.items, (c.in_ok-rows.ensures.finds clean).1, subst (λ (rows : List Row). (W : Who) → IsHouse rows W → ⊥) c.deref.ensures.value c.in-None.ensures)
+
+pub returns-in-Some-clause-whose : goal.returns-in-Some-clause-whose
+returns-in-Some-clause-whose g c = λ clean W L stands.
+    let finds = c.in_ok-rows.ensures.finds clean in
+    one_house c.in_ok-rows.rows.items c.in-Some.warehouse W (subst (λ (rows : List Row). IsHouse rows c.in-Some.warehouse) c.deref.ensures.value c.in-Some.ensures)
+    (house_found W L (state g.S.Store c.args.self.now.conn).now c.in_ok-rows.rows.items (stands finds.0) finds.1)
+
+pub returns-clause-this : goal.returns-clause-this
+returns-clause-this g c = λ clean W L stands _.
+    let finds = c.in_ok-rows.ensures.finds clean in
+    (subst (λ (rows : List Row). (V : Who) → IsHouse rows V → ⊥) c.deref.ensures.value c.in-None.ensures) W (house_found W L (state g.S.Store c.args.self.now.conn).now c.in_ok-rows.rows.items (stands finds.0) finds.1)
+
+pub returns-in-Some-clause-was_open : goal.returns-in-Some-clause-was_open
+returns-in-Some-clause-was_open g c = λ clean. (c.in_ok-rows.ensures.finds clean).0

@@ -1,0 +1,60 @@
+-- What asking the tables tells, what it leaves, and why it fails.
+use Rattle.std.specs.Prelude.{◌≡◌, ◌≢◌, ◌≤◌, ℕ, List, None, Some, Ok, Result, IsTrue, IfErr, OnOk, codes}
+use Rattle.sqlite.specs.Order.{Row}
+use Rattle.sqlite.specs.Clock.{timed}
+use Rattle.sqlite.specs.Effect.{Database, Reads}
+use Rattle.sqlite.specs.Held.{state}
+use Rattle.sqlite.specs.Store.{Ghosts}
+use Rattle.sqlite.specs.Listing.{understood, reads_listing, IsSourceOf}
+use Rattle.sqlite.specs.State.{State, HasCleanDisk, Survives}
+use Rattle.sqlite_resolve.specs.declared.compiled.Compiled.{Compiled}
+use Rattle.profile.specs.Header.{Who}
+use Rattle.profile.specs.Register.{Entry}
+use Rattle.store.specs.declared.fault.Fault.{Fault}
+use Rattle.store.specs.declared.fault.Fault.TheVariants.{Store, Reopen, NotThisBook, Device}
+use Rattle.book_tables.specs.Exits.{IsAsBefore, StandsWhileOpen}
+use Rattle.book_tables.specs.Kept.{Kept}
+use Rattle.book_tables.specs.Layout.{IsLayout}
+use Rattle.book_tables.specs.Limits.{NoMore}
+use Rattle.book_tables.specs.Rises.{Rises}
+
+-- the text is a statement under the schema that is there, and where it is a query these rows are its answer
+pub record Finds (sql : List ℕ) (params : Row) (db : Database) (rows : List Row) : Type 0 where
+  pub compiled : Compiled
+  pub is : understood db.schema sql ≡ Ok compiled
+  pub moment : ℕ
+  pub answer : compiled.returning ≡ None → (source : Database) × IsSourceOf (reads_listing db.schema sql) db source × Reads compiled.command source (timed params compiled.formats moment) rows
+
+-- the text that asks for the warehouse
+abbrev pub house_text : List ℕ
+house_text = codes "SELECT version, qualifier, id FROM book"
+
+-- a book's tables are as before, and a crash leaves no more
+pub record IsAsked (old new : State) : Type 0 where
+  pub same : HasCleanDisk new → (IsTrue old.is_open → IsLayout old.now.schema) → IsAsBefore old new
+  pub crash : Survives old new (λ _. (IsTrue old.is_open → IsLayout old.now.schema) → ⊥)
+
+-- Why a query failed: 41 where a call was refused, 43 only where the tables stand for no register, and neither 42 nor 44.
+pub record IsAskFault (fault : Fault) (old new : State) (refused more : ℕ) : Type 0 where
+  pub store : fault ≡ Store → Rises refused more
+  pub not_this : fault ≡ NotThisBook → HasCleanDisk new → (W : Who) (L : List Entry) → StandsWhileOpen old W L → ⊥
+  pub reopen : fault ≡ Reopen → ⊥
+  pub device : fault ≡ Device → ⊥
+
+-- What queries leave, any number of them and whatever they tell: the tables as they were, a refused call counted and no other,
+-- and no more calls left than before.
+pub record Went {S T : Type 0} (store : Ghosts S) (old new : Kept S) (result : Result T Fault) : Type 0 where
+  pub left : IsAsked (state store old.conn) (state store new.conn)
+  pub fault : IfErr result (λ f. IsAskFault f (state store old.conn) (state store new.conn) old.refused new.refused)
+  pub counts : old.refused ≤ new.refused
+  pub uncounted : OnOk result (new.refused ≡ old.refused)
+  pub limit : NoMore old.limit new.limit
+
+-- The same of at least one: there was a call left where it answers Ok.
+pub record Asked {S T : Type 0} (store : Ghosts S) (old new : Kept S) (result : Result T Fault) : Type 0 where
+  pub left : IsAsked (state store old.conn) (state store new.conn)
+  pub fault : IfErr result (λ f. IsAskFault f (state store old.conn) (state store new.conn) old.refused new.refused)
+  pub counts : old.refused ≤ new.refused
+  pub uncounted : OnOk result (new.refused ≡ old.refused)
+  pub limit : NoMore old.limit new.limit
+  pub allowed : OnOk result (old.limit ≢ Some 0)

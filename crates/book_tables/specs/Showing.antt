@@ -1,0 +1,57 @@
+-- What the queries of running rows show of a row.
+use Rattle.std.specs.Prelude.{◌≡◌, ◌<◌, ◌^◌, [], ◌∷◌, pos}
+use Rattle.sqlite.specs.declared.types.Value.TheVariants.{Int, Text, Blob}
+use Rattle.sqlite.specs.Order.{Row}
+use Rattle.profile.specs.Means.{Line}
+use Rattle.profile.specs.Page.{PageAdvice, PageLine, PageOrder}
+use Rattle.profile.specs.Rows.{StockRow, LotRow, OutRow}
+use Rattle.profile.specs.Tables.{flag, text_or_null, address_cells}
+use Rattle.rules.specs.declared.kinds.OutKind.{OutKind}
+use Rattle.store.specs.declared.rows.DocumentState.{DocumentState}
+use Rattle.rules.specs.Kinds.{kind_text}
+use Rattle.store.specs.Sent.{state_name}
+use Rattle.book_tables.specs.Held.{value_of, values}
+
+-- item, lot, expected, on_hand, reserved, shipped
+abbrev pub stock_shown : StockRow → Row
+stock_shown r = Text r.item ∷ Text r.lot ∷ Int (pos r.expected) ∷ Int (pos r.on_hand) ∷ Int (pos r.reserved) ∷ Int (pos r.shipped) ∷ []
+
+-- n, kind, content, state
+abbrev pub out_shown : OutRow → Row
+out_shown r = Int (pos r.n) ∷ Text r.kind ∷ Blob r.content ∷ Text r.state ∷ []
+
+-- a text that went out: its number has 32 bits, and its kind and state are ones that there are
+pub record IsSent (r : OutRow) : Type 0 where
+  pub few : r.n < 2 ^ 32
+  pub kind : OutKind
+  pub kind_is : r.kind ≡ kind_text kind
+  pub state : DocumentState
+  pub state_is : r.state ≡ state_name state
+
+-- item, lot, since, expected, on_hand, reserved, shipped
+abbrev pub lot_shown : LotRow → Row
+lot_shown r = Text r.item ∷ Text r.lot ∷ Int (pos r.since) ∷ Int (pos r.expected) ∷ Int (pos r.on_hand) ∷ Int (pos r.reserved) ∷ Int (pos r.shipped) ∷ []
+
+-- an advice but for its lines: shipment, ord, is_open
+abbrev pub advice_shown : PageAdvice → Row
+advice_shown a = Text a.shipment ∷ Text a.order ∷ value_of (flag a.is_open) ∷ []
+
+-- item, lot, quantity: of a line of an advice, and of what is reserved
+abbrev pub line_shown : Line → Row
+line_shown l = Text l.item ∷ Text l.lot ∷ Int (pos l.quantity) ∷ []
+
+-- an order but for its lines and what is reserved: ord, is_open, to_name, to_one, to_two, to_place
+abbrev pub order_shown : PageOrder → Row
+order_shown o = Text o.number ∷ value_of (flag o.is_open) ∷ values (address_cells o.address)
+
+-- item, lot, quantity, where a line that isn't pinned to a lot has NULL
+abbrev pub order_line_shown : PageLine → Row
+order_line_shown l = Text l.item ∷ value_of (text_or_null l.pin) ∷ Int (pos l.quantity) ∷ []
+
+-- kind and state of what went out
+abbrev pub sent_shown : OutRow → Row
+sent_shown r = Text r.kind ∷ Text r.state ∷ []
+
+-- its content alone
+abbrev pub content_shown : OutRow → Row
+content_shown r = Blob r.content ∷ []

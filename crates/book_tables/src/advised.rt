@@ -1,0 +1,146 @@
+ghost use Rattle.std.specs.Prelude.{◌≡◌, ◌<◌, [], List, Some, IfErr, IfOk, length, option_map};
+ghost use Rattle.profile.specs.Limits.{most_lines};
+ghost use Rattle.profile.specs.Header.{Who as Partner};
+ghost use Rattle.profile.specs.Page.{PageAdvice, page_of};
+ghost use Rattle.profile.specs.Register as register;
+ghost use Rattle.sqlite.specs.Held.{state};
+ghost use Rattle.sqlite.specs.State.{HasCleanDisk};
+ghost use Rattle.stock.specs.Pages.{advice_at};
+ghost use Rattle.book_tables.specs.Asking.{Asked};
+ghost use Rattle.book_tables.specs.Exits.{StandsWhileOpen};
+ghost use Rattle.book_tables.specs.Looking.{bare_advice, lines_advised};
+ghost use Rattle.book_tables.specs.Showing.{advice_shown};
+
+use crate::connected::Tables;
+use crate::goods::lines_in;
+use crate::reading::{number_at, text_at};
+use profile::MOST_LINES;
+use rules::Who;
+use sets_in::Goods;
+use sqlite::{Alter, Row};
+use std::alloc::{AllocError, Global};
+use std::marker::Model;
+use stock::KnownAdvice;
+use store::Fault;
+
+// An advice as its row has it, without its lines.
+#[derive(Drop)]
+struct BareAdvice {
+    shipment: Vec<u8>,
+    order: Vec<u8>,
+    is_open: bool,
+}
+
+impl Model for BareAdvice {
+    ghost Value = { PageAdvice };
+
+    ghost view = { λ a. record { shipment = a.shipment.items; order = a.order.items; lines = []; is_open = a.is_open } };
+}
+
+// The advice that a row of shipment, ord and is_open shows, but for its lines; None where it shows none.
+fn advice_in(alloc: Global, row: &Row) -> Result<Option<BareAdvice>, AllocError>
+    ensures { (a : PageAdvice) → row.now ≡ advice_shown a
+        → IfOk result (λ shown. shown ≡ Some (bare_advice a)) }
+{
+    let Some(shipment) = text_at(row, 0) else {
+        return Ok(None);
+    };
+    let Some(order) = text_at(row, 1) else {
+        return Ok(None);
+    };
+    let Some(flag) = number_at(row, 2) else {
+        return Ok(None);
+    };
+    Ok(Some(BareAdvice {
+        shipment: Vec::from_slice(alloc, shipment)?,
+        order: Vec::from_slice(alloc, order)?,
+        is_open: flag == 1,
+    }))
+}
+
+// An advice with its lines. 43 where they are more than an advice has.
+fn with_lines(bare: BareAdvice, lines: Vec<Goods>) -> Result<Option<KnownAdvice>, Fault>
+    ensures whole { IfOk result (λ advice. advice ≡ Some (record bare { lines = lines.items })) }
+    ensures many { IfErr result (λ fault. (fault ≡ Fault.NotThisBook) × (most_lines < length lines.items)) }
+{
+    if lines.len() > usize::from(MOST_LINES) {
+        return Err(Fault::NotThisBook);
+    }
+    Ok(Some(KnownAdvice::new(bare.shipment, bare.order, lines, bare.is_open)))
+}
+
+impl<S: Alter + Drop> Tables<S> {
+    // A depositor's advice under a shipment number, but for its lines; None where there is none. 43 where its row shows none.
+    fn bare_advice(
+        &mut self,
+        alloc: Global,
+        who: Who,
+        shipment: &[u8],
+    ) -> Result<Option<BareAdvice>, Fault>
+        ensures advice { HasCleanDisk (state S.Store self.new.conn) → (W : Partner) (L : List register.Entry)
+            → StandsWhileOpen (state S.Store self.old.conn) W L
+            → IfOk result (λ advice. advice ≡ option_map bare_advice (advice_at shipment.now (page_of
+            (register.own L who)).advices)) }
+        ensures asked { Asked S.Store self.old self.new result }
+    {
+        let rows = self.under_text(
+            alloc,
+            "SELECT shipment, ord, is_open FROM advice WHERE who = ?1 AND shipment = ?2",
+            who,
+            shipment,
+        )?;
+        let Some(row) = rows.first() else {
+            return Ok(None);
+        };
+        match advice_in(alloc, row)? {
+            Some(advice) => Ok(Some(advice)),
+            None => Err(Fault::NotThisBook),
+        }
+    }
+
+    // The lines of a depositor's advice under a shipment number; nothing where there is none. 43 where a row shows no line.
+    fn advice_lines(
+        &mut self,
+        alloc: Global,
+        who: Who,
+        shipment: &[u8],
+    ) -> Result<Vec<Goods>, Fault>
+        ensures lines { HasCleanDisk (state S.Store self.new.conn) → (W : Partner) (L : List register.Entry)
+            → StandsWhileOpen (state S.Store self.old.conn) W L
+            → IfOk result (λ lines. lines.items ≡ lines_advised (advice_at shipment.now (page_of
+            (register.own L who)).advices)) }
+        ensures asked { Asked S.Store self.old self.new result }
+    {
+        let rows = self.under_text(
+            alloc,
+            "SELECT item, lot, quantity FROM advice_line WHERE who = ?1 AND shipment = ?2 ORDER BY line",
+            who,
+            shipment,
+        )?;
+        match lines_in(alloc, &rows)? {
+            Some(lines) => Ok(lines),
+            None => Err(Fault::NotThisBook),
+        }
+    }
+
+    /// A depositor's advice under a shipment number; None where there is none. 43 where a row shows none.
+    pub(crate) fn advice_under(
+        &mut self,
+        alloc: Global,
+        who: Who,
+        shipment: &[u8],
+    ) -> Result<Option<KnownAdvice>, Fault>
+        ensures advice { HasCleanDisk (state S.Store self.new.conn) → (W : Partner) (L : List register.Entry)
+            → StandsWhileOpen (state S.Store self.old.conn) W L
+            → IfOk result (λ advice. advice ≡ advice_at shipment.now (page_of (register.own L who)).advices) }
+        ensures asked { Asked S.Store self.old self.new result }
+    {
+        let Some(bare) = self.bare_advice(alloc, who, shipment)? else {
+            return Ok(None);
+        };
+        match self.advice_lines(alloc, who, shipment) {
+            Ok(lines) => with_lines(bare, lines),
+            Err(fault) => Err(fault),
+        }
+    }
+}

@@ -1,0 +1,215 @@
+ghost use Rattle.std.specs.Prelude.{◌≡◌, ◌⊎◌, ◌<◌, ◌^◌, ◌++◌, ◌∷◌, [], List, false, IsTrue, IfErr, IfOk, OnOk, OnErr, None, Some, ◌≢◌};
+ghost use Rattle.profile.specs.Accepted.{IsLegal};
+ghost use Rattle.profile.specs.Header.{Who as Partner};
+ghost use Rattle.profile.specs.Register as register;
+ghost use Rattle.sqlite.specs.State.{HasCleanDisk, IsLive, Survives};
+ghost use Rattle.sqlite.specs.Held.{state};
+ghost use Rattle.sqlite.specs.Given.{IsPlain};
+ghost use Rattle.sqlite.specs.Listing.{understood};
+ghost use Rattle.sqlite.specs.Values.{bound};
+ghost use Rattle.book_tables.specs.Asking.{Finds, IsAsked};
+ghost use Rattle.book_tables.specs.Exits.{IsAppended, HasGrown, Extends, IsAsBefore, LeavesIt};
+ghost use Rattle.book_tables.specs.Limits.{NoMore};
+ghost use Rattle.book_tables.specs.Layout.{Others, beside, no_layout};
+ghost use Rattle.book_tables.specs.Making.{Makes};
+ghost use Rattle.book_tables.specs.Rises.{Rises};
+ghost use Rattle.book_tables.specs.Standing.{StandsIn};
+
+use crate::appending::write_entry;
+use crate::calls::Calls;
+use crate::making::make_all;
+use rules::{Change, Entry, Warehouse};
+use sqlite::types::ValueRef;
+use sqlite::{Alter, Connection, Row};
+use sqlite_schema::schema::Schema;
+use std::marker::Model;
+use store::Fault;
+
+/// A connection to the tables of a book, with the count of its calls that were refused.
+#[derive(Drop)]
+pub struct Tables<S: Alter + Drop> {
+    conn: Connection<S>,
+    calls: Calls,
+}
+
+impl<S: Alter + Drop> Model for Tables<S> {
+    ghost use Rattle.std.specs.Prelude.{◌≡◌, false};
+    ghost use Rattle.book_tables.specs.Kept.{Kept, kept_code};
+
+    ghost Value = { Kept S };
+
+    ghost coded = { kept_code S.code };
+
+    ghost view = { λ t. record { conn = t.conn; refused = t.calls.refused; limit = t.calls.limit } };
+
+    ghost invariant = { λ t. t.conn.in_transaction ≡ false };
+}
+
+impl<S: Alter + Drop> Tables<S> {
+    /// The tables of a connection that is in no transaction. No call is refused yet, and any number may be made.
+    pub fn new(conn: Connection<S>) -> Tables<S>
+        requires { conn.in_transaction ≡ false }
+        ensures conn { result.conn ≡ conn }
+        ensures refused { result.refused ≡ 0 }
+        ensures limit { result.limit ≡ None }
+    {
+        Tables {
+            conn,
+            calls: Calls::new(),
+        }
+    }
+
+    /// How many calls the store refused. At its greatest number the count stays.
+    pub fn refused(&self) -> u64
+        ensures { result ≡ self.now.refused }
+    {
+        self.calls.refused
+    }
+
+    /// After that many more calls each, but the giving up of a transaction, is refused unmade and counted; None lifts that.
+    pub fn limit_calls(&mut self, limit: Option<u64>)
+        ensures conn { self.new.conn ≡ self.old.conn }
+        ensures refused { self.new.refused ≡ self.old.refused }
+        ensures limit { self.new.limit ≡ limit }
+    {
+        self.calls.limit = limit;
+    }
+
+    /// The connection.
+    pub fn into_inner(self) -> Connection<S>
+        ensures { result ≡ self.conn }
+    {
+        let Tables { conn, calls: _ } = self;
+        conn
+    }
+
+    /// What tables the store has.
+    pub(crate) fn schema(&self) -> &Schema
+        ensures { result.now ≡ (state S.Store self.now.conn).now.schema }
+    {
+        self.conn.schema()
+    }
+
+    /// Runs nothing. The connection is in no transaction, so what it shows is what was committed last; and that obeys its schema.
+    pub fn settle(&self)
+        ensures rest { IsTrue (state S.Store self.now.conn).is_open
+            → (state S.Store self.now.conn).now ≡ (state S.Store self.now.conn).committed }
+        ensures live { IsLive (state S.Store self.now.conn) }
+    {
+        let settled = self.conn.is_autocommit();
+        prove!(settled);
+        let _live = self.conn.schema();
+    }
+
+    /// The numbers of entries are used up: the call that would have taken one is refused.
+    pub fn use_up(&mut self) -> Fault
+        ensures told { result ≡ Fault.Store }
+        ensures conn { self.new.conn ≡ self.old.conn }
+        ensures limit { self.new.limit ≡ self.old.limit }
+        ensures counted { Rises self.old.refused self.new.refused }
+    {
+        self.calls.refuse()
+    }
+
+    /// The rows that a text answers which only reads the book's tables. A refused call is 40 or 41, and counts.
+    #[tactic(auto, using(crate::proofs::Limited::no_more_trans, crate::proofs::Limited::no_more_same))]
+    pub(crate) fn ask(&mut self, sql: &str, params: &[ValueRef<'_>]) -> Result<Vec<Row>, Fault>
+        requires { (others : Others) → IsPlain (understood (beside others) sql.now) }
+        ensures finds { HasCleanDisk (state S.Store self.new.conn)
+            → IfOk result (λ rows. IsTrue (state S.Store self.old.conn).is_open
+            × Finds sql.now (bound params.now)
+            (state S.Store self.old.conn).now rows.items) }
+        ensures live { IsLive (state S.Store self.old.conn) }
+        ensures asked { IsAsked (state S.Store self.old.conn) (state S.Store self.new.conn) }
+        ensures named { IfErr result (λ f. (f ≡ Fault.OutOfMemory) ⊎ (f ≡ Fault.Store)) }
+        ensures counted { OnErr result (Rises self.old.refused self.new.refused) }
+        ensures uncounted { OnOk result (self.new.refused ≡ self.old.refused) }
+        ensures limit { NoMore self.old.limit self.new.limit }
+        ensures allowed { OnOk result (self.old.limit ≢ Some 0) }
+    {
+        // For the prover alone: in no transaction, what is there is the last commit; and while the store is open, it is a database.
+        let settled = self.conn.is_autocommit();
+        prove!(settled);
+        let _live = self.conn.schema();
+        self.calls.allow()?;
+        let statement = match self.conn.prepare(sql) {
+            Ok(statement) => statement,
+            Err(error) => return Err(self.calls.told(error)),
+        };
+        self.calls.allow()?;
+        match statement.query_all(&mut self.conn, params) {
+            Ok(rows) => Ok(rows),
+            Err(error) => Err(self.calls.told(error)),
+        }
+    }
+
+    /// Appends an entry under the next number, with what its command changes and what goes out for it, in one transaction.
+    #[tactic(auto, using(crate::proofs::Limited::no_more_trans, crate::proofs::Limited::no_more_same))]
+    pub fn append<'a>(
+        &mut self,
+        seq: u64,
+        who: &'a [u8],
+        entry: &'a Entry,
+        changes: &'a [Change],
+        outgoing: &'a [u8],
+    ) -> Result<(), Fault>
+        requires { seq < 2 ^ 63 }
+        ensures ok { HasCleanDisk (state S.Store self.new.conn)
+            → OnOk result ((W : Partner) (L : List register.Entry) (e : register.Entry)
+            → IsAppended (state S.Store self.old.conn) W L e seq who.now entry.now changes.now outgoing.now
+            → HasGrown (state S.Store self.new.conn) W (L ++ e ∷ [])) }
+        ensures left { HasCleanDisk (state S.Store self.new.conn)
+            → OnOk result (LeavesIt (state S.Store self.new.conn)) }
+        ensures err { HasCleanDisk (state S.Store self.new.conn)
+            → OnErr result (IsAsBefore (state S.Store self.old.conn) (state S.Store self.new.conn)) }
+        ensures crash { Survives (state S.Store self.old.conn) (state S.Store self.new.conn) (Extends
+            (state S.Store self.old.conn) seq who.now entry.now changes.now outgoing.now) }
+        ensures named { IfErr result (λ f. (f ≡ Fault.OutOfMemory) ⊎ (f ≡ Fault.Store)) }
+        ensures counted { OnErr result (Rises self.old.refused self.new.refused) }
+        ensures uncounted { OnOk result (self.new.refused ≡ self.old.refused) }
+        ensures limit { NoMore self.old.limit self.new.limit }
+        ensures allowed { OnOk result (self.old.limit ≢ Some 0) }
+    {
+        // For the prover alone, as in `ask`.
+        let settled = self.conn.is_autocommit();
+        prove!(settled);
+        let _schema = self.conn.schema();
+        let mut tx = self.conn.transaction();
+        write_entry(&mut tx, &mut self.calls, seq, who, entry, changes, outgoing)?;
+        self.calls.allow()?;
+        match tx.commit() {
+            Ok(()) => Ok(()),
+            Err(error) => Err(self.calls.told(error)),
+        }
+    }
+
+    /// Makes the tables of an empty register of the warehouse, in one transaction.
+    #[tactic(auto, using(crate::proofs::Limited::no_more_trans, crate::proofs::Limited::no_more_same))]
+    pub fn make(&mut self, warehouse: &Warehouse) -> Result<(), Fault>
+        ensures ok { HasCleanDisk (state S.Store self.new.conn)
+            → OnOk result (Makes (state S.Store self.old.conn) (state S.Store self.new.conn) warehouse.now) }
+        ensures left { HasCleanDisk (state S.Store self.new.conn)
+            → OnOk result (LeavesIt (state S.Store self.new.conn)) }
+        ensures err { HasCleanDisk (state S.Store self.new.conn)
+            → OnErr result (IsAsBefore (state S.Store self.old.conn) (state S.Store self.new.conn)) }
+        ensures crash { Survives (state S.Store self.old.conn) (state S.Store self.new.conn)
+            (λ db. IsLegal warehouse.now [] → (state S.Store self.old.conn).now.schema ≡ no_layout
+            → StandsIn warehouse.now [] db) }
+        ensures named { IfErr result (λ f. (f ≡ Fault.OutOfMemory) ⊎ (f ≡ Fault.Store)) }
+        ensures counted { OnErr result (Rises self.old.refused self.new.refused) }
+        ensures uncounted { OnOk result (self.new.refused ≡ self.old.refused) }
+        ensures limit { NoMore self.old.limit self.new.limit }
+        ensures allowed { OnOk result (self.old.limit ≢ Some 0) }
+    {
+        // For the prover alone, as in `ask`.
+        let settled = self.conn.is_autocommit();
+        prove!(settled);
+        let mut tx = self.conn.transaction();
+        make_all(&mut tx, &mut self.calls, warehouse)?;
+        self.calls.allow()?;
+        match tx.commit() {
+            Ok(()) => Ok(()),
+            Err(error) => Err(self.calls.told(error)),
+        }
+    }
+}

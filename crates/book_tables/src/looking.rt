@@ -1,0 +1,93 @@
+ghost use Rattle.std.specs.Prelude.{◌≡◌, ◌∷◌, [], pos, IfOk, OnOk, IsTrue};
+ghost use Rattle.profile.specs.Header.{who_text};
+ghost use Rattle.sqlite.specs.declared.types.Value.TheVariants as value;
+ghost use Rattle.sqlite.specs.Given.{IsPlain};
+ghost use Rattle.sqlite.specs.Held.{state};
+ghost use Rattle.sqlite.specs.Listing.{understood};
+ghost use Rattle.sqlite.specs.State.{HasCleanDisk, IsLive};
+ghost use Rattle.sqlite.specs.Values.{bound};
+ghost use Rattle.book_tables.specs.Asking.{Asked, Finds};
+ghost use Rattle.book_tables.specs.Layout.{Others, beside};
+
+use crate::connected::Tables;
+use crate::texts::partner_text;
+use rules::Who;
+use sqlite::types::ValueRef;
+use sqlite::{Alter, Row};
+use std::alloc::Global;
+use store::Fault;
+
+// A depositor's text, and another.
+fn text_params<'a>(who: &'a [u8], key: &'a [u8]) -> [ValueRef<'a>; 2]
+    ensures { bound result ≡ value.Text who.now ∷ value.Text key.now ∷ [] }
+{
+    [ValueRef::Text(who), ValueRef::Text(key)]
+}
+
+// A depositor's text, and a number.
+fn number_params<'a>(who: &'a [u8], n: u32) -> [ValueRef<'a>; 2]
+    ensures { bound result ≡ value.Text who.now ∷ value.Int (pos n) ∷ [] }
+{
+    [ValueRef::Text(who), ValueRef::Int(i64::from(n))]
+}
+
+impl<S: Alter + Drop> Tables<S> {
+    /// The rows that a text answers which reads the book's tables, where its parameter is a depositor.
+    pub(crate) fn of_depositor(
+        &mut self,
+        alloc: Global,
+        sql: &str,
+        who: Who,
+    ) -> Result<Vec<Row>, Fault>
+        requires { (others : Others) → IsPlain (understood (beside others) sql.now) }
+        ensures finds { HasCleanDisk (state S.Store self.new.conn)
+            → IfOk result (λ rows. IsTrue (state S.Store self.old.conn).is_open
+            × Finds sql.now (value.Text (who_text who)
+            ∷ []) (state S.Store self.old.conn).now rows.items) }
+        ensures live { OnOk result (IsLive (state S.Store self.old.conn)) }
+        ensures asked { Asked S.Store self.old self.new result }
+    {
+        let text = partner_text(alloc, &who)?;
+        self.ask(sql, &[ValueRef::Text(&text)])
+    }
+
+    /// The same where the parameters are a depositor and a text.
+    pub(crate) fn under_text(
+        &mut self,
+        alloc: Global,
+        sql: &str,
+        who: Who,
+        key: &[u8],
+    ) -> Result<Vec<Row>, Fault>
+        requires { (others : Others) → IsPlain (understood (beside others) sql.now) }
+        ensures finds { HasCleanDisk (state S.Store self.new.conn)
+            → IfOk result (λ rows. IsTrue (state S.Store self.old.conn).is_open
+            × Finds sql.now (value.Text (who_text who)
+            ∷ value.Text key.now ∷ []) (state S.Store self.old.conn).now rows.items) }
+        ensures live { OnOk result (IsLive (state S.Store self.old.conn)) }
+        ensures asked { Asked S.Store self.old self.new result }
+    {
+        let text = partner_text(alloc, &who)?;
+        self.ask(sql, &text_params(&text, key))
+    }
+
+    /// The same where the parameters are a depositor and a number.
+    pub(crate) fn under_number(
+        &mut self,
+        alloc: Global,
+        sql: &str,
+        who: Who,
+        n: u32,
+    ) -> Result<Vec<Row>, Fault>
+        requires { (others : Others) → IsPlain (understood (beside others) sql.now) }
+        ensures finds { HasCleanDisk (state S.Store self.new.conn)
+            → IfOk result (λ rows. IsTrue (state S.Store self.old.conn).is_open
+            × Finds sql.now (value.Text (who_text who)
+            ∷ value.Int (pos n) ∷ []) (state S.Store self.old.conn).now rows.items) }
+        ensures live { OnOk result (IsLive (state S.Store self.old.conn)) }
+        ensures asked { Asked S.Store self.old self.new result }
+    {
+        let text = partner_text(alloc, &who)?;
+        self.ask(sql, &number_params(&text, n))
+    }
+}

@@ -1,0 +1,97 @@
+ghost use Rattle.std.specs.Prelude.{◌≡◌, ◌<◌, ◌^◌, List, Some, IfOk, bytes_eq, filter, map, option_map, true};
+ghost use Rattle.std.specs.List.{list_all};
+ghost use Rattle.profile.specs.Header.{Who as Partner};
+ghost use Rattle.profile.specs.Page.{page_of};
+ghost use Rattle.profile.specs.Register as register;
+ghost use Rattle.profile.specs.Rows.{LotRow};
+ghost use Rattle.sqlite.specs.Held.{state};
+ghost use Rattle.sqlite.specs.State.{HasCleanDisk};
+ghost use Rattle.rules.specs.Fitting.{is_fitting_row};
+ghost use Rattle.book_tables.specs.Asking.{Asked};
+ghost use Rattle.book_tables.specs.Exits.{StandsWhileOpen};
+ghost use Rattle.book_tables.specs.Showing.{lot_shown};
+
+use crate::connected::Tables;
+use crate::reading::{number_at, small_at, text_at};
+use rules::{Row, Who};
+use sqlite::{Alter, Row as Shown};
+use std::alloc::{AllocError, Global};
+use store::Fault;
+
+// The lot that a row of item, lot, since and the four amounts shows; None where it shows none.
+fn lot_in(alloc: Global, row: &Shown) -> Result<Option<Row>, AllocError>
+    ensures { (r : LotRow) → r.since < 2 ^ 32 → row.now ≡ lot_shown r → IfOk result (λ shown. shown ≡ Some r) }
+{
+    let Some(item) = text_at(row, 0) else {
+        return Ok(None);
+    };
+    let Some(lot) = text_at(row, 1) else {
+        return Ok(None);
+    };
+    let Some(since) = small_at(row, 2) else {
+        return Ok(None);
+    };
+    let Some(expected) = number_at(row, 3) else {
+        return Ok(None);
+    };
+    let Some(on_hand) = number_at(row, 4) else {
+        return Ok(None);
+    };
+    let Some(reserved) = number_at(row, 5) else {
+        return Ok(None);
+    };
+    let Some(shipped) = number_at(row, 6) else {
+        return Ok(None);
+    };
+    Ok(Some(Row {
+        item: Vec::from_slice(alloc, item)?,
+        lot: Vec::from_slice(alloc, lot)?,
+        since,
+        expected,
+        on_hand,
+        reserved,
+        shipped,
+    }))
+}
+
+// The lots that rows show; None where one of them shows none.
+fn lots_in(alloc: Global, rows: &[Shown]) -> Result<Option<Vec<Row>>, AllocError>
+    ensures { (rs : List LotRow) → list_all is_fitting_row rs ≡ true → rows.now ≡ map lot_shown rs
+        → IfOk result (λ shown. option_map (λ v. v.items) shown ≡ Some rs) }
+{
+    let mut shown = Vec::new(alloc);
+    for row in rows {
+        let Some(lot) = lot_in(alloc, row)? else {
+            return Ok(None);
+        };
+        shown.push(lot)?;
+    }
+    Ok(Some(shown))
+}
+
+impl<S: Alter + Drop> Tables<S> {
+    /// What a depositor has of an item, by lot; nothing of a stranger. 43 where a row shows no lot.
+    pub(crate) fn lots_of(
+        &mut self,
+        alloc: Global,
+        who: Who,
+        item: &[u8],
+    ) -> Result<Vec<Row>, Fault>
+        ensures lots { HasCleanDisk (state S.Store self.new.conn) → (W : Partner) (L : List register.Entry)
+            → StandsWhileOpen (state S.Store self.old.conn) W L
+            → IfOk result (λ lots. lots.items ≡ filter
+            (λ r. bytes_eq r.item item.now) (page_of (register.own L who)).rows) }
+        ensures asked { Asked S.Store self.old self.new result }
+    {
+        let rows = self.under_text(
+            alloc,
+            "SELECT item, lot, since, expected, on_hand, reserved, shipped FROM stock WHERE who = ?1 AND item = ?2 ORDER BY item, lot",
+            who,
+            item,
+        )?;
+        match lots_in(alloc, &rows)? {
+            Some(lots) => Ok(lots),
+            None => Err(Fault::NotThisBook),
+        }
+    }
+}

@@ -1,0 +1,241 @@
+ghost use Rattle.std.specs.Prelude.{◌≡◌, ◌<◌, ◌^◌, List, Some, IfOk, map, option_map, true};
+ghost use Rattle.std.specs.List.{list_all};
+ghost use Rattle.profile.specs.Header.{Who as Partner};
+ghost use Rattle.profile.specs.Page.{PageLine, PageOrder, page_of};
+ghost use Rattle.profile.specs.Register as register;
+ghost use Rattle.sqlite.specs.Held.{state};
+ghost use Rattle.sqlite.specs.State.{HasCleanDisk};
+ghost use Rattle.stock.specs.Pages.{order_at};
+ghost use Rattle.rules.specs.Fitting.{is_fitting_ordered};
+ghost use Rattle.book_tables.specs.Asking.{Asked};
+ghost use Rattle.book_tables.specs.Exits.{StandsWhileOpen};
+ghost use Rattle.book_tables.specs.Looking.{bare_order, lines_ordered, lines_reserved};
+ghost use Rattle.book_tables.specs.Showing.{order_shown, order_line_shown};
+
+use crate::connected::Tables;
+use crate::goods::lines_in;
+use crate::reading::{number_at, small_at, text_at};
+use rules::Who;
+use sets_in::{Address, Goods};
+use sqlite::{Alter, Row};
+use std::alloc::{AllocError, Global};
+use stock::{KnownLine, KnownOrder};
+use store::Fault;
+
+// The address in the last four columns of a row of an order: none where the name is NULL, or another than a text.
+fn address_in(alloc: Global, row: &Row) -> Result<Option<Option<Address>>, AllocError>
+    ensures { (o : PageOrder) → row.now ≡ order_shown o → IfOk result (λ shown. shown ≡ Some o.address) }
+{
+    let Some(name) = text_at(row, 2) else {
+        return Ok(Some(None));
+    };
+    let Some(one) = text_at(row, 3) else {
+        return Ok(None);
+    };
+    let Some(two) = text_at(row, 4) else {
+        return Ok(None);
+    };
+    let Some(place) = text_at(row, 5) else {
+        return Ok(None);
+    };
+    Ok(Some(Some(Address {
+        name: Vec::from_slice(alloc, name)?,
+        one: Vec::from_slice(alloc, one)?,
+        two: Vec::from_slice(alloc, two)?,
+        place: Vec::from_slice(alloc, place)?,
+    })))
+}
+
+// The order that a row of ord, is_open and the address shows, but for its lines and what is reserved; None where it shows none.
+fn order_in(alloc: Global, row: &Row) -> Result<Option<KnownOrder>, AllocError>
+    ensures { (o : PageOrder) → row.now ≡ order_shown o → IfOk result (λ shown. shown ≡ Some (bare_order o)) }
+{
+    let Some(number) = text_at(row, 0) else {
+        return Ok(None);
+    };
+    let Some(flag) = number_at(row, 1) else {
+        return Ok(None);
+    };
+    let Some(address) = address_in(alloc, row)? else {
+        return Ok(None);
+    };
+    Ok(Some(KnownOrder {
+        number: Vec::from_slice(alloc, number)?,
+        address,
+        lines: Vec::new(alloc),
+        reserved: Vec::new(alloc),
+        is_open: flag == 1,
+    }))
+}
+
+// The lot that a line's row pins it to: none where it is another value than a text.
+fn pin_in(alloc: Global, row: &Row) -> Result<Option<Vec<u8>>, AllocError>
+    ensures { (l : PageLine) → row.now ≡ order_line_shown l
+        → IfOk result (λ pin. option_map (λ v. v.items) pin ≡ l.pin) }
+{
+    match text_at(row, 1) {
+        Some(lot) => Ok(Some(Vec::from_slice(alloc, lot)?)),
+        None => Ok(None),
+    }
+}
+
+// The line that a row of item, lot and quantity shows; None where it shows none.
+fn order_line_in(alloc: Global, row: &Row) -> Result<Option<KnownLine>, AllocError>
+    ensures { (l : PageLine) → l.quantity < 2 ^ 32 → row.now ≡ order_line_shown l
+        → IfOk result (λ shown. shown ≡ Some l) }
+{
+    let Some(item) = text_at(row, 0) else {
+        return Ok(None);
+    };
+    let Some(quantity) = small_at(row, 2) else {
+        return Ok(None);
+    };
+    let pin = pin_in(alloc, row)?;
+    Ok(Some(KnownLine {
+        item: Vec::from_slice(alloc, item)?,
+        pin,
+        quantity,
+    }))
+}
+
+// The lines that rows of item, lot and quantity show; None where one of them shows none.
+fn order_lines_in(alloc: Global, rows: &[Row]) -> Result<Option<Vec<KnownLine>>, AllocError>
+    ensures { (ls : List PageLine) → list_all is_fitting_ordered ls ≡ true → rows.now ≡ map order_line_shown ls
+        → IfOk result (λ shown. option_map (λ v. v.items) shown ≡ Some ls) }
+{
+    let mut shown = Vec::new(alloc);
+    for row in rows {
+        let Some(line) = order_line_in(alloc, row)? else {
+            return Ok(None);
+        };
+        shown.push(line)?;
+    }
+    Ok(Some(shown))
+}
+
+impl<S: Alter + Drop> Tables<S> {
+    // A depositor's order under a number, but for its lines and what is reserved for it; None where there is none. 43 where its
+    // row shows none.
+    fn bare_order(
+        &mut self,
+        alloc: Global,
+        who: Who,
+        number: &[u8],
+    ) -> Result<Option<KnownOrder>, Fault>
+        ensures order { HasCleanDisk (state S.Store self.new.conn) → (W : Partner) (L : List register.Entry)
+            → StandsWhileOpen (state S.Store self.old.conn) W L
+            → IfOk result (λ order. order ≡ option_map bare_order (order_at number.now (page_of
+            (register.own L who)).orders)) }
+        ensures asked { Asked S.Store self.old self.new result }
+    {
+        let rows = self.under_text(
+            alloc,
+            "SELECT ord, is_open, to_name, to_one, to_two, to_place FROM orders WHERE who = ?1 AND ord = ?2",
+            who,
+            number,
+        )?;
+        let Some(row) = rows.first() else {
+            return Ok(None);
+        };
+        match order_in(alloc, row)? {
+            Some(order) => Ok(Some(order)),
+            None => Err(Fault::NotThisBook),
+        }
+    }
+
+    // The lines of a depositor's order under a number; nothing where there is none. 43 where a row shows no line.
+    fn order_lines(
+        &mut self,
+        alloc: Global,
+        who: Who,
+        number: &[u8],
+    ) -> Result<Vec<KnownLine>, Fault>
+        ensures lines { HasCleanDisk (state S.Store self.new.conn) → (W : Partner) (L : List register.Entry)
+            → StandsWhileOpen (state S.Store self.old.conn) W L
+            → IfOk result (λ lines. lines.items ≡ lines_ordered (order_at number.now (page_of (register.own
+            L who)).orders)) }
+        ensures asked { Asked S.Store self.old self.new result }
+    {
+        let rows = self.under_text(
+            alloc,
+            "SELECT item, lot, quantity FROM order_line WHERE who = ?1 AND ord = ?2 ORDER BY line",
+            who,
+            number,
+        )?;
+        match order_lines_in(alloc, &rows)? {
+            Some(lines) => Ok(lines),
+            None => Err(Fault::NotThisBook),
+        }
+    }
+
+    // What is reserved for a depositor's order under a number; nothing where there is none. 43 where a row shows no line.
+    fn reserved_lines(
+        &mut self,
+        alloc: Global,
+        who: Who,
+        number: &[u8],
+    ) -> Result<Vec<Goods>, Fault>
+        ensures lines { HasCleanDisk (state S.Store self.new.conn) → (W : Partner) (L : List register.Entry)
+            → StandsWhileOpen (state S.Store self.old.conn) W L
+            → IfOk result (λ lines. lines.items ≡ lines_reserved (order_at number.now (page_of (register.own
+            L who)).orders)) }
+        ensures asked { Asked S.Store self.old self.new result }
+    {
+        let rows = self.under_text(
+            alloc,
+            "SELECT item, lot, quantity FROM reservation WHERE who = ?1 AND ord = ?2 ORDER BY item, lot",
+            who,
+            number,
+        )?;
+        match lines_in(alloc, &rows)? {
+            Some(lines) => Ok(lines),
+            None => Err(Fault::NotThisBook),
+        }
+    }
+
+    // What belongs to a depositor's order under a number: its lines, and what is reserved for it.
+    fn order_parts(
+        &mut self,
+        alloc: Global,
+        who: Who,
+        number: &[u8],
+    ) -> Result<(Vec<KnownLine>, Vec<Goods>), Fault>
+        ensures parts { HasCleanDisk (state S.Store self.new.conn) → (W : Partner) (L : List register.Entry)
+            → StandsWhileOpen (state S.Store self.old.conn) W L
+            → IfOk result (λ parts. (parts.0.items ≡ lines_ordered (order_at number.now (page_of
+            (register.own L who)).orders))
+            × (parts.1.items ≡ lines_reserved (order_at number.now (page_of (register.own L who)).orders))) }
+        ensures asked { Asked S.Store self.old self.new result }
+    {
+        let lines = self.order_lines(alloc, who, number)?;
+        match self.reserved_lines(alloc, who, number) {
+            Ok(reserved) => Ok((lines, reserved)),
+            Err(fault) => Err(fault),
+        }
+    }
+
+    /// A depositor's order under a number; None where there is none. 43 where a row shows none.
+    pub(crate) fn order_under(
+        &mut self,
+        alloc: Global,
+        who: Who,
+        number: &[u8],
+    ) -> Result<Option<KnownOrder>, Fault>
+        ensures order { HasCleanDisk (state S.Store self.new.conn) → (W : Partner) (L : List register.Entry)
+            → StandsWhileOpen (state S.Store self.old.conn) W L
+            → IfOk result (λ order. order ≡ order_at number.now (page_of (register.own L who)).orders) }
+        ensures asked { Asked S.Store self.old self.new result }
+    {
+        let Some(mut order) = self.bare_order(alloc, who, number)? else {
+            return Ok(None);
+        };
+        match self.order_parts(alloc, who, number) {
+            Ok((lines, reserved)) => {
+                order.lines = lines;
+                order.reserved = reserved;
+                Ok(Some(order))
+            }
+            Err(fault) => Err(fault),
+        }
+    }
+}

@@ -1,0 +1,193 @@
+ghost use Rattle.std.specs.Prelude.{◌≡◌, ◌∷◌, [], ℕ, List, Some, true, false, MatchOption, IfOk, map, option_map, All, pos, length, ◌≤◌, ◌<◌, ◌^◌};
+ghost use Rattle.profile.specs.Header.{Who as Partner};
+ghost use Rattle.profile.specs.Bytes as bytes;
+ghost use Rattle.profile.specs.Moments.{Moment as Parts, is_moment};
+ghost use Rattle.profile.specs.Readings as written;
+ghost use Rattle.rules.specs.Written.{Written};
+ghost use Rattle.sqlite.specs.Order.{column};
+ghost use Rattle.sqlite.specs.declared.types.Value.TheVariants.{Int, Text, Blob};
+ghost use Rattle.sqlite_value.specs.Value.{owned};
+ghost use Rattle.book_tables.specs.Recorded.{entry_shown, IsRecorded, IsHouse};
+
+use crate::texts::moment_text;
+use rules::{Entry, Moment, Warehouse, Who};
+use sqlite::Row;
+use sqlite::types::ValueRef;
+use std::alloc::{AllocError, Global};
+
+// The text that a value is.
+fn text_in(value: ValueRef<'_>) -> Option<&[u8]>
+    ensures { MatchOption result ((text : List ℕ) → owned value.entry ≡ Text text
+        → ⊥) (λ text. owned value.entry ≡ Text text.now) }
+{
+    match value {
+        ValueRef::Text(text) => Some(text),
+        _ => None,
+    }
+}
+
+// The blob that a value is.
+fn blob_in(value: ValueRef<'_>) -> Option<&[u8]>
+    ensures { MatchOption result ((blob : List ℕ) → owned value.entry ≡ Blob blob
+        → ⊥) (λ blob. owned value.entry ≡ Blob blob.now) }
+{
+    match value {
+        ValueRef::Blob(blob) => Some(blob),
+        _ => None,
+    }
+}
+
+// The number that a value is.
+fn number_in(value: ValueRef<'_>) -> Option<u64>
+    ensures { MatchOption result ((n : ℕ) → owned value.entry ≡ Int (pos n)
+        → ⊥) (λ n. owned value.entry ≡ Int (pos n)) }
+{
+    match value {
+        ValueRef::Int(n) => u64::try_from(n).ok(),
+        _ => None,
+    }
+}
+
+/// The text in a column.
+pub(crate) fn text_at(row: &Row, at: usize) -> Option<&[u8]>
+    ensures { MatchOption result ((text : List ℕ) → column row.now at ≡ Text text
+        → ⊥) (λ text. column row.now at ≡ Text text.now) }
+{
+    match row.get_ref(at) {
+        Ok(value) => text_in(value),
+        Err(_) => None,
+    }
+}
+
+/// The blob in a column.
+pub(crate) fn blob_at(row: &Row, at: usize) -> Option<&[u8]>
+    ensures { MatchOption result ((blob : List ℕ) → column row.now at ≡ Blob blob
+        → ⊥) (λ blob. column row.now at ≡ Blob blob.now) }
+{
+    match row.get_ref(at) {
+        Ok(value) => blob_in(value),
+        Err(_) => None,
+    }
+}
+
+/// The number in a column; None where it is below 0 too.
+pub(crate) fn number_at(row: &Row, at: usize) -> Option<u64>
+    ensures { MatchOption result ((n : ℕ) → column row.now at ≡ Int (pos n)
+        → ⊥) (λ n. column row.now at ≡ Int (pos n)) }
+{
+    match row.get_ref(at) {
+        Ok(value) => number_in(value),
+        Err(_) => None,
+    }
+}
+
+/// The number in a column, of at most 32 bits; None where it is another.
+pub(crate) fn small_at(row: &Row, at: usize) -> Option<u32>
+    ensures { MatchOption result ((n : ℕ) → n < 2 ^ 32 → column row.now at ≡ Int (pos n)
+        → ⊥) (λ n. column row.now at ≡ Int (pos n)) }
+{
+    match number_at(row, at) {
+        Some(n) => u32::try_from(n).ok(),
+        None => None,
+    }
+}
+
+// The value of at most four bytes as digits.
+fn value(text: &[u8]) -> u64
+    requires { length text.now ≤ 4 }
+    ensures { result ≡ bytes.value text.now }
+{
+    let mut value: u64 = 0;
+    for b in text {
+        value = value * 10 + u64::from(b.saturating_sub(b'0'));
+    }
+    value
+}
+
+// The moment with these parts, if there is one.
+fn moment_by(year: u64, month: u64, day: u64, hour: u64, minute: u64) -> Option<Moment>
+    ensures { let m : Parts = record { year = year; month = month; day = day; hour = hour; minute = minute } in
+        MatchOption result (is_moment m ≡ false) (λ r. (is_moment m ≡ true) × (r ≡ m)) }
+{
+    Moment::new(
+        u16::try_from(year).ok()?,
+        u8::try_from(month).ok()?,
+        u8::try_from(day).ok()?,
+        u8::try_from(hour).ok()?,
+        u8::try_from(minute).ok()?,
+    )
+}
+
+/// The moment that a text writes as CCYYMMDDHHMM; None where it is another text.
+pub(crate) fn moment_of(text: &[u8]) -> Option<Moment>
+    ensures { result ≡ written.moment_of text.now }
+{
+    if text.len() != 12 {
+        return None;
+    }
+    let moment = moment_by(
+        value(&text[..4]),
+        value(&text[4..6]),
+        value(&text[6..8]),
+        value(&text[8..10]),
+        value(&text[10..12]),
+    )?;
+    if moment_text(moment).as_slice() == text {
+        Some(moment)
+    } else {
+        None
+    }
+}
+
+/// The entry of a depositor that a row of mark, n, moment and body shows; None where it shows none.
+pub(crate) fn entry_in(alloc: Global, who: &Who, row: &Row) -> Result<Option<Entry>, AllocError>
+    ensures { (w : Written) → IsRecorded who.now w → row.now ≡ entry_shown w
+        → IfOk result (λ entry. entry ≡ Some w) }
+{
+    let Some(key) = text_at(row, 0) else {
+        return Ok(None);
+    };
+    let Some(n) = number_at(row, 1) else {
+        return Ok(None);
+    };
+    let Ok(n) = u32::try_from(n) else {
+        return Ok(None);
+    };
+    let Some(stamp) = text_at(row, 2) else {
+        return Ok(None);
+    };
+    let Some(moment) = moment_of(stamp) else {
+        return Ok(None);
+    };
+    let Some(body) = blob_at(row, 3) else {
+        return Ok(None);
+    };
+    Ok(Some(Entry {
+        who: *who,
+        key: Vec::from_slice(alloc, key)?,
+        n,
+        moment,
+        body: Vec::from_slice(alloc, body)?,
+    }))
+}
+
+// The warehouse that a row of version, qualifier and id names.
+fn house_in(row: &Row) -> Option<Warehouse>
+    ensures { MatchOption result ((W : Partner) → IsHouse (row.now ∷ []) W → ⊥) (IsHouse (row.now ∷ [])) }
+{
+    if number_at(row, 0)? != 1 {
+        return None;
+    }
+    let who = Who::of(text_at(row, 1)?, text_at(row, 2)?)?;
+    Some(Warehouse::new(who))
+}
+
+/// The warehouse that the rows of `book` name; None where there isn't one row, or it has another version than 1, or no partner.
+pub(crate) fn house_of(rows: &[Row]) -> Option<Warehouse>
+    ensures { MatchOption result ((W : Partner) → IsHouse rows.now W → ⊥) (IsHouse rows.now) }
+{
+    match rows {
+        [row] => house_in(row),
+        _ => None,
+    }
+}

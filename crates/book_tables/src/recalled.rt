@@ -1,0 +1,95 @@
+ghost use Rattle.std.specs.Prelude.{◌≡◌, ◌++◌, ◌∷◌, ℕ, List, Some, IfOk, find, option_map, if◌then◌else◌};
+ghost use Rattle.profile.specs.Decision.{recalled};
+ghost use Rattle.profile.specs.Header.{Who as Partner};
+ghost use Rattle.profile.specs.Register as register;
+ghost use Rattle.profile.specs.Reply.{out};
+ghost use Rattle.rules.specs.Decided.{IsRecalled};
+ghost use Rattle.sqlite.specs.Held.{state};
+ghost use Rattle.sqlite.specs.State.{HasCleanDisk};
+ghost use Rattle.store.specs.Replayed.{all_written, is_under};
+ghost use Rattle.book_tables.specs.Asking.{Asked};
+ghost use Rattle.book_tables.specs.Contents.{IsContent};
+ghost use Rattle.book_tables.specs.Exits.{StandsWhileOpen};
+
+use crate::connected::Tables;
+use crate::reading::{blob_at, entry_in};
+use rules::{Entry, Known, Who};
+use sqlite::{Alter, Row};
+use std::alloc::{AllocError, Global};
+use store::Fault;
+
+/// The content that rows show, which is that of the first, and empty where there is none; None where it shows none.
+pub(crate) fn content_in(alloc: Global, rows: &[Row]) -> Result<Option<Vec<u8>>, AllocError>
+    ensures { (content : List ℕ) → IsContent rows.now content
+        → IfOk result (λ shown. option_map (λ v. v.items) shown ≡ Some content) }
+{
+    let Some(row) = rows.first() else {
+        return Ok(Some(Vec::new(alloc)));
+    };
+    match blob_at(row, 0) {
+        Some(blob) => Ok(Some(Vec::from_slice(alloc, blob)?)),
+        None => Ok(None),
+    }
+}
+
+impl<S: Alter + Drop> Tables<S> {
+    /// A depositor's entry under a key, as it is written down. 43 where its row shows none.
+    fn entry_under(&mut self, alloc: Global, who: Who, key: &[u8]) -> Result<Option<Entry>, Fault>
+        ensures entry { HasCleanDisk (state S.Store self.new.conn) → (W : Partner) (L : List register.Entry)
+            → StandsWhileOpen (state S.Store self.old.conn) W L
+            → IfOk result (λ entry. entry ≡ find (is_under who key.now) (all_written L)) }
+        ensures asked { Asked S.Store self.old self.new result }
+    {
+        let rows = self.under_text(
+            alloc,
+            "SELECT mark, n, moment, body FROM entry WHERE who = ?1 AND mark = ?2 ORDER BY seq",
+            who,
+            key,
+        )?;
+        let Some(row) = rows.first() else {
+            return Ok(None);
+        };
+        match entry_in(alloc, &who, row)? {
+            Some(entry) => Ok(Some(entry)),
+            None => Err(Fault::NotThisBook),
+        }
+    }
+
+    /// The text that went out for a depositor's entry under a number. 43 where its row shows none.
+    fn content_under(&mut self, alloc: Global, who: Who, n: u32) -> Result<Vec<u8>, Fault>
+        ensures content { HasCleanDisk (state S.Store self.new.conn) → (W : Partner) (L : List register.Entry)
+            → StandsWhileOpen (state S.Store self.old.conn) W L
+            → (before : List register.Entry) (e : register.Entry) (behind : List register.Entry)
+            → register.own L who ≡ before ++ e ∷ behind
+            → n ≡ (if register.is_numbered e then register.next_number before else 0)
+            → IfOk result (λ content. content.items ≡ out W before e) }
+        ensures asked { Asked S.Store self.old self.new result }
+    {
+        let rows = self.under_number(
+            alloc,
+            "SELECT content FROM outgoing WHERE who = ?1 AND n = ?2",
+            who,
+            n,
+        )?;
+        match content_in(alloc, &rows)? {
+            Some(content) => Ok(content),
+            None => Err(Fault::NotThisBook),
+        }
+    }
+
+    /// A depositor's entry under a key, with the text that went out for it; None where there is none.
+    pub fn known_of(&mut self, alloc: Global, who: Who, key: &[u8]) -> Result<Option<Known>, Fault>
+        ensures known { HasCleanDisk (state S.Store self.new.conn) → (W : Partner) (L : List register.Entry)
+            → StandsWhileOpen (state S.Store self.old.conn) W L
+            → IfOk result (λ known. IsRecalled known (recalled W key.now (register.own L who))) }
+        ensures asked { Asked S.Store self.old self.new result }
+    {
+        let Some(entry) = self.entry_under(alloc, who, key)? else {
+            return Ok(None);
+        };
+        match self.content_under(alloc, who, entry.number()) {
+            Ok(outgoing) => Ok(Some(Known { entry, outgoing })),
+            Err(fault) => Err(fault),
+        }
+    }
+}

@@ -1,0 +1,120 @@
+ghost use Rattle.std.specs.Prelude.{◌≡◌, List, Some, MatchOption, IfOk, map, option_map, filter, length, nat_lt};
+ghost use Rattle.profile.specs.Header.{Who as Partner};
+ghost use Rattle.profile.specs.Register as register;
+ghost use Rattle.profile.specs.Rows as meant;
+ghost use Rattle.sqlite.specs.Held.{state};
+ghost use Rattle.sqlite.specs.State.{HasCleanDisk};
+ghost use Rattle.sqlite_rules.specs.Lists.{Has};
+ghost use Rattle.rules.specs.Kinds.{kind_text};
+ghost use Rattle.store.specs.Sent.{state_name};
+ghost use Rattle.book_tables.specs.Asking.{Asked};
+ghost use Rattle.book_tables.specs.Exits.{StandsWhileOpen};
+ghost use Rattle.book_tables.specs.Showing.{out_shown, IsSent};
+
+use crate::connected::Tables;
+use crate::reading::{blob_at, number_at, text_at};
+use rules::Who;
+use sqlite::{Alter, Row};
+use std::alloc::{AllocError, Global};
+use store::{DocumentState, Fault, OutKind, OutRow};
+
+/// The kind with this word.
+pub(crate) fn kind_of(text: &[u8]) -> Option<OutKind>
+    ensures { MatchOption result ((kind : OutKind) → text.now ≡ kind_text kind
+        → ⊥) (λ kind. text.now ≡ kind_text kind) }
+{
+    match text {
+        b"ANS" => Some(OutKind::Answer),
+        b"944" => Some(OutKind::Receipt),
+        b"945" => Some(OutKind::Shipment),
+        b"947" => Some(OutKind::Adjustment),
+        _ => None,
+    }
+}
+
+// The state with this word.
+fn state_of(text: &[u8]) -> Option<DocumentState>
+    ensures { MatchOption result ((said : DocumentState) → text.now ≡ state_name said
+        → ⊥) (λ said. text.now ≡ state_name said) }
+{
+    match text {
+        b"-" => Some(DocumentState::Unasked),
+        b"open" => Some(DocumentState::Open),
+        b"accepted" => Some(DocumentState::Accepted),
+        b"refused" => Some(DocumentState::Refused),
+        _ => None,
+    }
+}
+
+// The text that a row of n, kind, content and state shows; None where it shows none.
+fn out_row_in(alloc: Global, row: &Row) -> Result<Option<OutRow>, AllocError>
+    ensures { (r : meant.OutRow) → IsSent r → row.now ≡ out_shown r → IfOk result (λ shown. shown ≡ Some r) }
+{
+    let Some(n) = number_at(row, 0) else {
+        return Ok(None);
+    };
+    let Ok(n) = u32::try_from(n) else {
+        return Ok(None);
+    };
+    let Some(word) = text_at(row, 1) else {
+        return Ok(None);
+    };
+    let Some(kind) = kind_of(word) else {
+        return Ok(None);
+    };
+    let Some(content) = blob_at(row, 2) else {
+        return Ok(None);
+    };
+    let Some(said) = text_at(row, 3) else {
+        return Ok(None);
+    };
+    let Some(state) = state_of(said) else {
+        return Ok(None);
+    };
+    Ok(Some(OutRow {
+        n,
+        kind,
+        content: Vec::from_slice(alloc, content)?,
+        state,
+    }))
+}
+
+/// The texts that rows of n, kind, content and state show, but for the empty ones; None where one of them shows none.
+pub(crate) fn out_rows_in(alloc: Global, rows: &[Row]) -> Result<Option<Vec<OutRow>>, AllocError>
+    ensures { (rs : List meant.OutRow) → ((r : meant.OutRow) → Has rs r → IsSent r)
+        → rows.now ≡ map out_shown rs
+        → IfOk result (λ shown. option_map (λ v. v.items) shown ≡ Some (filter (λ (r : meant.OutRow). nat_lt 0
+        (length r.content)) rs)) }
+{
+    let mut shown = Vec::new(alloc);
+    for row in rows {
+        let Some(sent) = out_row_in(alloc, row)? else {
+            return Ok(None);
+        };
+        if !sent.content.is_empty() {
+            shown.push(sent)?;
+        }
+    }
+    Ok(Some(shown))
+}
+
+impl<S: Alter + Drop> Tables<S> {
+    /// The texts that went out to a depositor, by number, as the rows of `outgoing` say, but for the empty ones; nothing of a
+    /// stranger. 43 where a row shows no text.
+    pub(crate) fn sent_rows(&mut self, alloc: Global, who: Who) -> Result<Vec<OutRow>, Fault>
+        ensures rows { HasCleanDisk (state S.Store self.new.conn) → (W : Partner) (L : List register.Entry)
+            → StandsWhileOpen (state S.Store self.old.conn) W L
+            → IfOk result (λ rows. rows.items ≡ meant.outbox_rows W (register.own L who)) }
+        ensures asked { Asked S.Store self.old self.new result }
+    {
+        let rows = self.of_depositor(
+            alloc,
+            "SELECT n, kind, content, state FROM outgoing WHERE who = ?1 ORDER BY n",
+            who,
+        )?;
+        match out_rows_in(alloc, &rows)? {
+            Some(shown) => Ok(shown),
+            None => Err(Fault::NotThisBook),
+        }
+    }
+}

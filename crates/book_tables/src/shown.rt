@@ -1,0 +1,72 @@
+ghost use Rattle.std.specs.Prelude.{◌≡◌, List, IfOk, option_map};
+ghost use Rattle.profile.specs.Header.{Who as Partner};
+ghost use Rattle.profile.specs.Register as register;
+ghost use Rattle.profile.specs.Rows as meant;
+ghost use Rattle.store.specs.Sent.{text_of};
+ghost use Rattle.sqlite.specs.Held.{state};
+ghost use Rattle.sqlite.specs.State.{HasCleanDisk};
+ghost use Rattle.book_tables.specs.Asking.{Asked};
+ghost use Rattle.book_tables.specs.Exits.{StandsWhileOpen};
+
+use crate::connected::Tables;
+use rules::Who;
+use sqlite::Alter;
+use std::alloc::Global;
+use store::{Fault, OutRow, StockRow};
+
+impl<S: Alter + Drop> Tables<S> {
+    /// What a depositor has, by item and lot, as its running rows say; None of a stranger.
+    pub fn stock_of(&mut self, alloc: Global, who: Who) -> Result<Option<Vec<StockRow>>, Fault>
+        ensures rows { HasCleanDisk (state S.Store self.new.conn) → (W : Partner) (L : List register.Entry)
+            → StandsWhileOpen (state S.Store self.old.conn) W L
+            → IfOk result (λ rows. option_map (λ v. v.items) rows ≡ meant.stock_of L who) }
+        ensures asked { Asked S.Store self.old self.new result }
+    {
+        if !self.is_enrolled(alloc, who)? {
+            return Ok(None);
+        }
+        match self.stock_rows(alloc, who) {
+            Ok(rows) => Ok(Some(rows)),
+            Err(fault) => Err(fault),
+        }
+    }
+
+    /// The texts that went out to a depositor, by number, but for the empty ones, as the rows of `outgoing` say; None of a
+    /// stranger.
+    pub fn outbox_of(&mut self, alloc: Global, who: Who) -> Result<Option<Vec<OutRow>>, Fault>
+        ensures rows { HasCleanDisk (state S.Store self.new.conn) → (W : Partner) (L : List register.Entry)
+            → StandsWhileOpen (state S.Store self.old.conn) W L
+            → IfOk result (λ rows. option_map (λ v. v.items) rows ≡ meant.outbox_of W L who) }
+        ensures asked { Asked S.Store self.old self.new result }
+    {
+        if !self.is_enrolled(alloc, who)? {
+            return Ok(None);
+        }
+        match self.sent_rows(alloc, who) {
+            Ok(rows) => Ok(Some(rows)),
+            Err(fault) => Err(fault),
+        }
+    }
+
+    /// The text that went out to a depositor under a number, as its row of `outgoing` says; None of a stranger, and Some(None)
+    /// where nothing went out under it.
+    pub fn text_of(
+        &mut self,
+        alloc: Global,
+        who: Who,
+        n: u32,
+    ) -> Result<Option<Option<Vec<u8>>>, Fault>
+        ensures text { HasCleanDisk (state S.Store self.new.conn) → (W : Partner) (L : List register.Entry)
+            → StandsWhileOpen (state S.Store self.old.conn) W L
+            → IfOk result (λ text. option_map (option_map (λ v. v.items)) text ≡ text_of W L who n) }
+        ensures asked { Asked S.Store self.old self.new result }
+    {
+        if !self.is_enrolled(alloc, who)? {
+            return Ok(None);
+        }
+        match self.text_under(alloc, who, n) {
+            Ok(text) => Ok(Some(text)),
+            Err(fault) => Err(fault),
+        }
+    }
+}

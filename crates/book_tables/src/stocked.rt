@@ -1,0 +1,86 @@
+ghost use Rattle.std.specs.Prelude.{◌≡◌, List, Some, IfOk, map, option_map};
+ghost use Rattle.profile.specs.Header.{Who as Partner};
+ghost use Rattle.profile.specs.Register as register;
+ghost use Rattle.profile.specs.Rows as meant;
+ghost use Rattle.sqlite.specs.Held.{state};
+ghost use Rattle.sqlite.specs.State.{HasCleanDisk};
+ghost use Rattle.book_tables.specs.Asking.{Asked};
+ghost use Rattle.book_tables.specs.Exits.{StandsWhileOpen};
+ghost use Rattle.book_tables.specs.Showing.{stock_shown};
+
+use crate::connected::Tables;
+use crate::reading::{number_at, text_at};
+use rules::Who;
+use sqlite::{Alter, Row};
+use std::alloc::{AllocError, Global};
+use store::{Fault, StockRow};
+
+// The stock row that a row of item, lot and the four amounts shows; None where it shows none.
+fn stock_row_in(alloc: Global, row: &Row) -> Result<Option<StockRow>, AllocError>
+    ensures { (r : meant.StockRow) → row.now ≡ stock_shown r → IfOk result (λ shown. shown ≡ Some r) }
+{
+    let Some(item) = text_at(row, 0) else {
+        return Ok(None);
+    };
+    let Some(lot) = text_at(row, 1) else {
+        return Ok(None);
+    };
+    let Some(expected) = number_at(row, 2) else {
+        return Ok(None);
+    };
+    let Some(on_hand) = number_at(row, 3) else {
+        return Ok(None);
+    };
+    let Some(reserved) = number_at(row, 4) else {
+        return Ok(None);
+    };
+    let Some(shipped) = number_at(row, 5) else {
+        return Ok(None);
+    };
+    Ok(Some(StockRow {
+        item: Vec::from_slice(alloc, item)?,
+        lot: Vec::from_slice(alloc, lot)?,
+        expected,
+        on_hand,
+        reserved,
+        shipped,
+    }))
+}
+
+/// The stock rows that rows of item, lot and the four amounts show; None where one of them shows none.
+pub(crate) fn stock_rows_in(
+    alloc: Global,
+    rows: &[Row],
+) -> Result<Option<Vec<StockRow>>, AllocError>
+    ensures { (rs : List meant.StockRow) → rows.now ≡ map stock_shown rs
+        → IfOk result (λ shown. option_map (λ v. v.items) shown ≡ Some rs) }
+{
+    let mut shown = Vec::new(alloc);
+    for row in rows {
+        let Some(stock) = stock_row_in(alloc, row)? else {
+            return Ok(None);
+        };
+        shown.push(stock)?;
+    }
+    Ok(Some(shown))
+}
+
+impl<S: Alter + Drop> Tables<S> {
+    /// What a depositor has, by item and lot, as its running rows say; nothing of a stranger. 43 where a row shows no stock.
+    pub(crate) fn stock_rows(&mut self, alloc: Global, who: Who) -> Result<Vec<StockRow>, Fault>
+        ensures rows { HasCleanDisk (state S.Store self.new.conn) → (W : Partner) (L : List register.Entry)
+            → StandsWhileOpen (state S.Store self.old.conn) W L
+            → IfOk result (λ rows. rows.items ≡ meant.stock_rows (register.own L who)) }
+        ensures asked { Asked S.Store self.old self.new result }
+    {
+        let rows = self.of_depositor(
+            alloc,
+            "SELECT item, lot, expected, on_hand, reserved, shipped FROM stock WHERE who = ?1 ORDER BY item, lot",
+            who,
+        )?;
+        match stock_rows_in(alloc, &rows)? {
+            Some(shown) => Ok(shown),
+            None => Err(Fault::NotThisBook),
+        }
+    }
+}

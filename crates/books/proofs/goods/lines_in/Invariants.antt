@@ -1,9 +1,0 @@
-use Rattle.std.proofs.Common.{◌≡◌, List, map, take, true}
-use Rattle.std.specs.List.{list_all}
-use Rattle.profile.specs.Means.{Line}
-use Rattle.rules.specs.Fitting.{is_fitting_line}
-use Rattle.books.specs.Showing.{line_shown}
-use Rattle.books.proofs.goods.lines_in.Given as goal
-
-abbrev pub invariant-loop-row : goal.invariant-loop-row
-invariant-loop-row l = (rs : List Line) → list_all is_fitting_line rs ≡ true → l.rows ≡ map line_shown rs → l.shown.items ≡ take l.row-index rs

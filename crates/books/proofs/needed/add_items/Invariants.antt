@@ -1,6 +1,0 @@
-use Rattle.std.proofs.Common.{◌≡◌, ◌++◌, take}
-use Rattle.profile.specs.Need.{items_of}
-use Rattle.books.proofs.needed.add_items.Given as goal
-
-abbrev pub invariant-loop-line : goal.invariant-loop-line
-invariant-loop-line l = l.items.items ≡ l.fn.items.items ++ items_of (take l.line-index l.lines)

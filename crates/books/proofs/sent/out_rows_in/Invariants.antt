@@ -1,9 +1,0 @@
-use Rattle.std.proofs.Common.{◌≡◌, List, map, take, filter, length}
-use Rattle.std.specs.Prelude.{nat_lt}
-use Rattle.sqlite_rules.specs.Lists.{Has}
-use Rattle.profile.specs.Rows.{OutRow}
-use Rattle.books.specs.Showing.{out_shown, IsSent}
-use Rattle.books.proofs.sent.out_rows_in.Given as goal
-
-abbrev pub invariant-loop-row : goal.invariant-loop-row
-invariant-loop-row l = (rs : List OutRow) → ((r : OutRow) → Has rs r → IsSent r) → l.rows ≡ map out_shown rs → l.shown.items ≡ filter (λ (r : OutRow). nat_lt 0 (length r.content)) (take l.row-index rs)

@@ -1,0 +1,43 @@
+ghost use Rattle.std.specs.Prelude.{◌≡◌, List, true, IfOk};
+ghost use Rattle.profile.specs.Register as register;
+ghost use Rattle.store.specs.Runs.{all_asked, can_be_given};
+ghost use Rattle.store.specs.Standing.{IsUsable};
+ghost use Rattle.books.specs.Opened.{standing_of};
+ghost use Rattle.books.specs.Stopped.{Crosses, StoresAgain};
+
+use crate::book::Book;
+use crate::reopening::reopened;
+use sqlite::Alter;
+use sqlite_trees::store::Reopen;
+use std::alloc::Global;
+use store::{Command, Fault, Moment, Outcome, run};
+
+/// Answers commands, stops the process, opens what is left, and answers more: these are answered on the register of those that
+/// were answered before, or, only where they stopped at a fault, on that one with the next command's entry. What was answered
+/// before the stop is told in any case. Where the book was not opened again, there stand beside it 40, 41 or 43 and the store,
+/// as `reopened` tells them.
+pub fn across<S: Alter + Reopen + Drop>(
+    alloc: Global,
+    mut book: Book<S>,
+    first: &[(Command<'_>, Moment)],
+    second: &[(Command<'_>, Moment)],
+) -> (Outcome, Result<(Outcome, Book<S>), (Fault, S)>)
+    ensures crossed { IfOk result.1 (λ r. (standing_of S.Store r.1).doubt ≡ 0
+        → (L : List register.Entry) → IsUsable (standing_of S.Store book) L
+        → can_be_given first.now ≡ true → can_be_given second.now ≡ true
+        → Crosses (standing_of S.Store book) (standing_of S.Store r.1) L (all_asked first.now)
+        (all_asked second.now) result.0 r.0) }
+    ensures stored { IfOk result.1 (λ r. (standing_of S.Store r.1).doubt ≡ 0
+        → (L : List register.Entry) → IsUsable (standing_of S.Store book) L
+        → can_be_given first.now ≡ true → can_be_given second.now ≡ true
+        → StoresAgain (all_asked first.now) (all_asked second.now) result.0 r.0) }
+{
+    let before = run(alloc, &mut book, first);
+    match reopened(alloc, book) {
+        Ok(mut book) => {
+            let later = run(alloc, &mut book, second);
+            (before, Ok((later, book)))
+        }
+        Err(error) => (before, Err(error)),
+    }
+}

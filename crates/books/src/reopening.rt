@@ -1,0 +1,68 @@
+ghost use Rattle.std.specs.Prelude.{◌≡◌, ◌≢◌, ◌⊎◌, ◌≤◌, IfErr, IfOk};
+ghost use Rattle.sqlite.specs.Held.{state};
+ghost use Rattle.sqlite_trees.specs.Tree.{Trees};
+ghost use Rattle.sqlite_trees.specs.View.{IsClean};
+ghost use Rattle.books.specs.Opened.{standing_of};
+ghost use Rattle.books.specs.Stopped.{IsReopened};
+
+use crate::book::Book;
+use book_tables::Tables;
+use sqlite::{Alter, Connection, Error, ErrorCode};
+use sqlite_trees::error::StoreError;
+use sqlite_trees::store::Reopen;
+use std::alloc::Global;
+use store::Fault;
+
+// What a failure of the store is told as.
+fn store_fault(error: StoreError) -> Fault
+    ensures { (result ≡ Fault.OutOfMemory) ⊎ (result ≡ Fault.Store) }
+{
+    match error {
+        StoreError::OutOfMemory => Fault::OutOfMemory,
+        _ => Fault::Store,
+    }
+}
+
+// What a failure to open a store is told as: 43 where its trees are no database.
+fn open_fault(error: Error) -> Fault
+    ensures not_this { result ≡ Fault.NotThisBook → error ≡ Error.SqliteFailure ErrorCode.NotADatabase }
+    ensures named { (result ≡ Fault.NotThisBook) ⊎ ((result ≡ Fault.OutOfMemory) ⊎ (result ≡ Fault.Store)) }
+{
+    match error {
+        Error::SqliteFailure(ErrorCode::OutOfMemory) => Fault::OutOfMemory,
+        Error::SqliteFailure(ErrorCode::NotADatabase) => Fault::NotThisBook,
+        _ => Fault::Store,
+    }
+}
+
+/// Stops the process at this moment, as far as the store is concerned, and opens what is left: a book that is usable for a
+/// register that a crash might leave. A fault hands the store back: 40 or 41 where a call of the store failed, 43 where what is
+/// left is no book. Where all that a crash might leave of the book stands for a register, and the disk is clean, it is never 43,
+/// and a crash leaves nothing of that store that it might not have left of the book.
+pub fn reopened<S: Alter + Reopen + Drop>(
+    alloc: Global,
+    book: Book<S>,
+) -> Result<Book<S>, (Fault, S)>
+    ensures left { IfOk result (λ b. (standing_of S.Store b).doubt ≡ 0
+        → (standing_of S.Store book).all_stand
+        → IsReopened (standing_of S.Store book) (standing_of S.Store b)) }
+    ensures doubt { IfOk result (λ b. (standing_of S.Store book).doubt ≤ (standing_of S.Store b).doubt) }
+    ensures named { IfErr result (λ e. (e.0 ≡ Fault.NotThisBook) ⊎ ((e.0 ≡ Fault.OutOfMemory)
+        ⊎ (e.0 ≡ Fault.Store))) }
+    ensures this { IfErr result (λ e. IsClean (S.Store.view e.1) → (standing_of S.Store book).all_stand
+        → e.0 ≢ Fault.NotThisBook) }
+    ensures kept { IfErr result (λ e. IsClean (S.Store.view e.1) → (standing_of S.Store book).all_stand
+        → (db : Trees) → S.Store.recovers e.1 db → (state S.Store book.tables.conn).may_leave db) }
+{
+    let mut store = book.close().into_inner().into_store();
+    if let Err(error) = store.crash_and_reopen() {
+        return Err((store_fault(error), store));
+    }
+    match Connection::over(alloc, store) {
+        Ok(conn) => match Book::open_from(alloc, Tables::new(conn)) {
+            Ok(book) => Ok(book),
+            Err((fault, tables)) => Err((fault, tables.into_inner().into_store())),
+        },
+        Err((error, store)) => Err((open_fault(error), store)),
+    }
+}
