@@ -10,7 +10,9 @@ It needs cc, GNU time and Debian's packages sqlite3 and libsqlite3-dev. For each
     looked at first, over a small register, all commands of which it is given;
   - `take` hands in 200 interchanges of one line, an advice and an order in turn, by the depositors in turn: all are accepted. Then it hands
     them in again: all are known. Answers are compared with those of the register;
-  - `stock` of a stranger is an opening, one query, and a closing. It is taken off the time of `take`;
+  - `stock` of a stranger is an opening, one query, and a closing;
+  - `serve` is given the same interchanges over loopback, a connection each and one after the other, and then once more: each is answered
+    with 200, and the second time with the bytes of the first. A command's time is that from its connection to its end, in this process;
   - bench/statements.c runs the same statements over a copy of the same file, each text prepared once, a transaction for each accepted
     command. Afterwards the two files hold the same rows.
 
@@ -18,6 +20,7 @@ Both have a log (WAL) that each commit syncs (synchronous FULL), and the file fo
 once it has 1,000 pages. The program's opening reads the whole file and tests each row; C SQLite's doesn't, so its quick_check, which
 does, stands beside it. Of several runs the least time counts.
 """
+import importlib.util
 import os
 import shutil
 import sqlite3
@@ -29,6 +32,11 @@ import time
 HERE = os.path.dirname(os.path.abspath(__file__))
 sys.path.insert(0, HERE)
 import register  # noqa: E402
+
+# bench/http.py, under a name of its own: the library has a module of that name
+SPEC = importlib.util.spec_from_file_location("whx12_http", os.path.join(HERE, "http.py"))
+http = importlib.util.module_from_spec(SPEC)
+SPEC.loader.exec_module(http)
 
 AT = ["--at", "2025-03-04T09:15"]
 SIZES = [(1, 1000), (1, 10_000), (1, 100_000), (100, 1000), (100, 10_000), (100, 100_000)]
@@ -197,22 +205,43 @@ def copied(book, folder, name):
     return path
 
 
-def of_program(program, book, work, folder):
-    """Seconds of an opening, of all commands, and of all of them again; and the peak memory."""
-    openings, takings, known, peak = [], [], [], 0.0
+def of_files(program, book, work, folder):
+    """Seconds of an opening, and the peak memory of all commands and of all of them again, handed in as files."""
+    openings, peak = [], 0.0
     for turn in range(RUNS):
         path, files = copied(book, folder, "taken.book"), f"{folder}/taken{turn}"
         work.folder(files)
         openings.append(run(program, "stock", "ZZ-NONE", "--book", path, status=1)[0])
-        for times, word in ((takings, "accepted"), (known, "stored")):
-            seconds, printed, most = run(program, "take", files, *AT, "--book", path)
+        for word in ("accepted", "stored"):
+            _, printed, most = run(program, "take", files, *AT, "--book", path)
             same(word, printed, "".join(f"{place:04d}.x12 {word}\n" for place in range(COMMANDS)))
             work.look_at_answers(files)
-            times.append(seconds)
             peak = max(peak, most)
         shutil.rmtree(files)
-    opening = min(openings)
-    return opening, min(takings) - opening, min(known) - opening, peak
+    return min(openings), peak
+
+
+def of_server(program, book, work, folder):
+    """Seconds of all commands, and of all of them again, over one serving process."""
+    takings, known = [], []
+    for _ in range(RUNS):
+        path, port = copied(book, folder, "served.book"), http.free_port()
+        at = f"127.0.0.1:{port}"
+        server = subprocess.Popen([program, "serve", "--listen", at, "--count", str(2 * COMMANDS + 1), "--book", path],
+                                  stdout=subprocess.DEVNULL, stderr=subprocess.DEVNULL)
+        http.wait_for(at)
+        answers = {}
+        for times in (takings, known):
+            seconds = 0.0
+            for place, text in enumerate(work.texts):
+                head = f"POST /x12 HTTP/1.1\r\nHost: {at}\r\nContent-Length: {len(text)}\r\n\r\n"
+                spent, answer = http.once("127.0.0.1", port, (head + text).encode())
+                seconds += spent
+                same(f"answer {place}", answer[:15], b"HTTP/1.1 200 OK")
+                same(f"answer {place}", answer, answers.setdefault(place, answer))
+            times.append(seconds)
+        same("the server's end", server.wait(timeout=60), 0)
+    return min(takings), min(known)
 
 
 def of_sqlite(statements, book, work, folder):
@@ -241,7 +270,8 @@ def measure(program, statements, depositors, entries, folder):
     stock = sorted(made.depositors[0].stock.items())
     same("stock", shown[1:], [",".join([item, lot, *map(str, amounts[1:])]) for (item, lot), amounts in stock])
     work = Work(made)
-    opening, taken, known, peak = of_program(program, book, work, folder)
+    opening, peak = of_files(program, book, work, folder)
+    taken, known = of_server(program, book, work, folder)
     c_opening, c_taken, c_known, check = of_sqlite(statements, book, work, folder)
     for name, rows in rows_of(f"{folder}/taken.book").items():
         same(f"rows of {name} behind the commands", rows, rows_of(f"{folder}/stated.book")[name])
