@@ -1,4 +1,4 @@
-ghost use Rattle.std.specs.Prelude.{◌≡◌, List, true, IfOk};
+ghost use Rattle.std.specs.Prelude.{◌≡◌, ◌⊎◌, List, true, IfErr, IfOk, IsNone, length};
 ghost use Rattle.profile.specs.Register as register;
 ghost use Rattle.store.specs.Runs.{all_asked, can_be_given};
 ghost use Rattle.store.specs.Standing.{IsUsable};
@@ -22,6 +22,11 @@ pub fn across<S: Alter + Reopen + Drop>(
     first: &[(Command<'_>, Moment)],
     second: &[(Command<'_>, Moment)],
 ) -> (Outcome, Result<(Outcome, Book<S>), (Fault, S)>)
+    ensures all { IsNone result.0.fault → length result.0.replies.items ≡ length first.now }
+    ensures later { IfOk result.1 (λ r. IsNone r.0.fault
+        → length r.0.replies.items ≡ length second.now) }
+    ensures named { IfErr result.1 (λ e. (e.0 ≡ Fault.NotThisBook) ⊎ ((e.0 ≡ Fault.OutOfMemory)
+        ⊎ (e.0 ≡ Fault.Store))) }
     ensures crossed { IfOk result.1 (λ r. (standing_of S.Store r.1).doubt ≡ 0
         → (L : List register.Entry) → IsUsable (standing_of S.Store book) L
         → can_be_given first.now ≡ true → can_be_given second.now ≡ true

@@ -32,6 +32,9 @@ returns-in-Ok g c =
       broken = λ k shut. two.broken k M v given' shut;
     }) in
     record {
+      all = one.all;
+      later = two.all;
+      named = tt;
       crossed = whole;
       stored = λ clean L u given given'. stores_again (s c.args.book) (s c.run-later.new.keeper) L (all_asked c.args.first.now) (all_asked c.args.second.now)
           c.run-before.result c.run-later.result (whole clean L u given given');
