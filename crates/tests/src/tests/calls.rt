@@ -6,7 +6,6 @@ mod cut;
 mod exchanges;
 mod in_tables;
 mod needed;
-mod stops;
 mod want;
 pub(crate) mod worked;
 
