@@ -1,4 +1,4 @@
-ghost use Rattle.std.specs.Prelude.{◌≡◌, ◌≢◌, ◌⊎◌, ◌≤◌, ◌^◌, ◌-◌, ◌++◌, ◌∷◌, [], List, true, false, IfErr, IfOk, OnOk, OnErr, IsErrOf, IsErrAnd, Some, option_map};
+ghost use Rattle.std.specs.Prelude.{◌≡◌, ◌≢◌, ◌⊎◌, ◌≤◌, ◌<◌, ◌^◌, ◌-◌, ◌++◌, ◌∷◌, [], List, true, false, IfErr, IfOk, OnOk, OnErr, IsErrOf, IsErrAnd, Some, option_map};
 ghost use Rattle.profile.specs.Header.{Who as Partner};
 ghost use Rattle.profile.specs.Accepted.{IsLegal};
 ghost use Rattle.profile.specs.Decision as decided;
@@ -227,6 +227,9 @@ impl<S: Alter + Drop> Keeper for Book<S> {
             (standing_of S.Store self.new)) }
         ensures kinds { IfErr result IsCommitFault }
         ensures store { IsErrOf result Fault.Store → (standing_of S.Store self.new).shut ≡ true }
+        ensures broken { OnErr result
+            ((standing_of S.Store self.old).refusals < (standing_of S.Store self.new).refusals
+            → (standing_of S.Store self.new).shut ≡ true) }
         ensures used_up { self.old.shut ≡ false → 2 ^ 63 - 1 ≤ self.old.entries → IsErrOf result Fault.Store }
         ensures shut { (standing_of S.Store self.old).shut ≡ true
             → IsErrOf result Fault.Reopen

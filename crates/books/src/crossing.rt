@@ -1,4 +1,4 @@
-ghost use Rattle.std.specs.Prelude.{◌≡◌, ◌⊎◌, List, true, IfErr, IfOk, IsNone, length};
+ghost use Rattle.std.specs.Prelude.{◌≡◌, ◌⊎◌, List, true, IfErr, IfOk, IsNone, length, take, ◌+◌};
 ghost use Rattle.profile.specs.Register as register;
 ghost use Rattle.store.specs.Runs.{all_asked, can_be_given};
 ghost use Rattle.store.specs.Standing.{IsUsable};
@@ -29,12 +29,14 @@ pub fn across<S: Alter + Reopen + Drop>(
         ⊎ (e.0 ≡ Fault.Store))) }
     ensures crossed { IfOk result.1 (λ r. (standing_of S.Store r.1).doubt ≡ 0
         → (L : List register.Entry) → IsUsable (standing_of S.Store book) L
-        → can_be_given first.now ≡ true → can_be_given second.now ≡ true
+        → can_be_given (take (length result.0.replies.items + 1) first.now) ≡ true
+        → can_be_given (take (length r.0.replies.items + 1) second.now) ≡ true
         → Crosses (standing_of S.Store book) (standing_of S.Store r.1) L (all_asked first.now)
         (all_asked second.now) result.0 r.0) }
     ensures stored { IfOk result.1 (λ r. (standing_of S.Store r.1).doubt ≡ 0
         → (L : List register.Entry) → IsUsable (standing_of S.Store book) L
-        → can_be_given first.now ≡ true → can_be_given second.now ≡ true
+        → can_be_given (take (length result.0.replies.items + 1) first.now) ≡ true
+        → can_be_given (take (length r.0.replies.items + 1) second.now) ≡ true
         → StoresAgain (all_asked first.now) (all_asked second.now) result.0 r.0) }
 {
     let before = run(alloc, &mut book, first);

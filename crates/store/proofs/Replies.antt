@@ -1,5 +1,5 @@
 -- Replies and the registers that they leave.
-use Rattle.std.proofs.Common.{◌≡◌, ℕ, Bool, true, false, not, ◌&&◌, List, [], ◌∷◌, ◌++◌, length, refl, sym, ap, ◌∙◌, subst, arith, Option, Some, None, option_map, Result, Ok, Err, bytes_eq, take, get_or, suc, zero, ◌<◌, ◌+◌}
+use Rattle.std.proofs.Common.{◌≡◌, ℕ, Bool, true, false, not, ◌&&◌, List, [], ◌∷◌, ◌++◌, length, refl, sym, ap, ◌∙◌, subst, arith, Option, Some, None, option_map, Result, Ok, Err, bytes_eq, take, get_or, suc, zero, ◌<◌, ◌≤◌, ◌+◌}
 use Rattle.std.specs.Prelude.{◌==◌, if◌then◌else◌}
 use Rattle.std.specs.Cmp.Derive.{both_true}
 use Rattle.std.proofs.lemmas.List.Folds.{list_all-append}
@@ -309,11 +309,6 @@ next_at {V} {W} {L} {e} {row} {changes} {given} {text} {said} house same_changes
 
 -- Commands in a list.
 
-given_at : (cs : List (Asking × Moment)) (i : ℕ) (d : Asking × Moment) → can_be_given cs ≡ true → i < length cs → is_command (asked (get_or cs i d).0) ≡ true
-given_at [] i d given lt = absurd (omega (arith, lt))
-given_at (c ∷ cs) zero d given lt = (both_parts (is_command (asked c.0)) (can_be_given cs) given).0
-given_at (c ∷ cs) (suc i) d given lt = given_at cs i d (both_parts (is_command (asked c.0)) (can_be_given cs) given).1 (omega (arith, lt))
-
 asked_suc : (cs : List (Asking × Moment)) (i : ℕ) (d : Asking × Moment) → i < length cs
     → take (suc i) (all_asked cs) ≡ take i (all_asked cs) ++ asked_at (get_or cs i d) ∷ []
 asked_suc [] i d lt = absurd (omega (arith, lt))
@@ -364,5 +359,22 @@ next_told old new V W L cs i item lt is house before h =
     ∙ ap (λ (x : Asking × Moment). replies_on W L (take i (all_asked cs)) ++ reply_to W (accepted_on W L (take i (all_asked cs))) (asked x.0) (x.1) ∷ []) is
     ∙ replies_more W L cs i item lt
 
-pub given_item : (cs : List (Asking × Moment)) (i : ℕ) (item : Asking × Moment) → can_be_given cs ≡ true → i < length cs → item ≡ get_or cs i item → is_command (asked item.0) ≡ true
-given_item cs i item given lt is = ap (λ (x : Asking × Moment). is_command (asked x.0)) is ∙ given_at cs i item given lt
+-- of commands that can be given, so can the first ones
+pub given_fewer : (cs : List (Asking × Moment)) (n k : ℕ) → k ≤ n → can_be_given (take n cs) ≡ true → can_be_given (take k cs) ≡ true
+given_fewer [] n zero le given = refl
+given_fewer [] n (suc k) le given = refl
+given_fewer (c ∷ cs) n zero le given = refl
+given_fewer (c ∷ cs) zero (suc k) le given = absurd (omega (arith, le))
+given_fewer (c ∷ cs) (suc n) (suc k) le given =
+    let both = both_parts (is_command (asked c.0)) (can_be_given (take n cs)) given in
+    both_true both.0 (given_fewer cs n k (omega (arith, le)) both.1)
+
+-- and the one at a place that they reach
+given_within : (cs : List (Asking × Moment)) (n i : ℕ) (d : Asking × Moment) → i < n → can_be_given (take n cs) ≡ true → i < length cs → is_command (asked (get_or cs i d).0) ≡ true
+given_within [] n i d less given lt = absurd (omega (arith, lt))
+given_within (c ∷ cs) zero i d less given lt = absurd (omega (arith, less))
+given_within (c ∷ cs) (suc n) zero d less given lt = (both_parts (is_command (asked c.0)) (can_be_given (take n cs)) given).0
+given_within (c ∷ cs) (suc n) (suc i) d less given lt = given_within cs n i d (omega (arith, less)) (both_parts (is_command (asked c.0)) (can_be_given (take n cs)) given).1 (omega (arith, lt))
+
+pub given_item : (cs : List (Asking × Moment)) (n i : ℕ) (item : Asking × Moment) → i < n → can_be_given (take n cs) ≡ true → i < length cs → item ≡ get_or cs i item → is_command (asked item.0) ≡ true
+given_item cs n i item less given lt is = ap (λ (x : Asking × Moment). is_command (asked x.0)) is ∙ given_within cs n i item less given lt

@@ -1,4 +1,4 @@
-ghost use Rattle.std.specs.Prelude.{◌≡◌, ◌++◌, ◌∷◌, [], List, Bool, true, false, IfOk, OnOk, OnErr, IfErr, IsErrOf, option_map};
+ghost use Rattle.std.specs.Prelude.{◌<◌, ◌≡◌, ◌++◌, ◌∷◌, [], List, Bool, true, false, IfOk, OnOk, OnErr, IfErr, IsErrOf, option_map};
 ghost use Rattle.profile.specs.Register as register;
 ghost use Rattle.profile.specs.Accepted.{IsLegal};
 ghost use Rattle.profile.specs.Decision as decided;
@@ -58,6 +58,8 @@ pub trait Keeper {
         ensures fault { IfErr result (λ fault. IsFault fault (standing self.old) (standing self.new)) }
         ensures kinds { IfErr result IsCommitFault }
         ensures store { IsErrOf result Fault.Store → (standing self.new).shut ≡ true }
+        ensures broken { OnErr result ((standing self.old).refusals < (standing self.new).refusals
+            → (standing self.new).shut ≡ true) }
         ensures shut { (standing self.old).shut ≡ true → IsErrOf result Fault.Reopen
             × IsUnchanged (standing self.old) (standing self.new) }
         ensures goes { GoesOn (standing self.old) (standing self.new) };

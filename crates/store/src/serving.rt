@@ -224,23 +224,27 @@ fn answer_next<K: Keeper>(
     Ok(())
 }
 
-/// Answers commands in order, and stops at the first fault. Without one there is a reply to every command, and the register
+/// Answers commands in order, and stops at the first fault. Of the commands it is only asked that those can be given that were
+/// answered, and the one at which it stopped. Without a fault there is a reply to every command, and the register
 /// is the one before with the entries of the accepted commands, in order. At a fault a crash leaves the register of the
 /// commands that were answered, or, only where the book must be opened again, that one with the next command's entry.
 pub fn run<K: Keeper>(alloc: Global, keeper: &mut K, commands: &[(Command<'_>, Moment)]) -> Outcome
     ensures all { IsNone result.fault → length result.replies.items ≡ length commands.now }
     ensures stopped { IsSome result.fault → length result.replies.items < length commands.now }
     ensures replies { (K.standing keeper.new).doubt ≡ 0 → (L : List register.Entry)
-        → IsUsable (K.standing keeper.old) L → can_be_given commands.now ≡ true
+        → IsUsable (K.standing keeper.old) L
+        → can_be_given (take (length result.replies.items + 1) commands.now) ≡ true
         → map told result.replies.items ≡ replies_on (K.standing keeper.old).warehouse L (take (length
         result.replies.items) (all_asked commands.now)) }
     ensures left { (K.standing keeper.new).doubt ≡ 0 → (L : List register.Entry)
-        → IsUsable (K.standing keeper.old) L → can_be_given commands.now ≡ true
+        → IsUsable (K.standing keeper.old) L
+        → can_be_given (take (length result.replies.items + 1) commands.now) ≡ true
         → (K.standing keeper.new).shut ≡ false
         → IsUsable (K.standing keeper.new) (accepted_on (K.standing keeper.old).warehouse L (take (length
         result.replies.items) (all_asked commands.now))) }
     ensures broken { (K.standing keeper.new).doubt ≡ 0 → (L : List register.Entry)
-        → IsUsable (K.standing keeper.old) L → can_be_given commands.now ≡ true
+        → IsUsable (K.standing keeper.old) L
+        → can_be_given (take (length result.replies.items + 1) commands.now) ≡ true
         → (K.standing keeper.new).shut ≡ true
         → IsSome result.fault × LeavesEither (K.standing keeper.new)
         (accepted_on (K.standing keeper.old).warehouse L (take (length result.replies.items) (all_asked
@@ -249,8 +253,8 @@ pub fn run<K: Keeper>(alloc: Global, keeper: &mut K, commands: &[(Command<'_>, M
         commands.now))) }
     ensures goes { GoesOn (K.standing keeper.old) (K.standing keeper.new) }
     ensures fault { IfSome result.fault
-        (λ fault. IsRunFault fault (can_be_given commands.now) (K.standing keeper.old) (K.standing
-        keeper.new)) }
+        (λ fault. IsRunFault fault (can_be_given (take (length result.replies.items + 1) commands.now))
+        (K.standing keeper.old) (K.standing keeper.new)) }
 {
     let mut replies = Vec::new(alloc);
     for (command, moment) in commands {

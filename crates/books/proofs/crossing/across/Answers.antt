@@ -1,4 +1,4 @@
-use Rattle.std.proofs.Common.{List, ◌≡◌, true}
+use Rattle.std.proofs.Common.{List, ◌≡◌, ◌+◌, true, length, take}
 use Rattle.profile.specs.Register.{Entry}
 use Rattle.store.specs.Runs.{all_asked, can_be_given}
 use Rattle.store.specs.Standing.{IsUsable}
@@ -13,8 +13,8 @@ returns-in-Ok g c =
     let s = standing_of g.S.Store in
     let one = c.run-before.ensures in
     let two = c.run-later.ensures in
-    let whole : (s c.run-later.new.keeper).doubt ≡ 0 → (L : List Entry) → IsUsable (s c.args.book) L → can_be_given c.args.first.now ≡ true → can_be_given c.args.second.now ≡ true
-    → Crosses (s c.args.book) (s c.run-later.new.keeper) L (all_asked c.args.first.now) (all_asked c.args.second.now) c.run-before.result c.run-later.result =
+    let whole : (s c.run-later.new.keeper).doubt ≡ 0 → (L : List Entry) → IsUsable (s c.args.book) L → can_be_given (take (length c.run-before.result.replies.items + 1) c.args.first.now) ≡ true
+    → can_be_given (take (length c.run-later.result.replies.items + 1) c.args.second.now) ≡ true → Crosses (s c.args.book) (s c.run-later.new.keeper) L (all_asked c.args.first.now) (all_asked c.args.second.now) c.run-before.result c.run-later.result =
     λ clean L u given given'.
     crosses (s c.args.book) (s c.run-before.new.keeper) (s c.in-Ok.book) (s c.run-later.new.keeper) L (all_asked c.args.first.now) (all_asked c.args.second.now)
     c.run-before.result c.run-later.result clean c.in-Ok.ensures.doubt c.in-Ok.ensures.left

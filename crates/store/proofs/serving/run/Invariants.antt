@@ -13,8 +13,8 @@ invariant-loop-command g l =
       count : length l.replies.items ≡ l.command-index;
       goes : GoesOn old now;
       shut : old.shut ≡ now.shut;
-      usable : now.doubt ≡ 0 → (L : List Entry) → IsUsable old L → can_be_given l.commands ≡ true
+      usable : now.doubt ≡ 0 → (L : List Entry) → IsUsable old L → can_be_given (take l.command-index l.commands) ≡ true
           → IsUsable now (accepted_on old.warehouse L (take l.command-index (all_asked l.commands)));
-      told : now.doubt ≡ 0 → (L : List Entry) → IsUsable old L → can_be_given l.commands ≡ true
+      told : now.doubt ≡ 0 → (L : List Entry) → IsUsable old L → can_be_given (take l.command-index l.commands) ≡ true
           → map told l.replies.items ≡ replies_on old.warehouse L (take l.command-index (all_asked l.commands));
     }
