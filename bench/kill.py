@@ -11,7 +11,9 @@ or by other commands, and what it shows is compared with the second reading of t
   - stock and outbox are those of the interchanges that were answered, or those and the one under way;
   - what the program prints from there on goes on from that state: answers, numbers, balances.
 
-Between servers clerks count, pick and recount. Debian's sqlite3 (apt-get install sqlite3) says in each round, of a copy of the files
+Between servers clerks count, pick and recount; half of these commands are killed while they run, and given again: the document is
+made once, whether the kill came before it or after it. For every ten rounds a new book's `init` is killed, given again, and enrols
+a depositor. Debian's sqlite3 (apt-get install sqlite3) says in each round, of a copy of the files
 as the kill left them, whether they are sound and how many entries they hold, and at the end so of the closed book, whose stock rows
 are compared too. The folder of a run that fails is kept, and the status is then 1.
 """
@@ -123,7 +125,7 @@ class Run:
         self.r = self.day.r
         self.book = os.path.join(folder, "killed.book")
         self.answered, self.tickets = [], 0
-        self.counts = {"answered": 0, "in": 0, "out": 0, "acts": 0}
+        self.counts = {"answered": 0, "in": 0, "out": 0, "acts": 0, "cut": 0, "cut in": 0, "begun": 0}
         self.command("init", "ZZ-WHSE1")
         for who in WHO:
             self.command("enrol", who.decode())
@@ -134,6 +136,30 @@ class Run:
         if ran.returncode not in (0, 1):
             raise Wrong(f"{words}: {ran.returncode} {ran.stderr!r}")
         return ran.stdout
+
+    def killed(self, words, book, longest):
+        """Whether a command was killed before its end, which comes at a random moment; what it printed, where it wasn't."""
+        process = subprocess.Popen([self.program, *words, "--book", book], cwd=self.folder, stdout=subprocess.PIPE, stderr=subprocess.PIPE)
+        time.sleep(self.r.uniform(0, longest))
+        process.send_signal(signal.SIGKILL)
+        printed = process.communicate()[0]
+        return process.returncode == -signal.SIGKILL, printed
+
+    def begin(self):
+        """A new book's first command is killed, and given again: then there is a book, made once."""
+        book = os.path.join(self.folder, "begun.book")
+        for end in ("", "-wal", "-shm"):
+            if os.path.exists(book + end):
+                os.remove(book + end)
+        self.killed(["init", "ZZ-WHSE1"], book, 0.03)
+        ran = subprocess.run([self.program, "init", "ZZ-WHSE1", "--book", book], cwd=self.folder, capture_output=True, check=False)
+        if (ran.returncode, ran.stderr) not in [(0, b""), (3, b"fault 43 NotThisBook\n")]:
+            raise Wrong(f"init after a kill: {ran.returncode} {ran.stderr!r}")
+        for words in (["enrol", "ZZ-ACME"], ["stock", "ZZ-ACME"]):
+            ran = subprocess.run([self.program, *words, "--book", book], cwd=self.folder, capture_output=True, check=False)
+            same(f"{words} in a new book", (ran.returncode, ran.stderr), (0, b""))
+        same("integrity of a new book", tables.sqlite(book, "PRAGMA integrity_check"), "ok\n")
+        self.counts["begun"] += 1
 
     # what the book shows
 
@@ -175,8 +201,21 @@ class Run:
             ticket, text, moment = b"T%d" % self.tickets, day.sheet(deed), day.moment()
             name = day.file(text, "csv")
             words = [deed, who.decode(), ticket.decode()] + ([] if deed == "recount" else [target.decode()]) + [name, "--at", moment]
+            if r.random() < 0.5:
+                self.cut(words, lambda book: book.clerk(deed, who, ticket, target, text, moment))  # noqa: B023
             same(" ".join(words), self.command(*words), day.book.clerk(deed, who, ticket, target, text, moment)[0])
             self.counts["acts"] += 1
+
+    def cut(self, words, act):
+        """Kills a clerk's command while it runs: the book is as before it, or as after it."""
+        before, after = copy.deepcopy(self.day.book), copy.deepcopy(self.day.book)
+        wanted = act(after)[0]
+        was_killed, printed = self.killed(words, self.book, 0.03)
+        if not was_killed:
+            same("printed before the kill", printed, wanted)
+        self.day.book = self.settle([before, after] if was_killed else [after], self.by_command)
+        self.counts["cut"] += was_killed
+        self.counts["cut in"] += was_killed and self.day.book is after
 
     def resend(self, server, moment):
         """Some of what was answered comes again: the stored answer, and nothing else."""
@@ -273,15 +312,18 @@ def main(words):
     try:
         run = Run(program, seed, folder)
         candidates = [run.day.book]
-        for _ in range(rounds):
+        for number in range(rounds):
             candidates = run.round(candidates)
+            if number % 10 == 0:
+                run.begin()
         run.end(candidates)
     except Wrong as wrong:
         print(f"{wrong}\nkept: {folder}")
         return 1
     counts = run.counts
-    print(f"{rounds} kills over one book: {counts['answered']} interchanges answered and there, {counts['acts']} acts of clerks; of those "
-          f"under way {counts['in']} were in and {counts['out']} were not; sqlite3 says ok")
+    print(f"{rounds} kills of a server over one book: {counts['answered']} interchanges answered and there, {counts['acts']} acts of clerks; "
+          f"of those under way {counts['in']} were in and {counts['out']} were not; {counts['cut']} kills of clerks' commands, of which "
+          f"{counts['cut in']} were in; {counts['begun']} books begun and killed; sqlite3 says ok")
     shutil.rmtree(folder)
     return 0
 

@@ -2,3 +2,4 @@ pub mod Parsing
 pub mod RosterLaws
 pub mod LineLaws
 pub mod TellingLaws
+pub mod ShownLaws

@@ -4,3 +4,7 @@ pub mod Lines
 pub mod Parsers
 pub mod Rosters
 pub mod Telling
+pub mod Shown
+pub mod Faults
+pub mod Stops
+pub mod Clerks

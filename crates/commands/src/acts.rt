@@ -6,20 +6,16 @@ ghost use Rattle.store.specs.Runs.{told};
 ghost use Rattle.store.specs.Standing.{IsUsable, GoesOn};
 ghost use Rattle.commands.specs.Telling.{IsPrinted};
 
-use crate::files::{MOST_SHEET, read_within};
 use crate::rosters::{enrol_all, read_roster};
-use crate::sheet_files::sheet;
+use crate::slips::{Slip, clerk, slip_of};
 use crate::takes::take;
 use crate::told::{CommandError, ExitStatus, tell_refusal, tell_text};
-use crate::words::{BookAct, ClerkWords, Deed};
+use crate::words::BookAct;
 use intake::read_interchange;
-use profile::{MOST_NUMBER, MOST_TICKET};
 use std::alloc::Global;
 use std::io;
 use std::rt::Files;
-use store::{
-    Act as ClerkAct, Command, Ident, Keeper, Moment, Refusal, Reply, Sheet, SheetKind, Who, submit,
-};
+use store::{Command, Keeper, Moment, Refusal, Reply, Who, submit};
 
 /// What is to be done to a book, its words tested and its files read, so that only the book and the devices can keep it from
 /// being done.
@@ -35,54 +31,6 @@ pub enum Ready<'a> {
     Take(&'a str),
     /// Submit what a clerk did.
     Clerk(Slip<'a>),
-}
-
-/// What a clerk did, with its sheet.
-#[derive(Drop)]
-pub struct Slip<'a> {
-    who: Who,
-    told: ClerkWords<'a>,
-    sheet: Sheet,
-}
-
-// The depositor of a clerk's words; None where a word can't be read.
-fn depositor(told: &ClerkWords<'_>) -> Option<Who> {
-    let who = Who::new(told.who.as_bytes())?;
-    Ident::new(told.ticket.as_bytes(), MOST_TICKET)?;
-    if told.deed != Deed::Recount {
-        Ident::new(told.number.as_bytes(), MOST_NUMBER)?;
-    }
-    Some(who)
-}
-
-// The kind of the sheet.
-fn kind(deed: Deed) -> SheetKind {
-    match deed {
-        Deed::Count => SheetKind::Count,
-        Deed::Pick => SheetKind::Pick,
-        Deed::Recount => SheetKind::Recount,
-    }
-}
-
-// What a clerk's words and the file with its sheet come to.
-fn slip_of<'a, R: Files + AllocGlobal>(
-    rt: &R,
-    told: &ClerkWords<'a>,
-) -> Result<Result<Ready<'a>, Refusal>, CommandError> {
-    let Some(who) = depositor(told) else {
-        return Ok(Err(Refusal::BadText));
-    };
-    let Some(text) = read_within(rt, told.sheet, MOST_SHEET)? else {
-        return Ok(Err(Refusal::BadText));
-    };
-    match sheet(rt.alloc(), kind(told.deed), &text)? {
-        Ok(sheet) => Ok(Ok(Ready::Clerk(Slip {
-            who,
-            told: *told,
-            sheet,
-        }))),
-        Err(refusal) => Ok(Err(refusal)),
-    }
 }
 
 /// What a line says is to be done, made ready: its words are tested from left to right, then its file is read, then a sheet or
@@ -104,7 +52,10 @@ pub fn make_ready<'a, R: Files + AllocGlobal>(
         },
         BookAct::Send { file } => Ok(Ok(Ready::Send(read_interchange(rt, *file)?))),
         BookAct::Take { dir } => Ok(Ok(Ready::Take(*dir))),
-        BookAct::Clerk(told) => slip_of(rt, told),
+        BookAct::Clerk(told) => match slip_of(rt, told)? {
+            Ok(slip) => Ok(Ok(Ready::Clerk(slip))),
+            Err(refusal) => Ok(Err(refusal)),
+        },
     }
 }
 
@@ -145,31 +96,6 @@ fn hand_in<K: Keeper, W: io::Write, E: io::Write>(
 {
     let reply = submit(alloc, book, command, moment)?;
     tell_reply(alloc, &reply, out, err)
-}
-
-// The act, with its sheet.
-fn act<'a>(deed: Deed, number: &'a [u8], sheet: &'a Sheet) -> ClerkAct<'a> {
-    match deed {
-        Deed::Count => ClerkAct::Count {
-            shipment: number,
-            sheet,
-        },
-        Deed::Pick => ClerkAct::Pick {
-            order: number,
-            sheet,
-        },
-        Deed::Recount => ClerkAct::Recount { sheet },
-    }
-}
-
-// What a clerk did, as a command.
-fn clerk<'a>(slip: &'a Slip<'_>) -> Command<'a> {
-    let told = &slip.told;
-    Command::Clerk {
-        who: slip.who,
-        ticket: told.ticket.as_bytes(),
-        act: act(told.deed, told.number.as_bytes(), &slip.sheet),
-    }
 }
 
 /// Does to a book what was made ready, prints what comes of it, and tells a refusal on standard error.

@@ -1,7 +1,8 @@
 //! The book in a file, and its log beside it. A book is opened and closed over any store, and a database closed over any disk, since what
 //! owns a store on disk is dear to prove.
 
-ghost use Rattle.std.specs.Prelude.{◌≡◌, false};
+ghost use Rattle.std.specs.Prelude.{◌≡◌, ◌⊎◌, false, IfOk, IfErr};
+ghost use Rattle.commands.specs.Faults as meant;
 
 use crate::told::CommandError;
 use books::{Book, Tables};
@@ -12,7 +13,9 @@ use store::{Fault, Warehouse};
 
 /// The fault of a file that can't be opened or closed as a database. One that holds anything else, or is damaged, is not this
 /// book; one that is in use, or can't be read or written, is a device that failed.
-pub fn fault(error: &Error) -> Fault {
+pub fn fault(error: &Error) -> Fault
+    ensures { result ≡ meant.fault_of error.now }
+{
     match error {
         Error::SqliteFailure(ErrorCode::OutOfMemory) => Fault::OutOfMemory,
         Error::SqliteFailure(ErrorCode::NotADatabase | ErrorCode::DatabaseCorrupt) => {
@@ -39,6 +42,10 @@ pub fn make<S: Alter + Drop>(
     warehouse: Warehouse,
 ) -> Result<Book<S>, CommandError>
     requires { database.in_transaction ≡ false }
+    ensures warehouse { IfOk result (λ b. b.warehouse ≡ warehouse) }
+    ensures opened { IfOk result (λ b. b.shut ≡ false) }
+    ensures named { IfErr result (λ stop. (stop ≡ CommandError.Fault Fault.NotThisBook)
+        ⊎ ((stop ≡ CommandError.Fault Fault.OutOfMemory) ⊎ (stop ≡ CommandError.Fault Fault.Store))) }
 {
     match Book::create(alloc, Tables::new(database), warehouse) {
         Ok(book) => Ok(book),
@@ -52,6 +59,9 @@ pub fn open<S: Alter + Drop>(
     database: Connection<S>,
 ) -> Result<Book<S>, CommandError>
     requires { database.in_transaction ≡ false }
+    ensures opened { IfOk result (λ b. b.shut ≡ false) }
+    ensures named { IfErr result (λ stop. (stop ≡ CommandError.Fault Fault.NotThisBook)
+        ⊎ ((stop ≡ CommandError.Fault Fault.OutOfMemory) ⊎ (stop ≡ CommandError.Fault Fault.Store))) }
 {
     match Book::open_from(alloc, Tables::new(database)) {
         Ok(book) => Ok(book),

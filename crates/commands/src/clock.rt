@@ -1,5 +1,5 @@
 //! Moments as the words of a line write them, and the clock's.
-ghost use Rattle.std.specs.Prelude.{◌≡◌, Some, option_map};
+ghost use Rattle.std.specs.Prelude.{◌≡◌, Ok, IfSome};
 ghost use Rattle.commands.specs.Written as written;
 
 use crate::numbers::{all_digits, pair};
@@ -48,7 +48,9 @@ pub fn moment_of(text: &[u8]) -> Option<Moment>
 pub fn moment_for<R: Clock + AllocGlobal>(
     rt: &R,
     at: Option<Moment>,
-) -> Result<Moment, CommandError> {
+) -> Result<Moment, CommandError>
+    ensures { IfSome at (λ moment. result ≡ Ok moment) }
+{
     if let Some(moment) = at {
         return Ok(moment);
     }

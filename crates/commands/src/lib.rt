@@ -13,6 +13,7 @@ mod script;
 mod serving;
 mod sheet_files;
 mod shows;
+mod slips;
 mod starting;
 mod subcommands;
 mod takes;

@@ -1,3 +1,8 @@
+ghost use Rattle.std.specs.Prelude.{◌≡◌, true, IfOk};
+ghost use Rattle.profile.specs.Clerk.{is_sheet};
+ghost use Rattle.commands.specs.Clerks.{kind_of};
+
+use crate::words::Deed;
 use csv::{ByteRecord, Error, ReaderBuilder};
 use profile::MOST_LINES;
 use std::alloc::{AllocError, Global};
@@ -66,21 +71,30 @@ fn refused(_error: Error) -> AllocError {
     AllocError
 }
 
+// The sheet of a deed with these lines, or the number of its refusal.
+fn made(deed: Deed, lines: Vec<Line>) -> Result<Sheet, u8>
+    ensures kind { IfOk result (λ sheet. is_sheet (kind_of deed) sheet ≡ true) }
+{
+    match deed {
+        Deed::Count => Sheet::new(SheetKind::Count, lines),
+        Deed::Pick => Sheet::new(SheetKind::Pick, lines),
+        Deed::Recount => Sheet::new(SheetKind::Recount, lines),
+    }
+}
+
 /// The sheet of a CSV text without a header: records of three fields, item, lot and quantity. The refusal is 33 where there
 /// are over 99 records; 32 where one hasn't three fields, or can't be read; 30 where a quantity is over its limit; 31 where
 /// a pair stands twice. Want of memory is the one error.
-pub fn sheet(
-    alloc: Global,
-    kind: SheetKind,
-    text: &[u8],
-) -> Result<Result<Sheet, Refusal>, AllocError> {
+pub fn sheet(alloc: Global, deed: Deed, text: &[u8]) -> Result<Result<Sheet, Refusal>, AllocError>
+    ensures kind { IfOk result (λ made. IfOk made (λ sheet. is_sheet (kind_of deed) sheet ≡ true)) }
+{
     let Some(records) = read_records(alloc, text)? else {
         return Ok(Err(Refusal::TooManyLines));
     };
     if records.is_uneven {
         return Ok(Err(Refusal::BadText));
     }
-    match Sheet::new(kind, records.lines) {
+    match made(deed, records.lines) {
         Ok(sheet) => Ok(Ok(sheet)),
         Err(number) => Ok(Err(refusal(number))),
     }

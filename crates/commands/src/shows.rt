@@ -1,13 +1,21 @@
 //! What is shown of a book, which stays as it is.
+ghost use Rattle.std.specs.Prelude.{◌≡◌, ◌≢◌, List, Some, IfOk, if◌then◌else◌, option_map};
+ghost use Rattle.profile.specs.Reports as meant;
+ghost use Rattle.profile.specs.Accepted.{IsLegal};
+ghost use Rattle.profile.specs.Decision.{standing as standing_of};
+ghost use Rattle.profile.specs.Register.{Entry, own};
+ghost use Rattle.profile.specs.Rows.{stock_of, outbox_of};
+ghost use Rattle.store.specs.Sent.{text_of};
 ghost use Rattle.store.specs.Standing.{IsUnchanged};
+ghost use Rattle.commands.specs.Shown.{IsShown, shown_stock, shown_list, shown_text, shown_order, shown_of};
 
 use crate::told::{CommandError, ExitStatus, tell_refusal, tell_text};
 use crate::words::Show;
 use profile::MOST_NUMBER;
 use reports::{NoSheet, outbox_list, pick_list, stock_csv, stock_report};
-use std::alloc::Global;
+use std::alloc::{AllocError, Global};
 use std::io;
-use store::{Fault, Ident, Keeper, Need, Refusal, Who};
+use store::{Fault, Ident, Keeper, Need, Refusal, StockRow, Who};
 
 /// What is to be shown, its words tested.
 #[derive(Clone, Copy)]
@@ -29,6 +37,18 @@ pub fn ask<'a>(show: &Show<'a>) -> Result<Asked<'a>, Refusal> {
     Ok(Asked { who, show: *show })
 }
 
+// The stock report, or its export as CSV.
+fn stock_text(alloc: Global, rows: &[StockRow], is_csv: bool) -> Result<Vec<u8>, AllocError>
+    ensures { IfOk result (λ text. text.items ≡ (if is_csv then meant.stock_csv rows.now
+        else meant.stock_report rows.now)) }
+{
+    if is_csv {
+        stock_csv(alloc, rows)
+    } else {
+        stock_report(alloc, rows)
+    }
+}
+
 // Prints what a depositor has: the stock report, or its export as CSV. Refused is 20, an unknown depositor.
 fn stock<K: Keeper, W: io::Write, E: io::Write>(
     alloc: Global,
@@ -38,18 +58,19 @@ fn stock<K: Keeper, W: io::Write, E: io::Write>(
     out: &mut W,
     err: &mut E,
 ) -> Result<ExitStatus, CommandError>
-    ensures { IsUnchanged (K.standing book.old) (K.standing book.new) }
+    ensures shown { (K.standing book.new).doubt ≡ 0 → (L : List Entry)
+        → (K.standing book.old).keeps L → IsLegal (K.standing book.old).warehouse L
+        → IfOk result (λ status. IsShown (shown_stock is_csv (stock_of L who))
+        (W.contents out.old) (W.contents out.new) status) }
+    ensures same { IsUnchanged (K.standing book.old) (K.standing book.new) }
 {
-    let Some(rows) = store::stock(book, who)? else {
-        return tell_refusal(alloc, err, Refusal::UnknownDepositor);
-    };
-    let text = if is_csv {
-        stock_csv(alloc, &rows)?
-    } else {
-        stock_report(alloc, &rows)?
-    };
-    out.write_all(&text)?;
-    Ok(ExitStatus::Done)
+    match store::stock(book, who)? {
+        Some(rows) => {
+            out.write_all(&stock_text(alloc, &rows, is_csv)?)?;
+            Ok(ExitStatus::Done)
+        }
+        None => tell_refusal(alloc, err, Refusal::UnknownDepositor),
+    }
 }
 
 // Tells why there is no picking sheet.
@@ -57,7 +78,10 @@ fn tell_no_sheet<E: io::Write>(
     alloc: Global,
     err: &mut E,
     why: NoSheet,
-) -> Result<ExitStatus, CommandError> {
+) -> Result<ExitStatus, CommandError>
+    ensures { IfOk result
+        (λ status. (status ≡ ExitStatus.Refused) × (why ≢ NoSheet.OutOfMemory)) }
+{
     match why {
         NoSheet::UnknownOrder => tell_refusal(alloc, err, Refusal::UnknownOrder),
         NoSheet::OrderClosed => tell_refusal(alloc, err, Refusal::OrderClosed),
@@ -75,7 +99,11 @@ fn order<K: Keeper, W: io::Write, E: io::Write>(
     out: &mut W,
     err: &mut E,
 ) -> Result<ExitStatus, CommandError>
-    ensures { IsUnchanged (K.standing book.old) (K.standing book.new) }
+    ensures shown { (K.standing book.new).doubt ≡ 0 → (L : List Entry)
+        → (K.standing book.old).keeps L → IsLegal (K.standing book.old).warehouse L
+        → IfOk result (λ status. IsShown (shown_order number.now (standing_of (own L who)))
+        (W.contents out.old) (W.contents out.new) status) }
+    ensures same { IsUnchanged (K.standing book.old) (K.standing book.new) }
 {
     let need = Need::order(alloc, number.as_bytes())?;
     let Some(page) = book.load(who, &need)? else {
@@ -98,7 +126,11 @@ fn outbox<K: Keeper, W: io::Write, E: io::Write>(
     out: &mut W,
     err: &mut E,
 ) -> Result<ExitStatus, CommandError>
-    ensures { IsUnchanged (K.standing book.old) (K.standing book.new) }
+    ensures shown { (K.standing book.new).doubt ≡ 0 → (L : List Entry)
+        → (K.standing book.old).keeps L → IsLegal (K.standing book.old).warehouse L
+        → IfOk result (λ status. IsShown (shown_list (outbox_of (K.standing book.old).warehouse L who))
+        (W.contents out.old) (W.contents out.new) status) }
+    ensures same { IsUnchanged (K.standing book.old) (K.standing book.new) }
 {
     match store::outbox(book, who)? {
         Some(rows) => {
@@ -113,7 +145,10 @@ fn outbox<K: Keeper, W: io::Write, E: io::Write>(
 fn tell_content<W: io::Write>(
     text: Option<Vec<u8>>,
     out: &mut W,
-) -> Result<ExitStatus, CommandError> {
+) -> Result<ExitStatus, CommandError>
+    ensures { IfOk result (λ status. IsShown (shown_text (Some (option_map (λ t. t.items) text)))
+        (W.contents out.old) (W.contents out.new) status) }
+{
     match text {
         Some(text) => {
             tell_text(out, &text)?;
@@ -133,7 +168,11 @@ fn content<K: Keeper, W: io::Write, E: io::Write>(
     out: &mut W,
     err: &mut E,
 ) -> Result<ExitStatus, CommandError>
-    ensures { IsUnchanged (K.standing book.old) (K.standing book.new) }
+    ensures shown { (K.standing book.new).doubt ≡ 0 → (L : List Entry)
+        → (K.standing book.old).keeps L → IsLegal (K.standing book.old).warehouse L
+        → IfOk result (λ status. IsShown (shown_text (text_of (K.standing book.old).warehouse L who number))
+        (W.contents out.old) (W.contents out.new) status) }
+    ensures same { IsUnchanged (K.standing book.old) (K.standing book.new) }
 {
     match store::text(book, who, number)? {
         Some(text) => tell_content(text, out),
@@ -150,7 +189,11 @@ pub fn show<K: Keeper, W: io::Write, E: io::Write>(
     out: &mut W,
     err: &mut E,
 ) -> Result<ExitStatus, CommandError>
-    ensures { IsUnchanged (K.standing book.old) (K.standing book.new) }
+    ensures shown { (K.standing book.new).doubt ≡ 0 → (L : List Entry)
+        → (K.standing book.old).keeps L → IsLegal (K.standing book.old).warehouse L
+        → IfOk result (λ status. IsShown (shown_of (K.standing book.old).warehouse L asked.now)
+        (W.contents out.old) (W.contents out.new) status) }
+    ensures same { IsUnchanged (K.standing book.old) (K.standing book.new) }
 {
     let who = asked.who;
     match asked.show {

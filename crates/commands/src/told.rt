@@ -55,12 +55,21 @@ pub enum CommandError {
 }
 
 impl From<AllocError> for CommandError {
+    ghost use Rattle.store.specs.declared.fault.Fault.TheVariants as faults;
+    ghost use Rattle.commands.specs.declared.told.CommandError.TheVariants as stops;
+
+    ghost from_gives = { λ _ stop. stop ≡ stops.Fault faults.OutOfMemory };
+
     fn from(_error: AllocError) -> CommandError {
         CommandError::Fault(Fault::OutOfMemory)
     }
 }
 
 impl From<Fault> for CommandError {
+    ghost use Rattle.commands.specs.declared.told.CommandError.TheVariants as stops;
+
+    ghost from_gives = { λ fault stop. stop ≡ stops.Fault fault };
+
     fn from(fault: Fault) -> CommandError {
         CommandError::Fault(fault)
     }
@@ -76,6 +85,10 @@ impl From<LineFault> for CommandError {
 }
 
 impl From<io::Error> for CommandError {
+    ghost use Rattle.commands.specs.Stops.{IsDeviceStop};
+
+    ghost from_gives = { λ _ stop. IsDeviceStop stop };
+
     fn from(error: io::Error) -> CommandError {
         if error.kind() == io::ErrorKind::OutOfMemory {
             CommandError::Fault(Fault::OutOfMemory)

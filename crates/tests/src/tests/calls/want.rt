@@ -1,14 +1,16 @@
-//! Commands that are given again where there was no memory: run with each allocation failing in
-//! turn (bench/allocations.py).
+//! Commands over a book in tables, given again where there was no memory, after the book was opened
+//! again where it has to be: run with each allocation failing in turn (bench/allocations.py).
 use super::worked::{
-    ADVICE, ANSWER, DUPLICATE, OTHER, RECEIPT, acme, count, empty, is_accepted, is_stored, morning,
+    ADVICE, ANSWER, DUPLICATE, OTHER, RECEIPT, acme, count, house, is_accepted, is_stored, morning,
     ninety,
 };
+use books::{Book, Tables};
+use sqlite::{Alter, Connection};
 use std::alloc::Global;
 use std::test::Fail;
 use store::{
-    Act, Command, DocumentState, Fault, Moment, OutKind, OutRow, ReplayBook, Reply, Sheet,
-    SheetKind, Who, outbox, submit,
+    Act, Command, DocumentState, Fault, Keeper, Moment, OutKind, OutRow, Reply, Sheet, SheetKind,
+    Warehouse, Who, outbox, submit,
 };
 
 // An order of 120 BOLT under control number 2, and its answer under number 3.
@@ -57,38 +59,81 @@ fn pick<'a>(who: Who, ticket: &'a [u8], order: &'a [u8], sheet: &'a Sheet) -> Co
     }
 }
 
-// Gives a command, and once more where there was no memory.
-fn given(
+// A new book, made once more where there was no memory.
+fn made<S: Alter + Drop>(
     alloc: Global,
-    book: &mut ReplayBook,
-    command: &Command<'_>,
-    moment: Moment,
-) -> Result<Reply, Fail> {
-    match submit(alloc, book, command, moment) {
-        Ok(reply) => Ok(reply),
-        Err(Fault::OutOfMemory) => Ok(submit(alloc, book, command, moment)?),
-        Err(_) => Err("another fault".into()),
+    tables: Tables<S>,
+    warehouse: Warehouse,
+) -> Result<Book<S>, Fail> {
+    let tables = match Book::create(alloc, tables, warehouse) {
+        Ok(book) => return Ok(book),
+        Err((Fault::OutOfMemory, tables)) => tables,
+        Err(_) => return Err("another fault".into()),
+    };
+    match Book::create(alloc, tables, warehouse) {
+        Ok(book) => Ok(book),
+        Err(_) => Err("no book".into()),
     }
 }
 
-// Whether each command is answered as wanted, if not at once then when it is given again.
-fn are_answered(
-    alloc: Global,
-    book: &mut ReplayBook,
-    wanted: &[(Command<'_>, &[u8], Want)],
-    moment: Moment,
-) -> Result<bool, Fail> {
-    for (command, text, want) in wanted {
-        let reply = given(alloc, book, command, moment)?;
-        if !is_wanted(&reply, *want, text) {
-            return Ok(false);
-        }
+// The book, opened again where it has to be.
+fn opened<S: Alter + Drop>(alloc: Global, book: Book<S>) -> Result<Book<S>, Fail> {
+    if !book.must_reopen() {
+        return Ok(book);
     }
-    Ok(true)
+    match Book::open_from(alloc, book.close()) {
+        Ok(book) => Ok(book),
+        Err(_) => Err("a book that isn't there".into()),
+    }
+}
+
+// Gives a command for which there was no memory once more: it is answered as wanted, or stored.
+fn given_again<S: Alter + Drop>(
+    alloc: Global,
+    book: Book<S>,
+    wanted: &(Command<'_>, &[u8], Want),
+    moment: Moment,
+) -> Result<Book<S>, Fail> {
+    let mut book = opened(alloc, book)?;
+    let (command, text, want) = wanted;
+    match submit(alloc, &mut book, command, moment) {
+        Ok(reply) if is_wanted(&reply, *want, text) || is_stored(&reply, text) => Ok(book),
+        _ => Err("another answer".into()),
+    }
+}
+
+// Gives a command, and once more where there was no memory.
+fn answered<S: Alter + Drop>(
+    alloc: Global,
+    book: Book<S>,
+    wanted: &(Command<'_>, &[u8], Want),
+    moment: Moment,
+) -> Result<Book<S>, Fail> {
+    let mut book = book;
+    let (command, text, want) = wanted;
+    match submit(alloc, &mut book, command, moment) {
+        Ok(reply) if is_wanted(&reply, *want, text) => Ok(book),
+        Err(Fault::OutOfMemory) => given_again(alloc, book, wanted, moment),
+        _ => Err("another answer".into()),
+    }
+}
+
+// Gives commands in their order.
+fn all_answered<S: Alter + Drop>(
+    alloc: Global,
+    book: Book<S>,
+    day: &[(Command<'_>, &[u8], Want)],
+    moment: Moment,
+) -> Result<Book<S>, Fail> {
+    let mut book = book;
+    for wanted in day {
+        book = answered(alloc, book, wanted, moment)?;
+    }
+    Ok(book)
 }
 
 // What went out, asked for once more where there was no memory.
-fn outbox_given(book: &mut ReplayBook) -> Result<Vec<OutRow>, Fail> {
+fn outbox_given<K: Keeper>(book: &mut K) -> Result<Vec<OutRow>, Fail> {
     match outbox(book, acme()?) {
         Ok(rows) => Ok(rows.ok_or("a depositor")?),
         Err(Fault::OutOfMemory) => Ok(outbox(book, acme()?)?.ok_or("a depositor")?),
@@ -145,9 +190,10 @@ fn want_of_memory_loses_nothing(rt: HostRuntime) -> Result<(), Fail> {
     let alloc = rt.alloc();
     let counted = ninety(alloc, SheetKind::Count)?;
     let goods = ninety(alloc, SheetKind::Pick)?;
-    let mut book = empty(alloc)?;
-    let wanted = worked_day(acme()?, &counted, &goods);
-    assert!(rt; are_answered(alloc, &mut book, &wanted, morning()?)?);
+    let tables = Tables::new(Connection::open_in_memory(alloc)?);
+    let book = made(alloc, tables, house()?)?;
+    let day = worked_day(acme()?, &counted, &goods);
+    let mut book = all_answered(alloc, book, &day, morning()?)?;
     assert!(rt; is_sent(&outbox_given(&mut book)?));
     Ok(())
 }

@@ -1,0 +1,133 @@
+#!/usr/bin/env python3
+"""Kills `take` again and again over one folder, and looks at what is left. Not part of the gate.
+
+Usage: bench/taken.py [--files N] [--rounds N] [--seed N] [PROGRAM]
+       (default: 200 files, 50 kills of crates/whx12/out/whx12, which `rt run` in that folder leaves)
+
+A folder has random interchanges of two depositors, good ones and changed ones. `take` is started over it and ended by `kill -9` at a
+random moment, again and again, and at last runs to its end, at the same moment of the rules. Then:
+
+  - each file's answer is the one that the second reading of the rules (bench/model.py) gives when each file is sent once, in the
+    order of the names, byte for byte; a file that gets no answer has none; and nothing else lies in the folder but what a kill may
+    leave of one answer that was being written;
+  - stock and outbox are those of each file sent once: no order is there twice, and none is missing.
+
+After each kill sqlite3 says whether a copy of the files is sound. Status 1 where something differs; the folder is then kept.
+"""
+import os
+import random
+import shutil
+import signal
+import subprocess
+import sys
+import tempfile
+import time
+
+HERE = os.path.dirname(os.path.abspath(__file__))
+sys.path.insert(0, HERE)
+import compare  # noqa: E402
+import model  # noqa: E402
+import tables  # noqa: E402
+
+WHO = [b"ZZ-ACME", b"ZZ-BETA"]
+AT = "2025-03-04T09:15"
+compare.NUMBERS = [b"N%d" % n for n in range(1, 400)]
+
+
+class Wrong(Exception):
+    """What was found isn't what the rules give."""
+
+
+def same(what, got, wanted):
+    if got != wanted:
+        raise Wrong(f"{what}: wanted {wanted!r}, got {got!r}")
+
+
+class House:
+    def __init__(self, program, seed, folder, files):
+        self.program, self.folder, self.r = program, folder, random.Random(seed)
+        self.book, self.inbox = os.path.join(folder, "house.book"), os.path.join(folder, "inbox")
+        os.mkdir(self.inbox)
+        self.run("init", "ZZ-WHSE1")
+        day = compare.Day(seed, folder)
+        for who in WHO:
+            self.run("enrol", who.decode())
+            day.book.enrol(who)
+        self.wanted = {}
+        for number in range(files):
+            raw, name = day.interchange(self.r.choice([b"ACME", b"BETA"])), f"f{number:03}.x12"
+            with open(os.path.join(self.inbox, name), "wb") as file:
+                file.write(raw)
+            self.wanted[name] = day.book.send(raw, AT)[0][:-1]
+        self.rules = day.book
+
+    def run(self, *words):
+        ran = subprocess.run([self.program, *words, "--book", self.book], cwd=self.folder, capture_output=True, check=False)
+        if ran.returncode not in (0, 1):
+            raise Wrong(f"{words}: {ran.returncode} {ran.stderr!r}")
+        return ran.stdout
+
+    def cut(self, longest):
+        """Kills `take` at a random moment: whether it came before the end."""
+        words = [self.program, "take", self.inbox, "--at", AT, "--book", self.book]
+        process = subprocess.Popen(words, stdout=subprocess.DEVNULL, stderr=subprocess.DEVNULL)
+        time.sleep(self.r.uniform(0, longest))
+        process.send_signal(signal.SIGKILL)
+        process.wait()
+        path = os.path.join(self.folder, "copy")
+        for end in ("", "-wal", "-shm"):
+            if os.path.exists(path + end):
+                os.remove(path + end)
+            if end != "-shm" and os.path.exists(self.book + end):
+                shutil.copyfile(self.book + end, path + end)
+        same("integrity of a copy", tables.sqlite(path, "PRAGMA integrity_check"), "ok\n")
+        return process.returncode == -signal.SIGKILL
+
+    def answers(self):
+        """The answers that lie in the folder, each of which has to be the right one; and what a kill left beside them."""
+        found, left = {}, []
+        for name in sorted(os.listdir(self.inbox)):
+            if name.endswith(".ans"):
+                with open(os.path.join(self.inbox, name), "rb") as file:
+                    found[name[:-4]] = file.read()
+            elif not name.endswith(".x12"):
+                left.append(name)
+        for name, text in found.items():
+            same(f"the answer to {name}", text, self.wanted[name])
+        if len(left) > 1 or any(not name.endswith(".x12.new") for name in left):
+            raise Wrong(f"left in the folder: {left}")
+        return found
+
+    def end(self):
+        self.run("take", self.inbox, "--at", AT)
+        same("the answers", sorted(self.answers()), sorted(name for name, text in self.wanted.items() if text))
+        for who in WHO:
+            same(f"stock of {who}", self.run("stock", who.decode()), self.rules.stock(who)[0])
+            same(f"outbox of {who}", self.run("outbox", who.decode()), self.rules.outbox(who)[0])
+
+
+def main(words):
+    option = lambda name, default: int(words[words.index(name) + 1]) if name in words else default
+    files, rounds, seed = option("--files", 200), option("--rounds", 50), option("--seed", 1)
+    last = words[-1] if words and not words[-1].isdigit() and not words[-1].startswith("--") else None
+    program = os.path.abspath(last or os.path.join(HERE, "..", "crates", "whx12", "out", "whx12"))
+    folder = tempfile.mkdtemp(prefix="taken")
+    try:
+        house = House(program, seed, folder, files)
+        killed, seen = 0, []
+        for _ in range(rounds):
+            # two milliseconds a file are about what a whole run takes
+            killed += house.cut(0.002 * files)
+            seen.append(len(house.answers()))
+        house.end()
+    except Wrong as wrong:
+        print(f"{wrong}\nkept: {folder}")
+        return 1
+    print(f"{files} files, {killed} kills of {rounds} before the end; after the first there were {seen[0]} answers, after the last {seen[-1]}; "
+          "each answer is right, and every file is in the book once")
+    shutil.rmtree(folder)
+    return 0
+
+
+if __name__ == "__main__":
+    sys.exit(main(sys.argv[1:]))

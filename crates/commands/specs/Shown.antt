@@ -1,0 +1,59 @@
+-- What is shown of a register, and the status that it gives.
+use Rattle.std.specs.Prelude.{◌≡◌, ℕ, Bool, List, [], if◌then◌else◌, Option, Some, None, Result, Ok, Err}
+use Rattle.std.specs.Io.KnownBytes.{Appends}
+use Rattle.profile.specs.Decision.{standing}
+use Rattle.profile.specs.Header.{Who}
+use Rattle.profile.specs.History.{History}
+use Rattle.profile.specs.Refusals.{Refusal}
+use Rattle.profile.specs.Register.{Entry, own}
+use Rattle.profile.specs.Reports.{stock_csv, stock_report, outbox_list, pick_list}
+use Rattle.profile.specs.Rows.{StockRow, OutRow, stock_of, outbox_of}
+use Rattle.store.specs.Sent.{text_of}
+use Rattle.commands.specs.Telling.{line_of}
+use Rattle.commands.specs.declared.told.ExitStatus.{ExitStatus}
+use Rattle.commands.specs.declared.told.ExitStatus.TheVariants.{Done, Refused}
+use Rattle.commands.specs.declared.shows.Asked.{Asked}
+use Rattle.commands.specs.declared.words.Show.{Show}
+use Rattle.commands.specs.declared.words.Show.TheVariants as show
+
+-- what is printed, and the status
+abbrev pub Shown : Type 0
+Shown = List ℕ × ExitStatus
+
+-- a stranger is shown nothing
+abbrev pub shown_stock : Bool → Option (List StockRow) → Shown
+shown_stock is_csv None = ([], Refused)
+shown_stock is_csv (Some rows) = (if is_csv then stock_csv rows else stock_report rows, Done)
+
+abbrev pub shown_list : Option (List OutRow) → Shown
+shown_list None = ([], Refused)
+shown_list (Some rows) = (outbox_list rows, Done)
+
+-- a text that went out, where one did
+abbrev pub shown_text : Option (Option (List ℕ)) → Shown
+shown_text (Some (Some text)) = (line_of text, Done)
+shown_text other = ([], Refused)
+
+abbrev pub shown_sheet : Result (List ℕ) Refusal → Shown
+shown_sheet (Ok text) = (text, Done)
+shown_sheet (Err why) = ([], Refused)
+
+-- an order of a depositor's history
+abbrev pub shown_order : List ℕ → Option History → Shown
+shown_order number None = ([], Refused)
+shown_order number (Some h) = shown_sheet (pick_list h.events number)
+
+-- what a warehouse with this register shows to a depositor
+abbrev pub shown_to : Who → List Entry → Who → Show → Shown
+shown_to W L who (show.Stock name is_csv) = shown_stock is_csv (stock_of L who)
+shown_to W L who (show.Order name number) = shown_order number.now (standing (own L who))
+shown_to W L who (show.Outbox name None) = shown_list (outbox_of W L who)
+shown_to W L who (show.Outbox name (Some n)) = shown_text (text_of W L who n)
+
+abbrev pub shown_of : Who → List Entry → Asked → Shown
+shown_of W L asked = shown_to W L asked.who asked.show
+
+-- it was printed, and the status is the one that it gives
+pub record IsShown (shown : Shown) (before behind : Option (List ℕ)) (status : ExitStatus) : Type 0 where
+  pub printed : Appends before behind shown.0
+  pub says : status ≡ shown.1
