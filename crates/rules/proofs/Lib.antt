@@ -40,3 +40,5 @@ pub mod LegalPages
 pub mod Small
 pub mod SmallEvents
 pub mod Fits
+pub mod GivenAgain
+pub mod GivenRead

@@ -14,3 +14,4 @@ pub mod Needs
 pub mod Naming
 pub mod LegalPages
 pub mod Fitting
+pub mod Given

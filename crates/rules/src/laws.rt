@@ -1,6 +1,6 @@
 //! Laws of replies and of registers: nothing runs, each contract is a law.
-ghost use Rattle.std.specs.Prelude.{◌≡◌, ◌++◌, ◌∷◌, ℕ, List, Some, None};
-ghost use Rattle.profile.specs.Accepted.{IsLegal, after, depositor_of, own_of, reply_to};
+ghost use Rattle.std.specs.Prelude.{◌≡◌, ◌++◌, ◌∷◌, [], ℕ, List, Some, None, true, map};
+ghost use Rattle.profile.specs.Accepted.{IsLegal, accepted_on, after, depositor_of, is_command, own_of, reply_to};
 ghost use Rattle.profile.specs.Header.{Who, isa};
 ghost use Rattle.profile.specs.Moments.{Moment};
 ghost use Rattle.profile.specs.Register.{Act, Clerk, Command, Entry, Interchange, Known, Performed, Received, interchange_mark, known, next_number, own, ticket_mark};
@@ -18,6 +18,7 @@ ghost use Rattle.std.specs.Borrow.{Bor};
 ghost use Rattle.rules.specs.Decided.{IsPageOf, IsHeldPart, StandsFor};
 ghost use Rattle.rules.specs.Defined.{IsDefined};
 ghost use Rattle.rules.specs.Fitting.{IsFitting};
+ghost use Rattle.rules.specs.Given.{given_at, given_by};
 ghost use Rattle.rules.specs.LegalPages.{IsLegalPage};
 ghost use Rattle.rules.specs.Played.{CanFollow};
 ghost use Rattle.profile.specs.Need.{Need, need_of};
@@ -54,6 +55,16 @@ pub fn a_known_act_is_answered_again()
 pub fn legal_entries_can_be_replayed()
     ensures { (W : Who) (L before : List Entry) (e : Entry) (behind : List Entry) → IsLegal W L
         → L ≡ before ++ e ∷ behind → CanFollow (own before e.who) e }
+{}
+
+/// Each entry of a legal register, given again after those before it, makes the same entry; so the register is left by its own
+/// entries, given in turn, and each is of a command that can be given.
+pub fn legal_entries_can_be_given_again()
+    ensures again { (W : Who) (L before : List Entry) (e : Entry) (behind : List Entry) → IsLegal W L
+        → L ≡ before ++ e ∷ behind → after W before (given_by e, e.moment) ≡ before ++ e ∷ [] }
+    ensures command { (W : Who) (L before : List Entry) (e : Entry) (behind : List Entry) → IsLegal W L
+        → L ≡ before ++ e ∷ behind → is_command (given_by e) ≡ true }
+    ensures all { (W : Who) (L : List Entry) → IsLegal W L → accepted_on W [] (map given_at L) ≡ L }
 {}
 
 /// The rows of a page are those that the definitions give for the events that it stands for, by item and lot bytes.

@@ -1,0 +1,26 @@
+-- The command that an entry is of, by which it can be given again.
+use Rattle.profile.specs.Moments.{Moment}
+use Rattle.profile.specs.Header.{Who}
+use Rattle.profile.specs.Register.{Command, Interchange, Enrol, Clerk, Deed, Enrolled, Received, Performed, Entry}
+use Rattle.rules.specs.Asked.{read_act}
+use Rattle.rules.specs.declared.given.Deed.{Deed as Read}
+use Rattle.rules.specs.declared.given.Deed.TheVariants as read
+
+-- of a depositor and what the entry records
+abbrev pub given_as : Who → Deed → Command
+given_as w Enrolled = Enrol w
+given_as w (Received text) = Interchange text
+given_as w (Performed ticket act) = Clerk w ticket act
+
+abbrev pub given_by : Entry → Command
+given_by e = given_as e.who e.deed
+
+-- with the moment at which it was given
+abbrev pub given_at : Entry → Command × Moment
+given_at e = (given_by e, e.moment)
+
+-- a deed that was read
+abbrev pub read_deed : Read → Deed
+read_deed read.Enrolled = Enrolled
+read_deed (read.Received text) = Received text.now
+read_deed (read.Performed ticket act) = Performed ticket.now (read_act act)

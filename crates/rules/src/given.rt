@@ -1,0 +1,100 @@
+//! The command that an entry of the register is of, by which it can be given again.
+ghost use Rattle.std.specs.Prelude.{◌≡◌, ℕ, Option, Some, true, IfOk, IsTrue};
+ghost use Rattle.profile.specs.Accepted.{is_command};
+ghost use Rattle.profile.specs.Readings.{is_deed, is_entry};
+ghost use Rattle.profile.specs.Register as register;
+ghost use Rattle.rules.specs.Asked.{asked};
+ghost use Rattle.rules.specs.Given.{given_as, given_by, read_deed};
+ghost use Rattle.rules.specs.Written.{written_as};
+
+use crate::commands::Command;
+use crate::entries::Entry;
+use crate::readings::{ReadAct, read};
+use profile::MOST_TICKET;
+use segments::{Ident, Who};
+use std::alloc::{AllocError, Global};
+use std::marker::Model;
+
+// What an entry records, as it was read.
+#[derive(Drop)]
+enum Deed<'a> {
+    // The enrolment.
+    Enrolled,
+    // An interchange, by its bytes.
+    Received(&'a [u8]),
+    // A clerk's act, under its ticket.
+    Performed { ticket: &'a [u8], act: ReadAct<'a> },
+}
+
+/// A command that can be given again: the one that an entry is of, with what it borrows.
+#[derive(Drop)]
+pub struct Given<'a> {
+    who: Who,
+    deed: Deed<'a>,
+}
+
+impl<'a> Model for Given<'a> {
+    ghost Value = { register.Command };
+
+    ghost view = { λ g. given_as g.who (read_deed g.deed) };
+
+    ghost invariant = { λ g. IsTrue (is_command (given_as g.who (read_deed g.deed))) };
+}
+
+impl<'a> Given<'a> {
+    /// The command. It is one that can be given.
+    pub fn command(&self) -> Command<'_>
+        ensures same { asked result ≡ self.now }
+        ensures can_be_given { is_command (asked result) ≡ true }
+    {
+        match &self.deed {
+            Deed::Enrolled => Command::Enrol(self.who),
+            Deed::Received(text) => Command::Interchange(text),
+            Deed::Performed { ticket, act } => Command::Clerk {
+                who: self.who,
+                ticket,
+                act: act.act(),
+            },
+        }
+    }
+}
+
+// A clerk's act under a ticket, where the one is a ticket and the other an act's canonical text.
+fn performed<'a>(
+    alloc: Global,
+    who: Who,
+    ticket: &'a [u8],
+    text: &'a [u8],
+) -> Result<Option<Given<'a>>, AllocError>
+    ensures { IfOk result (λ o. (act : register.Act) → is_deed (register.Performed ticket.now act) ≡ true
+        → text.now ≡ register.canonical act → o ≡ Some (register.Clerk who ticket.now act)) }
+{
+    if Ident::new(ticket, MOST_TICKET).is_none() {
+        return Ok(None);
+    }
+    let Some(act) = read(alloc, text)? else {
+        return Ok(None);
+    };
+    let deed = Deed::Performed { ticket, act };
+    Ok(Some(Given { who, deed }))
+}
+
+/// The command that an entry is of, by its key: `E` is the depositor's enrolment, `X` and more the interchange that the body
+/// is, and `T` and a ticket the act of which the body is the canonical text. None where the entry is of no command: of another
+/// key, an enrolment with a body, a ticket that is none, or a text that is no act's. Want of memory is the one error.
+pub fn command_of(alloc: Global, entry: &Entry) -> Result<Option<Given<'_>>, AllocError>
+    ensures { IfOk result (λ o. (n : ℕ) (e : register.Entry) → entry.now ≡ written_as n e → is_entry e ≡ true
+        → o ≡ Some (given_by e)) }
+{
+    let (who, body) = (entry.who(), entry.body());
+    let Some((letter, name)) = entry.key.split_first() else {
+        return Ok(None);
+    };
+    let deed = match *letter {
+        b'E' if name.is_empty() && body.is_empty() => Deed::Enrolled,
+        b'X' => Deed::Received(body),
+        b'T' => return performed(alloc, who, name, body),
+        _ => return Ok(None),
+    };
+    Ok(Some(Given { who, deed }))
+}
