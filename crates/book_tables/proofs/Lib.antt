@@ -45,7 +45,7 @@ mod OwnEntries
 mod FoundRows
 mod HasEntries
 pub mod AskedLater
-mod Queries
+pub mod Queries
 mod NeedTexts
 mod Under
 mod Finding
@@ -64,3 +64,14 @@ mod Looked
 pub mod Fits
 pub mod NeededParts
 pub mod OnceKept
+mod WholeTexts
+mod WholeRows
+mod WholeFound
+mod WholeKeyed
+mod WholeSorted
+mod WholeBook
+mod ComparedSoFar
+mod ComparedTables
+mod NumberedFound
+pub mod KeptTables
+mod OpenedAnew

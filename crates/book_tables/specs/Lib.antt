@@ -19,3 +19,4 @@ pub mod Recorded
 pub mod Taken
 pub mod Making
 pub mod Needed
+pub mod Comparing

@@ -1,0 +1,157 @@
+-- Tables that are compared one after another.
+use Rattle.std.proofs.Common.{◌≡◌, ◌≢◌, ◌≤◌, ◌<◌, inl, inr, ℕ, ◌+◌, List, Bool, true, false, Some, Option, Result, Ok, refl, sym, ap, subst, subst₂, ◌∙◌, arith}
+use Rattle.std.specs.Prelude.{nat_lt, ◌==◌, if◌then◌else◌}
+use Rattle.std.proofs.lemmas.Bool.{cases_Bool}
+use Rattle.std.proofs.lemmas.Bool.Decides.{nat_tests}
+use Rattle.sqlite.specs.Effect.{Database}
+use Rattle.sqlite.specs.Held.{state}
+use Rattle.sqlite.specs.State.{State, HasCleanDisk}
+use Rattle.sqlite.specs.Store.{Ghosts}
+use Rattle.store.specs.declared.fault.Fault.{Fault}
+use Rattle.book_tables.specs.declared.comparing.TableName.{TableName}
+use Rattle.book_tables.specs.declared.comparing.TableName.TheVariants.{Book, Entry, Outgoing, Stock, Advice, AdviceLine, Orders, OrderLine, Reservation}
+use Rattle.book_tables.specs.Asking.{Asked, Went, IsAsked}
+use Rattle.book_tables.specs.Comparing.{whole_text, number_of, FindBoth, ShowBoth, IsLaid, Compares}
+use Rattle.book_tables.specs.Kept.{Kept}
+use Rattle.book_tables.specs.Limits.{NoMore}
+use Rattle.book_tables.proofs.Asked.{asked_twice}
+use Rattle.book_tables.proofs.AskedLater.{clean_before}
+use Rattle.book_tables.proofs.Queries.{went_of, went_none, went_on}
+use Rattle.book_tables.proofs.StepLemmas.{on_ok}
+
+-- Each table has a number of its own.
+
+abbrev name_from : ℕ → TableName
+name_from n =
+    if n == 0 then Book
+    else (if n == 1 then Entry
+    else (if n == 2 then Outgoing
+    else (if n == 3 then Stock
+    else (if n == 4 then Advice
+    else (if n == 5 then AdviceLine
+    else (if n == 6 then Orders
+    else (if n == 7 then OrderLine
+    else Reservation)))))))
+
+name_is : (t : TableName) → name_from (number_of t) ≡ t
+name_is Book = refl
+name_is Entry = refl
+name_is Outgoing = refl
+name_is Stock = refl
+name_is Advice = refl
+name_is AdviceLine = refl
+name_is Orders = refl
+name_is OrderLine = refl
+name_is Reservation = refl
+
+one_name : (t u : TableName) → number_of t ≡ number_of u → t ≡ u
+one_name t u e = sym (name_is t) ∙ ap name_from e ∙ name_is u
+
+nine : (t : TableName) → number_of t < 9
+nine Book = omega arith
+nine Entry = omega arith
+nine Outgoing = omega arith
+nine Stock = omega arith
+nine Advice = omega arith
+nine AdviceLine = omega arith
+nine Orders = omega arith
+nine OrderLine = omega arith
+nine Reservation = omega arith
+
+below : (m n : ℕ) → nat_lt m n ≡ true → m < n
+below m n h = grind (arith, nat_tests, h)
+
+above : (m n : ℕ) → nat_lt m n ≡ false → m < n + 1 → m ≡ n
+above m n h g = grind (arith, nat_tests, h, g)
+
+-- what is shown after other queries was shown before them
+pub shown_before : (old mid them them_mid : State) (sql : List ℕ) (same : Bool) → HasCleanDisk mid → HasCleanDisk them_mid → IsAsked old mid → IsAsked them them_mid → IsLaid old → IsLaid them
+    → ShowBoth sql mid them_mid same → ShowBoth sql old them same
+shown_before old mid them them_mid sql same clean their_clean asked their_asked laid their_laid h =
+    let p = asked.same clean laid in
+    let q = their_asked.same their_clean their_laid in
+    record {
+      is_open = p.was_open h.is_open;
+      other_open = q.was_open h.other_open;
+      find = subst₂ (λ (d e : Database). FindBoth sql d e same) (p.now h.is_open) (q.now h.other_open) h.find;
+    }
+
+module _ {S : Type 0} (store : Ghosts S) where
+  -- queries, and then one more
+  pub asked_after : {T U : Type 0} (a b c : Kept S) (t : T) (r : Result U Fault) → Went {T = T} store a b (Ok t) → Asked store b c r → Asked store a c r
+  asked_after a b c t r one two =
+      let both = went_on store a b c t r one (went_of store b c r two) in
+      record { left = both.left; fault = both.fault; counts = both.counts; uncounted = both.uncounted; limit = both.limit; allowed = on_ok r (λ some none. some (none_left a.limit b.limit one.limit none)) two.allowed }
+    where
+      none_left : (m n : Option ℕ) → NoMore m n → m ≡ Some 0 → n ≡ Some 0
+      none_left m n less e = let it = less.some 0 e in let zero : it.0 ≡ 0 = omega (arith, it.2) in it.1 ∙ ap Some zero
+
+module _ {S T : Type 0} (store : Ghosts S) (its : Ghosts T) where
+  -- the tables so far show the same rows in both
+  pub record SoFar (old now : Kept S) (them them_now : Kept T) (number : ℕ) : Type 0 where
+    pub went : Went {T = Bool} store old now (Ok true)
+    pub other : IsAsked (state its them.conn) (state its them_now.conn)
+    pub allowed : 0 < number → old.limit ≢ Some 0
+    pub same : HasCleanDisk (state store now.conn) → HasCleanDisk (state its them_now.conn) → IsLaid (state store old.conn) → IsLaid (state its them.conn)
+        → (t : TableName) → number_of t < number → ShowBoth (whole_text t) (state store old.conn) (state its them.conn) true
+
+  pub none_so_far : (old : Kept S) (them : Kept T) → SoFar old old them them 0
+  none_so_far old them = record {
+    went = went_none store old true;
+    other = let w = went_none its them true in w.left;
+    allowed = λ h. absurd (omega (arith, h));
+    same = λ _ _ _ _ t h. absurd (omega (arith, h));
+  }
+
+  module _ (old mid new : Kept S) (them them_mid them_new : Kept T) (number : ℕ) (so_far : SoFar old mid them them_mid number) where
+    both_asked : IsAsked (state its them_mid.conn) (state its them_new.conn) → IsAsked (state its them.conn) (state its them_new.conn)
+    both_asked later = asked_twice (state its them.conn) (state its them_mid.conn) (state its them_new.conn) so_far.other later
+
+    pub fails_after : {U : Type 0} (r : Result U Fault) → Asked store mid new r → Asked store old new r
+    fails_after r later = asked_after store old mid new true r so_far.went later
+
+    pub other_after : IsAsked (state its them_mid.conn) (state its them_new.conn) → IsAsked (state its them.conn) (state its them_new.conn)
+    other_after = both_asked
+
+    module _ (t : TableName) (number_is : number_of t ≡ number) (sql : List ℕ) (sql_is : sql ≡ whole_text t) (same : Bool) (asked : Asked {T = Bool} store mid new (Ok same))
+        (other_asked : IsAsked (state its them_mid.conn) (state its them_new.conn))
+        (shows : HasCleanDisk (state store new.conn) → HasCleanDisk (state its them_new.conn) → ShowBoth sql (state store mid.conn) (state its them_mid.conn) same) where
+      early : HasCleanDisk (state store new.conn) → HasCleanDisk (state store mid.conn)
+      early = clean_before (state store mid.conn) (state store new.conn) asked.left
+
+      its_early : HasCleanDisk (state its them_new.conn) → HasCleanDisk (state its them_mid.conn)
+      its_early = clean_before (state its them_mid.conn) (state its them_new.conn) other_asked
+
+      shown : HasCleanDisk (state store new.conn) → HasCleanDisk (state its them_new.conn) → IsLaid (state store old.conn) → IsLaid (state its them.conn) → ShowBoth (whole_text t) (state store old.conn) (state its them.conn) same
+      shown clean its_clean laid its_laid =
+          let went = so_far.went in
+          shown_before (state store old.conn) (state store mid.conn) (state its them.conn) (state its them_mid.conn) (whole_text t) same (early clean) (its_early its_clean) went.left so_far.other laid its_laid
+          (subst (λ (text : List ℕ). ShowBoth text (state store mid.conn) (state its them_mid.conn) same) sql_is (shows clean its_clean))
+
+      pub one_more : same ≡ true → SoFar old new them them_new (number + 1)
+      one_more passes =
+          let all = asked_after store old mid new true (Ok same) so_far.went asked in
+          record {
+            went = went_of store old new (Ok true) (subst (λ (b : Bool). Asked {T = Bool} store old new (Ok b)) passes all);
+            other = both_asked other_asked;
+            allowed = λ _. all.allowed;
+            same = λ clean its_clean laid its_laid u low. elim (cases_Bool (nat_lt (number_of u) number)) [
+              | inl less ↦ so_far.same (early clean) (its_early its_clean) laid its_laid u (below (number_of u) number less)
+              | inr last ↦
+                  let is = one_name t u (number_is ∙ sym (above (number_of u) number last low)) in
+                  subst₂ (λ (v : TableName) (b : Bool). ShowBoth (whole_text v) (state store old.conn) (state its them.conn) b) is passes (shown clean its_clean laid its_laid)
+            ];
+          }
+
+      pub one_differs : same ≡ false → HasCleanDisk (state store new.conn) → HasCleanDisk (state its them_new.conn) → IsLaid (state store old.conn) → IsLaid (state its them.conn)
+          → Compares false (state store old.conn) (state its them.conn)
+      one_differs differs clean its_clean laid its_laid = (t, subst (λ (b : Bool). ShowBoth (whole_text t) (state store old.conn) (state its them.conn) b) differs (shown clean its_clean laid its_laid))
+
+  module _ (old now : Kept S) (them them_now : Kept T) (number : ℕ) (whole : 9 ≤ number) (so_far : SoFar old now them them_now number) where
+    pub all_same : HasCleanDisk (state store now.conn) → HasCleanDisk (state its them_now.conn) → IsLaid (state store old.conn) → IsLaid (state its them.conn) → Compares true (state store old.conn) (state its them.conn)
+    all_same clean its_clean laid its_laid t = so_far.same clean its_clean laid its_laid t (omega (arith, nine t, whole))
+
+    pub all_asked : Asked {T = Bool} store old now (Ok true)
+    all_asked =
+        let went = so_far.went in
+        record { left = went.left; fault = went.fault; counts = went.counts; uncounted = went.uncounted; limit = went.limit; allowed = so_far.allowed (omega (arith, whole)) }

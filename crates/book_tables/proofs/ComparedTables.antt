@@ -1,0 +1,132 @@
+-- What it tells of two databases that each table shows the same rows in both.
+use Rattle.std.proofs.Common.{◌≡◌, List, [], map, Bool, true, false, Result, Ok, Err, IsTrue, OnOk, refl, sym, ap, subst, ◌∙◌}
+use Rattle.std.specs.Prelude.{IfOk}
+use Rattle.sqlite.specs.Order.{Row}
+use Rattle.sqlite.specs.Query.{Query, IsAnswer}
+use Rattle.sqlite.specs.Program.{overlay}
+use Rattle.sqlite.specs.Tree.{IsTable}
+use Rattle.sqlite.specs.Effect.{Database, IsDatabase}
+use Rattle.sqlite.specs.State.{State, IsLive}
+use Rattle.profile.specs.Header.{Who}
+use Rattle.profile.specs.Register.{Entry}
+use Rattle.book_tables.specs.declared.comparing.TableName.{TableName}
+use Rattle.book_tables.specs.declared.comparing.TableName.TheVariants as name
+use Rattle.book_tables.specs.Comparing.{AreTables, FindBoth, IsLaid, Compares, whole_text}
+use Rattle.book_tables.specs.Exits.{StandsWhileOpen}
+use Rattle.book_tables.specs.Layout.{IsLayout}
+use Rattle.book_tables.specs.Standing.{BookTable, Outgoing, Stock, Advice, AdviceLine, Orders, OrderLine, Reservation, Stands, AreHeld, filled, rows_of}
+use Rattle.book_tables.proofs.Found.{entries_rise}
+use Rattle.book_tables.proofs.FoundRows.{sound_layout}
+use Rattle.book_tables.proofs.Ordered.{all_ordered}
+use Rattle.book_tables.proofs.WholeBook.{book_same, book_shown, entries_same, entries_shown}
+use Rattle.book_tables.proofs.WholeFound.{whole_found}
+use Rattle.book_tables.proofs.WholeKeyed.{holds_too}
+use Rattle.book_tables.proofs.WholeSorted.{same_shown}
+use Rattle.book_tables.proofs.WholeTexts.{whole_query, keyed_query, keyed_name}
+
+keyed_is : (t : BookTable) → whole_query (keyed_name t) ≡ keyed_query t
+keyed_is Outgoing = refl
+keyed_is Stock = refl
+keyed_is Advice = refl
+keyed_is AdviceLine = refl
+keyed_is Orders = refl
+keyed_is OrderLine = refl
+keyed_is Reservation = refl
+
+module _ (one two : Database) (lies : IsLayout one.schema) (its : IsLayout two.schema) (sound : IsDatabase one) (its_sound : IsDatabase two) where
+  -- the answers that both give
+  answer : (t : TableName) (same : Bool) (f : FindBoth (whole_text t) one two same) → IsAnswer (whole_query t) (overlay one.trees []) [] f.rows
+  answer t same f = whole_found t one f.rows lies f.finds
+
+  its_answer : (t : TableName) (same : Bool) (f : FindBoth (whole_text t) one two same) → IsAnswer (whole_query t) (overlay two.trees []) [] f.others
+  its_answer t same f = whole_found t two f.others its f.other_finds
+
+  same_answer : (t : TableName) (f : FindBoth (whole_text t) one two true) → IsAnswer (whole_query t) (overlay two.trees []) [] f.rows
+  same_answer t f = subst (λ (rows : List Row). IsAnswer (whole_query t) (overlay two.trees []) [] rows) (sym (f.told.0 refl)) (its_answer t true f)
+
+  -- all are the same: what the one stands for, the other stands for
+  pub stands_too : (W : Who) (L : List Entry) → AreTables one.trees → Stands W L two → ((t : TableName) → FindBoth (whole_text t) one two true) → Stands W L one
+  stands_too W L tables stands same =
+      let held = stands.rows in
+      let mine = sound_layout one lies sound in
+      let its_own = sound_layout two its its_sound in
+      let up : IsTable (one.trees 1) = tables.1.0.0 in
+      let its_up : IsTable (two.trees 1) = subst IsTable (sym held.entry) (entries_rise [] L) in
+      let rows : AreHeld (filled W L) one.trees = record {
+        book = book_same lies.others its.others one.trees two.trees mine its_own _ (answer name.Book true (same name.Book)) (same_answer name.Book (same name.Book)) _ held.book;
+        entry = entries_same lies.others its.others one.trees two.trees mine its_own _ up its_up (answer name.Entry true (same name.Entry)) (same_answer name.Entry (same name.Entry)) ∙ held.entry;
+        keyed = λ t.
+            let f = same (keyed_name t) in
+            holds_too t lies.others its.others one.trees two.trees mine its_own tables f.rows
+            (subst (λ (q : Query). IsAnswer q (overlay one.trees []) [] f.rows) (keyed_is t) (answer (keyed_name t) true f))
+            (subst (λ (q : Query). IsAnswer q (overlay two.trees []) [] f.rows) (keyed_is t) (same_answer (keyed_name t) f)) (rows_of W L t) (held.keyed t);
+      } in
+      record { legal = stands.legal; schema = lies; rows = rows }
+
+  module _ (W : Who) (L : List Entry) (stands : Stands W L one) (its_stands : Stands W L two) where
+    keyed_alike : (t : BookTable) (same : Bool) (f : FindBoth (whole_text (keyed_name t)) one two same) → f.rows ≡ f.others
+    keyed_alike t same f =
+        let held = stands.rows in
+        let its_held = its_stands.rows in
+        let ordered = all_ordered W L in
+        same_shown t lies.others its.others one.trees two.trees (sound_layout one lies sound) (sound_layout two its its_sound) (rows_of W L t) (ordered.keyed t) (held.keyed t) (its_held.keyed t) f.rows f.others
+        (subst (λ (q : Query). IsAnswer q (overlay one.trees []) [] f.rows) (keyed_is t) (answer (keyed_name t) same f))
+        (subst (λ (q : Query). IsAnswer q (overlay two.trees []) [] f.others) (keyed_is t) (its_answer (keyed_name t) same f))
+
+    book_alike : (same : Bool) (f : FindBoth (whole_text name.Book) one two same) → f.rows ≡ f.others
+    book_alike same f =
+        let held = stands.rows in
+        let its_held = its_stands.rows in
+        book_shown one.trees f.rows (answer name.Book same f) _ held.book ∙ sym (book_shown two.trees f.others (its_answer name.Book same f) _ its_held.book)
+
+    entry_alike : (same : Bool) (f : FindBoth (whole_text name.Entry) one two same) → f.rows ≡ f.others
+    entry_alike same f =
+        let held = stands.rows in
+        let its_held = its_stands.rows in
+        let up : IsTable (one.trees 1) = subst IsTable (sym held.entry) (entries_rise [] L) in
+        let its_up : IsTable (two.trees 1) = subst IsTable (sym its_held.entry) (entries_rise [] L) in
+        entries_shown one.trees f.rows up (answer name.Entry same f) ∙ ap (map _) (held.entry ∙ sym its_held.entry) ∙ sym (entries_shown two.trees f.others its_up (its_answer name.Entry same f))
+
+    -- both stand for one register: no table differs
+    pub shown_too : (t : TableName) (same : Bool) → FindBoth (whole_text t) one two same → IsTrue same
+    shown_too name.Book same f = f.told.1 (book_alike same f)
+    shown_too name.Entry same f = f.told.1 (entry_alike same f)
+    shown_too name.Outgoing same f = f.told.1 (keyed_alike Outgoing same f)
+    shown_too name.Stock same f = f.told.1 (keyed_alike Stock same f)
+    shown_too name.Advice same f = f.told.1 (keyed_alike Advice same f)
+    shown_too name.AdviceLine same f = f.told.1 (keyed_alike AdviceLine same f)
+    shown_too name.Orders same f = f.told.1 (keyed_alike Orders same f)
+    shown_too name.OrderLine same f = f.told.1 (keyed_alike OrderLine same f)
+    shown_too name.Reservation same f = f.told.1 (keyed_alike Reservation same f)
+
+-- The same of connections.
+
+-- they show something, so both are open
+opened : (one two : State) (same : Bool) → Compares same one two → IsTrue one.is_open × IsTrue two.is_open
+opened one two true h = let s = h name.Book in (s.is_open, s.other_open)
+opened one two false h = let s = h.1 in (s.is_open, s.other_open)
+
+module _ (one two : State) (live : IsLive one) (its_live : IsLive two) where
+  pub compared_stands : (W : Who) (L : List Entry) → IsLaid one → AreTables (let db = one.now in db.trees) → StandsWhileOpen two W L → (same : Bool) → Compares same one two → IsTrue same → Stands W L one.now
+  compared_stands W L laid tables stands true h _ =
+      let s = h name.Book in
+      let here = stands s.other_open in
+      stands_too one.now two.now (laid s.is_open) here.schema (live s.is_open).0 (its_live s.other_open).0 W L tables here (λ t. let f = h t in f.find)
+  compared_stands W L laid tables stands false h is = absurd (let e : ◌≡◌ {A = Bool} false true = is in cc)
+
+  pub compared_same : (W : Who) (L : List Entry) → StandsWhileOpen one W L → StandsWhileOpen two W L → (same : Bool) → Compares same one two → IsTrue same
+  compared_same W L stands its_stands true h = refl
+  compared_same W L stands its_stands false h =
+      let s = h.1 in
+      let here = stands s.is_open in
+      let there = its_stands s.other_open in
+      shown_too one.now two.now here.schema there.schema (live s.is_open).0 (its_live s.other_open).0 W L here there h.0 false s.find
+
+-- what is told in Ok
+pub ok_map : {T E : Type 0} {P Q : T → Type 0} (r : Result T E) → ((t : T) → P t → Q t) → IfOk r P → IfOk r Q
+ok_map (Ok t) f h = f t h
+ok_map (Err e) f h = tt
+
+pub ok_open : {E : Type 0} (one two : State) (r : Result Bool E) → IfOk r (λ same. Compares same one two) → OnOk r (IsTrue one.is_open)
+ok_open one two (Ok same) h = (opened one two same h).0
+ok_open one two (Err e) h = tt

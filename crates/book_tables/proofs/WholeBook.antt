@@ -1,0 +1,113 @@
+-- The whole of `book`, which has one row, and of `entry`, in the order of its numbers.
+use Rattle.std.proofs.Common.{◌≡◌, inl, inr, List, [], ◌∷◌, length, map, drop, Bool, true, false, codes, Less, Equal, refl, sym, ap, subst, ◌∙◌, arith}
+use Rattle.std.specs.List.Sorted.{IsPermutation}
+use Rattle.std.specs.Ordering.{ordering_then}
+use Rattle.std.proofs.lemmas.List.{length-map}
+use Rattle.std.proofs.lemmas.List.Sorted.{length_permutation}
+use Rattle.sqlite.specs.declared.types.Value.{Value}
+use Rattle.sqlite.specs.declared.types.Value.TheVariants as value
+use Rattle.sqlite.specs.Order.{Row, column}
+use Rattle.sqlite.specs.Query.{IsAnswer, Output, output_cmp}
+use Rattle.sqlite.specs.Program.{overlay}
+use Rattle.sqlite.specs.Tree.{Trees, IsTable}
+use Rattle.sqlite_schema.specs.Rules.{are_typed}
+use Rattle.sqlite_sql.specs.Ops.{is_null}
+use Rattle.sqlite_trees.specs.Tree.{IsAscending}
+use Rattle.sqlite_trees.proofs.ListLemmas.{ascending-map, ascending_weaker}
+use Rattle.sqlite.proofs.Callers.{one_permutation}
+use Rattle.sqlite_catalog.specs.Listing.{IsSound}
+use Rattle.sqlite_rules.specs.Lists.{Has}
+use Rattle.book_tables.specs.Layout.{Others, beside, text, blob, book_layout, entry_layout}
+use Rattle.book_tables.proofs.InOrder.{in_order}
+use Rattle.book_tables.proofs.KeyLemmas.{places}
+use Rattle.book_tables.proofs.Values.{and_true}
+use Rattle.book_tables.proofs.WholeFound.{out, kept_is, stored_shown}
+use Rattle.book_tables.proofs.WholeKeyed.{columns_out}
+use Rattle.book_tables.proofs.WholeRows.{row_full, row_typed, all_columns}
+use Rattle.book_tables.proofs.WholeTexts.{columns_at, rising_at, book_query, entry_query}
+
+-- `book`.
+
+abbrev book_out : Row → Output
+book_out = out 0 (columns_at (places 0 4)) []
+
+book_full : (others : Others) (db : Trees) → IsSound (beside others) db → (row : Row) → Has (db 0) row → (book_out row).1 ≡ row
+book_full others db sound row there =
+    columns_out row (places 0 4) ∙ all_columns row 4 (row_full others db book_layout (inl refl) sound row there 2 (text (codes "id")) refl refl refl refl refl)
+
+-- one row is shown where there is one
+pub book_shown : (db : Trees) (rows : List Row) (a : IsAnswer book_query (overlay db []) [] rows) (row : Row) → db 0 ≡ row ∷ [] → rows ≡ (book_out row).1 ∷ []
+book_shown db rows a row is =
+    let kept : a.kept ≡ book_out row ∷ [] = kept_is 0 (columns_at (places 0 4)) [] (λ _. refl) db rows a ∙ ap (map book_out) is in
+    let ordered : a.ordered ≡ book_out row ∷ [] = one_permutation (book_out row) a.ordered (subst (λ (os : List Output). IsPermutation os a.ordered) kept a.same) in
+    a.shown ∙ ap (map (λ (o : Output). o.1)) ordered
+
+only_one : (xs : List Row) → length xs ≡ 1 → (x : Row) × (xs ≡ x ∷ [])
+only_one [] h = absurd (omega (arith, h))
+only_one (x ∷ []) h = (x, refl)
+only_one (x ∷ y ∷ xs) h = absurd (omega (arith, h))
+
+pub book_same : (one two : Others) (db its : Trees) → IsSound (beside one) db → IsSound (beside two) its → (rows : List Row) → IsAnswer book_query (overlay db []) [] rows → IsAnswer book_query (overlay its []) [] rows
+    → (row : Row) → its 0 ≡ row ∷ [] → db 0 ≡ row ∷ []
+book_same one two db its sound its_sound rows a b row is =
+    let alone = book_shown its rows b row is in
+    let count : length (db 0) ≡ 1 =
+    sym (ap length (kept_is 0 (columns_at (places 0 4)) [] (λ _. refl) db rows a) ∙ length-map (db 0) book_out) ∙ sym (length_permutation a.kept a.ordered a.same) ∙ sym (length-map a.ordered (λ (o : Output). o.1)) ∙ sym (ap length a.shown) ∙ ap length alone in
+    let mine = only_one (db 0) count in
+    let there : Has (db 0) mine.0 = subst (λ (rs : List Row). Has rs mine.0) (sym mine.1) (inl refl) in
+    let its_there : Has (its 0) row = subst (λ (rs : List Row). Has rs row) (sym is) (inl refl) in
+    let listed = subst (λ (rs : List Row). Has rs (book_out mine.0).1) alone (stored_shown 0 (columns_at (places 0 4)) [] (λ _. refl) db rows a mine.0 there) in
+    let same : (book_out mine.0).1 ≡ (book_out row).1 = elim listed [ inl e ↦ e | inr none ↦ absurd none ] in
+    mine.1 ∙ ap (λ (r : Row). r ∷ []) (sym (book_full one db sound mine.0 there) ∙ same ∙ book_full two its its_sound row its_there)
+
+-- `entry`.
+
+abbrev entry_out : Row → Output
+entry_out = out 1 (columns_at (0 ∷ places 2 5)) (rising_at (0 ∷ []))
+
+abbrev entry_row : Row → Row
+entry_row r = (entry_out r).1
+
+pub entries_shown : (db : Trees) (rows : List Row) → IsTable (db 1) → IsAnswer entry_query (overlay db []) [] rows → rows ≡ map entry_row (db 1)
+entries_shown db rows up a =
+    let is = kept_is 1 (columns_at (0 ∷ places 2 5)) (rising_at (0 ∷ [])) (λ _. refl) db rows a in
+    let rising : IsAscending (λ x y. output_cmp entry_query x y ≡ Less) a.kept =
+    subst (IsAscending (λ x y. output_cmp entry_query x y ≡ Less)) (sym is) (ascending-map _ entry_out (db 1) (ascending_weaker _ _ (λ r s h. ap (λ o. ordering_then o Equal) h) (db 1) up)) in
+    let same : a.ordered ≡ a.kept = in_order entry_query a.kept a.ordered rising a.same a.sorted in
+    a.shown ∙ ap (map (λ (o : Output). o.1)) (same ∙ is) ∙ map_map entry_out (λ (o : Output). o.1) (db 1)
+  where
+    map_map : {A B C : Type 0} (f : A → B) (g : B → C) (xs : List A) → map g (map f xs) ≡ map (λ x. g (f x)) xs
+    map_map f g [] = refl
+    map_map f g (x ∷ xs) = ap (λ ys. g (f x) ∷ ys) (map_map f g xs)
+
+-- a row of which all but the second value is shown, which is NULL
+abbrev unshown : Row → Row
+unshown [] = []
+unshown (v ∷ r) = v ∷ value.Null ∷ r
+
+null_is : (v : Value) → is_null v ≡ true → value.Null ≡ v
+null_is value.Null h = refl
+null_is (value.Int n) h = absurd (let e : ◌≡◌ {A = Bool} false true = h in cc)
+null_is (value.Real x) h = absurd (let e : ◌≡◌ {A = Bool} false true = h in cc)
+null_is (value.Text t) h = absurd (let e : ◌≡◌ {A = Bool} false true = h in cc)
+null_is (value.Blob b) h = absurd (let e : ◌≡◌ {A = Bool} false true = h in cc)
+
+second_null : (row : Row) → are_typed entry_layout.key 0 entry_layout.columns (drop 1 row) ≡ true → length row ≡ 7 → value.Null ≡ column row 1
+second_null [] h n = absurd (omega (arith, n))
+second_null (x ∷ []) h n = absurd (omega (arith, n))
+second_null (x ∷ v ∷ row) h n = null_is v (and_true _ _ h).0
+
+entry_whole : (others : Others) (db : Trees) → IsSound (beside others) db → (row : Row) → Has (db 1) row → unshown (entry_row row) ≡ row
+entry_whole others db sound row there =
+    let long = row_full others db entry_layout (inr (inl refl)) sound row there 5 (blob (codes "body")) refl refl refl refl refl in
+    let null = second_null row (row_typed others db entry_layout (inr (inl refl)) sound row there) long in
+    ap unshown (columns_out row (0 ∷ places 2 5)) ∙ ap (λ (v : Value). column row 0 ∷ v ∷ map (column row) (places 2 5)) null ∙ all_columns row 7 long
+
+undone : (xs : List Row) → ((r : Row) → Has xs r → unshown (entry_row r) ≡ r) → map unshown (map entry_row xs) ≡ xs
+undone [] h = refl
+undone (x ∷ xs) h = λ i. h x (inl refl) i ∷ undone xs (λ r there. h r (inr there)) i
+
+pub entries_same : (one two : Others) (db its : Trees) → IsSound (beside one) db → IsSound (beside two) its → (rows : List Row) → IsTable (db 1) → IsTable (its 1) → IsAnswer entry_query (overlay db []) [] rows
+    → IsAnswer entry_query (overlay its []) [] rows → db 1 ≡ its 1
+entries_same one two db its sound its_sound rows up its_up a b =
+    sym (undone (db 1) (entry_whole one db sound)) ∙ ap (map unshown) (sym (entries_shown db rows up a) ∙ entries_shown its rows its_up b) ∙ undone (its 1) (entry_whole two its its_sound)

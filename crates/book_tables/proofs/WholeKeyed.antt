@@ -1,0 +1,105 @@
+-- A keyed table that shows the rows of another that holds a set of rows holds that set.
+use Rattle.std.proofs.Common.{◌≡◌, inl, inr, ℕ, ◌+◌, ℤ, List, [], ◌∷◌, length, map, drop, codes, refl, sym, ap, subst, ◌∙◌, arith}
+use Rattle.sqlite.specs.declared.types.Value.TheVariants as value
+use Rattle.sqlite.specs.Order.{Row, column}
+use Rattle.sqlite.specs.Query.{IsAnswer, output}
+use Rattle.sqlite.specs.Program.{overlay}
+use Rattle.sqlite.specs.Term.{Term, eval_all}
+use Rattle.sqlite.specs.Table.{Table}
+use Rattle.sqlite.specs.Tree.{Trees}
+use Rattle.sqlite_trees.specs.declared.store.Shape.TheVariants as shape
+use Rattle.sqlite_trees.specs.View.{IsShaped}
+use Rattle.sqlite_value.specs.declared.keys.Key.{Key}
+use Rattle.sqlite_catalog.specs.Listing.{IsSound}
+use Rattle.sqlite_rules.specs.Lists.{Has}
+use Rattle.sqlite_rules.proofs.ListLemmas.{all_has}
+use Rattle.profile.specs.Tables.{TableRow}
+use Rattle.book_tables.specs.Comparing.{AreTables}
+use Rattle.book_tables.specs.Held.{values, Holds}
+use Rattle.book_tables.specs.Layout.{Others, beside, book_tables, text, number, outgoing_layout, stock_layout, advice_layout, advice_line_layout, orders_layout, order_line_layout, reservation_layout}
+use Rattle.book_tables.specs.Standing.{BookTable, Outgoing, Stock, Advice, AdviceLine, Orders, OrderLine, Reservation, layout_of, tree_of, width_of}
+use Rattle.book_tables.proofs.KeyLemmas.{places}
+use Rattle.book_tables.proofs.WholeFound.{row_stored, stored_shown}
+use Rattle.book_tables.proofs.WholeRows.{row_full, columns_later, all_columns, numbered_row}
+use Rattle.book_tables.proofs.WholeTexts.{columns_at, rising_at, columns_of, keyed_query}
+
+pub keyed_listed : (t : BookTable) → Has book_tables (layout_of t)
+keyed_listed Outgoing = inr (inr (inl refl))
+keyed_listed Stock = inr (inr (inr (inl refl)))
+keyed_listed Advice = inr (inr (inr (inr (inl refl))))
+keyed_listed AdviceLine = inr (inr (inr (inr (inr (inl refl)))))
+keyed_listed Orders = inr (inr (inr (inr (inr (inr (inl refl))))))
+keyed_listed OrderLine = inr (inr (inr (inr (inr (inr (inr (inl refl)))))))
+keyed_listed Reservation = inr (inr (inr (inr (inr (inr (inr (inr (inl refl))))))))
+
+pub keyed_lies : (t : BookTable) (db : Trees) → overlay db [] (tree_of t) ≡ db (tree_of t)
+keyed_lies Outgoing db = refl
+keyed_lies Stock db = refl
+keyed_lies Advice db = refl
+keyed_lies AdviceLine db = refl
+keyed_lies Orders db = refl
+keyed_lies OrderLine db = refl
+keyed_lies Reservation db = refl
+
+-- columns as terms
+pub columns_out : (r : Row) (at : List ℕ) → eval_all (columns_at at) ([] ∷ r ∷ []) ≡ map (column r) at
+columns_out r [] = refl
+columns_out r (p ∷ at) = ap (λ (rs : Row). column r p ∷ rs) (columns_out r at)
+
+pub sorted_out : (r : Row) (at : List ℕ) → eval_all (map (λ (k : Term × Key). k.0) (rising_at at)) ([] ∷ r ∷ []) ≡ map (column r) at
+sorted_out r [] = refl
+sorted_out r (p ∷ at) = ap (λ (rs : Row). column r p ∷ rs) (sorted_out r at)
+
+later_columns : (row : Row) (w : ℕ) → length row ≡ w + 1 → map (column row) (places 1 w) ≡ drop 1 row
+later_columns [] w h = absurd (omega (arith, h))
+later_columns (x ∷ row) w h = columns_later x row w 0 ∙ all_columns row w (omega (arith, h))
+
+module _ (t : BookTable) where
+  abbrev pub shown : Row → Row
+  shown r = (output (keyed_query t) ([] ∷ r ∷ [])).1
+
+pub keyed_full : (t : BookTable) (others : Others) (db : Trees) → IsSound (beside others) db → (row : Row) → Has (db (tree_of t)) row → length row ≡ columns_of t + 1
+keyed_full Outgoing others db sound row there = row_full others db outgoing_layout (keyed_listed Outgoing) sound row there 4 (text (codes "state")) refl refl refl refl refl
+keyed_full Stock others db sound row there = row_full others db stock_layout (keyed_listed Stock) sound row there 7 (number (codes "shipped")) refl refl refl refl refl
+keyed_full Advice others db sound row there = row_full others db advice_layout (keyed_listed Advice) sound row there 3 (number (codes "is_open")) refl refl refl refl refl
+keyed_full AdviceLine others db sound row there = row_full others db advice_line_layout (keyed_listed AdviceLine) sound row there 5 (number (codes "quantity")) refl refl refl refl refl
+keyed_full Orders others db sound row there = row_full others db orders_layout (keyed_listed Orders) sound row there 6 (text (codes "to_place")) refl refl refl refl refl
+keyed_full OrderLine others db sound row there = row_full others db order_line_layout (keyed_listed OrderLine) sound row there 5 (number (codes "quantity")) refl refl refl refl refl
+keyed_full Reservation others db sound row there = row_full others db reservation_layout (keyed_listed Reservation) sound row there 4 (number (codes "quantity")) refl refl refl refl refl
+
+-- what is shown of a row is all but its rowid
+pub shown_is : (t : BookTable) (others : Others) (db : Trees) → IsSound (beside others) db → (row : Row) → Has (db (tree_of t)) row → shown t row ≡ drop 1 row
+shown_is t others db sound row there = columns_out row (places 1 (columns_of t)) ∙ later_columns row (columns_of t) (keyed_full t others db sound row there)
+
+module _ (t : BookTable) (one two : Others) (db its : Trees) (sound : IsSound (beside one) db) (its_sound : IsSound (beside two) its) (tables : AreTables db) (rows : List Row)
+    (answer : IsAnswer (keyed_query t) (overlay db []) [] rows) (its_answer : IsAnswer (keyed_query t) (overlay its []) [] rows) (cells : List TableRow) (held : Holds cells (its (tree_of t))) where
+  shaped : IsShaped shape.Table (db (tree_of t))
+  shaped = all_has (λ (u : Table). IsShaped shape.Table (db u.tree)) book_tables (layout_of t) tables (keyed_listed t)
+
+  abbrev project : List Term
+  project = columns_at (places 1 (columns_of t))
+
+  abbrev order : List (Term × Key)
+  order = rising_at (places 1 (width_of t))
+
+  from_stored : (row : Row) → Has (db (tree_of t)) row → (id : ℤ) × (c : TableRow) × Has cells c × (row ≡ value.Int id ∷ values c)
+  from_stored row there =
+      let mine = numbered_row (db (tree_of t)) shaped row there in
+      let listed = stored_shown (tree_of t) project order (keyed_lies t) db rows answer row there in
+      let other = row_stored (tree_of t) project order (keyed_lies t) its rows its_answer (shown t row) listed in
+      let it = held.sound other.0 other.1 in
+      let same : drop 1 row ≡ values it.1 = sym (shown_is t one db sound row there) ∙ other.2 ∙ shown_is t two its its_sound other.0 other.1 ∙ ap (drop 1) it.3 in
+      (mine.0, it.1, it.2, mine.1 ∙ ap (λ (r : Row). value.Int mine.0 ∷ r) same)
+
+  to_stored : (c : TableRow) → Has cells c → (id : ℤ) × Has (db (tree_of t)) (value.Int id ∷ values c)
+  to_stored c there =
+      let other = held.complete c there in
+      let its_row : Row = value.Int other.0 ∷ values c in
+      let listed = stored_shown (tree_of t) project order (keyed_lies t) its rows its_answer its_row other.1 in
+      let mine = row_stored (tree_of t) project order (keyed_lies t) db rows answer (shown t its_row) listed in
+      let row = numbered_row (db (tree_of t)) shaped mine.0 mine.1 in
+      let same : drop 1 mine.0 ≡ values c = sym (shown_is t one db sound mine.0 mine.1) ∙ sym mine.2 ∙ shown_is t two its its_sound its_row other.1 in
+      (row.0, subst (Has (db (tree_of t))) (row.1 ∙ ap (λ (r : Row). value.Int row.0 ∷ r) same) mine.1)
+
+  pub holds_too : Holds cells (db (tree_of t))
+  holds_too = record { rise = shaped.0; sound = from_stored; complete = to_stored }

@@ -1,0 +1,65 @@
+-- How the tables of two connections are compared: each text is asked of both.
+use Rattle.std.specs.Prelude.{◌≡◌, ◌↔◌, ℕ, Bool, true, false, List, [], codes, IsTrue}
+use Rattle.std.specs.List.{AllByRecursion}
+use Rattle.sqlite.specs.Effect.{Database}
+use Rattle.sqlite.specs.Order.{Row}
+use Rattle.sqlite.specs.State.{State}
+use Rattle.sqlite.specs.Table.{Table}
+use Rattle.sqlite.specs.Tree.{Trees}
+use Rattle.sqlite_trees.specs.declared.store.Shape.TheVariants as shape
+use Rattle.sqlite_trees.specs.View.{IsShaped}
+use Rattle.book_tables.specs.declared.comparing.TableName.{TableName}
+use Rattle.book_tables.specs.declared.comparing.TableName.TheVariants.{Book, Entry, Outgoing, Stock, Advice, AdviceLine, Orders, OrderLine, Reservation}
+use Rattle.book_tables.specs.Asking.{Finds}
+use Rattle.book_tables.specs.Layout.{IsLayout, book_tables}
+
+-- the text that asks for all that a table has, in the order of its keys
+abbrev pub whole_text : TableName → List ℕ
+whole_text Book = codes "SELECT rowid, version, qualifier, id FROM book"
+whole_text Entry = codes "SELECT seq, who, mark, n, moment, body FROM entry ORDER BY seq"
+whole_text Outgoing = codes "SELECT who, n, kind, content, state FROM outgoing ORDER BY who, n"
+whole_text Stock = codes "SELECT who, item, lot, since, expected, on_hand, reserved, shipped FROM stock ORDER BY who, item, lot"
+whole_text Advice = codes "SELECT who, shipment, ord, is_open FROM advice ORDER BY who, shipment"
+whole_text AdviceLine = codes "SELECT who, shipment, line, item, lot, quantity FROM advice_line ORDER BY who, shipment, line"
+whole_text Orders = codes "SELECT who, ord, is_open, to_name, to_one, to_two, to_place FROM orders ORDER BY who, ord"
+whole_text OrderLine = codes "SELECT who, ord, line, item, lot, quantity FROM order_line ORDER BY who, ord, line"
+whole_text Reservation = codes "SELECT who, ord, item, lot, quantity FROM reservation ORDER BY who, ord, item, lot"
+
+-- the tables are compared one after another
+abbrev pub number_of : TableName → ℕ
+number_of Book = 0
+number_of Entry = 1
+number_of Outgoing = 2
+number_of Stock = 3
+number_of Advice = 4
+number_of AdviceLine = 5
+number_of Orders = 6
+number_of OrderLine = 7
+number_of Reservation = 8
+
+-- both databases answer the text, and it is told whether their rows are the same
+pub record FindBoth (sql : List ℕ) (one two : Database) (same : Bool) : Type 0 where
+  pub rows : List Row
+  pub others : List Row
+  pub finds : Finds sql [] one rows
+  pub other_finds : Finds sql [] two others
+  pub told : IsTrue same ↔ (rows ≡ others)
+
+-- the same of what two connections show, which are open
+pub record ShowBoth (sql : List ℕ) (one two : State) (same : Bool) : Type 0 where
+  pub is_open : IsTrue one.is_open
+  pub other_open : IsTrue two.is_open
+  pub find : FindBoth sql one.now two.now same
+
+-- while it is open, it is laid out as a book
+abbrev pub IsLaid : State → Type 0
+IsLaid s = IsTrue s.is_open → IsLayout s.now.schema
+
+-- every table has the same rows, or one has not
+abbrev pub Compares : Bool → State → State → Type 0
+Compares true one two = (t : TableName) → ShowBoth (whole_text t) one two true
+Compares false one two = (t : TableName) × ShowBoth (whole_text t) one two false
+
+-- the rows of the book's tables stand in the order of their rowids, which are integers, as a store keeps the rows of any table
+abbrev pub AreTables : Trees → Type 0
+AreTables db = AllByRecursion (λ (t : Table). IsShaped shape.Table (db t.tree)) book_tables
