@@ -3,3 +3,4 @@ mod AskedBooks
 mod StopLemmas
 mod CrossLemmas
 mod AgainLemmas
+mod GivenLemmas

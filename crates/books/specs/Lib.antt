@@ -1,3 +1,4 @@
 pub mod Keeping
 pub mod Opened
 pub mod Stopped
+pub mod Verified

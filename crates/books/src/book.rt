@@ -1,4 +1,4 @@
-ghost use Rattle.std.specs.Prelude.{◌≡◌, ◌≢◌, ◌⊎◌, ◌≤◌, ◌<◌, ◌^◌, ◌-◌, ◌++◌, ◌∷◌, [], List, true, false, IfErr, IfOk, OnOk, OnErr, IsErrOf, IsErrAnd, Some, option_map};
+ghost use Rattle.std.specs.Prelude.{length, ◌≡◌, ◌≢◌, ◌⊎◌, ◌≤◌, ◌<◌, ◌^◌, ◌-◌, ◌++◌, ◌∷◌, [], List, true, false, IfErr, IfOk, OnOk, OnErr, IsErrOf, IsErrAnd, Some, option_map};
 ghost use Rattle.profile.specs.Header.{Who as Partner};
 ghost use Rattle.profile.specs.Accepted.{IsLegal};
 ghost use Rattle.profile.specs.Decision as decided;
@@ -14,7 +14,9 @@ ghost use Rattle.store.specs.Sent.{text_of};
 ghost use Rattle.store.specs.Standing.{IsUsable, IsUnchanged, IsQueryFault, IsNext, IsFault, IsCommitFault, LeavesEither, GoesOn};
 ghost use Rattle.book_tables.specs.Asking.{Finds, IsAsked, house_text};
 ghost use Rattle.book_tables.specs.Exits.{IsAsBefore, StandsWhileOpen};
+ghost use Rattle.book_tables.specs.Comparing.{AreTables, IsLaid};
 ghost use Rattle.books.specs.Keeping.{IsKept};
+ghost use Rattle.books.specs.Verified.{StandsForMany};
 ghost use Rattle.book_tables.specs.Limits.{NoMore};
 ghost use Rattle.book_tables.specs.Needed.{needed_part};
 ghost use Rattle.book_tables.specs.Layout.{no_layout};
@@ -24,6 +26,7 @@ ghost use Rattle.book_tables.specs.Rises.{Rises};
 ghost use Rattle.book_tables.specs.Standing.{StandsIn};
 ghost use Rattle.book_tables.specs.Taken.{has_book_table};
 
+use crate::verifying::replayed;
 use book_tables::{Tables, partner_text};
 use rules::{Change, Entry, Key, Known, Need, Page, Warehouse, Who};
 use sqlite::Alter;
@@ -32,7 +35,7 @@ use std::marker::Model;
 use store::{Fault, Keeper, OutRow, StockRow};
 
 // The greatest number that SQLite holds.
-const GREATEST: u64 = 9_223_372_036_854_775_807;
+pub(crate) const GREATEST: u64 = 9_223_372_036_854_775_807;
 
 /// A book of a warehouse in SQLite tables.
 #[derive(Drop)]
@@ -139,6 +142,35 @@ impl<S: Alter + Drop> Book<S> {
                 shut: false,
             }),
             Err(fault) => Err((fault, tables)),
+        }
+    }
+
+    /// How many entries the register has, where every table is what comes of giving their commands again, one after another, to an
+    /// empty book in memory; 43 where one of them isn't. Nothing is written. 40 and 41 are those of a query, 42 that of a book
+    /// that has to be opened again. It takes as much memory as the book does, and time by its entries.
+    #[tactic(auto, using(book_tables::proofs::Limited::no_more_trans, book_tables::proofs::Limited::no_more_same))]
+    pub fn verify(&mut self) -> Result<u64, Fault>
+        ensures stands { (standing_of S.Store self.new).doubt ≡ 0 → IsLaid (state S.Store self.old.tables.conn)
+            → AreTables (state S.Store self.old.tables.conn).now.trees
+            → IfOk result (λ n. StandsForMany self.old.warehouse n (state S.Store self.old.tables.conn).now) }
+        ensures whole { (standing_of S.Store self.new).doubt ≡ 0 → (L : List register.Entry)
+            → (standing_of S.Store self.old).keeps L → IfOk result (λ n. n ≡ length L) }
+        ensures same { IsUnchanged (standing_of S.Store self.old) (standing_of S.Store self.new) }
+        ensures fault { IfErr result (λ fault. IsQueryFault fault (standing_of S.Store self.old)
+            (standing_of S.Store self.new)) }
+        ensures shut { self.old.shut ≡ true → IsErrOf result Fault.Reopen }
+    {
+        if self.shut {
+            return Err(Fault::Reopen);
+        }
+        let found = replayed(self.alloc, &mut self.tables, self.warehouse, self.entries)?;
+        let Some(mut copy) = found else {
+            return Err(Fault::NotThisBook);
+        };
+        if self.tables.same_tables(&mut copy.tables)? {
+            Ok(copy.entries)
+        } else {
+            Err(Fault::NotThisBook)
         }
     }
 

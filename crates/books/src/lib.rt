@@ -5,6 +5,7 @@ mod book;
 mod crossing;
 mod leaving;
 mod reopening;
+mod verifying;
 
 pub use book::Book;
 pub use book_tables::Tables;

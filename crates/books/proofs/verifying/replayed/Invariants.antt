@@ -1,0 +1,20 @@
+use Rattle.std.proofs.Common.{◌≡◌, List, Ok, length}
+use Rattle.sqlite.specs.Held.{state}
+use Rattle.sqlite.specs.State.{HasCleanDisk}
+use Rattle.sqlite.specs.Steps.{over_memory}
+use Rattle.profile.specs.Register.{Entry}
+use Rattle.book_tables.specs.Asking.{Went}
+use Rattle.book_tables.specs.Exits.{StandsWhileOpen}
+use Rattle.books.specs.Opened.{standing_of}
+use Rattle.books.specs.Verified.{Follows, IsCopy}
+use Rattle.books.proofs.verifying.replayed.Given as goal
+
+-- the commands of the first entries were given to the copy
+abbrev pub invariant-loop-before : goal.invariant-loop-before
+invariant-loop-before g l = record {
+  copy : IsCopy l.fn.warehouse (standing_of over_memory l.copy);
+  follows : HasCleanDisk (state g.S.Store l.tables.conn) → (L : List Entry) → l.fn.entries ≡ length L
+      → StandsWhileOpen (state g.S.Store l.fn.tables.conn) l.fn.warehouse L
+      → Follows l.before (state g.S.Store l.tables.conn) l.fn.warehouse (standing_of over_memory l.copy) L;
+  went : Went {T = Unit {0}} g.S.Store l.fn.tables l.tables (Ok tt);
+}
