@@ -101,6 +101,9 @@ outbox_shape = subcommand (codes "outbox") (who_rule ∷ option_rule (codes "num
 abbrev pub serve_shape : Shape
 serve_shape = subcommand (codes "serve") (wanted_rule (codes "listen") ∷ wanted_rule (codes "count") ∷ at_rule ∷ [])
 
+abbrev pub verify_shape : Shape
+verify_shape = subcommand (codes "verify") (at_rule ∷ [])
+
 -- with an argument more
 abbrev pub and_rule : Shape → Rule → Shape
 and_rule s r = record s { rules = s.rules ++ r ∷ [] }
@@ -128,9 +131,9 @@ show_subcommands = stock_shape ∷ orders_shape ∷ outbox_shape ∷ []
 abbrev pub script_subcommands : List Shape
 script_subcommands = init_shape ∷ act_subcommands ++ show_subcommands
 
--- the program has those of a script over the book in a file, and two of its own
+-- the program has those of a script over the book in a file, and three of its own
 abbrev pub program_subcommands : List Shape
-program_subcommands = script_shape ∷ map over_book script_subcommands ++ over_book serve_shape ∷ []
+program_subcommands = script_shape ∷ map over_book script_subcommands ++ over_book serve_shape ∷ over_book verify_shape ∷ []
 
 -- a subcommand as it stands at a place
 abbrev pub placed : Place → Shape → Shape
@@ -213,6 +216,7 @@ SaysTask f (task.Init who) = (f.0 ≡ codes "init") × Has f.1 (codes "who") who
 SaysTask f (task.Act a at) = SaysAct f a × SaysMoment f.1 at
 SaysTask f (task.Show s) = SaysShow f s
 SaysTask f (task.Serve s at) = (f.0 ≡ codes "serve") × SaysService f.1 s × SaysMoment f.1 at
+SaysTask f task.Verify = f.0 ≡ codes "verify"
 
 -- the line names this file with a book, or none
 abbrev pub SaysBook : List Row → Option (Bor Text) → Type 0

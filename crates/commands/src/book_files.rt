@@ -69,6 +69,25 @@ pub fn open<S: Alter + Drop>(
     }
 }
 
+/// Opens the book in a database that is in no transaction, to check it whole: its tables are read and tested against their schema anew
+/// first, so that all that `Book::verify` asks of them is known. Beyond the faults of `open` it is Device (44) where the file can't be read.
+pub fn open_anew<S: Alter + Drop>(
+    alloc: Global,
+    database: Connection<S>,
+) -> Result<Book<S>, CommandError>
+    requires { database.in_transaction ≡ false }
+    ensures opened { IfOk result (λ b. b.shut ≡ false) }
+{
+    let tables = match Tables::new(database).reopened(alloc) {
+        Ok(tables) => tables,
+        Err((error, _)) => return Err(CommandError::Fault(fault(&error))),
+    };
+    match Book::open_from(alloc, tables) {
+        Ok(book) => Ok(book),
+        Err((fault, _)) => Err(CommandError::Fault(fault)),
+    }
+}
+
 /// Closes a book.
 pub fn close<S: Alter + Drop>(book: Book<S>) -> Connection<S> {
     book.close().into_inner()

@@ -3,7 +3,7 @@
 ghost use Rattle.std.specs.Prelude.{◌≡◌, false};
 
 use crate::acts::{Ready, make_ready, perform};
-use crate::book_files::{close, disconnect, fault, make, open};
+use crate::book_files::{close, disconnect, fault, make, open, open_anew};
 use crate::clock::moment_for;
 use crate::serving::serve;
 use crate::shows::{Asked, ask, show};
@@ -27,6 +27,8 @@ enum Job<'a> {
     Look(Asked<'a>),
     // serve it over HTTP, from a first moment on, and by the clock or not
     Listen(Service, Moment, bool),
+    // compare every table with what the register gives
+    Check,
 }
 
 // Does a job over a book; what is to be made is made by then.
@@ -38,7 +40,7 @@ fn work<K: Keeper, W: io::Write, E: io::Write>(
     err: &mut E,
 ) -> Result<ExitStatus, CommandError> {
     match job {
-        Job::Make(_) => Ok(ExitStatus::Done),
+        Job::Make(_) | Job::Check => Ok(ExitStatus::Done),
         Job::Change(ready, moment) => perform(rt, book, ready, *moment, out, err),
         Job::Look(asked) => show(rt.alloc(), book, asked, out, err),
         Job::Listen(service, first, has_clock) => serve(rt, book, service, *first, *has_clock, out),
@@ -55,7 +57,32 @@ fn begin<S: Alter + Drop>(
 {
     match job {
         Job::Make(warehouse) => make(alloc, database, *warehouse),
+        Job::Check => open_anew(alloc, database),
         _ => open(alloc, database),
+    }
+}
+
+// Says how many entries a book has whose tables are what its register gives.
+fn check<S: Alter + Drop, W: io::Write>(
+    book: &mut Book<S>,
+    out: &mut W,
+) -> Result<ExitStatus, CommandError> {
+    let entries = book.verify()?;
+    write!(out, "ok {entries}\n")?;
+    Ok(ExitStatus::Done)
+}
+
+// Does a job over a book in a database. To check it whole is not for a book of any kind.
+fn done<S: Alter + Drop, W: io::Write, E: io::Write>(
+    rt: &HostRuntime,
+    book: &mut Book<S>,
+    job: &Job<'_>,
+    out: &mut W,
+    err: &mut E,
+) -> Result<ExitStatus, CommandError> {
+    match job {
+        Job::Check => check(book, out),
+        _ => work(rt, book, job, out, err),
     }
 }
 
@@ -71,7 +98,7 @@ fn work_over<S: Alter + Drop, W: io::Write, E: io::Write>(
     requires { database.in_transaction ≡ false }
 {
     let mut book = begin(rt.alloc(), database, job)?;
-    match work(rt, &mut book, job, out, err) {
+    match done(rt, &mut book, job, out, err) {
         Ok(status) => Ok((status, close(book))),
         Err(stop) => Err(stop),
     }
@@ -167,6 +194,7 @@ pub fn run_over_file<W: io::Write, E: io::Write>(
         Task::Init { who } => init(rt, file, who, out, err),
         Task::Act { act, at } => change(rt, file, act, *at, out, err),
         Task::Show(what) => look(rt, file, what, out, err),
+        Task::Verify => over(rt, file, &Job::Check, out, err),
         Task::Serve { service, at } => {
             let first = moment_for(rt, *at)?;
             over(

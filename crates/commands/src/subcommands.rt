@@ -390,6 +390,18 @@ fn serve<'a>(alloc: Global) -> Result<Command<'a>, AllocError>
     with(command, at(alloc))
 }
 
+fn verify<'a>(alloc: Global) -> Result<Command<'a>, AllocError>
+    ensures { IfOk result (IsCommand meant.verify_shape) }
+{
+    subcommand(
+        alloc,
+        "verify",
+        "Says whether every table of the book is what its register gives",
+        "Example: whx12 verify --book harbor.book\n\nThe command of each entry is given again to an empty book in memory, and every table is compared with that book's. Printed\nis: ok and the number of entries; a difference is: fault 43 NotThisBook. Nothing is written. Run it after a restore, before a\nyear is closed, and after a fault of the disk.",
+        at(alloc),
+    )
+}
+
 // With the subcommands that change the book.
 fn with_acts<'a>(
     alloc: Global,
@@ -457,7 +469,8 @@ fn of_programs<'a>(alloc: Global) -> Result<Command<'a>, AllocError>
 {
     let parser = join(Ok(top(alloc)), script(alloc));
     let parser = with_lines(alloc, Place::Program, parser);
-    join_at(alloc, Place::Program, parser, serve(alloc))
+    let parser = join_at(alloc, Place::Program, parser, serve(alloc));
+    join_at(alloc, Place::Program, parser, verify(alloc))
 }
 
 // The words that may stand in a script.

@@ -66,6 +66,8 @@ pub enum Task<'a> {
         /// The moment of each request, if the line says one.
         at: Option<Moment>,
     },
+    /// Compare every table of the book with what its register gives.
+    Verify,
 }
 
 /// Where a book is served, and for how long.
@@ -363,6 +365,9 @@ fn task_of<'a>(alloc: Global, name: &str, values: &ArgMatches<'a>) -> Result<Tas
     if name == "serve" {
         let service = service_of(alloc, values)?;
         return Ok(Task::Serve { service, at });
+    }
+    if name == "verify" {
+        return Ok(Task::Verify);
     }
     if let Some(act) = act_of(alloc, name, values)? {
         return Ok(Task::Act { act, at });

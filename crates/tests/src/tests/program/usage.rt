@@ -27,7 +27,9 @@ script nowhere --at 2025-03-04T09:15
 init ZZ-WHSE1
 stock ZZ-ACME
 script a --book b.book
-verify --book b.book
+verify
+verify b.book --book b.book
+verify --book b.book --book b.book
 init --book b.book
 enrol ZZ-A --book
 enrol ZZ-A --book b.book --book b.book
