@@ -31,12 +31,15 @@ returns-in-Some-clause-next g c = λ clean W L lt f.
     let stands = f.stands (c.in_ok-entry.ensures.was_open clean) in
     let legal : IsLegal W (take i L ++ e ∷ drop (suc i) L) = subst (IsLegal W) t.split stands.legal in
     let legal' = subst (λ V. IsLegal V (take i L ++ e ∷ drop (suc i) L)) (sym f.warehouse) legal in
-    IfOk-weaker c.give.result _ _ (λ given h. (h.0, record {
-      stands = stands_later old new W L clean c.in_ok-entry.ensures.asked.left f.stands;
-      fits = omega (arith, lt);
-      warehouse = let goes = c.give.ensures.goes in goes.warehouse ∙ f.warehouse;
-      usable = subst (IsUsable (standing_of over_memory c.give.new.copy)) (sym t.more ∙ ap (λ n. take n L) (sym one)) h.1;
-    }))
+    IfOk-weaker c.give.result _ _ (λ given h. (
+      h.0,
+      record {
+        stands = stands_later old new W L clean c.in_ok-entry.ensures.asked.left f.stands;
+        fits = omega (arith, lt);
+        warehouse = let goes = c.give.ensures.goes in goes.warehouse ∙ f.warehouse;
+        usable = subst (IsUsable (standing_of over_memory c.give.new.copy)) (sym t.more ∙ ap (λ n. take n L) (sym one)) h.1;
+      },
+    ))
     (c.give.ensures.next (memory_is_clean c.give.new.copy.tables.conn) (take i L) e (drop (suc i) L) t.row legal' f.usable)
 
 pub returns-in-None-clause-next : goal.returns-in-None-clause-next
