@@ -147,7 +147,7 @@ impl<S: Alter + Drop> Book<S> {
 
     /// How many entries the register has, where every table is what comes of giving their commands again, one after another, to an
     /// empty book in memory; 43 where one of them isn't. Nothing is written. 40 and 41 are those of a query, 42 that of a book
-    /// that has to be opened again. It takes as much memory as the book does, and time by its entries.
+    /// that has to be opened again. It holds a second book in memory for as long as it runs.
     #[tactic(auto, using(book_tables::proofs::Limited::no_more_trans, book_tables::proofs::Limited::no_more_same))]
     pub fn verify(&mut self) -> Result<u64, Fault>
         ensures stands { (standing_of S.Store self.new).doubt ≡ 0 → IsLaid (state S.Store self.old.tables.conn)
