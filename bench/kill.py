@@ -14,8 +14,8 @@ or by other commands, and what it shows is compared with the second reading of t
 Between servers clerks count, pick and recount; half of these commands are killed while they run, and given again: the document is
 made once, whether the kill came before it or after it. For every ten rounds a new book's `init` is killed, given again, and enrols
 a depositor. Debian's sqlite3 (apt-get install sqlite3) says in each round, of a copy of the files
-as the kill left them, whether they are sound and how many entries they hold, and at the end so of the closed book, whose stock rows
-are compared too. The folder of a run that fails is kept, and the status is then 1.
+as the kill left them, whether they are sound and how many entries they hold, and `verify` does so of another copy; at the end so of
+the closed book, whose stock rows are compared too. The folder of a run that fails is kept, and the status is then 1.
 """
 import copy
 import os
@@ -125,7 +125,7 @@ class Run:
         self.r = self.day.r
         self.book = os.path.join(folder, "killed.book")
         self.answered, self.tickets = [], 0
-        self.counts = {"answered": 0, "in": 0, "out": 0, "acts": 0, "cut": 0, "cut in": 0, "begun": 0}
+        self.counts = {"answered": 0, "in": 0, "out": 0, "acts": 0, "cut": 0, "cut in": 0, "begun": 0, "checked": 0}
         self.command("init", "ZZ-WHSE1")
         for who in WHO:
             self.command("enrol", who.decode())
@@ -272,16 +272,26 @@ class Run:
 
     # sqlite3
 
-    def entries(self):
-        """How many entries the files hold, log and all, which have to be a sound database to sqlite3 as well."""
-        path = os.path.join(self.folder, "copy")
+    def copied(self, name):
+        """A copy of the book's files as they lie there, log and all."""
+        path = os.path.join(self.folder, name)
         for end in ("", "-wal", "-shm"):
             if os.path.exists(path + end):
                 os.remove(path + end)
             if end != "-shm" and os.path.exists(self.book + end):
                 shutil.copyfile(self.book + end, path + end)
+        return path
+
+    def entries(self):
+        """How many entries the files hold, which have to be a sound database to sqlite3, and to `verify` a book of which every
+        table is what its register gives."""
+        path = self.copied("copy")
         same("integrity of a copy", tables.sqlite(path, "PRAGMA integrity_check"), "ok\n")
-        return int(tables.sqlite(path, "SELECT count(*) FROM entry"))
+        entries = int(tables.sqlite(path, "SELECT count(*) FROM entry"))
+        ran = subprocess.run([self.program, "verify", "--book", self.copied("checked")], capture_output=True, check=False)
+        same("verify", (ran.returncode, ran.stdout, ran.stderr), (0, b"ok %d\n" % entries, b""))
+        self.counts["checked"] += 1
+        return entries
 
     def end(self, candidates):
         """All that was answered is sent once more, and sqlite3 looks at the closed book."""
@@ -323,7 +333,8 @@ def main(words):
     counts = run.counts
     print(f"{rounds} kills of a server over one book: {counts['answered']} interchanges answered and there, {counts['acts']} acts of clerks; "
           f"of those under way {counts['in']} were in and {counts['out']} were not; {counts['cut']} kills of clerks' commands, of which "
-          f"{counts['cut in']} were in; {counts['begun']} books begun and killed; sqlite3 says ok")
+          f"{counts['cut in']} were in; {counts['begun']} books begun and killed; {counts['checked']} times "
+          "sqlite3 and verify say ok")
     shutil.rmtree(folder)
     return 0
 

@@ -3,3 +3,5 @@ pub mod RosterLaws
 pub mod LineLaws
 pub mod TellingLaws
 pub mod ShownLaws
+pub mod ActLaws
+pub mod EnrolLaws

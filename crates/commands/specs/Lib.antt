@@ -8,3 +8,9 @@ pub mod Shown
 pub mod Faults
 pub mod Stops
 pub mod Clerks
+pub mod Acting
+pub mod Readying
+pub mod Looking
+pub mod Working
+pub mod Takes
+pub mod Enrolling

@@ -1,11 +1,15 @@
-ghost use Rattle.std.specs.Prelude.{◌≡◌, List, true, IfOk, OnOk};
+ghost use Rattle.std.specs.Prelude.{◌≡◌, List, true, IfOk, IfSome, OnOk, OnErr};
 ghost use Rattle.profile.specs.Accepted.{IsLegal, is_command, reply_to, after};
-ghost use Rattle.profile.specs.Register.{Entry};
+ghost use Rattle.profile.specs.Register.{Entry, Enrol as Enrolment, Interchange as Received};
 ghost use Rattle.rules.specs.Asked.{asked};
 ghost use Rattle.store.specs.Runs.{told};
-ghost use Rattle.store.specs.Standing.{IsUsable, GoesOn};
+ghost use Rattle.store.specs.Standing.{IsUsable, GoesOn, LeavesEither};
+ghost use Rattle.commands.specs.Acting.{IsAnswered, IsPerformed};
+ghost use Rattle.commands.specs.Clerks.{command_of};
+ghost use Rattle.commands.specs.Readying.{IsMadeReady};
 ghost use Rattle.commands.specs.Telling.{IsPrinted};
 
+use crate::clock::moment_for;
 use crate::rosters::{enrol_all, read_roster};
 use crate::slips::{Slip, clerk, slip_of};
 use crate::takes::take;
@@ -14,7 +18,7 @@ use crate::words::BookAct;
 use intake::read_interchange;
 use std::alloc::Global;
 use std::io;
-use std::rt::Files;
+use std::rt::{Clock, Files};
 use store::{Command, Keeper, Moment, Refusal, Reply, Who, submit};
 
 /// What is to be done to a book, its words tested and its files read, so that only the book and the devices can keep it from
@@ -33,14 +37,16 @@ pub enum Ready<'a> {
     Clerk(Slip<'a>),
 }
 
-/// What a line says is to be done, made ready: its words are tested from left to right, then its file is read, then a sheet or
-/// a list is tested. Refused are 32, a word or a list that can't be read, also one that is too long, and what keeps a sheet from
-/// being one (30 to 33, of one that is too long 32);
-/// a file that can't be read is Device (44).
-pub fn make_ready<'a, R: Files + AllocGlobal>(
+// What a line says is to be done, made ready: its words are tested from left to right, then its file is read, then a sheet or
+// a list is tested. Refused are 32, a word or a list that can't be read, also one that is too long, and what keeps a sheet from
+// being one (30 to 33, of one that is too long 32);
+// a file that can't be read is Device (44).
+fn make_ready<'a, R: Files + AllocGlobal>(
     rt: &R,
     act: &BookAct<'a>,
-) -> Result<Result<Ready<'a>, Refusal>, CommandError> {
+) -> Result<Result<Ready<'a>, Refusal>, CommandError>
+    ensures { IfOk result (λ made. IfOk made (IsMadeReady act.now)) }
+{
     match act {
         BookAct::Enrol { who } => match Who::new(who.as_bytes()) {
             Some(who) => Ok(Ok(Ready::Enrol(who))),
@@ -56,6 +62,23 @@ pub fn make_ready<'a, R: Files + AllocGlobal>(
             Ok(slip) => Ok(Ok(Ready::Clerk(slip))),
             Err(refusal) => Ok(Err(refusal)),
         },
+    }
+}
+
+/// What a line says is to be done, made ready, and its moment: the one that the line says, or the clock's. A clock that can't be used
+/// is told before anything is read.
+pub fn ready_at<'a, R: Files + Clock + AllocGlobal>(
+    rt: &R,
+    act: &BookAct<'a>,
+    at: Option<Moment>,
+) -> Result<Result<(Ready<'a>, Moment), Refusal>, CommandError>
+    ensures ready { IfOk result (λ made. IfOk made (λ m. IsMadeReady act.now m.0)) }
+    ensures moment { IfOk result (λ made. IfOk made (λ m. IfSome at (λ t. m.1 ≡ t))) }
+{
+    let moment = moment_for(rt, at)?;
+    match make_ready(rt, act)? {
+        Ok(ready) => Ok(Ok((ready, moment))),
+        Err(refusal) => Ok(Err(refusal)),
     }
 }
 
@@ -92,10 +115,61 @@ fn hand_in<K: Keeper, W: io::Write, E: io::Write>(
         → IfOk result (λ status. IsPrinted (reply_to (K.standing book.old).warehouse L (asked command.now) moment) (W.contents out.old) (W.contents out.new) status) }
     ensures done { (K.standing book.new).doubt ≡ 0 → (L : List Entry) → IsUsable (K.standing book.old) L → is_command (asked command.now) ≡ true
         → OnOk result (IsUsable (K.standing book.new) (after (K.standing book.old).warehouse L (asked command.now, moment))) }
+    ensures left { (K.standing book.new).doubt ≡ 0 → (L : List Entry) → IsUsable (K.standing book.old) L → is_command (asked command.now) ≡ true
+        → OnErr result (LeavesEither (K.standing book.new) L (after (K.standing book.old).warehouse L (asked command.now, moment))) }
     ensures goes { GoesOn (K.standing book.old) (K.standing book.new) }
 {
     let reply = submit(alloc, book, command, moment)?;
     tell_reply(alloc, &reply, out, err)
+}
+
+// Enrols a depositor.
+fn enrol<K: Keeper, W: io::Write, E: io::Write>(
+    alloc: Global,
+    book: &mut K,
+    who: Who,
+    moment: Moment,
+    out: &mut W,
+    err: &mut E,
+) -> Result<ExitStatus, CommandError>
+    ensures answered { IsAnswered (K.standing book.old) (K.standing book.new) (Enrolment who) moment
+        (W.contents out.old) (W.contents out.new) result }
+    ensures goes { GoesOn (K.standing book.old) (K.standing book.new) }
+{
+    hand_in(alloc, book, &Command::Enrol(who), moment, out, err)
+}
+
+// Submits the bytes of a file as an interchange.
+fn send<K: Keeper, W: io::Write, E: io::Write>(
+    alloc: Global,
+    book: &mut K,
+    bytes: &[u8],
+    moment: Moment,
+    out: &mut W,
+    err: &mut E,
+) -> Result<ExitStatus, CommandError>
+    ensures answered { IsAnswered (K.standing book.old) (K.standing book.new) (Received bytes.now) moment
+        (W.contents out.old) (W.contents out.new) result }
+    ensures goes { GoesOn (K.standing book.old) (K.standing book.new) }
+{
+    hand_in(alloc, book, &Command::Interchange(bytes), moment, out, err)
+}
+
+// Submits what a clerk did.
+fn tell_slip<K: Keeper, W: io::Write, E: io::Write>(
+    alloc: Global,
+    book: &mut K,
+    slip: &Slip<'_>,
+    moment: Moment,
+    out: &mut W,
+    err: &mut E,
+) -> Result<ExitStatus, CommandError>
+    ensures answered { IsAnswered (K.standing book.old) (K.standing book.new)
+        (command_of slip.now.who slip.now.told slip.now.sheet) moment
+        (W.contents out.old) (W.contents out.new) result }
+    ensures goes { GoesOn (K.standing book.old) (K.standing book.new) }
+{
+    hand_in(alloc, book, &clerk(slip), moment, out, err)
 }
 
 /// Does to a book what was made ready, prints what comes of it, and tells a refusal on standard error.
@@ -106,16 +180,17 @@ pub fn perform<R: Files + AllocGlobal + Clone + Drop, K: Keeper, W: io::Write, E
     moment: Moment,
     out: &mut W,
     err: &mut E,
-) -> Result<ExitStatus, CommandError> {
+) -> Result<ExitStatus, CommandError>
+    ensures performed { IsPerformed (K.standing book.old) (K.standing book.new) ready.now moment
+        (W.contents out.old) (W.contents out.new) result }
+    ensures goes { GoesOn (K.standing book.old) (K.standing book.new) }
+{
     let alloc = rt.alloc();
     match ready {
-        Ready::Enrol(who) => hand_in(alloc, book, &Command::Enrol(*who), moment, out, err),
+        Ready::Enrol(who) => enrol(alloc, book, *who, moment, out, err),
         Ready::Roster(partners) => enrol_all(alloc, book, partners, moment, out),
-        Ready::Send(bytes) => {
-            let command = Command::Interchange(bytes);
-            hand_in(alloc, book, &command, moment, out, err)
-        }
+        Ready::Send(bytes) => send(alloc, book, bytes, moment, out, err),
         Ready::Take(dir) => take(rt, book, *dir, moment, out),
-        Ready::Clerk(slip) => hand_in(alloc, book, &clerk(slip), moment, out, err),
+        Ready::Clerk(slip) => tell_slip(alloc, book, slip, moment, out, err),
     }
 }

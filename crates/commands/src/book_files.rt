@@ -1,7 +1,16 @@
 //! The book in a file, and its log beside it. A book is opened and closed over any store, and a database closed over any disk, since what
 //! owns a store on disk is dear to prove.
 
-ghost use Rattle.std.specs.Prelude.{◌≡◌, ◌⊎◌, false, IfOk, IfErr};
+ghost use Rattle.std.specs.Prelude.{◌≡◌, ◌⊎◌, [], List, true, false, IfOk, IfErr, IsErrOf};
+ghost use Rattle.profile.specs.Header.{Who as Partner};
+ghost use Rattle.profile.specs.Register.{Entry};
+ghost use Rattle.sqlite.specs.Held.{state};
+ghost use Rattle.sqlite.specs.State.{HasCleanDisk};
+ghost use Rattle.store.specs.Standing.{IsUsable};
+ghost use Rattle.book_tables.specs.Exits.{StandsWhileOpen};
+ghost use Rattle.book_tables.specs.Layout.{no_layout};
+ghost use Rattle.book_tables.specs.Taken.{has_book_table};
+ghost use Rattle.books.specs.Opened.{standing_of};
 ghost use Rattle.commands.specs.Faults as meant;
 
 use crate::told::CommandError;
@@ -42,8 +51,14 @@ pub fn make<S: Alter + Drop>(
     warehouse: Warehouse,
 ) -> Result<Book<S>, CommandError>
     requires { database.in_transaction ≡ false }
+    ensures usable { IfOk result (λ b. HasCleanDisk (state S.Store b.tables.conn)
+        → (state S.Store database).now.schema ≡ no_layout → IsUsable (standing_of S.Store b) []) }
     ensures warehouse { IfOk result (λ b. b.warehouse ≡ warehouse) }
     ensures opened { IfOk result (λ b. b.shut ≡ false) }
+    ensures taken { has_book_table (state S.Store database).now.schema.tables ≡ true
+        → IsErrOf result (CommandError.Fault Fault.NotThisBook) }
+    ensures free { IfErr result (λ stop. stop ≡ CommandError.Fault Fault.NotThisBook
+        → has_book_table (state S.Store database).now.schema.tables ≡ true) }
     ensures named { IfErr result (λ stop. (stop ≡ CommandError.Fault Fault.NotThisBook)
         ⊎ ((stop ≡ CommandError.Fault Fault.OutOfMemory) ⊎ (stop ≡ CommandError.Fault Fault.Store))) }
 {
@@ -59,6 +74,12 @@ pub fn open<S: Alter + Drop>(
     database: Connection<S>,
 ) -> Result<Book<S>, CommandError>
     requires { database.in_transaction ≡ false }
+    ensures usable { IfOk result (λ b. HasCleanDisk (state S.Store b.tables.conn)
+        → (W : Partner) (L : List Entry) → StandsWhileOpen (state S.Store database) W L
+        → IsUsable (standing_of S.Store b) L) }
+    ensures warehouse { IfOk result (λ b. HasCleanDisk (state S.Store b.tables.conn)
+        → (W : Partner) (L : List Entry) → StandsWhileOpen (state S.Store database) W L
+        → b.warehouse ≡ W) }
     ensures opened { IfOk result (λ b. b.shut ≡ false) }
     ensures named { IfErr result (λ stop. (stop ≡ CommandError.Fault Fault.NotThisBook)
         ⊎ ((stop ≡ CommandError.Fault Fault.OutOfMemory) ⊎ (stop ≡ CommandError.Fault Fault.Store))) }

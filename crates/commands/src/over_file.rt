@@ -1,18 +1,21 @@
 //! What a line says, done over the book in a file: words are tested and files read before the book is opened, and it is closed
 //! before the line is done.
-ghost use Rattle.std.specs.Prelude.{◌≡◌, false};
+ghost use Rattle.std.specs.Prelude.{◌≡◌, false, IfOk};
+ghost use Rattle.books.specs.Opened.{standing_of};
+ghost use Rattle.commands.specs.Working.{IsChecked, IsJobDone, IsJobFor, IsWork};
 
-use crate::acts::{Ready, make_ready, perform};
+use crate::acts::{Ready, perform, ready_at};
 use crate::book_files::{close, disconnect, fault, make, open, open_anew};
 use crate::clock::moment_for;
 use crate::serving::serve;
 use crate::shows::{Asked, ask, show};
 use crate::told::{CommandError, ExitStatus, tell_refusal};
-use crate::words::{BookAct, Service, Show, Task};
+use crate::words::{Service, Task};
 use books::Book;
 use sqlite::{Alter, Connection, FileStore};
 use sqlite_disk::Disk;
 use std::alloc::Global;
+use std::rt::{Clock, Files};
 use std::{fs, io};
 use store::{Keeper, Moment, Refusal, Warehouse, Who};
 
@@ -38,7 +41,10 @@ fn work<K: Keeper, W: io::Write, E: io::Write>(
     job: &Job<'_>,
     out: &mut W,
     err: &mut E,
-) -> Result<ExitStatus, CommandError> {
+) -> Result<ExitStatus, CommandError>
+    ensures worked { IsWork (K.standing book.old) (K.standing book.new) job.now
+        (W.contents out.old) (W.contents out.new) result }
+{
     match job {
         Job::Make(_) | Job::Check => Ok(ExitStatus::Done),
         Job::Change(ready, moment) => perform(rt, book, ready, *moment, out, err),
@@ -66,7 +72,10 @@ fn begin<S: Alter + Drop>(
 fn check<S: Alter + Drop, W: io::Write>(
     book: &mut Book<S>,
     out: &mut W,
-) -> Result<ExitStatus, CommandError> {
+) -> Result<ExitStatus, CommandError>
+    ensures checked { IsChecked (standing_of S.Store book.old) (standing_of S.Store book.new)
+        (W.contents out.old) (W.contents out.new) result }
+{
     let entries = book.verify()?;
     write!(out, "ok {entries}\n")?;
     Ok(ExitStatus::Done)
@@ -79,7 +88,10 @@ fn done<S: Alter + Drop, W: io::Write, E: io::Write>(
     job: &Job<'_>,
     out: &mut W,
     err: &mut E,
-) -> Result<ExitStatus, CommandError> {
+) -> Result<ExitStatus, CommandError>
+    ensures done { IsJobDone (standing_of S.Store book.old) (standing_of S.Store book.new) job.now
+        (W.contents out.old) (W.contents out.new) result }
+{
     match job {
         Job::Check => check(book, out),
         _ => work(rt, book, job, out, err),
@@ -138,47 +150,31 @@ fn over<W: io::Write, E: io::Write>(
     }
 }
 
-// Makes the book of a warehouse.
-fn init<W: io::Write, E: io::Write>(
-    rt: &HostRuntime,
-    file: &str,
-    who: &str,
-    out: &mut W,
-    err: &mut E,
-) -> Result<ExitStatus, CommandError> {
-    match Who::new(who.as_bytes()) {
-        Some(who) => over(rt, file, &Job::Make(Warehouse::new(who)), out, err),
-        None => tell_refusal(rt.alloc(), err, Refusal::BadText),
-    }
-}
-
-// Changes the book.
-fn change<W: io::Write, E: io::Write>(
-    rt: &HostRuntime,
-    file: &str,
-    act: &BookAct<'_>,
-    at: Option<Moment>,
-    out: &mut W,
-    err: &mut E,
-) -> Result<ExitStatus, CommandError> {
-    let moment = moment_for(rt, at)?;
-    match make_ready(rt, act)? {
-        Ok(ready) => over(rt, file, &Job::Change(ready, moment), out, err),
-        Err(refusal) => tell_refusal(rt.alloc(), err, refusal),
-    }
-}
-
-// Shows something of the book.
-fn look<W: io::Write, E: io::Write>(
-    rt: &HostRuntime,
-    file: &str,
-    what: &Show<'_>,
-    out: &mut W,
-    err: &mut E,
-) -> Result<ExitStatus, CommandError> {
-    match ask(what) {
-        Ok(asked) => over(rt, file, &Job::Look(asked), out, err),
-        Err(refusal) => tell_refusal(rt.alloc(), err, refusal),
+// What a line says is to be done over the book in a file, its words tested and its files read.
+fn job_of<'a, R: Files + Clock + AllocGlobal>(
+    rt: &R,
+    task: &Task<'a>,
+) -> Result<Result<Job<'a>, Refusal>, CommandError>
+    ensures { IfOk result (λ made. IfOk made (IsJobFor task.now)) }
+{
+    match task {
+        Task::Init { who } => match Who::new(who.as_bytes()) {
+            Some(who) => Ok(Ok(Job::Make(Warehouse::new(who)))),
+            None => Ok(Err(Refusal::BadText)),
+        },
+        Task::Act { act, at } => match ready_at(rt, act, *at)? {
+            Ok(made) => Ok(Ok(Job::Change(made.0, made.1))),
+            Err(refusal) => Ok(Err(refusal)),
+        },
+        Task::Show(what) => match ask(what) {
+            Ok(asked) => Ok(Ok(Job::Look(asked))),
+            Err(refusal) => Ok(Err(refusal)),
+        },
+        Task::Verify => Ok(Ok(Job::Check)),
+        Task::Serve { service, at } => {
+            let first = moment_for(rt, *at)?;
+            Ok(Ok(Job::Listen(*service, first, at.is_none())))
+        }
     }
 }
 
@@ -190,20 +186,8 @@ pub fn run_over_file<W: io::Write, E: io::Write>(
     out: &mut W,
     err: &mut E,
 ) -> Result<ExitStatus, CommandError> {
-    match task {
-        Task::Init { who } => init(rt, file, who, out, err),
-        Task::Act { act, at } => change(rt, file, act, *at, out, err),
-        Task::Show(what) => look(rt, file, what, out, err),
-        Task::Verify => over(rt, file, &Job::Check, out, err),
-        Task::Serve { service, at } => {
-            let first = moment_for(rt, *at)?;
-            over(
-                rt,
-                file,
-                &Job::Listen(*service, first, at.is_none()),
-                out,
-                err,
-            )
-        }
+    match job_of(rt, task)? {
+        Ok(job) => over(rt, file, &job, out, err),
+        Err(refusal) => tell_refusal(rt.alloc(), err, refusal),
     }
 }

@@ -1,5 +1,13 @@
 //! Lists of depositors.
-ghost use Rattle.std.specs.Prelude.{◌≡◌, IfOk, option_map, codes, map};
+ghost use Rattle.std.specs.Io.KnownBytes.{Appends};
+ghost use Rattle.std.specs.Prelude.{◌≡◌, ◌++◌, ℕ, List, true, Some, IfOk, IfSome, OnOk, OnErr, option_map, codes, map};
+ghost use Rattle.profile.specs.Accepted.{IsLegal, reply_to, after};
+ghost use Rattle.profile.specs.Header.{is_partner, who_text};
+ghost use Rattle.profile.specs.Register.{Entry, Enrol};
+ghost use Rattle.store.specs.Runs.{told};
+ghost use Rattle.store.specs.Standing.{IsUsable, GoesOn, LeavesEither};
+ghost use Rattle.commands.specs.Enrolling.{AreEnrolled, AreEnrolledUntil, line_of};
+ghost use Rattle.commands.specs.Telling.{status_of};
 ghost use Rattle.toml.specs.Data.{get_member};
 ghost use Rattle.toml.specs.View.{items_view, table_view, view};
 ghost use Rattle.commands.specs.Rosters as meant;
@@ -62,7 +70,9 @@ pub fn depositors(alloc: Global, text: &[u8]) -> Result<Option<Vec<Who>>, AllocE
 }
 
 // Prints a partner as `ZZ-ACME`, and a space.
-fn tell_partner<W: io::Write>(out: &mut W, who: &Who) -> Result<(), CommandError> {
+fn tell_partner<W: io::Write>(out: &mut W, who: &Who) -> Result<(), CommandError>
+    ensures { OnOk result (Appends (W.contents out.old) (W.contents out.new) (who_text who.now ++ codes " ")) }
+{
     out.write_all(who.qualifier())?;
     out.write_all(b"-")?;
     out.write_all(who.id())?;
@@ -70,16 +80,16 @@ fn tell_partner<W: io::Write>(out: &mut W, who: &Who) -> Result<(), CommandError
     Ok(())
 }
 
-// Enrols a depositor and prints what became of it.
-fn enrol_one<K: Keeper, W: io::Write>(
-    alloc: Global,
-    book: &mut K,
-    who: Who,
-    moment: Moment,
+// Prints what became of a depositor.
+fn tell_enrolment<W: io::Write>(
     out: &mut W,
-) -> Result<ExitStatus, CommandError> {
-    let reply = submit(alloc, book, &Command::Enrol(who), moment)?;
-    tell_partner(out, &who)?;
+    who: &Who,
+    reply: &Reply,
+) -> Result<ExitStatus, CommandError>
+    ensures says { IfOk result (λ status. status ≡ status_of (told reply.now)) }
+    ensures printed { OnOk result (Appends (W.contents out.old) (W.contents out.new) (line_of who.now (told reply.now))) }
+{
+    tell_partner(out, who)?;
     match reply {
         Reply::Refused { refusal, .. } => {
             let number = refusal.number();
@@ -93,14 +103,45 @@ fn enrol_one<K: Keeper, W: io::Write>(
     }
 }
 
-/// Enrols depositors in order, and prints a line for each.
+// Enrols a depositor and prints what became of it.
+fn enrol_one<K: Keeper, W: io::Write>(
+    alloc: Global,
+    book: &mut K,
+    who: Who,
+    moment: Moment,
+    out: &mut W,
+) -> Result<ExitStatus, CommandError>
+    ensures says { (K.standing book.new).doubt ≡ 0 → (L : List Entry) → (K.standing book.old).keeps L
+        → IsLegal (K.standing book.old).warehouse L
+        → IfOk result (λ status. status ≡ status_of (reply_to (K.standing book.old).warehouse L (Enrol who) moment)) }
+    ensures printed { (K.standing book.new).doubt ≡ 0 → (L : List Entry) → (K.standing book.old).keeps L
+        → IsLegal (K.standing book.old).warehouse L → OnOk result (Appends (W.contents out.old) (W.contents out.new)
+        (line_of who (reply_to (K.standing book.old).warehouse L (Enrol who) moment))) }
+    ensures done { (K.standing book.new).doubt ≡ 0 → (L : List Entry) → IsUsable (K.standing book.old) L
+        → is_partner who ≡ true
+        → OnOk result (IsUsable (K.standing book.new) (after (K.standing book.old).warehouse L (Enrol who, moment))) }
+    ensures left { (K.standing book.new).doubt ≡ 0 → (L : List Entry) → IsUsable (K.standing book.old) L
+        → is_partner who ≡ true
+        → OnErr result (LeavesEither (K.standing book.new) L (after (K.standing book.old).warehouse L (Enrol who, moment))) }
+    ensures goes { GoesOn (K.standing book.old) (K.standing book.new) }
+{
+    let reply = submit(alloc, book, &Command::Enrol(who), moment)?;
+    tell_enrolment(out, &who, &reply)
+}
+
+/// Enrols depositors in order, and prints a line for each. The status is 1 where one of them was refused.
 pub fn enrol_all<K: Keeper, W: io::Write>(
     alloc: Global,
     book: &mut K,
     partners: &[Who],
     moment: Moment,
     out: &mut W,
-) -> Result<ExitStatus, CommandError> {
+) -> Result<ExitStatus, CommandError>
+    ensures enrolled { IfOk result (AreEnrolled (K.standing book.old) (K.standing book.new) partners.now moment
+        (W.contents out.old) (W.contents out.new)) }
+    ensures stopped { OnErr result (AreEnrolledUntil (K.standing book.old) (K.standing book.new) partners.now moment) }
+    ensures goes { GoesOn (K.standing book.old) (K.standing book.new) }
+{
     let mut status = ExitStatus::Done;
     for who in partners {
         status = status.and(enrol_one(alloc, book, *who, moment, out)?);
@@ -113,7 +154,9 @@ pub fn enrol_all<K: Keeper, W: io::Write>(
 pub fn read_roster<R: Files + AllocGlobal>(
     rt: &R,
     file: &str,
-) -> Result<Option<Vec<Who>>, CommandError> {
+) -> Result<Option<Vec<Who>>, CommandError>
+    ensures { IfOk result (λ found. IfSome found (λ whos. (text : List ℕ) × meant.IsRead text (Some whos.items))) }
+{
     match read_within(rt, file, MOST_ROSTER)? {
         Some(text) => Ok(depositors(rt.alloc(), &text)?),
         None => Ok(None),

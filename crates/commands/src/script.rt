@@ -1,5 +1,7 @@
-use crate::acts::{make_ready, perform};
-use crate::clock::moment_for;
+ghost use Rattle.commands.specs.Looking.{IsLineDone, IsView};
+ghost use Rattle.commands.specs.Readying.{IsChange};
+
+use crate::acts::{perform, ready_at};
 use crate::files::{MOST_SCRIPT, read_within};
 use crate::shows::{ask, show};
 use crate::told::{CommandError, ExitStatus, tell_refusal, usage};
@@ -16,10 +18,12 @@ fn change<R: Files + Clock + AllocGlobal + Clone + Drop, K: Keeper, W: io::Write
     at: Option<Moment>,
     out: &mut W,
     err: &mut E,
-) -> Result<ExitStatus, CommandError> {
-    let moment = moment_for(rt, at)?;
-    match make_ready(rt, act)? {
-        Ok(ready) => perform(rt, book, &ready, moment, out, err),
+) -> Result<ExitStatus, CommandError>
+    ensures changed { IsChange (K.standing book.old) (K.standing book.new) act.now at
+        (W.contents out.old) (W.contents out.new) result }
+{
+    match ready_at(rt, act, at)? {
+        Ok(made) => perform(rt, book, &made.0, made.1, out, err),
         Err(refusal) => tell_refusal(rt.alloc(), err, refusal),
     }
 }
@@ -31,7 +35,10 @@ fn look<K: Keeper, W: io::Write, E: io::Write>(
     what: &Show<'_>,
     out: &mut W,
     err: &mut E,
-) -> Result<ExitStatus, CommandError> {
+) -> Result<ExitStatus, CommandError>
+    ensures viewed { IsView (K.standing book.old) (K.standing book.new) what.now
+        (W.contents out.old) (W.contents out.new) result }
+{
     match ask(what) {
         Ok(asked) => show(rt.alloc(), book, &asked, out, err),
         Err(refusal) => tell_refusal(rt.alloc(), err, refusal),
@@ -45,7 +52,10 @@ fn answer<R: Files + Clock + AllocGlobal + Clone + Drop, K: Keeper, W: io::Write
     words: &Words<'_>,
     out: &mut W,
     err: &mut E,
-) -> Result<ExitStatus, CommandError> {
+) -> Result<ExitStatus, CommandError>
+    ensures answered { IsLineDone (K.standing book.old) (K.standing book.new) words.now
+        (W.contents out.old) (W.contents out.new) result }
+{
     match words {
         Words::Over {
             task: Task::Act { act, at },

@@ -7,6 +7,7 @@ ghost use Rattle.profile.specs.Register.{Entry, own};
 ghost use Rattle.profile.specs.Rows.{stock_of, outbox_of};
 ghost use Rattle.store.specs.Sent.{text_of};
 ghost use Rattle.store.specs.Standing.{IsUnchanged};
+ghost use Rattle.commands.specs.Looking.{IsAskedFor};
 ghost use Rattle.commands.specs.Shown.{IsShown, shown_stock, shown_list, shown_text, shown_order, shown_of};
 
 use crate::told::{CommandError, ExitStatus, tell_refusal, tell_text};
@@ -25,7 +26,9 @@ pub struct Asked<'a> {
 }
 
 /// What a line asks to be shown. Refused is 32, a word that can't be read.
-pub fn ask<'a>(show: &Show<'a>) -> Result<Asked<'a>, Refusal> {
+pub fn ask<'a>(show: &Show<'a>) -> Result<Asked<'a>, Refusal>
+    ensures { IfOk result (IsAskedFor show.now) }
+{
     let (who, number) = match show {
         Show::Order { who, number } => (*who, Some(*number)),
         Show::Stock { who, .. } | Show::Outbox { who, .. } => (*who, None),

@@ -1,5 +1,5 @@
 //! What clerks did, with their sheets.
-ghost use Rattle.std.specs.Prelude.{◌≡◌, true, IsTrue, IfSome};
+ghost use Rattle.std.specs.Prelude.{◌≡◌, true, IsTrue, IfOk, IfSome};
 ghost use Rattle.profile.specs.Accepted.{is_command};
 ghost use Rattle.rules.specs.Asked.{asked, act_of as asked_act};
 ghost use Rattle.commands.specs.Clerks.{IsDepositor, act_of, command_of};
@@ -38,7 +38,9 @@ fn depositor(told: &ClerkWords<'_>) -> Option<Who>
 pub fn slip_of<'a, R: Files + AllocGlobal>(
     rt: &R,
     told: &ClerkWords<'a>,
-) -> Result<Result<Slip<'a>, Refusal>, CommandError> {
+) -> Result<Result<Slip<'a>, Refusal>, CommandError>
+    ensures { IfOk result (λ made. IfOk made (λ slip. slip.told ≡ told.now)) }
+{
     let Some(who) = depositor(told) else {
         return Ok(Err(Refusal::BadText));
     };

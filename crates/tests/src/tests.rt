@@ -1,4 +1,3 @@
 mod calls;
-mod program;
 mod stories;
 mod texts;

@@ -3,13 +3,14 @@
 mod beside;
 mod breaking;
 mod cut;
+mod day;
 mod exchanges;
 mod in_tables;
 mod needed;
+mod stopped;
 mod want;
 pub(crate) mod worked;
 
-pub(crate) use exchanges::texts;
 use std::test::Fail;
 use stock::allot;
 

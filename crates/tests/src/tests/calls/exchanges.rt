@@ -1,6 +1,6 @@
 //! Requests and responses over HTTP: what is answered, and what is left where a reader or a writer
 //! fails.
-pub(crate) mod texts;
+mod texts;
 
 use super::worked::{acme, counts, empty, enrols, morning, ninety};
 use http::Method;

@@ -40,12 +40,12 @@ ISA*00*          *00*          *ZZ*WHSE1          *ZZ*ACME           *250304*091
 
 // What is looked at after the day.
 const LEFT: Wanted<'static> = Wanted {
-    printed: "item,lot,expected,on_hand,reserved,shipped\nBOLT,L1,0,0,0,90\n",
+    printed: "item,lot,expected,on_hand,reserved,shipped\nBOLT,L1,0,0,0,90\nok 6\n",
     told: "fault 43 NotThisBook\n",
     status: 3,
 };
 
-// A book isn't made over another, which stays as it is.
+// A book isn't made over another, which stays as it is: its rows are those of its six entries.
 #[test]
 fn a_day_over_a_file(rt: HostRuntime) -> Result<(), Fail> {
     play_all(&rt, CASES)?;
@@ -53,6 +53,7 @@ fn a_day_over_a_file(rt: HostRuntime) -> Result<(), Fail> {
     let mut err = Vec::new(rt.alloc());
     let status = run_over(&rt, "case.book", "init ZZ-OTHER", &mut out, &mut err)?;
     run_over(&rt, "case.book", "stock ZZ-ACME --csv", &mut out, &mut err)?;
+    run_over(&rt, "case.book", "verify", &mut out, &mut err)?;
     Ran::new(&rt, status, &out, &err)?.compare("after the day", &LEFT)?;
     Ok(())
 }
@@ -104,7 +105,14 @@ fn over_database(rt: &HostRuntime, file: &str, sql: &str, lines: &str) -> Result
     }
 }
 
-// The running rows of the file are what is shown.
+// What a check of the whole book tells of it.
+const NOT_THIS: Wanted<'static> = Wanted {
+    printed: "",
+    told: "fault 43 NotThisBook\n",
+    status: 3,
+};
+
+// The running rows of the file are what is shown, and a check of the whole book finds them wrong.
 #[test]
 fn stock_is_read_from_its_rows(rt: HostRuntime) -> Result<(), Fail> {
     fs::write(&rt, "advice.x12", ADVICE)?;
@@ -112,7 +120,8 @@ fn stock_is_read_from_its_rows(rt: HostRuntime) -> Result<(), Fail> {
     remove_book(&rt, "case.book", "case.book-wal")?;
     run_lines(&rt, "case.book", COUNTED)?;
     over_database(&rt, "case.book", "UPDATE stock SET on_hand = 89", "")?;
-    run_lines(&rt, "case.book", "stock ZZ-ACME --csv")?.compare("89", &LESS)
+    run_lines(&rt, "case.book", "stock ZZ-ACME --csv")?.compare("89", &LESS)?;
+    run_lines(&rt, "case.book", "verify")?.compare("verify", &NOT_THIS)
 }
 
 // Lines over books that can't be opened: the book, the line over it, its exit status, and what is

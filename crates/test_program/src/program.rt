@@ -97,7 +97,7 @@ fn run_text(rt: &HostRuntime, text: &str) -> Result<Ran, Fail> {
     run(rt, &["script", "case.script"])
 }
 
-// Runs a line of two words or more over the book in a file. The result is the exit status.
+// Runs a line of words over the book in a file. The result is the exit status.
 fn run_over(
     rt: &HostRuntime,
     book: &str,
@@ -105,11 +105,12 @@ fn run_over(
     out: &mut Vec<u8>,
     err: &mut Vec<u8>,
 ) -> Result<u8, Fail> {
-    let (name, rest) = line.split_once(' ').unwrap_or((line, ""));
-    let mut words = vec![in rt.alloc(); name, "--book", book]?;
-    for word in rest.split(' ') {
+    let mut words = Vec::new(rt.alloc());
+    for word in line.split(' ') {
         words.push(word)?;
     }
+    words.push("--book")?;
+    words.push(book)?;
     Ok(command(rt, &words, out, err))
 }
 

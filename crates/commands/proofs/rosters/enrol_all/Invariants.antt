@@ -1,0 +1,13 @@
+use Rattle.std.proofs.Common.{take}
+use Rattle.store.specs.Standing.{GoesOn}
+use Rattle.commands.specs.Enrolling.{AreEnrolled}
+use Rattle.commands.proofs.rosters.enrol_all.Given as goal
+
+abbrev pub invariant-loop-who : goal.invariant-loop-who
+invariant-loop-who g l =
+    let old = g.K.Keeper.standing l.fn.book in
+    let now = g.K.Keeper.standing l.book in
+    record {
+      goes : GoesOn old now;
+      enrolled : AreEnrolled old now (take l.who-index l.partners) l.fn.moment (g.W.Write.contents l.fn.out) (g.W.Write.contents l.out) l.status;
+    }

@@ -1,0 +1,36 @@
+-- What a command that was made ready does to a book, and what is printed of it.
+use Rattle.std.specs.Prelude.{◌≡◌, ℕ, List, true, Option, Result, IfOk, OnOk, OnErr}
+use Rattle.profile.specs.Accepted.{IsLegal, is_command, reply_to, after}
+use Rattle.profile.specs.Moments.{Moment}
+use Rattle.profile.specs.Register.{Entry, Command, Enrol, Interchange}
+use Rattle.store.specs.Standing.{Standing, IsUsable, LeavesEither}
+use Rattle.commands.specs.Clerks.{command_of}
+use Rattle.commands.specs.Enrolling.{IsEnrolling}
+use Rattle.commands.specs.Takes.{IsTaking}
+use Rattle.commands.specs.Telling.{IsPrinted}
+use Rattle.commands.specs.declared.acts.Ready.{Ready}
+use Rattle.commands.specs.declared.acts.Ready.TheVariants as ready
+use Rattle.commands.specs.declared.told.CommandError.{CommandError}
+use Rattle.commands.specs.declared.told.ExitStatus.{ExitStatus}
+
+-- how a command ended
+abbrev pub Ending : Type 0
+Ending = Result ExitStatus CommandError
+
+-- One command was handed in: its reply is printed, the register is the one after it, and a stop leaves the one before it or that one.
+pub record IsAnswered (old new : Standing) (c : Command) (t : Moment) (before behind : Option (List ℕ)) (ending : Ending) : Type 0 where
+  pub printed : new.doubt ≡ 0 → (L : List Entry) → old.keeps L → IsLegal old.warehouse L
+      → IfOk ending (IsPrinted (reply_to old.warehouse L c t) before behind)
+  pub done : new.doubt ≡ 0 → (L : List Entry) → IsUsable old L → is_command c ≡ true
+      → OnOk ending (IsUsable new (after old.warehouse L (c, t)))
+  pub left : new.doubt ≡ 0 → (L : List Entry) → IsUsable old L → is_command c ≡ true
+      → OnErr ending (LeavesEither new L (after old.warehouse L (c, t)))
+
+-- what was made ready was done; a list of depositors and a folder are many commands
+abbrev pub IsPerformed : Standing → Standing → Ready → Moment → Option (List ℕ) → Option (List ℕ) → Ending → Type 0
+IsPerformed old new (ready.Enrol who) t before behind ending = IsAnswered old new (Enrol who) t before behind ending
+IsPerformed old new (ready.Roster partners) t before behind ending = IsEnrolling old new partners.items t before behind ending
+IsPerformed old new (ready.Send bytes) t before behind ending = IsAnswered old new (Interchange bytes.items) t before behind ending
+IsPerformed old new (ready.Take dir) t before behind ending = IsTaking old new t ending
+IsPerformed old new (ready.Clerk slip) t before behind ending =
+    IsAnswered old new (command_of slip.who slip.told slip.sheet) t before behind ending

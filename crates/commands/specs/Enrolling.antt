@@ -1,0 +1,58 @@
+-- What comes of the depositors of a list, who are enrolled one after another.
+use Rattle.std.specs.Prelude.{◌≡◌, ◌<◌, ◌+◌, ◌++◌, ◌∷◌, [], ℕ, Bool, true, false, List, Option, Result, Ok, Err, codes, decimal, length, map, take, if◌then◌else◌}
+use Rattle.std.specs.Io.KnownBytes.{Appends}
+use Rattle.std.specs.List.{list_any, list_all}
+use Rattle.profile.specs.Accepted.{accepted_on, replies_on, after, reply_to}
+use Rattle.profile.specs.Header.{Who, is_partner, who_text}
+use Rattle.profile.specs.Moments.{Moment}
+use Rattle.profile.specs.Refusals.{refusal_number}
+use Rattle.profile.specs.Register.{Entry, Command, Enrol}
+use Rattle.profile.specs.Reply as replies
+use Rattle.store.specs.Standing.{Standing, IsUsable, LeavesEither}
+use Rattle.commands.specs.declared.told.CommandError.{CommandError}
+use Rattle.commands.specs.declared.told.ExitStatus.{ExitStatus}
+use Rattle.commands.specs.declared.told.ExitStatus.TheVariants.{Done, Refused}
+
+-- their enrolments, each at the moment
+abbrev pub enrolments : Moment → List Who → List (Command × Moment)
+enrolments t whos = map (λ (w : Who). (Enrol w, t)) whos
+
+abbrev pub was_refused : replies.Reply → Bool
+was_refused (replies.Refused r text) = true
+was_refused other = false
+
+-- one that was refused is enough
+abbrev pub status_of : List replies.Reply → ExitStatus
+status_of told = if list_any was_refused told then Refused else Done
+
+-- the line that is printed of one
+abbrev pub line_of : Who → replies.Reply → List ℕ
+line_of who (replies.Refused r text) = who_text who ++ codes " refused " ++ decimal (refusal_number r) ++ codes "\n"
+line_of who other = who_text who ++ codes " enrolled\n"
+
+-- the lines of all, each after what those before it left
+unfoldable pub lines_of : Who → List Entry → Moment → List Who → List ℕ
+lines_of W L t [] = []
+lines_of W L t (who ∷ whos) = line_of who (reply_to W L (Enrol who) t) ++ lines_of W (after W L (Enrol who, t)) t whos
+
+-- each of them was handed in: the register is the one after all, this is the status, and a line is printed of each
+pub record AreEnrolled (old new : Standing) (whos : List Who) (t : Moment) (before behind : Option (List ℕ)) (status : ExitStatus) : Type 0 where
+  pub usable : new.doubt ≡ 0 → (L : List Entry) → IsUsable old L → list_all is_partner whos ≡ true
+      → IsUsable new (accepted_on old.warehouse L (enrolments t whos))
+  pub says : new.doubt ≡ 0 → (L : List Entry) → IsUsable old L → list_all is_partner whos ≡ true
+      → status ≡ status_of (replies_on old.warehouse L (enrolments t whos))
+  pub printed : new.doubt ≡ 0 → (L : List Entry) → IsUsable old L → list_all is_partner whos ≡ true
+      → Appends before behind (lines_of old.warehouse L t whos)
+
+-- so many were handed in, and one more perhaps: a crash leaves the register after those, or after that one too
+pub record AreEnrolledUntil (old new : Standing) (whos : List Who) (t : Moment) : Type 0 where
+  pub count : ℕ
+  pub within : count < length whos
+  pub left : new.doubt ≡ 0 → (L : List Entry) → IsUsable old L → list_all is_partner whos ≡ true
+      → LeavesEither new (accepted_on old.warehouse L (enrolments t (take count whos)))
+      (accepted_on old.warehouse L (enrolments t (take (count + 1) whos)))
+
+-- how a list ended
+abbrev pub IsEnrolling : Standing → Standing → List Who → Moment → Option (List ℕ) → Option (List ℕ) → Result ExitStatus CommandError → Type 0
+IsEnrolling old new whos t before behind (Ok status) = AreEnrolled old new whos t before behind status
+IsEnrolling old new whos t before behind (Err stop) = AreEnrolledUntil old new whos t

@@ -1,0 +1,52 @@
+-- What comes of a line that shows something, and of a line of a script.
+use Rattle.std.specs.Prelude.{◌≡◌, ◌⊎◌, ℕ, List, Option, Some, IfOk}
+use Rattle.profile.specs.Accepted.{IsLegal}
+use Rattle.profile.specs.Header.{who_of}
+use Rattle.profile.specs.Register.{Entry}
+use Rattle.store.specs.Standing.{Standing, IsUnchanged}
+use Rattle.commands.specs.Acting.{Ending}
+use Rattle.commands.specs.Readying.{IsChange, IsLeft}
+use Rattle.commands.specs.Shown.{IsShown, shown_of}
+use Rattle.commands.specs.declared.shows.Asked.{Asked}
+use Rattle.commands.specs.declared.words.Show.{Show}
+use Rattle.commands.specs.declared.words.Show.TheVariants as show
+use Rattle.commands.specs.declared.words.Task.{Task}
+use Rattle.commands.specs.declared.words.Task.TheVariants as task
+use Rattle.commands.specs.declared.words.Words.{Words}
+use Rattle.commands.specs.declared.words.Words.TheVariants as words
+
+-- the word that names the depositor
+abbrev pub name_in : Show → List ℕ
+name_in (show.Stock who is_csv) = who.now
+name_in (show.Order who number) = who.now
+name_in (show.Outbox who number) = who.now
+
+-- it is what these words ask for
+pub record IsAskedFor (s : Show) (asked : Asked) : Type 0 where
+  pub show : asked.show ≡ s
+  pub who : who_of (name_in s) ≡ Some asked.who
+
+-- it was shown, and the book is as before
+pub record IsLook (old new : Standing) (asked : Asked) (before behind : Option (List ℕ)) (ending : Ending) : Type 0 where
+  pub shown : new.doubt ≡ 0 → (L : List Entry) → old.keeps L → IsLegal old.warehouse L
+      → IfOk ending (IsShown (shown_of old.warehouse L asked) before behind)
+  pub same : IsUnchanged old new
+
+-- what the words ask for was shown
+pub record IsLookFor (old new : Standing) (s : Show) (before behind : Option (List ℕ)) (ending : Ending) : Type 0 where
+  pub asked : Asked
+  pub is : IsAskedFor s asked
+  pub look : IsLook old new asked before behind ending
+
+abbrev pub IsView : Standing → Standing → Show → Option (List ℕ) → Option (List ℕ) → Ending → Type 0
+IsView old new s before behind ending = IsLookFor old new s before behind ending ⊎ IsLeft old new before behind ending
+
+-- what a line of a script asks for was done; one that changes and shows nothing leaves the book as it is
+abbrev pub IsTaskDone : Standing → Standing → Task → Option (List ℕ) → Option (List ℕ) → Ending → Type 0
+IsTaskDone old new (task.Act a at) before behind ending = IsChange old new a at before behind ending
+IsTaskDone old new (task.Show s) before behind ending = IsView old new s before behind ending
+IsTaskDone old new other before behind ending = IsLeft old new before behind ending
+
+abbrev pub IsLineDone : Standing → Standing → Words → Option (List ℕ) → Option (List ℕ) → Ending → Type 0
+IsLineDone old new (words.Over book t) before behind ending = IsTaskDone old new t before behind ending
+IsLineDone old new (words.Script file) before behind ending = IsLeft old new before behind ending

@@ -1,0 +1,118 @@
+//! A worked day of ZZ ACME: an advice, resends of it, its count, an order, its pick, the acknowledgment
+//! of that, and the count once more. It makes six entries.
+use super::worked::{ADVICE, ANSWER, DUPLICATE, OTHER, RECEIPT, count, is_accepted, is_stored};
+use store::{Act, Command, DocumentState, Moment, OutKind, OutRow, Reply, Sheet, StockRow, Who};
+
+// An order of 120 BOLT under control number 2, and its answer under number 3.
+const ORDER: &[u8] =
+    b"ISA*00*          *00*          *ZZ*ACME           *ZZ*WHSE1          *250304*0915*U*00401*000000002*0*P*>~GS*OW*ACME*WHSE1*20250304*0915*2*X*004010~ST*940*0001~W05*N*ORD1~LX*1~W01*120*EA**SK*BOLT~W76*120~SE*6*0001~GE*1*2~IEA*1*000000002~";
+
+const ORDERED: &[u8] =
+    b"ISA*00*          *00*          *ZZ*WHSE1          *ZZ*ACME           *250304*0915*U*00401*000000003*0*P*>~GS*FA*WHSE1*ACME*20250304*0915*3*X*004010~ST*997*0001~AK1*OW*2~AK2*940*0001~AK5*A~AK9*A*1*1*1~SE*6*0001~GE*1*3~IEA*1*000000003~";
+
+// The 945 of the pick of 90 of them, under number 4.
+const SHIPPED: &[u8] =
+    b"ISA*00*          *00*          *ZZ*WHSE1          *ZZ*ACME           *250304*0915*U*00401*000000004*0*P*>~GS*SW*WHSE1*ACME*20250304*0915*4*X*004010~ST*945*0001~W06*F*ORD1*20250304*4~LX*1~W12*CP*120*90*30*EA**SK*BOLT~N9*LT*L1*90~W03*90~SE*7*0001~GE*1*4~IEA*1*000000004~";
+
+// A 997 that accepts it, under control number 3.
+const TAKEN: &[u8] =
+    b"ISA*00*          *00*          *ZZ*ACME           *ZZ*WHSE1          *250304*0915*U*00401*000000003*0*P*>~GS*FA*ACME*WHSE1*20250304*0915*3*X*004010~ST*997*0001~AK1*SW*4~AK2*945*0001~AK5*A~AK9*A*1*1*1~SE*6*0001~GE*1*3~IEA*1*000000003~";
+
+// How a command is answered.
+#[derive(Clone, Copy)]
+pub(crate) enum Want {
+    // Accepted, and refused where the depositor is known.
+    Enrolled,
+    Accepted,
+    Stored,
+    Refused(u8),
+}
+
+// Whether the reply is the one that is wanted, with this text.
+pub(crate) fn is_wanted(reply: &Reply, want: Want, text: &[u8]) -> bool {
+    match want {
+        Want::Enrolled | Want::Accepted => is_accepted(reply, text),
+        Want::Stored => is_stored(reply, text),
+        Want::Refused(number) => match reply {
+            Reply::Refused { refusal, answer } => {
+                refusal.number() == number && answer.as_slice() == text
+            }
+            _ => false,
+        },
+    }
+}
+
+// The pick of an order.
+fn pick<'a>(who: Who, ticket: &'a [u8], order: &'a [u8], sheet: &'a Sheet) -> Command<'a> {
+    Command::Clerk {
+        who,
+        ticket,
+        act: Act::Pick { order, sheet },
+    }
+}
+
+// The commands of the day, at one moment.
+pub(crate) fn commands<'a>(
+    acme: Who,
+    counted: &'a Sheet,
+    goods: &'a Sheet,
+    at: Moment,
+) -> [(Command<'a>, Moment); 9] {
+    [
+        (Command::Enrol(acme), at),
+        (Command::Interchange(ADVICE), at),
+        (Command::Interchange(ADVICE), at),
+        (Command::Interchange(OTHER), at),
+        (count(acme, b"T1", counted), at),
+        (Command::Interchange(ORDER), at),
+        (pick(acme, b"T2", b"ORD1", goods), at),
+        (Command::Interchange(TAKEN), at),
+        (count(acme, b"T1", counted), at),
+    ]
+}
+
+// What they are answered.
+pub(crate) fn answers() -> [(&'static [u8], Want); 9] {
+    [
+        (b"", Want::Enrolled),
+        (ANSWER, Want::Accepted),
+        (ANSWER, Want::Stored),
+        (DUPLICATE, Want::Refused(3)),
+        (RECEIPT, Want::Accepted),
+        (ORDERED, Want::Accepted),
+        (SHIPPED, Want::Accepted),
+        (b"", Want::Accepted),
+        (RECEIPT, Want::Stored),
+    ]
+}
+
+// Whether a row of the outbox is this document.
+fn is_row(row: &OutRow, n: u32, kind: OutKind, content: &[u8], state: DocumentState) -> bool {
+    row.n == n && row.kind == kind && row.content.as_slice() == content && row.state == state
+}
+
+// Whether the day's texts went out: two answers, the receipt, and the shipment that was
+// acknowledged.
+pub(crate) fn is_sent(rows: &[OutRow]) -> bool {
+    match rows {
+        [_, receipt, _, shipment] => {
+            is_row(receipt, 2, OutKind::Receipt, RECEIPT, DocumentState::Open)
+                && is_row(
+                    shipment,
+                    4,
+                    OutKind::Shipment,
+                    SHIPPED,
+                    DocumentState::Accepted,
+                )
+        }
+        _ => false,
+    }
+}
+
+// Whether the stock after the day is one lot, all of it shipped.
+pub(crate) fn is_shipped(rows: &[StockRow]) -> bool {
+    match rows {
+        [lot] => { lot.expected == 0 && lot.on_hand == 0 && lot.reserved == 0 && lot.shipped == 90 }
+        _ => false,
+    }
+}
