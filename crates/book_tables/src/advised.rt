@@ -1,4 +1,5 @@
 ghost use Rattle.std.specs.Prelude.{◌≡◌, ◌<◌, [], List, Some, IfErr, IfOk, length, option_map};
+ghost use Rattle.profile.specs.declared.rules.Rules.TheVariants.{One};
 ghost use Rattle.profile.specs.Limits.{most_lines};
 ghost use Rattle.profile.specs.Header.{Who as Partner};
 ghost use Rattle.profile.specs.Page.{PageAdvice, page_of};
@@ -61,7 +62,7 @@ fn advice_in(alloc: Global, row: &Row) -> Result<Option<BareAdvice>, AllocError>
 // An advice with its lines. 43 where they are more than an advice has.
 fn with_lines(bare: BareAdvice, lines: Vec<Goods>) -> Result<Option<KnownAdvice>, Fault>
     ensures whole { IfOk result (λ advice. advice ≡ Some (record bare { lines = lines.items })) }
-    ensures many { IfErr result (λ fault. (fault ≡ Fault.NotThisBook) × (most_lines < length lines.items)) }
+    ensures many { IfErr result (λ fault. (fault ≡ Fault.NotThisBook) × (most_lines One < length lines.items)) }
 {
     if lines.len() > usize::from(MOST_LINES) {
         return Err(Fault::NotThisBook);

@@ -4,6 +4,7 @@ use Rattle.std.specs.Prelude.{◌==◌, nat_lt, nat_le, option_and_then, filter,
 use Rattle.std.specs.List.{list_all, enumerate_from}
 use Rattle.std.specs.Cmp.Derive.{both_true}
 use Rattle.std.proofs.lemmas.List.Concat.{flat_map-cons}
+use Rattle.profile.specs.declared.rules.Rules.{Rules}
 use Rattle.profile.specs.Bytes.{Delims, is_digit, is_number, is_one_of, value}
 use Rattle.profile.specs.declared.widths.TheConstants.{CONTROL_DIGITS, FUNCTION_BYTES}
 use Rattle.profile.specs.Elements.{Alphanumeric, Digits, must, element_fault, faulty_element}
@@ -113,15 +114,15 @@ or_else_none : {X : Type 0} (a b : Option X) → or_else a b ≡ None → (a ≡
 or_else_none None b h = (refl, h)
 or_else_none (Some x) b h = absurd (cc)
 
-in_place : (d : Delims) (words rest : Words) (previous : List ℕ) (position : ℕ) (s : Segment) → fault_at d words rest previous position s ≡ None
+in_place : (r : Rules) (d : Delims) (words rest : Words) (previous : List ℕ) (position : ℕ) (s : Segment) → fault_at r d words rest previous position s ≡ None
     → has_word (words_after (id_of s) rest) ≡ true
-in_place d words rest previous position s h = by_test (has_word (words_after (id_of s) rest)) refl
+in_place r d words rest previous position s h = by_test (has_word (words_after (id_of s) rest)) refl
   where
     by_test : (b : Bool) → has_word (words_after (id_of s) rest) ≡ b → has_word (words_after (id_of s) rest) ≡ true
     by_test true e = e
     by_test false e =
-        let out : Some (place_fault words rest position (id_of s)) ≡ None =
-        ap (λ b. cond b (inner_fault d previous position s) (Some (place_fault words rest position (id_of s)))) (sym e) ∙ h in
+        let out : Some (place_fault r words rest position (id_of s)) ≡ None =
+        ap (λ b. cond b (inner_fault r d previous position s) (Some (place_fault r words rest position (id_of s)))) (sym e) ∙ h in
         absurd (cc)
 
 -- after an id that is wanted alone
@@ -138,15 +139,15 @@ after_one : (x : List ℕ) (w : Words) (id : List ℕ) → bytes_eq id x ≡ tru
 after_one x w id e = ap (λ b. or_words (then_words (cond b Empty Never) w) Never) e
 
 -- a set without fault begins with the two ids that are wanted first
-begins_with : (d : Delims) (all w : Words) (x y : List ℕ) (a b : Segment) (more : List Segment) → fault_from d all (Then (One x) (Then (One y) w)) [] 1 (a ∷ b ∷ more) ≡ None
+begins_with : (r : Rules) (d : Delims) (all w : Words) (x y : List ℕ) (a b : Segment) (more : List Segment) → fault_from r d all (Then (One x) (Then (One y) w)) [] 1 (a ∷ b ∷ more) ≡ None
     → (has_id x a ≡ true) × (has_id y b ≡ true)
-begins_with d all w x y a b more h =
-    let first = or_else_none (fault_at d all (Then (One x) (Then (One y) w)) [] 1 a) _ h in
-    let is_x = one_wanted x (Then (One y) w) (id_of a) (in_place d all (Then (One x) (Then (One y) w)) [] 1 a first.0) in
+begins_with r d all w x y a b more h =
+    let first = or_else_none (fault_at r d all (Then (One x) (Then (One y) w)) [] 1 a) _ h in
+    let is_x = one_wanted x (Then (One y) w) (id_of a) (in_place r d all (Then (One x) (Then (One y) w)) [] 1 a first.0) in
     let left = after_one x (Then (One y) w) (id_of a) is_x in
-    let later : fault_from d all (Then (One y) w) (id_of a) 2 (b ∷ more) ≡ None = ap (λ ws. fault_from d all ws (id_of a) 2 (b ∷ more)) (sym left) ∙ first.1 in
-    let second = or_else_none (fault_at d all (Then (One y) w) (id_of a) 2 b) _ later in
-    (is_x, one_wanted y w (id_of b) (in_place d all (Then (One y) w) (id_of a) 2 b second.0))
+    let later : fault_from r d all (Then (One y) w) (id_of a) 2 (b ∷ more) ≡ None = ap (λ ws. fault_from r d all ws (id_of a) 2 (b ∷ more)) (sym left) ∙ first.1 in
+    let second = or_else_none (fault_at r d all (Then (One y) w) (id_of a) 2 b) _ later in
+    (is_x, one_wanted y w (id_of b) (in_place r d all (Then (One y) w) (id_of a) 2 b second.0))
 
 -- the id that stands after ST
 abbrev pub second_id : SetKind → List ℕ
@@ -154,12 +155,12 @@ second_id ShippingOrder = codes "W05"
 second_id ShipmentAdvice = codes "W06"
 second_id FunctionalAcknowledgment = codes "AK1"
 
-pub begins_set : (d : Delims) (kind : SetKind) (a b : Segment) (more : List Segment) → set_fault d (kind_words kind) (a ∷ b ∷ more) ≡ None
+pub begins_set : (r : Rules) (d : Delims) (kind : SetKind) (a b : Segment) (more : List Segment) → set_fault r d (kind_words r kind) (a ∷ b ∷ more) ≡ None
     → (has_id (codes "ST") a ≡ true) × (has_id (second_id kind) b ≡ true)
-begins_set d ShippingOrder a b more h = begins_with d (kind_words ShippingOrder) _ (codes "ST") (codes "W05") a b more (sym (set_fault-from d (kind_words ShippingOrder) (a ∷ b ∷ more)) ∙ h)
-begins_set d ShipmentAdvice a b more h = begins_with d (kind_words ShipmentAdvice) _ (codes "ST") (codes "W06") a b more (sym (set_fault-from d (kind_words ShipmentAdvice) (a ∷ b ∷ more)) ∙ h)
-begins_set d FunctionalAcknowledgment a b more h =
-    begins_with d (kind_words FunctionalAcknowledgment) _ (codes "ST") (codes "AK1") a b more (sym (set_fault-from d (kind_words FunctionalAcknowledgment) (a ∷ b ∷ more)) ∙ h)
+begins_set r d ShippingOrder a b more h = begins_with r d (kind_words r ShippingOrder) _ (codes "ST") (codes "W05") a b more (sym (set_fault-from r d (kind_words r ShippingOrder) (a ∷ b ∷ more)) ∙ h)
+begins_set r d ShipmentAdvice a b more h = begins_with r d (kind_words r ShipmentAdvice) _ (codes "ST") (codes "W06") a b more (sym (set_fault-from r d (kind_words r ShipmentAdvice) (a ∷ b ∷ more)) ∙ h)
+begins_set r d FunctionalAcknowledgment a b more h =
+    begins_with r d (kind_words r FunctionalAcknowledgment) _ (codes "ST") (codes "AK1") a b more (sym (set_fault-from r d (kind_words r FunctionalAcknowledgment) (a ∷ b ∷ more)) ∙ h)
 
 -- a set whose envelope has no fault has two segments at least
 pub record TwoAtLeast (ss : List Segment) : Type 0 where
@@ -218,23 +219,23 @@ second_found id a b more other e f =
     let not_first : has_id id a ≡ false = ap (λ x. bytes_eq x id) (text_is (id_of a) (codes "ST") e) ∙ other in
     λ i. unwrap_or (cond (not_first i) (Some a) (cond (f i) (Some b) (find (has_id id) more))) []
 
-pub shipment_named : (d : Delims) (ss : List Segment) → TwoAtLeast ss → set_fault d (kind_words ShipmentAdvice) ss ≡ None
+pub shipment_named : (r : Rules) (d : Delims) (ss : List Segment) → TwoAtLeast ss → set_fault r d (kind_words r ShipmentAdvice) ss ≡ None
     → is_one_of (need_of_segments ss).shipments (advice_of ss).shipment ≡ true
-shipment_named d ss two h =
+shipment_named r d ss two h =
     let a = two.first in
     let b = two.second in
-    let begins = begins_set d ShipmentAdvice a b two.more (ap (set_fault d (kind_words ShipmentAdvice)) (sym two.parts) ∙ h) in
+    let begins = begins_set r d ShipmentAdvice a b two.more (ap (set_fault r d (kind_words r ShipmentAdvice)) (sym two.parts) ∙ h) in
     ap (λ xs. is_one_of (need_of_segments xs).shipments (element (segment_with (codes "W06") xs) 4)) two.parts
     ∙ ap (λ s. is_one_of (need_of_segments (a ∷ b ∷ two.more)).shipments (element s 4)) (second_found (codes "W06") a b two.more refl begins.0 begins.1)
     ∙ in_right (need_of_segment a).shipments (need_of_segments (b ∷ two.more)).shipments (element b 4)
     (in_left (need_of_segment b).shipments (need_of_segments two.more).shipments (element b 4) (named_if (has_id (codes "W06") b) (element b 4) begins.1))
 
-pub order_named : (d : Delims) (ss : List Segment) → TwoAtLeast ss → set_fault d (kind_words ShippingOrder) ss ≡ None
+pub order_named : (r : Rules) (d : Delims) (ss : List Segment) → TwoAtLeast ss → set_fault r d (kind_words r ShippingOrder) ss ≡ None
     → is_one_of (need_of_segments ss).orders (order_of ss).number ≡ true
-order_named d ss two h =
+order_named r d ss two h =
     let a = two.first in
     let b = two.second in
-    let begins = begins_set d ShippingOrder a b two.more (ap (set_fault d (kind_words ShippingOrder)) (sym two.parts) ∙ h) in
+    let begins = begins_set r d ShippingOrder a b two.more (ap (set_fault r d (kind_words r ShippingOrder)) (sym two.parts) ∙ h) in
     ap (λ xs. is_one_of (need_of_segments xs).orders (element (segment_with (codes "W05") xs) 2)) two.parts
     ∙ ap (λ s. is_one_of (need_of_segments (a ∷ b ∷ two.more)).orders (element s 2)) (second_found (codes "W05") a b two.more refl begins.0 begins.1)
     ∙ in_right (need_of_segment a).orders (need_of_segments (b ∷ two.more)).orders (element b 2)
@@ -243,18 +244,18 @@ order_named d ss two h =
 -- ---- documents
 
 -- a segment in place without fault
-inner_none : (d : Delims) (words rest : Words) (previous : List ℕ) (position : ℕ) (s : Segment) → fault_at d words rest previous position s ≡ None
-    → inner_fault d previous position s ≡ None
-inner_none d words rest previous position s h =
-    ap (λ b. cond b (inner_fault d previous position s) (Some (place_fault words rest position (id_of s)))) (sym (in_place d words rest previous position s h)) ∙ h
+inner_none : (r : Rules) (d : Delims) (words rest : Words) (previous : List ℕ) (position : ℕ) (s : Segment) → fault_at r d words rest previous position s ≡ None
+    → inner_fault r d previous position s ≡ None
+inner_none r d words rest previous position s h =
+    ap (λ b. cond b (inner_fault r d previous position s) (Some (place_fault r words rest position (id_of s)))) (sym (in_place r d words rest previous position s h)) ∙ h
 
-acknowledgment_inner : (d : Delims) (a b : Segment) (more : List Segment) → has_id (codes "ST") a ≡ true
-    → set_fault d (kind_words FunctionalAcknowledgment) (a ∷ b ∷ more) ≡ None → inner_fault d (id_of a) 2 b ≡ None
-acknowledgment_inner d a b more e h =
-    let all = kind_words FunctionalAcknowledgment in
-    let first = or_else_none (fault_at d all all [] 1 a) _ (sym (set_fault-from d all (a ∷ b ∷ more)) ∙ h) in
-    let second = or_else_none (fault_at d all (words_after (id_of a) all) (id_of a) 2 b) _ first.1 in
-    inner_none d all (words_after (id_of a) all) (id_of a) 2 b second.0
+acknowledgment_inner : (r : Rules) (d : Delims) (a b : Segment) (more : List Segment) → has_id (codes "ST") a ≡ true
+    → set_fault r d (kind_words r FunctionalAcknowledgment) (a ∷ b ∷ more) ≡ None → inner_fault r d (id_of a) 2 b ≡ None
+acknowledgment_inner r d a b more e h =
+    let all = kind_words r FunctionalAcknowledgment in
+    let first = or_else_none (fault_at r d all all [] 1 a) _ (sym (set_fault-from r d all (a ∷ b ∷ more)) ∙ h) in
+    let second = or_else_none (fault_at r d all (words_after (id_of a) all) (id_of a) 2 b) _ first.1 in
+    inner_none r d all (words_after (id_of a) all) (id_of a) 2 b second.0
 
 mapped_none : {X Y : Type 0} (f : X → Y) (o : Option X) → option_map f o ≡ None → o ≡ None
 mapped_none f None h = refl
@@ -297,12 +298,12 @@ number_if : (b : Bool) (n : ℕ) → b ≡ true → is_number_of (cond b (n ∷ 
 number_if true n h = or_left (n == n) false (eq-eqb n n refl)
 number_if false n h = absurd (cc)
 
-document_in : (d : Delims) (previous : List ℕ) (b : Segment) → has_id (codes "AK1") b ≡ true → inner_fault d previous 2 b ≡ None
+document_in : (r : Rules) (d : Delims) (previous : List ℕ) (b : Segment) → has_id (codes "AK1") b ≡ true → inner_fault r d previous 2 b ≡ None
     → is_number_of (need_of_segment b).documents (value (element b 2)) ≡ true
-document_in d previous b e h =
+document_in r d previous b e h =
     let rows = must Alphanumeric FUNCTION_BYTES FUNCTION_BYTES ∷ must Digits 1 CONTROL_DIGITS ∷ [] in
-    let found = mapped_none (λ f. record { id = id_of b; position = 2; code = 8; element = Some f }) (option_and_then (λ rows. faulty_element d rows b) (rows_after previous (id_of b))) h in
-    let none : faulty_element d rows b ≡ None = ap (λ id. option_and_then (λ rows. faulty_element d rows b) (rows_after previous id)) (sym (text_is (id_of b) (codes "AK1") e)) ∙ found in
+    let found = mapped_none (λ f. record { id = id_of b; position = 2; code = 8; element = Some f }) (option_and_then (λ rows. faulty_element d rows b) (rows_after r previous (id_of b))) h in
+    let none : faulty_element d rows b ≡ None = ap (λ id. option_and_then (λ rows. faulty_element d rows b) (rows_after r previous id)) (sym (text_is (id_of b) (codes "AK1") e)) ∙ found in
     let first = or_else_none (option_map (λ code. record { place = 1; code = code }) (element_fault d (must Alphanumeric FUNCTION_BYTES FUNCTION_BYTES) (unwrap_or (slice_get (drop 1 b) 0) []))) _ none in
     let second = or_else_none (option_map (λ code. record { place = 2; code = code }) (element_fault d (must Digits 1 CONTROL_DIGITS) (unwrap_or (slice_get (drop 1 (drop 1 b)) 0) []))) _ first.1 in
     let good = mapped_none (λ code. record { place = 2; code = code }) (element_fault d (must Digits 1 CONTROL_DIGITS) (unwrap_or (slice_get (drop 1 (drop 1 b)) 0) [])) second.0 in
@@ -311,18 +312,18 @@ document_in d previous b e h =
     ∙ number_if (is_number (element b 2) && nat_le (length (element b 2)) CONTROL_DIGITS) (value (element b 2)) number
 
 -- the document of an acknowledgment without fault is named
-pub document_named : (d : Delims) (ss : List Segment) → TwoAtLeast ss → set_fault d (kind_words FunctionalAcknowledgment) ss ≡ None
+pub document_named : (r : Rules) (d : Delims) (ss : List Segment) → TwoAtLeast ss → set_fault r d (kind_words r FunctionalAcknowledgment) ss ≡ None
     → is_number_of (need_of_segments ss).documents (acknowledgment_of ss).document ≡ true
-document_named d ss two h =
+document_named r d ss two h =
     let a = two.first in
     let b = two.second in
-    let here = ap (set_fault d (kind_words FunctionalAcknowledgment)) (sym two.parts) ∙ h in
-    let begins = begins_set d FunctionalAcknowledgment a b two.more here in
-    let inner = acknowledgment_inner d a b two.more begins.0 here in
+    let here = ap (set_fault r d (kind_words r FunctionalAcknowledgment)) (sym two.parts) ∙ h in
+    let begins = begins_set r d FunctionalAcknowledgment a b two.more here in
+    let inner = acknowledgment_inner r d a b two.more begins.0 here in
     ap (λ xs. is_number_of (need_of_segments xs).documents (value (element (segment_with (codes "AK1") xs) 2))) two.parts
     ∙ ap (λ s. is_number_of (need_of_segments (a ∷ b ∷ two.more)).documents (value (element s 2))) (second_found (codes "AK1") a b two.more refl begins.0 begins.1)
     ∙ number_right (need_of_segment a).documents (need_of_segments (b ∷ two.more)).documents (value (element b 2))
-    (number_left (need_of_segment b).documents (need_of_segments two.more).documents (value (element b 2)) (document_in d (id_of a) b begins.1 inner))
+    (number_left (need_of_segment b).documents (need_of_segments two.more).documents (value (element b 2)) (document_in r d (id_of a) b begins.1 inner))
 
 -- ---- groups
 

@@ -1,8 +1,10 @@
 -- The elements of the segments in sets: each at its shortest and at its longest, one byte shorter
--- and one longer, with bytes that may stand in it and bytes that mayn't, and with other values.
+-- and one longer, with bytes that may stand in it and bytes that mayn't, and with other values; under both rules.
 use Rattle.std.specs.Prelude.{◌≡◌, ℕ, ◌+◌, ◌-◌, Bool, true, false, List, [], ◌∷◌, ◌++◌, map, length, take, drop, replicate, if◌then◌else◌, ◌==◌, Some, None, codes, Option, option_and_then}
 use Rattle.std.specs.List.{list_all}
 use Rattle.std.proofs.Common.{refl}
+use Rattle.profile.specs.declared.rules.Rules.{Rules}
+use Rattle.profile.specs.declared.rules.Rules.TheVariants.{One, Two}
 use Rattle.profile.specs.Bytes.{Delims}
 use Rattle.profile.specs.Cut.{Segment, elements, id_of}
 use Rattle.profile.specs.Elements.{ElementFault, faulty_element}
@@ -95,6 +97,10 @@ date_in place = needed place numeric (codes "202503031") 8 8
     ∷ (codes "20251301", 8) ∷ (codes "20250001", 8) ∷ (codes "20250100", 8) ∷ (codes "20250431", 8)
     ∷ (codes "00000101", 8) ∷ (codes "00010101", 0) ∷ (codes "99991231", 0) ∷ [])
 
+-- a date that may be missing
+abbrev date_may : ℕ → Width
+date_may place = record (date_in place) { is_needed = false }
+
 -- the only code
 abbrev code_in : ℕ → List ℕ → List (List ℕ × ℕ) → Width
 code_in place text wrong = needed place coded (text ++ codes "X") (length text) (length text) wrong
@@ -108,8 +114,17 @@ record Case : Type 0 where
 abbrev case : List ℕ → List Width → Case
 case text widths = record { before = []; text = text; widths = widths }
 
-abbrev goods : List Width
-goods = quantity_in 1 5
+-- the digits of a quantity, and of a set's sum
+abbrev quantity_width : Rules → ℕ
+quantity_width One = 5
+quantity_width Two = 6
+
+abbrev total_width : Rules → ℕ
+total_width One = 7
+total_width Two = 9
+
+abbrev goods : Rules → List Width
+goods r = quantity_in 1 (quantity_width r)
     ∷ code_in 2 (codes "EA") ((codes "ea", 7) ∷ (codes "CA", 7) ∷ [])
     ∷ data_may 3 1 12
     ∷ code_in 4 (codes "SK") ((codes "UP", 7) ∷ []) ∷ identifier_in 5 20 ∷ []
@@ -117,25 +132,30 @@ goods = quantity_in 1 5
 abbrev lot : List Width
 lot = code_in 1 (codes "LT") ((codes "LS", 7) ∷ []) ∷ identifier_in 2 12 ∷ data_may 3 1 45 ∷ []
 
+-- the lot of an advice's line, which may have an expiry under the second
+abbrev advised_lot : Rules → Case
+advised_lot One = record { before = codes "W04"; text = codes "N9*LT*L1*ABC"; widths = lot }
+advised_lot Two = record { before = codes "W04"; text = codes "N9*LT*L1*ABC*20250303"; widths = lot ++ date_may 4 ∷ [] }
+
 abbrev errors_may : List ℕ → List Width
 errors_may places = map (λ place. data_may place 1 3) places
 
-abbrev cases : List Case
-cases =
+abbrev cases : Rules → List Case
+cases r =
     case (codes "W06*F*PO77*20250303*SHP1")
     (code_in 1 (codes "F") ((codes "N", 7) ∷ (codes "f", 7) ∷ [])
     ∷ identifier_in 2 22 ∷ date_in 3 ∷ identifier_in 4 22 ∷ [])
-    ∷ case (codes "W04*100*EA*CS*SK*BOLT") goods
-    ∷ case (codes "W01*100*EA*CS*SK*BOLT") goods
-    ∷ record { before = codes "W04"; text = codes "N9*LT*L1*ABC"; widths = lot }
+    ∷ case (codes "W04*100*EA*CS*SK*BOLT") (goods r)
+    ∷ case (codes "W01*100*EA*CS*SK*BOLT") (goods r)
+    ∷ advised_lot r
     ∷ record { before = codes "W01"; text = codes "N9*LT*L1*ABC"; widths = lot }
     ∷ record {
       before = codes "W06";
       text = codes "N9*LT*L1*ABC";
       widths = alphanumeric_in 1 2 3 ∷ data_in 2 1 30 ∷ data_may 3 1 45 ∷ [];
     }
-    ∷ case (codes "W03*100") (quantity_in 1 7 ∷ [])
-    ∷ case (codes "W76*100") (quantity_in 1 7 ∷ [])
+    ∷ case (codes "W03*100") (quantity_in 1 (total_width r) ∷ [])
+    ∷ case (codes "W76*100") (quantity_in 1 (total_width r) ∷ [])
     ∷ case (codes "W05*N*ORD1*PO77")
     (code_in 1 (codes "N") ((codes "F", 7) ∷ []) ∷ identifier_in 2 22 ∷ data_may 3 1 22 ∷ [])
     ∷ case (codes "LX*1") (quantity_in 1 6 ∷ [])
@@ -174,9 +194,9 @@ tried w =
     ++ w.wrong
 
 -- the place and the code of the least faulty element, 0 and 0 for none
-abbrev fault_of : List ℕ → Segment → ℕ × ℕ
-fault_of before s =
-    told (option_and_then (λ rows. faulty_element starred rows s) (rows_after before (id_of s)))
+abbrev fault_of : Rules → List ℕ → Segment → ℕ × ℕ
+fault_of r before s =
+    told (option_and_then (λ rows. faulty_element starred rows s) (rows_after r before (id_of s)))
   where
     told : Option ElementFault → ℕ × ℕ
     told None = (0, 0)
@@ -186,21 +206,23 @@ abbrev same : (ℕ × ℕ) → (ℕ × ℕ) → Bool
 same (a, b) (c, d) = if a == c then b == d else false
 
 -- whether an element's texts have their codes, in a segment that is good else
-abbrev holds : List ℕ → Segment → Width → Bool
-holds before s w = list_all
-    (λ p. same (fault_of before (take w.place s ++ p.0 ∷ drop (w.place + 1) s))
+abbrev holds : Rules → List ℕ → Segment → Width → Bool
+holds r before s w = list_all
+    (λ p. same (fault_of r before (take w.place s ++ p.0 ∷ drop (w.place + 1) s))
     (if p.1 == 0 then 0 else w.place, p.1))
     (tried w)
 
-abbrev is_as_said : Case → Bool
-is_as_said c = list_all (holds c.before (elements starred c.text)) c.widths
+abbrev is_as_said : Rules → Case → Bool
+is_as_said r c = list_all (holds r c.before (elements starred c.text)) c.widths
 
-widths : map is_as_said cases ≡ replicate 20 true
-widths = refl
+widths : (r : Rules) → map (is_as_said r) (cases r) ≡ replicate 20 true
+widths One = refl
+widths Two = refl
 
 -- a segment has just these elements: with one more, if an empty one, that is the fault
-abbrev with_one_more : Case → ℕ × ℕ
-with_one_more c = fault_of c.before (elements starred (c.text ++ codes "*"))
+abbrev with_one_more : Rules → Case → ℕ × ℕ
+with_one_more r c = fault_of r c.before (elements starred (c.text ++ codes "*"))
 
-one_more : map with_one_more cases ≡ map (λ c. (length c.widths + 1, 3)) cases
-one_more = refl
+one_more : (r : Rules) → map (with_one_more r) (cases r) ≡ map (λ c. (length c.widths + 1, 3)) (cases r)
+one_more One = refl
+one_more Two = refl

@@ -9,11 +9,17 @@ pub const MOST_GROUPS: usize = 100;
 /// The most sets of an interchange.
 pub const MOST_SETS: usize = 1_000;
 
-/// The most lines of a set or a sheet.
+/// The most lines of a set or a sheet, under rules 1.
 pub const MOST_LINES: u16 = 99;
 
-/// The greatest quantity of a line.
+/// The most lines of a set or a sheet, under rules 2.
+pub const MOST_LINES_TWO: u16 = 999;
+
+/// The greatest quantity of a line, under rules 1.
 pub const MOST_QUANTITY: u32 = 99_999;
+
+/// The greatest quantity of a line, under rules 2.
+pub const MOST_QUANTITY_TWO: u32 = 999_999;
 
 /// The greatest amount that a recount may set.
 pub const MOST_RECOUNTED: u32 = 999_999_999;

@@ -133,14 +133,23 @@ pub const ELEMENT_DIGITS: usize = 4;
 /// The copy of a bad element: AK404 (724).
 pub const MOST_COPY: usize = 99;
 
-/// The quantity of a line: W0401, W0101 (382, 330).
+/// The quantity of a line, under rules 1: W0401, W0101 (382, 330).
 pub const QUANTITY_DIGITS: usize = 5;
 
-/// The sum of an advice's quantities: W0301 (382).
+/// The quantity of a line, under rules 2.
+pub const QUANTITY_DIGITS_TWO: usize = 6;
+
+/// The sum of an advice's quantities, under rules 1: W0301 (382).
 pub const ADVICE_TOTAL_DIGITS: usize = 7;
 
-/// The sum of an order's quantities: W7601 (330).
+/// The sum of an advice's quantities, under rules 2.
+pub const ADVICE_TOTAL_DIGITS_TWO: usize = 9;
+
+/// The sum of an order's quantities, under rules 1: W7601 (330).
 pub const ORDER_TOTAL_DIGITS: usize = 7;
+
+/// The sum of an order's quantities, under rules 2.
+pub const ORDER_TOTAL_DIGITS_TWO: usize = 9;
 
 /// The number of a line: LX01 (554).
 pub const LINE_DIGITS: usize = 6;

@@ -2,6 +2,7 @@
 use Rattle.std.proofs.Common.{◌≡◌, ℕ, Bool, true, false, not, List, [], ◌∷◌, ◌++◌, Option, Some, None, Ok, Err, refl, sym, subst, append_assoc, append-nil}
 use Rattle.std.specs.Prelude.{Result, is_some, is_none, if◌then◌else◌, option_to_list, ◌==◌, nat_lt}
 use Rattle.std.specs.List.{cons_option, list_any, list_all}
+use Rattle.profile.specs.declared.rules.Rules.TheVariants.{One}
 use Rattle.profile.specs.Bytes.{Delims}
 use Rattle.profile.specs.Cut.{Segment, cut}
 use Rattle.profile.specs.Words.{SetKind, ShippingOrder, ShipmentAdvice, FunctionalAcknowledgment, kind_words}
@@ -72,9 +73,9 @@ of_trade es n ShippingOrder ss = by (order_fault es (order_of ss)) refl
 of_trade es n FunctionalAcknowledgment ss = refl
 
 of_judged : (d : Delims) (es : List Event) (n : ℕ) (kind : SetKind) (ss : List Segment) → OfTrade es n (judged d es n kind ss)
-of_judged d es n kind ss = by (set_fault d (kind_words kind) ss) refl
+of_judged d es n kind ss = by (set_fault One d (kind_words One kind) ss) refl
   where
-    by : (o : Option SetFault) → set_fault d (kind_words kind) ss ≡ o → OfTrade es n (judged d es n kind ss)
+    by : (o : Option SetFault) → set_fault One d (kind_words One kind) ss ≡ o → OfTrade es n (judged d es n kind ss)
     by None e = subst (OfTrade es n) (sym (judged_sound d es n kind ss e)) (of_trade es n kind ss)
     by (Some f) e = subst (OfTrade es n) (sym (judged_faulty d es n kind ss f e)) tt
 

@@ -6,6 +6,7 @@ use Rattle.std.specs.Cmp.Derive.{both_true}
 use Rattle.std.specs.List.{list_all, list_any}
 use Rattle.std.proofs.lemmas.List.{length-map}
 use Rattle.std.proofs.lemmas.List.Folds.{list_all-map}
+use Rattle.profile.specs.declared.rules.Rules.TheVariants.{One}
 use Rattle.profile.specs.Limits.{most_lines, most_entries}
 use Rattle.profile.specs.Bytes.{comes_before}
 use Rattle.profile.specs.Lists.{placed, in_order, or_else}
@@ -70,8 +71,8 @@ advices_small (Recounted n before sheet ∷ es) small = advices_small es small
 advice_fits : (es : List Event) (a : Advice) → is_small_advice a ≡ true → is_fitting_advice (page_advice es a) ≡ true
 advice_fits es a small =
     let lines = list_all (λ (l : AdviceLine). is_small l.line.quantity) a.lines in
-    let k = both_parts (nat_le (length a.lines) most_lines) lines small in
-    both_true (ap (λ (n : ℕ). nat_le n most_lines) (length-map a.lines (λ (l : AdviceLine). l.line)) ∙ k.0)
+    let k = both_parts (nat_le (length a.lines) (most_lines One)) lines small in
+    both_true (ap (λ (n : ℕ). nat_le n (most_lines One)) (length-map a.lines (λ (l : AdviceLine). l.line)) ∙ k.0)
     (list_all-map is_fitting_line (λ (l : AdviceLine). l.line) a.lines ∙ k.1)
 
 pub advices_fit : (es : List Event) → AreSmall es → list_all is_fitting_advice (page_advices es) ≡ true

@@ -1,6 +1,7 @@
 -- Steps of sets, as the definitions judge them.
 use Rattle.std.proofs.Common.{◌≡◌, ℕ, List, Option, Some, None, Ok, Err, refl, sym, ap, ◌∙◌, subst}
 use Rattle.std.specs.Prelude.{Result}
+use Rattle.profile.specs.declared.rules.Rules.TheVariants.{One}
 use Rattle.profile.specs.Bytes.{Delims}
 use Rattle.profile.specs.Cut.{Segment, Piece, AreOf, segments_of}
 use Rattle.profile.specs.Words.{SetKind, ShipmentAdvice, ShippingOrder, FunctionalAcknowledgment, kind_words}
@@ -58,16 +59,16 @@ pub by_segment_err : (outcome : Result Event SetFault) (f : SetFault) (r : Rejec
 by_segment_err outcome f r is same = ap by_segment is ∙ ap Err (sym same)
 
 -- a set without a fault of its own is judged by trade alone, and another by its fault
-pub judged_sound : (d : Delims) (es : List Event) (n : ℕ) (kind : SetKind) (ss : List Segment) → set_fault d (kind_words kind) ss ≡ None
+pub judged_sound : (d : Delims) (es : List Event) (n : ℕ) (kind : SetKind) (ss : List Segment) → set_fault One d (kind_words One kind) ss ≡ None
     → judged d es n kind ss ≡ traded es n kind ss
 judged_sound d es n kind ss none = rw none refl
 
-pub judged_faulty : (d : Delims) (es : List Event) (n : ℕ) (kind : SetKind) (ss : List Segment) (f : SetFault) → set_fault d (kind_words kind) ss ≡ Some f
+pub judged_faulty : (d : Delims) (es : List Event) (n : ℕ) (kind : SetKind) (ss : List Segment) (f : SetFault) → set_fault One d (kind_words One kind) ss ≡ Some f
     → judged d es n kind ss ≡ Err f
 judged_faulty d es n kind ss f some = rw some refl
 
 -- a set that is judged by trade alone
-pub judged_traded : (d : Delims) (es : List Event) (n : ℕ) (kind k : SetKind) (ps qs : List Piece) → k ≡ kind → qs ≡ ps → IsFaultOf kind ps None → AreOf d ps
+pub judged_traded : (d : Delims) (es : List Event) (n : ℕ) (kind k : SetKind) (ps qs : List Piece) → k ≡ kind → qs ≡ ps → IsFaultOf One kind ps None → AreOf d ps
     → by_segment (traded es n k (segments_of qs)) ≡ by_segment (judged d es n kind (segments_of ps))
 judged_traded d es n kind k ps qs is same none of =
     ap by_segment (ap (λ (x : SetKind). traded es n x (segments_of qs)) is ∙ ap (λ (xs : List Piece). traded es n kind (segments_of xs)) same

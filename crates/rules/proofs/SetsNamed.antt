@@ -1,5 +1,6 @@
 -- What is named of sets.
 use Rattle.std.proofs.Common.{◌≡◌, ℕ, true, List, [], ◌∷◌, ◌++◌, Option, None, ap, sym, subst, ◌∙◌}
+use Rattle.profile.specs.declared.rules.Rules.TheVariants.{One}
 use Rattle.profile.specs.Bytes.{Delims}
 use Rattle.profile.specs.Cut.{Segment, Piece, AreOf, segments_of}
 use Rattle.profile.specs.Faults.{set_fault, IsFaultOf}
@@ -20,9 +21,9 @@ ack_named n kind ss a is same names = ap (λ (x : Acknowledgment). n.documents x
 
 -- of a set that has no fault
 abbrev pub NamesPassed : Delims → Named → SetKind → List Segment → Type 0
-NamesPassed d n kind ss = set_fault d (kind_words kind) ss ≡ None → NamesSet n kind ss
+NamesPassed d n kind ss = set_fault One d (kind_words One kind) ss ≡ None → NamesSet n kind ss
 
-pub named_same : (d : Delims) (n : Named) (kind k : SetKind) (ps qs : List Piece) → k ≡ kind → qs ≡ ps → IsFaultOf kind ps None → AreOf d ps
+pub named_same : (d : Delims) (n : Named) (kind k : SetKind) (ps qs : List Piece) → k ≡ kind → qs ≡ ps → IsFaultOf One kind ps None → AreOf d ps
     → NamesPassed d n kind (segments_of ps) → NamesSet n k (segments_of qs)
 named_same d n kind k ps qs is same none of names =
     subst (λ (x : SetKind). NamesSet n x (segments_of qs)) (sym is) (subst (λ (xs : List Piece). NamesSet n kind (segments_of xs)) (sym same) (names (none d of)))

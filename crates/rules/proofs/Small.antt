@@ -5,6 +5,7 @@ use Rattle.std.specs.Cmp.Derive.{both_true}
 use Rattle.std.specs.List.{list_all, enumerate_from}
 use Rattle.std.proofs.lemmas.List.{length-map}
 use Rattle.std.proofs.lemmas.List.Folds.{list_all-append, list_all-map}
+use Rattle.profile.specs.declared.rules.Rules.TheVariants.{One}
 use Rattle.profile.specs.declared.widths.TheConstants.{QUANTITY_DIGITS}
 use Rattle.profile.specs.Bytes.{Delims, value}
 use Rattle.profile.specs.Limits.{most_lines, most_quantity}
@@ -27,11 +28,11 @@ use Rattle.rules.specs.Fitting.{is_fitting_line}
 use Rattle.rules.proofs.Judges.{judged_sound, judged_faulty}
 
 abbrev pub is_small : ℕ → Bool
-is_small q = nat_le q most_quantity
+is_small q = nat_le q (most_quantity One)
 
 abbrev pub is_small_event : Event → Bool
 is_small_event (Advised a) =
-    nat_le (length a.lines) most_lines && list_all (λ (l : AdviceLine). is_small l.line.quantity) a.lines
+    nat_le (length a.lines) (most_lines One) && list_all (λ (l : AdviceLine). is_small l.line.quantity) a.lines
 is_small_event (Ordered o shares) =
     list_all (λ (l : OrderLine). is_small l.quantity) o.lines && list_all is_fitting_line shares
 is_small_event e = true
@@ -65,7 +66,7 @@ at_places id p n (s ∷ ss) h =
     by false here there = there
 
 amount_small : (text : List ℕ) → IsAmount QUANTITY_DIGITS text → is_small (value text) ≡ true
-amount_small text a = le-leb (value text) most_quantity (omega (arith, amount_bound QUANTITY_DIGITS text a))
+amount_small text a = le-leb (value text) (most_quantity One) (omega (arith, amount_bound QUANTITY_DIGITS text a))
 
 pub small_at : (id : List ℕ) (ss : List Segment) → HaveAmounts id 1 QUANTITY_DIGITS ss
     → list_all (λ (n : ℕ). is_small (value (element (segment_at ss n) 1))) (places_of id ss) ≡ true
@@ -77,37 +78,37 @@ small_at id ss amounts = at_places id (λ (n : ℕ). is_small (value (element (s
 
 -- Sets without fault.
 
-few_lines : (f : ℕ → AdviceLine) (places : List ℕ) → length places ≤ most_lines
-    → nat_le (length (map f places)) most_lines ≡ true
-few_lines f places few = le-leb (length (map f places)) most_lines (omega (arith, length-map places f, few))
+few_lines : (f : ℕ → AdviceLine) (places : List ℕ) → length places ≤ most_lines One
+    → nat_le (length (map f places)) (most_lines One) ≡ true
+few_lines f places few = le-leb (length (map f places)) (most_lines One) (omega (arith, length-map places f, few))
 
-unfaulted : (d : Delims) (kind : SetKind) (ss : List Segment) → set_fault d (kind_words kind) ss ≡ None
-    → fault_from d (kind_words kind) (kind_words kind) [] 1 ss ≡ None
-unfaulted d kind ss none = sym (set_fault-from d (kind_words kind) ss) ∙ none
+unfaulted : (d : Delims) (kind : SetKind) (ss : List Segment) → set_fault One d (kind_words One kind) ss ≡ None
+    → fault_from One d (kind_words One kind) (kind_words One kind) [] 1 ss ≡ None
+unfaulted d kind ss none = sym (set_fault-from One d (kind_words One kind) ss) ∙ none
 
-advice_small : (d : Delims) (ss : List Segment) → set_fault d (kind_words ShipmentAdvice) ss ≡ None
+advice_small : (d : Delims) (ss : List Segment) → set_fault One d (kind_words One ShipmentAdvice) ss ≡ None
     → is_small_event (Advised (advice_of ss)) ≡ true
 advice_small d ss none =
     let passes = unfaulted d ShipmentAdvice ss none in
-    let quantities = small_at (codes "W04") ss (goods_amounts d words_943 ss passes) in
-    both_true (few_lines (advice_line ss) (places_of (codes "W04") ss) (few_goods d ss passes))
+    let quantities = small_at (codes "W04") ss (goods_amounts One d (words_943 One) ss passes) in
+    both_true (few_lines (advice_line ss) (places_of (codes "W04") ss) (few_goods One d ss passes))
     (list_all-map (λ (l : AdviceLine). is_small l.line.quantity) (advice_line ss) (places_of (codes "W04") ss)
     ∙ quantities)
 
-ordered_small : (d : Delims) (ss : List Segment) → set_fault d (kind_words ShippingOrder) ss ≡ None
+ordered_small : (d : Delims) (ss : List Segment) → set_fault One d (kind_words One ShippingOrder) ss ≡ None
     → list_all (λ (l : OrderLine). is_small l.quantity) (order_of ss).lines ≡ true
 ordered_small d ss none =
     let passes = unfaulted d ShippingOrder ss none in
     list_all-map (λ (l : OrderLine). is_small l.quantity) (order_line ss) (places_of (codes "W01") ss)
-    ∙ small_at (codes "W01") ss (ordered_amounts d words_940 ss passes)
+    ∙ small_at (codes "W01") ss (ordered_amounts One d (words_940 One) ss passes)
 
 -- Shares are at most what is wanted.
 
-shares_small : (earlier : ℕ) (fs : List ℕ) (w : ℕ) → w ≤ most_quantity
+shares_small : (earlier : ℕ) (fs : List ℕ) (w : ℕ) → w ≤ most_quantity One
     → list_all is_small (shares_after earlier fs w) ≡ true
 shares_small earlier [] w le = refl
 shares_small earlier (f ∷ fs) w le =
-    both_true (le-leb (min f (w - earlier)) most_quantity (omega (arith, le))) (shares_small (earlier + f) fs w le)
+    both_true (le-leb (min f (w - earlier)) (most_quantity One) (omega (arith, le))) (shares_small (earlier + f) fs w le)
 
 made_small : (item : List ℕ) (lots : List (List ℕ)) (qs : List ℕ) → list_all is_small qs ≡ true
     → list_all is_fitting_line (map (λ p. record { item = item; lot = p.0; quantity = p.1 }) (zip lots qs)) ≡ true
@@ -124,7 +125,7 @@ given_small es (l ∷ ls) small =
     let lots = lots_for es l in
     all_two is_fitting_line (line_shares es l) (flat_map (line_shares es) ls)
     (made_small l.item lots (shares_after 0 (map (free es l.item) lots) l.quantity)
-    (shares_small 0 (map (free es l.item) lots) l.quantity (leb-true l.quantity most_quantity p.0)))
+    (shares_small 0 (map (free es l.item) lots) l.quantity (leb-true l.quantity (most_quantity One) p.0)))
     (given_small es ls p.1)
 
 order_small : (es : List Event) (o : Order) → list_all (λ (l : OrderLine). is_small l.quantity) o.lines ≡ true
@@ -141,7 +142,7 @@ unless_small e None small = small
 unless_small e (Some f) small = tt
 
 traded_small : (d : Delims) (es : List Event) (n : ℕ) (kind : SetKind) (ss : List Segment)
-    → set_fault d (kind_words kind) ss ≡ None → IsSmall (traded es n kind ss)
+    → set_fault One d (kind_words One kind) ss ≡ None → IsSmall (traded es n kind ss)
 traded_small d es n ShipmentAdvice ss none =
     unless_small (Advised (advice_of ss)) (advice_fault es (advice_of ss)) (advice_small d ss none)
 traded_small d es n ShippingOrder ss none =
@@ -152,8 +153,8 @@ traded_small d es n FunctionalAcknowledgment ss none = refl
 -- the event of a set is small
 pub judged_small : (d : Delims) (es : List Event) (n : ℕ) (kind : SetKind) (ss : List Segment)
     → IsSmall (judged d es n kind ss)
-judged_small d es n kind ss = by (set_fault d (kind_words kind) ss) refl
+judged_small d es n kind ss = by (set_fault One d (kind_words One kind) ss) refl
   where
-    by : (o : Option SetFault) → set_fault d (kind_words kind) ss ≡ o → IsSmall (judged d es n kind ss)
+    by : (o : Option SetFault) → set_fault One d (kind_words One kind) ss ≡ o → IsSmall (judged d es n kind ss)
     by None e = subst IsSmall (sym (judged_sound d es n kind ss e)) (traded_small d es n kind ss e)
     by (Some f) e = subst IsSmall (sym (judged_faulty d es n kind ss f e)) tt

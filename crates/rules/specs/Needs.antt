@@ -2,6 +2,7 @@
 -- A set's names are asked for only where it has no fault, neither one of its envelope nor one of its segments: so what one scan of
 -- all segments names is enough.
 use Rattle.std.specs.Prelude.{ℕ, ◌≡◌, true, false, List, [], ◌∷◌, Option, Some, None}
+use Rattle.profile.specs.declared.rules.Rules.TheVariants.{One}
 use Rattle.profile.specs.Bytes.{Delims}
 use Rattle.profile.specs.Cut.{Segment, cut}
 use Rattle.profile.specs.Words.{SetKind, ShipmentAdvice, ShippingOrder, FunctionalAcknowledgment, kind_words}
@@ -23,7 +24,7 @@ NamesSet n FunctionalAcknowledgment ss = n.documents (acknowledgment_of ss).docu
 -- of a set without fault
 abbrev pub NamesJudged : Delims → Named → SetKind → Set → Option ℕ → Type 0
 NamesJudged d n kind s (Some code) = Unit {0}
-NamesJudged d n kind s None = set_fault d (kind_words kind) s.segments ≡ None → NamesSet n kind s.segments
+NamesJudged d n kind s None = set_fault One d (kind_words One kind) s.segments ≡ None → NamesSet n kind s.segments
 
 abbrev pub NamesUnder : Delims → Named → Option SetKind → Set × Option ℕ → Type 0
 NamesUnder d n None p = Unit {0}

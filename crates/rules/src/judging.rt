@@ -1,5 +1,6 @@
 //! What a set comes to over a page.
 ghost use Rattle.std.specs.Prelude.{◌≡◌, ◌<◌, ◌+◌, ◌-◌, ◌^◌, List, None, Some, IfOk, IfErr, length};
+ghost use Rattle.profile.specs.declared.rules.Rules.TheVariants.{One};
 ghost use Rattle.profile.specs.Limits.{most_sets};
 ghost use Rattle.profile.specs.Cut.{segments_of, AreOf};
 ghost use Rattle.profile.specs.Bytes.{Delims as Delimiters};
@@ -17,6 +18,7 @@ ghost use Rattle.tables.specs.Kinds.{kind_of};
 ghost use Rattle.rules.specs.Needs.{NamesSet};
 ghost use Rattle.rules.specs.Judging.{IsStep, IsStop, IsVerdict, CanBePut};
 
+use profile::Rules;
 use segments::Segment;
 use sets_in::{ack, advice, order};
 use sets_out::{ElementFault, Rejection, SegmentFault};
@@ -151,13 +153,13 @@ pub(crate) fn judged<'a>(
     requires room { page.now.recent < most_sets }
     ensures value { IfOk result (λ v. (d : Delimiters) → AreOf d segments.now
         → (n : Named) (P : PageFacts) (es : List Event) → IsPart n page.now P
-        → (set_fault d (kind_words (kind_of kind)) (segments_of segments.now) ≡ None
+        → (set_fault One d (kind_words One (kind_of kind)) (segments_of segments.now) ≡ None
         → NamesSet n (kind_of kind) (segments_of segments.now)) → Shows P es
         → IsVerdict P es (meant.by_segment (meant.judged d es (page.now.entries + 1) (kind_of kind)
         (segments_of segments.now))) v) }
     ensures fits { IfOk result (CanBePut page.now) }
 {
-    match judge(kind, segments) {
+    match judge(kind, segments, Rules::One) {
         Ok(set) => settled(alloc, page, &set),
         Err(fault) => Ok(Verdict::Rejected(in_segment(&fault))),
     }

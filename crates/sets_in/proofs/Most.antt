@@ -3,6 +3,8 @@ use Rattle.std.proofs.Common.{◌≡◌, ℕ, ◌+◌, ◌-◌, ◌*◌, ◌≤�
 use Rattle.std.specs.Prelude.{codes, if◌then◌else◌, bytes_eq, max, ◌==◌, filter, ◌⊎◌}
 use Rattle.std.specs.List.{enumerate_from}
 use Rattle.std.proofs.lemmas.Slice.Eq.{bytes_eq-Decides}
+use Rattle.profile.specs.declared.rules.Rules.{Rules}
+use Rattle.profile.specs.declared.rules.Rules.TheVariants as rules
 use Rattle.profile.specs.Bytes.{Delims}
 use Rattle.profile.specs.Cut.{Segment, id_of, has_id, places_of}
 use Rattle.profile.specs.Limits.{most_lines}
@@ -104,12 +106,12 @@ count id [] = 0
 count id (s ∷ ss) = hit id (id_of s) + count id ss
 
 -- in a set without a fault the id stands no more often than in a word
-count_bound : (id : List ℕ) (d : Delims) (words rest : Words) (after : List ℕ) (position : ℕ) (ss : List Segment) → fault_from d words rest after position ss ≡ None
+count_bound : (r : Rules) (id : List ℕ) (d : Delims) (words rest : Words) (after : List ℕ) (position : ℕ) (ss : List Segment) → fault_from r d words rest after position ss ≡ None
     → count id ss ≤ most id rest
-count_bound id d words rest after position [] h = omega arith
-count_bound id d words rest after position (s ∷ ss) h =
-    let p = from_parts d words rest after position s ss h in
-    by_leaves (most_after id (id_of s) rest) p.0 (count_bound id d words (words_after (id_of s) rest) (id_of s) (position + 1) ss p.2)
+count_bound r id d words rest after position [] h = omega arith
+count_bound r id d words rest after position (s ∷ ss) h =
+    let p = from_parts r d words rest after position s ss h in
+    by_leaves (most_after id (id_of s) rest) p.0 (count_bound r id d words (words_after (id_of s) rest) (id_of s) (position + 1) ss p.2)
   where
     by_leaves : Leaves id (id_of s) (most id rest) (words_after (id_of s) rest) → has_word (words_after (id_of s) rest) ≡ true → count id ss ≤ most id (words_after (id_of s) rest)
         → count id (s ∷ ss) ≤ most id rest
@@ -126,8 +128,18 @@ places_length id n (s ∷ ss) = by_test (has_id id s) (places_length id (n + 1) 
     by_test true h = omega arith
     by_test false h = omega arith
 
-pub few_goods : (d : Delims) (ss : List Segment) → fault_from d words_943 words_943 [] 1 ss ≡ None → length (places_of (codes "W04") ss) ≤ most_lines
-few_goods d ss h = rw (places_length (codes "W04") 1 ss) (count_bound (codes "W04") d words_943 words_943 [] 1 ss h)
+pub few_goods : (r : Rules) (d : Delims) (ss : List Segment) → fault_from r d (words_943 r) (words_943 r) [] 1 ss ≡ None
+    → length (places_of (codes "W04") ss) ≤ most_lines r
+few_goods r d ss h = rw (places_length (codes "W04") 1 ss) (within r (count_bound r (codes "W04") d (words_943 r) (words_943 r) [] 1 ss h))
+  where
+    within : (r : Rules) → count (codes "W04") ss ≤ most (codes "W04") (words_943 r) → count (codes "W04") ss ≤ most_lines r
+    within rules.One h = h
+    within rules.Two h = h
 
-pub few_ordered : (d : Delims) (ss : List Segment) → fault_from d words_940 words_940 [] 1 ss ≡ None → length (places_of (codes "W01") ss) ≤ most_lines
-few_ordered d ss h = rw (places_length (codes "W01") 1 ss) (count_bound (codes "W01") d words_940 words_940 [] 1 ss h)
+pub few_ordered : (r : Rules) (d : Delims) (ss : List Segment) → fault_from r d (words_940 r) (words_940 r) [] 1 ss ≡ None
+    → length (places_of (codes "W01") ss) ≤ most_lines r
+few_ordered r d ss h = rw (places_length (codes "W01") 1 ss) (within r (count_bound r (codes "W01") d (words_940 r) (words_940 r) [] 1 ss h))
+  where
+    within : (r : Rules) → count (codes "W01") ss ≤ most (codes "W01") (words_940 r) → count (codes "W01") ss ≤ most_lines r
+    within rules.One h = h
+    within rules.Two h = h

@@ -7,37 +7,37 @@ use Rattle.std.specs.Prelude.{codes, if◌then◌else◌, unwrap_or, slice_get, 
 use Rattle.std.specs.List.{list_all, AllByRecursion}
 use Rattle.std.proofs.lemmas.Slice.Eq.{bytes_eq-Decides}
 use borrow.Author.Tests.{ltb-false}
+use Rattle.profile.specs.declared.rules.Rules.{Rules}
 use Rattle.profile.specs.Bytes.{Delims, is_digit}
 use Rattle.profile.specs.Lists.{or_else}
 use Rattle.profile.specs.Cut.{Segment, element, id_of, has_id, segment_with}
-use Rattle.profile.specs.Elements.{Row, Kind, Quantity, Digits, Alphanumeric, element_fault, least_element_fault, faulty_element, must, goods_rows, ElementFault, takes}
+use Rattle.profile.specs.Elements.{Row, Kind, Quantity, Digits, Alphanumeric, element_fault, least_element_fault, faulty_element, must, goods_rows, quantity_digits, advice_total_digits, order_total_digits, ElementFault, takes}
 use Rattle.profile.specs.Words.{Words, has_word, words_after}
 use Rattle.profile.specs.Faults.{SetFault, fault_at, fault_from, inner_fault, place_fault, rows_after}
-use Rattle.profile.specs.declared.widths.TheConstants.{ADVICE_TOTAL_DIGITS, ORDER_TOTAL_DIGITS, QUANTITY_DIGITS}
 use Rattle.sets_in.specs.Amounts.{IsAmount, HasAmount, HaveAmounts}
 
 -- no element of the segment is faulty, after some other
-abbrev IsGood : Delims → Segment → Type 0
-IsGood d s = (after : List ℕ) × (option_and_then (λ rows. faulty_element d rows s) (rows_after after (id_of s)) ≡ None)
+abbrev IsGood : Rules → Delims → Segment → Type 0
+IsGood r d s = (after : List ℕ) × (option_and_then (λ rows. faulty_element d rows s) (rows_after r after (id_of s)) ≡ None)
 
 abbrev told_inner : Segment → ℕ → ElementFault → SetFault
 told_inner s position f = record { id = id_of s; position = position; code = 8; element = Some f }
 
-no_inner : (d : Delims) (after : List ℕ) (position : ℕ) (s : Segment) → inner_fault d after position s ≡ None
-    → option_and_then (λ rows. faulty_element d rows s) (rows_after after (id_of s)) ≡ None
-no_inner d after position s h = by_fault (option_and_then (λ rows. faulty_element d rows s) (rows_after after (id_of s))) h
+no_inner : (r : Rules) (d : Delims) (after : List ℕ) (position : ℕ) (s : Segment) → inner_fault r d after position s ≡ None
+    → option_and_then (λ rows. faulty_element d rows s) (rows_after r after (id_of s)) ≡ None
+no_inner r d after position s h = by_fault (option_and_then (λ rows. faulty_element d rows s) (rows_after r after (id_of s))) h
   where
     by_fault : (o : Option ElementFault) → option_map (told_inner s position) o ≡ None → o ≡ None
     by_fault None e = refl
     by_fault (Some f) e = absurd (cc)
 
-in_place : (d : Delims) (words rest : Words) (after : List ℕ) (position : ℕ) (s : Segment) → fault_at d words rest after position s ≡ None
-    → (has_word (words_after (id_of s) rest) ≡ true) × (inner_fault d after position s ≡ None)
-in_place d words rest after position s h = by_test (has_word (words_after (id_of s) rest)) refl h
+in_place : (r : Rules) (d : Delims) (words rest : Words) (after : List ℕ) (position : ℕ) (s : Segment) → fault_at r d words rest after position s ≡ None
+    → (has_word (words_after (id_of s) rest) ≡ true) × (inner_fault r d after position s ≡ None)
+in_place r d words rest after position s h = by_test (has_word (words_after (id_of s) rest)) refl h
   where
     by_test : (b : Bool) → has_word (words_after (id_of s) rest) ≡ b
-        → (if b then inner_fault d after position s else Some (place_fault words rest position (id_of s))) ≡ None
-        → (has_word (words_after (id_of s) rest) ≡ true) × (inner_fault d after position s ≡ None)
+        → (if b then inner_fault r d after position s else Some (place_fault r words rest position (id_of s))) ≡ None
+        → (has_word (words_after (id_of s) rest) ≡ true) × (inner_fault r d after position s ≡ None)
     by_test true t e = (t, e)
     by_test false t e = absurd (cc)
 
@@ -46,16 +46,16 @@ both_none None b h = (refl, h)
 both_none (Some x) b h = absurd (cc)
 
 -- each segment is in its place and good
-pub from_parts : (d : Delims) (words rest : Words) (after : List ℕ) (position : ℕ) (s : Segment) (ss : List Segment) → fault_from d words rest after position (s ∷ ss) ≡ None
-    → (has_word (words_after (id_of s) rest) ≡ true) × (inner_fault d after position s ≡ None) × (fault_from d words (words_after (id_of s) rest) (id_of s) (position + 1) ss ≡ None)
-from_parts d words rest after position s ss h =
-    let p = both_none (fault_at d words rest after position s) (fault_from d words (words_after (id_of s) rest) (id_of s) (position + 1) ss) h in
-    let q = in_place d words rest after position s p.0 in (q.0, q.1, p.1)
+pub from_parts : (r : Rules) (d : Delims) (words rest : Words) (after : List ℕ) (position : ℕ) (s : Segment) (ss : List Segment) → fault_from r d words rest after position (s ∷ ss) ≡ None
+    → (has_word (words_after (id_of s) rest) ≡ true) × (inner_fault r d after position s ≡ None) × (fault_from r d words (words_after (id_of s) rest) (id_of s) (position + 1) ss ≡ None)
+from_parts r d words rest after position s ss h =
+    let p = both_none (fault_at r d words rest after position s) (fault_from r d words (words_after (id_of s) rest) (id_of s) (position + 1) ss) h in
+    let q = in_place r d words rest after position s p.0 in (q.0, q.1, p.1)
 
-all_good : (d : Delims) (words rest : Words) (after : List ℕ) (position : ℕ) (ss : List Segment) → fault_from d words rest after position ss ≡ None → AllByRecursion (IsGood d) ss
-all_good d words rest after position [] h = tt
-all_good d words rest after position (s ∷ ss) h = let p = from_parts d words rest after position s ss h in
-    ((after, no_inner d after position s p.1), all_good d words (words_after (id_of s) rest) (id_of s) (position + 1) ss p.2)
+all_good : (r : Rules) (d : Delims) (words rest : Words) (after : List ℕ) (position : ℕ) (ss : List Segment) → fault_from r d words rest after position ss ≡ None → AllByRecursion (IsGood r d) ss
+all_good r d words rest after position [] h = tt
+all_good r d words rest after position (s ∷ ss) h = let p = from_parts r d words rest after position s ss h in
+    ((after, no_inner r d after position s p.1), all_good r d words (words_after (id_of s) rest) (id_of s) (position + 1) ss p.2)
 
 -- an element whose row wants digits is a number
 
@@ -121,48 +121,48 @@ second_row d row next rows s h =
 
 -- by their ids
 
-rows_good : (d : Delims) (id : List ℕ) (rows : List Row) (s : Segment) → ((after : List ℕ) → rows_after after id ≡ Some rows) → IsGood d s → has_id id s ≡ true → faulty_element d rows s ≡ None
-rows_good d id rows s found g t =
+rows_good : (r : Rules) (d : Delims) (id : List ℕ) (rows : List Row) (s : Segment) → ((after : List ℕ) → rows_after r after id ≡ Some rows) → IsGood r d s → has_id id s ≡ true → faulty_element d rows s ≡ None
+rows_good r d id rows s found g t =
     let same : id_of s ≡ id = (bytes_eq-Decides (id_of s) id).0 t in
-    ap (λ (o : Option (List Row)). option_and_then (λ rows. faulty_element d rows s) o) (sym (ap (λ (x : List ℕ). rows_after g.0 x) same ∙ found g.0)) ∙ g.1
+    ap (λ (o : Option (List Row)). option_and_then (λ rows. faulty_element d rows s) o) (sym (ap (λ (x : List ℕ). rows_after r g.0 x) same ∙ found g.0)) ∙ g.1
 
-goods_amount : (d : Delims) (s : Segment) → IsGood d s → HasAmount (codes "W04") 1 QUANTITY_DIGITS s
-goods_amount d s g = λ t. amount_of d Quantity QUANTITY_DIGITS (element s 1) (λ b. refl) (first_row d (must Quantity 1 QUANTITY_DIGITS) (drop 1 goods_rows) s (rows_good d (codes "W04") goods_rows s (λ after. refl) g t))
+goods_amount : (r : Rules) (d : Delims) (s : Segment) → IsGood r d s → HasAmount (codes "W04") 1 (quantity_digits r) s
+goods_amount r d s g = λ t. amount_of d Quantity (quantity_digits r) (element s 1) (λ b. refl) (first_row d (must Quantity 1 (quantity_digits r)) (drop 1 (goods_rows r)) s (rows_good r d (codes "W04") (goods_rows r) s (λ after. refl) g t))
 
-ordered_amount : (d : Delims) (s : Segment) → IsGood d s → HasAmount (codes "W01") 1 QUANTITY_DIGITS s
-ordered_amount d s g = λ t. amount_of d Quantity QUANTITY_DIGITS (element s 1) (λ b. refl) (first_row d (must Quantity 1 QUANTITY_DIGITS) (drop 1 goods_rows) s (rows_good d (codes "W01") goods_rows s (λ after. refl) g t))
+ordered_amount : (r : Rules) (d : Delims) (s : Segment) → IsGood r d s → HasAmount (codes "W01") 1 (quantity_digits r) s
+ordered_amount r d s g = λ t. amount_of d Quantity (quantity_digits r) (element s 1) (λ b. refl) (first_row d (must Quantity 1 (quantity_digits r)) (drop 1 (goods_rows r)) s (rows_good r d (codes "W01") (goods_rows r) s (λ after. refl) g t))
 
-advised_total : (d : Delims) (s : Segment) → IsGood d s → HasAmount (codes "W03") 1 ADVICE_TOTAL_DIGITS s
-advised_total d s g = λ t. amount_of d Quantity ADVICE_TOTAL_DIGITS (element s 1) (λ b. refl) (first_row d (must Quantity 1 ADVICE_TOTAL_DIGITS) [] s (rows_good d (codes "W03") (must Quantity 1 ADVICE_TOTAL_DIGITS ∷ []) s (λ after. refl) g t))
+advised_total : (r : Rules) (d : Delims) (s : Segment) → IsGood r d s → HasAmount (codes "W03") 1 (advice_total_digits r) s
+advised_total r d s g = λ t. amount_of d Quantity (advice_total_digits r) (element s 1) (λ b. refl) (first_row d (must Quantity 1 (advice_total_digits r)) [] s (rows_good r d (codes "W03") (must Quantity 1 (advice_total_digits r) ∷ []) s (λ after. refl) g t))
 
-ordered_total : (d : Delims) (s : Segment) → IsGood d s → HasAmount (codes "W76") 1 ORDER_TOTAL_DIGITS s
-ordered_total d s g = λ t. amount_of d Quantity ORDER_TOTAL_DIGITS (element s 1) (λ b. refl) (first_row d (must Quantity 1 ORDER_TOTAL_DIGITS) [] s (rows_good d (codes "W76") (must Quantity 1 ORDER_TOTAL_DIGITS ∷ []) s (λ after. refl) g t))
+ordered_total : (r : Rules) (d : Delims) (s : Segment) → IsGood r d s → HasAmount (codes "W76") 1 (order_total_digits r) s
+ordered_total r d s g = λ t. amount_of d Quantity (order_total_digits r) (element s 1) (λ b. refl) (first_row d (must Quantity 1 (order_total_digits r)) [] s (rows_good r d (codes "W76") (must Quantity 1 (order_total_digits r) ∷ []) s (λ after. refl) g t))
 
-document_number : (d : Delims) (s : Segment) → IsGood d s → HasAmount (codes "AK1") 2 9 s
-document_number d s g = λ t. amount_of d Digits 9 (element s 2) (λ b. refl)
-    (second_row d (must Alphanumeric 2 2) (must Digits 1 9) [] s (rows_good d (codes "AK1") (must Alphanumeric 2 2 ∷ must Digits 1 9 ∷ []) s (λ after. refl) g t))
+document_number : (r : Rules) (d : Delims) (s : Segment) → IsGood r d s → HasAmount (codes "AK1") 2 9 s
+document_number r d s g = λ t. amount_of d Digits 9 (element s 2) (λ b. refl)
+    (second_row d (must Alphanumeric 2 2) (must Digits 1 9) [] s (rows_good r d (codes "AK1") (must Alphanumeric 2 2 ∷ must Digits 1 9 ∷ []) s (λ after. refl) g t))
 
 all_so : {P Q : Segment → Type 0} → ((s : Segment) → P s → Q s) → (ss : List Segment) → AllByRecursion P ss → AllByRecursion Q ss
 all_so f [] h = tt
 all_so f (s ∷ ss) h = (f s h.0, all_so f ss h.1)
 
-abbrev Passes : Delims → Words → List Segment → Type 0
-Passes d words ss = fault_from d words words [] 1 ss ≡ None
+abbrev Passes : Rules → Delims → Words → List Segment → Type 0
+Passes r d words ss = fault_from r d words words [] 1 ss ≡ None
 
-pub goods_amounts : (d : Delims) (words : Words) (ss : List Segment) → Passes d words ss → HaveAmounts (codes "W04") 1 QUANTITY_DIGITS ss
-goods_amounts d words ss h = all_so (goods_amount d) ss (all_good d words words [] 1 ss h)
+pub goods_amounts : (r : Rules) (d : Delims) (words : Words) (ss : List Segment) → Passes r d words ss → HaveAmounts (codes "W04") 1 (quantity_digits r) ss
+goods_amounts r d words ss h = all_so (goods_amount r d) ss (all_good r d words words [] 1 ss h)
 
-pub ordered_amounts : (d : Delims) (words : Words) (ss : List Segment) → Passes d words ss → HaveAmounts (codes "W01") 1 QUANTITY_DIGITS ss
-ordered_amounts d words ss h = all_so (ordered_amount d) ss (all_good d words words [] 1 ss h)
+pub ordered_amounts : (r : Rules) (d : Delims) (words : Words) (ss : List Segment) → Passes r d words ss → HaveAmounts (codes "W01") 1 (quantity_digits r) ss
+ordered_amounts r d words ss h = all_so (ordered_amount r d) ss (all_good r d words words [] 1 ss h)
 
-pub advised_totals : (d : Delims) (words : Words) (ss : List Segment) → Passes d words ss → HaveAmounts (codes "W03") 1 ADVICE_TOTAL_DIGITS ss
-advised_totals d words ss h = all_so (advised_total d) ss (all_good d words words [] 1 ss h)
+pub advised_totals : (r : Rules) (d : Delims) (words : Words) (ss : List Segment) → Passes r d words ss → HaveAmounts (codes "W03") 1 (advice_total_digits r) ss
+advised_totals r d words ss h = all_so (advised_total r d) ss (all_good r d words words [] 1 ss h)
 
-pub ordered_totals : (d : Delims) (words : Words) (ss : List Segment) → Passes d words ss → HaveAmounts (codes "W76") 1 ORDER_TOTAL_DIGITS ss
-ordered_totals d words ss h = all_so (ordered_total d) ss (all_good d words words [] 1 ss h)
+pub ordered_totals : (r : Rules) (d : Delims) (words : Words) (ss : List Segment) → Passes r d words ss → HaveAmounts (codes "W76") 1 (order_total_digits r) ss
+ordered_totals r d words ss h = all_so (ordered_total r d) ss (all_good r d words words [] 1 ss h)
 
-pub document_numbers : (d : Delims) (words : Words) (ss : List Segment) → Passes d words ss → HaveAmounts (codes "AK1") 2 9 ss
-document_numbers d words ss h = all_so (document_number d) ss (all_good d words words [] 1 ss h)
+pub document_numbers : (r : Rules) (d : Delims) (words : Words) (ss : List Segment) → Passes r d words ss → HaveAmounts (codes "AK1") 2 9 ss
+document_numbers r d words ss h = all_so (document_number r d) ss (all_good r d words words [] 1 ss h)
 
 -- numbers at places, and of the first segment with an id
 

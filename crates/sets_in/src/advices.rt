@@ -1,9 +1,10 @@
 ghost use Rattle.std.specs.Prelude.{◌≡◌, ◌≤◌, ◌<◌, ◌^◌, ◌-◌, IfOk, All, codes, map, length};
+ghost use Rattle.profile.specs.declared.rules.Rules.TheVariants.{Two};
 ghost use Rattle.profile.specs.Cut.{segments_of, places_of, element};
 ghost use Rattle.profile.specs.Limits.{most_quantity};
 ghost use Rattle.profile.specs.Means as meant;
 ghost use Rattle.profile.specs.Words as kinds;
-ghost use Rattle.profile.specs.declared.widths.TheConstants.{ADVICE_TOTAL_DIGITS, QUANTITY_DIGITS};
+ghost use Rattle.profile.specs.declared.widths.TheConstants.{ADVICE_TOTAL_DIGITS_TWO, QUANTITY_DIGITS_TWO};
 ghost use Rattle.sets_in.specs.Amounts.{IsAmount, IsCounted, HaveAmounts};
 ghost use Rattle.sets_in.specs.Said.{SaysAdvice};
 
@@ -19,7 +20,7 @@ fn advised<'a>(set: &Checked<'a>) -> &'a [Segment<'a>]
     requires { set.now.kind ≡ kinds.ShipmentAdvice }
     ensures same { result.now ≡ set.now.pieces }
     ensures short { length result.now < 2 ^ 32 - 1 }
-    ensures counted { IsCounted (codes "W04") (codes "W03") ADVICE_TOTAL_DIGITS (segments_of result.now) }
+    ensures counted { IsCounted (codes "W04") (codes "W03") ADVICE_TOTAL_DIGITS_TWO (segments_of result.now) }
     ensures says { SaysAdvice (segments_of result.now) (meant.advice_of (segments_of result.now)) }
 {
     set.segments()
@@ -31,9 +32,9 @@ fn advice_line(
     segments: &[Segment<'_>],
     position: u32,
 ) -> Result<AdviceLine, AllocError>
-    requires { IsAmount QUANTITY_DIGITS (element (meant.segment_at (segments_of segments.now) position) 1) }
+    requires { IsAmount QUANTITY_DIGITS_TWO (element (meant.segment_at (segments_of segments.now) position) 1) }
     ensures line { IfOk result (λ l. l ≡ meant.advice_line (segments_of segments.now) position) }
-    ensures small { IfOk result (λ l. l.line.quantity ≤ most_quantity) }
+    ensures small { IfOk result (λ l. l.line.quantity ≤ most_quantity Two) }
 {
     let at = position as usize;
     let item = copied(alloc, element_at(segments, at, 5))?;
@@ -52,9 +53,9 @@ fn advice_line(
 // The lines of an advice.
 fn advice_lines(alloc: Global, segments: &[Segment<'_>]) -> Result<Vec<AdviceLine>, AllocError>
     requires short { length segments.now < 2 ^ 32 - 1 }
-    requires quantities { HaveAmounts (codes "W04") 1 QUANTITY_DIGITS (segments_of segments.now) }
+    requires quantities { HaveAmounts (codes "W04") 1 QUANTITY_DIGITS_TWO (segments_of segments.now) }
     ensures lines { IfOk result (λ v. v.items ≡ map (meant.advice_line (segments_of segments.now)) (places_of (codes "W04") (segments_of segments.now))) }
-    ensures small { IfOk result (λ v. All (λ (l : meant.AdviceLine). l.line.quantity ≤ most_quantity) v.items) }
+    ensures small { IfOk result (λ v. All (λ (l : meant.AdviceLine). l.line.quantity ≤ most_quantity Two) v.items) }
     ensures placed { IfOk result (λ v. All (λ (l : meant.AdviceLine). l.position < 2 ^ 32 - 1) v.items) }
 {
     let mut lines = Vec::new(alloc);
@@ -70,7 +71,7 @@ fn advice_lines(alloc: Global, segments: &[Segment<'_>]) -> Result<Vec<AdviceLin
 // What the segments of an advice say.
 fn told(alloc: Global, segments: &[Segment<'_>]) -> Result<Advice, AllocError>
     requires short { length segments.now < 2 ^ 32 - 1 }
-    requires counted { IsCounted (codes "W04") (codes "W03") ADVICE_TOTAL_DIGITS (segments_of segments.now) }
+    requires counted { IsCounted (codes "W04") (codes "W03") ADVICE_TOTAL_DIGITS_TWO (segments_of segments.now) }
     ensures { IfOk result (λ a. a ≡ meant.advice_of (segments_of segments.now)) }
 {
     let shipment = copied(alloc, element_with(segments, b"W06", 4))?;

@@ -1,9 +1,10 @@
 ghost use Rattle.std.specs.Prelude.{◌≡◌, ◌≤◌, ◌<◌, ◌^◌, ◌-◌, IfOk, All, codes, map, length, option_map};
+ghost use Rattle.profile.specs.declared.rules.Rules.TheVariants.{Two};
 ghost use Rattle.profile.specs.Cut.{segments_of, places_of, element};
 ghost use Rattle.profile.specs.Limits.{most_quantity};
 ghost use Rattle.profile.specs.Means as meant;
 ghost use Rattle.profile.specs.Words as kinds;
-ghost use Rattle.profile.specs.declared.widths.TheConstants.{ORDER_TOTAL_DIGITS, QUANTITY_DIGITS};
+ghost use Rattle.profile.specs.declared.widths.TheConstants.{ORDER_TOTAL_DIGITS_TWO, QUANTITY_DIGITS_TWO};
 ghost use Rattle.sets_in.specs.Amounts.{IsAmount, IsCounted, HaveAmounts};
 ghost use Rattle.sets_in.specs.SaidOrder.{SaysOrder};
 
@@ -19,7 +20,7 @@ fn ordered<'a>(set: &Checked<'a>) -> &'a [Segment<'a>]
     requires { set.now.kind ≡ kinds.ShippingOrder }
     ensures same { result.now ≡ set.now.pieces }
     ensures short { length result.now < 2 ^ 32 - 1 }
-    ensures counted { IsCounted (codes "W01") (codes "W76") ORDER_TOTAL_DIGITS (segments_of result.now) }
+    ensures counted { IsCounted (codes "W01") (codes "W76") ORDER_TOTAL_DIGITS_TWO (segments_of result.now) }
     ensures says { SaysOrder (segments_of result.now) (meant.order_of (segments_of result.now)) }
 {
     set.segments()
@@ -45,9 +46,9 @@ fn order_line(
     segments: &[Segment<'_>],
     position: u32,
 ) -> Result<OrderLine, AllocError>
-    requires { IsAmount QUANTITY_DIGITS (element (meant.segment_at (segments_of segments.now) position) 1) }
+    requires { IsAmount QUANTITY_DIGITS_TWO (element (meant.segment_at (segments_of segments.now) position) 1) }
     ensures line { IfOk result (λ l. l ≡ meant.order_line (segments_of segments.now) position) }
-    ensures small { IfOk result (λ l. l.quantity ≤ most_quantity) }
+    ensures small { IfOk result (λ l. l.quantity ≤ most_quantity Two) }
 {
     let at = position as usize;
     let item = copied(alloc, element_at(segments, at, 5))?;
@@ -64,9 +65,9 @@ fn order_line(
 // The lines of an order.
 fn order_lines(alloc: Global, segments: &[Segment<'_>]) -> Result<Vec<OrderLine>, AllocError>
     requires short { length segments.now < 2 ^ 32 - 1 }
-    requires quantities { HaveAmounts (codes "W01") 1 QUANTITY_DIGITS (segments_of segments.now) }
+    requires quantities { HaveAmounts (codes "W01") 1 QUANTITY_DIGITS_TWO (segments_of segments.now) }
     ensures lines { IfOk result (λ v. v.items ≡ map (meant.order_line (segments_of segments.now)) (places_of (codes "W01") (segments_of segments.now))) }
-    ensures small { IfOk result (λ v. All (λ (l : meant.OrderLine). l.quantity ≤ most_quantity) v.items) }
+    ensures small { IfOk result (λ v. All (λ (l : meant.OrderLine). l.quantity ≤ most_quantity Two) v.items) }
 {
     let mut lines = Vec::new(alloc);
     for (index, segment) in segments.iter().enumerate() {
@@ -81,7 +82,7 @@ fn order_lines(alloc: Global, segments: &[Segment<'_>]) -> Result<Vec<OrderLine>
 // What the segments of an order say.
 fn told(alloc: Global, segments: &[Segment<'_>]) -> Result<Order, AllocError>
     requires short { length segments.now < 2 ^ 32 - 1 }
-    requires counted { IsCounted (codes "W01") (codes "W76") ORDER_TOTAL_DIGITS (segments_of segments.now) }
+    requires counted { IsCounted (codes "W01") (codes "W76") ORDER_TOTAL_DIGITS_TWO (segments_of segments.now) }
     ensures { IfOk result (λ o. o ≡ meant.order_of (segments_of segments.now)) }
 {
     let number_text = copied(alloc, element_with(segments, b"W05", 2))?;

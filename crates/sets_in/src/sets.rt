@@ -38,7 +38,7 @@ impl Advice {
         &self.order
     }
 
-    /// The lines, in the order of their W04: at most 99, each of a quantity of at most 99,999.
+    /// The lines, in the order of their W04: at most 999, each of a quantity of at most 999,999.
     pub fn lines(&self) -> &[AdviceLine]
         ensures lines { result.now ≡ self.now.lines }
         ensures few { HasFewLines self.now.lines }

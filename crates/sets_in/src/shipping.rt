@@ -57,7 +57,7 @@ impl Order {
         self.address.as_ref()
     }
 
-    /// The lines, in the order of their W01: at most 99, each of a quantity of at most 99,999.
+    /// The lines, in the order of their W01: at most 999, each of a quantity of at most 999,999.
     pub fn lines(&self) -> &[OrderLine]
         ensures lines { result.now ≡ self.now.lines }
         ensures few { HasFewOrderLines self.now.lines }

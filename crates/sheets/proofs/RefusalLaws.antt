@@ -2,6 +2,7 @@
 use Rattle.std.proofs.Common.{◌≡◌, ℕ, Bool, true, false, cond, List, map, length, refl, ap, Option, Some, None, Ok, Err}
 use Rattle.std.specs.Prelude.{nat_lt}
 use Rattle.std.specs.List.{list_any}
+use Rattle.profile.specs.declared.rules.Rules.TheVariants.{One}
 use Rattle.profile.specs.Limits.{most_lines}
 use Rattle.profile.specs.Lists.{has_repeats, in_order}
 use Rattle.profile.specs.Events.{pair_before}
@@ -16,9 +17,9 @@ number_or d None = d
 -- it is that of the refusal
 pub refused_is : (kind : SheetKind) (raw : List RawLine) (n : ℕ) → refused kind raw ≡ Some n → (r : Refusal) × (sheet_of kind raw ≡ Err r) × (refusal_number r ≡ n)
 refused_is kind raw n h =
-    by_tests (nat_lt most_lines (length raw)) (list_any (is_bad_line kind) raw) (list_any (is_too_much kind) raw) (has_repeats same_raw_pair raw) refl refl refl refl h
+    by_tests (nat_lt (most_lines One) (length raw)) (list_any (is_bad_line kind) raw) (list_any (is_too_much kind) raw) (has_repeats same_raw_pair raw) refl refl refl refl h
   where
-    by_tests : (a b c d : Bool) → nat_lt most_lines (length raw) ≡ a → list_any (is_bad_line kind) raw ≡ b → list_any (is_too_much kind) raw ≡ c → has_repeats same_raw_pair raw ≡ d
+    by_tests : (a b c d : Bool) → nat_lt (most_lines One) (length raw) ≡ a → list_any (is_bad_line kind) raw ≡ b → list_any (is_too_much kind) raw ≡ c → has_repeats same_raw_pair raw ≡ d
         → cond a (Some 33) (cond b (Some 32) (cond c (Some 30) (cond d (Some 31) None))) ≡ Some n
         → (r : Refusal) × (sheet_of kind raw ≡ Err r) × (refusal_number r ≡ n)
     by_tests true b c d e f g i k = (TooManyLines, rw e refl, ap (number_or 0) k)
@@ -31,9 +32,9 @@ refused_is kind raw n h =
 pub accepted_is : (kind : SheetKind) (raw : List RawLine) → refused kind raw ≡ None
     → (has_repeats same_raw_pair raw ≡ false) × (sheet_of kind raw ≡ Ok (in_order pair_before (map line_of raw)))
 accepted_is kind raw h =
-    by_tests (nat_lt most_lines (length raw)) (list_any (is_bad_line kind) raw) (list_any (is_too_much kind) raw) (has_repeats same_raw_pair raw) refl refl refl refl h
+    by_tests (nat_lt (most_lines One) (length raw)) (list_any (is_bad_line kind) raw) (list_any (is_too_much kind) raw) (has_repeats same_raw_pair raw) refl refl refl refl h
   where
-    by_tests : (a b c d : Bool) → nat_lt most_lines (length raw) ≡ a → list_any (is_bad_line kind) raw ≡ b → list_any (is_too_much kind) raw ≡ c → has_repeats same_raw_pair raw ≡ d
+    by_tests : (a b c d : Bool) → nat_lt (most_lines One) (length raw) ≡ a → list_any (is_bad_line kind) raw ≡ b → list_any (is_too_much kind) raw ≡ c → has_repeats same_raw_pair raw ≡ d
         → cond {A = Option ℕ} a (Some 33) (cond b (Some 32) (cond c (Some 30) (cond d (Some 31) None))) ≡ None
         → (has_repeats same_raw_pair raw ≡ false) × (sheet_of kind raw ≡ Ok (in_order pair_before (map line_of raw)))
     by_tests true b c d e f g i k = absurd (cc)

@@ -7,6 +7,7 @@ use Rattle.std.specs.Cmp.Derive.{both_true}
 use Rattle.std.proofs.Common.{le-leb, leb-true}
 use Rattle.std.proofs.lemmas.List.Sorted.{IsPermutation-map, sum_by-IsPermutation}
 use Rattle.std.proofs.lemmas.List.Elements.{All-nil, All-cons}
+use Rattle.profile.specs.declared.rules.Rules.TheVariants.{One}
 use Rattle.profile.specs.Bytes.{value, is_identifier}
 use Rattle.profile.specs.Limits.{most_lines, most_item, most_lot, most_quantity, most_recounted}
 use Rattle.profile.specs.Lists.{in_order}
@@ -27,7 +28,7 @@ made kind raw sorted h moved up =
     let accepted = accepted_is kind raw h in
     let lines = in_order pair_before (map line_of raw) in
     let sheet = sheet_of-is kind raw lines accepted.1 in
-    let sizes = both_parts (nat_le (length lines) most_lines && list_all (is_sheet_line kind) lines) (is_ascending lines) sheet.0 in
+    let sizes = both_parts (nat_le (length lines) (most_lines One) && list_all (is_sheet_line kind) lines) (is_ascending lines) sheet.0 in
     let counted : (f : Line → ℕ) → sum_by f (map line_of sorted) ≡ sum_by f (map line_of raw) =
     λ f. sum_by-IsPermutation f (map line_of raw) (map line_of sorted) (IsPermutation-map line_of raw sorted moved) in
     let once : (item lot : List ℕ) → told item lot (map line_of sorted) ≤ 1 =
@@ -48,8 +49,8 @@ widened_line kind l h =
     both_true (both_true q.0 (le-leb 0 l.quantity (omega arith))) (by_kind kind p.1)
   where
     by_kind : (kind : SheetKind) → nat_le l.quantity (quantity_limit kind) ≡ true → nat_le l.quantity most_recounted ≡ true
-    by_kind CountSheet e = le-leb l.quantity most_recounted (omega (arith, leb-true l.quantity most_quantity e))
-    by_kind PickSheet e = le-leb l.quantity most_recounted (omega (arith, leb-true l.quantity most_quantity e))
+    by_kind CountSheet e = le-leb l.quantity most_recounted (omega (arith, leb-true l.quantity (most_quantity One) e))
+    by_kind PickSheet e = le-leb l.quantity most_recounted (omega (arith, leb-true l.quantity (most_quantity One) e))
     by_kind RecountSheet e = e
 
 widened_lines : (kind : SheetKind) (ls : List Line) → list_all (is_sheet_line kind) ls ≡ true → list_all (is_sheet_line RecountSheet) ls ≡ true
@@ -60,8 +61,8 @@ widened_lines kind (l ∷ ls) h =
 
 pub widened : (kind : SheetKind) (ls : List Line) → is_sheet kind ls ≡ true → is_sheet RecountSheet ls ≡ true
 widened kind ls h =
-    let p = both_parts (nat_le (length ls) most_lines && list_all (is_sheet_line kind) ls) (is_ascending ls) h in
-    let q = both_parts (nat_le (length ls) most_lines) (list_all (is_sheet_line kind) ls) p.0 in
+    let p = both_parts (nat_le (length ls) (most_lines One) && list_all (is_sheet_line kind) ls) (is_ascending ls) h in
+    let q = both_parts (nat_le (length ls) (most_lines One)) (list_all (is_sheet_line kind) ls) p.0 in
     both_true (both_true q.0 (widened_lines kind ls q.1)) p.1
 
 -- the quantities of a sheet's lines
@@ -78,5 +79,5 @@ lines_fit (l ∷ ls) h =
 
 pub fits : (ls : List RawLine) → is_sheet RecountSheet (map line_of ls) ≡ true → All (λ (l : RawLine). value l.quantity ≤ most_recounted) ls
 fits ls h =
-    let p = both_parts (nat_le (length (map line_of ls)) most_lines && list_all (is_sheet_line RecountSheet) (map line_of ls)) (is_ascending (map line_of ls)) h in
-    lines_fit ls (both_parts (nat_le (length (map line_of ls)) most_lines) (list_all (is_sheet_line RecountSheet) (map line_of ls)) p.0).1
+    let p = both_parts (nat_le (length (map line_of ls)) (most_lines One) && list_all (is_sheet_line RecountSheet) (map line_of ls)) (is_ascending (map line_of ls)) h in
+    lines_fit ls (both_parts (nat_le (length (map line_of ls)) (most_lines One)) (list_all (is_sheet_line RecountSheet) (map line_of ls)) p.0).1

@@ -7,7 +7,8 @@ use Rattle.std.proofs.lemmas.List.Sums.{sum_by-cons}
 use Rattle.std.specs.Cmp.Derive.{both_true}
 use Rattle.std.proofs.lemmas.List.{length-map}
 use Rattle.std.proofs.lemmas.List.Elements.{All-cons, All-nil, All-map}
-use Rattle.profile.specs.declared.widths.TheConstants.{QUANTITY_DIGITS}
+use Rattle.profile.specs.declared.rules.Rules.TheVariants.{One, Two}
+use Rattle.profile.specs.declared.widths.TheConstants.{QUANTITY_DIGITS_TWO}
 use Rattle.profile.specs.Allotment.{order_shares}
 use Rattle.profile.specs.Bytes.{Delims, value, is_identifier}
 use Rattle.profile.specs.Cut.{Segment, cut, element, has_id, places_of}
@@ -23,6 +24,7 @@ use Rattle.profile.specs.Means.{Line, AdviceLine, advice_of, advice_line, order_
 use Rattle.profile.specs.Structure.{Set, Group, kind_of, group_fault, examined, examined_on, groups_of, control_of}
 use Rattle.profile.specs.Words.{SetKind, ShipmentAdvice, ShippingOrder, FunctionalAcknowledgment, kind_words, words_943}
 use Rattle.profile.proofs.FaultsLaws.{set_fault-from}
+use Rattle.profile.proofs.LaterLaws.{set_fault-later}
 use Rattle.sets_in.specs.Amounts.{HaveAmounts}
 use Rattle.sets_in.specs.Places.{places_from}
 use Rattle.sets_in.proofs.Meaning.{at}
@@ -38,32 +40,32 @@ use Rattle.stock.proofs.Pairs.{IsSheet, sheet_facts}
 -- What an advice without a fault says is little.
 
 quantities_small : (whole front ss : List Segment) (n : ℕ) → whole ≡ front ++ ss → n ≡ length front + 1
-    → HaveAmounts (codes "W04") 1 QUANTITY_DIGITS ss
-    → All (λ (k : ℕ). value (element (segment_at whole k) 1) ≤ most_quantity) (places_from (codes "W04") n ss)
+    → HaveAmounts (codes "W04") 1 QUANTITY_DIGITS_TWO ss
+    → All (λ (k : ℕ). value (element (segment_at whole k) 1) ≤ most_quantity Two) (places_from (codes "W04") n ss)
 quantities_small whole front [] n is here h = All-nil _
 quantities_small whole front (s ∷ ss) n is here h =
     let there : n + 1 ≡ length (front ++ s ∷ []) + 1 = omega (arith, here, length-append front (s ∷ [])) in
     let later = quantities_small whole (front ++ s ∷ []) ss (n + 1) (is ∙ sym (append_assoc front (s ∷ []) ss)) there h.1 in
-    let P : ℕ → Type 0 = λ (k : ℕ). value (element (segment_at whole k) 1) ≤ most_quantity in
+    let P : ℕ → Type 0 = λ (k : ℕ). value (element (segment_at whole k) 1) ≤ most_quantity Two in
     elim (cases_Bool (has_id (codes "W04") s)) [
       | inl e ↦
-          let bound = amount_bound QUANTITY_DIGITS (element s 1) (h.0 e) in
-          let small : value (element s 1) ≤ most_quantity = omega (arith, bound) in
+          let bound = amount_bound QUANTITY_DIGITS_TWO (element s 1) (h.0 e) in
+          let small : value (element s 1) ≤ most_quantity Two = omega (arith, bound) in
           subst (All P) (sym (from_yes (codes "W04") n s ss e))
           (All-cons P n (places_from (codes "W04") (n + 1) ss)
-          (subst (λ (x : Segment). value (element x 1) ≤ most_quantity) (sym (at whole front s ss n is here)) small) later)
+          (subst (λ (x : Segment). value (element x 1) ≤ most_quantity Two) (sym (at whole front s ss n is here)) small) later)
       | inr e ↦ subst (All P) (sym (from_no (codes "W04") n s ss e)) later
     ]
 
-advice_few : (d : Delims) (ss : List Segment) → set_fault d words_943 ss ≡ None
-    → length (advice_of ss).lines ≤ most_lines
+advice_few : (d : Delims) (ss : List Segment) → set_fault Two d (words_943 Two) ss ≡ None
+    → length (advice_of ss).lines ≤ most_lines Two
 advice_few d ss none =
-    omega (arith, length-map (places_of (codes "W04") ss) (advice_line ss), few_goods d ss (sym (set_fault-from d words_943 ss) ∙ none))
+    omega (arith, length-map (places_of (codes "W04") ss) (advice_line ss), few_goods Two d ss (sym (set_fault-from Two d (words_943 Two) ss) ∙ none))
 
-advice_small : (d : Delims) (ss : List Segment) → set_fault d words_943 ss ≡ None
-    → All (λ (l : AdviceLine). l.line.quantity ≤ most_quantity) (advice_of ss).lines
-advice_small d ss none = All-map (λ (l : AdviceLine). l.line.quantity ≤ most_quantity) (advice_line ss) (places_of (codes "W04") ss)
-    (quantities_small ss [] ss 1 refl (omega arith) (goods_amounts d words_943 ss (sym (set_fault-from d words_943 ss) ∙ none)))
+advice_small : (d : Delims) (ss : List Segment) → set_fault Two d (words_943 Two) ss ≡ None
+    → All (λ (l : AdviceLine). l.line.quantity ≤ most_quantity Two) (advice_of ss).lines
+advice_small d ss none = All-map (λ (l : AdviceLine). l.line.quantity ≤ most_quantity Two) (advice_line ss) (places_of (codes "W04") ss)
+    (quantities_small ss [] ss 1 refl (omega arith) (goods_amounts Two d (words_943 Two) ss (sym (set_fault-from Two d (words_943 Two) ss) ∙ none)))
 
 -- One set.
 
@@ -73,12 +75,13 @@ event_is (Some x) e f h = absurd (cc (h))
 
 traded_more : (d : Delims) (p : PageFacts) (es : List Event) (n : ℕ) (kind : SetKind) (ss : List Segment) (e : Event)
     → IsSound p → Shows p es → p.recent < 1000 → n ≡ p.entries + 1
-    → set_fault d (kind_words kind) ss ≡ None → traded es n kind ss ≡ Ok e → (q : PageFacts) × IsOneMore p es e q
+    → set_fault One d (kind_words One kind) ss ≡ None → traded es n kind ss ≡ Ok e → (q : PageFacts) × IsOneMore p es e q
 traded_more d p es n ShipmentAdvice ss e sound shows room follows none is =
     let a = advice_of ss in
+    let later = set_fault-later d ShipmentAdvice ss none in
     let o = event_is (advice_fault es a) e (Advised a) is in
     subst (λ (x : Event). (q : PageFacts) × IsOneMore p es x q) o.1
-    (announced_more p es a sound shows room (advice_few d ss none) (advice_small d ss none) o.0)
+    (announced_more p es a sound shows room (advice_few d ss later) (advice_small d ss later) o.0)
 traded_more d p es n ShippingOrder ss e sound shows room follows none is =
     let a = order_of ss in
     let o = event_is (order_fault es a) e (Ordered a (order_shares es a)) is in
@@ -91,9 +94,9 @@ traded_more d p es n FunctionalAcknowledgment ss e sound shows room follows none
 judged_more : (d : Delims) (p : PageFacts) (es : List Event) (n : ℕ) (kind : SetKind) (ss : List Segment) (e : Event)
     → IsSound p → Shows p es → p.recent < 1000 → n ≡ p.entries + 1
     → judged d es n kind ss ≡ Ok e → (q : PageFacts) × IsOneMore p es e q
-judged_more d p es n kind ss e sound shows room follows is = by (set_fault d (kind_words kind) ss) refl
+judged_more d p es n kind ss e sound shows room follows is = by (set_fault One d (kind_words One kind) ss) refl
   where
-    by : (o : Option SetFault) → set_fault d (kind_words kind) ss ≡ o → (q : PageFacts) × IsOneMore p es e q
+    by : (o : Option SetFault) → set_fault One d (kind_words One kind) ss ≡ o → (q : PageFacts) × IsOneMore p es e q
     by None h =
         let same : judged d es n kind ss ≡ traded es n kind ss = rw h refl in
         traded_more d p es n kind ss e sound shows room follows h (sym same ∙ is)
@@ -227,8 +230,8 @@ widened_line kind l h =
     both_true (both_true q.0 (le-leb 0 l.quantity (omega arith))) (by_kind kind p.1)
   where
     by_kind : (kind : Sheets) → nat_le l.quantity (quantity_limit kind) ≡ true → nat_le l.quantity most_recounted ≡ true
-    by_kind CountSheet e = le-leb l.quantity most_recounted (omega (arith, leb-true l.quantity most_quantity e))
-    by_kind PickSheet e = le-leb l.quantity most_recounted (omega (arith, leb-true l.quantity most_quantity e))
+    by_kind CountSheet e = le-leb l.quantity most_recounted (omega (arith, leb-true l.quantity (most_quantity One) e))
+    by_kind PickSheet e = le-leb l.quantity most_recounted (omega (arith, leb-true l.quantity (most_quantity One) e))
     by_kind RecountSheet e = e
 
 widened_lines : (kind : Sheets) (ls : List Line) → list_all (is_sheet_line kind) ls ≡ true
@@ -240,8 +243,8 @@ widened_lines kind (l ∷ ls) h =
 
 sheet_is : (kind : Sheets) (ls : List Line) → is_sheet kind ls ≡ true → IsSheet ls
 sheet_is kind ls h =
-    let p = and_parts (nat_le (length ls) most_lines && list_all (is_sheet_line kind) ls) (is_ascending ls) h in
-    let q = and_parts (nat_le (length ls) most_lines) (list_all (is_sheet_line kind) ls) p.0 in
+    let p = and_parts (nat_le (length ls) (most_lines One) && list_all (is_sheet_line kind) ls) (is_ascending ls) h in
+    let q = and_parts (nat_le (length ls) (most_lines One)) (list_all (is_sheet_line kind) ls) p.0 in
     sheet_facts ls (both_true (both_true q.0 (widened_lines kind ls q.1)) p.1)
 
 act_more : (p : PageFacts) (es : List Event) (n : ℕ) (act : Act) (e : Event) → IsSound p → Shows p es → p.recent < 1000

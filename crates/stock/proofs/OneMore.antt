@@ -6,6 +6,7 @@ use Rattle.std.specs.Prelude.{codes, length, All, map}
 use Rattle.std.proofs.lemmas.List.{length-map}
 use Rattle.std.proofs.lemmas.List.Elements.{All-map}
 use Rattle.std.specs.List.{list_any, list_all}
+use Rattle.profile.specs.declared.rules.Rules.TheVariants.{Two}
 use Rattle.profile.specs.Events.{Event, Advised, Ordered, Acknowledged, Counted, Picked, Recounted, is_pair, quantity_of, advice_fault, order_fault}
 use Rattle.profile.specs.Clerk.{counted, picked, recounted, on_hand_now}
 use Rattle.profile.specs.Allotment.{order_shares}
@@ -80,17 +81,17 @@ unfolding placeless
 same_lines [] = refl
 same_lines (l ∷ ls) = ap (λ xs. l.line ∷ xs) (same_lines ls)
 
-little : (ls : List AdviceLine) → length ls ≤ most_lines → All (λ (l : AdviceLine). l.line.quantity ≤ most_quantity) ls
+little : (ls : List AdviceLine) → length ls ≤ most_lines Two → All (λ (l : AdviceLine). l.line.quantity ≤ most_quantity Two) ls
     → HasFewLines (map placeless ls)
 unfolding placeless
 little ls few small = record {
   few = omega (arith, few, length-map ls placeless);
-  small = All-map (λ (l : AdviceLine). l.line.quantity ≤ most_quantity) placeless ls small;
+  small = All-map (λ (l : AdviceLine). l.line.quantity ≤ most_quantity Two) placeless ls small;
   placed = All-map (λ (l : AdviceLine). l.position < 2 ^ 32 - 1) placeless ls (λ i d within. omega arith);
 }
 
 pub announced_more : (p : PageFacts) (es : List Event) (a : Advice) → IsSound p → Shows p es → p.recent < 1000
-    → length a.lines ≤ most_lines → All (λ (l : AdviceLine). l.line.quantity ≤ most_quantity) a.lines
+    → length a.lines ≤ most_lines Two → All (λ (l : AdviceLine). l.line.quantity ≤ most_quantity Two) a.lines
     → advice_fault es a ≡ None
     → (q : PageFacts) × IsOneMore p es (Advised a) q
 announced_more p es a sound shows room few small none =

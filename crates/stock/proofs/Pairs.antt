@@ -5,6 +5,7 @@ use Rattle.std.proofs.lemmas.List.Sums.{sum_by-cons}
 use Rattle.std.proofs.lemmas.Slice.Eq.{bytes_eq-Decides}
 use Rattle.std.specs.Prelude.{bytes_eq, count_by, nat_le}
 use Rattle.std.specs.List.{list_all}
+use Rattle.profile.specs.declared.rules.Rules.TheVariants.{One}
 use Rattle.profile.specs.Bytes.{comes_before, is_identifier}
 use Rattle.profile.specs.Limits.{most_recounted, most_lines, most_item, most_lot}
 use Rattle.profile.specs.Means.{Line}
@@ -124,8 +125,8 @@ pub record IsSheet (ls : List Line) : Type 0 where
 
 pub sheet_facts : (ls : List Line) → is_sheet RecountSheet ls ≡ true → IsSheet ls
 sheet_facts ls h =
-    let p = and_parts (nat_le (length ls) most_lines && list_all (is_sheet_line RecountSheet) ls) (is_ascending ls) h in
-    let q = and_parts (nat_le (length ls) most_lines) (list_all (is_sheet_line RecountSheet) ls) p.0 in
+    let p = and_parts (nat_le (length ls) (most_lines One) && list_all (is_sheet_line RecountSheet) ls) (is_ascending ls) h in
+    let q = and_parts (nat_le (length ls) (most_lines One)) (list_all (is_sheet_line RecountSheet) ls) p.0 in
     record {
       little = λ a b. little_each a b ls q.1 (ascending_once a b ls p.1);
       once = λ a b. ascending_once a b ls p.1;

@@ -1,4 +1,5 @@
 ghost use Rattle.std.specs.Prelude.{◌≡◌, ◌<◌, ◌++◌, ◌≤◌, [], ◌∷◌, List, None, true, IfOk, IfErr, length};
+ghost use Rattle.profile.specs.declared.rules.Rules.TheVariants.{Two};
 ghost use Rattle.profile.specs.Limits.{most_lines, most_sets};
 ghost use Rattle.profile.specs.Events.{Event, Advised, advice_fault};
 ghost use Rattle.profile.specs.Means.{advised as meant_lines};
@@ -22,7 +23,7 @@ use std::alloc::{AllocError, Global};
 // An advice that is opened.
 fn opened(alloc: Global, advice: &Advice, lines: Vec<Goods>) -> Result<KnownAdvice, AllocError>
     requires lines { lines.items ≡ meant_lines advice.now }
-    requires few { length lines.items ≤ most_lines }
+    requires few { length lines.items ≤ most_lines Two }
     ensures { IfOk result (λ known. known ≡ opened advice.now) }
 {
     let shipment = advice.shipment().to_vec(alloc)?;

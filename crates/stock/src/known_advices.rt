@@ -1,4 +1,5 @@
 ghost use Rattle.std.specs.Prelude.{◌≡◌, ◌≤◌, length, sum_by, IfOk};
+ghost use Rattle.profile.specs.declared.rules.Rules.TheVariants.{Two};
 ghost use Rattle.profile.specs.Bytes.{comes_before};
 ghost use Rattle.profile.specs.Limits.{most_lines};
 ghost use Rattle.profile.specs.Page.{PageAdvice};
@@ -23,13 +24,13 @@ impl Model for KnownAdvice {
 
     ghost view = { λ k. record { shipment = k.shipment.items; order = k.order.items; lines = k.lines.items; is_open = k.is_open } };
 
-    ghost invariant = { λ k. length k.lines.items ≤ most_lines };
+    ghost invariant = { λ k. length k.lines.items ≤ most_lines Two };
 }
 
 impl KnownAdvice {
-    /// An advice of these numbers and at most 99 lines; it is open until it is counted.
+    /// An advice of these numbers and at most 999 lines; it is open until it is counted.
     pub fn new(shipment: Vec<u8>, order: Vec<u8>, lines: Vec<Goods>, is_open: bool) -> KnownAdvice
-        requires { length lines.items ≤ most_lines }
+        requires { length lines.items ≤ most_lines Two }
         ensures { result ≡ record { shipment = shipment.items; order = order.items; lines = lines.items; is_open = is_open } }
     {
         KnownAdvice {
@@ -108,7 +109,7 @@ impl KnownAdvice {
 
 // The sum of the quantities of lines.
 fn total(lines: &[Goods]) -> u64
-    requires { length lines.now ≤ most_lines }
+    requires { length lines.now ≤ most_lines Two }
     ensures { result ≡ sum_by (λ l. l.quantity) lines.now }
 {
     let mut total: u64 = 0;

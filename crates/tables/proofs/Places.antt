@@ -1,6 +1,7 @@
 -- Where segments may stand, and the places of elements.
 use Rattle.std.proofs.Common.{◌≡◌, ℕ, ◌+◌, ◌≤◌, Bool, true, false, List, [], ◌∷◌, length, refl, ap, arith, Some, None, Option, option_map}
 use Rattle.std.specs.Prelude.{if◌then◌else◌, unwrap_or, slice_get, drop}
+use Rattle.profile.specs.declared.rules.Rules.{Rules}
 use Rattle.profile.specs.Bytes.{Delims}
 use Rattle.profile.specs.Lists.{or_else}
 use Rattle.profile.specs.Cut.{Segment, id_of}
@@ -24,16 +25,16 @@ found_none w e = by_test (has_word w) refl e
     by_test false t f = t
 
 -- a segment that may stand there has the fault of its elements
-pub in_place : (d : Delims) (words rest v : Words) (previous : List ℕ) (position : ℕ) (s : Segment) → Some v ≡ found (words_after (id_of s) rest)
-    → fault_at d words rest previous position s ≡ inner_fault d previous position s
-in_place d words rest v previous position s e =
-    ap (λ (b : Bool). if b then inner_fault d previous position s else Some (place_fault words rest position (id_of s))) ((found_some (words_after (id_of s) rest) v e).0)
+pub in_place : (r : Rules) (d : Delims) (words rest v : Words) (previous : List ℕ) (position : ℕ) (s : Segment) → Some v ≡ found (words_after (id_of s) rest)
+    → fault_at r d words rest previous position s ≡ inner_fault r d previous position s
+in_place r d words rest v previous position s e =
+    ap (λ (b : Bool). if b then inner_fault r d previous position s else Some (place_fault r words rest position (id_of s))) ((found_some (words_after (id_of s) rest) v e).0)
 
 -- one that may not is out of place
-pub out_of_place : (d : Delims) (words rest : Words) (previous : List ℕ) (position : ℕ) (s : Segment) → None ≡ found (words_after (id_of s) rest)
-    → fault_at d words rest previous position s ≡ Some (place_fault words rest position (id_of s))
-out_of_place d words rest previous position s e =
-    ap (λ (b : Bool). if b then inner_fault d previous position s else Some (place_fault words rest position (id_of s))) (found_none (words_after (id_of s) rest) e)
+pub out_of_place : (r : Rules) (d : Delims) (words rest : Words) (previous : List ℕ) (position : ℕ) (s : Segment) → None ≡ found (words_after (id_of s) rest)
+    → fault_at r d words rest previous position s ≡ Some (place_fault r words rest position (id_of s))
+out_of_place r d words rest previous position s e =
+    ap (λ (b : Bool). if b then inner_fault r d previous position s else Some (place_fault r words rest position (id_of s))) (found_none (words_after (id_of s) rest) e)
 
 -- a faulty element stands at most one place after the last row
 pub place_bound : (d : Delims) (place : ℕ) (rows : List Row) (es : List (List ℕ)) (f : ElementFault) → Some f ≡ least_element_fault d place rows es → f.place ≤ place + length rows

@@ -3,6 +3,7 @@ use Rattle.std.proofs.Common.{◌≡◌, ℕ, zero, suc, Bool, true, false, List
 use Rattle.std.specs.Prelude.{◌&&◌, ◌==◌, bytes_eq, codes, if◌then◌else◌}
 use Rattle.std.proofs.lemmas.Bool.{or_from, or_parts, and_parts}
 use Rattle.std.proofs.lemmas.Slice.Eq.{bytes_eq-Decides}
+use Rattle.profile.specs.declared.rules.Rules.{Rules}
 use Rattle.profile.specs.Bytes.{Delims}
 use Rattle.profile.specs.Cut.{Segment, id_of}
 use Rattle.profile.specs.Words.{Words, Never, Empty, One, Then, Or, Times, words_after, has_word, has_empty, mentions}
@@ -59,45 +60,45 @@ nothing_after id (Or v w) h = let p = or_parts (mentions id v) (mentions id w) h
     rw (nothing_after id v p.0, nothing_after id w p.1) refl
 nothing_after id (Times low high w) h = rw (nothing_after id w h) (never_either (high == 0))
 
-advice_known : (s : a.Stage) → all_known (advice.rest_of s) ≡ true
+advice_known : (r : Rules) (s : a.Stage) → all_known (advice.rest_of r s) ≡ true
 unfolding all_known
-advice_known a.TheVariants.Begin = refl
-advice_known a.TheVariants.Head = refl
-advice_known (a.TheVariants.Parties zero) = refl
-advice_known (a.TheVariants.Parties (suc n)) = refl
-advice_known (a.TheVariants.References zero) = refl
-advice_known (a.TheVariants.References (suc n)) = refl
-advice_known (a.TheVariants.Dates zero) = refl
-advice_known (a.TheVariants.Dates (suc n)) = refl
-advice_known (a.TheVariants.Goods zero) = refl
-advice_known (a.TheVariants.Goods (suc n)) = refl
-advice_known (a.TheVariants.Lot zero) = refl
-advice_known (a.TheVariants.Lot (suc n)) = refl
-advice_known a.TheVariants.Total = refl
-advice_known a.TheVariants.End = refl
+advice_known r a.TheVariants.Begin = refl
+advice_known r a.TheVariants.Head = refl
+advice_known r (a.TheVariants.Parties zero) = refl
+advice_known r (a.TheVariants.Parties (suc n)) = refl
+advice_known r (a.TheVariants.References zero) = refl
+advice_known r (a.TheVariants.References (suc n)) = refl
+advice_known r (a.TheVariants.Dates zero) = refl
+advice_known r (a.TheVariants.Dates (suc n)) = refl
+advice_known r (a.TheVariants.Goods zero) = refl
+advice_known r (a.TheVariants.Goods (suc n)) = refl
+advice_known r (a.TheVariants.Lot zero) = refl
+advice_known r (a.TheVariants.Lot (suc n)) = refl
+advice_known r a.TheVariants.Total = refl
+advice_known r a.TheVariants.End = refl
 
-order_known : (s : o.Stage) → all_known (order.rest_of s) ≡ true
+order_known : (r : Rules) (s : o.Stage) → all_known (order.rest_of r s) ≡ true
 unfolding all_known
-order_known o.TheVariants.Begin = refl
-order_known o.TheVariants.Head = refl
-order_known (o.TheVariants.Parties zero) = refl
-order_known (o.TheVariants.Parties (suc n)) = refl
-order_known (o.TheVariants.Named zero) = refl
-order_known (o.TheVariants.Named (suc n)) = refl
-order_known (o.TheVariants.Streeted zero) = refl
-order_known (o.TheVariants.Streeted (suc n)) = refl
-order_known (o.TheVariants.References zero) = refl
-order_known (o.TheVariants.References (suc n)) = refl
-order_known (o.TheVariants.Dates zero) = refl
-order_known (o.TheVariants.Dates (suc n)) = refl
-order_known (o.TheVariants.Numbered zero) = refl
-order_known (o.TheVariants.Numbered (suc n)) = refl
-order_known (o.TheVariants.Goods zero) = refl
-order_known (o.TheVariants.Goods (suc n)) = refl
-order_known (o.TheVariants.Pinned zero) = refl
-order_known (o.TheVariants.Pinned (suc n)) = refl
-order_known o.TheVariants.Total = refl
-order_known o.TheVariants.End = refl
+order_known r o.TheVariants.Begin = refl
+order_known r o.TheVariants.Head = refl
+order_known r (o.TheVariants.Parties zero) = refl
+order_known r (o.TheVariants.Parties (suc n)) = refl
+order_known r (o.TheVariants.Named zero) = refl
+order_known r (o.TheVariants.Named (suc n)) = refl
+order_known r (o.TheVariants.Streeted zero) = refl
+order_known r (o.TheVariants.Streeted (suc n)) = refl
+order_known r (o.TheVariants.References zero) = refl
+order_known r (o.TheVariants.References (suc n)) = refl
+order_known r (o.TheVariants.Dates zero) = refl
+order_known r (o.TheVariants.Dates (suc n)) = refl
+order_known r (o.TheVariants.Numbered zero) = refl
+order_known r (o.TheVariants.Numbered (suc n)) = refl
+order_known r (o.TheVariants.Goods zero) = refl
+order_known r (o.TheVariants.Goods (suc n)) = refl
+order_known r (o.TheVariants.Pinned zero) = refl
+order_known r (o.TheVariants.Pinned (suc n)) = refl
+order_known r o.TheVariants.Total = refl
+order_known r o.TheVariants.End = refl
 
 acknowledgment_known : (s : k.Stage) → all_known (acknowledgment.rest_of s) ≡ true
 unfolding all_known
@@ -120,10 +121,10 @@ acknowledgment_known (k.TheVariants.Elements (suc n) (suc m) (suc i)) = refl
 acknowledgment_known k.TheVariants.Total = refl
 acknowledgment_known k.TheVariants.End = refl
 
-rest_known : (s : Stage) → all_known (rest_of s) ≡ true
-rest_known (Advice s) = advice_known s
-rest_known (Order s) = order_known s
-rest_known (Acknowledgment s) = acknowledgment_known s
+rest_known : (r : Rules) (s : Stage) → all_known (rest_of r s) ≡ true
+rest_known r (Advice s) = advice_known r s
+rest_known r (Order s) = order_known r s
+rest_known r (Acknowledgment s) = acknowledgment_known s
 
 abbrev coded : Bool → Bool → Bool → ℕ
 coded is_end known mentioned = if is_end then 3 else (if not known then 1 else (if not mentioned then 6 else 2))
@@ -135,13 +136,13 @@ abbrev at_place : Bool → Option SetFault → SetFault → Option SetFault
 at_place fits inner place = if fits then inner else Some place
 
 -- a segment with such an id is out of place, with code 1
-pub unknown_fault : (d : Delims) (words : Words) (stage : Stage) (previous : List ℕ) (position : ℕ) (s : Segment) → is_known (id_of s) ≡ false
-    → fault_at d words (rest_of stage) previous position s ≡ Some (record { id = id_of s; position = position; code = 1; element = None })
-unknown_fault d words stage previous position s h =
-    let gone : words_after (id_of s) (rest_of stage) ≡ Never = nothing_after (id_of s) (rest_of stage) (unmentioned (id_of s) (rest_of stage) h (rest_known stage)) in
+pub unknown_fault : (r : Rules) (d : Delims) (words : Words) (stage : Stage) (previous : List ℕ) (position : ℕ) (s : Segment) → is_known (id_of s) ≡ false
+    → fault_at r d words (rest_of r stage) previous position s ≡ Some (record { id = id_of s; position = position; code = 1; element = None })
+unknown_fault r d words stage previous position s h =
+    let gone : words_after (id_of s) (rest_of r stage) ≡ Never = nothing_after (id_of s) (rest_of r stage) (unmentioned (id_of s) (rest_of r stage) h (rest_known r stage)) in
     let not_end : bytes_eq (id_of s) (codes "SE") ≡ false = apart (id_of s) (codes "SE") h refl in
-    let code : place_code words (id_of s) ≡ 1 =
+    let code : place_code r words (id_of s) ≡ 1 =
     ap (λ (b : Bool). coded b (is_known (id_of s)) (mentions (id_of s) words)) not_end ∙ ap (λ (b : Bool). coded false b (mentions (id_of s) words)) h in
-    ap (λ (w : Words). at_place (has_word w) (inner_fault d previous position s) (place_fault words (rest_of stage) position (id_of s))) gone
-    ∙ ap (λ (b : Bool). Some (told_at b (wanted_id (rest_of stage)) (id_of s) position (place_code words (id_of s)))) not_end
-    ∙ ap (λ (n : ℕ). Some (told_at false (wanted_id (rest_of stage)) (id_of s) position n)) code
+    ap (λ (w : Words). at_place (has_word w) (inner_fault r d previous position s) (place_fault r words (rest_of r stage) position (id_of s))) gone
+    ∙ ap (λ (b : Bool). Some (told_at b (wanted_id (rest_of r stage)) (id_of s) position (place_code r words (id_of s)))) not_end
+    ∙ ap (λ (n : ℕ). Some (told_at false (wanted_id (rest_of r stage)) (id_of s) position n)) code

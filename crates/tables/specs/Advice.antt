@@ -1,5 +1,6 @@
 -- What may still come at each stage of a 943.
 use Rattle.std.specs.Prelude.{codes}
+use Rattle.profile.specs.declared.rules.Rules.{Rules}
 use Rattle.profile.specs.Words.{Words, One, Times, Then, Empty, words_943, times_words}
 use Rattle.profile.specs.Limits.{most_lines, most_parties, most_references, most_dates}
 use Rattle.tables.specs.Languages.{some_of}
@@ -13,22 +14,22 @@ line = Then (One (codes "W04")) (One (codes "N9"))
 abbrev pub total : Words
 total = Then (One (codes "W03")) (One (codes "SE"))
 
-abbrev pub lines : Words
-lines = Then (Times 1 most_lines line) total
+abbrev pub lines : Rules → Words
+lines r = Then (Times 1 (most_lines r) line) total
 
-abbrev pub dates : Words
-dates = Then (Times 0 most_dates (One (codes "G62"))) lines
+abbrev pub dates : Rules → Words
+dates r = Then (Times 0 most_dates (One (codes "G62"))) (lines r)
 
-abbrev pub references : Words
-references = Then (Times 0 most_references (One (codes "N9"))) dates
+abbrev pub references : Rules → Words
+references r = Then (Times 0 most_references (One (codes "N9"))) (dates r)
 
-abbrev pub rest_of : Stage → Words
-rest_of Begin = words_943
-rest_of Head = Then (One (codes "W06")) (Then (Times 0 most_parties (One (codes "N1"))) references)
-rest_of (Parties left) = some_of left (One (codes "N1")) references
-rest_of (References left) = some_of left (One (codes "N9")) dates
-rest_of (Dates left) = some_of left (One (codes "G62")) lines
-rest_of (Goods left) = Then (Then (One (codes "N9")) (times_words 0 left line)) total
-rest_of (Lot left) = some_of left line total
-rest_of Total = One (codes "SE")
-rest_of End = Empty
+abbrev pub rest_of : Rules → Stage → Words
+rest_of r Begin = words_943 r
+rest_of r Head = Then (One (codes "W06")) (Then (Times 0 most_parties (One (codes "N1"))) (references r))
+rest_of r (Parties left) = some_of left (One (codes "N1")) (references r)
+rest_of r (References left) = some_of left (One (codes "N9")) (dates r)
+rest_of r (Dates left) = some_of left (One (codes "G62")) (lines r)
+rest_of r (Goods left) = Then (Then (One (codes "N9")) (times_words 0 left line)) total
+rest_of r (Lot left) = some_of left line total
+rest_of r Total = One (codes "SE")
+rest_of r End = Empty

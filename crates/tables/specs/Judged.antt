@@ -1,5 +1,6 @@
--- Faults as the program tells them, and a set that has none.
+-- Faults as the program tells them, and a set that has none by some rules.
 use Rattle.std.specs.Prelude.{◌≡◌, ◌-◌, ◌<◌, ◌^◌, List, codes, length, IsTrue, None, Option, option_map}
+use Rattle.profile.specs.declared.rules.Rules.{Rules}
 use Rattle.profile.specs.Cut.{Piece, segments_of, last_segment, has_id}
 use Rattle.profile.specs.Faults as meant
 use Rattle.profile.specs.Bytes.{Delims}
@@ -20,17 +21,18 @@ told f = record {
 abbrev pub IsClosed : List Piece → Type 0
 IsClosed ps = IsTrue (has_id (codes "SE") (last_segment (segments_of ps)))
 
--- the segments of a set, and its kind
+-- the segments of a set, its kind, and the rules by which it was judged
 pub record Whole : Type 0 where
   pub kind : SetKind
+  pub rules : Rules
   pub pieces : List Piece
 
 -- the fault by some delimiters, which are those of the segments where all have the same
-abbrev pub IsJudged : SetKind → List Piece → Option meant.SetFault → Type 0
-IsJudged kind ps f = (d : Delims) × (set_fault d (kind_words kind) (segments_of ps) ≡ f) × IsFaultOf kind ps f
+abbrev pub IsJudged : Rules → SetKind → List Piece → Option meant.SetFault → Type 0
+IsJudged r kind ps f = (d : Delims) × (set_fault r d (kind_words r kind) (segments_of ps) ≡ f) × IsFaultOf r kind ps f
 
--- a set that ends with SE and has no fault
+-- a set that ends with SE and has no fault by its rules
 pub record IsSound (w : Whole) : Type 0 where
   pub few : length w.pieces < 2 ^ 32 - 1
   pub closed : IsClosed w.pieces
-  pub judged : IsJudged w.kind w.pieces None
+  pub judged : IsJudged w.rules w.kind w.pieces None

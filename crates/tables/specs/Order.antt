@@ -1,5 +1,6 @@
 -- What may still come at each stage of a 940.
 use Rattle.std.specs.Prelude.{codes}
+use Rattle.profile.specs.declared.rules.Rules.{Rules}
 use Rattle.profile.specs.Words.{Words, One, Times, Then, Empty, words_940, times_words, optional}
 use Rattle.profile.specs.Limits.{most_lines, most_parties, most_references, most_dates}
 use Rattle.tables.specs.Languages.{some_of}
@@ -23,25 +24,25 @@ line = Then (One (codes "LX")) goods
 abbrev pub total : Words
 total = Then (One (codes "W76")) (One (codes "SE"))
 
-abbrev pub lines : Words
-lines = Then (Times 1 most_lines line) total
+abbrev pub lines : Rules → Words
+lines r = Then (Times 1 (most_lines r) line) total
 
-abbrev pub dates : Words
-dates = Then (Times 0 most_dates (One (codes "G62"))) lines
+abbrev pub dates : Rules → Words
+dates r = Then (Times 0 most_dates (One (codes "G62"))) (lines r)
 
-abbrev pub references : Words
-references = Then (Times 0 most_references (One (codes "N9"))) dates
+abbrev pub references : Rules → Words
+references r = Then (Times 0 most_references (One (codes "N9"))) (dates r)
 
-abbrev pub rest_of : Stage → Words
-rest_of Begin = words_940
-rest_of Head = Then (One (codes "W05")) (Then (Times 0 most_parties party) references)
-rest_of (Parties left) = some_of left party references
-rest_of (Named left) = Then (Then address (times_words 0 left party)) references
-rest_of (Streeted left) = Then (Then (optional (One (codes "N4"))) (times_words 0 left party)) references
-rest_of (References left) = some_of left (One (codes "N9")) dates
-rest_of (Dates left) = some_of left (One (codes "G62")) lines
-rest_of (Numbered left) = Then (Then goods (times_words 0 left line)) total
-rest_of (Goods left) = Then (Then (optional (One (codes "N9"))) (times_words 0 left line)) total
-rest_of (Pinned left) = some_of left line total
-rest_of Total = One (codes "SE")
-rest_of End = Empty
+abbrev pub rest_of : Rules → Stage → Words
+rest_of r Begin = words_940 r
+rest_of r Head = Then (One (codes "W05")) (Then (Times 0 most_parties party) (references r))
+rest_of r (Parties left) = some_of left party (references r)
+rest_of r (Named left) = Then (Then address (times_words 0 left party)) (references r)
+rest_of r (Streeted left) = Then (Then (optional (One (codes "N4"))) (times_words 0 left party)) (references r)
+rest_of r (References left) = some_of left (One (codes "N9")) (dates r)
+rest_of r (Dates left) = some_of left (One (codes "G62")) (lines r)
+rest_of r (Numbered left) = Then (Then goods (times_words 0 left line)) total
+rest_of r (Goods left) = Then (Then (optional (One (codes "N9"))) (times_words 0 left line)) total
+rest_of r (Pinned left) = some_of left line total
+rest_of r Total = One (codes "SE")
+rest_of r End = Empty

@@ -1,12 +1,13 @@
 ghost use Rattle.std.specs.Prelude.{◌≡◌, option_map};
+ghost use Rattle.profile.specs.declared.rules.Rules.{Rules};
 ghost use Rattle.profile.specs.Words.{words_after};
 ghost use Rattle.profile.specs.Faults.{wanted_id};
 ghost use Rattle.tables.specs.Ids.{text_of};
 ghost use Rattle.tables.specs.Languages.{found};
-ghost use Rattle.tables.specs.Advice.{rest_of};
+ghost use Rattle.tables.specs.Advice.{lines, rest_of};
 
 use crate::ids::Id;
-use profile::{MOST_DATES, MOST_LINES, MOST_PARTIES, MOST_REFERENCES};
+use profile::{MOST_DATES, MOST_LINES, MOST_LINES_TWO, MOST_PARTIES, MOST_REFERENCES, Rules};
 
 /// How far a 943 has come.
 #[derive(Clone, Copy)]
@@ -27,15 +28,15 @@ pub(crate) enum Stage {
 
 impl Stage {
     /// The stage after one more segment; None where that may not stand there.
-    pub(crate) fn next(self, id: Id) -> Option<Stage>
-        ensures { option_map rest_of result ≡ found (words_after (text_of id) (rest_of self)) }
+    pub(crate) fn next(self, id: Id, rules: Rules) -> Option<Stage>
+        ensures { option_map (rest_of rules) result ≡ found (words_after (text_of id) (rest_of rules self)) }
     {
         match self {
             Stage::Begin => after_begin(id),
             Stage::Head => after_head(id),
-            Stage::Parties(left) => after_party(left, id),
-            Stage::References(left) => after_reference(left, id),
-            Stage::Dates(left) => after_date(left, id),
+            Stage::Parties(left) => after_party(left, id, rules),
+            Stage::References(left) => after_reference(left, id, rules),
+            Stage::Dates(left) => after_date(left, id, rules),
             Stage::Goods(left) => after_goods(left, id),
             Stage::Lot(left) => after_lot(left, id),
             Stage::Total => after_total(id),
@@ -45,7 +46,7 @@ impl Stage {
 
     /// The id that the set wants first, on the shortest way to its end; empty at the end.
     pub(crate) fn wanted(self) -> &'static [u8]
-        ensures { result.now ≡ wanted_id (rest_of self) }
+        ensures { (r : Rules) → result.now ≡ wanted_id (rest_of r self) }
     {
         match self {
             Stage::Begin => b"ST",
@@ -60,7 +61,7 @@ impl Stage {
 }
 
 fn after_begin(id: Id) -> Option<Stage>
-    ensures { option_map rest_of result ≡ found (words_after (text_of id) (rest_of Stage.Begin)) }
+    ensures { (r : Rules) → option_map (rest_of r) result ≡ found (words_after (text_of id) (rest_of r Stage.Begin)) }
 {
     match id {
         Id::St => Some(Stage::Head),
@@ -69,7 +70,7 @@ fn after_begin(id: Id) -> Option<Stage>
 }
 
 fn after_head(id: Id) -> Option<Stage>
-    ensures { option_map rest_of result ≡ found (words_after (text_of id) (rest_of Stage.Head)) }
+    ensures { (r : Rules) → option_map (rest_of r) result ≡ found (words_after (text_of id) (rest_of r Stage.Head)) }
 {
     match id {
         Id::W06 => Some(Stage::Parties(MOST_PARTIES)),
@@ -78,38 +79,48 @@ fn after_head(id: Id) -> Option<Stage>
 }
 
 // A party, or what may stand where the references begin.
-fn after_party(left: u8, id: Id) -> Option<Stage>
-    ensures { option_map rest_of result ≡ found (words_after (text_of id) (rest_of (Stage.Parties left))) }
+fn after_party(left: u8, id: Id, rules: Rules) -> Option<Stage>
+    ensures { option_map (rest_of rules) result ≡ found (words_after (text_of id) (rest_of rules (Stage.Parties left))) }
 {
     match id {
         Id::N1 if left > 0 => Some(Stage::Parties(left - 1)),
-        _ => after_reference(MOST_REFERENCES, id),
+        _ => after_reference(MOST_REFERENCES, id, rules),
     }
 }
 
 // A reference, or what may stand where the dates begin.
-fn after_reference(left: u8, id: Id) -> Option<Stage>
-    ensures { option_map rest_of result ≡ found (words_after (text_of id) (rest_of (Stage.References left))) }
+fn after_reference(left: u8, id: Id, rules: Rules) -> Option<Stage>
+    ensures { option_map (rest_of rules) result ≡ found (words_after (text_of id) (rest_of rules (Stage.References left))) }
 {
     match id {
         Id::N9 if left > 0 => Some(Stage::References(left - 1)),
-        _ => after_date(MOST_DATES, id),
+        _ => after_date(MOST_DATES, id, rules),
     }
 }
 
 // A date, or the first line.
-fn after_date(left: u8, id: Id) -> Option<Stage>
-    ensures { option_map rest_of result ≡ found (words_after (text_of id) (rest_of (Stage.Dates left))) }
+fn after_date(left: u8, id: Id, rules: Rules) -> Option<Stage>
+    ensures { option_map (rest_of rules) result ≡ found (words_after (text_of id) (rest_of rules (Stage.Dates left))) }
 {
     match id {
         Id::G62 if left > 0 => Some(Stage::Dates(left - 1)),
-        Id::W04 => Some(Stage::Goods(MOST_LINES - 1)),
+        _ => first_line(id, rules),
+    }
+}
+
+// The first line, with how many more the rules allow.
+fn first_line(id: Id, rules: Rules) -> Option<Stage>
+    ensures { option_map (rest_of rules) result ≡ found (words_after (text_of id) (lines rules)) }
+{
+    match (id, rules) {
+        (Id::W04, Rules::One) => Some(Stage::Goods(MOST_LINES - 1)),
+        (Id::W04, Rules::Two) => Some(Stage::Goods(MOST_LINES_TWO - 1)),
         _ => None,
     }
 }
 
 fn after_goods(left: u16, id: Id) -> Option<Stage>
-    ensures { option_map rest_of result ≡ found (words_after (text_of id) (rest_of (Stage.Goods left))) }
+    ensures { (r : Rules) → option_map (rest_of r) result ≡ found (words_after (text_of id) (rest_of r (Stage.Goods left))) }
 {
     match id {
         Id::N9 => Some(Stage::Lot(left)),
@@ -118,7 +129,7 @@ fn after_goods(left: u16, id: Id) -> Option<Stage>
 }
 
 fn after_lot(left: u16, id: Id) -> Option<Stage>
-    ensures { option_map rest_of result ≡ found (words_after (text_of id) (rest_of (Stage.Lot left))) }
+    ensures { (r : Rules) → option_map (rest_of r) result ≡ found (words_after (text_of id) (rest_of r (Stage.Lot left))) }
 {
     match id {
         Id::W04 if left > 0 => Some(Stage::Goods(left - 1)),
@@ -128,7 +139,7 @@ fn after_lot(left: u16, id: Id) -> Option<Stage>
 }
 
 fn after_total(id: Id) -> Option<Stage>
-    ensures { option_map rest_of result ≡ found (words_after (text_of id) (rest_of Stage.Total)) }
+    ensures { (r : Rules) → option_map (rest_of r) result ≡ found (words_after (text_of id) (rest_of r Stage.Total)) }
 {
     match id {
         Id::Se => Some(Stage::End),

@@ -9,22 +9,24 @@ use crate::faults::{Progress, SetFault, step};
 use crate::kinds::SetKind;
 use crate::rows::After;
 use crate::stages::Stage;
+use profile::Rules;
 use segments::{Delims, Segment};
 use std::marker::Model;
 
-/// A set without a fault: its kind, and its segments from ST to SE.
+/// A set without a fault: its kind, the rules by which it was judged, and its segments from ST to SE.
 #[derive(Drop)]
 pub struct Checked<'a> {
     kind: SetKind,
+    rules: Rules,
     segments: &'a [Segment<'a>],
 }
 
 impl<'a> Model for Checked<'a> {
     ghost Value = { Whole };
 
-    ghost view = { λ c. record { kind = kind_of c.kind; pieces = c.segments.now } };
+    ghost view = { λ c. record { kind = kind_of c.kind; rules = c.rules; pieces = c.segments.now } };
 
-    ghost invariant = { λ c. IsSound (record { kind = kind_of c.kind; pieces = c.segments.now }) };
+    ghost invariant = { λ c. IsSound (record { kind = kind_of c.kind; rules = c.rules; pieces = c.segments.now }) };
 }
 
 impl<'a> Checked<'a> {
@@ -33,6 +35,13 @@ impl<'a> Checked<'a> {
         ensures { kind_of result ≡ self.now.kind }
     {
         self.kind
+    }
+
+    /// The rules by which it was judged. What has no fault by rules 1 has none by rules 2 either.
+    pub fn rules(&self) -> Rules
+        ensures { result ≡ self.now.rules }
+    {
+        self.rules
     }
 
     /// The segments of the set, ST first and SE last; none of them has a fault.
@@ -59,16 +68,17 @@ fn first_fault<'a>(
     delims: &Delims,
     kind: SetKind,
     segments: &'a [Segment<'a>],
+    rules: Rules,
 ) -> Option<SetFault<'a>>
     requires { length segments.now < 2 ^ 32 - 1 }
-    ensures { option_map told result ≡ set_fault delims.now (kind_words (kind_of kind)) (segments_of segments.now) }
+    ensures { option_map told result ≡ set_fault rules delims.now (kind_words rules (kind_of kind)) (segments_of segments.now) }
 {
     let mut progress = Progress {
         stage: Stage::begin(kind),
         after: After::Else,
     };
     for (index, segment) in segments.iter().enumerate() {
-        match step(delims, kind, progress, index as u32 + 1, segment) {
+        match step(delims, kind, rules, progress, index as u32 + 1, segment) {
             Ok(next) => progress = next,
             Err(fault) => return Some(fault),
         }
@@ -77,28 +87,36 @@ fn first_fault<'a>(
 }
 
 // The first fault, by the delimiters that the segments have.
-fn fault_of<'a>(kind: SetKind, segments: &'a [Segment<'a>]) -> Option<SetFault<'a>>
+fn fault_of<'a>(kind: SetKind, segments: &'a [Segment<'a>], rules: Rules) -> Option<SetFault<'a>>
     requires { length segments.now < 2 ^ 32 - 1 }
-    ensures { IsJudged (kind_of kind) segments.now (option_map told result) }
+    ensures { IsJudged rules (kind_of kind) segments.now (option_map told result) }
 {
     match segments.first() {
-        Some(first) => first_fault(&first.delims(), kind, segments),
+        Some(first) => first_fault(&first.delims(), kind, segments, rules),
         None => None,
     }
 }
 
-/// Judges a set, whose segments were cut from one text and of which SE stands last: the set where no segment has a
-/// fault, else the fault of the first segment with one. A segment has a fault where it may not stand after those before
-/// it, or where an element of it is faulty.
-pub fn judge<'a>(kind: SetKind, segments: &'a [Segment<'a>]) -> Result<Checked<'a>, SetFault<'a>>
+/// Judges a set by the rules, whose segments were cut from one text and of which SE stands last: the set where no segment
+/// has a fault, else the fault of the first segment with one. A segment has a fault where it may not stand after those
+/// before it, or where an element of it is faulty.
+pub fn judge<'a>(
+    kind: SetKind,
+    segments: &'a [Segment<'a>],
+    rules: Rules,
+) -> Result<Checked<'a>, SetFault<'a>>
     requires few { length segments.now < 2 ^ 32 - 1 }
     requires closed { IsClosed segments.now }
     ensures { MatchResult result
-        (λ c. (c.kind ≡ kind_of kind) × (c.pieces ≡ segments.now) × IsFaultOf (kind_of kind) segments.now None)
-        (λ f. IsFaultOf (kind_of kind) segments.now (Some (told f))) }
+        (λ c. (c.kind ≡ kind_of kind) × (c.pieces ≡ segments.now) × IsFaultOf rules (kind_of kind) segments.now None × (c.rules ≡ rules))
+        (λ f. IsFaultOf rules (kind_of kind) segments.now (Some (told f))) }
 {
-    match fault_of(kind, segments) {
+    match fault_of(kind, segments, rules) {
         Some(fault) => Err(fault),
-        None => Ok(Checked { kind, segments }),
+        None => Ok(Checked {
+            kind,
+            rules,
+            segments,
+        }),
     }
 }

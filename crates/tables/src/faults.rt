@@ -1,13 +1,14 @@
 ghost use Rattle.std.specs.Prelude.{◌≡◌, ◌<◌, ℕ, List, true, false, MatchResult, Some, None, length, map, option_map};
 ghost use Rattle.profile.specs.Cut.{id_of};
 ghost use Rattle.profile.specs.Elements as elements_meant;
+ghost use Rattle.profile.specs.declared.rules.Rules.{Rules};
 ghost use Rattle.profile.specs.Words.{words_after, kind_words};
 ghost use Rattle.profile.specs.Faults as meant;
 ghost use Rattle.elements.specs.Rows.{row_of};
 ghost use Rattle.elements.specs.Told.{told_element};
 ghost use Rattle.tables.specs.Ids.{text_of};
 ghost use Rattle.tables.specs.Kinds.{kind_of};
-ghost use Rattle.tables.specs.Rows.{is_goods, after_goods};
+ghost use Rattle.tables.specs.Rows.{is_goods, after_goods, is_advised, after_advised};
 ghost use Rattle.tables.specs.Stages.{rest_of};
 ghost use Rattle.tables.specs.Judged.{told};
 
@@ -16,6 +17,7 @@ use crate::kinds::SetKind;
 use crate::rows::{After, rows_of};
 use crate::stages::{Stage, misplaced};
 use elements::{ElementRow, faulty_element};
+use profile::Rules;
 use segments::{Delims, Segment};
 
 /// A segment in error of a set, as AK3 and AK4 tell it.
@@ -58,13 +60,15 @@ fn inner_fault<'a>(
     delims: &Delims,
     id: Id,
     after: After,
+    rules: Rules,
     position: u32,
     segment: &Segment<'a>,
 ) -> Option<SetFault<'a>>
     requires { id_of segment.now.elements ≡ text_of id }
-    ensures { (previous : List ℕ) → after_goods after ≡ is_goods previous → option_map told result ≡ meant.inner_fault delims.now previous position segment.now.elements }
+    ensures { (previous : List ℕ) → after_goods after ≡ is_goods previous → after_advised after ≡ is_advised previous
+        → option_map told result ≡ meant.inner_fault rules delims.now previous position segment.now.elements }
 {
-    let rows = rows_of(id, after)?;
+    let rows = rows_of(id, after, rules)?;
     let element = element_in_error(delims, rows, segment)?;
     Some(SetFault {
         segment: segment.element(0),
@@ -83,7 +87,7 @@ fn place_fault<'a>(
     segment: &Segment<'a>,
 ) -> SetFault<'a>
     requires { id_of segment.now.elements ≡ text_of id }
-    ensures { told result ≡ meant.place_fault (kind_words (kind_of kind)) (rest_of stage) position (id_of segment.now.elements) }
+    ensures { (r : Rules) → told result ≡ meant.place_fault r (kind_words r (kind_of kind)) (rest_of r stage) position (id_of segment.now.elements) }
 {
     let wanted = match id {
         Id::Se => stage.wanted(),
@@ -113,23 +117,26 @@ fn unknown_fault<'a>(position: u32, segment: &Segment<'a>) -> SetFault<'a>
 pub(crate) fn step<'a>(
     delims: &Delims,
     kind: SetKind,
+    rules: Rules,
     progress: Progress,
     position: u32,
     segment: &Segment<'a>,
 ) -> Result<Progress, SetFault<'a>>
-    ensures { (previous : List ℕ) → after_goods progress.after ≡ is_goods previous → MatchResult result
-        (λ p. (meant.fault_at delims.now (kind_words (kind_of kind)) (rest_of progress.stage) previous position segment.now.elements ≡ None)
-        × (words_after (id_of segment.now.elements) (rest_of progress.stage) ≡ rest_of p.stage)
-        × (after_goods p.after ≡ is_goods (id_of segment.now.elements)))
-        (λ f. meant.fault_at delims.now (kind_words (kind_of kind)) (rest_of progress.stage) previous position segment.now.elements ≡ Some (told f)) }
+    ensures { (previous : List ℕ) → after_goods progress.after ≡ is_goods previous → after_advised progress.after ≡ is_advised previous
+        → MatchResult result
+        (λ p. (meant.fault_at rules delims.now (kind_words rules (kind_of kind)) (rest_of rules progress.stage) previous position segment.now.elements ≡ None)
+        × (words_after (id_of segment.now.elements) (rest_of rules progress.stage) ≡ rest_of rules p.stage)
+        × (after_goods p.after ≡ is_goods (id_of segment.now.elements))
+        × (after_advised p.after ≡ is_advised (id_of segment.now.elements)))
+        (λ f. meant.fault_at rules delims.now (kind_words rules (kind_of kind)) (rest_of rules progress.stage) previous position segment.now.elements ≡ Some (told f)) }
 {
     let Some(id) = Id::read(segment.element(0)) else {
         return Err(unknown_fault(position, segment));
     };
-    let Some(stage) = progress.stage.next(id) else {
+    let Some(stage) = progress.stage.next(id, rules) else {
         return Err(place_fault(kind, progress.stage, id, position, segment));
     };
-    match inner_fault(delims, id, progress.after, position, segment) {
+    match inner_fault(delims, id, progress.after, rules, position, segment) {
         Some(fault) => Err(fault),
         None => Ok(Progress {
             stage,

@@ -1,4 +1,5 @@
 ghost use Rattle.std.specs.Prelude.{◌≡◌, option_map};
+ghost use Rattle.profile.specs.declared.rules.Rules.{Rules};
 ghost use Rattle.profile.specs.Words.{words_after, kind_words, mentions};
 ghost use Rattle.profile.specs.Faults.{wanted_id, place_code};
 ghost use Rattle.tables.specs.Ids.{text_of};
@@ -9,6 +10,7 @@ ghost use Rattle.tables.specs.Stages.{rest_of, kind_at};
 use crate::ids::Id;
 use crate::kinds::SetKind;
 use crate::{acknowledgment, advice, order};
+use profile::Rules;
 
 /// How far a set of one of the kinds has come.
 #[derive(Clone, Copy)]
@@ -21,7 +23,7 @@ pub(crate) enum Stage {
 impl Stage {
     /// The stage before any segment.
     pub(crate) fn begin(kind: SetKind) -> Stage
-        ensures { rest_of result ≡ kind_words (kind_of kind) }
+        ensures { (r : Rules) → rest_of r result ≡ kind_words r (kind_of kind) }
     {
         match kind {
             SetKind::ShippingOrder => Stage::Order(order::Stage::Begin),
@@ -33,19 +35,19 @@ impl Stage {
     }
 
     /// The stage after one more segment; None where that may not stand there.
-    pub(crate) fn next(self, id: Id) -> Option<Stage>
-        ensures { option_map rest_of result ≡ found (words_after (text_of id) (rest_of self)) }
+    pub(crate) fn next(self, id: Id, rules: Rules) -> Option<Stage>
+        ensures { option_map (rest_of rules) result ≡ found (words_after (text_of id) (rest_of rules self)) }
     {
         match self {
-            Stage::Advice(stage) => stage.next(id).map(Stage::Advice),
-            Stage::Order(stage) => stage.next(id).map(Stage::Order),
+            Stage::Advice(stage) => stage.next(id, rules).map(Stage::Advice),
+            Stage::Order(stage) => stage.next(id, rules).map(Stage::Order),
             Stage::Acknowledgment(stage) => stage.next(id).map(Stage::Acknowledgment),
         }
     }
 
     /// The id that the set wants first, on the shortest way to its end; empty at the end.
     pub(crate) fn wanted(self) -> &'static [u8]
-        ensures { result.now ≡ wanted_id (rest_of self) }
+        ensures { (r : Rules) → result.now ≡ wanted_id (rest_of r self) }
     {
         match self {
             Stage::Advice(stage) => stage.wanted(),
@@ -57,7 +59,7 @@ impl Stage {
 
 // Whether sets of the kind have segments with the id.
 fn has(kind: SetKind, id: Id) -> bool
-    ensures { result ≡ mentions (text_of id) (kind_words (kind_of kind)) }
+    ensures { (r : Rules) → result ≡ mentions (text_of id) (kind_words r (kind_of kind)) }
 {
     match kind {
         SetKind::ShippingOrder => matches!(
@@ -87,7 +89,7 @@ fn has(kind: SetKind, id: Id) -> bool
 
 /// The code of a segment out of place (AK304): 3 where it is SE, 6 where only sets of other kinds have it, else 2.
 pub(crate) fn misplaced(kind: SetKind, id: Id) -> u8
-    ensures { result ≡ place_code (kind_words (kind_of kind)) (text_of id) }
+    ensures { (r : Rules) → result ≡ place_code r (kind_words r (kind_of kind)) (text_of id) }
 {
     match id {
         Id::Se => 3,

@@ -3,7 +3,8 @@
 mod cases;
 
 use super::calls::worked::{ADVICE, acme, empty, enrols, morning, takes};
-use cases::{ACKNOWLEDGMENTS, ADVICES, ORDERS};
+use cases::{ACKNOWLEDGMENTS, ADVICES, LATER_ADVICES, LATER_ORDERS, ORDERS};
+use profile::Rules;
 use reports::{outbox_list, stock_csv, stock_report};
 use segments::{Delims, Segment, cut};
 use std::alloc::{AllocError, Global};
@@ -48,13 +49,13 @@ fn told(alloc: Global, fault: &SetFault<'_>) -> Result<String, Fail> {
 }
 
 // What the judge finds in a set, as the cases write it.
-fn found(alloc: Global, kind: SetKind, set: &str) -> Result<String, Fail> {
+fn found(alloc: Global, kind: SetKind, rules: Rules, set: &str) -> Result<String, Fail> {
     let text = spread(alloc, set)?;
     let segments = segments_of(alloc, &text)?;
     if !is_closed(&segments) || segments.len() > 100_000 {
         return Err("an open set".into());
     }
-    match judge(kind, &segments) {
+    match judge(kind, &segments, rules) {
         Ok(_) => Ok("-".to_string(alloc)?),
         Err(fault) => told(alloc, &fault),
     }
@@ -62,14 +63,24 @@ fn found(alloc: Global, kind: SetKind, set: &str) -> Result<String, Fail> {
 
 #[test]
 fn faults_of_sets_are_told(rt: HostRuntime) -> Result<(), Fail> {
-    for (kind, cases) in [
-        (SetKind::ShipmentAdvice, ADVICES),
-        (SetKind::ShippingOrder, ORDERS),
-        (SetKind::FunctionalAcknowledgment, ACKNOWLEDGMENTS),
+    for (kind, rules, cases) in [
+        (SetKind::ShipmentAdvice, Rules::One, ADVICES),
+        (SetKind::ShippingOrder, Rules::One, ORDERS),
+        (
+            SetKind::FunctionalAcknowledgment,
+            Rules::One,
+            ACKNOWLEDGMENTS,
+        ),
+        (SetKind::ShipmentAdvice, Rules::Two, LATER_ADVICES),
+        (SetKind::ShippingOrder, Rules::Two, LATER_ORDERS),
     ] {
         for case in cases.lines() {
             let (set, fault) = case.split_once(' ').ok_or("a fault")?;
-            assert_eq!(rt; found(rt.alloc(), kind, set)?.as_str(), fault, "{case}");
+            assert_eq!(rt;
+                found(rt.alloc(), kind, rules, set)?.as_str(),
+                fault,
+                "{case}"
+            );
         }
     }
     Ok(())

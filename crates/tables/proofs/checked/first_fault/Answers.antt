@@ -10,6 +10,7 @@ pub loop-index-init : goal.loop-index-init
 loop-index-init c = (
   [],
   refl,
-  set_fault-from c.args.delims.now (kind_words (kind_of c.args.kind)) (segments_of c.args.segments.now)
-      ∙ ap (λ (w : Words). fault_from c.args.delims.now (kind_words (kind_of c.args.kind)) w [] 1 (segments_of c.args.segments.now)) (sym c.begin.ensures),
+  refl,
+  set_fault-from c.args.rules c.args.delims.now (kind_words c.args.rules (kind_of c.args.kind)) (segments_of c.args.segments.now)
+      ∙ ap (λ (w : Words). fault_from c.args.rules c.args.delims.now (kind_words c.args.rules (kind_of c.args.kind)) w [] 1 (segments_of c.args.segments.now)) (sym (c.begin.ensures c.args.rules)),
 )

@@ -1,0 +1,47 @@
+-- Worked examples at the limits of rules 2: 999 lines of a set, and one more. The set is judged by its segments in one pass.
+use Rattle.std.specs.Prelude.{◌≡◌, ℕ, ◌+◌, ◌*◌, ◌<◌, ◌^◌, List, [], ◌∷◌, ◌++◌, codes, decimal, flat_map, Some, None}
+use Rattle.std.specs.List.{range_with_len}
+use Rattle.std.proofs.Common.{refl, ◌∙◌, arith}
+use Rattle.std.specs.Fmt.{digits}
+use Rattle.profile.specs.declared.rules.Rules.TheVariants.{Two}
+use Rattle.profile.specs.Limits.{most_lines, most_quantity}
+use Rattle.profile.specs.Cut.{Segment}
+use Rattle.profile.specs.Words.{words_943, words_940}
+use Rattle.profile.specs.Faults.{set_fault}
+use Rattle.profile.specs.Texts.{own_delims}
+use Rattle.profile.proofs.FaultsLaws.{set_fault-from}
+
+abbrev goods : List ℕ → Segment
+goods id = id ∷ codes "999999" ∷ codes "EA" ∷ [] ∷ codes "SK" ∷ codes "BOLT" ∷ []
+
+abbrev lines_943 : ℕ → List Segment
+lines_943 n = flat_map (λ k. goods (codes "W04") ∷ (codes "N9" ∷ codes "LT" ∷ decimal k ∷ []) ∷ []) (range_with_len 1 n)
+
+abbrev long_943 : ℕ → List ℕ → List Segment
+long_943 n total = (codes "ST" ∷ codes "943" ∷ codes "0001" ∷ [])
+    ∷ (codes "W06" ∷ codes "F" ∷ codes "PO77" ∷ codes "20250303" ∷ codes "SHP1" ∷ []) ∷ lines_943 n
+    ++ (codes "W03" ∷ total ∷ []) ∷ (codes "SE" ∷ codes "2002" ∷ codes "0001" ∷ []) ∷ []
+
+full_943 : set_fault Two own_delims (words_943 Two) (long_943 999 (codes "998999001")) ≡ None
+unfolding digits
+full_943 = set_fault-from Two own_delims (words_943 Two) (long_943 999 (codes "998999001")) ∙ refl
+
+line_too_many : set_fault Two own_delims (words_943 Two) (long_943 1000 (codes "999999000"))
+    ≡ Some (record { id = codes "W04"; position = 2001; code = 2; element = None })
+unfolding digits
+line_too_many = set_fault-from Two own_delims (words_943 Two) (long_943 1000 (codes "999999000")) ∙ refl
+
+abbrev long_940 : ℕ → List Segment
+long_940 n = (codes "ST" ∷ codes "940" ∷ codes "0001" ∷ [])
+    ∷ (codes "W05" ∷ codes "N" ∷ codes "ORD1" ∷ [])
+    ∷ flat_map (λ k. (codes "LX" ∷ decimal k ∷ []) ∷ goods (codes "W01") ∷ []) (range_with_len 1 n)
+
+-- an order's thousandth line has the fault, and so the 999 before it have none
+order_line_too_many : set_fault Two own_delims (words_940 Two) (long_940 1000)
+    ≡ Some (record { id = codes "LX"; position = 2001; code = 2; element = None })
+unfolding digits
+order_line_too_many = set_fault-from Two own_delims (words_940 Two) (long_940 1000) ∙ refl
+
+-- the sum of a set has nine digits, the quantity of a line six
+sums_fit : (most_lines Two * most_quantity Two < 10 ^ 9) × (most_quantity Two < 10 ^ 6)
+sums_fit = (omega arith, omega arith)
