@@ -97,7 +97,8 @@ fn run_text(rt: &HostRuntime, text: &str) -> Result<Ran, Fail> {
     run(rt, &["script", "case.script"])
 }
 
-// Runs a line of words over the book in a file. The result is the exit status.
+// Runs a line of words over the book in a file, which is named after its first word. The result is
+// the exit status.
 fn run_over(
     rt: &HostRuntime,
     book: &str,
@@ -108,9 +109,11 @@ fn run_over(
     let mut words = Vec::new(rt.alloc());
     for word in line.split(' ') {
         words.push(word)?;
+        if words.len() == 1 {
+            words.push("--book")?;
+            words.push(book)?;
+        }
     }
-    words.push("--book")?;
-    words.push(book)?;
     Ok(command(rt, &words, out, err))
 }
 
