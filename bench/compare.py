@@ -2,7 +2,8 @@
 """Plays random days through the program and through the second reading of the rules (bench/model.py), and compares what is printed,
 what is told on standard error and the exit status, byte for byte. Not part of the gate.
 
-Usage: bench/compare.py [--days N] [--seed N] [PROGRAM]     (default: crates/whx12/out/whx12, which `rt run` in that folder leaves)
+Usage: bench/compare.py [--days N] [--seed N] [--rules 1|2] [PROGRAM]
+       (default: crates/whx12/out/whx12, which `rt run` in that folder leaves; the second version of the rules)
 
 A day is a script of up to 40 commands of two depositors and strangers: interchanges with advices, orders and acknowledgments, good
 ones and such as were changed in a byte, an element, a segment or a group; resends; counts, picks and recounts with good and bad
@@ -23,16 +24,18 @@ ITEMS = [b"BOLT", b"NUT", b"A-1.X", b"Z"]
 LOTS = [b"L1", b"L2", b"L10", b"B"]
 NUMBERS = [b"N%d" % n for n in range(1, 6)]
 ODD = [b"", b"0", b"00000", b"100000", b"1.5", b"ea", b"EAX", b"20250230", b"20250303", b"2025", b"X", b"-", b".", b"A" * 23, b" ",
-       b"LT", b"SK", b"UP", b"N", b"F", b"0001", b"0002", b"000000007", b"9" * 10, b"99999", b"ST", b"DE", b"~", b">", b"A>B", b"004010"]
+       b"999999", b"1000000", b"20250401", b"LT", b"SK", b"UP", b"N", b"F", b"0001", b"0002", b"000000007", b"9" * 10, b"99999", b"ST", b"DE", b"~", b">", b"A>B", b"004010"]
+DAYS = [b"20250401", b"20250630", b"20250701", b"20241231"]
 IDS = [b"ST", b"SE", b"GS", b"GE", b"IEA", b"TA1", b"ISA", b"W03", b"W04", b"W05", b"W06", b"W01", b"W76", b"N1", b"N3", b"N4", b"N9", b"G62", b"LX",
        b"AK1", b"AK2", b"AK3", b"AK4", b"AK5", b"AK9", b"ZZZ", b"Z", b"abc", b"QQQQ"]
 
 
 class Day:
-    def __init__(self, seed, folder):
+    def __init__(self, seed, folder, rules=2):
         self.r, self.folder = random.Random(seed), folder
         self.script, self.expected, self.errors, self.status = [], b"", "", 0
-        self.book = model.Book(b"ZZ-WHSE1")
+        self.book = model.Book(b"ZZ-WHSE1", rules)
+        self.often_dated = 0.4 if rules == 2 else 0.02
         self.files, self.sent = 0, []
         self.control = {}
 
@@ -63,6 +66,8 @@ class Day:
             quantity = r.choice([1, 2, 5, 10, 90, 99999])
             total += quantity
             segments += [[b"W04", r.choice([b"%d", b"0%d"]) % quantity if quantity < 99 else b"%d" % quantity, b"EA", b"", b"SK", item], [b"N9", b"LT", lot]]
+            if r.random() < self.often_dated:
+                segments[-1] += [b"", r.choice(DAYS)]
         return self.closed(b"943", place, segments + [[b"W03", b"%d" % (total + (r.random() < 0.05))]])
 
     def order(self, place):
@@ -141,6 +146,8 @@ class Day:
         """Makes the counts right again, so that what was changed is met further on."""
         start = sets = groups = 0
         for at, segment in enumerate(segments):
+            if not segment:
+                continue
             if segment[0] == b"ST":
                 start, sets = at, sets + 1
             elif segment[0] == b"GS":
@@ -253,7 +260,7 @@ def main(words):
     commands = 0
     for day in range(seed, seed + days):
         folder = tempfile.mkdtemp(prefix="day")
-        one = Day(day, folder)
+        one = Day(day, folder, option("--rules", 2))
         same, ran = one.play(program)
         commands += len(one.script)
         if not same:

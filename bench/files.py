@@ -33,7 +33,7 @@ ADVICE = (b"ISA*00*          *00*          *ZZ*ACME           *ZZ*WHSE1         
 ANSWER = (b"ISA*00*          *00*          *ZZ*WHSE1          *ZZ*ACME           *250304*0915*U*00401*000000001*0*P*>~"
           b"TA1*000000001*250304*0915*A*000~GS*FA*WHSE1*ACME*20250304*0915*1*X*004010~ST*997*0001~AK1*AR*1~AK2*943*0001~AK5*A~"
           b"AK9*A*1*1*1~SE*6*0001~GE*1*1~IEA*1*000000001~")
-EXPECTED = "item,lot,expected,on_hand,reserved,shipped\nBOLT,L1,100,0,0,0\n"
+EXPECTED = "item,lot,expiry,expected,on_hand,reserved,shipped\nBOLT,L1,,100,0,0,0\n"
 UNREADABLE, BAD_TEXT = (1, "", "refused 1 Unreadable\n"), (1, "", "refused 32 BadText\n")
 LONG_SCRIPT, NO_TEXT = (2, "", "a script has at most 16,777,216 bytes\n"), (2, "", "a word isn't UTF-8 text\n")
 MOST, MOST_SCRIPT = 1_048_576, 16_777_216

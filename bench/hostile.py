@@ -39,7 +39,7 @@ SMALL = b"ST*943*%04d~SE*2*%04d~"
 
 def play(program, before, raw):
     """What the program and the second reading say to the last interchange of a script."""
-    book = model.Book(b"ZZ-WHSE1")
+    book = model.Book(b"ZZ-WHSE1", 2)
     book.enrol(b"ZZ-ACME")
     lines = ["init ZZ-WHSE1", f"enrol ZZ-ACME --at {AT}"]
     skipped = b""

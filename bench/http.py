@@ -9,23 +9,26 @@ request of REQUESTS is sent by curl and its response compared, head and body, wi
 a time that the clock gave are passed over. Then the same requests are sent over and over, a connection each and one after the
 other: the stock report of a depositor, and an interchange that was accepted before. Python's http.server serves a file of
 the report's bytes in the same way. Printed are requests a second, and the median and the 99th percentile of the time from the
-connection to its end. At last a peer is reset in the middle of its request, which is told as fault 44, and the server goes on. The
-status is 1 where something differs.
+connection to its end. Then a peer is reset in the middle of its request, which is told as fault 44, and the server goes on; peers that send a body
+which nobody reads get their refusal all the same; and among 200 good peers 50 say nothing and 50 send a byte now and then: each of these is told as
+fault 44 after the patience of a second, and every good one is answered. The status is 1 where something differs.
 """
 import os
+import random
 import re
 import socket
 import struct
 import subprocess
 import sys
 import tempfile
+import threading
 import time
 
 HERE = os.path.dirname(os.path.abspath(__file__))
 ROUNDS = 2000
 PLAIN, X12 = "text/plain", "application/EDI-X12"
-STOCK = ("item                 lot                 expected         on hand        reserved         shipped\n"
-         "BOLT                 L1                       100               0               0               0\n")
+STOCK = ("item                 lot          expiry          expected         on hand        reserved         shipped\n"
+         "BOLT                 L1                                100               0               0               0\n")
 
 
 def header(sender, receiver, control, wanted):
@@ -193,6 +196,88 @@ def tells_a_reset(program, book):
     return good
 
 
+def is_told_why(program, book):
+    """Whether peers whose bodies nobody reads get the response that says why."""
+    address = f"127.0.0.1:{free_port()}"
+    host, port = address.split(":")
+    large = b"A" * 1_500_000
+    cases = [(b"POST /nowhere HTTP/1.1\r\nContent-Length: 1500000\r\n\r\n" + large, b"404"), (b"POST /x12 HTTP/1.1\r\nContent-Length: 1500000\r\n\r\n" + large, b"413"),
+             (b"POST /x12 HTTP/1.1\r\nTransfer-Encoding: chunked\r\n\r\n" + large, b"501"), (b"POST /x12 HTTP/1.1\r\nX: " + large, b"400")]
+    words = [program, "serve", *book, "--listen", address, "--count", str(1 + len(cases))]
+    with subprocess.Popen(words, stdout=subprocess.PIPE, text=True) as server:
+        wait_for(address)
+        got = [once(host, int(port), request)[1][9:12] for request, _ in cases]
+        server.communicate(timeout=20)
+    good = got == [status for _, status in cases]
+    print("bodies that nobody reads are refused as wanted" if good else f"bodies that nobody reads: {got!r}")
+    return good
+
+
+def silent(host, port):
+    """A peer that says nothing until the server ends the connection."""
+    with socket.create_connection((host, port), 600) as stream:
+        stream.settimeout(600)
+        try:
+            return stream.recv(1)
+        except OSError:
+            return b""
+
+
+def trickling(host, port):
+    """A peer that sends a byte five times a second."""
+    with socket.create_connection((host, port), 600) as stream:
+        stream.settimeout(0.2)
+        for byte in b"POST /x12 HTTP/1.1\r\n" + b"X: y\r\n" * 1000:
+            try:
+                stream.sendall(bytes([byte]))
+                if stream.recv(1) == b"":
+                    break
+            except TimeoutError:
+                continue
+            except OSError:
+                break
+        return b""
+
+
+def asking(host, port):
+    """A good peer: its response, for which it waits as long as the others take."""
+    with socket.create_connection((host, port), 600) as stream:
+        stream.settimeout(600)
+        stream.sendall(b"GET /stock/ZZ-ACME HTTP/1.1\r\nHost: localhost\r\n\r\n")
+        pieces = []
+        while piece := stream.recv(65536):
+            pieces.append(piece)
+        return b"".join(pieces)
+
+
+def outlasts_the_idle(program, book):
+    """Whether every good peer is answered among silent and trickling ones, which are cut off."""
+    address = f"127.0.0.1:{free_port()}"
+    host, port = address.split(":")
+    peers = [silent] * 50 + [trickling] * 50 + [asking] * 200
+    random.Random(1).shuffle(peers)
+    words = [program, "serve", *book, "--listen", address, "--patience", "1", "--count", str(1 + len(peers))]
+    answers, room = [], threading.Semaphore(60)
+
+    def play(peer):
+        with room:
+            answers.append((peer, peer(host, int(port))))
+
+    with subprocess.Popen(words, stdout=subprocess.PIPE, text=True) as server:
+        wait_for(address)
+        threads = [threading.Thread(target=play, args=(peer,)) for peer in peers]
+        for thread in threads:
+            thread.start()
+        for thread in threads:
+            thread.join()
+        told = server.communicate(timeout=60)[0].splitlines()
+    good = sum(answer.startswith(b"HTTP/1.1 200 ") for peer, answer in answers if peer is asking)
+    cut = told.count("fault 44 Device")
+    # The first look whether somebody listens says nothing either, and may be told so.
+    print(f"{good} of 200 good peers answered, {cut} connections of 100 idle peers and a look cut off")
+    return good == 200 and cut in (100, 101) and told.count("200") == 200
+
+
 def main():
     """Serves a new book, or asks the server that is given."""
     with tempfile.TemporaryDirectory() as folder:
@@ -217,6 +302,8 @@ def main():
                 server.terminate()
             server.wait()
         good = tells_a_reset(program, book) and good
+        good = is_told_why(program, book) and good
+        good = outlasts_the_idle(program, book) and good
         sys.exit(0 if good else 1)
 
 

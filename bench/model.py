@@ -1,7 +1,8 @@
 """A second reading of the rules, in Python, to compare the program with. It shares nothing with the program: it is written from
 the rules of docs/RULES.md, searches where the program scans, and adds up where the program keeps running rows.
 
-`Book(warehouse)` plays the commands of a script: each call answers (printed, told, status).
+`Book(warehouse)` plays the commands of a script: each call answers (printed, told, status). `Book(warehouse, 1)` plays them by
+the first version of the rules: no lot has an expiry, what was counted first goes out first, and sets and sheets are smaller.
 """
 import datetime
 import re
@@ -150,12 +151,22 @@ def rep(items, least, most):
     return ("rep", tuple(items), least, most)
 
 
-WORDS = {
-    b"943": ("ST", "W06", rep(["N1"], 0, 5), rep(["N9"], 0, 5), rep(["G62"], 0, 2), rep(["W04", "N9"], 1, 99), "W03", "SE"),
-    b"940": ("ST", "W05", rep(["N1", rep(["N3"], 0, 1), rep(["N4"], 0, 1)], 0, 5), rep(["N9"], 0, 5), rep(["G62"], 0, 2),
-             rep(["LX", "W01", rep(["N9"], 0, 1)], 1, 99), "W76", "SE"),
-    b"997": ("ST", "AK1", rep(["AK2", rep(["AK3", rep(["AK4"], 0, 99)], 0, 99), "AK5"], 0, 999), "AK9", "SE"),
-}
+# by the version of the rules
+MOST_LINES = {1: 99, 2: 999}
+MOST_QUANTITY = {1: 99_999, 2: 999_999}
+
+
+def words(rules):
+    lines = MOST_LINES[rules]
+    return {
+        b"943": ("ST", "W06", rep(["N1"], 0, 5), rep(["N9"], 0, 5), rep(["G62"], 0, 2), rep(["W04", "N9"], 1, lines), "W03", "SE"),
+        b"940": ("ST", "W05", rep(["N1", rep(["N3"], 0, 1), rep(["N4"], 0, 1)], 0, 5), rep(["N9"], 0, 5), rep(["G62"], 0, 2),
+                 rep(["LX", "W01", rep(["N9"], 0, 1)], 1, lines), "W76", "SE"),
+        b"997": ("ST", "AK1", rep(["AK2", rep(["AK3", rep(["AK4"], 0, 99)], 0, 99), "AK5"], 0, 999), "AK9", "SE"),
+    }
+
+
+WORDS = {rules: words(rules) for rules in (1, 2)}
 
 
 def ids_of(items):
@@ -165,7 +176,7 @@ def ids_of(items):
     return found
 
 
-SET_IDS = {name: ids_of(word) for name, word in WORDS.items()}
+SET_IDS = {name: ids_of(word) for name, word in WORDS[1].items()}
 
 
 def steps(rests, word):
@@ -206,13 +217,10 @@ def row(must, kind, least, most):
 
 
 M, O = True, False
-QUANTITY = [row(M, "Q", 1, 5), row(M, ("EA",), 2, 2), row(O, "T", 1, 12), row(M, ("SK",), 2, 2), row(M, "I", 1, 20)]
+LOT = [row(M, ("LT",), 2, 2), row(M, "I", 1, 12), row(O, "T", 1, 45)]
 ROWS = {
     "W06": [row(M, ("F",), 1, 1), row(M, "I", 1, 22), row(M, "DT", 8, 8), row(M, "I", 1, 22)],
-    "W04": QUANTITY, "W01": QUANTITY,
-    "N9 line": [row(M, ("LT",), 2, 2), row(M, "I", 1, 12), row(O, "T", 1, 45)],
     "N9": [row(M, "A", 2, 3), row(M, "T", 1, 30), row(O, "T", 1, 45)],
-    "W03": [row(M, "Q", 1, 7)], "W76": [row(M, "Q", 1, 7)],
     "W05": [row(M, ("N",), 1, 1), row(M, "I", 1, 22), row(O, "T", 1, 22)],
     "LX": [row(M, "Q", 1, 6)],
     "N1": [row(M, "A", 2, 3), row(O, "T", 1, 60), row(O, "T", 1, 2), row(O, "T", 2, 80)],
@@ -226,6 +234,19 @@ ROWS = {
     "AK5": [row(M, ("A", "R"), 1, 1)] + [row(O, "T", 1, 3)] * 5,
     "AK9": [row(M, ("A", "P", "R"), 1, 1)] + [row(M, "D", 1, 6)] * 3 + [row(O, "T", 1, 3)] * 5,
 }
+
+
+def rows_of(rules, word, before):
+    """The rows of a segment after another, or None where it has none."""
+    if word in ("W04", "W01"):
+        return [row(M, "Q", 1, 5 if rules == 1 else 6), row(M, ("EA",), 2, 2), row(O, "T", 1, 12), row(M, ("SK",), 2, 2), row(M, "I", 1, 20)]
+    if word in ("W03", "W76"):
+        return [row(M, "Q", 1, 7 if rules == 1 else 9)]
+    if word == "N9" and before == "W01":
+        return LOT
+    if word == "N9" and before == "W04":
+        return LOT if rules == 1 else LOT + [row(O, "DT", 8, 8)]
+    return ROWS.get(word)
 
 
 def element_fault(text, rule, value):
@@ -256,9 +277,9 @@ def segment_fault(text, rules, elements):
     return None
 
 
-def set_error(text, kind, segments):
+def set_error(rules, text, kind, segments):
     """The first segment in error: (id, position, code, element or None), or None."""
-    rests, before = {WORDS[kind]}, None
+    rests, before = {WORDS[rules][kind]}, None
     for place, segment in enumerate(segments):
         word = segment[0].decode()
         after = steps(rests, word)
@@ -268,16 +289,16 @@ def set_error(text, kind, segments):
             if not any(word in ids for ids in SET_IDS.values()):
                 return word, place + 1, 1, None
             return word, place + 1, 2 if word in SET_IDS[kind] else 6, None
-        rules = ROWS.get("N9 line" if word == "N9" and before in ("W04", "W01") else word)
-        if rules is not None:
-            fault = segment_fault(text, rules, segment[1:])
+        rows = rows_of(rules, word, before)
+        if rows is not None:
+            fault = segment_fault(text, rows, segment[1:])
             if fault:
                 return word, place + 1, 8, fault
         rests, before = after, word
     return None
 
 
-def set_fault(text, group, segments, earlier):
+def set_fault(rules, text, group, segments, earlier):
     """The code of AK502 with the segment in error, or None."""
     first, last = segments[0], segments[-1]
     if last[0] != b"SE":
@@ -290,7 +311,7 @@ def set_fault(text, group, segments, earlier):
         return 3, None
     if int(last[1]) != len(segments):
         return 4, None
-    error = set_error(text, first[1], segments)
+    error = set_error(rules, text, first[1], segments)
     return (5, error) if error else None
 
 
@@ -315,7 +336,8 @@ def group_fault(group):
 class Page:
     """A depositor: its events, and what was sent out."""
 
-    def __init__(self):
+    def __init__(self, rules):
+        self.rules = rules
         self.events = []
         self.out = []  # (number, kind, function, content)
         self.keys = {}  # mark -> (bytes, outgoing)
@@ -338,10 +360,14 @@ class Page:
     def since(self, pair):
         return min((n for _, n, _, sheet in self.of("counted") if pair in sheet), default=0)
 
+    def expiry(self, pair):
+        """The date in the first advice that gave the pair one, or none."""
+        return next((day for e in self.of("advised") for item, lot, _, day in e[1]["lines"] if (item, lot) == pair and day), b"")
+
     def pairs(self):
         found = set()
         for _, advice in self.of("advised"):
-            found |= {(item, lot) for item, lot, _ in advice["lines"]}
+            found |= {(item, lot) for item, lot, _, _ in advice["lines"]}
         for _, _, _, sheet in self.of("counted"):
             found |= set(sheet)
         return sorted(found)
@@ -351,9 +377,9 @@ class Page:
         expected = on_hand = reserved = shipped = 0
         for event in self.events:
             if event[0] == "advised":
-                expected += sum(q for item, lot, q in event[1]["lines"] if (item, lot) == pair)
+                expected += sum(q for item, lot, q, _ in event[1]["lines"] if (item, lot) == pair)
             elif event[0] == "counted":
-                expected -= sum(q for item, lot, q in event[2]["lines"] if (item, lot) == pair)
+                expected -= sum(q for item, lot, q, _ in event[2]["lines"] if (item, lot) == pair)
                 on_hand += event[3].get(pair, 0)
             elif event[0] == "ordered":
                 reserved += sum(q for p, q in event[1]["shares"] if p == pair)
@@ -366,8 +392,9 @@ class Page:
         return expected, on_hand, reserved, shipped
 
     def allot(self, item, pin, wanted):
-        lots = sorted((self.since(pair), pair) for pair in self.pairs() if pair[0] == item and self.since(pair))
-        lots = [pair for _, pair in lots if pin is None or pair[1] == pin]
+        rank = lambda pair: (self.expiry(pair) or b"undated", self.since(pair), pair)
+        lots = sorted((pair for pair in self.pairs() if pair[0] == item and self.since(pair)), key=rank)
+        lots = [pair for pair in lots if pin is None or pair[1] == pin]
         shares, before = [], 0
         for pair in lots:
             _, on_hand, reserved, _ = self.amounts(pair)
@@ -405,11 +432,14 @@ def advise(page, segments):
         if segment[0] == b"W04":
             quantity, item = int(segment[1]), segment[5]
         elif segment[0] == b"N9" and segments[place - 1][0] == b"W04":
-            if (item, segment[2]) in seen:
+            day, pair = segment[4] if len(segment) > 4 else b"", (item, segment[2])
+            if pair in seen:
                 return "N9", place + 1, 8, (2, 7)
-            seen.add((item, segment[2]))
-            lines.append((item, segment[2], quantity))
-        elif segment[0] == b"W03" and int(segment[1]) != sum(q for _, _, q in lines):
+            if day and page.expiry(pair) not in (b"", day):
+                return "N9", place + 1, 8, (4, 7)
+            seen.add(pair)
+            lines.append((item, segment[2], quantity, day))
+        elif segment[0] == b"W03" and int(segment[1]) != sum(q for _, _, q, _ in lines):
             return "W03", place + 1, 8, (1, 7)
     page.events.append(("advised", {"shipment": head[4], "order": head[2], "lines": lines}))
     return None
@@ -466,8 +496,9 @@ def told(number, code=None):
 class Book:
     """A book, and what each command prints, tells on standard error and ends with."""
 
-    def __init__(self, warehouse):
+    def __init__(self, warehouse, rules=2):
         self.house = partner(warehouse)
+        self.rules = rules
         self.pages = {}
 
     def enrol(self, who):
@@ -476,7 +507,7 @@ class Book:
             return b"", told(32), 1
         if depositor in self.pages:
             return b"", told(35), 1
-        self.pages[depositor] = Page()
+        self.pages[depositor] = Page(self.rules)
         return b"", "", 0
 
     def envelope(self, marks, to, moment, control, inner, groups):
@@ -562,7 +593,7 @@ class Book:
         lines, passed, fault = [b"AK1*%s*%s" % (gs[1], gs[6])], 0, group_fault(group)
         earlier = []
         for parts in [] if fault else sets:
-            found = set_fault(text, group, parts, earlier)
+            found = set_fault(self.rules, text, group, parts, earlier)
             earlier.append(parts[0][2])
             if found is None:
                 error = trade(page, number, parts[0][1], parts)
@@ -586,7 +617,7 @@ class Book:
         depositor = partner(who)
         if depositor is None or not ident(ticket, 20) or (deed != "recount" and not ident(target, 22)):
             return b"", told(32), 1
-        lines, refusal = read_sheet(deed, sheet)
+        lines, refusal = read_sheet(self.rules, deed, sheet)
         if refusal:
             return b"", told(refusal), 1
         page = self.pages.get(depositor)
@@ -615,11 +646,11 @@ class Book:
         if refusal:
             return refusal
         page.events.append(("counted", number, advice, sheet))
-        pairs = sorted(set(sheet) | {(item, lot) for item, lot, _ in advice["lines"]})
+        pairs = sorted(set(sheet) | {(item, lot) for item, lot, _, _ in advice["lines"]})
         lines_out = [b"W17*F*%s*%d*%s*%s" % (moment[:10].replace("-", "").encode(), number, advice["order"], shipment)]
         for item, lot in pairs:
             lines_out += [b"W07*%d*EA**SK*%s" % (sheet.get((item, lot), 0), item), b"N9*LT*" + lot]
-        return "944", b"RE", lines_out + [b"W14*%d*%d" % (sum(sheet.values()), sum(q for _, _, q in advice["lines"]))]
+        return "944", b"RE", lines_out + [b"W14*%d*%d" % (sum(sheet.values()), sum(q for _, _, q, _ in advice["lines"]))]
 
     def pick(self, page, number, target, sheet, moment):
         found = page.order(target)
@@ -664,12 +695,15 @@ class Book:
         page = self.asked(who)
         if isinstance(page, int):
             return b"", told(page), 1
-        rows = [(item.decode(), lot.decode(), *page.amounts((item, lot))) for item, lot in page.pairs()]
+        dated = lambda day: [day] if self.rules == 2 else []
+        rows = [(pair[0].decode(), pair[1].decode(), *dated(page.expiry(pair).decode()), *page.amounts(pair)) for pair in page.pairs()]
         if is_csv:
-            text = "item,lot,expected,on_hand,reserved,shipped\n" + "".join(",".join(map(str, r)) + "\n" for r in rows)
+            head = ["item", "lot", *dated("expiry"), "expected", "on_hand", "reserved", "shipped"]
+            text = "".join(",".join(map(str, r)) + "\n" for r in [head, *rows])
         else:
-            text = "%-20s %-12s %15s %15s %15s %15s\n" % ("item", "lot", "expected", "on hand", "reserved", "shipped")
-            text += "".join("%-20s %-12s %15d %15d %15d %15d\n" % r for r in rows)
+            head = ("item", "lot", *dated("expiry"), "expected", "on hand", "reserved", "shipped")
+            line = " ".join(["%-20s %-12s", *dated("%-8s"), "%15s %15s %15s %15s\n"])
+            text = "".join(line % r for r in [head, *rows])
         return text.encode(), "", 0
 
     def outbox(self, who, number=None):
@@ -714,16 +748,16 @@ def unless_open(found, is_closed, unknown):
     return unknown if found is None else unknown + 1 if is_closed else None
 
 
-def read_sheet(deed, text):
+def read_sheet(rules, deed, text):
     """The lines of a sheet as {(item, lot): quantity}, or its refusal."""
     records = [line.split(b",") for line in re.split(rb"[\r\n]+", text) if line]
-    if len(records) > 99:
+    if len(records) > MOST_LINES[rules]:
         return None, 33
     if any(len(r) != 3 or not ident(r[0], 20) or not ident(r[1], 12) or not r[2] or not set(r[2]) <= DIGIT for r in records):
         return None, 32
     if deed == "pick" and any(len(r[2]) <= 9 and int(r[2]) == 0 for r in records):
         return None, 32
-    most = 999_999_999 if deed == "recount" else 99_999
+    most = 999_999_999 if deed == "recount" else MOST_QUANTITY[rules]
     if any(len(r[2]) > 9 or int(r[2]) > most for r in records):
         return None, 30
     lines = {}

@@ -80,7 +80,7 @@ def measure(program, folder, size, item, new):
                 sys.exit(f"not every set passed: {printed[-300:]!r}")
             least[count] = min(seconds, least.get(count, seconds))
     rows = run(program, folder, [*lines, f"send steps{STEPS}" + AT, "stock ZZ-ACME\n"])[1].splitlines()
-    found = sum(1 for row in rows if len(row) == 97 and not row.startswith("item "))
+    found = sum(1 for row in rows if len(row) == 106 and not row.startswith("item "))
     if found != size + (STEPS if new else 0):
         sys.exit(f"{found} rows of {size}")
     return (least[STEPS] - least[1]) / (STEPS - 1), least[1]

@@ -7,7 +7,7 @@ items, each of one lot, so that every order finds what it wants. Everything happ
 
 STAMP = "202503040915"
 PAIRS = 50
-COLUMNS = {"entry": 6, "outgoing": 5, "stock": 8, "advice": 4, "advice_line": 6, "orders": 7, "order_line": 6, "reservation": 5}
+COLUMNS = {"entry": 6, "outgoing": 5, "stock": 8, "advice": 4, "advice_line": 6, "orders": 7, "order_line": 6, "reservation": 5, "entry_rules": 2}
 
 
 def header(sender, receiver, control):
@@ -88,11 +88,11 @@ class Depositor:
 
 
 class Register:
-    """The rows of a register of so many entries of so many depositors, each in its turn."""
+    """The rows of a register of so many entries of so many depositors, each in its turn. Those of version 1 have no rules."""
 
-    def __init__(self, depositors, entries):
+    def __init__(self, depositors, entries, version=2):
         self.depositors = [Depositor(place) for place in range(1, depositors + 1)]
-        self.rows = {name: [] for name in COLUMNS}
+        self.rows = {name: [] for name in COLUMNS if version == 2 or name != "entry_rules"}
         self.advices, self.orders = {}, {}
         turn = 0
         while len(self.rows["entry"]) < entries:
@@ -138,6 +138,8 @@ class Register:
         """The rows that the last state decides."""
         self.rows["advice"] = list(self.advices.values())
         self.rows["orders"] = list(self.orders.values())
+        if "entry_rules" in self.rows:
+            self.rows["entry_rules"] = [(row[0], 2) for row in self.rows["entry"]]
         for depositor in self.depositors:
             for (item, lot), amounts in depositor.stock.items():
                 self.rows["stock"].append((depositor.who, item, lot, *amounts))
@@ -147,6 +149,6 @@ class Register:
 
     def fill(self, db):
         """Puts the rows into a book that was just made."""
-        for name, count in COLUMNS.items():
-            db.executemany(f"INSERT INTO {name} VALUES ({', '.join('?' * count)})", self.rows[name])
+        for name, rows in self.rows.items():
+            db.executemany(f"INSERT INTO {name} VALUES ({', '.join('?' * COLUMNS[name])})", rows)
         db.commit()

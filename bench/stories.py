@@ -95,10 +95,10 @@ class Story:
             self.run("stock", [who], "", "refused 20", 1)
             self.run("outbox", [who], "", "refused 20", 1)
             return
-        stock = [line.split(" ") for line in lines if len(line.split(" ")) == 6]
+        stock = [line.split(" ") for line in lines if len(line.split(" ")) in (6, 7)]
         sent = [line.split(" ") for line in lines if len(line.split(" ")) == 3]
         same(f"{self.place}: lines", len(stock) + len(sent), len(lines))
-        rows = ["item,lot,expected,on_hand,reserved,shipped", *(",".join(row) for row in stock)]
+        rows = ["item,lot,expiry,expected,on_hand,reserved,shipped", *(",".join(row if len(row) == 7 else [*row[:2], "", *row[2:]]) for row in stock)]
         self.run("stock", [who, "--csv"], "".join(row + "\n" for row in rows), "", 0)
         self.run("outbox", [who], "".join(f"{int(n):6d} {kind} {state}\n" for n, kind, state in sent), "", 0)
         for n, _, _ in sent:

@@ -1,11 +1,11 @@
 #!/usr/bin/env python3
-"""Reads a book with Debian's sqlite3 and compares every row of its nine tables with rows that were worked out by hand. Not part of
+"""Reads a book with Debian's sqlite3 and compares every row of its eleven tables with rows that were worked out by hand. Not part of
 the gate.
 
 Usage: bench/tables.py [PROGRAM]     (default: crates/whx12/out/whx12, which `rt run` in that folder leaves)
 
 A day of ZZ-WHSE1 and its one depositor ZZ-ACME, a process for each command: an enrolment, an advice, its count, an order that wants
-more than there is, its pick, the acknowledgment of that; then an advice of two lots, its count, an order with an address, a pinned
+more than there is, its pick, the acknowledgment of that; then an advice of two lots, of which one expires, its count, an order with an address, a pinned
 lot and an item of which nothing is left, and an advice that is still open. A refused count and an advice that comes twice leave
 no row. Besides rows it looks at the tables: STRICT, types, keys, which columns may be NULL, and what `stock` may not hold.
 """
@@ -52,7 +52,7 @@ ORDER = received("OW", 2, 0, "ST*940*0001~W05*N*ORD1~LX*1~W01*120*EA**SK*BOLT~W7
 ORDERED = sent("FA", 3, "ST*997*0001~AK1*OW*2~AK2*940*0001~AK5*A~AK9*A*1*1*1~SE*6*0001~")
 SHIPPED = sent("SW", 4, "ST*945*0001~W06*F*ORD1*20250304*4~LX*1~W12*CP*120*90*30*EA**SK*BOLT~N9*LT*L1*90~W03*90~SE*7*0001~")
 HEARD = received("FA", 3, 0, "ST*997*0001~AK1*SW*4~AK2*945*0001~AK5*A~AK9*A*1*1*1~SE*6*0001~")
-NUTS = received("AR", 4, 0, "ST*943*0001~W06*F*PO78*20250303*SHP2~W04*40*EA**SK*NUT~N9*LT*L9~W04*10*EA**SK*NUT~N9*LT*L8~W03*50~SE*8*0001~")
+NUTS = received("AR", 4, 0, "ST*943*0001~W06*F*PO78*20250303*SHP2~W04*40*EA**SK*NUT~N9*LT*L9~W04*10*EA**SK*NUT~N9*LT*L8**20250630~W03*50~SE*8*0001~")
 NUTS_TAKEN = sent("FA", 6, "ST*997*0001~AK1*AR*4~AK2*943*0001~AK5*A~AK9*A*1*1*1~SE*6*0001~")
 NUTS_COUNTED = sent("RE", 7, "ST*944*0001~W17*F*20250304*7*PO78*SHP2~W07*10*EA**SK*NUT~N9*LT*L8~W07*39*EA**SK*NUT~N9*LT*L9~W14*49*50~SE*8*0001~")
 PINNED = received("OW", 5, 0, "ST*940*0001~W05*N*ORD2~N1*ST*Jo Shop~N3*5 Quay Road~N4*Ulm**89073~LX*1~W01*30*EA**SK*NUT~N9*LT*L9~"
@@ -84,7 +84,7 @@ def blob(text):
 
 ACME = "'ZZ-ACME'"
 ROWS = {
-    "book": ["1,'ZZ','WHSE1'"],
+    "book": ["2,'ZZ','WHSE1'"],
     "entry": [
         f"1,{ACME},'E',0,'{STAMP}',X''",
         f"2,{ACME},'X000000001',1,'{STAMP}',{blob(BOLTS)}",
@@ -129,6 +129,8 @@ ROWS = {
         f"{ACME},'ORD2',2,'BOLT',NULL,5",
     ],
     "reservation": [f"{ACME},'ORD2','NUT','L9',30"],
+    "entry_rules": [f"{seq},2" for seq in range(1, 11)],
+    "lot_expiry": [f"{ACME},'NUT','L8','20250630'"],
 }
 
 # The columns of each table with the place in its key; of `entry` the key is `seq`, and two pairs of columns are unique besides.
@@ -142,9 +144,11 @@ COLUMNS = {
     "orders": "who TEXT 1, ord TEXT 2, is_open INTEGER 0, to_name TEXT 0, to_one TEXT 0, to_two TEXT 0, to_place TEXT 0",
     "order_line": "who TEXT 1, ord TEXT 2, line INTEGER 3, item TEXT 0, lot TEXT 0, quantity INTEGER 0",
     "reservation": "who TEXT 1, ord TEXT 2, item TEXT 3, lot TEXT 4, quantity INTEGER 0",
+    "entry_rules": "seq INTEGER 1, rules INTEGER 0",
+    "lot_expiry": "who TEXT 1, item TEXT 2, lot TEXT 3, expiry TEXT 0",
 }
 # `seq` is a rowid, which is never NULL.
-MAY_BE_NULL = {("entry", "seq"), ("orders", "to_name"), ("order_line", "lot")}
+MAY_BE_NULL = {("entry", "seq"), ("entry_rules", "seq"), ("orders", "to_name"), ("order_line", "lot")}
 UNIQUE = {"entry": ["who, mark", "who, n"]}
 REFUSED = ["expected = -1", "on_hand = -1", "reserved = -1", "shipped = -1", "reserved = on_hand + 1", "item = NULL", "since = 'x'"]
 
@@ -166,7 +170,7 @@ def look(book):
     same("tables", sqlite(book, "SELECT name, strict FROM pragma_table_list WHERE name NOT LIKE 'sqlite%' ORDER BY name"),
          "".join(f"{name}|1\n" for name in sorted(ROWS)))
     for name, rows in ROWS.items():
-        same(f"rows of {name}", sqlite(book, "-quote", f"SELECT * FROM {name} ORDER BY 1, 2, 3").splitlines(), rows)
+        same(f"rows of {name}", sqlite(book, "-quote", f"SELECT * FROM {name} ORDER BY {'1, 2, 3' if len(COLUMNS[name].split(',')) > 2 else 1}").splitlines(), rows)
         columns = sqlite(book, f"SELECT name, type, pk, \"notnull\" FROM pragma_table_info('{name}')").splitlines()
         same(f"columns of {name}", ", ".join(" ".join(column.split("|")[:3]) for column in columns), COLUMNS[name])
         may = {(name, column.split("|")[0]) for column in columns if column.endswith("|0")}

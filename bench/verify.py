@@ -7,12 +7,13 @@ Usage: bench/verify.py [--commands N] [--seed N] [--measure N] [PROGRAM]
 A book on disk takes random interchanges of two depositors and what clerks do; `verify` prints ok and the number of its entries. Then
 sqlite3 changes a copy of it: each column of each table, in up to three rows each; a row left out, and a row too many, of each table; a gap
 in the numbers of the entries; one byte of a text that went out. Of each copy `verify` must say: fault 43 NotThisBook, status 3, and leave
-the rows as they are. Status 1 where something differs; the folder is then kept.
+the rows as they are. At last standard error is a terminal, on which `verify` says how far it is. Status 1 where something differs; the folder is then kept.
 
 --measure N also times `verify`, and tells its memory, over registers of 1,000, 10,000 .. up to N entries, of one depositor and of 100,
 whose rows bench/register.py writes without the program.
 """
 import os
+import pty
 import random
 import shutil
 import subprocess
@@ -30,7 +31,8 @@ import tables  # noqa: E402
 
 WHO = [b"ZZ-ACME", b"ZZ-BETA"]
 compare.NUMBERS = [b"N%d" % n for n in range(1, 60)]
-TABLES = ["book", "entry", "outgoing", "stock", "advice", "advice_line", "orders", "order_line", "reservation"]
+TABLES = ["book", "entry", "outgoing", "stock", "advice", "advice_line", "orders", "order_line", "reservation", "entry_rules",
+          "lot_expiry"]
 
 
 class Wrong(Exception):
@@ -104,6 +106,17 @@ def other(name, kind):
     return f"CAST(coalesce({name}, '') || 'X' AS {kind})"
 
 
+def watched(house, entries):
+    """What `verify` says where standard error is a terminal, which puts CR before each LF."""
+    mine, its = pty.openpty()
+    ran = subprocess.run([house.program, "verify", "--book", house.book], stdout=subprocess.PIPE, stderr=its, check=False)
+    os.close(its)
+    told = (ran.returncode, ran.stdout, os.read(mine, 65536))
+    os.close(mine)
+    if told != (0, b"ok %s\n" % entries, b"\r%s of %s entries\r\n" % (entries, entries)):
+        raise Wrong(f"on a terminal: {told!r}")
+
+
 def measure(program, folder, largest):
     """The time and the memory of `verify` over long registers."""
     for depositors in (1, 100):
@@ -148,9 +161,9 @@ def main(words):
                     house.differs(f"{table}.{name}", f"UPDATE {table} SET {name} = {other(name, kind)} WHERE rowid = {rowid}")
                     cells += 1
             house.differs(f"a row less in {table}", f"DELETE FROM {table} WHERE rowid = {ids[0]}")
-            key = {"book": "version", "entry": "seq", "outgoing": "n", "advice_line": "line", "order_line": "line"}.get(table)
+            key = {"book": "version", "entry": "seq", "entry_rules": "seq", "outgoing": "n", "advice_line": "line", "order_line": "line"}.get(table)
             cell = lambda name, kind, key=key, table=table: other(name, kind) if name == key or (not key and name == {
-                "stock": "lot", "advice": "shipment", "orders": "ord", "reservation": "lot"}[table]) else (
+                "stock": "lot", "advice": "shipment", "orders": "ord", "reservation": "lot", "lot_expiry": "lot"}[table]) else (
                     f"{name} || 'Y'" if table == "entry" and name == "mark" else f"{name} + 999999" if table == "entry" and name == "n" else name)
             house.differs(f"a row more in {table}", f"INSERT INTO {table} SELECT {', '.join(cell(*pair) for pair in names)} FROM {table} WHERE rowid = {ids[0]}")
             rows += 2
@@ -159,6 +172,7 @@ def main(words):
                                 "WHERE rowid = (SELECT max(rowid) FROM outgoing)")
         if house.run("verify") != told:
             raise Wrong("the book itself, in the end")
+        watched(house, entries.encode())
         measure(program, folder, option("--measure", 0))
     except Wrong as wrong:
         print(f"{wrong}\nkept: {folder}")

@@ -1,19 +1,29 @@
--- What the changes of advices and orders come to.
-use Rattle.std.proofs.Common.{◌≡◌, ℕ, List, [], ◌∷◌, ◌++◌, codes, Bool, true, false, Some, sym, ap, subst}
-use Rattle.std.specs.Prelude.{if◌then◌else◌}
+-- What the changes of rows, of advices and of orders come to.
+use Rattle.std.proofs.Common.{◌≡◌, ℕ, List, [], ◌∷◌, ◌++◌, codes, Bool, true, false, None, Some, Option, map, sym, ap, subst}
+use Rattle.std.specs.Prelude.{if◌then◌else◌, option_to_list}
 use Rattle.sqlite.specs.Effect.{Database}
 use Rattle.profile.specs.Header.{Who, who_text}
 use Rattle.profile.specs.Rows.{LotRow}
 use Rattle.profile.specs.Page.{PageAdvice, PageOrder}
 use Rattle.profile.specs.Tables.{Text, stock_cells, advice_cells, advice_line_cells, orders_cells, order_line_cells, reservation_cells}
 use Rattle.profile.specs.Changes.{Change, Puts, SetsState, Frees}
-use Rattle.rules.specs.Tabled.{puts_into, advice_changes, order_changes}
+use Rattle.rules.specs.Tabled.{puts_into, row_changes, advice_changes, order_changes}
 use Rattle.book_tables.specs.Leading.{Leads, puts_of}
 use Rattle.book_tables.proofs.LeadingLemmas.{leads_on}
 
 module _ (w : Who) (who : List ℕ) (is : who ≡ who_text w) (a b c d : Database) where
-  pub stock_put : (r : LotRow) → Leads (Puts (codes "stock") (Text who ∷ stock_cells r) ∷ []) a b → Leads (puts_into (codes "stock") w (stock_cells r ∷ [])) a b
-  stock_put r h = subst (λ (t : List ℕ). Leads (Puts (codes "stock") (Text t ∷ stock_cells r) ∷ []) a b) is h
+  pub row_dated : (r : LotRow) (date : List ℕ) → Some date ≡ r.expiry → Leads (Puts (codes "stock") (Text who ∷ stock_cells r) ∷ []) a b
+      → Leads (Puts (codes "lot_expiry") (Text who ∷ Text r.item ∷ Text r.lot ∷ Text date ∷ []) ∷ []) b c → Leads (row_changes w r) a c
+  row_dated r date dated p q =
+      subst (λ (o : Option (List ℕ)). Leads (puts_into (codes "stock") w (stock_cells r ∷ []) ++ puts_into (codes "lot_expiry") w (map (λ d. Text r.item ∷ Text r.lot ∷ Text d ∷ []) (option_to_list o))) a c) dated
+      (leads_on (puts_into (codes "stock") w (stock_cells r ∷ [])) (Puts (codes "lot_expiry") (Text (who_text w) ∷ Text r.item ∷ Text r.lot ∷ Text date ∷ []) ∷ []) a b c
+      (subst (λ (t : List ℕ). Leads (Puts (codes "stock") (Text t ∷ stock_cells r) ∷ []) a b) is p)
+      (subst (λ (t : List ℕ). Leads (Puts (codes "lot_expiry") (Text t ∷ Text r.item ∷ Text r.lot ∷ Text date ∷ []) ∷ []) b c) is q))
+
+  pub row_undated : (r : LotRow) → None ≡ r.expiry → Leads (Puts (codes "stock") (Text who ∷ stock_cells r) ∷ []) a b → Leads (row_changes w r) a b
+  row_undated r undated p =
+      subst (λ (o : Option (List ℕ)). Leads (puts_into (codes "stock") w (stock_cells r ∷ []) ++ puts_into (codes "lot_expiry") w (map (λ d. Text r.item ∷ Text r.lot ∷ Text d ∷ []) (option_to_list o))) a b) undated
+      (subst (λ (t : List ℕ). Leads (Puts (codes "stock") (Text t ∷ stock_cells r) ∷ []) a b) is p)
 
   pub state_set : (n : ℕ) (accepts : Bool) → Leads (SetsState who n (Some accepts) ∷ []) a b → Leads (SetsState (who_text w) n (Some accepts) ∷ []) a b
   state_set n accepts h = subst (λ (t : List ℕ). Leads (SetsState t n (Some accepts) ∷ []) a b) is h

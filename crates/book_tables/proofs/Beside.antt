@@ -37,7 +37,7 @@ lies_alone schema is = record { others = record { tables = []; indexes = []; vie
 
 -- A table of the house's own, with its index, is one that may stand there.
 abbrev note_table : Table
-note_table = keyed (codes "note") 18 (1 ∷ 2 ∷ []) [] (text (codes "who") ∷ number (codes "line") ∷ text (codes "said") ∷ [])
+note_table = keyed (codes "note") 21 (1 ∷ 2 ∷ []) [] (text (codes "who") ∷ number (codes "line") ∷ text (codes "said") ∷ [])
 
 notes_may_stand : IsLayout (beside (record { tables = note_table ∷ []; indexes = key_index note_table ∷ []; views = [] }))
 notes_may_stand = record { others = record { tables = note_table ∷ []; indexes = key_index note_table ∷ []; views = [] }; is = refl; apart = record { indexes = refl; references = refl } }

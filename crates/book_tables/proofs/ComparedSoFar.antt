@@ -9,7 +9,7 @@ use Rattle.sqlite.specs.State.{State, HasCleanDisk}
 use Rattle.sqlite.specs.Store.{Ghosts}
 use Rattle.store.specs.declared.fault.Fault.{Fault}
 use Rattle.book_tables.specs.declared.comparing.TableName.{TableName}
-use Rattle.book_tables.specs.declared.comparing.TableName.TheVariants.{Book, Entry, Outgoing, Stock, Advice, AdviceLine, Orders, OrderLine, Reservation}
+use Rattle.book_tables.specs.declared.comparing.TableName.TheVariants.{Book, Entry, Outgoing, Stock, Advice, AdviceLine, Orders, OrderLine, Reservation, EntryRules, LotExpiry}
 use Rattle.book_tables.specs.Asking.{Asked, Went, IsAsked}
 use Rattle.book_tables.specs.Comparing.{whole_text, number_of, FindBoth, ShowBoth, IsLaid, Compares}
 use Rattle.book_tables.specs.Kept.{Kept}
@@ -31,7 +31,9 @@ name_from n =
     else (if n == 5 then AdviceLine
     else (if n == 6 then Orders
     else (if n == 7 then OrderLine
-    else Reservation)))))))
+    else (if n == 8 then Reservation
+    else (if n == 9 then EntryRules
+    else LotExpiry)))))))))
 
 name_is : (t : TableName) → name_from (number_of t) ≡ t
 name_is Book = refl
@@ -43,20 +45,24 @@ name_is AdviceLine = refl
 name_is Orders = refl
 name_is OrderLine = refl
 name_is Reservation = refl
+name_is EntryRules = refl
+name_is LotExpiry = refl
 
 one_name : (t u : TableName) → number_of t ≡ number_of u → t ≡ u
 one_name t u e = sym (name_is t) ∙ ap name_from e ∙ name_is u
 
-nine : (t : TableName) → number_of t < 9
-nine Book = omega arith
-nine Entry = omega arith
-nine Outgoing = omega arith
-nine Stock = omega arith
-nine Advice = omega arith
-nine AdviceLine = omega arith
-nine Orders = omega arith
-nine OrderLine = omega arith
-nine Reservation = omega arith
+eleven : (t : TableName) → number_of t < 11
+eleven Book = omega arith
+eleven Entry = omega arith
+eleven Outgoing = omega arith
+eleven Stock = omega arith
+eleven Advice = omega arith
+eleven AdviceLine = omega arith
+eleven Orders = omega arith
+eleven OrderLine = omega arith
+eleven Reservation = omega arith
+eleven EntryRules = omega arith
+eleven LotExpiry = omega arith
 
 below : (m n : ℕ) → nat_lt m n ≡ true → m < n
 below m n h = grind (arith, nat_tests, h)
@@ -147,9 +153,9 @@ module _ {S T : Type 0} (store : Ghosts S) (its : Ghosts T) where
           → Compares false (state store old.conn) (state its them.conn)
       one_differs differs clean its_clean laid its_laid = (t, subst (λ (b : Bool). ShowBoth (whole_text t) (state store old.conn) (state its them.conn) b) differs (shown clean its_clean laid its_laid))
 
-  module _ (old now : Kept S) (them them_now : Kept T) (number : ℕ) (whole : 9 ≤ number) (so_far : SoFar old now them them_now number) where
+  module _ (old now : Kept S) (them them_now : Kept T) (number : ℕ) (whole : 11 ≤ number) (so_far : SoFar old now them them_now number) where
     pub all_same : HasCleanDisk (state store now.conn) → HasCleanDisk (state its them_now.conn) → IsLaid (state store old.conn) → IsLaid (state its them.conn) → Compares true (state store old.conn) (state its them.conn)
-    all_same clean its_clean laid its_laid t = so_far.same clean its_clean laid its_laid t (omega (arith, nine t, whole))
+    all_same clean its_clean laid its_laid t = so_far.same clean its_clean laid its_laid t (omega (arith, eleven t, whole))
 
     pub all_asked : Asked {T = Bool} store old now (Ok true)
     all_asked =

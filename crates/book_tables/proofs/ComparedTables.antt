@@ -14,11 +14,11 @@ use Rattle.book_tables.specs.declared.comparing.TableName.TheVariants as name
 use Rattle.book_tables.specs.Comparing.{AreTables, FindBoth, IsLaid, Compares, whole_text}
 use Rattle.book_tables.specs.Exits.{StandsWhileOpen}
 use Rattle.book_tables.specs.Layout.{IsLayout}
-use Rattle.book_tables.specs.Standing.{BookTable, Outgoing, Stock, Advice, AdviceLine, Orders, OrderLine, Reservation, Stands, AreHeld, filled, rows_of}
-use Rattle.book_tables.proofs.Found.{entries_rise}
+use Rattle.book_tables.specs.Standing.{BookTable, Outgoing, Stock, Advice, AdviceLine, Orders, OrderLine, Reservation, LotExpiry, Stands, AreHeld, filled, rows_of}
+use Rattle.book_tables.proofs.Found.{entries_rise, rules_rise}
 use Rattle.book_tables.proofs.FoundRows.{sound_layout}
 use Rattle.book_tables.proofs.Ordered.{all_ordered}
-use Rattle.book_tables.proofs.WholeBook.{book_same, book_shown, entries_same, entries_shown}
+use Rattle.book_tables.proofs.WholeBook.{book_same, book_shown, entries_same, entries_shown, rules_same, rules_shown}
 use Rattle.book_tables.proofs.WholeFound.{whole_found}
 use Rattle.book_tables.proofs.WholeKeyed.{holds_too}
 use Rattle.book_tables.proofs.WholeSorted.{same_shown}
@@ -32,6 +32,7 @@ keyed_is AdviceLine = refl
 keyed_is Orders = refl
 keyed_is OrderLine = refl
 keyed_is Reservation = refl
+keyed_is LotExpiry = refl
 
 module _ (one two : Database) (lies : IsLayout one.schema) (its : IsLayout two.schema) (sound : IsDatabase one) (its_sound : IsDatabase two) where
   -- the answers that both give
@@ -52,6 +53,8 @@ module _ (one two : Database) (lies : IsLayout one.schema) (its : IsLayout two.s
       let its_own = sound_layout two its its_sound in
       let up : IsTable (one.trees 1) = tables.1.0.0 in
       let its_up : IsTable (two.trees 1) = subst IsTable (sym held.entry) (entries_rise [] L) in
+      let rules_up : IsTable (one.trees 18) = tables.1.1.1.1.1.1.1.1.1.0.0 in
+      let its_rules_up : IsTable (two.trees 18) = subst IsTable (sym held.rules) (rules_rise [] L) in
       let rows : AreHeld (filled W L) one.trees = record {
         book = book_same lies.others its.others one.trees two.trees mine its_own _ (answer name.Book true (same name.Book)) (same_answer name.Book (same name.Book)) _ held.book;
         entry = entries_same lies.others its.others one.trees two.trees mine its_own _ up its_up (answer name.Entry true (same name.Entry)) (same_answer name.Entry (same name.Entry)) ∙ held.entry;
@@ -60,6 +63,7 @@ module _ (one two : Database) (lies : IsLayout one.schema) (its : IsLayout two.s
             holds_too t lies.others its.others one.trees two.trees mine its_own tables f.rows
             (subst (λ (q : Query). IsAnswer q (overlay one.trees []) [] f.rows) (keyed_is t) (answer (keyed_name t) true f))
             (subst (λ (q : Query). IsAnswer q (overlay two.trees []) [] f.rows) (keyed_is t) (same_answer (keyed_name t) f)) (rows_of W L t) (held.keyed t);
+        rules = rules_same lies.others its.others one.trees two.trees mine its_own _ rules_up its_rules_up (answer name.EntryRules true (same name.EntryRules)) (same_answer name.EntryRules (same name.EntryRules)) ∙ held.rules;
       } in
       record { legal = stands.legal; schema = lies; rows = rows }
 
@@ -87,6 +91,14 @@ module _ (one two : Database) (lies : IsLayout one.schema) (its : IsLayout two.s
         let its_up : IsTable (two.trees 1) = subst IsTable (sym its_held.entry) (entries_rise [] L) in
         entries_shown one.trees f.rows up (answer name.Entry same f) ∙ ap (map _) (held.entry ∙ sym its_held.entry) ∙ sym (entries_shown two.trees f.others its_up (its_answer name.Entry same f))
 
+    rules_alike : (same : Bool) (f : FindBoth (whole_text name.EntryRules) one two same) → f.rows ≡ f.others
+    rules_alike same f =
+        let held = stands.rows in
+        let its_held = its_stands.rows in
+        let up : IsTable (one.trees 18) = subst IsTable (sym held.rules) (rules_rise [] L) in
+        let its_up : IsTable (two.trees 18) = subst IsTable (sym its_held.rules) (rules_rise [] L) in
+        rules_shown one.trees f.rows up (answer name.EntryRules same f) ∙ ap (map _) (held.rules ∙ sym its_held.rules) ∙ sym (rules_shown two.trees f.others its_up (its_answer name.EntryRules same f))
+
     -- both stand for one register: no table differs
     pub shown_too : (t : TableName) (same : Bool) → FindBoth (whole_text t) one two same → IsTrue same
     shown_too name.Book same f = f.told.1 (book_alike same f)
@@ -98,6 +110,8 @@ module _ (one two : Database) (lies : IsLayout one.schema) (its : IsLayout two.s
     shown_too name.Orders same f = f.told.1 (keyed_alike Orders same f)
     shown_too name.OrderLine same f = f.told.1 (keyed_alike OrderLine same f)
     shown_too name.Reservation same f = f.told.1 (keyed_alike Reservation same f)
+    shown_too name.EntryRules same f = f.told.1 (rules_alike same f)
+    shown_too name.LotExpiry same f = f.told.1 (keyed_alike LotExpiry same f)
 
 -- The same of connections.
 

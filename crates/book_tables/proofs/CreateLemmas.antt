@@ -1,13 +1,14 @@
 -- What making the tables does.
-use Rattle.std.proofs.Common.{◌≡◌, ℕ, pos, List, [], ◌∷◌, false, None, Ok, refl, sym, ap, subst, ◌∙◌}
+use Rattle.std.proofs.Common.{◌≡◌, ℕ, pos, List, [], ◌∷◌, map, false, None, Ok, refl, sym, ap, subst, ◌∙◌}
 use Rattle.sqlite.specs.declared.types.Value.TheVariants as value
 use Rattle.sqlite.specs.Table.{Table}
 use Rattle.sqlite.specs.Schema.{Schema}
+use Rattle.profile.specs.declared.rules.Rules.TheVariants.{Two}
 use Rattle.profile.specs.Schema as profile
 use Rattle.profile.specs.Header.{Who}
 use Rattle.profile.specs.Accepted.{IsLegal}
-use Rattle.book_tables.specs.Held.{Holds}
-use Rattle.book_tables.specs.Standing.{BookTable, Outgoing, Stock, Advice, AdviceLine, Orders, OrderLine, Reservation, schema_of, tree_of, width_of, rows_of, AreByKey}
+use Rattle.book_tables.specs.Held.{Holds, entry_values}
+use Rattle.book_tables.specs.Standing.{BookTable, Outgoing, Stock, Advice, AdviceLine, Orders, OrderLine, Reservation, LotExpiry, schema_of, tree_of, width_of, rows_of, AreByKey, Filled}
 use Rattle.book_tables.specs.Exits.{HasGrown}
 use Rattle.sqlite.specs.Order.{Row}
 use Rattle.sqlite.specs.Command.TheVariants.{CreateTable}
@@ -20,12 +21,13 @@ use Rattle.sqlite.specs.Given.{IsPlain}
 use Rattle.sqlite.specs.Compile.{table_defined_by}
 use Rattle.sqlite_catalog.specs.Calls.{CreatesTable}
 use Rattle.sqlite.proofs.Callers.{command_of, statement_of, runs_as}
-use Rattle.book_tables.specs.Layout.{book_text, entry_text, outgoing_text, stock_text, advice_text, advice_line_text, orders_text, order_line_text, reservation_text}
-use Rattle.book_tables.specs.Layout.{book_layout, entry_layout, outgoing_layout, stock_layout, advice_layout, advice_line_layout, orders_layout, order_line_layout, reservation_layout}
+use Rattle.book_tables.specs.Layout.{book_text, entry_text, outgoing_text, stock_text, advice_text, advice_line_text, orders_text, order_line_text, reservation_text, entry_rules_text, lot_expiry_text}
+use Rattle.book_tables.specs.Layout.{book_layout, entry_layout, outgoing_layout, stock_layout, advice_layout, advice_line_layout, orders_layout, order_line_layout, reservation_layout, entry_rules_layout, lot_expiry_layout}
 use Rattle.book_tables.specs.Layout.{first_layouts}
 use Rattle.book_tables.specs.Making.{HasMade, HasBook}
+use Rattle.book_tables.specs.Carrying.{AreHeldFirst, Widens}
 use Rattle.book_tables.proofs.MakingTexts.{at_first}
-use Rattle.book_tables.proofs.MakingTexts.{book_is, book_runs, book_plain, entry_is, entry_runs, entry_plain, outgoing_is, outgoing_runs, outgoing_plain, stock_is, stock_runs, stock_plain, advice_is, advice_runs, advice_plain, advice_line_is, advice_line_runs, advice_line_plain, orders_is, orders_runs, orders_plain, order_line_is, order_line_runs, order_line_plain, reservation_is, reservation_runs, reservation_plain}
+use Rattle.book_tables.proofs.MakingTexts.{book_is, book_runs, book_plain, entry_is, entry_runs, entry_plain, outgoing_is, outgoing_runs, outgoing_plain, stock_is, stock_runs, stock_plain, advice_is, advice_runs, advice_plain, advice_line_is, advice_line_runs, advice_line_plain, orders_is, orders_runs, orders_plain, order_line_is, order_line_runs, order_line_plain, reservation_is, reservation_runs, reservation_plain, entry_rules_is, entry_rules_runs, entry_rules_plain, lot_expiry_is, lot_expiry_runs, lot_expiry_plain}
 use Rattle.book_tables.proofs.WritingTexts.{insert_book_text}
 use Rattle.book_tables.proofs.Beside.{lies_alone}
 use Rattle.book_tables.proofs.Inserts.{inserts_book}
@@ -94,15 +96,72 @@ made_third a b c d m n o was p q r =
       z.0,
     )
 
--- the row of `book`
-pub made_book : (a b : State) (m : ℕ) (qualifier id : List ℕ) → HasMade 9 9 a.now → Executes insert_book_text (value.Int (pos 1) ∷ value.Text qualifier ∷ value.Text id ∷ []) a b (Ok m) → HasBook qualifier id b.now
-made_book a b m qualifier id was h =
-    let it = inserts_book (pos 1) qualifier id a b m (lies_alone a.now.schema was.schema) h in
-    record { schema = it.schema ∙ was.schema; sound = it.sound; book = it.rows ∙ ap (λ (rows : List Row). put_row (value.Int (next_rowid rows) ∷ value.Int (pos 1) ∷ value.Text qualifier ∷ value.Text id ∷ []) rows) (let all = was.empty in all.0); empty = (it.others.1.0 (apart 1 0 refl) ∙ was.empty.1.0, (it.others.1.1.0 (apart 4 0 refl) ∙ was.empty.1.1.0, (it.others.1.1.1.0 (apart 6 0 refl) ∙ was.empty.1.1.1.0, (it.others.1.1.1.1.0 (apart 8 0 refl) ∙ was.empty.1.1.1.1.0, (it.others.1.1.1.1.1.0 (apart 10 0 refl) ∙ was.empty.1.1.1.1.1.0, (it.others.1.1.1.1.1.1.0 (apart 12 0 refl) ∙ was.empty.1.1.1.1.1.1.0, (it.others.1.1.1.1.1.1.1.0 (apart 14 0 refl) ∙ was.empty.1.1.1.1.1.1.1.0, (it.others.1.1.1.1.1.1.1.1.0 (apart 16 0 refl) ∙ was.empty.1.1.1.1.1.1.1.1.0, tt)))))))) }
+pub made_fourth : (a b c : State) (m n : ℕ) → HasMade 9 9 a.now → Executes entry_rules_text [] a b (Ok m) → Executes lot_expiry_text [] b c (Ok n) → HasMade 11 10 c.now × IsDatabase c.now
+made_fourth a b c m n was p q =
+    let x = creates entry_rules_text (first_layouts 9 9) (first_layouts 10 9) (at_first entry_rules_layout) a b m was.schema entry_rules_runs entry_rules_plain entry_rules_is refl refl p in
+    let y = creates lot_expiry_text (first_layouts 10 9) (first_layouts 11 10) (at_first lot_expiry_layout) b c n x.1 lot_expiry_runs lot_expiry_plain lot_expiry_is refl refl q in (
+      record {
+        schema = y.1;
+        empty = (y.2.others.0 ∙ x.2.others.0 ∙ was.empty.0, (y.2.others.1.0 ∙ x.2.others.1.0 ∙ was.empty.1.0, (y.2.others.1.1.0 ∙ x.2.others.1.1.0 ∙ was.empty.1.1.0, (y.2.others.1.1.1.0 ∙ x.2.others.1.1.1.0 ∙ was.empty.1.1.1.0, (y.2.others.1.1.1.1.0 ∙ x.2.others.1.1.1.1.0 ∙ was.empty.1.1.1.1.0, (y.2.others.1.1.1.1.1.0 ∙ x.2.others.1.1.1.1.1.0 ∙ was.empty.1.1.1.1.1.0, (y.2.others.1.1.1.1.1.1.0 ∙ x.2.others.1.1.1.1.1.1.0 ∙ was.empty.1.1.1.1.1.1.0, (y.2.others.1.1.1.1.1.1.1.0 ∙ x.2.others.1.1.1.1.1.1.1.0 ∙ was.empty.1.1.1.1.1.1.1.0, (y.2.others.1.1.1.1.1.1.1.1.0 ∙ x.2.others.1.1.1.1.1.1.1.1.0 ∙ was.empty.1.1.1.1.1.1.1.1.0, (y.2.others.1.1.1.1.1.1.1.1.1.0 ∙ x.2.empty, (y.2.empty, tt)))))))))));
+      },
+      y.0,
+    )
 
--- the tables of an empty register
+-- a table that holds nothing
 holds_none : Holds [] []
 holds_none = record { rise = tt; sound = λ row none. absurd none; complete = λ cells none. absurd none }
+
+-- the two tables that version 2 has come to those of version 1, whatever these hold
+pub widened : (a b c : State) (m n : ℕ) → Executes entry_rules_text [] a b (Ok m) → Executes lot_expiry_text [] b c (Ok n) → Widens a.now c.now
+widened a b c m n p q f was =
+    let x = creates entry_rules_text (first_layouts 9 9) (first_layouts 10 9) (at_first entry_rules_layout) a b m was.schema entry_rules_runs entry_rules_plain entry_rules_is refl refl p in
+    let y = creates lot_expiry_text (first_layouts 10 9) (first_layouts 11 10) (at_first lot_expiry_layout) b c n x.1 lot_expiry_runs lot_expiry_plain lot_expiry_is refl refl q in
+    let held = was.rows in
+    let keyed = held.keyed in
+    let into : (t : BookTable) → c.now.trees (tree_of t) ≡ a.now.trees (tree_of t) → Holds (f.keyed t) (a.now.trees (tree_of t)) → Holds (f.keyed t) (c.now.trees (tree_of t)) = λ t same h. subst (Holds (f.keyed t)) (sym same) h in
+    let both : (t : BookTable) → Holds (f.keyed t) (c.now.trees (tree_of t)) = λ t. by t f a.now c.now into
+    (y.2.others.1.1.0 ∙ x.2.others.1.1.0) (y.2.others.1.1.1.0 ∙ x.2.others.1.1.1.0) (y.2.others.1.1.1.1.0 ∙ x.2.others.1.1.1.1.0) (y.2.others.1.1.1.1.1.0 ∙ x.2.others.1.1.1.1.1.0)
+    (y.2.others.1.1.1.1.1.1.0 ∙ x.2.others.1.1.1.1.1.1.0) (y.2.others.1.1.1.1.1.1.1.0 ∙ x.2.others.1.1.1.1.1.1.1.0) (y.2.others.1.1.1.1.1.1.1.1.0 ∙ x.2.others.1.1.1.1.1.1.1.1.0)
+    held (subst (λ rows. Holds rows (c.now.trees 19)) (sym was.dates) (subst (Holds []) (sym y.2.empty) holds_none)) in
+    record {
+      schema = lies_alone c.now.schema y.1;
+      sound = y.0;
+      rows = record {
+        book = y.2.others.0 ∙ x.2.others.0 ∙ held.book;
+        entry = y.2.others.1.0 ∙ x.2.others.1.0 ∙ held.entry;
+        keyed = both;
+        rules = y.2.others.1.1.1.1.1.1.1.1.1.0 ∙ x.2.empty ∙ sym (ap (map entry_values) was.rules);
+      };
+      ordered = was.ordered;
+    }
+  where
+    Same : BookTable → Database → Database → Type 0
+    Same t a c = c.trees (tree_of t) ≡ a.trees (tree_of t)
+
+    by : (t : BookTable) (f : Filled) (a c : Database) → ((t : BookTable) → Same t a c → Holds (f.keyed t) (a.trees (tree_of t)) → Holds (f.keyed t) (c.trees (tree_of t)))
+        → Same Outgoing a c → Same Stock a c → Same Advice a c → Same AdviceLine a c → Same Orders a c → Same OrderLine a c → Same Reservation a c
+        → AreHeldFirst f a.trees → Holds (f.keyed LotExpiry) (c.trees 19) → Holds (f.keyed t) (c.trees (tree_of t))
+    by Outgoing f a c into o s d e r l v held dates = into Outgoing o (let k = held.keyed in k.0)
+    by Stock f a c into o s d e r l v held dates = into Stock s (let k = held.keyed in k.1.0)
+    by Advice f a c into o s d e r l v held dates = into Advice d (let k = held.keyed in k.1.1.0)
+    by AdviceLine f a c into o s d e r l v held dates = into AdviceLine e (let k = held.keyed in k.1.1.1.0)
+    by Orders f a c into o s d e r l v held dates = into Orders r (let k = held.keyed in k.1.1.1.1.0)
+    by OrderLine f a c into o s d e r l v held dates = into OrderLine l (let k = held.keyed in k.1.1.1.1.1.0)
+    by Reservation f a c into o s d e r l v held dates = into Reservation v (let k = held.keyed in k.1.1.1.1.1.1.0)
+    by LotExpiry f a c into o s d e r l v held dates = dates
+
+-- the row of `book`
+pub made_book : (a b : State) (m : ℕ) (qualifier id : List ℕ) → HasMade 11 10 a.now → Executes insert_book_text (value.Int (pos 2) ∷ value.Text qualifier ∷ value.Text id ∷ []) a b (Ok m) → HasBook qualifier id b.now
+made_book a b m qualifier id was h =
+    let it = inserts_book (pos 2) qualifier id a b m (lies_alone a.now.schema was.schema) h in
+    record {
+      schema = it.schema ∙ was.schema;
+      sound = it.sound;
+      book = it.rows ∙ ap (λ (rows : List Row). put_row (value.Int (next_rowid rows) ∷ value.Int (pos 2) ∷ value.Text qualifier ∷ value.Text id ∷ []) rows) (let all = was.empty in all.0);
+      empty = (it.others.1.0 (apart 1 0 refl) ∙ was.empty.1.0, (it.others.1.1.0 (apart 4 0 refl) ∙ was.empty.1.1.0, (it.others.1.1.1.0 (apart 6 0 refl) ∙ was.empty.1.1.1.0, (it.others.1.1.1.1.0 (apart 8 0 refl) ∙ was.empty.1.1.1.1.0, (it.others.1.1.1.1.1.0 (apart 10 0 refl) ∙ was.empty.1.1.1.1.1.0, (it.others.1.1.1.1.1.1.0 (apart 12 0 refl) ∙ was.empty.1.1.1.1.1.1.0, (it.others.1.1.1.1.1.1.1.0 (apart 14 0 refl) ∙ was.empty.1.1.1.1.1.1.1.0, (it.others.1.1.1.1.1.1.1.1.0 (apart 16 0 refl) ∙ was.empty.1.1.1.1.1.1.1.1.0, (it.others.1.1.1.1.1.1.1.1.1.0 (apart 18 0 refl) ∙ was.empty.1.1.1.1.1.1.1.1.1.0, (it.others.1.1.1.1.1.1.1.1.1.1.0 (apart 19 0 refl) ∙ was.empty.1.1.1.1.1.1.1.1.1.1.0, tt))))))))));
+    }
+
+-- the tables of an empty register
 
 is_by_key_none : (s : profile.Schema) (k : ℕ) → AreByKey s k []
 is_by_key_none s k = record { by_key = refl; each = λ row none. absurd none }
@@ -118,6 +177,7 @@ holds_empty t qualifier id db h = subst (Holds []) (sym (empty t)) holds_none
     empty Orders = h.empty.1.1.1.1.1.0
     empty OrderLine = h.empty.1.1.1.1.1.1.0
     empty Reservation = h.empty.1.1.1.1.1.1.1.0
+    empty LotExpiry = h.empty.1.1.1.1.1.1.1.1.1.0
 
 no_rows : (W : Who) (t : BookTable) → rows_of W [] t ≡ []
 no_rows W Outgoing = refl
@@ -127,8 +187,9 @@ no_rows W AdviceLine = refl
 no_rows W Orders = refl
 no_rows W OrderLine = refl
 no_rows W Reservation = refl
+no_rows W LotExpiry = refl
 
-pub stands_empty : (W : Who) (s : State) → IsLegal W [] → HasBook W.qualifier W.id s.now → HasGrown s W []
+pub stands_empty : (W : Who) (s : State) → IsLegal Two W [] → HasBook W.qualifier W.id s.now → HasGrown s W []
 stands_empty W s legal h =
     record {
       stands = record {
@@ -138,6 +199,7 @@ stands_empty W s legal h =
           book = h.book;
           entry = let rows = h.empty in rows.0;
           keyed = λ t. subst (λ rows. Holds rows (s.now.trees (tree_of t))) (sym (no_rows W t)) (holds_empty t W.qualifier W.id s.now h);
+          rules = let rows = h.empty in rows.1.1.1.1.1.1.1.1.0;
         };
       };
       sound = h.sound;
@@ -145,5 +207,6 @@ stands_empty W s legal h =
         entry = λ row none. absurd none;
         outgoing = λ row none. absurd none;
         keyed = λ t. subst (AreByKey (schema_of t) (width_of t)) (sym (no_rows W t)) (is_by_key_none (schema_of t) (width_of t));
+        rules = λ row none. absurd none;
       };
     }

@@ -2,6 +2,7 @@
 use Rattle.std.proofs.Common.{◌≡◌, ◌<◌, ℕ, ◌+◌, Bool, true, false, cond, List, [], ◌∷◌, ◌++◌, Option, None, Some, refl, sym, ap, subst, ◌∙◌, arith}
 use Rattle.std.specs.Prelude.{find, if◌then◌else◌, ◌==◌}
 use Rattle.std.proofs.lemmas.Bool.{ne_eqb, eqb-true}
+use Rattle.profile.specs.declared.rules.Rules.{Rules}
 use Rattle.profile.specs.Moments.{Moment}
 use Rattle.profile.specs.Header.{Who}
 use Rattle.profile.specs.Events.{Event}
@@ -53,14 +54,14 @@ kind_of_act (Recount sheet) = (Adjustment, functions.Adjustment, refl, refl, ref
 
 module _ (W : Who) (es : List Event) (n : ℕ) where
   -- one entry more in front
-  first : (before : List Entry) (w : Who) (t : Moment) (d : Deed) (k j : ℕ) (rows : List OutRow) (M : List Entry) → k ≡ next_number before → j ≡ k + (if is_numbered (record { who = w; moment = t; deed = d }) then 1 else 0)
+  first : (before : List Entry) (w : Who) (t : Moment) (q : Rules) (d : Deed) (k j : ℕ) (rows : List OutRow) (M : List Entry) → k ≡ next_number before → j ≡ k + (if is_numbered (record { who = w; moment = t; deed = d; rules = q }) then 1 else 0)
       → Agrees n (find (is_under n) rows) (document_at n (documents_of es (sent_on j M)))
-      → Agrees n (find (is_under n) ((if is_numbered (record { who = w; moment = t; deed = d }) then out_row W es before (record { who = w; moment = t; deed = d }) ∷ [] else []) ++ rows)) (document_at n (documents_of es (sent_by k d ++ sent_on j M)))
-  first before w t Enrolled k j rows M number is later = later
-  first before w t (Received text) k j rows M number is later = by (k == n) refl
+      → Agrees n (find (is_under n) ((if is_numbered (record { who = w; moment = t; deed = d; rules = q }) then out_row W es before (record { who = w; moment = t; deed = d; rules = q }) ∷ [] else []) ++ rows)) (document_at n (documents_of es (sent_by k d ++ sent_on j M)))
+  first before w t q Enrolled k j rows M number is later = later
+  first before w t q (Received text) k j rows M number is later = by (k == n) refl
     where
       its : OutRow
-      its = out_row W es before (record { who = w; moment = t; deed = Received text })
+      its = out_row W es before (record { who = w; moment = t; deed = Received text; rules = q })
 
       by : (b : Bool) → (k == n) ≡ b → Agrees n (find (is_under n) (its ∷ rows)) (document_at n (documents_of es (sent_on j M)))
       by true e =
@@ -70,10 +71,10 @@ module _ (W : Who) (es : List Event) (n : ℕ) where
       by false e =
           let there : find (is_under n) (its ∷ rows) ≡ find (is_under n) rows = ap (λ (b : Bool). cond b (Some its) (find (is_under n) rows)) (ap (λ (m : ℕ). m == n) (sym number) ∙ e) in
           subst (λ (o : Option OutRow). Agrees n o (document_at n (documents_of es (sent_on j M)))) (sym there) later
-  first before w t (Performed ticket act) k j rows M number is later = by (k == n) refl
+  first before w t q (Performed ticket act) k j rows M number is later = by (k == n) refl
     where
       its : OutRow
-      its = out_row W es before (record { who = w; moment = t; deed = Performed ticket act })
+      its = out_row W es before (record { who = w; moment = t; deed = Performed ticket act; rules = q })
 
       document : PageDocument
       document = record { n = k; function = act_function act; said = said_of es k (act_function act) }
@@ -99,7 +100,7 @@ module _ (W : Who) (es : List Event) (n : ℕ) where
   agree_on before [] = tt
   agree_on before (e ∷ M) =
       let k = next_number before in
-      first before e.who e.moment e.deed k (k + (if is_numbered e then 1 else 0)) (outgoing_on W es (before ++ e ∷ []) M) M refl refl
+      first before e.who e.moment e.rules e.deed k (k + (if is_numbered e then 1 else 0)) (outgoing_on W es (before ++ e ∷ []) M) M refl refl
       (subst (λ (j : ℕ). Agrees n (find (is_under n) (outgoing_on W es (before ++ e ∷ []) M)) (document_at n (documents_of es (sent_on j M)))) (next_snoc before e) (agree_on (before ++ e ∷ []) M))
 
 pub rows_agree : (W : Who) (n : ℕ) (M : List Entry) → Agrees n (find (λ r. r.n == n) (outgoing_rows W M)) (document_at n (page_of M).documents)

@@ -10,26 +10,37 @@ use Rattle.sqlite.specs.Effect.{Database, IsDatabase}
 use Rattle.sqlite_catalog.specs.Listing.{IsSound}
 use Rattle.profile.specs.Header.{Who, is_partner, who_text}
 use Rattle.profile.specs.Register.{Entry, own}
-use Rattle.profile.specs.Rows.{StockRow, OutRow, stock_rows, outgoing_rows, outbox_rows}
+use Rattle.profile.specs.History.{events}
+use Rattle.profile.specs.Rows.{LotRow, StockRow, OutRow, shown_row, running_rows, stock_rows, outgoing_rows, outbox_rows}
+use Rattle.stock.specs.Keyed.{rises_by, row_key, key_before as pairs_in_order}
 use Rattle.book_tables.specs.Asking.{Finds}
 use Rattle.book_tables.specs.Layout.{beside, IsLayout}
 use Rattle.book_tables.specs.Exits.{StandsWhileOpen}
+use Rattle.book_tables.specs.Dated.{date_shown, dates_of}
 use Rattle.book_tables.specs.Showing.{stock_shown, out_shown, IsSent}
-use Rattle.book_tables.specs.Standing.{Stock, Outgoing, Stands}
+use Rattle.book_tables.specs.Standing.{Stock, LotExpiry, Outgoing, Stands}
 use Rattle.book_tables.proofs.Asked.{found}
+use Rattle.book_tables.proofs.Ordered.{lots_rise}
 use Rattle.book_tables.proofs.Sendings.{legal_sent}
-use Rattle.book_tables.proofs.ShowingTexts.{stock_rows_text, stock_rows_is, stock_rows_plain, outbox_text, outbox_is, outbox_plain}
-use Rattle.book_tables.proofs.ShownRows.{stock_rows_shown, outgoing_rows_shown}
+use Rattle.book_tables.proofs.ShowingTexts.{stock_rows_text, stock_rows_is, stock_rows_plain, all_dates_text, all_dates_is, all_dates_plain, outbox_text, outbox_is, outbox_plain}
+use Rattle.book_tables.proofs.ShownRows.{stock_rows_shown, dates_shown, outgoing_rows_shown}
 
 pub sound_layout : (db : Database) (lies : IsLayout db.schema) → IsDatabase db → IsSound (beside lies.others) db.trees
 sound_layout db lies sound = subst (λ (s : Schema). IsSound s db.trees) lies.is sound
 
 stock_found : (W : Who) (L : List Entry) (who : Who) (db : Database) (rows : List Row) → is_partner who ≡ true → IsDatabase db → Stands W L db
-    → Finds stock_rows_text (value.Text (who_text who) ∷ []) db rows → rows ≡ map stock_shown (stock_rows (own L who))
+    → Finds stock_rows_text (value.Text (who_text who) ∷ []) db rows → rows ≡ map (λ r. stock_shown (shown_row r)) (running_rows (events (own L who)))
 stock_found W L who db rows partner sound stands h =
     let read = found stock_rows_text (value.Text (who_text who) ∷ []) db rows _ stands.schema stock_rows_plain stock_rows_is h in
     let held = stands.rows in
     stock_rows_shown (let lies = stands.schema in lies.others) W L who db.trees rows stands.legal partner (sound_layout db stands.schema sound) (held.keyed Stock) (read.answer value.Null)
+
+dates_found : (W : Who) (L : List Entry) (who : Who) (db : Database) (rows : List Row) → is_partner who ≡ true → IsDatabase db → Stands W L db
+    → Finds all_dates_text (value.Text (who_text who) ∷ []) db rows → rows ≡ map date_shown (dates_of (running_rows (events (own L who))))
+dates_found W L who db rows partner sound stands h =
+    let read = found all_dates_text (value.Text (who_text who) ∷ []) db rows _ stands.schema all_dates_plain all_dates_is h in
+    let held = stands.rows in
+    dates_shown (let lies = stands.schema in lies.others) W L who db.trees rows stands.legal partner (sound_layout db stands.schema sound) (held.keyed LotExpiry) (read.answer value.Null)
 
 outgoing_found : (W : Who) (L : List Entry) (who : Who) (db : Database) (rows : List Row) → is_partner who ≡ true → IsDatabase db → Stands W L db
     → Finds outbox_text (value.Text (who_text who) ∷ []) db rows → rows ≡ map out_shown (outgoing_rows W (own L who))
@@ -39,12 +50,16 @@ outgoing_found W L who db rows partner sound stands h =
     outgoing_rows_shown (let lies = stands.schema in lies.others) W L who db.trees rows stands.legal partner (sound_layout db stands.schema sound) (held.keyed Outgoing) (read.answer value.Null)
 
 -- Rows that are read back of tables that stand while they are open.
-module _ (old : State) (W : Who) (L : List Entry) (who : Who) (partner : IsTrue (is_partner who)) (live : IsLive old) (stands : StandsWhileOpen old W L) (text : List ℕ) (told : text ≡ who_text who) (rows : List Row) where
-  pub stock_read : IsTrue old.is_open × Finds stock_rows_text (value.Text text ∷ []) old.now rows → (read : Option (List StockRow)) → ((rs : List StockRow) → rows ≡ map stock_shown rs → read ≡ Some rs)
-      → read ≡ Some (stock_rows (own L who))
-  stock_read finds read right =
-      right (stock_rows (own L who)) (stock_found W L who old.now rows partner (live finds.0).0 (stands finds.0) (subst (λ t. Finds stock_rows_text (value.Text t ∷ []) old.now rows) told finds.1))
 
+pub stock_read : (old mid : State) (W : Who) (L : List Entry) (who : Who) → IsTrue (is_partner who) → IsLive old → IsLive mid → StandsWhileOpen old W L → StandsWhileOpen mid W L → (rows dates : List Row)
+    → IsTrue old.is_open × Finds stock_rows_text (value.Text (who_text who) ∷ []) old.now rows → IsTrue mid.is_open × Finds all_dates_text (value.Text (who_text who) ∷ []) mid.now dates → (read : Option (List StockRow))
+    → ((rs : List LotRow) → rises_by pairs_in_order row_key rs ≡ true → rows ≡ map (λ r. stock_shown (shown_row r)) rs → dates ≡ map date_shown (dates_of rs) → read ≡ Some (map shown_row rs))
+    → read ≡ Some (stock_rows (own L who))
+stock_read old mid W L who partner live mid_live stands mid_stands rows dates finds dated read right =
+    right (running_rows (events (own L who))) (lots_rise (events (own L who))) (stock_found W L who old.now rows partner (live finds.0).0 (stands finds.0) finds.1)
+    (dates_found W L who mid.now dates partner (mid_live dated.0).0 (mid_stands dated.0) dated.1)
+
+module _ (old : State) (W : Who) (L : List Entry) (who : Who) (partner : IsTrue (is_partner who)) (live : IsLive old) (stands : StandsWhileOpen old W L) (text : List ℕ) (told : text ≡ who_text who) (rows : List Row) where
   pub sent_read : IsTrue old.is_open × Finds outbox_text (value.Text text ∷ []) old.now rows → (read : Option (List OutRow))
       → ((rs : List OutRow) → ((r : OutRow) → Has rs r → IsSent r) → rows ≡ map out_shown rs → read ≡ Some (filter (λ (r : OutRow). nat_lt 0 (length r.content)) rs)) → read ≡ Some (outbox_rows W (own L who))
   sent_read finds read right =

@@ -17,6 +17,7 @@ use Rattle.sqlite.specs.Tree.{Trees}
 use Rattle.sqlite.specs.State.{State}
 use Rattle.sqlite_value.proofs.OrderLemmas.{value_cmp-Text}
 use Rattle.sqlite_schema.specs.Rules.{equal}
+use Rattle.profile.specs.declared.rules.Rules.TheVariants.{Two}
 use Rattle.profile.specs.Header.{Who, is_partner, who_eq, who_text}
 use Rattle.profile.specs.Register.{Entry, own}
 use Rattle.profile.specs.Readings.{is_entry}
@@ -95,4 +96,4 @@ none_read old W L who partner stands text told rows finds =
     let held = here.rows in
     let h = subst (λ t. Finds has_text (value.Text t ∷ []) old.now rows) told finds.1 in
     let read = found has_text (value.Text (who_text who) ∷ []) old.now rows _ here.schema has_plain has_is h in
-    none_shown who L old.now.trees rows (legal-entries W L here.legal) partner held.entry (read.answer value.Null)
+    none_shown who L old.now.trees rows (legal-entries Two W L here.legal) partner held.entry (read.answer value.Null)

@@ -16,10 +16,10 @@ use Rattle.sqlite_rules.proofs.ListLemmas.{has_filtered, has_kept}
 use Rattle.sqlite_rules.proofs.ProbeLemmas.{has_mapped, mapped_has}
 use Rattle.profile.specs.Tables.{Cell, Null, Number, Text, Blob, TableRow}
 use Rattle.profile.specs.Schema as schema
-use Rattle.profile.specs.Schema.{Schema, key_in, is_by_key, outgoing_schema, entry_schema, reservation_schema, key_before}
+use Rattle.profile.specs.Schema.{Schema, key_in, is_by_key, outgoing_schema, reservation_schema, key_before}
 use Rattle.profile.specs.Changes.{with_state, is_reserved_for}
 use Rattle.book_tables.specs.Held.{value_of, values, Holds, entry_values}
-use Rattle.book_tables.specs.Standing.{AreByKey, HasKey, has_key_cells, IsOutgoing, IsEntry}
+use Rattle.book_tables.specs.Standing.{AreByKey, HasKey, has_key_cells, IsOutgoing, IsBySeq}
 use Rattle.book_tables.specs.Steps.{PutByKey, TakenByKey, SetsState, AreKeyed, key_of, has_key}
 use Rattle.book_tables.proofs.PutRows.{put_there, put_kept, put_from, put_by_key, put_old, filter_by_key, map_by_key, only_by_key}
 use Rattle.book_tables.proofs.Values.{and_true}
@@ -279,10 +279,7 @@ module _ (who : List ℕ) (n : ℕ) (state : List ℕ) where
             let hit : its w m ≡ true = rw (same, number) its_itself in
             let e : ◌≡◌ {A = Bool} true false = sym hit ∙ miss in cc
 
--- ---- a row of `entry`
-
-abbrev put_entry : TableRow → List TableRow → List TableRow
-put_entry = schema.put_row entry_schema
+-- ---- a row of `entry` or of `entry_rules`
 
 below : (m n : ℕ) → nat_lt m n ≡ true → int_cmp (pos m) (pos n) ≡ Less
 below m n h = grind (arith, nat_tests, h)
@@ -299,24 +296,25 @@ or_and_false false true = refl
 or_and_false false false = refl
 
 -- the rowid is the number of the entry, so it stands where its row does
-pub entry_put : (row : TableRow) (rows : List TableRow) → IsEntry row → ((r : TableRow) → Has rows r → IsEntry r) → map entry_values (put_entry row rows) ≡ put_row (entry_values row) (map entry_values rows)
-entry_put row [] is each = refl
-entry_put row (r ∷ rows) is each = go (nat_lt is.0 o.0) (nat_lt o.0 is.0) refl refl (entry_put row rows is (λ x there. each x (inr there)))
+pub seq_put : (s : Schema) (row : TableRow) (rows : List TableRow) → IsBySeq s row → ((r : TableRow) → Has rows r → IsBySeq s r)
+    → map entry_values (schema.put_row s row rows) ≡ put_row (entry_values row) (map entry_values rows)
+seq_put s row [] is each = refl
+seq_put s row (r ∷ rows) is each = go (nat_lt is.0 o.0) (nat_lt o.0 is.0) refl refl (seq_put s row rows is (λ x there. each x (inr there)))
   where
-    o : IsEntry r
+    o : IsBySeq s r
     o = each r (inl refl)
 
-    first : key_before (key_in entry_schema row) (key_in entry_schema r) ≡ nat_lt is.0 o.0
+    first : key_before (key_in s row) (key_in s r) ≡ nat_lt is.0 o.0
     first = (λ i. key_before (is.3 i) (o.3 i)) ∙ or_and_false (nat_lt is.0 o.0) (nat_lt o.0 is.0)
 
-    second : key_before (key_in entry_schema r) (key_in entry_schema row) ≡ nat_lt o.0 is.0
+    second : key_before (key_in s r) (key_in s row) ≡ nat_lt o.0 is.0
     second = (λ i. key_before (o.3 i) (is.3 i)) ∙ or_and_false (nat_lt o.0 is.0) (nat_lt is.0 o.0)
 
     order : value_cmp (rowid (entry_values r)) (rowid (entry_values row)) ≡ int_cmp (pos o.0) (pos is.0)
     order = (λ i. value_cmp (rowid (entry_values (o.2 i))) (rowid (entry_values (is.2 i)))) ∙ value_cmp-Int (pos o.0) (pos is.0)
 
-    go : (a b : Bool) → nat_lt is.0 o.0 ≡ a → nat_lt o.0 is.0 ≡ b → map entry_values (put_entry row rows) ≡ put_row (entry_values row) (map entry_values rows)
-        → map entry_values (put_entry row (r ∷ rows)) ≡ put_row (entry_values row) (map entry_values (r ∷ rows))
+    go : (a b : Bool) → nat_lt is.0 o.0 ≡ a → nat_lt o.0 is.0 ≡ b → map entry_values (schema.put_row s row rows) ≡ put_row (entry_values row) (map entry_values rows)
+        → map entry_values (schema.put_row s row (r ∷ rows)) ≡ put_row (entry_values row) (map entry_values (r ∷ rows))
     go true b p q more = rw (first ∙ p, order ∙ beyond is.0 o.0 p) refl
     go false true p q more = rw (first ∙ p, second ∙ q, order ∙ below o.0 is.0 q) (ap (λ (rs : List Row). entry_values r ∷ rs) more)
     go false false p q more = rw (first ∙ p, second ∙ q, order ∙ level o.0 is.0 q p) refl

@@ -1,4 +1,4 @@
--- The inserts into `book`, `entry` and `outgoing`.
+-- The inserts into `book`, `entry`, `entry_rules` and `outgoing`.
 use Rattle.std.proofs.Common.{◌≡◌, ◌≢◌, inl, inr, ℕ, ℤ, List, [], ◌∷◌, None, Ok, refl, sym, ap, subst, ◌∙◌}
 use Rattle.sqlite.specs.declared.types.Value.TheVariants.{Null, Int, Text, Blob}
 use Rattle.sqlite.specs.Order.{Row}
@@ -15,9 +15,9 @@ use Rattle.sqlite.specs.Listing.{understood}
 use Rattle.sqlite.specs.Effect.{Database}
 use Rattle.sqlite.specs.State.{State, mode_of, Executes}
 use Rattle.sqlite.proofs.Callers.{statement_of, runs_as}
-use Rattle.book_tables.specs.Layout.{beside, IsLayout, book_tables, book_layout, entry_layout, outgoing_layout}
+use Rattle.book_tables.specs.Layout.{beside, IsLayout, book_tables, book_layout, entry_layout, entry_rules_layout, outgoing_layout}
 use Rattle.book_tables.specs.Steps.{WritesInto, PutByKey, AreKeyed}
-use Rattle.book_tables.proofs.WritingTexts.{source, columns_of, insert_book_text, insert_book_is, insert_book_plain, insert_entry_text, insert_entry_is, insert_entry_plain, insert_outgoing_text, insert_outgoing_is, insert_outgoing_plain}
+use Rattle.book_tables.proofs.WritingTexts.{source, columns_of, insert_book_text, insert_book_is, insert_book_plain, insert_entry_text, insert_entry_is, insert_entry_plain, insert_rules_text, insert_rules_is, insert_rules_plain, insert_outgoing_text, insert_outgoing_is, insert_outgoing_plain}
 use Rattle.sqlite.specs.Term.{lit, col}
 use Rattle.book_tables.proofs.UpsertLemmas.{IsUpsert}
 use Rattle.book_tables.proofs.KeyedInserts.{inserts}
@@ -80,6 +80,37 @@ module _ (seq : ℤ) (who mark : List ℕ) (n : ℤ) (moment body : List ℕ) wh
         sound = w.sound;
         schema = ap (λ (d : Database). d.schema) now ∙ sym has;
         others = all_first (λ (t : Table). t.tree ≢ 1 → new.now.trees t.tree ≡ db t.tree) book_tables others.tables applied.tables;
+        rows = applied.rows ∙ edit;
+      }
+
+module _ (seq rules : ℤ) where
+  abbrev rules_params : Row
+  rules_params = Int seq ∷ Int rules ∷ []
+
+  abbrev rules_cells : Row
+  rules_cells = Int seq ∷ Null ∷ Int rules ∷ []
+
+  pub inserts_rules : (old new : State) (count : ℕ) → IsLayout old.now.schema → Executes insert_rules_text rules_params old new (Ok count)
+      → WritesInto 18 (λ before after. after ≡ put_row rules_cells before) old.now new.now
+  inserts_rules old new count lies h =
+      let others = lies.others in
+      let has = lies.is in
+      let db = old.now.trees in
+      let command = Insert 9 (Values (col 0 0 ∷ lit Null ∷ columns_of 0 1 1) 3) in
+      let w = runs_as insert_rules_text rules_params old new (beside others) has command (insert_rules_is others) (insert_rules_plain others) count h in
+      let text = statement_of insert_rules_text (understood (beside others) insert_rules_text) in
+      let done = went (subst (λ s. Does old.step_limit (mode_of old) rules_params (record old.now { schema = s }) text None command (Ok (w.tally, new.now))) has w.changed) in
+      let now = ap (λ (p : Tally × Database). p.1) (same_value (went (went done.2).2).2) in
+      let given = went done.1 in
+      let written = went (went given.2).2 in
+      let counted = went written.2 in
+      let trees : new.now.trees ≡ written.0 = ap (λ (d : Database). d.trees) now ∙ ap (λ (it : Written). it.trees) (same_value counted.2) ∙ same_value counted.1 in
+      let applied = subst (Applies (beside others) (mode_of old).keys db (edit_of db entry_rules_layout [] Chosen 0 given.0)) (sym trees) (one_write others lies.apart _ db written.0 (edit_of db entry_rules_layout [] Chosen 0 given.0) (inr (inr (inr (inr (inr (inr (inr (inr (inr (inl refl)))))))))) written.1) in
+      let edit : edited db (edit_of db entry_rules_layout [] Chosen 0 given.0) ≡ put_row rules_cells (db 18) = ap (λ all. edited db (edit_of db entry_rules_layout [] Chosen 0 all)) given.1.1 ∙ rw (cast_int seq, cast_null, cast_int rules) refl in
+      record {
+        sound = w.sound;
+        schema = ap (λ (d : Database). d.schema) now ∙ sym has;
+        others = all_first (λ (t : Table). t.tree ≢ 18 → new.now.trees t.tree ≡ db t.tree) book_tables others.tables applied.tables;
         rows = applied.rows ∙ edit;
       }
 

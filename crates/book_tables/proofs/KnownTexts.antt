@@ -15,15 +15,15 @@ use Rattle.book_tables.specs.Layout.{Others, beside}
 use Rattle.book_tables.proofs.ReadingTexts.{ordered_from}
 use Rattle.book_tables.proofs.WritingTexts.{where_key}
 
--- The entry under a key.
+-- The number of the entry under a key.
 
 abbrev pub under_text : List ℕ
-under_text = codes "SELECT mark, n, moment, body FROM entry WHERE who = ?1 AND mark = ?2 ORDER BY seq"
+under_text = codes "SELECT seq FROM entry WHERE who = ?1 AND mark = ?2 ORDER BY seq"
 
 abbrev pub under_query : Query
-under_query = ordered_from 1 (op2 (Compare Eq Binary) (col 1 2) (col 0 0) ∷ op2 (Compare Eq Binary) (col 1 3) (col 0 1) ∷ []) (col 1 3 ∷ col 1 4 ∷ col 1 5 ∷ col 1 6 ∷ []) ((col 1 0, ascending Binary) ∷ [])
+under_query = ordered_from 1 (op2 (Compare Eq Binary) (col 1 2) (col 0 0) ∷ op2 (Compare Eq Binary) (col 1 3) (col 0 1) ∷ []) (col 1 0 ∷ []) ((col 1 0, ascending Binary) ∷ [])
 
-pub under_is : (others : Others) → (command_of (understood (beside others) under_text) ≡ Select (record { lets = []; body = under_query }) (codes "mark" ∷ codes "n" ∷ codes "moment" ∷ codes "body" ∷ [])) × (reads_listing (beside others) under_text ≡ false)
+pub under_is : (others : Others) → (command_of (understood (beside others) under_text) ≡ Select (record { lets = []; body = under_query }) (codes "seq" ∷ [])) × (reads_listing (beside others) under_text ≡ false)
 unfolding understood everything
 under_is others = (refl, refl)
 

@@ -24,6 +24,7 @@ use Rattle.sqlite_schema.specs.Rules.{equal}
 use Rattle.sqlite_rules.specs.Lists.{Has}
 use Rattle.sqlite_rules.proofs.ListLemmas.{all_has, has_filtered, has_kept, has_contained, contains_had}
 use Rattle.sqlite_rules.proofs.ProbeLemmas.{has_mapped, mapped_has}
+use Rattle.profile.specs.declared.rules.Rules.TheVariants.{Two}
 use Rattle.profile.specs.Header.{Who, is_partner, who_text}
 use Rattle.profile.specs.Register.{Entry, own, is_numbered, next_number}
 use Rattle.profile.specs.Events.{Event}
@@ -144,7 +145,7 @@ abbrev pub IsLast : List Row → ℕ → Type 0
 IsLast [] n = n ≡ 0
 IsLast (row ∷ more) n = row ≡ value.Int (pos n) ∷ []
 
-module _ (W : Who) (L : List Entry) (who : Who) (legal : IsLegal W L) (partner : is_partner who ≡ true) (db : Trees) (held : Holds (outgoing_table W L) (db 4)) where
+module _ (W : Who) (L : List Entry) (who : Who) (legal : IsLegal Two W L) (partner : is_partner who ≡ true) (db : Trees) (held : Holds (outgoing_table W L) (db 4)) where
   abbrev t : List ℕ
   t = who_text who
 

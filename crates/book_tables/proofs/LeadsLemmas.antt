@@ -10,17 +10,17 @@ use Rattle.sqlite_rules.specs.Lists.{Has}
 use Rattle.sqlite.specs.declared.types.Value.TheVariants as value
 use Rattle.profile.specs.Tables.{TableRow}
 use Rattle.profile.specs.Schema as schema
-use Rattle.profile.specs.Schema.{outgoing_schema, entry_schema}
+use Rattle.profile.specs.Schema.{outgoing_schema, entry_schema, entry_rules_schema}
 use Rattle.profile.specs.Changes.{changed_by, Puts, SetsState as Sets, Frees, with_state, is_reserved_for}
 use Rattle.profile.specs.Rows.{state_text}
 use Rattle.book_tables.specs.Held.{values, entry_values, Holds}
 use Rattle.book_tables.specs.Leading.{Keeps}
-use Rattle.book_tables.specs.Standing.{BookTable, Outgoing, Stock, Advice, AdviceLine, Orders, OrderLine, Reservation, schema_of, name_of, tree_of, width_of}
-use Rattle.book_tables.specs.Standing.{Filled, with_rows, named, HasKey, AreByKey, IsOutgoing, IsEntry}
+use Rattle.book_tables.specs.Standing.{BookTable, Outgoing, Stock, Advice, AdviceLine, Orders, OrderLine, Reservation, LotExpiry, schema_of, name_of, tree_of, width_of}
+use Rattle.book_tables.specs.Standing.{Filled, with_rows, named, HasKey, AreByKey, IsOutgoing, IsBySeq}
 use Rattle.book_tables.specs.Steps.{WritesInto, Spares, PutByKey, TakenByKey, SetsState}
 use Rattle.book_tables.proofs.Beside.{still_lies}
 use Rattle.book_tables.proofs.PutRows.{put_old}
-use Rattle.book_tables.proofs.HoldsLemmas.{put_ordered, put_holds, freed_ordered, freed_holds, stated_each, stated_ordered, stated_holds, entry_put}
+use Rattle.book_tables.proofs.HoldsLemmas.{put_ordered, put_holds, freed_ordered, freed_holds, stated_each, stated_ordered, stated_holds, seq_put}
 
 same_number : (n : ℕ) → nat_eq n n ≡ true
 same_number n = grind (arith, nat_tests)
@@ -32,7 +32,7 @@ are_one : (m n : ℕ) → nat_eq m n ≡ true → m ≡ n
 are_one m n h = grind (arith, nat_tests, h)
 
 -- a statement on one table leaves each other one as it was
-spared : (t : BookTable) (tree : ℕ) (old new : Database) → Spares tree old new → tree_of t ≢ tree → new.trees (tree_of t) ≡ old.trees (tree_of t)
+pub spared : (t : BookTable) (tree : ℕ) (old new : Database) → Spares tree old new → tree_of t ≢ tree → new.trees (tree_of t) ≡ old.trees (tree_of t)
 spared Outgoing tree old new others other = others.1.1.0 other
 spared Stock tree old new others other = others.1.1.1.0 other
 spared Advice tree old new others other = others.1.1.1.1.0 other
@@ -40,12 +40,14 @@ spared AdviceLine tree old new others other = others.1.1.1.1.1.0 other
 spared Orders tree old new others other = others.1.1.1.1.1.1.0 other
 spared OrderLine tree old new others other = others.1.1.1.1.1.1.1.0 other
 spared Reservation tree old new others other = others.1.1.1.1.1.1.1.1.0 other
+spared LotExpiry tree old new others other = others.1.1.1.1.1.1.1.1.1.1.0 other
 
 -- the table with a tree
 abbrev table_at : ℕ → BookTable
 table_at n =
     if nat_eq n 4 then Outgoing else (if nat_eq n 6 then Stock else (if nat_eq n 8 then Advice else (if nat_eq n 10 then AdviceLine else
-    (if nat_eq n 12 then Orders else (if nat_eq n 14 then OrderLine else Reservation)))))
+    (if nat_eq n 12 then Orders else (if nat_eq n 14 then OrderLine else
+    (if nat_eq n 16 then Reservation else LotExpiry))))))
 
 is_at : (t : BookTable) → table_at (tree_of t) ≡ t
 is_at Outgoing = refl
@@ -55,11 +57,12 @@ is_at AdviceLine = refl
 is_at Orders = refl
 is_at OrderLine = refl
 is_at Reservation = refl
+is_at LotExpiry = refl
 
 one_tree : (t u : BookTable) → tree_of t ≡ tree_of u → t ≡ u
 one_tree t u e = sym (is_at t) ∙ ap table_at e ∙ is_at u
 
-not_book : (t : BookTable) → nat_eq 0 (tree_of t) ≡ false
+pub not_book : (t : BookTable) → nat_eq 0 (tree_of t) ≡ false
 not_book Outgoing = refl
 not_book Stock = refl
 not_book Advice = refl
@@ -67,6 +70,7 @@ not_book AdviceLine = refl
 not_book Orders = refl
 not_book OrderLine = refl
 not_book Reservation = refl
+not_book LotExpiry = refl
 
 not_entry : (t : BookTable) → nat_eq 1 (tree_of t) ≡ false
 not_entry Outgoing = refl
@@ -76,6 +80,17 @@ not_entry AdviceLine = refl
 not_entry Orders = refl
 not_entry OrderLine = refl
 not_entry Reservation = refl
+not_entry LotExpiry = refl
+
+not_rules : (t : BookTable) → nat_eq 18 (tree_of t) ≡ false
+not_rules Outgoing = refl
+not_rules Stock = refl
+not_rules Advice = refl
+not_rules AdviceLine = refl
+not_rules Orders = refl
+not_rules OrderLine = refl
+not_rules Reservation = refl
+not_rules LotExpiry = refl
 
 -- what holds of a table's new rows and of the others' old ones holds of all
 each_table : (P : BookTable → List TableRow → Type 0) (t : BookTable) (rows : List TableRow) (f : Filled) → P t rows
@@ -85,7 +100,7 @@ each_table P t rows f here others u = elim (cases_Bool (nat_eq (tree_of t) (tree
   | inr other ↦ rw other (others u other)
 ]
 
-other_way : (m n : ℕ) → nat_eq m n ≡ false → n ≢ m
+pub other_way : (m n : ℕ) → nat_eq m n ≡ false → n ≢ m
 other_way m n h e = apart m n h (sym e)
 
 -- the rows of one table are replaced
@@ -100,11 +115,13 @@ module _ (t : BookTable) (rows : List TableRow) (Rows : List Row → List Row �
       entry = did.others.1.0 (apart 1 (tree_of t) (not_entry t)) ∙ k.rows.entry;
       keyed = each_table (λ u us. Holds us (new.trees (tree_of u))) t rows f held
           (λ u other. subst (Holds (f.keyed u)) (sym (spared u (tree_of t) old new did.others (other_way (tree_of t) (tree_of u) other))) (k.rows.keyed u));
+      rules = did.others.1.1.1.1.1.1.1.1.1.0 (apart 18 (tree_of t) (not_rules t)) ∙ k.rows.rules;
     };
     ordered = record {
       entry = k.ordered.entry;
       outgoing = outgoing;
       keyed = each_table (λ u us. AreByKey (schema_of u) (width_of u) us) t rows f sorted (λ u other. k.ordered.keyed u);
+      rules = k.ordered.rules;
     };
   }
 
@@ -117,6 +134,7 @@ put_named AdviceLine row f = refl
 put_named Orders row f = refl
 put_named OrderLine row f = refl
 put_named Reservation row f = refl
+put_named LotExpiry row f = refl
 
 -- an outgoing row is one
 abbrev pub IsRowOf : BookTable → TableRow → Type 0
@@ -132,6 +150,7 @@ put_outgoing AdviceLine row f is were r there = were r there
 put_outgoing Orders row f is were r there = were r there
 put_outgoing OrderLine row f is were r there = were r there
 put_outgoing Reservation row f is were r there = were r there
+put_outgoing LotExpiry row f is were r there = were r there
 
 pub leads_put : (t : BookTable) (row : TableRow) (f : Filled) (old new : Database) → HasKey (schema_of t) (width_of t) row → IsRowOf t row → Keeps f old
     → WritesInto (tree_of t) (PutByKey (width_of t) (values row)) old new → (g : Filled) × (changed_by (named f) (Puts (name_of t) row ∷ []) ≡ named g) × Keeps g new
@@ -145,7 +164,7 @@ leads_put t row f old new has is k did =
           (put_ordered (schema_of t) (width_of t) row rows sorted has) (put_outgoing t row f is k.ordered.outgoing),
     )
 
-pub leads_entry : (row : TableRow) (f : Filled) (old new : Database) → IsEntry row → Keeps f old → WritesInto 1 (λ before after. after ≡ put_row (entry_values row) before) old new
+pub leads_entry : (row : TableRow) (f : Filled) (old new : Database) → IsBySeq entry_schema row → Keeps f old → WritesInto 1 (λ before after. after ≡ put_row (entry_values row) before) old new
     → (g : Filled) × (changed_by (named f) (Puts (codes "entry") row ∷ []) ≡ named g) × Keeps g new
 leads_entry row f old new is k did =
     let g : Filled = record f { entry = schema.put_row entry_schema row f.entry } in (
@@ -156,13 +175,39 @@ leads_entry row f old new is k did =
         sound = did.sound;
         rows = record {
           book = did.others.0 (apart 0 1 refl) ∙ k.rows.book;
-          entry = did.rows ∙ ap (put_row (entry_values row)) k.rows.entry ∙ sym (entry_put row f.entry is k.ordered.entry);
+          entry = did.rows ∙ ap (put_row (entry_values row)) k.rows.entry ∙ sym (seq_put entry_schema row f.entry is k.ordered.entry);
           keyed = λ u. subst (Holds (f.keyed u)) (sym (spared u 1 old new did.others (other_way 1 (tree_of u) (not_entry u)))) (k.rows.keyed u);
+          rules = did.others.1.1.1.1.1.1.1.1.1.0 (apart 18 1 refl) ∙ k.rows.rules;
         };
         ordered = record {
-          entry = λ r there. elim (put_old entry_schema row f.entry r there) [ inl new ↦ subst IsEntry (sym new) is | inr old ↦ k.ordered.entry r old ];
+          entry = λ r there. elim (put_old entry_schema row f.entry r there) [ inl new ↦ subst (IsBySeq entry_schema) (sym new) is | inr old ↦ k.ordered.entry r old ];
           outgoing = k.ordered.outgoing;
           keyed = k.ordered.keyed;
+          rules = k.ordered.rules;
+        };
+      },
+    )
+
+pub leads_rules : (row : TableRow) (f : Filled) (old new : Database) → IsBySeq entry_rules_schema row → Keeps f old → WritesInto 18 (λ before after. after ≡ put_row (entry_values row) before) old new
+    → (g : Filled) × (changed_by (named f) (Puts (codes "entry_rules") row ∷ []) ≡ named g) × Keeps g new
+leads_rules row f old new is k did =
+    let g : Filled = record f { rules = schema.put_row entry_rules_schema row f.rules } in (
+      g,
+      refl,
+      record {
+        schema = still_lies old.schema new.schema did.schema k.schema;
+        sound = did.sound;
+        rows = record {
+          book = did.others.0 (apart 0 18 refl) ∙ k.rows.book;
+          entry = did.others.1.0 (apart 1 18 refl) ∙ k.rows.entry;
+          keyed = λ u. subst (Holds (f.keyed u)) (sym (spared u 18 old new did.others (other_way 18 (tree_of u) (not_rules u)))) (k.rows.keyed u);
+          rules = did.rows ∙ ap (put_row (entry_values row)) k.rows.rules ∙ sym (seq_put entry_rules_schema row f.rules is k.ordered.rules);
+        };
+        ordered = record {
+          entry = k.ordered.entry;
+          outgoing = k.ordered.outgoing;
+          keyed = k.ordered.keyed;
+          rules = λ r there. elim (put_old entry_rules_schema row f.rules r there) [ inl new ↦ subst (IsBySeq entry_rules_schema) (sym new) is | inr old ↦ k.ordered.rules r old ];
         };
       },
     )

@@ -11,15 +11,15 @@ use Rattle.profile.specs.Tables.{Number, Text, Blob, TableRow, flag, text_or_nul
 use Rattle.profile.specs.Changes.{Puts, SetsState as Sets, Frees}
 use Rattle.book_tables.specs.Held.{values, value_of}
 use Rattle.book_tables.specs.Leading.{Leads, Keeps}
-use Rattle.book_tables.specs.Standing.{BookTable, Outgoing, Stock, Advice, AdviceLine, Orders, OrderLine, Reservation, schema_of, tree_of, width_of, Filled}
+use Rattle.book_tables.specs.Standing.{BookTable, Outgoing, Stock, Advice, AdviceLine, Orders, OrderLine, Reservation, LotExpiry, schema_of, tree_of, width_of, Filled}
 use Rattle.book_tables.specs.Steps.{AreOutgoing, AreKeyed}
-use Rattle.book_tables.proofs.WritingTexts.{put_stock_text, put_advice_text, put_advice_line_text, put_orders_text, put_order_line_text, put_reservation_text, insert_entry_text, insert_outgoing_text, set_state_text, free_text}
-use Rattle.book_tables.proofs.Upserts.{puts_stock, puts_advice, puts_advice_line, puts_orders, puts_order_line, puts_reservation}
-use Rattle.book_tables.proofs.Inserts.{inserts_entry, inserts_outgoing}
+use Rattle.book_tables.proofs.WritingTexts.{put_stock_text, put_advice_text, put_advice_line_text, put_orders_text, put_order_line_text, put_reservation_text, put_expiry_text, insert_entry_text, insert_rules_text, insert_outgoing_text, set_state_text, free_text}
+use Rattle.book_tables.proofs.Upserts.{puts_stock, puts_advice, puts_advice_line, puts_orders, puts_order_line, puts_reservation, puts_expiry}
+use Rattle.book_tables.proofs.Inserts.{inserts_entry, inserts_rules, inserts_outgoing}
 use Rattle.book_tables.proofs.Stating.{sets_state}
 use Rattle.book_tables.proofs.Freeing.{frees}
 use Rattle.book_tables.proofs.HoldsLemmas.{are_keyed}
-use Rattle.book_tables.proofs.LeadsLemmas.{leads_put, leads_entry, leads_state, leads_free}
+use Rattle.book_tables.proofs.LeadsLemmas.{leads_put, leads_entry, leads_rules, leads_state, leads_free}
 
 module _ (old new : State) (count : ℕ) where
   -- a table's rows as they are stored
@@ -43,6 +43,12 @@ module _ (old new : State) (count : ℕ) where
   reservation_led who order item lot quantity h = λ f k. leads_put Reservation (Text who ∷ Text order ∷ Text item ∷ Text lot ∷ Number quantity ∷ []) f old.now new.now (record { key = refl; cells = refl }) tt k
       (puts_reservation who order item lot (pos quantity) old new count k.schema k.sound
       (keyed Reservation f k) h)
+
+  pub expiry_led : (who item lot expiry : List ℕ) → Executes put_expiry_text (values (Text who ∷ Text item ∷ Text lot ∷ Text expiry ∷ [])) old new (Ok count)
+      → Leads (Puts (codes "lot_expiry") (Text who ∷ Text item ∷ Text lot ∷ Text expiry ∷ []) ∷ []) old.now new.now
+  expiry_led who item lot expiry h = λ f k. leads_put LotExpiry (Text who ∷ Text item ∷ Text lot ∷ Text expiry ∷ []) f old.now new.now (record { key = refl; cells = refl }) tt k
+      (puts_expiry who item lot expiry old new count k.schema k.sound
+      (keyed LotExpiry f k) h)
 
   pub advice_led : (who shipment order : List ℕ) (is_open : ℕ) → Executes put_advice_text (values (Text who ∷ Text shipment ∷ Text order ∷ Number is_open ∷ [])) old new (Ok count)
       → Leads (Puts (codes "advice") (Text who ∷ Text shipment ∷ Text order ∷ Number is_open ∷ []) ∷ []) old.now new.now
@@ -87,6 +93,12 @@ module _ (old new : State) (count : ℕ) where
       leads_entry (Number seq ∷ Text who ∷ Text mark ∷ Number n ∷ Text moment ∷ Blob body ∷ []) f old.now new.now
       (seq, Text who ∷ Text mark ∷ Number n ∷ Text moment ∷ Blob body ∷ [], refl, refl) k
       (inserts_entry (pos seq) who mark (pos n) moment body old new count k.schema h)
+
+  pub rules_led : (seq rules : ℕ) → Executes insert_rules_text (values (Number seq ∷ Number rules ∷ [])) old new (Ok count)
+      → Leads (Puts (codes "entry_rules") (Number seq ∷ Number rules ∷ []) ∷ []) old.now new.now
+  rules_led seq rules h = λ f k.
+      leads_rules (Number seq ∷ Number rules ∷ []) f old.now new.now (seq, Number rules ∷ [], refl, refl) k
+      (inserts_rules (pos seq) (pos rules) old new count k.schema h)
 
   pub outgoing_led : (who : List ℕ) (n : ℕ) (kind content state : List ℕ)
       → Executes insert_outgoing_text (values (Text who ∷ Number n ∷ Text kind ∷ Blob content ∷ Text state ∷ [])) old new (Ok count)

@@ -1,6 +1,7 @@
 pub mod Limited
 mod Owned
 mod Rising
+mod DateLemmas
 pub mod Ordered
 mod Parts
 mod Sorts
@@ -35,11 +36,13 @@ mod Applied
 mod AppendingLemmas
 pub mod Growing
 mod CreateLemmas
+mod Versions
+pub mod Carried
 pub mod OneRegister
 mod InOrder
 mod Asked
 mod ReadingTexts
-mod Found
+pub mod Found
 mod ReadLemmas
 mod OwnEntries
 mod FoundRows

@@ -1,5 +1,5 @@
 -- What the two look-ups of a known entry tell of tables that stand while they are open.
-use Rattle.std.proofs.Common.{◌≡◌, ℕ, suc, pos, List, [], ◌∷◌, ◌++◌, map, filter, take, drop, true, None, Some, Option, IsTrue, ◌&&◌, bytes_eq, Bool, inl, refl, sym, ap, subst, ◌∙◌}
+use Rattle.std.proofs.Common.{◌≡◌, ℕ, suc, pos, List, [], ◌∷◌, ◌++◌, map, take, drop, true, None, Some, Option, IsTrue, ◌&&◌, bytes_eq, Bool, refl, sym, ap, subst, ◌∙◌, arith}
 use Rattle.std.specs.Prelude.{if◌then◌else◌, find, slice_get}
 use Rattle.std.proofs.lemmas.List.Elements.{filter-append}
 use Rattle.sqlite.specs.Order.{Row}
@@ -13,19 +13,15 @@ use Rattle.profile.proofs.TextLaws.{both_parts}
 use Rattle.rules.specs.Decided.{IsRecalled}
 use Rattle.rules.specs.Written.{Written}
 use Rattle.store.specs.Replayed.{all_written, is_under}
-use Rattle.sqlite_rules.specs.Lists.{Has}
-use Rattle.sqlite_rules.proofs.ListLemmas.{all_has, has_filtered, has_kept}
 use Rattle.rules.proofs.Registers.{who_is}
-use Rattle.book_tables.proofs.Owned.{own_written}
 use Rattle.store.proofs.Entries.{there_on, recalled_none, recalled_at_place, is_recalled}
 use Rattle.book_tables.specs.Asking.{Finds}
 use Rattle.book_tables.specs.Contents.{IsContent}
 use Rattle.book_tables.specs.Exits.{StandsWhileOpen}
-use Rattle.book_tables.specs.Recorded.{entry_shown, IsRecorded}
+use Rattle.book_tables.specs.Recorded.{written_at}
 use Rattle.book_tables.proofs.KnownTexts.{under_text, content_text}
 use Rattle.book_tables.proofs.SentUnder.{content_found, some_content}
-use Rattle.book_tables.proofs.OwnEntries.{each_recorded}
-use Rattle.book_tables.proofs.UnderKey.{under_found, find_none, find_some, first_found}
+use Rattle.book_tables.proofs.UnderKey.{seq_shown, numbers_of, under_found, find_none, find_some, first_found}
 
 -- The entry.
 
@@ -41,13 +37,13 @@ pub is_empty : (rows : List Row) → ◌≡◌ {A = Option Row} None (slice_get 
 is_empty [] h = refl
 is_empty (x ∷ rows) h = absurd (cc)
 
-no_rows : (ws : List Written) → map entry_shown ws ≡ [] → ws ≡ []
-no_rows [] h = refl
-no_rows (w ∷ ws) h = absurd (cc)
+no_numbers : (ns : List ℕ) → map seq_shown ns ≡ [] → ns ≡ []
+no_numbers [] h = refl
+no_numbers (n ∷ ns) h = absurd (cc)
 
-first_row : (ws : List Written) (row : Row) (rows : List Row) → map entry_shown ws ≡ row ∷ rows → (w : Written) × (more : List Written) × (ws ≡ w ∷ more) × (row ≡ entry_shown w)
-first_row [] row rows h = absurd (cc)
-first_row (w ∷ ws) row rows h = (w, ws, refl, head (entry_shown w) row (map entry_shown ws) rows h)
+first_number : (ns : List ℕ) (row : Row) (rows : List Row) → map seq_shown ns ≡ row ∷ rows → (n : ℕ) × (more : List ℕ) × (ns ≡ n ∷ more) × (row ≡ seq_shown n)
+first_number [] row rows h = absurd (cc)
+first_number (n ∷ ns) row rows h = (n, ns, refl, head (seq_shown n) row (map seq_shown ns) rows h)
   where
     head : (a b : Row) (us vs : List Row) → ◌≡◌ {A = List Row} (a ∷ us) (b ∷ vs) → b ≡ a
     head a b us vs e = cc
@@ -57,24 +53,19 @@ module _ (old : State) (W : Who) (L : List Entry) (who : Who) (key : List ℕ) (
   abbrev test : Written → Bool
   test = is_under who key
 
-  shown : rows ≡ map entry_shown (filter test (all_written L))
+  shown : rows ≡ map seq_shown (numbers_of test 0 (all_written L))
   shown = under_found W L who key old.now rows partner (stands finds.0) (subst (λ t. Finds under_text (value.Text t ∷ value.Text key ∷ []) old.now rows) told finds.1)
 
   pub none_under : rows ≡ [] → None ≡ find test (all_written L)
-  none_under none = sym (find_none test (all_written L) (no_rows (filter test (all_written L)) (sym shown ∙ none)))
+  none_under none = sym (find_none test 0 (all_written L) (no_numbers (numbers_of test 0 (all_written L)) (sym shown ∙ none)))
 
-  pub read_under : (row : Row) (more : List Row) → rows ≡ row ∷ more → (read : Option Written) → ((w : Written) → IsRecorded who w → row ≡ entry_shown w → read ≡ Some w)
-      → (w : Written) × (read ≡ Some w) × (find test (all_written L) ≡ Some w)
-  read_under row more is read right =
-      let first = first_row (filter test (all_written L)) row more (sym shown ∙ is) in
-      let w = first.0 in
-      let listed : Has (filter test (all_written L)) w = subst (λ (ws : List Written). Has ws w) (sym first.2) (inl refl) in
-      let it = has_filtered test (all_written L) w listed in
-      let parts = both_parts (who_eq w.who who) (bytes_eq w.key key) it.1 in
-      let own_one = subst (λ (ws : List Written). Has ws w) (own_written L who) (has_kept (λ (v : Written). who_eq v.who who) (all_written L) w it.0 parts.0) in
-      let legal = let here = stands finds.0 in here.legal in
-      let recorded = all_has (IsRecorded who) (all_written (own L who)) w (each_recorded W L who legal) own_one in
-      (w, right w recorded first.3, find_some test (all_written L) w first.1 first.2)
+  -- the first row shows the number of the first entry under the key
+  pub first_under : (row : Row) (more : List Row) → rows ≡ row ∷ more → (seq : ℕ) × (row ≡ seq_shown seq) × (written_at (all_written L) seq ≡ find test (all_written L))
+  first_under row more is =
+      let first = first_number (numbers_of test 0 (all_written L)) row more (sym shown ∙ is) in
+      let it = find_some test 0 (all_written L) first.0 first.1 first.2 in
+      let at : first.0 ≡ suc it.0 = omega (arith, it.1) in
+      (first.0, first.3, ap (written_at (all_written L)) at ∙ it.2)
 
 -- What went out.
 

@@ -7,8 +7,8 @@ use Rattle.sqlite_tied.specs.Compute.{everything}
 use Rattle.sqlite.specs.Listing.{understood}
 use Rattle.sqlite.specs.Given.{IsPlain}
 use Rattle.sqlite.proofs.Callers.{command_of, statement_of}
-use Rattle.book_tables.specs.Layout.{book_text, entry_text, outgoing_text, stock_text, advice_text, advice_line_text, orders_text, order_line_text, reservation_text}
-use Rattle.book_tables.specs.Layout.{book_layout, entry_layout, outgoing_layout, stock_layout, advice_layout, advice_line_layout, orders_layout, order_line_layout, reservation_layout}
+use Rattle.book_tables.specs.Layout.{book_text, entry_text, outgoing_text, stock_text, advice_text, advice_line_text, orders_text, order_line_text, reservation_text, entry_rules_text, lot_expiry_text}
+use Rattle.book_tables.specs.Layout.{book_layout, entry_layout, outgoing_layout, stock_layout, advice_layout, advice_line_layout, orders_layout, order_line_layout, reservation_layout, entry_rules_layout, lot_expiry_layout}
 use Rattle.book_tables.specs.Layout.{first_layouts}
 
 abbrev pub at_first : Table → Table
@@ -49,6 +49,14 @@ order_line_is = refl
 pub reservation_is : table_defined_by reservation_text ≡ Ok (at_first reservation_layout)
 unfolding understood everything
 reservation_is = refl
+
+pub entry_rules_is : table_defined_by entry_rules_text ≡ Ok (at_first entry_rules_layout)
+unfolding understood everything
+entry_rules_is = refl
+
+pub lot_expiry_is : table_defined_by lot_expiry_text ≡ Ok (at_first lot_expiry_layout)
+unfolding understood everything
+lot_expiry_is = refl
 
 pub book_runs : (command_of (understood (first_layouts 0 0) book_text) ≡ CreateTable) × (statement_of book_text (understood (first_layouts 0 0) book_text) ≡ book_text)
 unfolding understood everything
@@ -121,3 +129,19 @@ reservation_runs = (refl, refl)
 pub reservation_plain : IsPlain (understood (first_layouts 8 8) reservation_text)
 unfolding understood everything
 reservation_plain = (refl, refl)
+
+pub entry_rules_runs : (command_of (understood (first_layouts 9 9) entry_rules_text) ≡ CreateTable) × (statement_of entry_rules_text (understood (first_layouts 9 9) entry_rules_text) ≡ entry_rules_text)
+unfolding understood everything
+entry_rules_runs = (refl, refl)
+
+pub entry_rules_plain : IsPlain (understood (first_layouts 9 9) entry_rules_text)
+unfolding understood everything
+entry_rules_plain = (refl, refl)
+
+pub lot_expiry_runs : (command_of (understood (first_layouts 10 9) lot_expiry_text) ≡ CreateTable) × (statement_of lot_expiry_text (understood (first_layouts 10 9) lot_expiry_text) ≡ lot_expiry_text)
+unfolding understood everything
+lot_expiry_runs = (refl, refl)
+
+pub lot_expiry_plain : IsPlain (understood (first_layouts 10 9) lot_expiry_text)
+unfolding understood everything
+lot_expiry_plain = (refl, refl)

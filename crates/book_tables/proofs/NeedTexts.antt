@@ -53,6 +53,25 @@ pub lots_plain : (others : Others) → IsPlain (understood (beside others) lots_
 unfolding understood everything
 lots_plain others = (refl, refl)
 
+-- And their dates.
+
+abbrev pub dates_text : List ℕ
+dates_text = codes "SELECT item, lot, expiry FROM lot_expiry WHERE who = ?1 AND item = ?2 ORDER BY item, lot"
+
+abbrev pub dates_columns : List Term
+dates_columns = col 1 2 ∷ col 1 3 ∷ col 1 4 ∷ []
+
+abbrev pub dates_names : List (List ℕ)
+dates_names = codes "item" ∷ codes "lot" ∷ codes "expiry" ∷ []
+
+pub dates_is : (others : Others) → Reads dates_text (under_where 19 dates_columns pair_order) dates_names others
+unfolding understood everything
+dates_is others = (refl, refl)
+
+pub dates_plain : (others : Others) → IsPlain (understood (beside others) dates_text)
+unfolding understood everything
+dates_plain others = (refl, refl)
+
 -- An advice and its lines.
 
 abbrev pub advice_text : List ℕ

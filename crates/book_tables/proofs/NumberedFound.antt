@@ -1,6 +1,6 @@
--- The row of `entry` with a number is that of the entry there.
+-- The row of `entry` with a number is that of the entry there, and that of `entry_rules` has its rules.
 use Rattle.std.proofs.Common.{◌≡◌, ◌≤◌, ◌<◌, inl, inr, ℕ, zero, suc, ◌+◌, pos, List, [], ◌∷◌, ◌++◌, length, length-append, map, filter, ◌&&◌, Bool, true, false, None, Some, Option, codes, slice_get, refl, sym, ap, subst, ◌∙◌, arith, IsTrue}
-use Rattle.std.specs.Prelude.{◌==◌, if◌then◌else◌}
+use Rattle.std.specs.Prelude.{◌==◌, if◌then◌else◌, option_map}
 use Rattle.std.specs.List.{list_all, AllByRecursion}
 use Rattle.std.specs.List.Sorted.{IsPermutation}
 use Rattle.std.proofs.lemmas.Bool.{cases_Bool}
@@ -25,12 +25,14 @@ use Rattle.sqlite_tied.specs.Compute.{everything}
 use Rattle.sqlite_schema.specs.Rules.{equal}
 use Rattle.sqlite_rules.specs.Lists.{Has}
 use Rattle.sqlite_rules.proofs.ListLemmas.{all_has, has_kept}
+use Rattle.profile.specs.declared.rules.Rules.{Rules}
+use Rattle.profile.specs.declared.rules.Rules.TheVariants.{Two}
 use Rattle.profile.specs.Header.{Who, is_partner, who_eq, who_of, who_text}
 use Rattle.profile.specs.Moments.{Moment, stamp}
 use Rattle.profile.specs.Register.{Entry, own}
 use Rattle.profile.specs.Readings.{is_entry, moment_of}
 use Rattle.profile.proofs.ReadingLaws.{who_of-who_text, moment_of-stamp}
-use Rattle.profile.specs.Tables.{entry_row, entries_on}
+use Rattle.profile.specs.Tables.{entry_row, entries_on, entry_rules_row, entry_rules_on}
 use Rattle.profile.proofs.RegisterLaws.{legal-entries}
 use Rattle.profile.proofs.TextLaws.{both_parts}
 use Rattle.rules.specs.Written.{Written, written}
@@ -41,7 +43,7 @@ use Rattle.book_tables.specs.Asking.{Finds}
 use Rattle.book_tables.specs.Exits.{StandsWhileOpen}
 use Rattle.book_tables.specs.Held.{entry_values}
 use Rattle.book_tables.specs.Layout.{Others, beside}
-use Rattle.book_tables.specs.Recorded.{numbered_shown, numbered_text, written_at, IsRecorded, IsOfPartner}
+use Rattle.book_tables.specs.Recorded.{numbered_shown, numbered_text, rules_shown, rules_text, written_at, IsRecorded, IsOfPartner}
 use Rattle.book_tables.specs.Standing.{Stands}
 use Rattle.book_tables.proofs.Asked.{found}
 use Rattle.book_tables.proofs.Found.{flat_map-cond, map-both}
@@ -51,7 +53,7 @@ use Rattle.book_tables.proofs.Owned.{own_written}
 use Rattle.book_tables.proofs.ReadLemmas.{same_text_value, same_number_value, same_some}
 use Rattle.book_tables.proofs.ReadingTexts.{ordered_from}
 
--- The text.
+-- The texts.
 
 abbrev pub numbered_query : Query
 numbered_query = ordered_from 1 (op2 (Compare Eq Binary) (col 1 0) (col 0 0) ∷ []) (col 1 2 ∷ col 1 3 ∷ col 1 4 ∷ col 1 5 ∷ col 1 6 ∷ []) []
@@ -65,6 +67,17 @@ numbered_is others = (refl, refl)
 pub numbered_plain : (others : Others) → IsPlain (understood (beside others) numbered_text)
 unfolding understood everything
 numbered_plain others = (refl, refl)
+
+abbrev pub rules_query : Query
+rules_query = ordered_from 18 (op2 (Compare Eq Binary) (col 1 0) (col 0 0) ∷ []) (col 1 2 ∷ []) []
+
+pub rules_is : (others : Others) → (command_of (understood (beside others) rules_text) ≡ Select (record { lets = []; body = rules_query }) (codes "rules" ∷ [])) × (reads_listing (beside others) rules_text ≡ false)
+unfolding understood everything
+rules_is others = (refl, refl)
+
+pub rules_plain : (others : Others) → IsPlain (understood (beside others) rules_text)
+unfolding understood everything
+rules_plain others = (refl, refl)
 
 -- The entry with a number, as a list.
 
@@ -137,14 +150,31 @@ module _ (seq : ℕ) where
             rw (fails, other) later
       ]
 
+  abbrev shows_rules : Row → Row
+  shows_rules r = column r 2 ∷ []
+
+  rules_told : (before L : List Entry) → map shows_rules (filter has_number (map entry_values (entry_rules_on before L))) ≡ map rules_shown (picked seq (length before) (written_on before L))
+  rules_told before [] = refl
+  rules_told before (e ∷ L) =
+      let later = rules_told (before ++ e ∷ []) L ∙ ap (λ (n : ℕ). map rules_shown (picked seq n (written_on (before ++ e ∷ []) L))) (length-append before (e ∷ [])) in
+      elim (cases_Bool (length before + 1 == seq)) [
+        | inl is ↦
+            let passes : has_number (entry_values (entry_rules_row before e)) ≡ true =
+            ap (λ b. b && true) (subst (λ (n : ℕ). equal Binary (value.Int (pos (length before + 1))) (value.Int (pos n)) ≡ true) (same_number (length before + 1) seq is) (int_itself (pos (length before + 1)))) in
+            rw (passes, is) (ap (λ rs. rules_shown (written before e) ∷ rs) later)
+        | inr other ↦
+            let fails : has_number (entry_values (entry_rules_row before e)) ≡ false = ap (λ b. b && true) (int_apart (length before + 1) seq other) in
+            rw (fails, other) later
+      ]
+
   -- one at most is in any order
-  in_any_order : (w : Option Written) (kept ordered : List Output) → IsPermutation kept ordered → map (λ (o : Output). o.1) kept ≡ map numbered_shown (listed w) → map (λ (o : Output). o.1) ordered ≡ map numbered_shown (listed w)
-  in_any_order None [] [] moved is = refl
-  in_any_order None [] (o ∷ os) moved is = absurd (omega (arith, length_permutation [] (o ∷ os) moved))
-  in_any_order None (o ∷ os) ordered moved is = absurd (cc)
-  in_any_order (Some w) [] ordered moved is = absurd (cc)
-  in_any_order (Some w) (o ∷ []) ordered moved is = ap (map (λ (p : Output). p.1)) (one_permutation o ordered moved) ∙ is
-  in_any_order (Some w) (o ∷ p ∷ os) ordered moved is = absurd (omega (arith, ap length is))
+  in_any_order : (shown : Written → Row) (w : Option Written) (kept ordered : List Output) → IsPermutation kept ordered → map (λ (o : Output). o.1) kept ≡ map shown (listed w) → map (λ (o : Output). o.1) ordered ≡ map shown (listed w)
+  in_any_order shown None [] [] moved is = refl
+  in_any_order shown None [] (o ∷ os) moved is = absurd (omega (arith, length_permutation [] (o ∷ os) moved))
+  in_any_order shown None (o ∷ os) ordered moved is = absurd (cc)
+  in_any_order shown (Some w) [] ordered moved is = absurd (cc)
+  in_any_order shown (Some w) (o ∷ []) ordered moved is = ap (map (λ (p : Output). p.1)) (one_permutation o ordered moved) ∙ is
+  in_any_order shown (Some w) (o ∷ p ∷ os) ordered moved is = absurd (omega (arith, ap length is))
 
   pub numbered_found : (W : Who) (L : List Entry) (db : Database) (rows : List Row) → Stands W L db → Finds numbered_text (value.Int (pos seq) ∷ []) db rows → rows ≡ map numbered_shown (listed (written_at (all_written L) seq))
   numbered_found W L db rows stands h =
@@ -155,7 +185,18 @@ module _ (seq : ℕ) where
       let all : map (λ (o : Output). o.1) a.kept ≡ map numbered_shown (listed (written_at (all_written L) seq)) =
       ap (map (λ (o : Output). o.1)) is ∙ map-both (output numbered_query) (λ (o : Output). o.1) (map env_of (filter has_number (db.trees 1))) ∙ map-both env_of (λ e. (output numbered_query e).1) (filter has_number (db.trees 1))
       ∙ ap (λ src. map shows (filter has_number src)) entries ∙ numbered_told [] L ∙ ap (map numbered_shown) (picked_is seq (all_written L)) in
-      a.shown ∙ in_any_order (written_at (all_written L) seq) a.kept a.ordered a.same all
+      a.shown ∙ in_any_order numbered_shown (written_at (all_written L) seq) a.kept a.ordered a.same all
+
+  pub rules_found : (W : Who) (L : List Entry) (db : Database) (rows : List Row) → Stands W L db → Finds rules_text (value.Int (pos seq) ∷ []) db rows → rows ≡ map rules_shown (listed (written_at (all_written L) seq))
+  rules_found W L db rows stands h =
+      let read = found rules_text (value.Int (pos seq) ∷ []) db rows _ stands.schema rules_plain rules_is h in
+      let a : IsAnswer rules_query (overlay db.trees []) (value.Int (pos seq) ∷ []) rows = read.answer value.Null in
+      let rules = let r = stands.rows in r.rules in
+      let is : a.kept ≡ map (output rules_query) (map env_of (filter has_number (db.trees 18))) = a.distinct ∙ ap (map (output rules_query)) (a.grouped ∙ flat_map-cond has_number env_of (db.trees 18)) in
+      let all : map (λ (o : Output). o.1) a.kept ≡ map rules_shown (listed (written_at (all_written L) seq)) =
+      ap (map (λ (o : Output). o.1)) is ∙ map-both (output rules_query) (λ (o : Output). o.1) (map env_of (filter has_number (db.trees 18))) ∙ map-both env_of (λ e. (output rules_query e).1) (filter has_number (db.trees 18))
+      ∙ ap (λ src. map shows_rules (filter has_number src)) rules ∙ rules_told [] L ∙ ap (map rules_shown) (picked_is seq (all_written L)) in
+      a.shown ∙ in_any_order rules_shown (written_at (all_written L) seq) a.kept a.ordered a.same all
 
 -- Each entry can be read back.
 
@@ -180,31 +221,69 @@ of_partner W L db stands w there =
     let legal = stands.legal in
     let its = subst (λ (ws : List Written). Has ws w) (own_written L w.who) (has_kept (λ (v : Written). who_eq v.who w.who) (all_written L) w there (same_who w.who)) in
     record {
-      partner = all_has (λ (v : Written). is_partner v.who ≡ true) (all_written L) w (partners_on [] L (legal-entries W L legal)) there;
+      partner = all_has (λ (v : Written). is_partner v.who ≡ true) (all_written L) w (partners_on [] L (legal-entries Two W L legal)) there;
       recorded = all_has (IsRecorded w.who) (all_written (own L w.who)) w (each_recorded W L w.who legal) its;
     }
 
-module _ (old : State) (W : Who) (L : List Entry) (seq : ℕ) (stands : StandsWhileOpen old W L) (rows : List Row) (finds : IsTrue old.is_open × Finds numbered_text (value.Int (pos seq) ∷ []) old.now rows) where
-  shown : rows ≡ map numbered_shown (listed (written_at (all_written L) seq))
-  shown = numbered_found seq W L old.now rows (stands finds.0) finds.1
+-- a list that is shown as a row and others begins with what the row shows
+head_shown : (shown : Written → Row) (o : Option Written) (row : Row) (more : List Row) → map shown (listed o) ≡ row ∷ more → (w : Written) × (o ≡ Some w) × (row ≡ shown w)
+head_shown shown None row more h = absurd (cc)
+head_shown shown (Some w) row more h = (w, refl, head (shown w) row [] more h)
+  where
+    head : (a b : Row) (us vs : List Row) → ◌≡◌ {A = List Row} (a ∷ us) (b ∷ vs) → b ≡ a
+    head a b us vs e = cc
 
-  pub none_numbered : rows ≡ [] → None ≡ written_at (all_written L) seq
-  none_numbered none = by (written_at (all_written L) seq) (sym shown ∙ none)
-    where
-      by : (o : Option Written) → map numbered_shown (listed o) ≡ [] → None ≡ o
-      by None h = refl
-      by (Some w) h = absurd (cc)
+nothing_shown : (shown : Written → Row) (o : Option Written) → map shown (listed o) ≡ [] → None ≡ o
+nothing_shown shown None h = refl
+nothing_shown shown (Some w) h = absurd (cc)
 
-  pub one_numbered : (row : Row) (more : List Row) → rows ≡ row ∷ more → (read : Option Written) → ((w : Written) → IsOfPartner w → row ≡ numbered_shown w → read ≡ Some w)
-      → (w : Written) × (read ≡ Some w) × (written_at (all_written L) seq ≡ Some w)
-  one_numbered row more is read right = by (written_at (all_written L) seq) refl (sym shown ∙ is)
-    where
-      head : (a b : Row) (us vs : List Row) → ◌≡◌ {A = List Row} (a ∷ us) (b ∷ vs) → b ≡ a
-      head a b us vs e = cc
+module _ (old : State) (W : Who) (L : List Entry) (seq : ℕ) (stands : StandsWhileOpen old W L) (rows : List Row) where
+  module _ (finds : IsTrue old.is_open × Finds numbered_text (value.Int (pos seq) ∷ []) old.now rows) where
+    shown : rows ≡ map numbered_shown (listed (written_at (all_written L) seq))
+    shown = numbered_found seq W L old.now rows (stands finds.0) finds.1
 
-      by : (o : Option Written) → written_at (all_written L) seq ≡ o → map numbered_shown (listed o) ≡ row ∷ more → (w : Written) × (read ≡ Some w) × (written_at (all_written L) seq ≡ Some w)
-      by None e h = absurd (cc)
-      by (Some w) e h = (w, right w (of_partner W L old.now (stands finds.0) w (numbered_there (all_written L) seq w e)) (head (numbered_shown w) row [] more h), e)
+    pub none_numbered : rows ≡ [] → None ≡ written_at (all_written L) seq
+    none_numbered none = nothing_shown numbered_shown (written_at (all_written L) seq) (sym shown ∙ none)
+
+    -- the row is that of an entry that can be read back
+    pub one_numbered : (row : Row) (more : List Row) → rows ≡ row ∷ more → (w : Written) × (written_at (all_written L) seq ≡ Some w) × (row ≡ numbered_shown w) × IsOfPartner w
+    one_numbered row more is =
+        let it = head_shown numbered_shown (written_at (all_written L) seq) row more (sym shown ∙ is) in
+        (it.0, it.1, it.2, of_partner W L old.now (stands finds.0) it.0 (numbered_there (all_written L) seq it.0 it.1))
+
+  module _ (finds : IsTrue old.is_open × Finds rules_text (value.Int (pos seq) ∷ []) old.now rows) where
+    rules_are : rows ≡ map rules_shown (listed (written_at (all_written L) seq))
+    rules_are = rules_found seq W L old.now rows (stands finds.0) finds.1
+
+    pub none_ruled : rows ≡ [] → None ≡ option_map (λ (w : Written). w.rules) (written_at (all_written L) seq)
+    none_ruled none = ap (option_map (λ (w : Written). w.rules)) (nothing_shown rules_shown (written_at (all_written L) seq) (sym rules_are ∙ none))
+
+    pub one_ruled : (row : Row) (more : List Row) → rows ≡ row ∷ more → (read : Option Rules) → ((w : Written) → row ≡ rules_shown w → read ≡ Some w.rules)
+        → (w : Written) × (read ≡ Some w.rules) × (written_at (all_written L) seq ≡ Some w)
+    one_ruled row more is read right =
+        let it = head_shown rules_shown (written_at (all_written L) seq) row more (sym rules_are ∙ is) in
+        (it.0, right it.0 it.2, it.1)
+
+-- what is read of the row of an entry and of its rules
+pub with_rules : (o : Option Written) (w : Written) (rules : Rules) → o ≡ Some w → Some rules ≡ option_map (λ (v : Written). v.rules) o → Some (record w { rules = rules }) ≡ o
+with_rules None w rules h k = absurd (cc)
+with_rules (Some v) w rules h k = by v w rules (same h) (one k)
+  where
+    same : Some v ≡ Some w → v ≡ w
+    same e = cc
+
+    one : Some rules ≡ Some v.rules → rules ≡ v.rules
+    one e = cc
+
+    by : (v w : Written) (r : Rules) → v ≡ w → r ≡ v.rules → Some (record w { rules = r }) ≡ Some v
+    by v w r e f = λ i. Some (record { who = (sym e i).who; key = (sym e i).key; n = (sym e i).n; moment = (sym e i).moment; body = (sym e i).body; rules = f i })
+
+-- an entry that has a row has rules
+pub rules_there : (o : Option Written) (w : Written) (read : Option Rules) → o ≡ Some w → read ≡ option_map (λ (v : Written). v.rules) o → read ≡ None → ⊥
+rules_there o w read h k none = clash read w.rules none (k ∙ ap (option_map (λ (v : Written). v.rules)) h)
+  where
+    clash : (o : Option Rules) (r : Rules) → o ≡ None → o ≡ Some r → ⊥
+    clash o r p q = cc
 
 -- What is read of a row that shows an entry with its depositor.
 
@@ -222,11 +301,11 @@ module _ (row : Row) (w : Written) (of : IsOfPartner w) (is : row ≡ numbered_s
 
   pub numbered_entry : (text : List ℕ) (who : Who) (key : List ℕ) (n : ℕ) (at : List ℕ) (m : Moment) (body : List ℕ) → column row 0 ≡ value.Text text → Some who ≡ who_of text → column row 1 ≡ value.Text key
       → column row 2 ≡ value.Int (pos n) → column row 3 ≡ value.Text at → Some m ≡ moment_of at → column row 4 ≡ value.Blob body
-      → ◌≡◌ {A = Written} (record { who = who; key = key; n = n; moment = m; body = body }) w
-  numbered_entry text who key n at m body o p q r s t u =
+      → (rules : Rules) → ◌≡◌ {A = Written} (record { who = who; key = key; n = n; moment = m; body = body; rules = rules }) (record w { rules = rules })
+  numbered_entry text who key n at m body o p q r s t u rules =
       let whose : who ≡ w.who = same_some who w.who (p ∙ who_shown text o) in
       let keys : key ≡ w.key = same_text_value key w.key (sym q ∙ ap (λ (x : Row). column x 1) is) in
       let numbers : n ≡ w.n = same_number_value n w.n (sym r ∙ ap (λ (x : Row). column x 2) is) in
       let moments : m ≡ w.moment = same_some m w.moment (t ∙ stamp_shown at s) in
       let bodies : body ≡ w.body = same_blob body w.body (sym u ∙ ap (λ (x : Row). column x 4) is) in
-      (λ i. record { who = whose i; key = keys i; n = numbers i; moment = moments i; body = bodies i })
+      (λ i. record { who = whose i; key = keys i; n = numbers i; moment = moments i; body = bodies i; rules = rules })

@@ -2,9 +2,10 @@
 use Rattle.std.proofs.Common.{◌≡◌, pos, List, ℕ, [], ◌∷◌, map, refl, sym, ◌∙◌}
 use Rattle.sqlite.specs.Order.{Row}
 use Rattle.sqlite.specs.Tree.{Trees}
+use Rattle.profile.specs.declared.rules.Rules.TheVariants.{Two}
 use Rattle.profile.specs.Header.{Who}
 use Rattle.profile.specs.Register.{Entry}
-use Rattle.profile.specs.Tables.{TableRow, book_table, entry_table}
+use Rattle.profile.specs.Tables.{TableRow, book_table, entry_table, entry_rules_table}
 use Rattle.profile.proofs.RegisterLaws.{entry_table-determines}
 use Rattle.sqlite.specs.declared.types.Value.{Value}
 use Rattle.sqlite.specs.declared.types.Value.TheVariants as value
@@ -12,7 +13,7 @@ use Rattle.book_tables.specs.Held.{value_of, values, first_row, entry_values}
 use Rattle.book_tables.specs.Standing.{StandsIn}
 use Rattle.book_tables.proofs.HoldsLemmas.{same_cells, same_cell}
 
--- the rows of `entry` are stored as they are
+-- the rows of `entry` and of `entry_rules` are stored as they are
 same_entry : (a b : TableRow) → entry_values a ≡ entry_values b → a ≡ b
 same_entry [] [] h = refl
 same_entry [] (y ∷ b) h = absurd cc
@@ -32,16 +33,17 @@ same_entries (x ∷ a) (y ∷ b) h = let both = parts (entry_values x) (entry_va
     parts v w r s e = (cc, cc)
 
 -- trees stand for one register, of one warehouse
-same_house : (W V : Who) → ◌≡◌ {A = List Row} (map first_row (book_table W)) (map first_row (book_table V)) → W ≡ V
+same_house : (W V : Who) → ◌≡◌ {A = List Row} (map first_row (book_table Two W)) (map first_row (book_table Two V)) → W ≡ V
 same_house W V e = let both = parts W.qualifier W.id V.qualifier V.id e in λ i. record { qualifier = both.0 i; id = both.1 i }
   where
-    parts : (a b c d : List ℕ) → ◌≡◌ {A = List Row} ((value.Int (pos 1) ∷ value.Int (pos 1) ∷ value.Text a ∷ value.Text b ∷ []) ∷ []) ((value.Int (pos 1) ∷ value.Int (pos 1) ∷ value.Text c ∷ value.Text d ∷ []) ∷ []) → (a ≡ c) × (b ≡ d)
+    parts : (a b c d : List ℕ) → ◌≡◌ {A = List Row} ((value.Int (pos 1) ∷ value.Int (pos 2) ∷ value.Text a ∷ value.Text b ∷ []) ∷ []) ((value.Int (pos 1) ∷ value.Int (pos 2) ∷ value.Text c ∷ value.Text d ∷ []) ∷ []) → (a ≡ c) × (b ≡ d)
     parts a b c d e = (cc, cc)
 
 pub stands_for_one : (W V : Who) (db : Trees) (L M : List Entry) → StandsIn W L db → StandsIn V M db → (W ≡ V) × (L ≡ M)
 stands_for_one W V db L M p q = (
   same_house W V (let a = p.2.rows in let b = q.2.rows in sym a.book ∙ b.book),
-  entry_table-determines W V L M p.2.legal q.2.legal (same_entries (entry_table L) (entry_table M) (let a = p.2.rows in let b = q.2.rows in sym a.entry ∙ b.entry)),
+  entry_table-determines W V L M p.2.legal q.2.legal (same_entries (entry_table L) (entry_table M) (let a = p.2.rows in let b = q.2.rows in sym a.entry ∙ b.entry))
+      (same_entries (entry_rules_table L) (entry_rules_table M) (let a = p.2.rows in let b = q.2.rows in sym a.rules ∙ b.rules)),
 )
 
 -- of one warehouse

@@ -5,6 +5,8 @@ use Rattle.std.specs.List.{list_all, enumerate_from}
 use Rattle.std.proofs.lemmas.Bool.{lt-ltb}
 use Rattle.sqlite_rules.specs.Lists.{Has}
 use Rattle.sqlite_rules.proofs.ProbeLemmas.{has_mapped}
+use Rattle.profile.specs.declared.rules.Rules.{Rules}
+use Rattle.profile.specs.declared.rules.Rules.TheVariants.{Two}
 use Rattle.profile.specs.Bytes.{comes_before}
 use Rattle.profile.specs.Moments.{Moment}
 use Rattle.profile.specs.Header.{Who, who_text}
@@ -16,8 +18,8 @@ use Rattle.profile.specs.Accepted.{IsLegal}
 use Rattle.profile.specs.Rows.{OutRow, named, lot_row, running_rows, out_row, outgoing_on, outgoing_rows}
 use Rattle.profile.specs.Page.{PageAdvice, PageLine, PageOrder, advices_of, orders_of, page_advice, page_order, page_advices, page_orders, reserved_lines}
 use Rattle.profile.specs.Lists.{in_order}
-use Rattle.profile.specs.Tables.{Cell, Number, Text, TableRow, text_or_null, depositors, for_each, entries_on, outgoing_cells, outgoing_table, stock_cells, stock_table, advice_cells, advice_rows, advice_table, advice_line_cells, advice_line_rows, advice_line_table, orders_cells, orders_rows, orders_table, order_line_cells, order_line_rows, order_line_table, reservation_cells, reservation_rows, reservation_table}
-use Rattle.profile.specs.Schema.{Schema, key_before, key_in, outgoing_schema, stock_schema, advice_schema, advice_line_schema, orders_schema, order_line_schema, reservation_schema}
+use Rattle.profile.specs.Tables.{Cell, Number, Text, TableRow, text_or_null, depositors, for_each, entries_on, entry_rules_on, outgoing_cells, outgoing_table, stock_cells, stock_table, advice_cells, advice_rows, advice_table, advice_line_cells, advice_line_rows, advice_line_table, orders_cells, orders_rows, orders_table, order_line_cells, order_line_rows, order_line_table, reservation_cells, reservation_rows, reservation_table, expiry_cells, lot_expiry_table}
+use Rattle.profile.specs.Schema.{Schema, key_before, key_in, entry_schema, entry_rules_schema, outgoing_schema, stock_schema, advice_schema, advice_line_schema, orders_schema, order_line_schema, reservation_schema, lot_expiry_schema}
 use Rattle.stock.specs.Keyed.{Pair, rises_by, row_key, shipment_of, number_of, key_before as pairs_in_order}
 use Rattle.stock.proofs.KeyLemmas.{texts_strict, pairs_strict}
 use Rattle.rules.proofs.KeyedLists.{both, order_rises, rises_map}
@@ -25,8 +27,10 @@ use Rattle.rules.proofs.Depositors.{depositors_rise}
 use Rattle.rules.proofs.Portions.{rest_in, map_prefixed}
 use Rattle.rules.proofs.SentRows.{next_snoc}
 use Rattle.rules.proofs.Tables.{last_cell, pairs_before}
+use Rattle.book_tables.specs.Dated.{dates_of}
 use Rattle.book_tables.specs.Standing as table
-use Rattle.book_tables.specs.Standing.{BookTable, schema_of, width_of, rows_of, filled, AreOrdered, AreByKey, HasKey, IsOutgoing, IsEntry}
+use Rattle.book_tables.specs.Standing.{BookTable, schema_of, width_of, rows_of, filled, AreOrdered, AreByKey, HasKey, IsOutgoing, IsBySeq}
+use Rattle.book_tables.proofs.DateLemmas.{date_cells, date_key, dates_in, dates_rise}
 use Rattle.book_tables.proofs.Rising.{by_key, mapped_rise, numbers_rise, blocks_rise, cells_rise, has_flat, each_block, each_mapped}
 
 -- A table for each depositor.
@@ -44,22 +48,29 @@ table_ordered s k first L rows rise each = record {
 
 -- Entries.
 
-entries_are : (before L : List Entry) (row : TableRow) → Has (entries_on before L) row → IsEntry row
+entries_are : (before L : List Entry) (row : TableRow) → Has (entries_on before L) row → IsBySeq entry_schema row
 entries_are before [] row h = absurd h
 entries_are before (e ∷ L) row h = elim h [
-  | inl same ↦ subst IsEntry (sym same) (length before + 1, _, refl, refl)
+  | inl same ↦ subst (IsBySeq entry_schema) (sym same) (length before + 1, _, refl, refl)
   | inr there ↦ entries_are (before ++ e ∷ []) L row there
+]
+
+rules_are : (before L : List Entry) (row : TableRow) → Has (entry_rules_on before L) row → IsBySeq entry_rules_schema row
+rules_are before [] row h = absurd h
+rules_are before (e ∷ L) row h = elim h [
+  | inl same ↦ subst (IsBySeq entry_rules_schema) (sym same) (length before + 1, _, refl, refl)
+  | inr there ↦ rules_are (before ++ e ∷ []) L row there
 ]
 
 -- What went out.
 
 pub row_number : (W : Who) (es : List Event) (before : List Entry) (e : Entry) → (out_row W es before e).n ≡ next_number before
-row_number W es before e = by e.who e.moment e.deed
+row_number W es before e = by e.who e.moment e.rules e.deed
   where
-    by : (w : Who) (t : Moment) (d : Deed) → (out_row W es before (record { who = w; moment = t; deed = d })).n ≡ next_number before
-    by w t Enrolled = refl
-    by w t (Received text) = refl
-    by w t (Performed ticket act) = refl
+    by : (w : Who) (t : Moment) (q : Rules) (d : Deed) → (out_row W es before (record { who = w; moment = t; deed = d; rules = q })).n ≡ next_number before
+    by w t q Enrolled = refl
+    by w t q (Received text) = refl
+    by w t q (Performed ticket act) = refl
 
 next_over : (n : ℕ) (before : List Entry) (e : Entry) → n < next_number before → n < next_number (before ++ e ∷ [])
 next_over n before e h = omega (arith, h, next_snoc before e)
@@ -218,6 +229,18 @@ reservation_ordered L = table_ordered reservation_schema 4 (λ t row. refl) L re
     let at = has_flat reservation_cells (page_orders (events M)) r there in
     each_mapped (IsKeyed reservation_schema 4) (λ (l : Line). Text at.0.number ∷ reserved_cells l) at.0.reserved (λ l t. record { key = refl; cells = refl }) r at.2)
 
+-- Dates.
+
+dates_ordered : (L : List Entry) → AreByKey lot_expiry_schema 3 (lot_expiry_table L)
+dates_ordered L = table_ordered lot_expiry_schema 3 (λ t row. refl) L (λ M. flat_map expiry_cells (running_rows (events M)))
+    (λ M.
+    let rows = running_rows (events M) in
+    ap (rises_by key_before (rest_in 1 lot_expiry_schema)) (dates_in rows)
+    ∙ mapped_rise pairs_in_order date_key (rest_in 1 lot_expiry_schema) date_cells (λ a b. pairs_before a.item a.lot b.item b.lot) (dates_of rows) ∙ dates_rise rows (lots_rise (events M)))
+    (λ M r there.
+    let rows = running_rows (events M) in
+    each_mapped (IsKeyed lot_expiry_schema 3) date_cells (dates_of rows) (λ d t. record { key = refl; cells = refl }) r (subst (λ (rs : List TableRow). Has rs r) (dates_in rows) there))
+
 -- all tables of any register
 keyed_ordered : (W : Who) (L : List Entry) (t : BookTable) → AreByKey (schema_of t) (width_of t) (rows_of W L t)
 keyed_ordered W L table.Outgoing = outgoing_ordered W L
@@ -227,9 +250,10 @@ keyed_ordered W L table.AdviceLine = advice_line_ordered L
 keyed_ordered W L table.Orders = orders_ordered L
 keyed_ordered W L table.OrderLine = order_line_ordered L
 keyed_ordered W L table.Reservation = reservation_ordered L
+keyed_ordered W L table.LotExpiry = dates_ordered L
 
 pub all_ordered : (W : Who) (L : List Entry) → AreOrdered (filled W L)
-all_ordered W L = record { entry = entries_are [] L; outgoing = outgoing_are W L; keyed = keyed_ordered W L }
+all_ordered W L = record { entry = entries_are [] L; outgoing = outgoing_are W L; keyed = keyed_ordered W L; rules = rules_are [] L }
 
-pub legal_ordered : (W : Who) (L : List Entry) → IsLegal W L → AreOrdered (filled W L)
+pub legal_ordered : (W : Who) (L : List Entry) → IsLegal Two W L → AreOrdered (filled W L)
 legal_ordered W L legal = all_ordered W L

@@ -10,6 +10,7 @@ use Rattle.sqlite.specs.Query.{Output, output}
 use Rattle.sqlite_rules.specs.Lists.{Has}
 use Rattle.sqlite_rules.proofs.ListLemmas.{has_found}
 use Rattle.sqlite_rules.proofs.ProbeLemmas.{has_mapped}
+use Rattle.profile.specs.declared.rules.Rules.TheVariants.{Two}
 use Rattle.profile.specs.Header.{Who, is_partner, who_text}
 use Rattle.profile.specs.Means.{Line, Address}
 use Rattle.profile.specs.Register.{Entry, own}
@@ -65,7 +66,7 @@ order_puts who number id o = by o.address
     by None = refl
     by (Some a) = refl
 
-order_under : (W : Who) (L : List Entry) (who : Who) (number : List ℕ) → IsLegal W L → is_partner who ≡ true
+order_under : (W : Who) (L : List Entry) (who : Who) (number : List ℕ) → IsLegal Two W L → is_partner who ≡ true
     → IsUnder (ordered_row who) 12 order_columns [] order_out (value.Text (who_text who)) (value.Text number) (orders_table L) (filter (is_number number) (orders L who))
 order_under W L who number legal partner =
     cells_under W L who legal partner orders_rows refl orders_cells (orders L who) refl (is_number number) (value.Text number) (λ id a. equal_bytes a.number number)
@@ -108,7 +109,7 @@ line_cells who number p = Text (who_text who) ∷ Text number ∷ ordered_cells 
 abbrev its_lines : List Entry → Who → List ℕ → List PageLine
 its_lines L who number = lines_ordered (order_at number (page_of (own L who)).orders)
 
-lines_under : (W : Who) (L : List Entry) (who : Who) (number : List ℕ) → IsLegal W L → is_partner who ≡ true
+lines_under : (W : Who) (L : List Entry) (who : Who) (number : List ℕ) → IsLegal Two W L → is_partner who ≡ true
     → IsUnder (line_cells who number) 14 line_columns line_order line_out (value.Text (who_text who)) (value.Text number) (order_line_table L) (enumerate_from 1 (its_lines L who number))
 lines_under W L who number legal partner =
     parts_under W L who legal partner order_line_rows refl number_of (λ (a : PageOrder). enumerate_from 1 a.lines) ordered_cells (orders L who) refl (orders_rise (events (own L who))) number
@@ -130,11 +131,11 @@ ordered_found W L who number db rows partner sound stands h =
     ∙ second_of order_line_shown 1 (its_lines L who number)
 
 pub ordered_read : (old : State) (W : Who) (L : List Entry) (who : Who) (number : List ℕ) → IsTrue (is_partner who) → IsLive old → StandsWhileOpen old W L → (rows : List Row)
-    → IsTrue old.is_open × Finds order_lines_text (value.Text (who_text who) ∷ value.Text number ∷ []) old.now rows → (read : Option (List PageLine)) → ((ls : List PageLine) → list_all is_fitting_ordered ls ≡ true → rows ≡ map order_line_shown ls → read ≡ Some ls)
+    → IsTrue old.is_open × Finds order_lines_text (value.Text (who_text who) ∷ value.Text number ∷ []) old.now rows → (read : Option (List PageLine)) → ((ls : List PageLine) → list_all (is_fitting_ordered Two) ls ≡ true → rows ≡ map order_line_shown ls → read ≡ Some ls)
     → read ≡ Some (lines_ordered (order_at number (page_of (own L who)).orders))
 ordered_read old W L who number partner live stands rows finds read right =
     let here = stands finds.0 in
-    right _ (ordered_fit number (page_of (own L who)).orders (page_fits W L who here.legal).orders) (ordered_found W L who number old.now rows partner (live finds.0).0 here finds.1)
+    right _ (ordered_fit number (page_of (own L who)).orders (page_fits Two W L who here.legal).orders) (ordered_found W L who number old.now rows partner (live finds.0).0 here finds.1)
 
 -- What is reserved for it.
 
@@ -147,7 +148,7 @@ share_cells who number l = Text (who_text who) ∷ Text number ∷ reserved_cell
 abbrev its_shares : List Entry → Who → List ℕ → List Line
 its_shares L who number = lines_reserved (order_at number (page_of (own L who)).orders)
 
-shares_under : (W : Who) (L : List Entry) (who : Who) (number : List ℕ) → IsLegal W L → is_partner who ≡ true
+shares_under : (W : Who) (L : List Entry) (who : Who) (number : List ℕ) → IsLegal Two W L → is_partner who ≡ true
     → IsUnder (share_cells who number) 16 reserved_columns reserved_order reserved_out (value.Text (who_text who)) (value.Text number) (reservation_table L) (its_shares L who number)
 shares_under W L who number legal partner =
     parts_under W L who legal partner reservation_rows refl number_of (λ (o : PageOrder). o.reserved) reserved_cells (orders L who) refl (orders_rise (events (own L who))) number
@@ -179,8 +180,8 @@ reserved_found W L who number db rows partner sound stands h =
     (are_keyed reservation_schema 4 (reservation_table L) (db.trees 16) (ordered.keyed Reservation) (held.keyed Reservation)))
 
 pub reserved_read : (old : State) (W : Who) (L : List Entry) (who : Who) (number : List ℕ) → IsTrue (is_partner who) → IsLive old → StandsWhileOpen old W L → (rows : List Row)
-    → IsTrue old.is_open × Finds reserved_text (value.Text (who_text who) ∷ value.Text number ∷ []) old.now rows → (read : Option (List Line)) → ((ls : List Line) → list_all is_fitting_line ls ≡ true → rows ≡ map line_shown ls → read ≡ Some ls)
+    → IsTrue old.is_open × Finds reserved_text (value.Text (who_text who) ∷ value.Text number ∷ []) old.now rows → (read : Option (List Line)) → ((ls : List Line) → list_all (is_fitting_line Two) ls ≡ true → rows ≡ map line_shown ls → read ≡ Some ls)
     → read ≡ Some (lines_reserved (order_at number (page_of (own L who)).orders))
 reserved_read old W L who number partner live stands rows finds read right =
     let here = stands finds.0 in
-    right _ (reserved_fit number (page_of (own L who)).orders (page_fits W L who here.legal).orders) (reserved_found W L who number old.now rows partner (live finds.0).0 here finds.1)
+    right _ (reserved_fit number (page_of (own L who)).orders (page_fits Two W L who here.legal).orders) (reserved_found W L who number old.now rows partner (live finds.0).0 here finds.1)

@@ -3,11 +3,13 @@ use Rattle.std.proofs.Common.{◌≡◌, ℕ, Bool, true, false, not, ◌&&◌, 
 use Rattle.std.specs.Prelude.{if◌then◌else◌}
 use Rattle.std.specs.List.{list_all}
 use Rattle.std.proofs.lemmas.Bool.{cases_Bool}
+use Rattle.profile.specs.declared.rules.Rules.{Rules}
+use Rattle.profile.specs.declared.rules.Rules.TheVariants.{One, Two}
 use Rattle.profile.specs.Moments.{Moment, is_moment, stamp}
 use Rattle.profile.specs.Header.{Who, is_partner, who_eq, who_of, who_text, sender, is_unreadable}
 use Rattle.profile.specs.Register.{Command, Interchange, Enrol, Clerk, Entry, own, is_numbered, next_number}
 use Rattle.profile.specs.Readings.{is_entry}
-use Rattle.profile.specs.Accepted.{own_of, reply_to, is_accepted, entry_of, after, accepted_on, is_command, IsLegal}
+use Rattle.profile.specs.Accepted.{own_of, reply_to, is_accepted, entry_of, after, accepted_on, is_command, can_be_given, IsLegal}
 use Rattle.profile.specs.Reply.{reply}
 use Rattle.profile.specs.Tables.{Number, Text, Blob, TableRow, entry_row, entries_on, entry_table}
 use Rattle.profile.proofs.TextLaws.{both_parts, same_text, text_is}
@@ -57,58 +59,67 @@ own_written L who = own_written_on [] L who
 
 -- Depositors are apart.
 
--- the commands whose entries are the depositor's
-abbrev names : Who → Command × Moment → Bool
-names who c = who_eq (entry_of c.0 c.1).who who
+module _ (r : Rules) where
+  -- the commands whose entries are the depositor's
+  abbrev names : Who → Command × Moment → Bool
+  names who c = who_eq (entry_of r c.0 c.1).who who
 
-of_depositor : (L : List Entry) (v who : Who) → who_eq v who ≡ true → own (own L who) v ≡ own L v
-of_depositor L v who h = subst (λ (u : Who). own (own L who) u ≡ own L u) (sym (who_is v who h)) (own_own L who)
+  of_depositor : (L : List Entry) (v who : Who) → who_eq v who ≡ true → own (own L who) v ≡ own L v
+  of_depositor L v who h = subst (λ (u : Who). own (own L who) u ≡ own L u) (sym (who_is v who h)) (own_own L who)
 
--- a command looks at the depositor's own entries alone
-looks_same : (L : List Entry) (c : Command) (t : Moment) (who : Who) → who_eq (entry_of c t).who who ≡ true → own_of (own L who) c ≡ own_of L c
-looks_same L (Interchange text) t who h = by (not (is_unreadable text) && is_partner (sender text)) refl
-  where
-    by : (b : Bool) → (not (is_unreadable text) && is_partner (sender text)) ≡ b → own_of (own L who) (Interchange text) ≡ own_of L (Interchange text)
-    by true e = rw e (of_depositor L (sender text) who h)
-    by false e = rw e refl
-looks_same L (Enrol w) t who h = of_depositor L w who h
-looks_same L (Clerk w ticket act) t who h = of_depositor L w who h
+  -- a command looks at the depositor's own entries alone
+  looks_same : (L : List Entry) (c : Command) (t : Moment) (who : Who) → who_eq (entry_of r c t).who who ≡ true → own_of (own L who) c ≡ own_of L c
+  looks_same L (Interchange text) t who h = by (not (is_unreadable text) && is_partner (sender text)) refl
+    where
+      by : (b : Bool) → (not (is_unreadable text) && is_partner (sender text)) ≡ b → own_of (own L who) (Interchange text) ≡ own_of L (Interchange text)
+      by true e = rw e (of_depositor L (sender text) who h)
+      by false e = rw e refl
+  looks_same L (Enrol w) t who h = of_depositor L w who h
+  looks_same L (Clerk w ticket act) t who h = of_depositor L w who h
 
-own_after : (W : Who) (L : List Entry) (who : Who) (c : Command × Moment) → own (after W L c) who ≡ (if names who c then after W (own L who) c else own L who)
-own_after W L who c = by (names who c) refl
-  where
-    e : Entry
-    e = entry_of c.0 c.1
+  own_after : (W : Who) (L : List Entry) (who : Who) (c : Command × Moment) → own (after r W L c) who ≡ (if names who c then after r W (own L who) c else own L who)
+  own_after W L who c = by (names who c) refl
+    where
+      e : Entry
+      e = entry_of r c.0 c.1
 
-    grown : (b : Bool) → names who c ≡ true → own (if b then L ++ e ∷ [] else L) who ≡ (if b then own L who ++ e ∷ [] else own L who)
-    grown true h = own_more L e who ∙ ap (λ (v : Bool). own L who ++ (if v then e ∷ [] else [])) h
-    grown false h = refl
+      grown : (b : Bool) → names who c ≡ true → own (if b then L ++ e ∷ [] else L) who ≡ (if b then own L who ++ e ∷ [] else own L who)
+      grown true h = own_more L e who ∙ ap (λ (v : Bool). own L who ++ (if v then e ∷ [] else [])) h
+      grown false h = refl
 
-    stays : (b : Bool) → names who c ≡ false → own (if b then L ++ e ∷ [] else L) who ≡ own L who
-    stays true h = own_without L e who h
-    stays false h = refl
+      stays : (b : Bool) → names who c ≡ false → own (if b then L ++ e ∷ [] else L) who ≡ own L who
+      stays true h = own_without L e who h
+      stays false h = refl
 
-    by : (b : Bool) → names who c ≡ b → own (after W L c) who ≡ (if b then after W (own L who) c else own L who)
-    by true h =
-        grown (is_accepted (reply_to W L c.0 c.1)) h
-        ∙ ap (λ (M : List Entry). if is_accepted (reply W M c.0 c.1) then own L who ++ e ∷ [] else own L who) (sym (looks_same L c.0 c.1 who h))
-    by false h = stays (is_accepted (reply_to W L c.0 c.1)) h
+      by : (b : Bool) → names who c ≡ b → own (after r W L c) who ≡ (if b then after r W (own L who) c else own L who)
+      by true h =
+          grown (is_accepted (reply_to r W L c.0 c.1)) h
+          ∙ ap (λ (M : List Entry). if is_accepted (reply r W M c.0 c.1) then own L who ++ e ∷ [] else own L who) (sym (looks_same L c.0 c.1 who h))
+      by false h = stays (is_accepted (reply_to r W L c.0 c.1)) h
 
-own_accepted : (W : Who) (L : List Entry) (who : Who) (cs : List (Command × Moment)) → own (accepted_on W L cs) who ≡ accepted_on W (own L who) (filter (names who) cs)
-own_accepted W L who [] = refl
-own_accepted W L who (c ∷ cs) = own_accepted W (after W L c) who cs ∙ ap (λ (M : List Entry). accepted_on W M (filter (names who) cs)) (own_after W L who c) ∙ by (names who c)
-  where
-    by : (b : Bool) → accepted_on W (if b then after W (own L who) c else own L who) (filter (names who) cs) ≡ accepted_on W (own L who) (if b then c ∷ filter (names who) cs else filter (names who) cs)
-    by true = refl
-    by false = refl
+  own_accepted : (W : Who) (L : List Entry) (who : Who) (cs : List (Command × Moment)) → own (accepted_on r W L cs) who ≡ accepted_on r W (own L who) (filter (names who) cs)
+  own_accepted W L who [] = refl
+  own_accepted W L who (c ∷ cs) =
+      own_accepted W (after r W L c) who cs ∙ ap (λ (M : List Entry). accepted_on r W M (filter (names who) cs)) (own_after W L who c) ∙ by (names who c)
+    where
+      by : (b : Bool) → accepted_on r W (if b then after r W (own L who) c else own L who) (filter (names who) cs) ≡ accepted_on r W (own L who) (if b then c ∷ filter (names who) cs else filter (names who) cs)
+      by true = refl
+      by false = refl
+
+  own_given : (who : Who) (cs : List (Command × Moment)) → can_be_given r cs ≡ true → can_be_given r (filter (names who) cs) ≡ true
+  own_given who cs h = all_filter (λ (c : Command × Moment). is_command r c.0 && is_moment c.1) (names who) cs h
 
 -- the own entries of a legal register are one: what the depositor's commands alone leave
-pub own_legal : (W : Who) (L : List Entry) (who : Who) → IsLegal W L → IsLegal W (own L who)
+pub own_legal : (W : Who) (L : List Entry) (who : Who) → IsLegal Two W L → IsLegal Two W (own L who)
 own_legal W L who legal = record {
-  commands = filter (names who) legal.commands;
+  first = filter (names One who) legal.first;
+  commands = filter (names Two who) legal.commands;
   of_a_partner = legal.of_a_partner;
-  can_be_given = all_filter (λ (c : Command × Moment). is_command c.0 && is_moment c.1) (names who) legal.commands legal.can_be_given;
-  left = ap (λ (M : List Entry). own M who) legal.left ∙ own_accepted W [] who legal.commands;
+  first_given = own_given One who legal.first legal.first_given;
+  given = own_given Two who legal.commands legal.given;
+  left =
+      ap (λ (M : List Entry). own M who) legal.left ∙ own_accepted Two W (accepted_on One W [] legal.first) who legal.commands
+      ∙ ap (λ (M : List Entry). accepted_on Two W M (filter (names Two who) legal.commands)) (own_accepted One W [] who legal.first);
 }
 
 -- Rows of `entry`.
@@ -154,6 +165,6 @@ rows_told before (e ∷ L) who good partner =
     by false later = later
 
 -- the rows of `entry` that name a depositor tell, in order, its own entries as they are written down
-pub entry_rows_of : (W : Who) (L : List Entry) (who : Who) → IsLegal W L → is_partner who ≡ true
+pub entry_rows_of : (W : Who) (L : List Entry) (who : Who) → IsLegal Two W L → is_partner who ≡ true
     → map (drop 2) (filter (is_entry_of (who_text who)) (entry_table L)) ≡ map written_cells (all_written (own L who))
-entry_rows_of W L who legal partner = rows_told [] L who (legal-entries W L legal) partner ∙ ap (map written_cells) (own_written L who)
+entry_rows_of W L who legal partner = rows_told [] L who (legal-entries Two W L legal) partner ∙ ap (map written_cells) (own_written L who)

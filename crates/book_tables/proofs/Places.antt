@@ -1,22 +1,24 @@
 -- The rows of an answer at their places, where they are what a model's rows show.
-use Rattle.std.proofs.Common.{◌≡◌, ◌<◌, ℕ, zero, suc, ◌+◌, Bool, true, false, cond, List, [], ◌∷◌, ◌++◌, length, map, filter, take, get_or, refl, ap, subst, ◌∙◌, inl, inr, arith, append-nil}
+use Rattle.std.proofs.Common.{◌≡◌, ◌<◌, ◌≤◌, ℕ, zero, suc, ◌+◌, Bool, true, false, cond, List, [], ◌∷◌, ◌++◌, length, map, filter, take, drop, get_or, refl, sym, ap, subst, ◌∙◌, inl, inr, arith, append-nil}
 use Rattle.std.specs.Prelude.{nat_lt, ◌==◌}
 use Rattle.std.proofs.lemmas.Bool.{eqb-true, lt-ltb, le-ltb}
+use Rattle.std.proofs.lemmas.List.{length-map}
 use Rattle.std.proofs.lemmas.List.Elements.{filter-append}
 use Rattle.sqlite_rules.specs.Lists.{Has}
 
 module _ {M X : Type 0} (f : M → X) where
-  -- what is shown at a place, and the first rows with it
+  -- what is shown at a place, the first rows with it, and those from there on
   pub record IsAtPlace (x : X) (ms : List M) (i : ℕ) : Type 0 where
     pub row : M
     pub there : Has ms row
     pub shows : x ≡ f row
     pub more : take (i + 1) ms ≡ take i ms ++ row ∷ []
+    pub left : drop i ms ≡ row ∷ drop (i + 1) ms
 
-  at_mapped : (ms : List M) (i : ℕ) (d : X) → i < length (map f ms) → (m : M) × Has ms m × (get_or (map f ms) i d ≡ f m) × (take (suc i) ms ≡ take i ms ++ m ∷ [])
+  at_mapped : (ms : List M) (i : ℕ) (d : X) → i < length (map f ms) → (m : M) × Has ms m × (get_or (map f ms) i d ≡ f m) × (take (suc i) ms ≡ take i ms ++ m ∷ []) × (drop i ms ≡ m ∷ drop (suc i) ms)
   at_mapped [] i d within = absurd (omega (arith, within))
-  at_mapped (m ∷ ms) zero d within = (m, inl refl, refl, refl)
-  at_mapped (m ∷ ms) (suc i) d within = let later = at_mapped ms i d (omega (arith, within)) in (later.0, inr later.1, later.2, ap (λ (ns : List M). m ∷ ns) later.3)
+  at_mapped (m ∷ ms) zero d within = (m, inl refl, refl, refl, refl)
+  at_mapped (m ∷ ms) (suc i) d within = let later = at_mapped ms i d (omega (arith, within)) in (later.0, inr later.1, later.2, ap (λ (ns : List M). m ∷ ns) later.3, later.4)
 
   pub at_place : (rows : List X) (ms : List M) (i : ℕ) (x : X) → rows ≡ map f ms → i < length rows → x ≡ get_or rows i x → IsAtPlace x ms i
   at_place rows ms i x is within here =
@@ -27,7 +29,18 @@ module _ {M X : Type 0} (f : M → X) where
         there = at.1;
         shows = here ∙ ap (λ (rs : List X). get_or rs i x) is ∙ at.2;
         more = ap (λ (n : ℕ). take n ms) one ∙ at.3;
+        left = at.4 ∙ ap (λ (n : ℕ). at.0 ∷ drop n ms) (sym one);
       }
+
+-- all of a model's rows are before the end of what they show
+pub whole_taken : {M X : Type 0} (f : M → X) (rows : List X) (ms : List M) (i : ℕ) → rows ≡ map f ms → length rows ≤ i → take i ms ≡ ms
+whole_taken f rows ms i is past = taken ms i (omega (arith, past, ap length is, length-map ms f))
+  where
+    taken : {A : Type 0} (xs : List A) (n : ℕ) → length xs ≤ n → take n xs ≡ xs
+    taken [] zero h = refl
+    taken [] (suc n) h = refl
+    taken (x ∷ xs) zero h = absurd (omega (arith, h))
+    taken (x ∷ xs) (suc n) h = ap (λ ys. x ∷ ys) (taken xs n (omega (arith, h)))
 
 -- one more that passes a test is kept, and one that doesn't isn't
 pub kept_more : {M : Type 0} (p : M → Bool) (ms : List M) (m : M) → p m ≡ true → filter p (ms ++ m ∷ []) ≡ filter p ms ++ m ∷ []

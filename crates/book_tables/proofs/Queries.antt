@@ -111,6 +111,10 @@ module _ {S : Type 0} (store : Ghosts S) where
       → (HasCleanDisk (state store new.conn) → (W : Who) (L : List Entry) → StandsWhileOpen (state store old.conn) W L → ⊥) → Asked {T = U} store old new (Err NotThisBook)
   asked_wrong old new t asked never = asked_then old new t (Err NotThisBook) asked (shows_none (state store old.conn) (state store new.conn) old.refused new.refused never)
 
+  -- no memory for what is made of the rows
+  pub asked_short : {T U : Type 0} (old new : Kept S) (t : T) (r : Result U Fault) → IsErrAnd r (λ f. f ≡ OutOfMemory) → Asked {T = T} store old new (Ok t) → Asked store old new r
+  asked_short old new t r is asked = asked_then old new t r asked (if_error r (λ f e. memory_fault f (state store old.conn) (state store new.conn) old.refused new.refused e) is)
+
   -- an error that is handed on
   pub asked_fails : {T U : Type 0} (old new : Kept S) (f : Fault) (r : Result U Fault) → IsErrAnd r (λ g. g ≡ f) → Asked {T = T} store old new (Err f) → Asked store old new r
   asked_fails old new f r is asked = record {

@@ -2,12 +2,8 @@
 use Rattle.std.proofs.Common.{◌≡◌, codes, ℕ, List, [], ◌∷◌, refl, false, None, pos, negsuc}
 use Rattle.sqlite.specs.declared.types.Value.TheVariants.{Int}
 use Rattle.sqlite.specs.Command.TheVariants.{Select}
-use Rattle.sqlite.specs.Term.{Term, lit, col, op2}
-use Rattle.sqlite_sql.specs.declared.ops.BinaryOp.TheVariants.{Compare}
-use Rattle.sqlite_sql.specs.declared.ops.CompareOp.TheVariants.{Eq}
-use Rattle.sqlite.specs.Collation.TheVariants.{Binary}
+use Rattle.sqlite.specs.Term.{Term, lit, col}
 use Rattle.sqlite_value.specs.declared.keys.Key.{Key}
-use Rattle.sqlite_value.specs.Keys.{ascending}
 use Rattle.sqlite.specs.Query.{Query, inner, end}
 use Rattle.sqlite_tied.specs.Compute.{everything}
 use Rattle.sqlite.specs.Listing.{understood, reads_listing}
@@ -15,6 +11,7 @@ use Rattle.sqlite.specs.Given.{IsPlain}
 use Rattle.sqlite.proofs.Callers.{command_of}
 use Rattle.book_tables.specs.Layout.{Others, beside}
 use Rattle.book_tables.specs.Asking.{house_text}
+use Rattle.book_tables.specs.Carrying.{first_layout}
 
 -- the rows of a table that pass, as these terms, in an order
 abbrev pub ordered_from : ℕ → List Term → List Term → List (Term × Key) → Query
@@ -29,22 +26,6 @@ ordered_from tree filter project order = record {
   limit = lit (Int (negsuc 0));
   offset = lit (Int (pos 0));
 }
-
--- A depositor's entries.
-
-abbrev pub own_text : List ℕ
-own_text = codes "SELECT mark, n, moment, body FROM entry WHERE who = ?1 ORDER BY seq"
-
-abbrev pub own_query : Query
-own_query = ordered_from 1 (op2 (Compare Eq Binary) (col 1 2) (col 0 0) ∷ []) (col 1 3 ∷ col 1 4 ∷ col 1 5 ∷ col 1 6 ∷ []) ((col 1 0, ascending Binary) ∷ [])
-
-pub own_is : (others : Others) → (command_of (understood (beside others) own_text) ≡ Select (record { lets = []; body = own_query }) (codes "mark" ∷ codes "n" ∷ codes "moment" ∷ codes "body" ∷ [])) × (reads_listing (beside others) own_text ≡ false)
-unfolding understood everything
-own_is others = (refl, refl)
-
-pub own_plain : (others : Others) → IsPlain (understood (beside others) own_text)
-unfolding understood everything
-own_plain others = (refl, refl)
 
 -- The numbers of the entries.
 
@@ -62,6 +43,14 @@ pub count_plain : (others : Others) → IsPlain (understood (beside others) coun
 unfolding understood everything
 count_plain others = (refl, refl)
 
+pub count_first : (command_of (understood first_layout count_text) ≡ Select (record { lets = []; body = count_query }) (codes "seq" ∷ [])) × (reads_listing first_layout count_text ≡ false)
+unfolding understood everything
+count_first = (refl, refl)
+
+pub count_plain_first : IsPlain (understood first_layout count_text)
+unfolding understood everything
+count_plain_first = (refl, refl)
+
 -- The warehouse.
 
 abbrev pub house_query : Query
@@ -74,3 +63,11 @@ house_is others = (refl, refl)
 pub house_plain : (others : Others) → IsPlain (understood (beside others) house_text)
 unfolding understood everything
 house_plain others = (refl, refl)
+
+pub house_first : (command_of (understood first_layout house_text) ≡ Select (record { lets = []; body = house_query }) (codes "version" ∷ codes "qualifier" ∷ codes "id" ∷ [])) × (reads_listing first_layout house_text ≡ false)
+unfolding understood everything
+house_first = (refl, refl)
+
+pub house_plain_first : IsPlain (understood first_layout house_text)
+unfolding understood everything
+house_plain_first = (refl, refl)

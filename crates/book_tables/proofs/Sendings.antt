@@ -2,6 +2,8 @@
 use Rattle.std.proofs.Common.{◌≡◌, ◌<◌, ◌≤◌, ◌+◌, ◌^◌, ℕ, Bool, true, false, cond, List, [], ◌∷◌, ◌++◌, Option, Some, None, refl, sym, ap, subst, inl, inr, arith}
 use Rattle.std.specs.Prelude.{if◌then◌else◌}
 use Rattle.sqlite_rules.specs.Lists.{Has}
+use Rattle.profile.specs.declared.rules.Rules.{Rules}
+use Rattle.profile.specs.declared.rules.Rules.TheVariants.{Two}
 use Rattle.profile.specs.Moments.{Moment}
 use Rattle.profile.specs.Header.{Who}
 use Rattle.profile.specs.Limits.{most_entries}
@@ -33,12 +35,12 @@ state_said (Some false) = (Refused, refl)
 
 -- the row of an entry after so few
 row_sent : (W : Who) (es : List Event) (before : List Entry) (e : Entry) → next_number before < 2 ^ 32 → IsSent (out_row W es before e)
-row_sent W es before e few = by e.who e.moment e.deed
+row_sent W es before e few = by e.who e.moment e.rules e.deed
   where
-    by : (w : Who) (t : Moment) (d : Deed) → IsSent (out_row W es before (record { who = w; moment = t; deed = d }))
-    by w t Enrolled = record { few = few; kind = Answer; kind_is = refl; state = Unasked; state_is = refl }
-    by w t (Received text) = record { few = few; kind = Answer; kind_is = refl; state = Unasked; state_is = refl }
-    by w t (Performed ticket act) =
+    by : (w : Who) (t : Moment) (q : Rules) (d : Deed) → IsSent (out_row W es before (record { who = w; moment = t; deed = d; rules = q }))
+    by w t q Enrolled = record { few = few; kind = Answer; kind_is = refl; state = Unasked; state_is = refl }
+    by w t q (Received text) = record { few = few; kind = Answer; kind_is = refl; state = Unasked; state_is = refl }
+    by w t q (Performed ticket act) =
         let kind = kind_of_act act in
         let state = state_said (said_of es (next_number before) (act_function act)) in
         record { few = few; kind = kind.0; kind_is = kind.1; state = state.0; state_is = state.1 }
@@ -58,5 +60,5 @@ rows_sent W es before (e ∷ M) follows r h = by (is_numbered e) refl h (rows_se
       | inr more ↦ later more
     ]
 
-pub legal_sent : (W : Who) (L : List Entry) (who : Who) → IsLegal W L → (r : OutRow) → Has (outgoing_rows W (own L who)) r → IsSent r
-legal_sent W L who legal = rows_sent W (events (own L who)) [] (own L who) (follows_own W L who legal)
+pub legal_sent : (W : Who) (L : List Entry) (who : Who) → IsLegal Two W L → (r : OutRow) → Has (outgoing_rows W (own L who)) r → IsSent r
+legal_sent W L who legal = rows_sent W (events (own L who)) [] (own L who) (follows_own Two W L who legal)

@@ -14,6 +14,8 @@ use Rattle.sqlite_schema.specs.Rules.{equal}
 use Rattle.sqlite_rules.specs.Lists.{Has}
 use Rattle.sqlite_rules.proofs.ListLemmas.{test_has, has_filtered, has_kept}
 use Rattle.sqlite_rules.proofs.ProbeLemmas.{has_mapped, mapped_has}
+use Rattle.profile.specs.declared.rules.Rules.{Rules}
+use Rattle.profile.specs.declared.rules.Rules.TheVariants.{Two}
 use Rattle.profile.specs.Header.{Who, is_partner, who_text}
 use Rattle.profile.specs.Moments.{Moment}
 use Rattle.profile.specs.Register.{Entry, Deed, Enrolled, Received, Performed, own, is_numbered, next_number}
@@ -73,21 +75,21 @@ row_there W es pre (x ∷ front) behind e h =
     by false later = later
 
 row_content : (W : Who) (es : List Event) (before : List Entry) (e : Entry) → (out_row W es before e).content ≡ out W before e
-row_content W es before e = by e.who e.moment e.deed
+row_content W es before e = by e.who e.moment e.rules e.deed
   where
-    by : (w : Who) (t : Moment) (d : Deed) → (out_row W es before (record { who = w; moment = t; deed = d })).content ≡ out W before (record { who = w; moment = t; deed = d })
-    by w t Enrolled = refl
-    by w t (Received text) = refl
-    by w t (Performed ticket act) = refl
+    by : (w : Who) (t : Moment) (q : Rules) (d : Deed) → (out_row W es before (record { who = w; moment = t; deed = d; rules = q })).content ≡ out W before (record { who = w; moment = t; deed = d; rules = q })
+    by w t q Enrolled = refl
+    by w t q (Received text) = refl
+    by w t q (Performed ticket act) = refl
 
 -- an entry without a number sends nothing out
 nothing_sent : (W : Who) (before : List Entry) (e : Entry) → is_numbered e ≡ false → out W before e ≡ []
-nothing_sent W before e = by e.who e.moment e.deed
+nothing_sent W before e = by e.who e.moment e.rules e.deed
   where
-    by : (w : Who) (t : Moment) (d : Deed) → is_numbered (record { who = w; moment = t; deed = d }) ≡ false → out W before (record { who = w; moment = t; deed = d }) ≡ []
-    by w t Enrolled h = refl
-    by w t (Received text) h = absurd (let f : ◌≡◌ {A = Bool} true false = h in cc)
-    by w t (Performed ticket act) h = absurd (let f : ◌≡◌ {A = Bool} true false = h in cc)
+    by : (w : Who) (t : Moment) (q : Rules) (d : Deed) → is_numbered (record { who = w; moment = t; deed = d; rules = q }) ≡ false → out W before (record { who = w; moment = t; deed = d; rules = q }) ≡ []
+    by w t q Enrolled h = refl
+    by w t q (Received text) h = absurd (let f : ◌≡◌ {A = Bool} true false = h in cc)
+    by w t q (Performed ticket act) h = absurd (let f : ◌≡◌ {A = Bool} true false = h in cc)
 
 -- no row has the number 0
 never_zero : (W : Who) (M : List Entry) (r : OutRow) → Has (outgoing_rows W M) r → r.n ≡ 0 → ⊥
@@ -100,7 +102,7 @@ never_zero W M r there is =
 pos_is : (m n : ℕ) → pos m ≡ pos n → m ≡ n
 pos_is m n e = cc e
 
-module _ (W : Who) (L : List Entry) (who : Who) (legal : IsLegal W L) (partner : is_partner who ≡ true) (n : ℕ) (db : Trees) (held : Holds (outgoing_table W L) (db 4)) where
+module _ (W : Who) (L : List Entry) (who : Who) (legal : IsLegal Two W L) (partner : is_partner who ≡ true) (n : ℕ) (db : Trees) (held : Holds (outgoing_table W L) (db 4)) where
   abbrev t : List ℕ
   t = who_text who
 

@@ -59,6 +59,28 @@ pub stock_rows_plain : (others : Others) → IsPlain (understood (beside others)
 unfolding understood everything
 stock_rows_plain others = (refl, refl)
 
+-- And the dates.
+
+abbrev pub all_dates_text : List ℕ
+all_dates_text = codes "SELECT item, lot, expiry FROM lot_expiry WHERE who = ?1 ORDER BY item, lot"
+
+abbrev pub all_dates_columns : List Term
+all_dates_columns = col 1 2 ∷ col 1 3 ∷ col 1 4 ∷ []
+
+abbrev pub all_dates_query : Query
+all_dates_query = shown_where 19 all_dates_columns stock_order
+
+abbrev pub all_dates_names : List (List ℕ)
+all_dates_names = codes "item" ∷ codes "lot" ∷ codes "expiry" ∷ []
+
+pub all_dates_is : (others : Others) → (command_of (understood (beside others) all_dates_text) ≡ Select (record { lets = []; body = all_dates_query }) all_dates_names) × (reads_listing (beside others) all_dates_text ≡ false)
+unfolding understood everything
+all_dates_is others = (refl, refl)
+
+pub all_dates_plain : (others : Others) → IsPlain (understood (beside others) all_dates_text)
+unfolding understood everything
+all_dates_plain others = (refl, refl)
+
 -- What went out.
 
 abbrev pub outbox_text : List ℕ

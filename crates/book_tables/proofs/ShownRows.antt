@@ -1,5 +1,5 @@
 -- The running rows that the queries show of a depositor are those of the definitions.
-use Rattle.std.proofs.Common.{◌≡◌, inl, inr, ℕ, pos, List, [], ◌∷◌, map, ◌&&◌, ◌||◌, cond, Bool, true, false, refl, sym, ap, ◌∙◌}
+use Rattle.std.proofs.Common.{◌≡◌, inl, inr, ℕ, pos, List, [], ◌∷◌, map, flat_map, ◌&&◌, ◌||◌, cond, Bool, true, false, refl, sym, ap, ◌∙◌}
 use Rattle.std.specs.Prelude.{nat_lt}
 use Rattle.std.specs.Ordering.{is_lt, is_eq, ordering_then, nat_cmp}
 use Rattle.std.specs.Cmp.Lexicographic.{slice_cmp}
@@ -15,26 +15,30 @@ use Rattle.sqlite.specs.Tree.{Trees}
 use Rattle.sqlite_value.proofs.OrderLemmas.{value_cmp-Text, value_cmp-Int}
 use Rattle.sqlite_catalog.specs.Listing.{IsSound}
 use Rattle.sqlite_rules.specs.Lists.{Has}
+use Rattle.profile.specs.declared.rules.Rules.TheVariants.{Two}
 use Rattle.profile.specs.Bytes.{comes_before}
 use Rattle.profile.specs.Header.{Who, is_partner, who_text}
 use Rattle.profile.specs.Register.{Entry, own}
 use Rattle.profile.specs.History.{events}
 use Rattle.profile.specs.Accepted.{IsLegal}
-use Rattle.profile.specs.Rows.{LotRow, OutRow, shown_row, running_rows, stock_rows, outgoing_rows}
-use Rattle.profile.specs.Tables.{Text, TableRow, depositors, for_each, stock_cells, stock_table, outgoing_cells, outgoing_table}
-use Rattle.profile.specs.Schema.{stock_schema, outgoing_schema}
+use Rattle.profile.specs.Rows.{LotRow, OutRow, shown_row, running_rows, outgoing_rows}
+use Rattle.profile.specs.Tables.{Text, TableRow, depositors, for_each, stock_cells, stock_table, expiry_cells, lot_expiry_table, outgoing_cells, outgoing_table}
+use Rattle.profile.specs.Schema.{stock_schema, lot_expiry_schema, outgoing_schema}
 use Rattle.stock.specs.Keyed.{row_key, key_before as pairs_in_order}
 use Rattle.stock.proofs.KeyLemmas.{numbers_strict}
+use Rattle.rules.proofs.Blocks.{prefixed}
 use Rattle.book_tables.specs.Held.{Holds}
-use Rattle.book_tables.specs.Layout.{Others, beside, stock_layout, outgoing_layout}
+use Rattle.book_tables.specs.Layout.{Others, beside, stock_layout, lot_expiry_layout, outgoing_layout}
+use Rattle.book_tables.specs.Dated.{Dated, date_shown, dates_of}
 use Rattle.book_tables.specs.Showing.{stock_shown, out_shown}
-use Rattle.book_tables.specs.Standing.{Stock, Outgoing, AreOrdered, filled}
+use Rattle.book_tables.specs.Standing.{Stock, LotExpiry, Outgoing, AreOrdered, filled}
 use Rattle.book_tables.proofs.HoldsLemmas.{are_keyed}
 use Rattle.book_tables.proofs.Ordered.{all_ordered, lots_rise, sent_rise}
-use Rattle.book_tables.proofs.Parts.{stock_part, outgoing_part}
+use Rattle.book_tables.proofs.DateLemmas.{date_cells, date_key, dates_in, dates_rise}
+use Rattle.book_tables.proofs.Parts.{stock_part, dates_part, outgoing_part}
 use Rattle.book_tables.proofs.Rising.{each_block}
 use Rattle.book_tables.proofs.Showing.{IsShown, shown_rows}
-use Rattle.book_tables.proofs.ShowingTexts.{stock_columns, stock_order, stock_rows_query, outbox_columns, outbox_order, outbox_query}
+use Rattle.book_tables.proofs.ShowingTexts.{stock_columns, stock_order, stock_rows_query, all_dates_columns, all_dates_query, outbox_columns, outbox_order, outbox_query}
 use Rattle.book_tables.proofs.UpsertLemmas.{only_row}
 
 -- each row of a table of depositors begins with a text
@@ -71,7 +75,7 @@ text_is i j h = (bytes_eq-Decides i j).0 (sym (is_eq-slice_cmp i j) ∙ ap is_eq
 abbrev stock_out : LotRow → Output
 stock_out r = (value.Text r.item ∷ value.Text r.lot ∷ [], stock_shown (shown_row r))
 
-stock_is : (W : Who) (L : List Entry) (who : Who) → IsLegal W L → is_partner who ≡ true
+stock_is : (W : Who) (L : List Entry) (who : Who) → IsLegal Two W L → is_partner who ≡ true
     → IsShown pairs_in_order row_key stock_cells 6 3 stock_columns stock_order stock_out (who_text who) (stock_table L) (running_rows (events (own L who)))
 stock_is W L who legal partner = record {
   lies = λ db. refl;
@@ -87,18 +91,43 @@ stock_is W L who legal partner = record {
       λ i. value.Text (who_text who) ∷ value.Text (item i) ∷ value.Text (lot i) ∷ [];
 }
 
-map_map : {A B C : Type 0} (f : A → B) (g : B → C) (xs : List A) → map g (map f xs) ≡ map (λ x. g (f x)) xs
-map_map f g [] = refl
-map_map f g (x ∷ xs) = ap (λ ys. g (f x) ∷ ys) (map_map f g xs)
-
--- the answer of a partner's stock is its stock rows
-pub stock_rows_shown : (others : Others) (W : Who) (L : List Entry) (who : Who) (db : Trees) (rows : List Row) → IsLegal W L → is_partner who ≡ true → IsSound (beside others) db → Holds (stock_table L) (db 6)
-    → IsAnswer stock_rows_query (overlay db []) (value.Text (who_text who) ∷ []) rows → rows ≡ map stock_shown (stock_rows (own L who))
+-- the answer of a partner's stock is its stock rows, but for their dates
+pub stock_rows_shown : (others : Others) (W : Who) (L : List Entry) (who : Who) (db : Trees) (rows : List Row) → IsLegal Two W L → is_partner who ≡ true → IsSound (beside others) db → Holds (stock_table L) (db 6)
+    → IsAnswer stock_rows_query (overlay db []) (value.Text (who_text who) ∷ []) rows → rows ≡ map (λ r. stock_shown (shown_row r)) (running_rows (events (own L who)))
 stock_rows_shown others W L who db rows legal partner sound held a =
     let ordered : AreOrdered (filled W L) = all_ordered W L in
     shown_rows pairs_in_order row_key stock_cells 6 3 stock_columns stock_order stock_out (who_text who) (stock_table L) (running_rows (events (own L who))) (stock_is W L who legal partner) db held
     (only_row others stock_layout.name 6 3 stock_layout.checks stock_layout.columns db (inr (inr (inr (inl refl)))) sound (are_keyed stock_schema 3 (stock_table L) (db 6) (ordered.keyed Stock) held)) rows a
-    ∙ sym (map_map shown_row stock_shown (running_rows (events (own L who))))
+
+-- Dates.
+
+abbrev date_out : Dated → Output
+date_out d = (value.Text d.item ∷ value.Text d.lot ∷ [], date_shown d)
+
+dates_are : (W : Who) (L : List Entry) (who : Who) → IsLegal Two W L → is_partner who ≡ true
+    → IsShown pairs_in_order date_key date_cells 19 3 all_dates_columns stock_order date_out (who_text who) (lot_expiry_table L) (dates_of (running_rows (events (own L who))))
+dates_are W L who legal partner = record {
+  lies = λ db. refl;
+  part = dates_part W L who legal partner ∙ ap (prefixed (who_text who)) (dates_in (running_rows (events (own L who))));
+  firsts = begun L (λ M. flat_map expiry_cells (running_rows (events M)));
+  rises = dates_rise (running_rows (events (own L who))) (lots_rise (events (own L who)));
+  puts = λ id d. refl;
+  ranks = λ a b. pairs_ranked a.item a.lot b.item b.lot;
+  tied = λ a b h.
+      let both = both_equal (value_cmp (value.Text a.item) (value.Text b.item)) (value_cmp (value.Text a.lot) (value.Text b.lot)) h in
+      let item = text_is a.item b.item both.0 in
+      let lot = text_is a.lot b.lot both.1 in
+      λ i. value.Text (who_text who) ∷ value.Text (item i) ∷ value.Text (lot i) ∷ [];
+}
+
+-- the answer of a partner's dates is those of its running rows
+pub dates_shown : (others : Others) (W : Who) (L : List Entry) (who : Who) (db : Trees) (rows : List Row) → IsLegal Two W L → is_partner who ≡ true → IsSound (beside others) db → Holds (lot_expiry_table L) (db 19)
+    → IsAnswer all_dates_query (overlay db []) (value.Text (who_text who) ∷ []) rows → rows ≡ map date_shown (dates_of (running_rows (events (own L who))))
+dates_shown others W L who db rows legal partner sound held a =
+    let ordered : AreOrdered (filled W L) = all_ordered W L in
+    shown_rows pairs_in_order date_key date_cells 19 3 all_dates_columns stock_order date_out (who_text who) (lot_expiry_table L) (dates_of (running_rows (events (own L who)))) (dates_are W L who legal partner) db held
+    (only_row others lot_expiry_layout.name 19 3 lot_expiry_layout.checks lot_expiry_layout.columns db (inr (inr (inr (inr (inr (inr (inr (inr (inr (inr (inl refl))))))))))) sound
+    (are_keyed lot_expiry_schema 3 (lot_expiry_table L) (db 19) (ordered.keyed LotExpiry) held)) rows a
 
 -- What went out.
 
@@ -121,7 +150,7 @@ number_is m n h = by (nat_lt m n) (nat_lt n m) refl refl (sym (λ p. is_eq (orde
     by false true e f g = absurd (let k : ◌≡◌ {A = Bool} false true = g in cc)
     by false false e f g = numbers_strict.total m n e f
 
-outgoing_is : (W : Who) (L : List Entry) (who : Who) → IsLegal W L → is_partner who ≡ true
+outgoing_is : (W : Who) (L : List Entry) (who : Who) → IsLegal Two W L → is_partner who ≡ true
     → IsShown nat_lt (λ (r : OutRow). r.n) outgoing_cells 4 2 outbox_columns outbox_order out_out (who_text who) (outgoing_table W L) (outgoing_rows W (own L who))
 outgoing_is W L who legal partner = record {
   lies = λ db. refl;
@@ -134,7 +163,7 @@ outgoing_is W L who legal partner = record {
 }
 
 -- the answer of what went out to a partner is all of its outgoing rows
-pub outgoing_rows_shown : (others : Others) (W : Who) (L : List Entry) (who : Who) (db : Trees) (rows : List Row) → IsLegal W L → is_partner who ≡ true → IsSound (beside others) db → Holds (outgoing_table W L) (db 4)
+pub outgoing_rows_shown : (others : Others) (W : Who) (L : List Entry) (who : Who) (db : Trees) (rows : List Row) → IsLegal Two W L → is_partner who ≡ true → IsSound (beside others) db → Holds (outgoing_table W L) (db 4)
     → IsAnswer outbox_query (overlay db []) (value.Text (who_text who) ∷ []) rows → rows ≡ map out_shown (outgoing_rows W (own L who))
 outgoing_rows_shown others W L who db rows legal partner sound held a =
     let ordered : AreOrdered (filled W L) = all_ordered W L in

@@ -16,6 +16,7 @@ use Rattle.sqlite_schema.specs.Rules.{equal}
 use Rattle.sqlite_rules.specs.Lists.{Has}
 use Rattle.sqlite_rules.proofs.ListLemmas.{has_filtered, has_kept}
 use Rattle.sqlite_rules.proofs.ProbeLemmas.{has_mapped, mapped_has}
+use Rattle.profile.specs.declared.rules.Rules.TheVariants.{Two}
 use Rattle.profile.specs.Header.{Who, is_partner, who_text}
 use Rattle.profile.specs.Register.{Entry, own}
 use Rattle.profile.specs.Accepted.{IsLegal}
@@ -33,7 +34,7 @@ use Rattle.book_tables.proofs.ShownRows.{begun}
 use Rattle.book_tables.proofs.Sorts.{ordered_is, shown_apart}
 
 -- The rows of a partner in a table of depositors that has none for no entries.
-module _ (W : Who) (L : List Entry) (who : Who) (rows : List Entry → List TableRow) (legal : IsLegal W L) (partner : is_partner who ≡ true) (nothing : rows [] ≡ []) where
+module _ (W : Who) (L : List Entry) (who : Who) (rows : List Entry → List TableRow) (legal : IsLegal Two W L) (partner : is_partner who ≡ true) (nothing : rows [] ≡ []) where
   pub own_row : (id : ℤ) (c : TableRow) → Has (for_each L rows) c → equal Binary (column (value.Int id ∷ values c) 1) (value.Text (who_text who)) ≡ true
       → (r : TableRow) × Has (rows (own L who)) r × (c ≡ Text (who_text who) ∷ r)
   own_row id c there its =

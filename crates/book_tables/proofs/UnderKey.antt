@@ -1,6 +1,6 @@
--- The rows of `entry` under a key of a depositor are those of its entries under that key.
-use Rattle.std.proofs.Common.{◌≡◌, ◌<◌, ℕ, suc, List, [], ◌∷◌, ◌++◌, map, filter, take, get_or, length, ◌&&◌, Bool, true, false, bytes_eq, None, Some, Option, refl, sym, ap, subst, ◌∙◌, arith, Less}
-use Rattle.std.specs.Prelude.{if◌then◌else◌, find}
+-- The rows of `entry` under a key of a depositor have the numbers of its entries under that key.
+use Rattle.std.proofs.Common.{◌≡◌, ◌<◌, ◌+◌, ℕ, suc, pos, List, [], ◌∷◌, ◌++◌, map, filter, take, get_or, length, length-append, ◌&&◌, Bool, true, false, bytes_eq, None, Some, Option, refl, sym, ap, subst, ◌∙◌, arith, Less}
+use Rattle.std.specs.Prelude.{if◌then◌else◌, find, slice_get}
 use Rattle.std.specs.List.{list_all}
 use Rattle.std.specs.Ordering.{is_eq, ordering_then}
 use Rattle.std.proofs.lemmas.Map.Text.{is_eq-slice_cmp}
@@ -17,6 +17,7 @@ use Rattle.sqlite_value.proofs.OrderLemmas.{value_cmp-Text}
 use Rattle.sqlite_schema.specs.Rules.{equal}
 use Rattle.sqlite_trees.specs.Tree.{IsAscending}
 use Rattle.sqlite_trees.proofs.ListLemmas.{ascending-filter, ascending-map, ascending_weaker}
+use Rattle.profile.specs.declared.rules.Rules.TheVariants.{Two}
 use Rattle.profile.specs.Header.{Who, is_partner, who_text}
 use Rattle.profile.specs.Register.{Entry, mark}
 use Rattle.profile.specs.Readings.{is_entry}
@@ -29,13 +30,16 @@ use Rattle.store.specs.Replayed.{written_on, all_written, is_under}
 use Rattle.book_tables.specs.Held.{entry_values}
 use Rattle.book_tables.specs.Standing.{Stands}
 use Rattle.book_tables.specs.Asking.{Finds}
-use Rattle.book_tables.specs.Recorded.{entry_shown}
 use Rattle.book_tables.proofs.Asked.{found}
 use Rattle.book_tables.proofs.Found.{flat_map-cond, map-both, entries_rise}
 use Rattle.book_tables.proofs.InOrder.{in_order}
 use Rattle.book_tables.proofs.KeyLemmas.{equal_texts}
 use Rattle.book_tables.proofs.KnownTexts.{under_text, under_query, under_is, under_plain}
 use Rattle.book_tables.proofs.Owned.{told_apart}
+
+-- the number of a row
+abbrev shows : Row → Row
+shows r = column r 0 ∷ []
 
 module _ (who key : List ℕ) where
   abbrev pub params : Row
@@ -46,9 +50,6 @@ module _ (who key : List ℕ) where
 
   abbrev whose : Row → Bool
   whose r = equal Binary (column r 2) (value.Text who) && (equal Binary (column r 3) (value.Text key) && true)
-
-  abbrev shows : Row → Row
-  shows r = column r 3 ∷ column r 4 ∷ column r 5 ∷ column r 6 ∷ []
 
   under_shown : (db : Trees) (rows : List Row) → IsTable (db 1) → IsAnswer under_query (overlay db []) params rows → rows ≡ map shows (filter whose (db 1))
   under_shown db rows up a =
@@ -73,66 +74,77 @@ passes : (who : Who) (key : List ℕ) (before : List Entry) (e : Entry) → is_p
 passes who key before e p q =
     λ i. (equal_bytes (who_text e.who) (who_text who) ∙ told_apart e.who who p q) i && (and_truth (equal Binary (value.Text (mark e)) (value.Text key)) ∙ equal_bytes (mark e) key) i
 
+-- the numbers of those that pass, when so many stand before them
+abbrev pub numbers_of : (Written → Bool) → ℕ → List Written → List ℕ
+numbers_of p n [] = []
+numbers_of p n (w ∷ ws) = if p w then (n + 1) ∷ numbers_of p (n + 1) ws else numbers_of p (n + 1) ws
+
+abbrev pub seq_shown : ℕ → Row
+seq_shown n = value.Int (pos n) ∷ []
+
 under_told : (who : Who) (key : List ℕ) (before L : List Entry) → list_all is_entry L ≡ true → is_partner who ≡ true
-    → map (shows (who_text who) key) (filter (whose (who_text who) key) (map entry_values (entries_on before L))) ≡ map entry_shown (filter (is_under who key) (written_on before L))
+    → map shows (filter (whose (who_text who) key) (map entry_values (entries_on before L))) ≡ map seq_shown (numbers_of (is_under who key) (length before) (written_on before L))
 under_told who key before [] good partner = refl
 under_told who key before (e ∷ L) good partner =
     let a = both_parts (is_entry e) (list_all is_entry L) good in
-    ap (λ (b : Bool). map (shows (who_text who) key) (if b then entry_values (entry_row before e) ∷ rest else rest)) (passes who key before e (partner_of e a.0) partner)
-    ∙ by (is_under who key (written before e)) (under_told who key (before ++ e ∷ []) L a.1 partner)
+    ap (λ (b : Bool). map shows (if b then entry_values (entry_row before e) ∷ rest else rest)) (passes who key before e (partner_of e a.0) partner)
+    ∙ by (is_under who key (written before e)) (under_told who key (before ++ e ∷ []) L a.1 partner ∙ ap (λ (n : ℕ). map seq_shown (numbers_of (is_under who key) n (written_on (before ++ e ∷ []) L))) (length-append before (e ∷ [])))
   where
     rest : List Row
     rest = filter (whose (who_text who) key) (map entry_values (entries_on (before ++ e ∷ []) L))
 
-    ws : List Written
-    ws = filter (is_under who key) (written_on (before ++ e ∷ []) L)
+    ns : List ℕ
+    ns = numbers_of (is_under who key) (length before + 1) (written_on (before ++ e ∷ []) L)
 
-    by : (b : Bool) → map (shows (who_text who) key) rest ≡ map entry_shown ws
-        → map (shows (who_text who) key) (if b then entry_values (entry_row before e) ∷ rest else rest) ≡ map entry_shown (if b then written before e ∷ ws else ws)
-    by true later = ap (λ rs. entry_shown (written before e) ∷ rs) later
+    by : (b : Bool) → map shows rest ≡ map seq_shown ns
+        → map shows (if b then entry_values (entry_row before e) ∷ rest else rest) ≡ map seq_shown (if b then (length before + 1) ∷ ns else ns)
+    by true later = ap (λ rs. seq_shown (length before + 1) ∷ rs) later
     by false later = later
 
 pub under_found : (W : Who) (L : List Entry) (who : Who) (key : List ℕ) (db : Database) (rows : List Row) → is_partner who ≡ true → Stands W L db
-    → Finds under_text (params (who_text who) key) db rows → rows ≡ map entry_shown (filter (is_under who key) (all_written L))
+    → Finds under_text (params (who_text who) key) db rows → rows ≡ map seq_shown (numbers_of (is_under who key) 0 (all_written L))
 under_found W L who key db rows partner stands h =
     let read = found under_text (params (who_text who) key) db rows _ stands.schema under_plain under_is h in
     let entries = let r = stands.rows in r.entry in
     under_shown (who_text who) key db.trees rows (subst IsTable (sym entries) (entries_rise [] L)) (read.answer value.Null)
-    ∙ ap (λ src. map (shows (who_text who) key) (filter (whose (who_text who) key) src)) entries
-    ∙ under_told who key [] L (legal-entries W L stands.legal) partner
+    ∙ ap (λ src. map shows (filter (whose (who_text who) key) src)) entries
+    ∙ under_told who key [] L (legal-entries Two W L stands.legal) partner
 
 -- The first that passes.
 
-pub find_none : (p : Written → Bool) (ws : List Written) → filter p ws ≡ [] → find p ws ≡ None
-find_none p [] h = refl
-find_none p (w ∷ ws) h = by (p w) refl (find_none p ws)
+pub find_none : (p : Written → Bool) (n : ℕ) (ws : List Written) → numbers_of p n ws ≡ [] → find p ws ≡ None
+find_none p n [] h = refl
+find_none p n (w ∷ ws) h = by (p w) refl (find_none p (n + 1) ws)
   where
-    by : (b : Bool) → p w ≡ b → (filter p ws ≡ [] → find p ws ≡ None) → find p (w ∷ ws) ≡ None
-    by true t again = let k : filter p (w ∷ ws) ≡ w ∷ filter p ws = rw t refl in let none : ◌≡◌ {A = List Written} (w ∷ filter p ws) [] = sym k ∙ h in absurd (cc)
+    by : (b : Bool) → p w ≡ b → (numbers_of p (n + 1) ws ≡ [] → find p ws ≡ None) → find p (w ∷ ws) ≡ None
+    by true t again = let k : numbers_of p n (w ∷ ws) ≡ (n + 1) ∷ numbers_of p (n + 1) ws = rw t refl in let none : ◌≡◌ {A = List ℕ} ((n + 1) ∷ numbers_of p (n + 1) ws) [] = sym k ∙ h in absurd (cc)
     by false t again =
-        let k : filter p (w ∷ ws) ≡ filter p ws = rw t refl in
+        let k : numbers_of p n (w ∷ ws) ≡ numbers_of p (n + 1) ws = rw t refl in
         let later : find p (w ∷ ws) ≡ find p ws = rw t refl in
         later ∙ again (sym k ∙ h)
 
-head_is : (a b : Written) (us vs : List Written) → ◌≡◌ {A = List Written} (a ∷ us) (b ∷ vs) → a ≡ b
+head_is : (a b : ℕ) (us vs : List ℕ) → ◌≡◌ {A = List ℕ} (a ∷ us) (b ∷ vs) → b ≡ a
 head_is a b us vs e = cc
 
 some_is : (a b : Written) → ◌≡◌ {A = Option Written} (Some a) (Some b) → a ≡ b
 some_is a b e = cc
 
-pub find_some : (p : Written → Bool) (ws : List Written) (w : Written) (more : List Written) → filter p ws ≡ w ∷ more → find p ws ≡ Some w
-find_some p [] w more h = absurd (cc)
-find_some p (x ∷ ws) w more h = by (p x) refl (find_some p ws w more)
+-- the entry under the first number
+pub find_some : (p : Written → Bool) (n : ℕ) (ws : List Written) (seq : ℕ) (more : List ℕ) → numbers_of p n ws ≡ seq ∷ more → (i : ℕ) × (seq ≡ n + 1 + i) × (slice_get ws i ≡ find p ws)
+find_some p n [] seq more h = absurd (cc)
+find_some p n (w ∷ ws) seq more h = by (p w) refl (find_some p (n + 1) ws seq more)
   where
-    by : (b : Bool) → p x ≡ b → (filter p ws ≡ w ∷ more → find p ws ≡ Some w) → find p (x ∷ ws) ≡ Some w
+    by : (b : Bool) → p w ≡ b → (numbers_of p (n + 1) ws ≡ seq ∷ more → (i : ℕ) × (seq ≡ n + 1 + 1 + i) × (slice_get ws i ≡ find p ws)) → (i : ℕ) × (seq ≡ n + 1 + i) × (slice_get (w ∷ ws) i ≡ find p (w ∷ ws))
     by true t again =
-        let k : filter p (x ∷ ws) ≡ x ∷ filter p ws = rw t refl in
-        let here : find p (x ∷ ws) ≡ Some x = rw t refl in
-        here ∙ ap Some (head_is x w (filter p ws) more (sym k ∙ h))
+        let k : numbers_of p n (w ∷ ws) ≡ (n + 1) ∷ numbers_of p (n + 1) ws = rw t refl in
+        let here : find p (w ∷ ws) ≡ Some w = rw t refl in
+        let first = head_is (n + 1) seq (numbers_of p (n + 1) ws) more (sym k ∙ h) in
+        (0, omega (arith, first), sym here)
     by false t again =
-        let k : filter p (x ∷ ws) ≡ filter p ws = rw t refl in
-        let later : find p (x ∷ ws) ≡ find p ws = rw t refl in
-        later ∙ again (sym k ∙ h)
+        let k : numbers_of p n (w ∷ ws) ≡ numbers_of p (n + 1) ws = rw t refl in
+        let later : find p (w ∷ ws) ≡ find p ws = rw t refl in
+        let it = again (sym k ∙ h) in
+        (suc it.0, omega (arith, it.1), it.2 ∙ sym later)
 
 -- where the first that passes stands
 pub record IsFirst (p : Written → Bool) (ws : List Written) (i : ℕ) (w : Written) : Type 0 where

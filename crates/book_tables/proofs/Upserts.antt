@@ -6,9 +6,9 @@ use Rattle.sqlite.specs.Kind.TheVariants as kind
 use Rattle.sqlite.specs.Cast.{cast}
 use Rattle.sqlite.specs.Effect.{IsDatabase}
 use Rattle.sqlite.specs.State.{State, Executes}
-use Rattle.book_tables.specs.Layout.{IsLayout, stock_layout, advice_layout, advice_line_layout, orders_layout, order_line_layout, reservation_layout}
+use Rattle.book_tables.specs.Layout.{IsLayout, stock_layout, advice_layout, advice_line_layout, orders_layout, order_line_layout, reservation_layout, lot_expiry_layout}
 use Rattle.book_tables.specs.Steps.{PutByKey, AreKeyed, WritesInto}
-use Rattle.book_tables.proofs.WritingTexts.{put_stock_text, put_stock_is, put_stock_plain, put_advice_text, put_advice_is, put_advice_plain, put_advice_line_text, put_advice_line_is, put_advice_line_plain, put_orders_text, put_orders_is, put_orders_plain, put_order_line_text, put_order_line_is, put_order_line_plain, put_reservation_text, put_reservation_is, put_reservation_plain}
+use Rattle.book_tables.proofs.WritingTexts.{put_stock_text, put_stock_is, put_stock_plain, put_advice_text, put_advice_is, put_advice_plain, put_advice_line_text, put_advice_line_is, put_advice_line_plain, put_orders_text, put_orders_is, put_orders_plain, put_order_line_text, put_order_line_is, put_order_line_plain, put_reservation_text, put_reservation_is, put_reservation_plain, put_expiry_text, put_expiry_is, put_expiry_plain}
 use Rattle.book_tables.proofs.UpsertLemmas.{IsUpsert, puts}
 use Rattle.book_tables.proofs.Values.{cast_int}
 
@@ -125,3 +125,22 @@ module _ (who ord item lot : List ℕ) (quantity : ℤ) where
   pub puts_reservation : (old new : State) (count : ℕ) → IsLayout old.now.schema → IsDatabase old.now → AreKeyed 4 (old.now.trees 16)
       → Executes put_reservation_text (Text who ∷ Text ord ∷ Text item ∷ Text lot ∷ Int quantity ∷ []) old new (Ok count) → WritesInto 16 (PutByKey 4 (Text who ∷ Text ord ∷ Text item ∷ Text lot ∷ Int quantity ∷ [])) old.now new.now
   puts_reservation = puts reservation_layout.name 8 reservation_layout.tree 4 5 reservation_layout.checks reservation_layout.columns (Text who ∷ Text ord ∷ Text item ∷ Text lot ∷ Int quantity ∷ []) reservation_known put_reservation_text put_reservation_is put_reservation_plain
+
+-- lot_expiry
+module _ (who item lot expiry : List ℕ) where
+  lot_expiry_known : IsUpsert lot_expiry_layout.name 10 lot_expiry_layout.tree 3 4 lot_expiry_layout.checks lot_expiry_layout.columns (Text who ∷ Text item ∷ Text lot ∷ Text expiry ∷ [])
+  lot_expiry_known = record {
+    spot = λ more. refl;
+    listed = inr (inr (inr (inr (inr (inr (inr (inr (inr (inr (inl refl))))))))));
+    guarded = λ new r. refl;
+    read = λ db. refl;
+    is_key = refl;
+    cast = refl;
+    given = refl;
+    named = λ id more. refl;
+    projects = λ id param rest more. refl;
+  }
+
+  pub puts_expiry : (old new : State) (count : ℕ) → IsLayout old.now.schema → IsDatabase old.now → AreKeyed 3 (old.now.trees 19)
+      → Executes put_expiry_text (Text who ∷ Text item ∷ Text lot ∷ Text expiry ∷ []) old new (Ok count) → WritesInto 19 (PutByKey 3 (Text who ∷ Text item ∷ Text lot ∷ Text expiry ∷ [])) old.now new.now
+  puts_expiry = puts lot_expiry_layout.name 10 lot_expiry_layout.tree 3 4 lot_expiry_layout.checks lot_expiry_layout.columns (Text who ∷ Text item ∷ Text lot ∷ Text expiry ∷ []) lot_expiry_known put_expiry_text put_expiry_is put_expiry_plain

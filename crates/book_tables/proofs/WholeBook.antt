@@ -1,5 +1,5 @@
--- The whole of `book`, which has one row, and of `entry`, in the order of its numbers.
-use Rattle.std.proofs.Common.{◌≡◌, inl, inr, List, [], ◌∷◌, length, map, drop, Bool, true, false, codes, Less, Equal, refl, sym, ap, subst, ◌∙◌, arith}
+-- The whole of `book`, which has one row, and of `entry` and `entry_rules`, in the order of their numbers.
+use Rattle.std.proofs.Common.{◌≡◌, inl, inr, ℕ, suc, List, [], ◌∷◌, length, map, drop, Bool, true, false, codes, Less, Equal, refl, sym, ap, subst, ◌∙◌, arith}
 use Rattle.std.specs.List.Sorted.{IsPermutation}
 use Rattle.std.specs.Ordering.{ordering_then}
 use Rattle.std.proofs.lemmas.List.{length-map}
@@ -7,7 +7,8 @@ use Rattle.std.proofs.lemmas.List.Sorted.{length_permutation}
 use Rattle.sqlite.specs.declared.types.Value.{Value}
 use Rattle.sqlite.specs.declared.types.Value.TheVariants as value
 use Rattle.sqlite.specs.Order.{Row, column}
-use Rattle.sqlite.specs.Query.{IsAnswer, Output, output_cmp}
+use Rattle.sqlite.specs.Query.{Query, IsAnswer, Output, output_cmp}
+use Rattle.sqlite.specs.Table.{Table}
 use Rattle.sqlite.specs.Program.{overlay}
 use Rattle.sqlite.specs.Tree.{Trees, IsTable}
 use Rattle.sqlite_schema.specs.Rules.{are_typed}
@@ -17,14 +18,15 @@ use Rattle.sqlite_trees.proofs.ListLemmas.{ascending-map, ascending_weaker}
 use Rattle.sqlite.proofs.Callers.{one_permutation}
 use Rattle.sqlite_catalog.specs.Listing.{IsSound}
 use Rattle.sqlite_rules.specs.Lists.{Has}
-use Rattle.book_tables.specs.Layout.{Others, beside, text, blob, book_layout, entry_layout}
+use Rattle.book_tables.specs.Layout.{Others, beside, book_tables, text, number, blob, book_layout, entry_layout, entry_rules_layout}
 use Rattle.book_tables.proofs.InOrder.{in_order}
 use Rattle.book_tables.proofs.KeyLemmas.{places}
 use Rattle.book_tables.proofs.Values.{and_true}
+use Rattle.book_tables.proofs.ReadingTexts.{ordered_from}
 use Rattle.book_tables.proofs.WholeFound.{out, kept_is, stored_shown}
 use Rattle.book_tables.proofs.WholeKeyed.{columns_out}
 use Rattle.book_tables.proofs.WholeRows.{row_full, row_typed, all_columns}
-use Rattle.book_tables.proofs.WholeTexts.{columns_at, rising_at, book_query, entry_query}
+use Rattle.book_tables.proofs.WholeTexts.{columns_at, rising_at, book_query, entry_query, rules_query}
 
 -- `book`.
 
@@ -60,25 +62,7 @@ book_same one two db its sound its_sound rows a b row is =
     let same : (book_out mine.0).1 ≡ (book_out row).1 = elim listed [ inl e ↦ e | inr none ↦ absurd none ] in
     mine.1 ∙ ap (λ (r : Row). r ∷ []) (sym (book_full one db sound mine.0 there) ∙ same ∙ book_full two its its_sound row its_there)
 
--- `entry`.
-
-abbrev entry_out : Row → Output
-entry_out = out 1 (columns_at (0 ∷ places 2 5)) (rising_at (0 ∷ []))
-
-abbrev entry_row : Row → Row
-entry_row r = (entry_out r).1
-
-pub entries_shown : (db : Trees) (rows : List Row) → IsTable (db 1) → IsAnswer entry_query (overlay db []) [] rows → rows ≡ map entry_row (db 1)
-entries_shown db rows up a =
-    let is = kept_is 1 (columns_at (0 ∷ places 2 5)) (rising_at (0 ∷ [])) (λ _. refl) db rows a in
-    let rising : IsAscending (λ x y. output_cmp entry_query x y ≡ Less) a.kept =
-    subst (IsAscending (λ x y. output_cmp entry_query x y ≡ Less)) (sym is) (ascending-map _ entry_out (db 1) (ascending_weaker _ _ (λ r s h. ap (λ o. ordering_then o Equal) h) (db 1) up)) in
-    let same : a.ordered ≡ a.kept = in_order entry_query a.kept a.ordered rising a.same a.sorted in
-    a.shown ∙ ap (map (λ (o : Output). o.1)) (same ∙ is) ∙ map_map entry_out (λ (o : Output). o.1) (db 1)
-  where
-    map_map : {A B C : Type 0} (f : A → B) (g : B → C) (xs : List A) → map g (map f xs) ≡ map (λ x. g (f x)) xs
-    map_map f g [] = refl
-    map_map f g (x ∷ xs) = ap (λ ys. g (f x) ∷ ys) (map_map f g xs)
+-- A table whose first column is its rowid, which shows that and so many columns more, in the order of its numbers.
 
 -- a row of which all but the second value is shown, which is NULL
 abbrev unshown : Row → Row
@@ -92,22 +76,78 @@ null_is (value.Real x) h = absurd (let e : ◌≡◌ {A = Bool} false true = h i
 null_is (value.Text t) h = absurd (let e : ◌≡◌ {A = Bool} false true = h in cc)
 null_is (value.Blob b) h = absurd (let e : ◌≡◌ {A = Bool} false true = h in cc)
 
-second_null : (row : Row) → are_typed entry_layout.key 0 entry_layout.columns (drop 1 row) ≡ true → length row ≡ 7 → value.Null ≡ column row 1
-second_null [] h n = absurd (omega (arith, n))
-second_null (x ∷ []) h n = absurd (omega (arith, n))
-second_null (x ∷ v ∷ row) h n = null_is v (and_true _ _ h).0
+module _ (tree n : ℕ) (lies : (db : Trees) → overlay db [] tree ≡ db tree) where
+  abbrev shown : List ℕ
+  shown = 0 ∷ places 2 n
 
-entry_whole : (others : Others) (db : Trees) → IsSound (beside others) db → (row : Row) → Has (db 1) row → unshown (entry_row row) ≡ row
-entry_whole others db sound row there =
-    let long = row_full others db entry_layout (inr (inl refl)) sound row there 5 (blob (codes "body")) refl refl refl refl refl in
-    let null = second_null row (row_typed others db entry_layout (inr (inl refl)) sound row there) long in
-    ap unshown (columns_out row (0 ∷ places 2 5)) ∙ ap (λ (v : Value). column row 0 ∷ v ∷ map (column row) (places 2 5)) null ∙ all_columns row 7 long
+  abbrev pub seq_query : Query
+  seq_query = ordered_from tree [] (columns_at shown) (rising_at (0 ∷ []))
 
-undone : (xs : List Row) → ((r : Row) → Has xs r → unshown (entry_row r) ≡ r) → map unshown (map entry_row xs) ≡ xs
-undone [] h = refl
-undone (x ∷ xs) h = λ i. h x (inl refl) i ∷ undone xs (λ r there. h r (inr there)) i
+  abbrev seq_out : Row → Output
+  seq_out = out tree (columns_at shown) (rising_at (0 ∷ []))
+
+  abbrev seq_row : Row → Row
+  seq_row r = (seq_out r).1
+
+  seqs_shown : (db : Trees) (rows : List Row) → IsTable (db tree) → IsAnswer seq_query (overlay db []) [] rows → rows ≡ map seq_row (db tree)
+  seqs_shown db rows up a =
+      let is = kept_is tree (columns_at shown) (rising_at (0 ∷ [])) lies db rows a in
+      let rising : IsAscending (λ x y. output_cmp seq_query x y ≡ Less) a.kept =
+      subst (IsAscending (λ x y. output_cmp seq_query x y ≡ Less)) (sym is) (ascending-map _ seq_out (db tree) (ascending_weaker _ _ (λ r s h. ap (λ o. ordering_then o Equal) h) (db tree) up)) in
+      let same : a.ordered ≡ a.kept = in_order seq_query a.kept a.ordered rising a.same a.sorted in
+      a.shown ∙ ap (map (λ (o : Output). o.1)) (same ∙ is) ∙ map_map seq_out (λ (o : Output). o.1) (db tree)
+    where
+      map_map : {A B C : Type 0} (f : A → B) (g : B → C) (xs : List A) → map g (map f xs) ≡ map (λ x. g (f x)) xs
+      map_map f g [] = refl
+      map_map f g (x ∷ xs) = ap (λ ys. g (f x) ∷ ys) (map_map f g xs)
+
+  module _ (table : Table) (first_null : (v : Value) (vs : Row) → are_typed table.key 0 table.columns (v ∷ vs) ≡ true → is_null v ≡ true)
+      (full : (others : Others) (db : Trees) → IsSound (beside others) db → (row : Row) → Has (db tree) row → (length row ≡ suc (suc n)) × (are_typed table.key 0 table.columns (drop 1 row) ≡ true)) where
+    second_null : (row : Row) → are_typed table.key 0 table.columns (drop 1 row) ≡ true → length row ≡ suc (suc n) → value.Null ≡ column row 1
+    second_null [] h long = absurd (omega (arith, long))
+    second_null (x ∷ []) h long = absurd (omega (arith, long))
+    second_null (x ∷ v ∷ row) h long = null_is v (first_null v row h)
+
+    seq_whole : (others : Others) (db : Trees) → IsSound (beside others) db → (row : Row) → Has (db tree) row → unshown (seq_row row) ≡ row
+    seq_whole others db sound row there =
+        let it = full others db sound row there in
+        let null = second_null row it.1 it.0 in
+        ap unshown (columns_out row shown) ∙ ap (λ (v : Value). column row 0 ∷ v ∷ map (column row) (places 2 n)) null ∙ all_columns row (suc (suc n)) it.0
+
+    undone : (xs : List Row) → ((r : Row) → Has xs r → unshown (seq_row r) ≡ r) → map unshown (map seq_row xs) ≡ xs
+    undone [] h = refl
+    undone (x ∷ xs) h = λ i. h x (inl refl) i ∷ undone xs (λ r there. h r (inr there)) i
+
+    seqs_same : (one two : Others) (db its : Trees) → IsSound (beside one) db → IsSound (beside two) its → (rows : List Row) → IsTable (db tree) → IsTable (its tree) → IsAnswer seq_query (overlay db []) [] rows
+        → IsAnswer seq_query (overlay its []) [] rows → db tree ≡ its tree
+    seqs_same one two db its sound its_sound rows up its_up a b =
+        sym (undone (db tree) (seq_whole one db sound)) ∙ ap (map unshown) (sym (seqs_shown db rows up a) ∙ seqs_shown its rows its_up b) ∙ undone (its tree) (seq_whole two its its_sound)
+
+-- `entry`.
+
+pub entries_shown : (db : Trees) (rows : List Row) → IsTable (db 1) → IsAnswer entry_query (overlay db []) [] rows → rows ≡ map (seq_row 1 5 (λ _. refl)) (db 1)
+entries_shown = seqs_shown 1 5 (λ _. refl)
 
 pub entries_same : (one two : Others) (db its : Trees) → IsSound (beside one) db → IsSound (beside two) its → (rows : List Row) → IsTable (db 1) → IsTable (its 1) → IsAnswer entry_query (overlay db []) [] rows
     → IsAnswer entry_query (overlay its []) [] rows → db 1 ≡ its 1
-entries_same one two db its sound its_sound rows up its_up a b =
-    sym (undone (db 1) (entry_whole one db sound)) ∙ ap (map unshown) (sym (entries_shown db rows up a) ∙ entries_shown its rows its_up b) ∙ undone (its 1) (entry_whole two its its_sound)
+entries_same = seqs_same 1 5 (λ _. refl) entry_layout (λ v vs h. (and_true _ _ h).0)
+    (λ others db sound row there. (
+      row_full others db entry_layout (inr (inl refl)) sound row there 5 (blob (codes "body")) refl refl refl refl refl,
+      row_typed others db entry_layout (inr (inl refl)) sound row there,
+    ))
+
+-- `entry_rules`.
+
+pub rules_shown : (db : Trees) (rows : List Row) → IsTable (db 18) → IsAnswer rules_query (overlay db []) [] rows → rows ≡ map (seq_row 18 1 (λ _. refl)) (db 18)
+rules_shown = seqs_shown 18 1 (λ _. refl)
+
+rules_listed : Has book_tables entry_rules_layout
+rules_listed = inr (inr (inr (inr (inr (inr (inr (inr (inr (inl refl)))))))))
+
+pub rules_same : (one two : Others) (db its : Trees) → IsSound (beside one) db → IsSound (beside two) its → (rows : List Row) → IsTable (db 18) → IsTable (its 18) → IsAnswer rules_query (overlay db []) [] rows
+    → IsAnswer rules_query (overlay its []) [] rows → db 18 ≡ its 18
+rules_same = seqs_same 18 1 (λ _. refl) entry_rules_layout (λ v vs h. (and_true _ _ h).0)
+    (λ others db sound row there. (
+      row_full others db entry_rules_layout rules_listed sound row there 1 (number (codes "rules")) refl refl refl refl refl,
+      row_typed others db entry_rules_layout rules_listed sound row there,
+    ))

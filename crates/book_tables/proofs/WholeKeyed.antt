@@ -16,8 +16,8 @@ use Rattle.sqlite_rules.proofs.ListLemmas.{all_has}
 use Rattle.profile.specs.Tables.{TableRow}
 use Rattle.book_tables.specs.Comparing.{AreTables}
 use Rattle.book_tables.specs.Held.{values, Holds}
-use Rattle.book_tables.specs.Layout.{Others, beside, book_tables, text, number, outgoing_layout, stock_layout, advice_layout, advice_line_layout, orders_layout, order_line_layout, reservation_layout}
-use Rattle.book_tables.specs.Standing.{BookTable, Outgoing, Stock, Advice, AdviceLine, Orders, OrderLine, Reservation, layout_of, tree_of, width_of}
+use Rattle.book_tables.specs.Layout.{Others, beside, book_tables, text, number, outgoing_layout, stock_layout, advice_layout, advice_line_layout, orders_layout, order_line_layout, reservation_layout, lot_expiry_layout}
+use Rattle.book_tables.specs.Standing.{BookTable, Outgoing, Stock, Advice, AdviceLine, Orders, OrderLine, Reservation, LotExpiry, layout_of, tree_of, width_of}
 use Rattle.book_tables.proofs.KeyLemmas.{places}
 use Rattle.book_tables.proofs.WholeFound.{row_stored, stored_shown}
 use Rattle.book_tables.proofs.WholeRows.{row_full, columns_later, all_columns, numbered_row}
@@ -31,6 +31,7 @@ keyed_listed AdviceLine = inr (inr (inr (inr (inr (inl refl)))))
 keyed_listed Orders = inr (inr (inr (inr (inr (inr (inl refl))))))
 keyed_listed OrderLine = inr (inr (inr (inr (inr (inr (inr (inl refl)))))))
 keyed_listed Reservation = inr (inr (inr (inr (inr (inr (inr (inr (inl refl))))))))
+keyed_listed LotExpiry = inr (inr (inr (inr (inr (inr (inr (inr (inr (inr (inl refl))))))))))
 
 pub keyed_lies : (t : BookTable) (db : Trees) → overlay db [] (tree_of t) ≡ db (tree_of t)
 keyed_lies Outgoing db = refl
@@ -40,6 +41,7 @@ keyed_lies AdviceLine db = refl
 keyed_lies Orders db = refl
 keyed_lies OrderLine db = refl
 keyed_lies Reservation db = refl
+keyed_lies LotExpiry db = refl
 
 -- columns as terms
 pub columns_out : (r : Row) (at : List ℕ) → eval_all (columns_at at) ([] ∷ r ∷ []) ≡ map (column r) at
@@ -66,6 +68,7 @@ keyed_full AdviceLine others db sound row there = row_full others db advice_line
 keyed_full Orders others db sound row there = row_full others db orders_layout (keyed_listed Orders) sound row there 6 (text (codes "to_place")) refl refl refl refl refl
 keyed_full OrderLine others db sound row there = row_full others db order_line_layout (keyed_listed OrderLine) sound row there 5 (number (codes "quantity")) refl refl refl refl refl
 keyed_full Reservation others db sound row there = row_full others db reservation_layout (keyed_listed Reservation) sound row there 4 (number (codes "quantity")) refl refl refl refl refl
+keyed_full LotExpiry others db sound row there = row_full others db lot_expiry_layout (keyed_listed LotExpiry) sound row there 3 (text (codes "expiry")) refl refl refl refl refl
 
 -- what is shown of a row is all but its rowid
 pub shown_is : (t : BookTable) (others : Others) (db : Trees) → IsSound (beside others) db → (row : Row) → Has (db (tree_of t)) row → shown t row ≡ drop 1 row

@@ -23,7 +23,7 @@ use Rattle.sqlite_rules.proofs.ProbeLemmas.{has_mapped, mapped_has}
 use Rattle.profile.specs.Tables.{TableRow}
 use Rattle.book_tables.specs.Held.{values, Holds}
 use Rattle.book_tables.specs.Layout.{Others, beside}
-use Rattle.book_tables.specs.Standing.{BookTable, Outgoing, Stock, Advice, AdviceLine, Orders, OrderLine, Reservation, AreByKey, schema_of, tree_of, width_of}
+use Rattle.book_tables.specs.Standing.{BookTable, Outgoing, Stock, Advice, AdviceLine, Orders, OrderLine, Reservation, LotExpiry, AreByKey, schema_of, tree_of, width_of}
 use Rattle.book_tables.specs.Steps.{AreKeyed, has_key, key_of}
 use Rattle.book_tables.proofs.HoldsLemmas.{are_keyed}
 use Rattle.book_tables.proofs.KeyLemmas.{places, same_text, same_int, equal_texts, equal_ints}
@@ -91,6 +91,7 @@ one_row AdviceLine others db = only_row others (codes "advice_line") 10 3 _ _ db
 one_row Orders others db = only_row others (codes "orders") 12 2 _ _ db (keyed_listed Orders)
 one_row OrderLine others db = only_row others (codes "order_line") 14 3 _ _ db (keyed_listed OrderLine)
 one_row Reservation others db = only_row others (codes "reservation") 16 4 _ _ db (keyed_listed Reservation)
+one_row LotExpiry others db = only_row others (codes "lot_expiry") 19 3 _ _ db (keyed_listed LotExpiry)
 
 flipped : (o p : Ordering) → o ≡ ordering_reverse p → is_eq o ≡ is_eq p
 flipped o Less e = ap is_eq e

@@ -14,7 +14,7 @@ use Rattle.sqlite.specs.Listing.{understood, reads_listing}
 use Rattle.sqlite.specs.Given.{IsPlain}
 use Rattle.sqlite.proofs.Callers.{command_of}
 use Rattle.book_tables.specs.declared.comparing.TableName.{TableName}
-use Rattle.book_tables.specs.declared.comparing.TableName.TheVariants.{Book, Entry, Outgoing, Stock, Advice, AdviceLine, Orders, OrderLine, Reservation}
+use Rattle.book_tables.specs.declared.comparing.TableName.TheVariants.{Book, Entry, Outgoing, Stock, Advice, AdviceLine, Orders, OrderLine, Reservation, EntryRules, LotExpiry}
 use Rattle.book_tables.specs.Comparing.{whole_text}
 use Rattle.book_tables.specs.Layout.{Others, beside}
 use Rattle.book_tables.specs.Standing as keyed
@@ -38,6 +38,9 @@ book_query = ordered_from 0 [] (columns_at (places 0 4)) []
 abbrev pub entry_query : Query
 entry_query = ordered_from 1 [] (columns_at (0 ∷ places 2 5)) (rising_at (0 ∷ []))
 
+abbrev pub rules_query : Query
+rules_query = ordered_from 18 [] (columns_at (0 ∷ places 2 1)) (rising_at (0 ∷ []))
+
 -- all columns of a keyed table, in the order of its key
 abbrev pub keyed_query : BookTable → Query
 keyed_query t = ordered_from (tree_of t) [] (columns_at (places 1 (columns_of t))) (rising_at (places 1 (width_of t)))
@@ -50,6 +53,7 @@ keyed_name keyed.AdviceLine = AdviceLine
 keyed_name keyed.Orders = Orders
 keyed_name keyed.OrderLine = OrderLine
 keyed_name keyed.Reservation = Reservation
+keyed_name keyed.LotExpiry = LotExpiry
 
 abbrev names_in : Table → List (List ℕ)
 names_in t = map (λ (c : Column). c.name) t.columns
@@ -64,6 +68,8 @@ whole_names AdviceLine = names_in (layout_of keyed.AdviceLine)
 whole_names Orders = names_in (layout_of keyed.Orders)
 whole_names OrderLine = names_in (layout_of keyed.OrderLine)
 whole_names Reservation = names_in (layout_of keyed.Reservation)
+whole_names EntryRules = codes "seq" ∷ codes "rules" ∷ []
+whole_names LotExpiry = names_in (layout_of keyed.LotExpiry)
 
 abbrev pub whole_query : TableName → Query
 whole_query Book = book_query
@@ -75,6 +81,8 @@ whole_query AdviceLine = keyed_query keyed.AdviceLine
 whole_query Orders = keyed_query keyed.Orders
 whole_query OrderLine = keyed_query keyed.OrderLine
 whole_query Reservation = keyed_query keyed.Reservation
+whole_query EntryRules = rules_query
+whole_query LotExpiry = keyed_query keyed.LotExpiry
 
 abbrev pub whole_command : TableName → Command
 whole_command t = Select (record { lets = []; body = whole_query t }) (whole_names t)
@@ -90,6 +98,8 @@ whole_is AdviceLine others = (refl, refl)
 whole_is Orders others = (refl, refl)
 whole_is OrderLine others = (refl, refl)
 whole_is Reservation others = (refl, refl)
+whole_is EntryRules others = (refl, refl)
+whole_is LotExpiry others = (refl, refl)
 
 pub whole_plain : (t : TableName) (others : Others) → IsPlain (understood (beside others) (whole_text t))
 unfolding understood everything
@@ -102,3 +112,5 @@ whole_plain AdviceLine others = (refl, refl)
 whole_plain Orders others = (refl, refl)
 whole_plain OrderLine others = (refl, refl)
 whole_plain Reservation others = (refl, refl)
+whole_plain EntryRules others = (refl, refl)
+whole_plain LotExpiry others = (refl, refl)

@@ -123,6 +123,17 @@ pub put_reservation_plain : (others : Others) → IsPlain (understood (beside ot
 unfolding understood everything
 put_reservation_plain others = (refl, refl)
 
+abbrev pub put_expiry_text : List ℕ
+put_expiry_text = codes "INSERT INTO lot_expiry (who, item, lot, expiry) VALUES (?1, ?2, ?3, ?4) ON CONFLICT (who, item, lot) DO UPDATE SET expiry = ?4"
+
+pub put_expiry_is : (others : Others) → command_of (understood (beside others) put_expiry_text) ≡ InsertOr 10 Abort (Values (source 4) 5) (on_conflict (1 ∷ 2 ∷ 3 ∷ []) (update_query 19 3 4) ∷ [])
+unfolding understood everything
+put_expiry_is others = refl
+
+pub put_expiry_plain : (others : Others) → IsPlain (understood (beside others) put_expiry_text)
+unfolding understood everything
+put_expiry_plain others = (refl, refl)
+
 -- Inserts.
 
 abbrev pub insert_book_text : List ℕ
@@ -158,7 +169,32 @@ pub insert_outgoing_plain : (others : Others) → IsPlain (understood (beside ot
 unfolding understood everything
 insert_outgoing_plain others = (refl, refl)
 
+abbrev pub insert_rules_text : List ℕ
+insert_rules_text = codes "INSERT INTO entry_rules (seq, rules) VALUES (?1, ?2)"
+
+pub insert_rules_is : (others : Others) → command_of (understood (beside others) insert_rules_text) ≡ Insert 9 (Values (col 0 0 ∷ lit Null ∷ columns_of 0 1 1) 3)
+unfolding understood everything
+insert_rules_is others = refl
+
+pub insert_rules_plain : (others : Others) → IsPlain (understood (beside others) insert_rules_text)
+unfolding understood everything
+insert_rules_plain others = (refl, refl)
+
 -- An update and a delete.
+
+abbrev pub set_version_text : List ℕ
+set_version_text = codes "UPDATE book SET version = ?1"
+
+abbrev pub set_version_query : Query
+set_version_query = from_where 0 [] (col 1 0 ∷ col 1 0 ∷ col 0 0 ∷ columns_of 1 2 2)
+
+pub set_version_is : (others : Others) → command_of (understood (beside others) set_version_text) ≡ Update 0 (record { lets = []; body = set_version_query })
+unfolding understood everything
+set_version_is others = refl
+
+pub set_version_plain : (others : Others) → IsPlain (understood (beside others) set_version_text)
+unfolding understood everything
+set_version_plain others = (refl, refl)
 
 abbrev pub set_state_text : List ℕ
 set_state_text = codes "UPDATE outgoing SET state = ?3 WHERE who = ?1 AND n = ?2"

@@ -1,10 +1,11 @@
 -- What appending an entry changes in the tables, besides what its command changes.
 use Rattle.std.specs.Prelude.{◌≡◌, ℕ, ◌+◌, List, [], ◌∷◌, length, codes, if◌then◌else◌}
+use Rattle.profile.specs.declared.rules.Rules.TheVariants.{Two}
 use Rattle.profile.specs.Header.{Who}
 use Rattle.profile.specs.Register.{Deed, Performed, Entry, is_numbered, own}
 use Rattle.profile.specs.Reply.{out}
 use Rattle.profile.specs.Rows.{new_out_row}
-use Rattle.profile.specs.Tables.{entry_row, outgoing_row}
+use Rattle.profile.specs.Tables.{entry_row, entry_rules_row, outgoing_row}
 use Rattle.profile.specs.Changes as tables
 use Rattle.rules.specs.Written.{Written, written}
 use Rattle.rules.specs.Tabled.{table_changes}
@@ -20,9 +21,9 @@ abbrev pub sent_changes : Who → List Entry → Entry → List tables.Change
 sent_changes W L e =
     if is_numbered e then tables.Puts (codes "outgoing") (outgoing_row e.who (new_out_row W (own L e.who) e)) ∷ [] else []
 
--- the entry's row, and that
+-- the entry's row, that of its rules, and that
 abbrev pub entry_changes : Who → List Entry → Entry → List tables.Change
-entry_changes W L e = tables.Puts (codes "entry") (entry_row L e) ∷ sent_changes W L e
+entry_changes W L e = tables.Puts (codes "entry") (entry_row L e) ∷ tables.Puts (codes "entry_rules") (entry_rules_row L e) ∷ sent_changes W L e
 
 -- what is given to be appended: the entry as it is written down after the register, under the next number, with the text that
 -- goes out for it, and with changes that lead from the register's tables to those with the entry
@@ -30,4 +31,4 @@ pub record Appends (W : Who) (L : List Entry) (e : Entry) (n : ℕ) (row : Writt
   pub next : n ≡ length L + 1
   pub entry : row ≡ written L e
   pub outgoing : text ≡ out W (own L e.who) e
-  pub leads : tables.LeadOn W L e (table_changes e.who changes)
+  pub leads : tables.LeadOn Two W L e (table_changes e.who changes)

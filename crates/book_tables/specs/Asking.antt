@@ -1,6 +1,7 @@
 -- What asking the tables tells, what it leaves, and why it fails.
-use Rattle.std.specs.Prelude.{◌≡◌, ◌≢◌, ◌≤◌, ℕ, List, None, Some, Ok, Result, IsTrue, IfErr, OnOk, codes}
+use Rattle.std.specs.Prelude.{◌≡◌, ◌≢◌, ◌≤◌, ℕ, List, [], None, Some, Ok, Result, IsTrue, IfErr, OnOk, codes}
 use Rattle.sqlite.specs.Order.{Row}
+use Rattle.sqlite.specs.Schema.{Schema}
 use Rattle.sqlite.specs.Clock.{timed}
 use Rattle.sqlite.specs.Effect.{Database, Reads}
 use Rattle.sqlite.specs.Held.{state}
@@ -8,6 +9,7 @@ use Rattle.sqlite.specs.Store.{Ghosts}
 use Rattle.sqlite.specs.Listing.{understood, reads_listing, IsSourceOf}
 use Rattle.sqlite.specs.State.{State, HasCleanDisk, Survives}
 use Rattle.sqlite_resolve.specs.declared.compiled.Compiled.{Compiled}
+use Rattle.profile.specs.declared.rules.Rules.TheVariants.{One}
 use Rattle.profile.specs.Header.{Who}
 use Rattle.profile.specs.Register.{Entry}
 use Rattle.store.specs.declared.fault.Fault.{Fault}
@@ -16,6 +18,7 @@ use Rattle.book_tables.specs.Exits.{IsAsBefore, StandsWhileOpen}
 use Rattle.book_tables.specs.Kept.{Kept}
 use Rattle.book_tables.specs.Layout.{IsLayout}
 use Rattle.book_tables.specs.Limits.{NoMore}
+use Rattle.book_tables.specs.Recorded.{IsHouse}
 use Rattle.book_tables.specs.Rises.{Rises}
 
 -- the text is a statement under the schema that is there, and where it is a query these rows are its answer
@@ -29,10 +32,18 @@ pub record Finds (sql : List ℕ) (params : Row) (db : Database) (rows : List Ro
 abbrev pub house_text : List ℕ
 house_text = codes "SELECT version, qualifier, id FROM book"
 
--- a book's tables are as before, and a crash leaves no more
-pub record IsAsked (old new : State) : Type 0 where
-  pub same : HasCleanDisk new → (IsTrue old.is_open → IsLayout old.now.schema) → IsAsBefore old new
-  pub crash : Survives old new (λ _. (IsTrue old.is_open → IsLayout old.now.schema) → ⊥)
+-- tables of such a schema are as before, and a crash leaves no more
+pub record IsAskedOf (Lies : Schema → Type 0) (old new : State) : Type 0 where
+  pub same : HasCleanDisk new → (IsTrue old.is_open → Lies old.now.schema) → IsAsBefore old new
+  pub crash : Survives old new (λ _. (IsTrue old.is_open → Lies old.now.schema) → ⊥)
+
+-- and so are a book's
+abbrev pub IsAsked : State → State → Type 0
+IsAsked = IsAskedOf IsLayout
+
+-- the rows of `book` name version 1
+abbrev pub IsOfFirst : Database → Type 0
+IsOfFirst db = (rows : List Row) × Finds house_text [] db rows × ((W : Who) × IsHouse One rows W)
 
 -- Why a query failed: 41 where a call was refused, 43 only where the tables stand for no register, and neither 42 nor 44.
 pub record IsAskFault (fault : Fault) (old new : State) (refused more : ℕ) : Type 0 where

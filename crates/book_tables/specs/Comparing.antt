@@ -9,7 +9,7 @@ use Rattle.sqlite.specs.Tree.{Trees}
 use Rattle.sqlite_trees.specs.declared.store.Shape.TheVariants as shape
 use Rattle.sqlite_trees.specs.View.{IsShaped}
 use Rattle.book_tables.specs.declared.comparing.TableName.{TableName}
-use Rattle.book_tables.specs.declared.comparing.TableName.TheVariants.{Book, Entry, Outgoing, Stock, Advice, AdviceLine, Orders, OrderLine, Reservation}
+use Rattle.book_tables.specs.declared.comparing.TableName.TheVariants.{Book, Entry, Outgoing, Stock, Advice, AdviceLine, Orders, OrderLine, Reservation, EntryRules, LotExpiry}
 use Rattle.book_tables.specs.Asking.{Finds}
 use Rattle.book_tables.specs.Layout.{IsLayout, book_tables}
 
@@ -24,6 +24,8 @@ whole_text AdviceLine = codes "SELECT who, shipment, line, item, lot, quantity F
 whole_text Orders = codes "SELECT who, ord, is_open, to_name, to_one, to_two, to_place FROM orders ORDER BY who, ord"
 whole_text OrderLine = codes "SELECT who, ord, line, item, lot, quantity FROM order_line ORDER BY who, ord, line"
 whole_text Reservation = codes "SELECT who, ord, item, lot, quantity FROM reservation ORDER BY who, ord, item, lot"
+whole_text EntryRules = codes "SELECT seq, rules FROM entry_rules ORDER BY seq"
+whole_text LotExpiry = codes "SELECT who, item, lot, expiry FROM lot_expiry ORDER BY who, item, lot"
 
 -- the tables are compared one after another
 abbrev pub number_of : TableName → ℕ
@@ -36,6 +38,8 @@ number_of AdviceLine = 5
 number_of Orders = 6
 number_of OrderLine = 7
 number_of Reservation = 8
+number_of EntryRules = 9
+number_of LotExpiry = 10
 
 -- both databases answer the text, and it is told whether their rows are the same
 pub record FindBoth (sql : List ℕ) (one two : Database) (same : Bool) : Type 0 where

@@ -3,6 +3,7 @@ use Rattle.std.specs.Prelude.{◌≡◌, ℕ, List, [], ◌∷◌, ◌++◌, IsT
 use Rattle.sqlite.specs.Tree.{Trees}
 use Rattle.sqlite.specs.State.{State}
 use Rattle.sqlite.specs.Effect.{IsDatabase}
+use Rattle.profile.specs.declared.rules.Rules.TheVariants.{Two}
 use Rattle.profile.specs.Header.{Who, who_text}
 use Rattle.profile.specs.Register.{Entry}
 use Rattle.profile.specs.Accepted.{IsLegal}
@@ -19,7 +20,7 @@ StandsWhileOpen s W L = IsTrue s.is_open → Stands W L s.now
 pub record IsAppended (s : State) (W : Who) (L : List Entry) (e : Entry) (seq : ℕ) (who : List ℕ) (row : Written) (changes : List Change) (text : List ℕ) : Type 0 where
   pub stood : StandsWhileOpen s W L
   pub ordered : AreOrdered (filled W L)
-  pub legal : IsLegal W (L ++ e ∷ [])
+  pub legal : IsLegal Two W (L ++ e ∷ [])
   pub whose : who ≡ who_text e.who
   pub appends : Appends W L e seq row changes text
 

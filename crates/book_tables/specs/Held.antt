@@ -26,7 +26,7 @@ pub record Holds (rows : List TableRow) (stored : List Row) : Type 0 where
 abbrev pub first_row : TableRow → Row
 first_row cells = value.Int (pos 1) ∷ values cells
 
--- `seq` is the rowid of `entry`, whose column keeps NULL
+-- `seq` is the rowid of `entry` and of `entry_rules`, and its column keeps NULL
 abbrev pub entry_values : TableRow → Row
 entry_values [] = []
 entry_values (seq ∷ cells) = value_of seq ∷ value.Null ∷ values cells

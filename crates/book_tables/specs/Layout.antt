@@ -1,4 +1,4 @@
--- The tables of the book in SQLite, version 1, and the texts that make them.
+-- The tables of the book in SQLite, version 2, and the texts that make them.
 use Rattle.std.specs.Prelude.{◌≡◌, Bool, true, false, [], ◌∷◌, ◌++◌, ◌==◌, Option, Some, None, codes, List, ℕ, take, ◌+◌, pos}
 use Rattle.std.specs.List.{list_any}
 use Rattle.sqlite.specs.Collation.TheVariants.{Binary}
@@ -45,6 +45,12 @@ order_line_text = codes "CREATE TABLE order_line (who TEXT NOT NULL, ord TEXT NO
 
 abbrev pub reservation_text : List ℕ
 reservation_text = codes "CREATE TABLE reservation (who TEXT NOT NULL, ord TEXT NOT NULL, item TEXT NOT NULL, lot TEXT NOT NULL, quantity INTEGER NOT NULL, PRIMARY KEY (who, ord, item, lot)) STRICT"
+
+abbrev pub entry_rules_text : List ℕ
+entry_rules_text = codes "CREATE TABLE entry_rules (seq INTEGER PRIMARY KEY, rules INTEGER NOT NULL) STRICT"
+
+abbrev pub lot_expiry_text : List ℕ
+lot_expiry_text = codes "CREATE TABLE lot_expiry (who TEXT NOT NULL, item TEXT NOT NULL, lot TEXT NOT NULL, expiry TEXT NOT NULL, PRIMARY KEY (who, item, lot)) STRICT"
 
 -- Columns and tables. Every column is NOT NULL but for those that may be NULL and for the rowid.
 
@@ -155,11 +161,31 @@ abbrev pub reservation_layout : Table
 reservation_layout = keyed (codes "reservation") 16 (1 ∷ 2 ∷ 3 ∷ 4 ∷ []) []
     (text (codes "who") ∷ text (codes "ord") ∷ text (codes "item") ∷ text (codes "lot") ∷ number (codes "quantity") ∷ [])
 
+abbrev pub entry_rules_layout : Table
+entry_rules_layout = record {
+  name = codes "entry_rules";
+  tree = 18;
+  columns = column_of false Integer (codes "seq") ∷ number (codes "rules") ∷ [];
+  key = Some 0;
+  primary = 0 ∷ [];
+  uniques = [];
+  orders = [];
+  checks = [];
+  references = [];
+  computed = [];
+  stamps = record { places = []; terms = []; formats = [] };
+  is_counted = false;
+}
+
+abbrev pub lot_expiry_layout : Table
+lot_expiry_layout = keyed (codes "lot_expiry") 19 (1 ∷ 2 ∷ 3 ∷ []) []
+    (text (codes "who") ∷ text (codes "item") ∷ text (codes "lot") ∷ text (codes "expiry") ∷ [])
+
 -- The schema.
 
 abbrev pub book_tables : List Table
 book_tables = book_layout ∷ entry_layout ∷ outgoing_layout ∷ stock_layout ∷ advice_layout ∷ advice_line_layout
-    ∷ orders_layout ∷ order_line_layout ∷ reservation_layout ∷ []
+    ∷ orders_layout ∷ order_line_layout ∷ reservation_layout ∷ entry_rules_layout ∷ lot_expiry_layout ∷ []
 
 -- the index of a table's key, whose tree follows the table's
 abbrev pub key_index : Table → Index
@@ -168,7 +194,7 @@ key_index t = automatic t 0 t.primary (t.tree + 1)
 abbrev pub book_indexes : List Index
 book_indexes = automatic entry_layout 0 (2 ∷ 3 ∷ []) 2 ∷ automatic entry_layout 1 (2 ∷ 4 ∷ []) 3
     ∷ key_index outgoing_layout ∷ key_index stock_layout ∷ key_index advice_layout ∷ key_index advice_line_layout
-    ∷ key_index orders_layout ∷ key_index order_line_layout ∷ key_index reservation_layout ∷ []
+    ∷ key_index orders_layout ∷ key_index order_line_layout ∷ key_index reservation_layout ∷ key_index lot_expiry_layout ∷ []
 
 -- the first of the book's tables, with so many indexes
 abbrev pub first_layouts : ℕ → ℕ → Schema
@@ -177,7 +203,7 @@ first_layouts n indexes = record { tables = take n book_tables; indexes = take i
 abbrev pub no_layout : Schema
 no_layout = record { tables = []; indexes = []; views = [] }
 
--- the nine tables, and nothing else
+-- the eleven tables, and nothing else
 abbrev pub layout : Schema
 layout = record { tables = book_tables; indexes = book_indexes; views = [] }
 
@@ -189,7 +215,7 @@ pub record Others : Type 0 where
   pub indexes : List Index
   pub views : List View
 
--- the nine tables, and then these
+-- the eleven tables, and then these
 abbrev pub beside : Others → Schema
 beside others = record { tables = book_tables ++ others.tables; indexes = book_indexes ++ others.indexes; views = others.views }
 
@@ -210,7 +236,7 @@ pub record AreApart (others : Others) : Type 0 where
   pub indexes : list_any (λ (i : Index). is_of_book i.table) others.indexes ≡ false
   pub references : list_any (refers_to_book (book_tables ++ others.tables)) others.tables ≡ false
 
--- the schema is the book's nine tables, after which others may stand
+-- the schema is the book's eleven tables, after which others may stand
 pub record IsLayout (schema : Schema) : Type 0 where
   pub others : Others
   pub is : schema ≡ beside others

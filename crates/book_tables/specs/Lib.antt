@@ -1,4 +1,5 @@
 pub mod Showing
+pub mod Dated
 pub mod Layout
 pub mod LaidOut
 pub mod Lines
@@ -20,3 +21,4 @@ pub mod Taken
 pub mod Making
 pub mod Needed
 pub mod Comparing
+pub mod Carrying

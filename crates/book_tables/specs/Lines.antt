@@ -1,5 +1,7 @@
 -- The rows that are written, from what they are written of.
 use Rattle.std.specs.Prelude.{ℕ, List, [], ◌∷◌}
+use Rattle.profile.specs.declared.rules.Rules.{Rules}
+use Rattle.profile.specs.Rules.{rules_number}
 use Rattle.profile.specs.Means.{Line}
 use Rattle.profile.specs.Page.{PageLine}
 use Rattle.profile.specs.Tables.{TableRow, Text, Number, Blob, text_or_null}
@@ -20,6 +22,14 @@ reservation_row who order line = Text who ∷ Text order ∷ Text line.item ∷ 
 -- an entry with its number in the register and its moment's text
 abbrev pub written_row : ℕ → List ℕ → Written → List ℕ → TableRow
 written_row seq who entry moment = Number seq ∷ Text who ∷ Text entry.key ∷ Number entry.n ∷ Text moment ∷ Blob entry.body ∷ []
+
+-- the rules of an entry with its number in the register
+abbrev pub rules_row : ℕ → Rules → TableRow
+rules_row seq rules = Number seq ∷ Number (rules_number rules) ∷ []
+
+-- the date of a pair
+abbrev pub expiry_row : List ℕ → List ℕ → List ℕ → List ℕ → TableRow
+expiry_row who item lot expiry = Text who ∷ Text item ∷ Text lot ∷ Text expiry ∷ []
 
 -- a text that goes out, by its number
 abbrev pub sent_row : List ℕ → ℕ → List ℕ → List ℕ → List ℕ → TableRow

@@ -5,6 +5,7 @@ use Rattle.sqlite.specs.declared.types.Value.TheVariants.{Int, Text}
 use Rattle.sqlite.specs.Table.{Table}
 use Rattle.sqlite.specs.State.{State}
 use Rattle.sqlite.specs.Effect.{Database, IsDatabase}
+use Rattle.profile.specs.declared.rules.Rules.TheVariants.{Two}
 use Rattle.profile.specs.Header.{Who}
 use Rattle.profile.specs.Accepted.{IsLegal}
 use Rattle.book_tables.specs.Layout.{book_tables, first_layouts, layout, no_layout}
@@ -19,9 +20,9 @@ pub record HasMade (n indexes : ℕ) (db : Database) : Type 0 where
 pub record HasBook (qualifier id : List ℕ) (db : Database) : Type 0 where
   pub schema : db.schema ≡ layout
   pub sound : IsDatabase db
-  pub book : db.trees 0 ≡ (Int (pos 1) ∷ Int (pos 1) ∷ Text qualifier ∷ Text id ∷ []) ∷ []
+  pub book : db.trees 0 ≡ (Int (pos 1) ∷ Int (pos 2) ∷ Text qualifier ∷ Text id ∷ []) ∷ []
   pub empty : AllByRecursion (λ (t : Table). db.trees t.tree ≡ []) (drop 1 book_tables)
 
 -- where there was no table, the tables stand for the empty register of the warehouse
 abbrev pub Makes : State → State → Who → Type 0
-Makes old new W = IsLegal W [] → old.now.schema ≡ no_layout → HasGrown new W []
+Makes old new W = IsLegal Two W [] → old.now.schema ≡ no_layout → HasGrown new W []

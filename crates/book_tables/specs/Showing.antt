@@ -12,7 +12,7 @@ use Rattle.rules.specs.Kinds.{kind_text}
 use Rattle.store.specs.Sent.{state_name}
 use Rattle.book_tables.specs.Held.{value_of, values}
 
--- item, lot, expected, on_hand, reserved, shipped
+-- item, lot, expected, on_hand, reserved, shipped: all but the date
 abbrev pub stock_shown : StockRow → Row
 stock_shown r = Text r.item ∷ Text r.lot ∷ Int (pos r.expected) ∷ Int (pos r.on_hand) ∷ Int (pos r.reserved) ∷ Int (pos r.shipped) ∷ []
 
@@ -28,7 +28,7 @@ pub record IsSent (r : OutRow) : Type 0 where
   pub state : DocumentState
   pub state_is : r.state ≡ state_name state
 
--- item, lot, since, expected, on_hand, reserved, shipped
+-- item, lot, since, expected, on_hand, reserved, shipped: all but the date
 abbrev pub lot_shown : LotRow → Row
 lot_shown r = Text r.item ∷ Text r.lot ∷ Int (pos r.since) ∷ Int (pos r.expected) ∷ Int (pos r.on_hand) ∷ Int (pos r.reserved) ∷ Int (pos r.shipped) ∷ []
 

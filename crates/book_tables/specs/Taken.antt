@@ -12,6 +12,7 @@ abbrev pub is_book_name : List ℕ → Bool
 is_book_name name = is_one_of name (codes "book") (codes "entry") (codes "outgoing")
     || is_one_of name (codes "stock") (codes "advice") (codes "advice_line")
     || is_one_of name (codes "orders") (codes "order_line") (codes "reservation")
+    || same_name name (codes "entry_rules") || same_name name (codes "lot_expiry")
 
 abbrev pub has_book_table : List Table → Bool
 has_book_table tables = list_any (λ (t : Table). is_book_name t.name) tables

@@ -1,5 +1,5 @@
 ghost use Rattle.std.specs.Prelude.{◌≡◌, ◌<◌, [], List, Some, IfErr, IfOk, length, option_map};
-ghost use Rattle.profile.specs.declared.rules.Rules.TheVariants.{One};
+ghost use Rattle.profile.specs.declared.rules.Rules.TheVariants.{Two};
 ghost use Rattle.profile.specs.Limits.{most_lines};
 ghost use Rattle.profile.specs.Header.{Who as Partner};
 ghost use Rattle.profile.specs.Page.{PageAdvice, page_of};
@@ -15,7 +15,7 @@ ghost use Rattle.book_tables.specs.Showing.{advice_shown};
 use crate::connected::Tables;
 use crate::goods::lines_in;
 use crate::reading::{number_at, text_at};
-use profile::MOST_LINES;
+use profile::MOST_LINES_TWO;
 use rules::Who;
 use sets_in::Goods;
 use sqlite::{Alter, Row};
@@ -62,9 +62,9 @@ fn advice_in(alloc: Global, row: &Row) -> Result<Option<BareAdvice>, AllocError>
 // An advice with its lines. 43 where they are more than an advice has.
 fn with_lines(bare: BareAdvice, lines: Vec<Goods>) -> Result<Option<KnownAdvice>, Fault>
     ensures whole { IfOk result (λ advice. advice ≡ Some (record bare { lines = lines.items })) }
-    ensures many { IfErr result (λ fault. (fault ≡ Fault.NotThisBook) × (most_lines One < length lines.items)) }
+    ensures many { IfErr result (λ fault. (fault ≡ Fault.NotThisBook) × (most_lines Two < length lines.items)) }
 {
-    if lines.len() > usize::from(MOST_LINES) {
+    if lines.len() > usize::from(MOST_LINES_TWO) {
         return Err(Fault::NotThisBook);
     }
     Ok(Some(KnownAdvice::new(bare.shipment, bare.order, lines, bare.is_open)))

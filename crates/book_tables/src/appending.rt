@@ -11,7 +11,7 @@ ghost use Rattle.book_tables.specs.Writing.{Wrote};
 
 use crate::calls::Calls;
 use crate::changing::apply_all;
-use crate::recording::{insert_entry, insert_outgoing};
+use crate::recording::{insert_entry, insert_outgoing, insert_rules};
 use crate::texts::{moment_text, new_state_text};
 use rules::{Change, Entry};
 use sqlite::{Alter, Transaction};
@@ -40,7 +40,7 @@ fn insert_sent<'a, S: Alter>(
     insert_outgoing(tx, calls, who, entry.number(), kind, outgoing, state_text)
 }
 
-/// Adds an entry under the next number, with the text that goes out for it and the changes that its command makes.
+/// Adds an entry under the next number, with its rules, the text that goes out for it and the changes that its command makes.
 pub(crate) fn write_entry<'a, S: Alter>(
     tx: &mut Transaction<'_, S>,
     calls: &mut Calls,
@@ -60,6 +60,7 @@ pub(crate) fn write_entry<'a, S: Alter>(
 {
     let moment = moment_text(entry.moment());
     insert_entry(tx, calls, seq, who, entry, &moment)?;
+    insert_rules(tx, calls, seq, entry.rules())?;
     insert_sent(tx, calls, who, entry, outgoing)?;
     apply_all(tx, calls, who, changes)
 }

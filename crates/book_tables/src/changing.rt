@@ -1,6 +1,6 @@
 ghost use Rattle.std.specs.Prelude.{◌≡◌, codes};
 ghost use Rattle.profile.specs.Header.{Who as Partner, who_text};
-ghost use Rattle.rules.specs.Tabled.{advice_changes, order_changes, table_changes_of, table_changes};
+ghost use Rattle.rules.specs.Tabled.{row_changes, advice_changes, order_changes, table_changes_of, table_changes};
 ghost use Rattle.profile.specs.Tables as cells;
 ghost use Rattle.sqlite.specs.Held.{state};
 ghost use Rattle.book_tables.specs.Leading.{Leads, puts_of};
@@ -9,10 +9,10 @@ ghost use Rattle.book_tables.specs.Writing.{Wrote};
 use crate::calls::Calls;
 use crate::recording::set_state;
 use crate::writing::{
-    free_reservations, put_advice, put_advice_line, put_order, put_order_line, put_reservation,
-    put_stock,
+    free_reservations, put_advice, put_advice_line, put_expiry, put_order, put_order_line,
+    put_reservation, put_stock,
 };
-use rules::Change;
+use rules::{Change, Row};
 use sqlite::{Alter, Transaction};
 use stock::{KnownAdvice, KnownOrder};
 use store::Fault;
@@ -86,6 +86,25 @@ fn put_reservations<'a, S: Alter>(
     Ok(())
 }
 
+/// Puts a row of `stock`, and the date of its pair where it has one.
+fn apply_row<'a, S: Alter>(
+    tx: &mut Transaction<'_, S>,
+    calls: &mut Calls,
+    who: &'a [u8],
+    row: &'a Row,
+) -> Result<(), Fault>
+    ensures same_reference { tx.new.conn.ghost_name ≡ tx.old.conn.ghost_name }
+    ensures wrote { let old = state S.Store tx.old.conn.now in let new = state S.Store tx.new.conn.now in
+        Wrote ((w : Partner) → who.now ≡ who_text w → Leads (row_changes w row.now) old.now new.now)
+        old new calls.old calls.new result }
+{
+    put_stock(tx, calls, who, row)?;
+    match &row.expiry {
+        Some(expiry) => put_expiry(tx, calls, who, row, expiry),
+        None => Ok(()),
+    }
+}
+
 /// Puts an advice, and its lines where it is opened.
 fn apply_advice<'a, S: Alter>(
     tx: &mut Transaction<'_, S>,
@@ -140,7 +159,7 @@ fn apply_change<'a, S: Alter>(
         old new calls.old calls.new result }
 {
     match change {
-        Change::Stock(row) => put_stock(tx, calls, who, row),
+        Change::Stock(row) => apply_row(tx, calls, who, row),
         Change::Advice(advice) => apply_advice(tx, calls, who, advice),
         Change::Order(order) => apply_order(tx, calls, who, order),
         Change::Sent { .. } => Ok(()),

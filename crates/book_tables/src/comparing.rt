@@ -30,11 +30,13 @@ pub(crate) enum TableName {
     Orders,
     OrderLine,
     Reservation,
+    EntryRules,
+    LotExpiry,
 }
 
 // The table that is compared as this one, from 0 on.
 fn table_at(number: usize) -> TableName
-    ensures { number < 9 → number_of result ≡ number }
+    ensures { number < 11 → number_of result ≡ number }
 {
     match number {
         0 => TableName::Book,
@@ -45,7 +47,9 @@ fn table_at(number: usize) -> TableName
         5 => TableName::AdviceLine,
         6 => TableName::Orders,
         7 => TableName::OrderLine,
-        _ => TableName::Reservation,
+        8 => TableName::Reservation,
+        9 => TableName::EntryRules,
+        _ => TableName::LotExpiry,
     }
 }
 
@@ -74,6 +78,10 @@ fn whole_text(table: TableName) -> &'static str
         }
         TableName::Reservation => {
             "SELECT who, ord, item, lot, quantity FROM reservation ORDER BY who, ord, item, lot"
+        }
+        TableName::EntryRules => "SELECT seq, rules FROM entry_rules ORDER BY seq",
+        TableName::LotExpiry => {
+            "SELECT who, item, lot, expiry FROM lot_expiry ORDER BY who, item, lot"
         }
     }
 }
@@ -153,7 +161,7 @@ impl<S: Alter + Drop> Tables<S> {
         ensures asked { Asked S.Store self.old self.new result }
         ensures other { IsAsked (state T.Store other.old.conn) (state T.Store other.new.conn) }
     {
-        for number in 0..9usize {
+        for number in 0..11usize {
             if !self.shows_the_same(other, whole_text(table_at(number)))? {
                 return Ok(false);
             }

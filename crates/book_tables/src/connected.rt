@@ -1,4 +1,5 @@
-ghost use Rattle.std.specs.Prelude.{◌≡◌, ◌⊎◌, ◌<◌, ◌^◌, ◌++◌, ◌∷◌, [], List, false, IsTrue, IfErr, IfOk, OnOk, OnErr, None, Some, ◌≢◌};
+ghost use Rattle.std.specs.Prelude.{◌≡◌, ◌⊎◌, ◌<◌, ◌^◌, ◌++◌, ◌∷◌, [], List, false, length, IsTrue, IfErr, IfOk, OnOk, OnErr, None, Some, ◌≢◌};
+ghost use Rattle.profile.specs.declared.rules.Rules.TheVariants.{One, Two};
 ghost use Rattle.profile.specs.Accepted.{IsLegal};
 ghost use Rattle.profile.specs.Header.{Who as Partner};
 ghost use Rattle.profile.specs.Register as register;
@@ -7,7 +8,8 @@ ghost use Rattle.sqlite.specs.Held.{state};
 ghost use Rattle.sqlite.specs.Given.{IsPlain};
 ghost use Rattle.sqlite.specs.Listing.{understood};
 ghost use Rattle.sqlite.specs.Values.{bound};
-ghost use Rattle.book_tables.specs.Asking.{Finds, IsAsked};
+ghost use Rattle.book_tables.specs.Asking.{Finds, IsAsked, IsAskedOf};
+ghost use Rattle.book_tables.specs.Carrying.{CarriesOver, StandsOpenAs};
 ghost use Rattle.book_tables.specs.Exits.{IsAppended, HasGrown, Extends, IsAsBefore, LeavesIt};
 ghost use Rattle.book_tables.specs.Limits.{NoMore};
 ghost use Rattle.book_tables.specs.Layout.{Others, beside, no_layout};
@@ -17,6 +19,7 @@ ghost use Rattle.book_tables.specs.Standing.{StandsIn};
 
 use crate::appending::write_entry;
 use crate::calls::Calls;
+use crate::carrying::carry_all;
 use crate::making::make_all;
 use rules::{Change, Entry, Warehouse};
 use sqlite::types::ValueRef;
@@ -111,16 +114,17 @@ impl<S: Alter + Drop> Tables<S> {
         self.calls.refuse()
     }
 
-    /// The rows that a text answers which only reads the book's tables. A refused call is 40 or 41, and counts.
+    /// The rows that a text answers; where it only reads under the schema that is there, the tables are as they were. A refused
+    /// call is 40 or 41, and counts.
     #[tactic(auto, using(crate::proofs::Limited::no_more_trans, crate::proofs::Limited::no_more_same))]
-    pub(crate) fn ask(&mut self, sql: &str, params: &[ValueRef<'_>]) -> Result<Vec<Row>, Fault>
-        requires { (others : Others) → IsPlain (understood (beside others) sql.now) }
+    pub(crate) fn ask_any(&mut self, sql: &str, params: &[ValueRef<'_>]) -> Result<Vec<Row>, Fault>
         ensures finds { HasCleanDisk (state S.Store self.new.conn)
             → IfOk result (λ rows. IsTrue (state S.Store self.old.conn).is_open
             × Finds sql.now (bound params.now)
             (state S.Store self.old.conn).now rows.items) }
         ensures live { IsLive (state S.Store self.old.conn) }
-        ensures asked { IsAsked (state S.Store self.old.conn) (state S.Store self.new.conn) }
+        ensures asked { IsAskedOf (λ schema. IsPlain (understood schema sql.now)) (state S.Store self.old.conn)
+            (state S.Store self.new.conn) }
         ensures named { IfErr result (λ f. (f ≡ Fault.OutOfMemory) ⊎ (f ≡ Fault.Store)) }
         ensures counted { OnErr result (Rises self.old.refused self.new.refused) }
         ensures uncounted { OnOk result (self.new.refused ≡ self.old.refused) }
@@ -141,6 +145,25 @@ impl<S: Alter + Drop> Tables<S> {
             Ok(rows) => Ok(rows),
             Err(error) => Err(self.calls.told(error)),
         }
+    }
+
+    /// The rows that a text answers which only reads the tables of a book of version 2.
+    #[tactic(auto, using(crate::proofs::Limited::no_more_trans, crate::proofs::Limited::no_more_same))]
+    pub(crate) fn ask(&mut self, sql: &str, params: &[ValueRef<'_>]) -> Result<Vec<Row>, Fault>
+        requires { (others : Others) → IsPlain (understood (beside others) sql.now) }
+        ensures finds { HasCleanDisk (state S.Store self.new.conn)
+            → IfOk result (λ rows. IsTrue (state S.Store self.old.conn).is_open
+            × Finds sql.now (bound params.now)
+            (state S.Store self.old.conn).now rows.items) }
+        ensures live { IsLive (state S.Store self.old.conn) }
+        ensures asked { IsAsked (state S.Store self.old.conn) (state S.Store self.new.conn) }
+        ensures named { IfErr result (λ f. (f ≡ Fault.OutOfMemory) ⊎ (f ≡ Fault.Store)) }
+        ensures counted { OnErr result (Rises self.old.refused self.new.refused) }
+        ensures uncounted { OnOk result (self.new.refused ≡ self.old.refused) }
+        ensures limit { NoMore self.old.limit self.new.limit }
+        ensures allowed { OnOk result (self.old.limit ≢ Some 0) }
+    {
+        self.ask_any(sql, params)
     }
 
     /// Appends an entry under the next number, with what its command changes and what goes out for it, in one transaction.
@@ -170,7 +193,7 @@ impl<S: Alter + Drop> Tables<S> {
         ensures limit { NoMore self.old.limit self.new.limit }
         ensures allowed { OnOk result (self.old.limit ≢ Some 0) }
     {
-        // For the prover alone, as in `ask`.
+        // For the prover alone, as in `ask_any`.
         let settled = self.conn.is_autocommit();
         prove!(settled);
         let _schema = self.conn.schema();
@@ -183,7 +206,7 @@ impl<S: Alter + Drop> Tables<S> {
         }
     }
 
-    /// Makes the tables of an empty register of the warehouse, in one transaction.
+    /// Makes the tables of an empty register of the warehouse, of a book of version 2, in one transaction.
     #[tactic(auto, using(crate::proofs::Limited::no_more_trans, crate::proofs::Limited::no_more_same))]
     pub fn make(&mut self, warehouse: &Warehouse) -> Result<(), Fault>
         ensures ok { HasCleanDisk (state S.Store self.new.conn)
@@ -193,7 +216,7 @@ impl<S: Alter + Drop> Tables<S> {
         ensures err { HasCleanDisk (state S.Store self.new.conn)
             → OnErr result (IsAsBefore (state S.Store self.old.conn) (state S.Store self.new.conn)) }
         ensures crash { Survives (state S.Store self.old.conn) (state S.Store self.new.conn)
-            (λ db. IsLegal warehouse.now [] → (state S.Store self.old.conn).now.schema ≡ no_layout
+            (λ db. IsLegal Two warehouse.now [] → (state S.Store self.old.conn).now.schema ≡ no_layout
             → StandsIn warehouse.now [] db) }
         ensures named { IfErr result (λ f. (f ≡ Fault.OutOfMemory) ⊎ (f ≡ Fault.Store)) }
         ensures counted { OnErr result (Rises self.old.refused self.new.refused) }
@@ -201,11 +224,42 @@ impl<S: Alter + Drop> Tables<S> {
         ensures limit { NoMore self.old.limit self.new.limit }
         ensures allowed { OnOk result (self.old.limit ≢ Some 0) }
     {
-        // For the prover alone, as in `ask`.
+        // For the prover alone, as in `ask_any`.
         let settled = self.conn.is_autocommit();
         prove!(settled);
         let mut tx = self.conn.transaction();
         make_all(&mut tx, &mut self.calls, warehouse)?;
+        self.calls.allow()?;
+        match tx.commit() {
+            Ok(()) => Ok(()),
+            Err(error) => Err(self.calls.told(error)),
+        }
+    }
+
+    /// Carries a book of version 1, which has so many entries, over to version 2, in one transaction.
+    #[tactic(auto, using(crate::proofs::Limited::no_more_trans, crate::proofs::Limited::no_more_same))]
+    pub fn carry_over(&mut self, entries: u64) -> Result<(), Fault>
+        requires { entries < 2 ^ 63 }
+        ensures ok { HasCleanDisk (state S.Store self.new.conn)
+            → OnOk result (CarriesOver entries (state S.Store self.old.conn) (state S.Store self.new.conn)) }
+        ensures left { HasCleanDisk (state S.Store self.new.conn)
+            → OnOk result (LeavesIt (state S.Store self.new.conn)) }
+        ensures err { HasCleanDisk (state S.Store self.new.conn)
+            → OnErr result (IsAsBefore (state S.Store self.old.conn) (state S.Store self.new.conn)) }
+        ensures crash { Survives (state S.Store self.old.conn) (state S.Store self.new.conn)
+            (λ db. (W : Partner) (L : List register.Entry) → entries ≡ length L
+            → StandsOpenAs One (state S.Store self.old.conn) W L → StandsIn W L db) }
+        ensures named { IfErr result (λ f. (f ≡ Fault.OutOfMemory) ⊎ (f ≡ Fault.Store)) }
+        ensures counted { OnErr result (Rises self.old.refused self.new.refused) }
+        ensures uncounted { OnOk result (self.new.refused ≡ self.old.refused) }
+        ensures limit { NoMore self.old.limit self.new.limit }
+        ensures allowed { OnOk result (self.old.limit ≢ Some 0) }
+    {
+        // For the prover alone, as in `ask_any`.
+        let settled = self.conn.is_autocommit();
+        prove!(settled);
+        let mut tx = self.conn.transaction();
+        carry_all(&mut tx, &mut self.calls, entries)?;
         self.calls.allow()?;
         match tx.commit() {
             Ok(()) => Ok(()),

@@ -1,5 +1,6 @@
 //! Laws of the tables: nothing runs, each contract is a law.
 ghost use Rattle.std.specs.Prelude.{◌≡◌, List};
+ghost use Rattle.profile.specs.declared.rules.Rules.TheVariants.{Two};
 ghost use Rattle.profile.specs.Header.{Who};
 ghost use Rattle.profile.specs.Register.{Entry};
 ghost use Rattle.profile.specs.Schema.{schemas};
@@ -10,7 +11,7 @@ ghost use Rattle.book_tables.specs.Standing.{StandsIn};
 
 /// Each table of the book has the name, the columns and the key that the definitions give it.
 pub fn tables_are_laid_out_as_defined()
-    ensures { AreLaidOut schemas book_tables }
+    ensures { AreLaidOut (schemas Two) book_tables }
 {}
 
 /// A database stands for one register alone, of one warehouse.

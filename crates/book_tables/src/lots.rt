@@ -1,4 +1,5 @@
-ghost use Rattle.std.specs.Prelude.{◌≡◌, ◌<◌, ◌^◌, List, Some, IfOk, bytes_eq, filter, map, option_map, true};
+ghost use Rattle.std.specs.Borrow.{Bor};
+ghost use Rattle.std.specs.Prelude.{◌≡◌, ◌<◌, ◌^◌, ℕ, List, Some, IfOk, bytes_eq, filter, map, option_map, true};
 ghost use Rattle.std.specs.List.{list_all};
 ghost use Rattle.profile.specs.Header.{Who as Partner};
 ghost use Rattle.profile.specs.Page.{page_of};
@@ -6,21 +7,25 @@ ghost use Rattle.profile.specs.Register as register;
 ghost use Rattle.profile.specs.Rows.{LotRow};
 ghost use Rattle.sqlite.specs.Held.{state};
 ghost use Rattle.sqlite.specs.State.{HasCleanDisk};
+ghost use Rattle.stock.specs.Keyed.{key_before, rises_by, row_key};
 ghost use Rattle.rules.specs.Fitting.{is_fitting_row};
 ghost use Rattle.book_tables.specs.Asking.{Asked};
 ghost use Rattle.book_tables.specs.Exits.{StandsWhileOpen};
+ghost use Rattle.book_tables.specs.Dated.{date_shown, dates_of};
 ghost use Rattle.book_tables.specs.Showing.{lot_shown};
 
 use crate::connected::Tables;
+use crate::dates::{copied, next_date};
 use crate::reading::{number_at, small_at, text_at};
 use rules::{Row, Who};
 use sqlite::{Alter, Row as Shown};
 use std::alloc::{AllocError, Global};
 use store::Fault;
 
-// The lot that a row of item, lot, since and the four amounts shows; None where it shows none.
-fn lot_in(alloc: Global, row: &Shown) -> Result<Option<Row>, AllocError>
-    ensures { (r : LotRow) → r.since < 2 ^ 32 → row.now ≡ lot_shown r → IfOk result (λ shown. shown ≡ Some r) }
+// The lot that a row of item, lot, since and the four amounts shows, with its date if it has one; None where it shows none.
+fn lot_in(alloc: Global, row: &Shown, expiry: Option<&[u8]>) -> Result<Option<Row>, AllocError>
+    ensures { (r : LotRow) → r.since < 2 ^ 32 → row.now ≡ lot_shown r
+        → option_map (λ (date : Bor (List ℕ)). date.now) expiry.entry ≡ r.expiry → IfOk result (λ shown. shown ≡ Some r) }
 {
     let Some(item) = text_at(row, 0) else {
         return Ok(None);
@@ -46,6 +51,7 @@ fn lot_in(alloc: Global, row: &Shown) -> Result<Option<Row>, AllocError>
     Ok(Some(Row {
         item: Vec::from_slice(alloc, item)?,
         lot: Vec::from_slice(alloc, lot)?,
+        expiry: copied(alloc, expiry)?,
         since,
         expected,
         on_hand,
@@ -54,14 +60,18 @@ fn lot_in(alloc: Global, row: &Shown) -> Result<Option<Row>, AllocError>
     }))
 }
 
-// The lots that rows show; None where one of them shows none.
-fn lots_in(alloc: Global, rows: &[Shown]) -> Result<Option<Vec<Row>>, AllocError>
-    ensures { (rs : List LotRow) → list_all is_fitting_row rs ≡ true → rows.now ≡ map lot_shown rs
-        → IfOk result (λ shown. option_map (λ v. v.items) shown ≡ Some rs) }
+// The lots that rows show, with the dates that rows of item, lot and expiry show of them, where both stand by item and lot; None
+// where one of them shows none.
+fn lots_in(alloc: Global, rows: &[Shown], dates: &[Shown]) -> Result<Option<Vec<Row>>, AllocError>
+    ensures { (rs : List LotRow) → list_all is_fitting_row rs ≡ true → rises_by key_before row_key rs ≡ true
+        → rows.now ≡ map lot_shown rs → dates.now ≡ map date_shown (dates_of rs) → IfOk result (λ shown. option_map (λ v. v.items) shown ≡ Some rs) }
 {
     let mut shown = Vec::new(alloc);
+    let mut left = dates;
     for row in rows {
-        let Some(lot) = lot_in(alloc, row)? else {
+        let (expiry, rest) = next_date(row, left);
+        left = rest;
+        let Some(lot) = lot_in(alloc, row, expiry)? else {
             return Ok(None);
         };
         shown.push(lot)?;
@@ -70,7 +80,7 @@ fn lots_in(alloc: Global, rows: &[Shown]) -> Result<Option<Vec<Row>>, AllocError
 }
 
 impl<S: Alter + Drop> Tables<S> {
-    /// What a depositor has of an item, by lot; nothing of a stranger. 43 where a row shows no lot.
+    /// What a depositor has of an item, by lot, with the dates; nothing of a stranger. 43 where a row shows no lot.
     pub(crate) fn lots_of(
         &mut self,
         alloc: Global,
@@ -89,7 +99,13 @@ impl<S: Alter + Drop> Tables<S> {
             who,
             item,
         )?;
-        match lots_in(alloc, &rows)? {
+        let dates = self.under_text(
+            alloc,
+            "SELECT item, lot, expiry FROM lot_expiry WHERE who = ?1 AND item = ?2 ORDER BY item, lot",
+            who,
+            item,
+        )?;
+        match lots_in(alloc, &rows, &dates)? {
             Some(lots) => Ok(lots),
             None => Err(Fault::NotThisBook),
         }

@@ -1,5 +1,6 @@
-ghost use Rattle.std.specs.Prelude.{◌≡◌};
+ghost use Rattle.std.specs.Prelude.{◌≡◌, IsTrue};
 ghost use Rattle.sqlite.specs.Held.{state};
+ghost use Rattle.book_tables.specs.Carrying.{Widens};
 ghost use Rattle.book_tables.specs.Layout.{no_layout};
 ghost use Rattle.book_tables.specs.Making.{HasMade, HasBook};
 ghost use Rattle.book_tables.specs.Writing.{Wrote};
@@ -98,7 +99,31 @@ pub(crate) fn make_third<S: Alter>(
     )
 }
 
-/// Adds the row of `book`.
+/// Makes `entry_rules` and `lot_expiry`.
+pub(crate) fn make_fourth<S: Alter>(
+    tx: &mut Transaction<'_, S>,
+    calls: &mut Calls,
+) -> Result<(), Fault>
+    ensures same_reference { tx.new.conn.ghost_name ≡ tx.old.conn.ghost_name }
+    ensures wrote { let old = state S.Store tx.old.conn.now in let new = state S.Store tx.new.conn.now in
+        Wrote ((HasMade 9 9 old.now → HasMade 11 10 new.now) × (IsTrue old.is_open × Widens old.now new.now))
+        old new calls.old calls.new result }
+{
+    run(
+        tx,
+        calls,
+        "CREATE TABLE entry_rules (seq INTEGER PRIMARY KEY, rules INTEGER NOT NULL) STRICT",
+        &[],
+    )?;
+    run(
+        tx,
+        calls,
+        "CREATE TABLE lot_expiry (who TEXT NOT NULL, item TEXT NOT NULL, lot TEXT NOT NULL, expiry TEXT NOT NULL, PRIMARY KEY (who, item, lot)) STRICT",
+        &[],
+    )
+}
+
+/// Adds the row of `book`: version 2, and the warehouse.
 pub(crate) fn insert_book<'a, S: Alter>(
     tx: &mut Transaction<'_, S>,
     calls: &mut Calls,
@@ -107,21 +132,21 @@ pub(crate) fn insert_book<'a, S: Alter>(
 ) -> Result<(), Fault>
     ensures same_reference { tx.new.conn.ghost_name ≡ tx.old.conn.ghost_name }
     ensures wrote { let old = state S.Store tx.old.conn.now in let new = state S.Store tx.new.conn.now in
-        Wrote (HasMade 9 9 old.now → HasBook qualifier.now id.now new.now) old new calls.old calls.new result }
+        Wrote (HasMade 11 10 old.now → HasBook qualifier.now id.now new.now) old new calls.old calls.new result }
 {
     run(
         tx,
         calls,
         "INSERT INTO book (version, qualifier, id) VALUES (?1, ?2, ?3)",
         &[
-            ValueRef::Int(1),
+            ValueRef::Int(2),
             ValueRef::Text(qualifier),
             ValueRef::Text(id),
         ],
     )
 }
 
-/// Makes the nine tables of an empty register, where there was no table.
+/// Makes the eleven tables of an empty register, where there was no table.
 pub(crate) fn make_all<S: Alter>(
     tx: &mut Transaction<'_, S>,
     calls: &mut Calls,
@@ -135,6 +160,7 @@ pub(crate) fn make_all<S: Alter>(
     make_first(tx, calls)?;
     make_second(tx, calls)?;
     make_third(tx, calls)?;
+    make_fourth(tx, calls)?;
     let who = warehouse.who();
     insert_book(tx, calls, who.qualifier(), who.id())
 }

@@ -1,5 +1,6 @@
 ghost use Rattle.std.specs.Prelude.{◌≡◌, ◌<◌, ◌^◌, List, Some, IfOk, map, option_map, true};
 ghost use Rattle.std.specs.List.{list_all};
+ghost use Rattle.profile.specs.declared.rules.Rules.TheVariants.{Two};
 ghost use Rattle.profile.specs.Header.{Who as Partner};
 ghost use Rattle.profile.specs.Page.{PageLine, PageOrder, page_of};
 ghost use Rattle.profile.specs.Register as register;
@@ -100,7 +101,7 @@ fn order_line_in(alloc: Global, row: &Row) -> Result<Option<KnownLine>, AllocErr
 
 // The lines that rows of item, lot and quantity show; None where one of them shows none.
 fn order_lines_in(alloc: Global, rows: &[Row]) -> Result<Option<Vec<KnownLine>>, AllocError>
-    ensures { (ls : List PageLine) → list_all is_fitting_ordered ls ≡ true → rows.now ≡ map order_line_shown ls
+    ensures { (ls : List PageLine) → list_all (is_fitting_ordered Two) ls ≡ true → rows.now ≡ map order_line_shown ls
         → IfOk result (λ shown. option_map (λ v. v.items) shown ≡ Some ls) }
 {
     let mut shown = Vec::new(alloc);

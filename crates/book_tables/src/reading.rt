@@ -1,19 +1,20 @@
-ghost use Rattle.std.specs.Prelude.{◌≡◌, ◌∷◌, [], ℕ, List, Some, true, false, MatchOption, IfOk, map, option_map, All, pos, length, ◌≤◌, ◌<◌, ◌^◌};
+ghost use Rattle.std.specs.Prelude.{◌≡◌, ◌∷◌, [], ℕ, List, Some, true, false, MatchOption, IfSome, IsNone, map, option_map, All, pos, length, ◌≤◌, ◌<◌, ◌^◌};
 ghost use Rattle.profile.specs.Header.{Who as Partner};
 ghost use Rattle.profile.specs.Bytes as bytes;
 ghost use Rattle.profile.specs.Moments.{Moment as Parts, is_moment};
 ghost use Rattle.profile.specs.Readings as written;
-ghost use Rattle.rules.specs.Written.{Written};
+ghost use Rattle.profile.specs.Rules.{rules_number};
 ghost use Rattle.sqlite.specs.Order.{column};
 ghost use Rattle.sqlite.specs.declared.types.Value.TheVariants.{Int, Text, Blob};
 ghost use Rattle.sqlite_value.specs.Value.{owned};
-ghost use Rattle.book_tables.specs.Recorded.{entry_shown, IsRecorded, IsHouse};
+ghost use Rattle.rules.specs.Written.{Written};
+ghost use Rattle.book_tables.specs.Recorded.{IsHouse, rules_shown};
 
 use crate::texts::moment_text;
-use rules::{Entry, Moment, Warehouse, Who};
+use profile::Rules;
+use rules::{Moment, Warehouse, Who};
 use sqlite::Row;
 use sqlite::types::ValueRef;
-use std::alloc::{AllocError, Global};
 
 // The text that a value is.
 fn text_in(value: ValueRef<'_>) -> Option<&[u8]>
@@ -92,6 +93,30 @@ pub(crate) fn small_at(row: &Row, at: usize) -> Option<u32>
     }
 }
 
+// The number of an entry that a value is.
+fn seq_in(value: ValueRef<'_>) -> Option<u64>
+    ensures few { IfSome result (λ n. n < 2 ^ 63) }
+    ensures number { MatchOption result ((n : ℕ) → owned value.entry ≡ Int (pos n)
+        → ⊥) (λ n. owned value.entry ≡ Int (pos n)) }
+{
+    match value {
+        ValueRef::Int(n) => u64::try_from(n).ok(),
+        _ => None,
+    }
+}
+
+/// The number of an entry in a column: one that SQLite can hold. None where it is below 0 too.
+pub(crate) fn seq_at(row: &Row, at: usize) -> Option<u64>
+    ensures few { IfSome result (λ n. n < 2 ^ 63) }
+    ensures number { MatchOption result ((n : ℕ) → column row.now at ≡ Int (pos n)
+        → ⊥) (λ n. column row.now at ≡ Int (pos n)) }
+{
+    match row.get_ref(at) {
+        Ok(value) => seq_in(value),
+        Err(_) => None,
+    }
+}
+
 // The value of at most four bytes as digits.
 fn value(text: &[u8]) -> u64
     requires { length text.now ≤ 4 }
@@ -139,52 +164,34 @@ pub(crate) fn moment_of(text: &[u8]) -> Option<Moment>
     }
 }
 
-/// The entry of a depositor that a row of mark, n, moment and body shows; None where it shows none.
-pub(crate) fn entry_in(alloc: Global, who: &Who, row: &Row) -> Result<Option<Entry>, AllocError>
-    ensures { (w : Written) → IsRecorded who.now w → row.now ≡ entry_shown w
-        → IfOk result (λ entry. entry ≡ Some w) }
+/// The rules whose number stands in the first column, as in rows of `entry_rules` and `book`; None where another stands there.
+pub(crate) fn rules_in(row: &Row) -> Option<Rules>
+    ensures shows { (w : Written) → row.now ≡ rules_shown w → result ≡ Some w.rules }
+    ensures only { IfSome result (λ q. column row.now 0 ≡ Int (pos (rules_number q))) }
+    ensures none { IsNone result → (q : Rules) → column row.now 0 ≡ Int (pos (rules_number q)) → ⊥ }
 {
-    let Some(key) = text_at(row, 0) else {
-        return Ok(None);
-    };
-    let Some(n) = number_at(row, 1) else {
-        return Ok(None);
-    };
-    let Ok(n) = u32::try_from(n) else {
-        return Ok(None);
-    };
-    let Some(stamp) = text_at(row, 2) else {
-        return Ok(None);
-    };
-    let Some(moment) = moment_of(stamp) else {
-        return Ok(None);
-    };
-    let Some(body) = blob_at(row, 3) else {
-        return Ok(None);
-    };
-    Ok(Some(Entry {
-        who: *who,
-        key: Vec::from_slice(alloc, key)?,
-        n,
-        moment,
-        body: Vec::from_slice(alloc, body)?,
-    }))
-}
-
-// The warehouse that a row of version, qualifier and id names.
-fn house_in(row: &Row) -> Option<Warehouse>
-    ensures { MatchOption result ((W : Partner) → IsHouse (row.now ∷ []) W → ⊥) (IsHouse (row.now ∷ [])) }
-{
-    if number_at(row, 0)? != 1 {
-        return None;
+    match number_at(row, 0)? {
+        1 => Some(Rules::One),
+        2 => Some(Rules::Two),
+        _ => None,
     }
-    let who = Who::of(text_at(row, 1)?, text_at(row, 2)?)?;
-    Some(Warehouse::new(who))
 }
 
-/// The warehouse that the rows of `book` name; None where there isn't one row, or it has another version than 1, or no partner.
-pub(crate) fn house_of(rows: &[Row]) -> Option<Warehouse>
-    ensures { MatchOption result ((W : Partner) → IsHouse rows.now W → ⊥) (IsHouse rows.now) }
+// The version and the warehouse that a row of `book` names.
+fn house_in(row: &Row) -> Option<(Rules, Warehouse)>
+    ensures { MatchOption result ((q : Rules) (W : Partner) → IsHouse q (row.now ∷ []) W
+        → ⊥) (λ h. IsHouse h.0 (row.now ∷ []) h.1) }
+{
+    let version = rules_in(row)?;
+    let who = Who::of(text_at(row, 1)?, text_at(row, 2)?)?;
+    Some((version, Warehouse::new(who)))
+}
+
+/// The version and the warehouse that the rows of `book` name; None where there isn't one row, or it has another version than 1
+/// and 2, or no partner.
+pub(crate) fn house_of(rows: &[Row]) -> Option<(Rules, Warehouse)>
+    ensures { MatchOption result ((q : Rules) (W : Partner) → IsHouse q rows.now W
+        → ⊥) (λ h. IsHouse h.0 rows.now h.1) }
 {
     match rows {
         [row] => house_in(row),

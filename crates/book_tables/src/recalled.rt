@@ -12,7 +12,7 @@ ghost use Rattle.book_tables.specs.Contents.{IsContent};
 ghost use Rattle.book_tables.specs.Exits.{StandsWhileOpen};
 
 use crate::connected::Tables;
-use crate::reading::{blob_at, entry_in};
+use crate::reading::{blob_at, seq_at};
 use rules::{Entry, Known, Who};
 use sqlite::{Alter, Row};
 use std::alloc::{AllocError, Global};
@@ -33,7 +33,7 @@ pub(crate) fn content_in(alloc: Global, rows: &[Row]) -> Result<Option<Vec<u8>>,
 }
 
 impl<S: Alter + Drop> Tables<S> {
-    /// A depositor's entry under a key, as it is written down. 43 where its row shows none.
+    /// A depositor's entry under a key, as it is written down. 43 where its row shows no number, or the entry under it isn't one.
     fn entry_under(&mut self, alloc: Global, who: Who, key: &[u8]) -> Result<Option<Entry>, Fault>
         ensures entry { HasCleanDisk (state S.Store self.new.conn) → (W : Partner) (L : List register.Entry)
             → StandsWhileOpen (state S.Store self.old.conn) W L
@@ -42,15 +42,15 @@ impl<S: Alter + Drop> Tables<S> {
     {
         let rows = self.under_text(
             alloc,
-            "SELECT mark, n, moment, body FROM entry WHERE who = ?1 AND mark = ?2 ORDER BY seq",
+            "SELECT seq FROM entry WHERE who = ?1 AND mark = ?2 ORDER BY seq",
             who,
             key,
         )?;
         let Some(row) = rows.first() else {
             return Ok(None);
         };
-        match entry_in(alloc, &who, row)? {
-            Some(entry) => Ok(Some(entry)),
+        match seq_at(row, 0) {
+            Some(seq) => self.entry_at(alloc, seq),
             None => Err(Fault::NotThisBook),
         }
     }

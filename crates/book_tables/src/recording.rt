@@ -1,16 +1,18 @@
 ghost use Rattle.std.specs.Prelude.{◌≡◌, ◌<◌, ◌^◌, [], ◌∷◌, codes, IsTrue, Some, pos};
 ghost use Rattle.profile.specs.Changes.{Puts, SetsState};
+ghost use Rattle.profile.specs.Rules.{rules_number};
 ghost use Rattle.profile.specs.Rows.{state_text};
 ghost use Rattle.sqlite.specs.declared.types.Value.TheVariants as value;
 ghost use Rattle.sqlite.specs.Values.{bound};
 ghost use Rattle.sqlite.specs.Held.{state};
 ghost use Rattle.book_tables.specs.Held.{values};
 ghost use Rattle.book_tables.specs.Leading.{Leads};
-ghost use Rattle.book_tables.specs.Lines.{written_row, sent_row};
+ghost use Rattle.book_tables.specs.Lines.{written_row, rules_row, sent_row};
 ghost use Rattle.book_tables.specs.Writing.{Wrote};
 
 use crate::calls::Calls;
 use crate::running::run;
+use profile::Rules;
 use rules::Entry;
 use sqlite::types::ValueRef;
 use sqlite::{Alter, Transaction};
@@ -57,6 +59,45 @@ pub(crate) fn insert_entry<'a, S: Alter>(
         calls,
         "INSERT INTO entry (seq, who, mark, n, moment, body) VALUES (?1, ?2, ?3, ?4, ?5, ?6)",
         &entry_params(seq, who, entry, moment),
+    )
+}
+
+// The number of rules.
+fn number_of(rules: Rules) -> i64
+    ensures { result ≡ pos (rules_number rules) }
+{
+    match rules {
+        Rules::One => 1,
+        Rules::Two => 2,
+    }
+}
+
+// The columns of a row of `entry_rules`.
+fn rules_params(seq: u64, rules: Rules) -> [ValueRef<'static>; 2]
+    requires { seq < 2 ^ 63 }
+    ensures { bound result ≡ values (rules_row seq rules) }
+{
+    [ValueRef::Int(seq as i64), ValueRef::Int(number_of(rules))]
+}
+
+/// Adds a row to `entry_rules`: the rules of the entry under a number that SQLite can hold.
+pub(crate) fn insert_rules<S: Alter>(
+    tx: &mut Transaction<'_, S>,
+    calls: &mut Calls,
+    seq: u64,
+    rules: Rules,
+) -> Result<(), Fault>
+    requires { seq < 2 ^ 63 }
+    ensures same_reference { tx.new.conn.ghost_name ≡ tx.old.conn.ghost_name }
+    ensures wrote { let old = state S.Store tx.old.conn.now in let new = state S.Store tx.new.conn.now in
+        Wrote (Leads (Puts (codes "entry_rules") (rules_row seq rules) ∷ []) old.now new.now) old new calls.old
+        calls.new result }
+{
+    run(
+        tx,
+        calls,
+        "INSERT INTO entry_rules (seq, rules) VALUES (?1, ?2)",
+        &rules_params(seq, rules),
     )
 }
 

@@ -1,4 +1,5 @@
-ghost use Rattle.std.specs.Prelude.{◌≡◌, List, Some, IfOk, map, option_map};
+ghost use Rattle.std.specs.Borrow.{Bor};
+ghost use Rattle.std.specs.Prelude.{◌≡◌, ℕ, List, Some, IfOk, map, option_map, true};
 ghost use Rattle.profile.specs.Header.{Who as Partner};
 ghost use Rattle.profile.specs.Register as register;
 ghost use Rattle.profile.specs.Rows as meant;
@@ -6,18 +7,26 @@ ghost use Rattle.sqlite.specs.Held.{state};
 ghost use Rattle.sqlite.specs.State.{HasCleanDisk};
 ghost use Rattle.book_tables.specs.Asking.{Asked};
 ghost use Rattle.book_tables.specs.Exits.{StandsWhileOpen};
+ghost use Rattle.stock.specs.Keyed.{key_before, rises_by, row_key};
+ghost use Rattle.book_tables.specs.Dated.{date_shown, dates_of};
 ghost use Rattle.book_tables.specs.Showing.{stock_shown};
 
 use crate::connected::Tables;
+use crate::dates::{copied, next_date};
 use crate::reading::{number_at, text_at};
 use rules::Who;
 use sqlite::{Alter, Row};
 use std::alloc::{AllocError, Global};
 use store::{Fault, StockRow};
 
-// The stock row that a row of item, lot and the four amounts shows; None where it shows none.
-fn stock_row_in(alloc: Global, row: &Row) -> Result<Option<StockRow>, AllocError>
-    ensures { (r : meant.StockRow) → row.now ≡ stock_shown r → IfOk result (λ shown. shown ≡ Some r) }
+// The stock row that a row of item, lot and the four amounts shows, with its date if it has one; None where it shows none.
+fn stock_row_in(
+    alloc: Global,
+    row: &Row,
+    expiry: Option<&[u8]>,
+) -> Result<Option<StockRow>, AllocError>
+    ensures { (r : meant.StockRow) → row.now ≡ stock_shown r
+        → option_map (λ (date : Bor (List ℕ)). date.now) expiry.entry ≡ r.expiry → IfOk result (λ shown. shown ≡ Some r) }
 {
     let Some(item) = text_at(row, 0) else {
         return Ok(None);
@@ -40,6 +49,7 @@ fn stock_row_in(alloc: Global, row: &Row) -> Result<Option<StockRow>, AllocError
     Ok(Some(StockRow {
         item: Vec::from_slice(alloc, item)?,
         lot: Vec::from_slice(alloc, lot)?,
+        expiry: copied(alloc, expiry)?,
         expected,
         on_hand,
         reserved,
@@ -47,17 +57,23 @@ fn stock_row_in(alloc: Global, row: &Row) -> Result<Option<StockRow>, AllocError
     }))
 }
 
-/// The stock rows that rows of item, lot and the four amounts show; None where one of them shows none.
+/// The stock rows that rows of item, lot and the four amounts show, with the dates that rows of item, lot and expiry show of them,
+/// where both stand by item and lot; None where one of them shows none.
 pub(crate) fn stock_rows_in(
     alloc: Global,
     rows: &[Row],
+    dates: &[Row],
 ) -> Result<Option<Vec<StockRow>>, AllocError>
-    ensures { (rs : List meant.StockRow) → rows.now ≡ map stock_shown rs
-        → IfOk result (λ shown. option_map (λ v. v.items) shown ≡ Some rs) }
+    ensures { (rs : List meant.LotRow) → rises_by key_before row_key rs ≡ true
+        → rows.now ≡ map (λ r. stock_shown (meant.shown_row r)) rs → dates.now ≡ map date_shown (dates_of rs)
+        → IfOk result (λ shown. option_map (λ v. v.items) shown ≡ Some (map meant.shown_row rs)) }
 {
     let mut shown = Vec::new(alloc);
+    let mut left = dates;
     for row in rows {
-        let Some(stock) = stock_row_in(alloc, row)? else {
+        let (expiry, rest) = next_date(row, left);
+        left = rest;
+        let Some(stock) = stock_row_in(alloc, row, expiry)? else {
             return Ok(None);
         };
         shown.push(stock)?;
@@ -66,7 +82,8 @@ pub(crate) fn stock_rows_in(
 }
 
 impl<S: Alter + Drop> Tables<S> {
-    /// What a depositor has, by item and lot, as its running rows say; nothing of a stranger. 43 where a row shows no stock.
+    /// What a depositor has, by item and lot, with the dates, as its running rows say; nothing of a stranger. 43 where a row shows no
+    /// stock.
     pub(crate) fn stock_rows(&mut self, alloc: Global, who: Who) -> Result<Vec<StockRow>, Fault>
         ensures rows { HasCleanDisk (state S.Store self.new.conn) → (W : Partner) (L : List register.Entry)
             → StandsWhileOpen (state S.Store self.old.conn) W L
@@ -78,7 +95,12 @@ impl<S: Alter + Drop> Tables<S> {
             "SELECT item, lot, expected, on_hand, reserved, shipped FROM stock WHERE who = ?1 ORDER BY item, lot",
             who,
         )?;
-        match stock_rows_in(alloc, &rows)? {
+        let dates = self.of_depositor(
+            alloc,
+            "SELECT item, lot, expiry FROM lot_expiry WHERE who = ?1 ORDER BY item, lot",
+            who,
+        )?;
+        match stock_rows_in(alloc, &rows, &dates)? {
             Some(shown) => Ok(shown),
             None => Err(Fault::NotThisBook),
         }

@@ -21,6 +21,8 @@ fn is_book_name(name: &[u8]) -> bool
     is_one_of(name, b"book", b"entry", b"outgoing")
         || is_one_of(name, b"stock", b"advice", b"advice_line")
         || is_one_of(name, b"orders", b"order_line", b"reservation")
+        || same_name(name, b"entry_rules")
+        || same_name(name, b"lot_expiry")
 }
 
 // Whether one of the tables has the name of a table of the book.

@@ -6,7 +6,7 @@ ghost use Rattle.sqlite.specs.Values.{bound};
 ghost use Rattle.sqlite.specs.Held.{state};
 ghost use Rattle.book_tables.specs.Held.{values};
 ghost use Rattle.book_tables.specs.Leading.{Leads};
-ghost use Rattle.book_tables.specs.Lines.{advice_line_row, order_line_row, reservation_row};
+ghost use Rattle.book_tables.specs.Lines.{advice_line_row, expiry_row, order_line_row, reservation_row};
 ghost use Rattle.book_tables.specs.Writing.{Wrote};
 
 use crate::calls::Calls;
@@ -107,6 +107,40 @@ pub(crate) fn put_stock<'a, S: Alter>(
         calls,
         "INSERT INTO stock (who, item, lot, since, expected, on_hand, reserved, shipped) VALUES (?1, ?2, ?3, ?4, ?5, ?6, ?7, ?8) ON CONFLICT (who, item, lot) DO UPDATE SET since = ?4, expected = ?5, on_hand = ?6, reserved = ?7, shipped = ?8",
         &stock_params(who, row, amounts),
+    )
+}
+
+// The columns of a row of `lot_expiry`.
+fn expiry_params<'a>(who: &'a [u8], row: &'a Row, expiry: &'a [u8]) -> [ValueRef<'a>; 4]
+    ensures { bound result ≡ values (expiry_row who.now row.now.item row.now.lot expiry.now) }
+{
+    [
+        ValueRef::Text(who),
+        ValueRef::Text(&row.item),
+        ValueRef::Text(&row.lot),
+        ValueRef::Text(expiry),
+    ]
+}
+
+/// Puts a row of `lot_expiry`: the date of the pair of a row of `stock`.
+pub(crate) fn put_expiry<'a, S: Alter>(
+    tx: &mut Transaction<'_, S>,
+    calls: &mut Calls,
+    who: &'a [u8],
+    row: &'a Row,
+    expiry: &'a [u8],
+) -> Result<(), Fault>
+    ensures same_reference { tx.new.conn.ghost_name ≡ tx.old.conn.ghost_name }
+    ensures wrote { let old = state S.Store tx.old.conn.now in let new = state S.Store tx.new.conn.now in
+        Wrote (Leads (Puts (codes "lot_expiry") (expiry_row who.now row.now.item row.now.lot expiry.now) ∷ [])
+        old.now new.now)
+        old new calls.old calls.new result }
+{
+    run(
+        tx,
+        calls,
+        "INSERT INTO lot_expiry (who, item, lot, expiry) VALUES (?1, ?2, ?3, ?4) ON CONFLICT (who, item, lot) DO UPDATE SET expiry = ?4",
+        &expiry_params(who, row, expiry),
     )
 }
 

@@ -2,6 +2,7 @@
 use Rattle.std.proofs.Common.{◌≡◌, ◌≤◌, ◌⊎◌, inl, inr, ℕ, ◌+◌, true, false, List, length, map, take, refl, subst, ◌∙◌, arith}
 use Rattle.std.specs.Prelude.{IsSome}
 use Rattle.std.proofs.lemmas.Bool.{cases_Bool}
+use Rattle.profile.specs.declared.rules.Rules.TheVariants.{Two}
 use Rattle.profile.specs.Header.{Who}
 use Rattle.profile.specs.Moments.{Moment}
 use Rattle.profile.specs.Register.{Command, Entry}
@@ -14,17 +15,17 @@ use Rattle.books.specs.Stopped.{IsReopened, Crosses}
 -- what a run says of a register that the book was usable for
 pub record Runs (old new : Standing) (L : List Entry) (cs : List (Command × Moment)) (o : Outcome) : Type 0 where
   pub goes : GoesOn old new
-  pub answered : new.doubt ≡ 0 → map told o.replies.items ≡ replies_on old.warehouse L (take (length o.replies.items) cs)
-  pub opened : new.doubt ≡ 0 → new.shut ≡ false → IsUsable new (accepted_on old.warehouse L (take (length o.replies.items) cs))
-  pub broken : new.doubt ≡ 0 → new.shut ≡ true → IsSome o.fault × LeavesEither new (accepted_on old.warehouse L (take (length o.replies.items) cs))
-      (accepted_on old.warehouse L (take (length o.replies.items + 1) cs))
+  pub answered : new.doubt ≡ 0 → map told o.replies.items ≡ replies_on Two old.warehouse L (take (length o.replies.items) cs)
+  pub opened : new.doubt ≡ 0 → new.shut ≡ false → IsUsable new (accepted_on Two old.warehouse L (take (length o.replies.items) cs))
+  pub broken : new.doubt ≡ 0 → new.shut ≡ true → IsSome o.fault × LeavesEither new (accepted_on Two old.warehouse L (take (length o.replies.items) cs))
+      (accepted_on Two old.warehouse L (take (length o.replies.items + 1) cs))
 
 module _ (s0 s1 s2 s3 : Standing) (L : List Entry) (first second : List (Command × Moment)) (before later : Outcome) where
   abbrev W : Who
   W = s0.warehouse
 
   abbrev on : ℕ → List Entry
-  on k = accepted_on W L (take k first)
+  on k = accepted_on Two W L (take k first)
 
   -- how many count
   Counts : Type 0
@@ -64,8 +65,8 @@ module _ (s0 s1 s2 s3 : Standing) (L : List Entry) (first second : List (Command
         kept = k.0;
         which = k.1;
         warehouse = goes.warehouse ∙ same;
-        replies = subst (λ (V : Who). map told later.replies.items ≡ replies_on V (on k.0) (take (length later.replies.items) second)) same (then.answered clean);
-        opened = λ open'. subst (λ (V : Who). IsUsable s3 (accepted_on V (on k.0) (take (length later.replies.items) second))) same (then.opened clean open');
-        broken = λ shut. subst (λ (V : Who). IsSome later.fault × LeavesEither s3 (accepted_on V (on k.0) (take (length later.replies.items) second))
-            (accepted_on V (on k.0) (take (length later.replies.items + 1) second))) same (then.broken clean shut);
+        replies = subst (λ (V : Who). map told later.replies.items ≡ replies_on Two V (on k.0) (take (length later.replies.items) second)) same (then.answered clean);
+        opened = λ open'. subst (λ (V : Who). IsUsable s3 (accepted_on Two V (on k.0) (take (length later.replies.items) second))) same (then.opened clean open');
+        broken = λ shut. subst (λ (V : Who). IsSome later.fault × LeavesEither s3 (accepted_on Two V (on k.0) (take (length later.replies.items) second))
+            (accepted_on Two V (on k.0) (take (length later.replies.items + 1) second))) same (then.broken clean shut);
       }

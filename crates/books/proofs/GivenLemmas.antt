@@ -1,11 +1,16 @@
 -- Options, and entries at their places.
 use Rattle.std.proofs.Common.{Bool, true, false, IsTrue, ◌≡◌, ◌<◌, ℕ, zero, suc, List, [], ◌∷◌, ◌++◌, length, Option, Some, None, get_or, slice_get, sym, refl, ◌∙◌, arith}
+use Rattle.std.specs.Prelude.{IsSomeAnd}
 use Rattle.profile.specs.Register.{Entry}
 use Rattle.rules.specs.Written.{Written}
 use Rattle.store.specs.Replayed.{written_on}
 
 pub never_none : {A : Type 0} (o : Option A) (a : A) → ((b : A) → o ≡ Some b → ⊥) → o ≡ Some a → ⊥
 never_none o a not is = not a is
+
+pub none_given : {A : Type 0} (o : Option A) (P : A → Type 0) → ((b : A) → o ≡ Some b → ⊥) → IsSomeAnd o P → ⊥
+none_given None P not h = h
+none_given (Some a) P not h = not a refl
 
 pub one_some : {A : Type 0} (o : Option A) (a b : A) → o ≡ Some a → o ≡ Some b → a ≡ b
 one_some o a b p q = let r : Some a ≡ Some b = sym p ∙ q in cc

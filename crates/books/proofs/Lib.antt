@@ -4,3 +4,5 @@ mod StopLemmas
 mod CrossLemmas
 mod AgainLemmas
 mod GivenLemmas
+mod RulesLemmas
+mod OpeningLemmas

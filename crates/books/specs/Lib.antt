@@ -2,3 +2,4 @@ pub mod Keeping
 pub mod Opened
 pub mod Stopped
 pub mod Verified
+pub mod Carrying

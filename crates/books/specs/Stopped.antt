@@ -1,5 +1,6 @@
 -- What is opened where a process stopped, and what two runs come to on both sides of a stop.
 use Rattle.std.specs.Prelude.{◌≡◌, ◌⊎◌, ℕ, ◌+◌, true, false, List, length, map, take, slice_get, Some, IsSome, ◌<◌}
+use Rattle.profile.specs.declared.rules.Rules.TheVariants.{Two}
 use Rattle.profile.specs.Moments.{Moment}
 use Rattle.profile.specs.Register.{Command, Entry}
 use Rattle.profile.specs.Accepted.{accepted_on, replies_on}
@@ -19,16 +20,16 @@ pub record IsReopened (old new : Standing) : Type 0 where
 -- The first commands were answered on the register L, up to a fault. So many of them count: those that were answered, and only
 -- where there was a fault perhaps the next. The second ones are answered on the register of those.
 pub record Crosses (old new : Standing) (L : List Entry) (first second : List (Command × Moment)) (before later : Outcome) : Type 0 where
-  pub answered : map told before.replies.items ≡ replies_on old.warehouse L (take (length before.replies.items) first)
+  pub answered : map told before.replies.items ≡ replies_on Two old.warehouse L (take (length before.replies.items) first)
   pub kept : ℕ
   pub which : (kept ≡ length before.replies.items) ⊎ (IsSome before.fault × (kept ≡ length before.replies.items + 1))
   pub warehouse : new.warehouse ≡ old.warehouse
-  pub replies : map told later.replies.items ≡ replies_on old.warehouse (accepted_on old.warehouse L (take kept first)) (take (length later.replies.items) second)
+  pub replies : map told later.replies.items ≡ replies_on Two old.warehouse (accepted_on Two old.warehouse L (take kept first)) (take (length later.replies.items) second)
   pub opened : new.shut ≡ false
-      → IsUsable new (accepted_on old.warehouse (accepted_on old.warehouse L (take kept first)) (take (length later.replies.items) second))
+      → IsUsable new (accepted_on Two old.warehouse (accepted_on Two old.warehouse L (take kept first)) (take (length later.replies.items) second))
   pub broken : new.shut ≡ true → IsSome later.fault × LeavesEither new
-      (accepted_on old.warehouse (accepted_on old.warehouse L (take kept first)) (take (length later.replies.items) second))
-      (accepted_on old.warehouse (accepted_on old.warehouse L (take kept first)) (take (length later.replies.items + 1) second))
+      (accepted_on Two old.warehouse (accepted_on Two old.warehouse L (take kept first)) (take (length later.replies.items) second))
+      (accepted_on Two old.warehouse (accepted_on Two old.warehouse L (take kept first)) (take (length later.replies.items + 1) second))
 
 -- An interchange or an act that was accepted by its reply, and is given again after the stop, is answered by the same text.
 abbrev pub StoresAgain : List (Command × Moment) → List (Command × Moment) → Outcome → Outcome → Type 0

@@ -1,25 +1,40 @@
 -- What checking a book whole goes by: a copy in memory, to which the commands of its entries were given again.
-use Rattle.std.specs.Prelude.{◌≡◌, ◌≤◌, ℕ, List, length, take}
+use Rattle.std.specs.Prelude.{◌≡◌, ◌≤◌, ℕ, List, [], ◌∷◌, length, take}
 use Rattle.sqlite.specs.Effect.{Database}
 use Rattle.sqlite.specs.State.{State}
+use Rattle.profile.specs.declared.rules.Rules.{Rules}
+use Rattle.profile.specs.declared.rules.Rules.TheVariants.{One}
 use Rattle.profile.specs.Header.{Who}
 use Rattle.profile.specs.Register.{Entry}
+use Rattle.profile.specs.Accepted.{IsLegal}
 use Rattle.store.specs.Standing.{Standing, IsUsable}
 use Rattle.book_tables.specs.Exits.{StandsWhileOpen}
 use Rattle.book_tables.specs.Standing.{Stands}
 
--- the book is usable for some register of the warehouse
-pub record IsCopy (W : Who) (copy : Standing) : Type 0 where
+-- the rules of the last of these entries, or those before it
+abbrev pub last_rules : Rules → List Entry → Rules
+last_rules r [] = r
+last_rules r (e ∷ L) = last_rules e.rules L
+
+-- the book is usable for some register of the warehouse, in which no entry has rules above these
+pub record IsCopy (last : Rules) (W : Who) (copy : Standing) : Type 0 where
   pub warehouse : copy.warehouse ≡ W
   pub register : List Entry
+  pub legal : IsLegal last copy.warehouse register
   pub usable : IsUsable copy register
 
 -- tables that stand for a register, and a copy that keeps so many of its entries, the first ones
-pub record Follows (n : ℕ) (s : State) (W : Who) (copy : Standing) (L : List Entry) : Type 0 where
+pub record Stays (n : ℕ) (s : State) (W : Who) (copy : Standing) (L : List Entry) : Type 0 where
   pub stands : StandsWhileOpen s W L
   pub fits : n ≤ length L
   pub warehouse : copy.warehouse ≡ W
   pub usable : IsUsable copy (take n L)
+
+-- the same, where these are the rules of the last of them
+pub record Follows (n : ℕ) (last : Rules) (s : State) (W : Who) (copy : Standing) (L : List Entry) : Type 0 where
+  pub stays : Stays n s W copy L
+  pub last_is : last ≡ last_rules One (take n L)
+  pub legal : IsLegal last copy.warehouse (take n L)
 
 -- the database stands for a register of so many entries
 pub record StandsForMany (W : Who) (n : ℕ) (db : Database) : Type 0 where

@@ -1,4 +1,5 @@
 ghost use Rattle.std.specs.Prelude.{length, ◌≡◌, ◌≢◌, ◌⊎◌, ◌≤◌, ◌<◌, ◌^◌, ◌-◌, ◌++◌, ◌∷◌, [], List, true, false, IfErr, IfOk, OnOk, OnErr, IsErrOf, IsErrAnd, Some, option_map};
+ghost use Rattle.profile.specs.declared.rules.Rules.TheVariants.{One, Two};
 ghost use Rattle.profile.specs.Header.{Who as Partner};
 ghost use Rattle.profile.specs.Accepted.{IsLegal};
 ghost use Rattle.profile.specs.Decision as decided;
@@ -8,13 +9,16 @@ ghost use Rattle.rules.specs.Asked.{mark_of};
 ghost use Rattle.rules.specs.Decided.{IsHeldAtRest, IsRecalled};
 ghost use Rattle.sqlite.specs.State.{HasCleanDisk, Survives};
 ghost use Rattle.sqlite.specs.Held.{state};
+ghost use Rattle.sqlite.specs.Tree.{Trees};
 ghost use Rattle.sqlite.specs.Order.{Row as Cells};
 ghost use Rattle.store.specs.Held.{IsHeld};
 ghost use Rattle.store.specs.Sent.{text_of};
 ghost use Rattle.store.specs.Standing.{IsUsable, IsUnchanged, IsQueryFault, IsNext, IsFault, IsCommitFault, LeavesEither, GoesOn};
-ghost use Rattle.book_tables.specs.Asking.{Finds, IsAsked, house_text};
-ghost use Rattle.book_tables.specs.Exits.{IsAsBefore, StandsWhileOpen};
+ghost use Rattle.book_tables.specs.Asking.{Finds, house_text};
+ghost use Rattle.book_tables.specs.Carrying.{LeavesCarried, StandsOpenAs};
+ghost use Rattle.book_tables.specs.Exits.{IsAsBefore};
 ghost use Rattle.book_tables.specs.Comparing.{AreTables, IsLaid};
+ghost use Rattle.books.specs.Carrying.{AllStandAs, BringsUp, OpensAs};
 ghost use Rattle.books.specs.Keeping.{IsKept};
 ghost use Rattle.books.specs.Verified.{StandsForMany};
 ghost use Rattle.book_tables.specs.Limits.{NoMore};
@@ -28,6 +32,7 @@ ghost use Rattle.book_tables.specs.Taken.{has_book_table};
 
 use crate::verifying::replayed;
 use book_tables::{Tables, partner_text};
+use profile::Rules;
 use rules::{Change, Entry, Key, Known, Need, Page, Warehouse, Who};
 use sqlite::Alter;
 use std::alloc::Global;
@@ -55,6 +60,26 @@ impl<S: Alter + Drop> Model for Book<S> {
     ghost coded = { opened_code S.code };
 
     ghost view = { λ b. record { tables = b.tables; warehouse = b.warehouse; entries = b.entries; shut = b.shut } };
+}
+
+// Carries tables of version 1, which have so many entries, over to version 2; those of version 2 stay.
+#[tactic(auto, using(book_tables::proofs::Limited::no_more_trans, book_tables::proofs::Limited::no_more_same))]
+fn bring_up<S: Alter + Drop>(
+    tables: &mut Tables<S>,
+    version: Rules,
+    entries: u64,
+) -> Result<(), Fault>
+    requires { entries < 2 ^ 63 }
+    ensures brought { BringsUp S.Store version entries tables.old tables.new result }
+    ensures named { IfErr result (λ f. (f ≡ Fault.OutOfMemory) ⊎ (f ≡ Fault.Store)) }
+    ensures counted { OnErr result (Rises tables.old.refused tables.new.refused) }
+    ensures uncounted { OnOk result (tables.new.refused ≡ tables.old.refused) }
+    ensures limit { NoMore tables.old.limit tables.new.limit }
+{
+    match version {
+        Rules::One => tables.carry_over(entries),
+        Rules::Two => Ok(()),
+    }
 }
 
 impl<S: Alter + Drop> Book<S> {
@@ -101,28 +126,33 @@ impl<S: Alter + Drop> Book<S> {
         }
     }
 
-    /// Opens the book that tables hold. A fault hands the tables back as they were: 40 or 41 where a call was refused, 43 where
-    /// `book` hasn't one row, or that row has another version than 1 or no warehouse.
+    /// Opens the book that tables hold. One of version 1 is carried over to version 2 first, in one transaction, which keeps every
+    /// entry under the rules that it was judged by. A fault hands the tables back, which stand for the same register: 40 or 41
+    /// where a call was refused, 43 where `book` hasn't one row, or that row has another version than 1 and 2 or no warehouse.
     #[tactic(auto, using(book_tables::proofs::Limited::no_more_trans, book_tables::proofs::Limited::no_more_same))]
     pub fn open_from(alloc: Global, mut tables: Tables<S>) -> Result<Book<S>, (Fault, Tables<S>)>
         ensures usable { IfOk result (λ b. HasCleanDisk (state S.Store b.tables.conn)
-            → (W : Partner) (L : List register.Entry) → StandsWhileOpen (state S.Store tables.conn) W L
+            → (q : Rules) (W : Partner) (L : List register.Entry) → StandsOpenAs q (state S.Store tables.conn) W L
             → IsUsable (standing_of S.Store b) L) }
         ensures keeps { IfOk result (λ b. HasCleanDisk (state S.Store b.tables.conn)
-            → (W : Partner) (L : List register.Entry) → StandsWhileOpen (state S.Store tables.conn) W L
+            → (q : Rules) (W : Partner) (L : List register.Entry) → StandsOpenAs q (state S.Store tables.conn) W L
             → (b.warehouse ≡ W) × IsKept (state S.Store b.tables.conn) W b.entries L) }
         ensures opened { IfOk result (λ b. b.shut ≡ false) }
-        ensures still { IfOk result (λ b. IsAsked (state S.Store tables.conn) (state S.Store b.tables.conn)) }
+        ensures still { IfOk result (λ b. OpensAs (state S.Store tables.conn) (state S.Store b.tables.conn)) }
         ensures house { IfOk result (λ b. HasCleanDisk (state S.Store b.tables.conn)
             → (rows : List Cells) × Finds house_text [] (state S.Store tables.conn).now rows
-            × IsHouse rows b.warehouse) }
+            × ((q : Rules) × IsHouse q rows b.warehouse)) }
         ensures not_this { IfErr result (λ e. e.0 ≡ Fault.NotThisBook → HasCleanDisk (state S.Store e.1.conn)
-            → (rows : List Cells) × Finds house_text [] (state S.Store tables.conn).now rows × ((W : Partner)
-            → IsHouse rows W → ⊥)) }
+            → (rows : List Cells) × Finds house_text [] (state S.Store tables.conn).now rows
+            × ((q : Rules) (W : Partner) → IsHouse q rows W → ⊥)) }
         ensures this { IfErr result (λ e. HasCleanDisk (state S.Store e.1.conn)
-            → (W : Partner) (L : List register.Entry) → StandsWhileOpen (state S.Store tables.conn) W L
+            → (q : Rules) (W : Partner) (L : List register.Entry) → StandsOpenAs q (state S.Store tables.conn) W L
             → e.0 ≢ Fault.NotThisBook) }
-        ensures asked { IfErr result (λ e. IsAsked (state S.Store tables.conn) (state S.Store e.1.conn)) }
+        ensures asked { IfErr result (λ e. OpensAs (state S.Store tables.conn) (state S.Store e.1.conn)) }
+        ensures carried { IfErr result (λ e. HasCleanDisk (state S.Store e.1.conn)
+            → (W : Partner) (L : List register.Entry) → StandsOpenAs One (state S.Store tables.conn) W L
+            → AllStandAs One (state S.Store tables.conn) W L
+            → (db : Trees) → (state S.Store e.1.conn).may_leave db → LeavesCarried W L db) }
         ensures counted { IfErr result (λ e. e.0 ≢ Fault.NotThisBook → Rises tables.refused e.1.refused) }
         ensures uncounted { IfErr result (λ e. e.0 ≡ Fault.NotThisBook → e.1.refused ≡ tables.refused) }
         ensures named { IfErr result (λ e. (e.0 ≡ Fault.NotThisBook) ⊎ ((e.0 ≡ Fault.OutOfMemory)
@@ -133,16 +163,21 @@ impl<S: Alter + Drop> Book<S> {
         ensures allowed { OnOk result (tables.limit ≢ Some 0) }
     {
         tables.settle();
-        match tables.found() {
-            Ok(found) => Ok(Book {
-                alloc,
-                tables,
-                warehouse: found.0,
-                entries: found.1,
-                shut: false,
-            }),
-            Err(fault) => Err((fault, tables)),
+        let (house, entries) = match tables.found() {
+            Ok(found) => found,
+            Err(fault) => return Err((fault, tables)),
+        };
+        let (version, warehouse) = house;
+        if let Err(fault) = bring_up(&mut tables, version, entries) {
+            return Err((fault, tables));
         }
+        Ok(Book {
+            alloc,
+            tables,
+            warehouse,
+            entries,
+            shut: false,
+        })
     }
 
     /// How many entries the register has, where every table is what comes of giving their commands again, one after another, to an
@@ -160,10 +195,33 @@ impl<S: Alter + Drop> Book<S> {
             (standing_of S.Store self.new)) }
         ensures shut { self.old.shut ≡ true → IsErrOf result Fault.Reopen }
     {
+        self.verify_telling(|_, _| {})
+    }
+
+    /// The same as `verify`; and `told` is handed, after each entry, how many were given again and how many there are.
+    #[tactic(auto, using(book_tables::proofs::Limited::no_more_trans, book_tables::proofs::Limited::no_more_same))]
+    pub fn verify_telling<T: FnMut(u64, u64)>(&mut self, told: T) -> Result<u64, Fault>
+        requires told { T.IsAlwaysCallable told }
+        ensures stands { (standing_of S.Store self.new).doubt ≡ 0 → IsLaid (state S.Store self.old.tables.conn)
+            → AreTables (state S.Store self.old.tables.conn).now.trees
+            → IfOk result (λ n. StandsForMany self.old.warehouse n (state S.Store self.old.tables.conn).now) }
+        ensures whole { (standing_of S.Store self.new).doubt ≡ 0 → (L : List register.Entry)
+            → (standing_of S.Store self.old).keeps L → IfOk result (λ n. n ≡ length L) }
+        ensures same { IsUnchanged (standing_of S.Store self.old) (standing_of S.Store self.new) }
+        ensures fault { IfErr result (λ fault. IsQueryFault fault (standing_of S.Store self.old)
+            (standing_of S.Store self.new)) }
+        ensures shut { self.old.shut ≡ true → IsErrOf result Fault.Reopen }
+    {
         if self.shut {
             return Err(Fault::Reopen);
         }
-        let found = replayed(self.alloc, &mut self.tables, self.warehouse, self.entries)?;
+        let found = replayed(
+            self.alloc,
+            &mut self.tables,
+            self.warehouse,
+            self.entries,
+            told,
+        )?;
         let Some(mut copy) = found else {
             return Err(Fault::NotThisBook);
         };
@@ -202,7 +260,7 @@ impl<S: Alter + Drop> Keeper for Book<S> {
     #[tactic(auto, using(book_tables::proofs::Limited::no_more_trans, book_tables::proofs::Limited::no_more_same))]
     fn load(&mut self, who: Who, need: &Need) -> Result<Option<Page>, Fault>
         ensures page { (standing_of S.Store self.new).doubt ≡ 0 → (L : List register.Entry)
-            → (standing_of S.Store self.old).keeps L → IsLegal (standing_of S.Store self.old).warehouse L
+            → (standing_of S.Store self.old).keeps L → IsLegal Two (standing_of S.Store self.old).warehouse L
             → IfOk result (λ page. IsHeld need.now page (decided.standing (register.own L who))) }
         ensures part { (standing_of S.Store self.new).doubt ≡ 0 → (L : List register.Entry)
             → (standing_of S.Store self.old).keeps L → IfOk result (λ page. page ≡ needed_part need.now L who) }
@@ -224,7 +282,7 @@ impl<S: Alter + Drop> Keeper for Book<S> {
     #[tactic(auto, using(book_tables::proofs::Limited::no_more_trans, book_tables::proofs::Limited::no_more_same))]
     fn known(&mut self, who: Who, key: &Key<'_>) -> Result<Option<Known>, Fault>
         ensures entry { (standing_of S.Store self.new).doubt ≡ 0 → (L : List register.Entry)
-            → (standing_of S.Store self.old).keeps L → IsLegal (standing_of S.Store self.old).warehouse L
+            → (standing_of S.Store self.old).keeps L → IsLegal Two (standing_of S.Store self.old).warehouse L
             → IfOk result (λ known. IsRecalled known (decided.recalled (standing_of S.Store self.old).warehouse
             (mark_of key.now) (register.own L who))) }
         ensures same { IsUnchanged (standing_of S.Store self.old) (standing_of S.Store self.new) }
@@ -295,7 +353,7 @@ impl<S: Alter + Drop> Keeper for Book<S> {
     #[tactic(auto, using(book_tables::proofs::Limited::no_more_trans, book_tables::proofs::Limited::no_more_same))]
     fn stock_rows(&mut self, who: Who) -> Result<Option<Vec<StockRow>>, Fault>
         ensures rows { (standing_of S.Store self.new).doubt ≡ 0 → (L : List register.Entry)
-            → (standing_of S.Store self.old).keeps L → IsLegal (standing_of S.Store self.old).warehouse L
+            → (standing_of S.Store self.old).keeps L → IsLegal Two (standing_of S.Store self.old).warehouse L
             → IfOk result (λ rows. option_map (λ v. v.items) rows ≡ stock_of L who) }
         ensures same { IsUnchanged (standing_of S.Store self.old) (standing_of S.Store self.new) }
         ensures fault { IfErr result (λ fault. IsQueryFault fault (standing_of S.Store self.old)
@@ -314,7 +372,7 @@ impl<S: Alter + Drop> Keeper for Book<S> {
     #[tactic(auto, using(book_tables::proofs::Limited::no_more_trans, book_tables::proofs::Limited::no_more_same))]
     fn outbox(&mut self, who: Who) -> Result<Option<Vec<OutRow>>, Fault>
         ensures rows { (standing_of S.Store self.new).doubt ≡ 0 → (L : List register.Entry)
-            → (standing_of S.Store self.old).keeps L → IsLegal (standing_of S.Store self.old).warehouse L
+            → (standing_of S.Store self.old).keeps L → IsLegal Two (standing_of S.Store self.old).warehouse L
             → IfOk result (λ rows. option_map (λ v. v.items) rows ≡ outbox_of
             (standing_of S.Store self.old).warehouse L who) }
         ensures same { IsUnchanged (standing_of S.Store self.old) (standing_of S.Store self.new) }
@@ -334,7 +392,7 @@ impl<S: Alter + Drop> Keeper for Book<S> {
     #[tactic(auto, using(book_tables::proofs::Limited::no_more_trans, book_tables::proofs::Limited::no_more_same))]
     fn text(&mut self, who: Who, n: u32) -> Result<Option<Option<Vec<u8>>>, Fault>
         ensures text { (standing_of S.Store self.new).doubt ≡ 0 → (L : List register.Entry)
-            → (standing_of S.Store self.old).keeps L → IsLegal (standing_of S.Store self.old).warehouse L
+            → (standing_of S.Store self.old).keeps L → IsLegal Two (standing_of S.Store self.old).warehouse L
             → IfOk result (λ text. option_map (option_map (λ v. v.items)) text ≡ text_of
             (standing_of S.Store self.old).warehouse L who n) }
         ensures same { IsUnchanged (standing_of S.Store self.old) (standing_of S.Store self.new) }

@@ -1,5 +1,7 @@
 //! Whether the tables of a book are what its register says.
-ghost use Rattle.std.specs.Prelude.{◌<◌, ◌+◌, length, IfSome, IsSomeAnd, ◌≡◌, ◌++◌, ◌∷◌, [], List, true, IfErr, IfOk, OnOk};
+ghost use Rattle.std.specs.Prelude.{◌<◌, ◌+◌, length, IfSome, IsSomeAnd, ◌≡◌, ◌++◌, ◌∷◌, [], List, true, IfErr, IfOk, Some};
+ghost use Rattle.profile.specs.declared.rules.Rules.TheVariants.{One, Two};
+ghost use Rattle.profile.specs.Rules as meant;
 ghost use Rattle.profile.specs.Accepted.{IsLegal};
 ghost use Rattle.profile.specs.Header.{Who as Partner};
 ghost use Rattle.profile.specs.Register as register;
@@ -11,19 +13,20 @@ ghost use Rattle.store.specs.Standing.{GoesOn, IsUsable};
 ghost use Rattle.books.specs.Opened.{standing_of};
 ghost use Rattle.book_tables.specs.Asking.{Went};
 ghost use Rattle.book_tables.specs.Exits.{StandsWhileOpen};
-ghost use Rattle.books.specs.Verified.{Follows, IsCopy};
+ghost use Rattle.books.specs.Verified.{Follows, IsCopy, Stays, last_rules};
 
 use crate::book::{Book, GREATEST};
 use book_tables::Tables;
+use profile::Rules;
 use rules::{Entry, Warehouse, command_of};
 use sqlite::{Alter, Connection};
 use sqlite_trees::memory::MemStore;
 use std::alloc::Global;
-use store::{Fault, Keeper, submit};
+use store::{Fault, Keeper, submit_under};
 
 // An empty book of the warehouse, in memory.
 fn blank(alloc: Global, warehouse: Warehouse) -> Result<Book<MemStore>, Fault>
-    ensures copy { IfOk result (λ b. IsCopy warehouse (standing_of over_memory b)) }
+    ensures copy { IfOk result (λ b. IsCopy One warehouse (standing_of over_memory b)) }
     ensures usable { IfOk result (λ b. IsUsable (standing_of over_memory b) []) }
     ensures named { IfErr result (λ f. f ≡ Fault.OutOfMemory) }
 {
@@ -34,72 +37,97 @@ fn blank(alloc: Global, warehouse: Warehouse) -> Result<Book<MemStore>, Fault>
     }
 }
 
-// Gives a copy the command of an entry again: whether a command made the entry. What the copy's store lacks is memory.
-fn give<K: Keeper>(alloc: Global, copy: &mut K, entry: &Entry) -> Result<bool, Fault>
-    ensures copy { (K.standing copy.new).doubt ≡ 0 → (W : Partner) → IsCopy W (K.standing copy.old)
-        → OnOk result (IsCopy W (K.standing copy.new)) }
+// Whether rules may be those of an entry after one under these: they never fall.
+fn may_follow(last: Rules, rules: Rules) -> bool
+    ensures { result ≡ meant.may_follow last rules }
+{
+    !matches!((last, rules), (Rules::Two, Rules::One))
+}
+
+// Gives a copy the command of an entry again, under the entry's rules: these, or None where no command made the entry, or its
+// rules fall below the last ones. What the copy's store lacks is memory.
+fn give<K: Keeper>(
+    alloc: Global,
+    copy: &mut K,
+    entry: &Entry,
+    last: Rules,
+) -> Result<Option<Rules>, Fault>
+    ensures copy { (K.standing copy.new).doubt ≡ 0 → (W : Partner) → IsCopy last W (K.standing copy.old)
+        → IfOk result (λ given. IfSome given (λ rules. IsCopy rules W (K.standing copy.new))) }
     ensures next { (K.standing copy.new).doubt ≡ 0
         → (L : List register.Entry) (e : register.Entry) (behind : List register.Entry)
-        → entry.now ≡ written L e → IsLegal (K.standing copy.old).warehouse (L ++ e ∷ behind)
-        → IsUsable (K.standing copy.old) L
-        → IfOk result (λ given. (given ≡ true) × IsUsable (K.standing copy.new) (L ++ e ∷ [])) }
+        → entry.now ≡ written L e → IsLegal Two (K.standing copy.old).warehouse (L ++ e ∷ behind)
+        → last ≡ last_rules One L → IsLegal last (K.standing copy.old).warehouse L → IsUsable (K.standing copy.old) L
+        → IfOk result (λ given. (given ≡ Some e.rules)
+        × IsLegal e.rules (K.standing copy.new).warehouse (L ++ e ∷ []) × IsUsable (K.standing copy.new) (L ++ e ∷ [])) }
     ensures goes { GoesOn (K.standing copy.old) (K.standing copy.new) }
     ensures named { IfErr result (λ f. f ≡ Fault.OutOfMemory) }
 {
     let Some(given) = command_of(alloc, entry)? else {
-        return Ok(false);
+        return Ok(None);
     };
-    match submit(alloc, copy, &given.command(), entry.moment()) {
-        Ok(_) => Ok(true),
+    let rules = given.rules();
+    if !may_follow(last, rules) {
+        return Ok(None);
+    }
+    match submit_under(alloc, copy, &given.command(), entry.moment(), rules) {
+        Ok(_) => Ok(Some(rules)),
         Err(_) => Err(Fault::OutOfMemory),
     }
 }
 
-// Gives a copy the command of the entry after so many again: whether there is one, which a command made. 40 where the copy lacks
-// memory, as it would for more entries than SQLite has numbers, and 41 where a call of these tables is refused.
+// Gives a copy the command of the entry after so many again: the entry's rules, or None where there is no entry that a command
+// made under rules that may follow the last ones. 40 where the copy lacks memory, as it would for more entries than SQLite has
+// numbers, and 41 where a call of these tables is refused.
 fn give_entry<S: Alter + Drop>(
     alloc: Global,
     tables: &mut Tables<S>,
     copy: &mut Book<MemStore>,
     before: u64,
-) -> Result<bool, Fault>
-    ensures copy { (W : Partner) → IsCopy W (standing_of over_memory copy.old)
-        → OnOk result (IsCopy W (standing_of over_memory copy.new)) }
+    last: Rules,
+) -> Result<Option<Rules>, Fault>
+    ensures copy { (W : Partner) → IsCopy last W (standing_of over_memory copy.old)
+        → IfOk result (λ given. IfSome given (λ rules. IsCopy rules W (standing_of over_memory copy.new))) }
     ensures next { HasCleanDisk (state S.Store tables.new.conn) → (W : Partner) (L : List register.Entry)
-        → before < length L → Follows before (state S.Store tables.old.conn) W (standing_of over_memory copy.old) L
-        → IfOk result (λ given. (given ≡ true)
-        × Follows (before + 1) (state S.Store tables.new.conn) W (standing_of over_memory copy.new) L) }
+        → before < length L → Follows before last (state S.Store tables.old.conn) W (standing_of over_memory copy.old) L
+        → IfOk result (λ given. IsSomeAnd given
+        (λ rules. Follows (before + 1) rules (state S.Store tables.new.conn) W (standing_of over_memory copy.new) L)) }
     ensures went { Went S.Store tables.old tables.new result }
 {
     if before >= GREATEST {
         return Err(Fault::OutOfMemory);
     }
     match tables.entry_at(alloc, before + 1)? {
-        Some(entry) => give(alloc, copy, &entry),
-        None => Ok(false),
+        Some(entry) => give(alloc, copy, &entry, last),
+        None => Ok(None),
     }
 }
 
-/// A book in memory to which the commands of so many entries were given again, in their order; None where one is missing, or no
-/// command made it.
-pub(crate) fn replayed<S: Alter + Drop>(
+/// A book in memory to which the commands of so many entries were given again, in their order, each under the rules of its entry;
+/// None where one is missing, no command made it, or the rules fall. After each, `told` is handed how many were given of how many.
+pub(crate) fn replayed<S: Alter + Drop, T: FnMut(u64, u64)>(
     alloc: Global,
     tables: &mut Tables<S>,
     warehouse: Warehouse,
     entries: u64,
+    mut told: T,
 ) -> Result<Option<Book<MemStore>>, Fault>
-    ensures copy { IfOk result (λ o. IfSome o (λ b. IsCopy warehouse (standing_of over_memory b))) }
+    requires told { T.IsAlwaysCallable told }
+    ensures copy { IfOk result (λ o. IfSome o (λ b. IsCopy Two warehouse (standing_of over_memory b))) }
     ensures whole { HasCleanDisk (state S.Store tables.new.conn) → (L : List register.Entry) → entries ≡ length L
         → StandsWhileOpen (state S.Store tables.old.conn) warehouse L
-        → IfOk result (λ o. IsSomeAnd o (λ b. Follows entries (state S.Store tables.new.conn) warehouse
+        → IfOk result (λ o. IsSomeAnd o (λ b. Stays entries (state S.Store tables.new.conn) warehouse
         (standing_of over_memory b) L)) }
     ensures went { Went S.Store tables.old tables.new result }
 {
     let mut copy = blank(alloc, warehouse)?;
+    let mut last = Rules::One;
     for before in 0..entries {
-        if !give_entry(alloc, tables, &mut copy, before)? {
+        let Some(rules) = give_entry(alloc, tables, &mut copy, before, last)? else {
             return Ok(None);
-        }
+        };
+        last = rules;
+        told(before + 1, entries);
     }
     Ok(Some(copy))
 }

@@ -6,6 +6,7 @@ use Rattle.std.specs.List.{list_all}
 use Rattle.std.proofs.lemmas.List.{map-append, take_more, take-append-drop}
 use Rattle.std.proofs.lemmas.List.Folds.{list_all-append}
 use Rattle.profile.proofs.TextLaws.{both_parts}
+use Rattle.profile.specs.declared.rules.Rules.TheVariants.{Two}
 use Rattle.profile.specs.Accepted.{IsLegal, accepted_on, replies_on, after, reply_to}
 use Rattle.profile.specs.Header.{Who, is_partner}
 use Rattle.profile.specs.Moments.{Moment}
@@ -33,11 +34,11 @@ none_enrolled a t before = record {
 }
 
 lines_more : (W : Who) (L : List Entry) (t : Moment) (xs : List Who) (who : Who)
-    → lines_of W L t (xs ++ who ∷ []) ≡ lines_of W L t xs ++ line_of who (reply_to W (accepted_on W L (enrolments t xs)) (Enrol who) t)
+    → lines_of W L t (xs ++ who ∷ []) ≡ lines_of W L t xs ++ line_of who (reply_to Two W (accepted_on Two W L (enrolments t xs)) (Enrol who) t)
 unfolding lines_of
 lines_more W L t [] who = append-nil _
 lines_more W L t (x ∷ xs) who =
-    ap (λ (ls : List ℕ). line_of x (reply_to W L (Enrol x) t) ++ ls) (lines_more W (after W L (Enrol x, t)) t xs who) ∙ sym (append_assoc (line_of x (reply_to W L (Enrol x) t)) _ _)
+    ap (λ (ls : List ℕ). line_of x (reply_to Two W L (Enrol x) t) ++ ls) (lines_more W (after Two W L (Enrol x, t)) t xs who) ∙ sym (append_assoc (line_of x (reply_to Two W L (Enrol x) t)) _ _)
 
 enrolments_more : (t : Moment) (xs : List Who) (who : Who) → enrolments t (xs ++ who ∷ []) ≡ enrolments t xs ++ (Enrol who, t) ∷ []
 enrolments_more t xs who = map-append (λ (w : Who). (Enrol w, t)) xs (who ∷ [])
@@ -50,15 +51,15 @@ each xs who all =
 
 -- the register after one more, where another call names the house
 grown : (V W : Who) (L : List Entry) (xs : List Who) (who : Who) (t : Moment) → V ≡ W
-    → after V (accepted_on W L (enrolments t xs)) (Enrol who, t) ≡ accepted_on W L (enrolments t (xs ++ who ∷ []))
+    → after Two V (accepted_on Two W L (enrolments t xs)) (Enrol who, t) ≡ accepted_on Two W L (enrolments t (xs ++ who ∷ []))
 grown V W L xs who t house =
-    ap (λ U. after U (accepted_on W L (enrolments t xs)) (Enrol who, t)) house
-    ∙ sym (ap (accepted_on W L) (enrolments_more t xs who) ∙ accepted_on-more W L (enrolments t xs) (Enrol who, t))
+    ap (λ U. after Two U (accepted_on Two W L (enrolments t xs)) (Enrol who, t)) house
+    ∙ sym (ap (accepted_on Two W L) (enrolments_more t xs who) ∙ accepted_on-more Two W L (enrolments t xs) (Enrol who, t))
 
 enrolled_more : (a b c : Standing) (xs : List Who) (who : Who) (t : Moment) (out mid behind : Option (List ℕ)) (status one : ExitStatus) → GoesOn a b → GoesOn b c → AreEnrolled a b xs t out mid status
-    → (c.doubt ≡ 0 → (L : List Entry) → b.keeps L → IsLegal b.warehouse L → one ≡ told.status_of (reply_to b.warehouse L (Enrol who) t))
-    → (c.doubt ≡ 0 → (L : List Entry) → b.keeps L → IsLegal b.warehouse L → Appends mid behind (line_of who (reply_to b.warehouse L (Enrol who) t)))
-    → (c.doubt ≡ 0 → (L : List Entry) → IsUsable b L → is_partner who ≡ true → IsUsable c (after b.warehouse L (Enrol who, t)))
+    → (c.doubt ≡ 0 → (L : List Entry) → b.keeps L → IsLegal Two b.warehouse L → one ≡ told.status_of (reply_to Two b.warehouse L (Enrol who) t))
+    → (c.doubt ≡ 0 → (L : List Entry) → b.keeps L → IsLegal Two b.warehouse L → Appends mid behind (line_of who (reply_to Two b.warehouse L (Enrol who) t)))
+    → (c.doubt ≡ 0 → (L : List Entry) → IsUsable b L → is_partner who ≡ true → IsUsable c (after Two b.warehouse L (Enrol who, t)))
     → AreEnrolled a c (xs ++ who ∷ []) t out behind (and_then status one)
 enrolled_more a b c xs who t out mid behind status one p q before said prints goes = record {
   usable = λ clean L u all.
@@ -69,15 +70,15 @@ enrolled_more a b c xs who t out mid behind status one p q before said prints go
       let mid = before.usable early L u (each xs who all).0 in
       let W = a.warehouse in
       ap (λ s. and_then s one) (before.says early L u (each xs who all).0)
-      ∙ ap (and_then (status_of (replies_on W L (enrolments t xs)))) (said clean _ mid.keeps mid.legal)
-      ∙ reply_more (replies_on W L (enrolments t xs)) (reply_to b.warehouse (accepted_on W L (enrolments t xs)) (Enrol who) t)
-      ∙ ap (λ U. status_of (replies_on W L (enrolments t xs) ++ reply_to U (accepted_on W L (enrolments t xs)) (Enrol who) t ∷ [])) p.warehouse
-      ∙ sym (ap status_of (ap (replies_on W L) (enrolments_more t xs who) ∙ replies_on-more W L (enrolments t xs) (Enrol who, t)));
+      ∙ ap (and_then (status_of (replies_on Two W L (enrolments t xs)))) (said clean _ mid.keeps mid.legal)
+      ∙ reply_more (replies_on Two W L (enrolments t xs)) (reply_to Two b.warehouse (accepted_on Two W L (enrolments t xs)) (Enrol who) t)
+      ∙ ap (λ U. status_of (replies_on Two W L (enrolments t xs) ++ reply_to Two U (accepted_on Two W L (enrolments t xs)) (Enrol who) t ∷ [])) p.warehouse
+      ∙ sym (ap status_of (ap (replies_on Two W L) (enrolments_more t xs who) ∙ replies_on-more Two W L (enrolments t xs) (Enrol who, t)));
   printed = λ clean L u all.
       let early = clean_before b c q clean in
       let now = before.usable early L u (each xs who all).0 in
       let W = a.warehouse in
-      let line = subst (λ (U : Who). Appends mid behind (line_of who (reply_to U (accepted_on W L (enrolments t xs)) (Enrol who) t))) p.warehouse
+      let line = subst (λ (U : Who). Appends mid behind (line_of who (reply_to Two U (accepted_on Two W L (enrolments t xs)) (Enrol who) t))) p.warehouse
       (prints clean _ now.keeps now.legal) in
       subst (Appends out behind) (sym (lines_more W L t xs who)) (Appends-trans out mid behind _ _ (before.printed early L u (each xs who all).0) line);
 }
@@ -88,9 +89,9 @@ one_more whos i who lt is = take_more whos i who lt ∙ ap (λ w. take i whos ++
 -- the list of the first ones, with the next
 pub enrolled_next : (a b c : Standing) (whos : List Who) (i : ℕ) (who : Who) (t : Moment) (out mid behind : Option (List ℕ)) (status one last : ExitStatus) → last ≡ and_then status one
     → i < length whos → who ≡ get_or whos i who → GoesOn a b → GoesOn b c → AreEnrolled a b (take i whos) t out mid status
-    → (c.doubt ≡ 0 → (L : List Entry) → b.keeps L → IsLegal b.warehouse L → one ≡ told.status_of (reply_to b.warehouse L (Enrol who) t))
-    → (c.doubt ≡ 0 → (L : List Entry) → b.keeps L → IsLegal b.warehouse L → Appends mid behind (line_of who (reply_to b.warehouse L (Enrol who) t)))
-    → (c.doubt ≡ 0 → (L : List Entry) → IsUsable b L → is_partner who ≡ true → IsUsable c (after b.warehouse L (Enrol who, t)))
+    → (c.doubt ≡ 0 → (L : List Entry) → b.keeps L → IsLegal Two b.warehouse L → one ≡ told.status_of (reply_to Two b.warehouse L (Enrol who) t))
+    → (c.doubt ≡ 0 → (L : List Entry) → b.keeps L → IsLegal Two b.warehouse L → Appends mid behind (line_of who (reply_to Two b.warehouse L (Enrol who) t)))
+    → (c.doubt ≡ 0 → (L : List Entry) → IsUsable b L → is_partner who ≡ true → IsUsable c (after Two b.warehouse L (Enrol who, t)))
     → AreEnrolled a c (take (i + 1) whos) t out behind last
 enrolled_next a b c whos i who t out mid behind status one last ends lt is p q before said prints goes =
     subst (λ (s : ExitStatus). AreEnrolled a c (take (i + 1) whos) t out behind s) (sym ends)
@@ -100,7 +101,7 @@ enrolled_next a b c whos i who t out mid behind status one last ends lt is p q b
 -- the list stops at one, after those that were handed in
 pub stopped_at : (a b c : Standing) (whos : List Who) (i : ℕ) (who : Who) (t : Moment) (out mid : Option (List ℕ)) (status : ExitStatus) → GoesOn a b → GoesOn b c
     → i < length whos → who ≡ get_or whos i who → AreEnrolled a b (take i whos) t out mid status
-    → (c.doubt ≡ 0 → (L : List Entry) → IsUsable b L → is_partner who ≡ true → LeavesEither c L (after b.warehouse L (Enrol who, t)))
+    → (c.doubt ≡ 0 → (L : List Entry) → IsUsable b L → is_partner who ≡ true → LeavesEither c L (after Two b.warehouse L (Enrol who, t)))
     → AreEnrolledUntil a c whos t
 stopped_at a b c whos i who t out mid status p q lt is before left =
     let next = one_more whos i who lt is in
@@ -112,7 +113,7 @@ stopped_at a b c whos i who t out mid status p q lt is before left =
           let first = (both_parts (list_all is_partner (take (i + 1) whos)) (list_all is_partner (drop (i + 1) whos)) split).0 in
           let parts = each (take i whos) who (sym (ap (list_all is_partner) next) ∙ first) in
           let mid = before.usable (clean_before b c q clean) L u parts.0 in
-          subst (LeavesEither c (accepted_on a.warehouse L (enrolments t (take i whos))))
-          (grown b.warehouse a.warehouse L (take i whos) who t p.warehouse ∙ sym (ap (λ ws. accepted_on a.warehouse L (enrolments t ws)) next))
+          subst (LeavesEither c (accepted_on Two a.warehouse L (enrolments t (take i whos))))
+          (grown b.warehouse a.warehouse L (take i whos) who t p.warehouse ∙ sym (ap (λ ws. accepted_on Two a.warehouse L (enrolments t ws)) next))
           (left clean _ mid parts.1);
     }

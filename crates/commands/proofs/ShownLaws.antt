@@ -2,6 +2,7 @@
 use Rattle.std.proofs.Common.{◌≡◌, ◌≢◌, ◌∙◌, ℕ, Bool, List, Option, Some, None, option_map, Ok, Result, refl, sym, ap, subst}
 use Rattle.std.specs.Prelude.{if◌then◌else◌}
 use Rattle.std.specs.Io.KnownBytes.{Appends}
+use Rattle.profile.specs.declared.rules.Rules.TheVariants.{Two}
 use Rattle.profile.specs.History.{History}
 use Rattle.profile.specs.Need.{Need, need_of_number}
 use Rattle.profile.specs.Refusals.{Refusal}
@@ -20,12 +21,12 @@ use Rattle.commands.proofs.TellingLaws.{appends_nothing}
 -- the report of the rows that were found
 pub stock_shown : {T : Type 0} (rows_of : T → List StockRow) (o : Option T) (v : T) (is_csv : Bool) (found : Option (List StockRow)) (rows : List StockRow) (text written : List ℕ)
     (before behind : Option (List ℕ)) → o ≡ Some v → option_map rows_of o ≡ found → rows ≡ rows_of v
-    → text ≡ (if is_csv then stock_csv rows else stock_report rows) → written ≡ text → Appends before behind written
+    → text ≡ (if is_csv then stock_csv Two rows else stock_report Two rows) → written ≡ text → Appends before behind written
     → IsShown (shown_stock is_csv found) before behind Done
 stock_shown rows_of o v is_csv found rows text written before behind is e r t w told =
     let given : Some (rows_of v) ≡ found = sym (ap (option_map rows_of) is) ∙ e in
-    let report : written ≡ (if is_csv then stock_csv (rows_of v) else stock_report (rows_of v)) =
-    w ∙ t ∙ ap (λ k. if is_csv then stock_csv k else stock_report k) r in
+    let report : written ≡ (if is_csv then stock_csv Two (rows_of v) else stock_report Two (rows_of v)) =
+    w ∙ t ∙ ap (λ k. if is_csv then stock_csv Two k else stock_report Two k) r in
     subst (λ k. IsShown (shown_stock is_csv k) before behind Done) given
     (record { printed = subst (Appends before behind) report told; says = refl })
 

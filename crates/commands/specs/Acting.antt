@@ -1,5 +1,6 @@
 -- What a command that was made ready does to a book, and what is printed of it.
 use Rattle.std.specs.Prelude.{◌≡◌, ℕ, List, true, Option, Result, IfOk, OnOk, OnErr}
+use Rattle.profile.specs.declared.rules.Rules.TheVariants.{Two}
 use Rattle.profile.specs.Accepted.{IsLegal, is_command, reply_to, after}
 use Rattle.profile.specs.Moments.{Moment}
 use Rattle.profile.specs.Register.{Entry, Command, Enrol, Interchange}
@@ -19,12 +20,12 @@ Ending = Result ExitStatus CommandError
 
 -- One command was handed in: its reply is printed, the register is the one after it, and a stop leaves the one before it or that one.
 pub record IsAnswered (old new : Standing) (c : Command) (t : Moment) (before behind : Option (List ℕ)) (ending : Ending) : Type 0 where
-  pub printed : new.doubt ≡ 0 → (L : List Entry) → old.keeps L → IsLegal old.warehouse L
-      → IfOk ending (IsPrinted (reply_to old.warehouse L c t) before behind)
-  pub done : new.doubt ≡ 0 → (L : List Entry) → IsUsable old L → is_command c ≡ true
-      → OnOk ending (IsUsable new (after old.warehouse L (c, t)))
-  pub left : new.doubt ≡ 0 → (L : List Entry) → IsUsable old L → is_command c ≡ true
-      → OnErr ending (LeavesEither new L (after old.warehouse L (c, t)))
+  pub printed : new.doubt ≡ 0 → (L : List Entry) → old.keeps L → IsLegal Two old.warehouse L
+      → IfOk ending (IsPrinted (reply_to Two old.warehouse L c t) before behind)
+  pub done : new.doubt ≡ 0 → (L : List Entry) → IsUsable old L → is_command Two c ≡ true
+      → OnOk ending (IsUsable new (after Two old.warehouse L (c, t)))
+  pub left : new.doubt ≡ 0 → (L : List Entry) → IsUsable old L → is_command Two c ≡ true
+      → OnErr ending (LeavesEither new L (after Two old.warehouse L (c, t)))
 
 -- what was made ready was done; a list of depositors and a folder are many commands
 abbrev pub IsPerformed : Standing → Standing → Ready → Moment → Option (List ℕ) → Option (List ℕ) → Ending → Type 0

@@ -2,6 +2,7 @@
 use Rattle.std.specs.Prelude.{◌≡◌, ◌<◌, ◌+◌, ◌++◌, ◌∷◌, [], ℕ, Bool, true, false, List, Option, Result, Ok, Err, codes, decimal, length, map, take, if◌then◌else◌}
 use Rattle.std.specs.Io.KnownBytes.{Appends}
 use Rattle.std.specs.List.{list_any, list_all}
+use Rattle.profile.specs.declared.rules.Rules.TheVariants.{Two}
 use Rattle.profile.specs.Accepted.{accepted_on, replies_on, after, reply_to}
 use Rattle.profile.specs.Header.{Who, is_partner, who_text}
 use Rattle.profile.specs.Moments.{Moment}
@@ -33,14 +34,14 @@ line_of who other = who_text who ++ codes " enrolled\n"
 -- the lines of all, each after what those before it left
 unfoldable pub lines_of : Who → List Entry → Moment → List Who → List ℕ
 lines_of W L t [] = []
-lines_of W L t (who ∷ whos) = line_of who (reply_to W L (Enrol who) t) ++ lines_of W (after W L (Enrol who, t)) t whos
+lines_of W L t (who ∷ whos) = line_of who (reply_to Two W L (Enrol who) t) ++ lines_of W (after Two W L (Enrol who, t)) t whos
 
 -- each of them was handed in: the register is the one after all, this is the status, and a line is printed of each
 pub record AreEnrolled (old new : Standing) (whos : List Who) (t : Moment) (before behind : Option (List ℕ)) (status : ExitStatus) : Type 0 where
   pub usable : new.doubt ≡ 0 → (L : List Entry) → IsUsable old L → list_all is_partner whos ≡ true
-      → IsUsable new (accepted_on old.warehouse L (enrolments t whos))
+      → IsUsable new (accepted_on Two old.warehouse L (enrolments t whos))
   pub says : new.doubt ≡ 0 → (L : List Entry) → IsUsable old L → list_all is_partner whos ≡ true
-      → status ≡ status_of (replies_on old.warehouse L (enrolments t whos))
+      → status ≡ status_of (replies_on Two old.warehouse L (enrolments t whos))
   pub printed : new.doubt ≡ 0 → (L : List Entry) → IsUsable old L → list_all is_partner whos ≡ true
       → Appends before behind (lines_of old.warehouse L t whos)
 
@@ -49,8 +50,8 @@ pub record AreEnrolledUntil (old new : Standing) (whos : List Who) (t : Moment) 
   pub count : ℕ
   pub within : count < length whos
   pub left : new.doubt ≡ 0 → (L : List Entry) → IsUsable old L → list_all is_partner whos ≡ true
-      → LeavesEither new (accepted_on old.warehouse L (enrolments t (take count whos)))
-      (accepted_on old.warehouse L (enrolments t (take (count + 1) whos)))
+      → LeavesEither new (accepted_on Two old.warehouse L (enrolments t (take count whos)))
+      (accepted_on Two old.warehouse L (enrolments t (take (count + 1) whos)))
 
 -- how a list ended
 abbrev pub IsEnrolling : Standing → Standing → List Who → Moment → Option (List ℕ) → Option (List ℕ) → Result ExitStatus CommandError → Type 0

@@ -99,7 +99,7 @@ abbrev pub outbox_shape : Shape
 outbox_shape = subcommand (codes "outbox") (who_rule ∷ option_rule (codes "number") ∷ at_rule ∷ [])
 
 abbrev pub serve_shape : Shape
-serve_shape = subcommand (codes "serve") (wanted_rule (codes "listen") ∷ wanted_rule (codes "count") ∷ at_rule ∷ [])
+serve_shape = subcommand (codes "serve") (wanted_rule (codes "listen") ∷ wanted_rule (codes "count") ∷ option_rule (codes "patience") ∷ at_rule ∷ [])
 
 abbrev pub verify_shape : Shape
 verify_shape = subcommand (codes "verify") (at_rule ∷ [])
@@ -179,6 +179,10 @@ SaysMoment rows at = option_map moment_of (first_of (codes "at") rows) ≡ optio
 abbrev pub SaysNumber : List Row → Option ℕ → Type 0
 SaysNumber rows number = option_map number_of (first_of (codes "number") rows) ≡ option_map Some number
 
+-- how long a line says that a request is waited for, or it says nothing of it
+abbrev pub SaysPatience : List Row → Option ℕ → Type 0
+SaysPatience rows seconds = option_map count_of (first_of (codes "patience") rows) ≡ option_map Some seconds
+
 abbrev pub deed_name : Deed → Text
 deed_name deed.Count = codes "count"
 deed_name deed.Pick = codes "pick"
@@ -210,6 +214,7 @@ SaysShow f (show.Outbox who number) = (f.0 ≡ codes "outbox") × Has f.1 (codes
 abbrev pub SaysService : List Row → Service → Type 0
 SaysService rows s = ((text : Text) × Has rows (codes "listen") text × IsSocketText text s.address)
     × ((text : Text) × Has rows (codes "count") text × (count_of text ≡ Some s.count))
+    × SaysPatience rows s.patience
 
 abbrev pub SaysTask : Found → Task → Type 0
 SaysTask f (task.Init who) = (f.0 ≡ codes "init") × Has f.1 (codes "who") who.now

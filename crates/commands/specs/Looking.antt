@@ -1,5 +1,6 @@
 -- What comes of a line that shows something, and of a line of a script.
 use Rattle.std.specs.Prelude.{◌≡◌, ◌⊎◌, ℕ, List, Option, Some, IfOk}
+use Rattle.profile.specs.declared.rules.Rules.TheVariants.{Two}
 use Rattle.profile.specs.Accepted.{IsLegal}
 use Rattle.profile.specs.Header.{who_of}
 use Rattle.profile.specs.Register.{Entry}
@@ -28,7 +29,7 @@ pub record IsAskedFor (s : Show) (asked : Asked) : Type 0 where
 
 -- it was shown, and the book is as before
 pub record IsLook (old new : Standing) (asked : Asked) (before behind : Option (List ℕ)) (ending : Ending) : Type 0 where
-  pub shown : new.doubt ≡ 0 → (L : List Entry) → old.keeps L → IsLegal old.warehouse L
+  pub shown : new.doubt ≡ 0 → (L : List Entry) → old.keeps L → IsLegal Two old.warehouse L
       → IfOk ending (IsShown (shown_of old.warehouse L asked) before behind)
   pub same : IsUnchanged old new
 

@@ -1,6 +1,7 @@
 -- What is shown of a register, and the status that it gives.
 use Rattle.std.specs.Prelude.{◌≡◌, ℕ, Bool, List, [], if◌then◌else◌, Option, Some, None, Result, Ok, Err}
 use Rattle.std.specs.Io.KnownBytes.{Appends}
+use Rattle.profile.specs.declared.rules.Rules.TheVariants.{Two}
 use Rattle.profile.specs.Decision.{standing}
 use Rattle.profile.specs.Header.{Who}
 use Rattle.profile.specs.History.{History}
@@ -23,7 +24,7 @@ Shown = List ℕ × ExitStatus
 -- a stranger is shown nothing
 abbrev pub shown_stock : Bool → Option (List StockRow) → Shown
 shown_stock is_csv None = ([], Refused)
-shown_stock is_csv (Some rows) = (if is_csv then stock_csv rows else stock_report rows, Done)
+shown_stock is_csv (Some rows) = (if is_csv then stock_csv Two rows else stock_report Two rows, Done)
 
 abbrev pub shown_list : Option (List OutRow) → Shown
 shown_list None = ([], Refused)

@@ -1,4 +1,5 @@
 ghost use Rattle.std.specs.Prelude.{◌≡◌, List, true, IfOk, IfSome, OnOk, OnErr};
+ghost use Rattle.profile.specs.declared.rules.Rules.TheVariants.{Two};
 ghost use Rattle.profile.specs.Accepted.{IsLegal, is_command, reply_to, after};
 ghost use Rattle.profile.specs.Register.{Entry, Enrol as Enrolment, Interchange as Received};
 ghost use Rattle.rules.specs.Asked.{asked};
@@ -111,12 +112,12 @@ fn hand_in<K: Keeper, W: io::Write, E: io::Write>(
     out: &mut W,
     err: &mut E,
 ) -> Result<ExitStatus, CommandError>
-    ensures printed { (K.standing book.new).doubt ≡ 0 → (L : List Entry) → (K.standing book.old).keeps L → IsLegal (K.standing book.old).warehouse L
-        → IfOk result (λ status. IsPrinted (reply_to (K.standing book.old).warehouse L (asked command.now) moment) (W.contents out.old) (W.contents out.new) status) }
-    ensures done { (K.standing book.new).doubt ≡ 0 → (L : List Entry) → IsUsable (K.standing book.old) L → is_command (asked command.now) ≡ true
-        → OnOk result (IsUsable (K.standing book.new) (after (K.standing book.old).warehouse L (asked command.now, moment))) }
-    ensures left { (K.standing book.new).doubt ≡ 0 → (L : List Entry) → IsUsable (K.standing book.old) L → is_command (asked command.now) ≡ true
-        → OnErr result (LeavesEither (K.standing book.new) L (after (K.standing book.old).warehouse L (asked command.now, moment))) }
+    ensures printed { (K.standing book.new).doubt ≡ 0 → (L : List Entry) → (K.standing book.old).keeps L → IsLegal Two (K.standing book.old).warehouse L
+        → IfOk result (λ status. IsPrinted (reply_to Two (K.standing book.old).warehouse L (asked command.now) moment) (W.contents out.old) (W.contents out.new) status) }
+    ensures done { (K.standing book.new).doubt ≡ 0 → (L : List Entry) → IsUsable (K.standing book.old) L → is_command Two (asked command.now) ≡ true
+        → OnOk result (IsUsable (K.standing book.new) (after Two (K.standing book.old).warehouse L (asked command.now, moment))) }
+    ensures left { (K.standing book.new).doubt ≡ 0 → (L : List Entry) → IsUsable (K.standing book.old) L → is_command Two (asked command.now) ≡ true
+        → OnErr result (LeavesEither (K.standing book.new) L (after Two (K.standing book.old).warehouse L (asked command.now, moment))) }
     ensures goes { GoesOn (K.standing book.old) (K.standing book.new) }
 {
     let reply = submit(alloc, book, command, moment)?;

@@ -2,12 +2,13 @@
 //! owns a store on disk is dear to prove.
 
 ghost use Rattle.std.specs.Prelude.{◌≡◌, ◌⊎◌, [], List, true, false, IfOk, IfErr, IsErrOf};
+ghost use Rattle.profile.specs.declared.rules.Rules.{Rules};
 ghost use Rattle.profile.specs.Header.{Who as Partner};
 ghost use Rattle.profile.specs.Register.{Entry};
 ghost use Rattle.sqlite.specs.Held.{state};
 ghost use Rattle.sqlite.specs.State.{HasCleanDisk};
 ghost use Rattle.store.specs.Standing.{IsUsable};
-ghost use Rattle.book_tables.specs.Exits.{StandsWhileOpen};
+ghost use Rattle.book_tables.specs.Carrying.{StandsOpenAs};
 ghost use Rattle.book_tables.specs.Layout.{no_layout};
 ghost use Rattle.book_tables.specs.Taken.{has_book_table};
 ghost use Rattle.books.specs.Opened.{standing_of};
@@ -68,17 +69,18 @@ pub fn make<S: Alter + Drop>(
     }
 }
 
-/// Opens the book in a database that is in no transaction. NotThisBook (43) where its tables are no book; Store (41) where they can't be read.
+/// Opens the book in a database that is in no transaction; one of version 1 is carried over to version 2 first. NotThisBook (43)
+/// where its tables are no book; Store (41) where they can't be read, or a book can't be carried over.
 pub fn open<S: Alter + Drop>(
     alloc: Global,
     database: Connection<S>,
 ) -> Result<Book<S>, CommandError>
     requires { database.in_transaction ≡ false }
     ensures usable { IfOk result (λ b. HasCleanDisk (state S.Store b.tables.conn)
-        → (W : Partner) (L : List Entry) → StandsWhileOpen (state S.Store database) W L
+        → (q : Rules) (W : Partner) (L : List Entry) → StandsOpenAs q (state S.Store database) W L
         → IsUsable (standing_of S.Store b) L) }
     ensures warehouse { IfOk result (λ b. HasCleanDisk (state S.Store b.tables.conn)
-        → (W : Partner) (L : List Entry) → StandsWhileOpen (state S.Store database) W L
+        → (q : Rules) (W : Partner) (L : List Entry) → StandsOpenAs q (state S.Store database) W L
         → b.warehouse ≡ W) }
     ensures opened { IfOk result (λ b. b.shut ≡ false) }
     ensures named { IfErr result (λ stop. (stop ≡ CommandError.Fault Fault.NotThisBook)
@@ -110,6 +112,8 @@ pub fn open_anew<S: Alter + Drop>(
 }
 
 /// Closes a book.
-pub fn close<S: Alter + Drop>(book: Book<S>) -> Connection<S> {
+pub fn close<S: Alter + Drop>(book: Book<S>) -> Connection<S>
+    ensures { result ≡ book.tables.conn }
+{
     book.close().into_inner()
 }

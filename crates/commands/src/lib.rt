@@ -2,6 +2,7 @@
 #![tactic(auto)]
 
 mod acts;
+mod arguments;
 mod book_files;
 mod clock;
 mod files;
@@ -24,3 +25,4 @@ pub use run::command;
 pub use serving::serve_on;
 pub use starting::program;
 pub use told::{CommandError, ExitStatus};
+pub use words::Service;

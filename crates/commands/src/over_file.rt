@@ -1,6 +1,8 @@
 //! What a line says, done over the book in a file: words are tested and files read before the book is opened, and it is closed
 //! before the line is done.
-ghost use Rattle.std.specs.Prelude.{◌≡◌, false, IfOk};
+ghost use Rattle.std.specs.Prelude.{◌≡◌, List, false, length, IfOk};
+ghost use Rattle.profile.specs.Register.{Entry};
+ghost use Rattle.store.specs.Standing.{IsUnchanged};
 ghost use Rattle.books.specs.Opened.{standing_of};
 ghost use Rattle.commands.specs.Working.{IsChecked, IsJobDone, IsJobFor, IsWork};
 
@@ -15,9 +17,10 @@ use books::Book;
 use sqlite::{Alter, Connection, FileStore};
 use sqlite_disk::Disk;
 use std::alloc::Global;
+use std::io::IsTerminal;
 use std::rt::{Clock, Files};
 use std::{fs, io};
-use store::{Keeper, Moment, Refusal, Warehouse, Who};
+use store::{Fault, Keeper, Moment, Refusal, Warehouse, Who};
 
 // What is to be done over a book, its words tested and its files read.
 #[derive(Drop)]
@@ -68,15 +71,50 @@ fn begin<S: Alter + Drop>(
     }
 }
 
+// After how many entries somebody who watches a check is told how far it is.
+const STRIDE: u64 = 1_000;
+
+// Says how far a check is, over what was said before. What can't be said is left out: it is no part of the answer.
+fn watch<E: io::Write>(err: &mut E, done: u64, all: u64) {
+    if done == all {
+        let _ = write!(err, "\r{done} of {all} entries\n");
+    } else if done % STRIDE == 0 {
+        let _ = write!(err, "\r{done} of {all} entries");
+    }
+}
+
+// Checks a book whole, and says on a terminal how far it is until then.
+fn watched<S: Alter + Drop, E: io::Write>(
+    rt: &HostRuntime,
+    book: &mut Book<S>,
+    err: &mut E,
+) -> Result<u64, Fault>
+    ensures whole { (standing_of S.Store book.new).doubt ≡ 0 → (L : List Entry)
+        → (standing_of S.Store book.old).keeps L → IfOk result (λ n. n ≡ length L) }
+    ensures same { IsUnchanged (standing_of S.Store book.old) (standing_of S.Store book.new) }
+{
+    if !rt.stderr().is_terminal() {
+        return book.verify();
+    }
+    let found = book.verify_telling(|done, all| watch(err, done, all));
+    if found.is_err() {
+        // A fault is told on a line of its own.
+        let _ = write!(err, "\n");
+    }
+    found
+}
+
 // Says how many entries a book has whose tables are what its register gives.
-fn check<S: Alter + Drop, W: io::Write>(
+fn check<S: Alter + Drop, W: io::Write, E: io::Write>(
+    rt: &HostRuntime,
     book: &mut Book<S>,
     out: &mut W,
+    err: &mut E,
 ) -> Result<ExitStatus, CommandError>
     ensures checked { IsChecked (standing_of S.Store book.old) (standing_of S.Store book.new)
         (W.contents out.old) (W.contents out.new) result }
 {
-    let entries = book.verify()?;
+    let entries = watched(rt, book, err)?;
     write!(out, "ok {entries}\n")?;
     Ok(ExitStatus::Done)
 }
@@ -93,7 +131,7 @@ fn done<S: Alter + Drop, W: io::Write, E: io::Write>(
         (W.contents out.old) (W.contents out.new) result }
 {
     match job {
-        Job::Check => check(book, out),
+        Job::Check => check(rt, book, out, err),
         _ => work(rt, book, job, out, err),
     }
 }

@@ -1,6 +1,7 @@
 //! Lists of depositors.
 ghost use Rattle.std.specs.Io.KnownBytes.{Appends};
 ghost use Rattle.std.specs.Prelude.{◌≡◌, ◌++◌, ℕ, List, true, Some, IfOk, IfSome, OnOk, OnErr, option_map, codes, map};
+ghost use Rattle.profile.specs.declared.rules.Rules.TheVariants.{Two};
 ghost use Rattle.profile.specs.Accepted.{IsLegal, reply_to, after};
 ghost use Rattle.profile.specs.Header.{is_partner, who_text};
 ghost use Rattle.profile.specs.Register.{Entry, Enrol};
@@ -112,17 +113,17 @@ fn enrol_one<K: Keeper, W: io::Write>(
     out: &mut W,
 ) -> Result<ExitStatus, CommandError>
     ensures says { (K.standing book.new).doubt ≡ 0 → (L : List Entry) → (K.standing book.old).keeps L
-        → IsLegal (K.standing book.old).warehouse L
-        → IfOk result (λ status. status ≡ status_of (reply_to (K.standing book.old).warehouse L (Enrol who) moment)) }
+        → IsLegal Two (K.standing book.old).warehouse L
+        → IfOk result (λ status. status ≡ status_of (reply_to Two (K.standing book.old).warehouse L (Enrol who) moment)) }
     ensures printed { (K.standing book.new).doubt ≡ 0 → (L : List Entry) → (K.standing book.old).keeps L
-        → IsLegal (K.standing book.old).warehouse L → OnOk result (Appends (W.contents out.old) (W.contents out.new)
-        (line_of who (reply_to (K.standing book.old).warehouse L (Enrol who) moment))) }
+        → IsLegal Two (K.standing book.old).warehouse L → OnOk result (Appends (W.contents out.old) (W.contents out.new)
+        (line_of who (reply_to Two (K.standing book.old).warehouse L (Enrol who) moment))) }
     ensures done { (K.standing book.new).doubt ≡ 0 → (L : List Entry) → IsUsable (K.standing book.old) L
         → is_partner who ≡ true
-        → OnOk result (IsUsable (K.standing book.new) (after (K.standing book.old).warehouse L (Enrol who, moment))) }
+        → OnOk result (IsUsable (K.standing book.new) (after Two (K.standing book.old).warehouse L (Enrol who, moment))) }
     ensures left { (K.standing book.new).doubt ≡ 0 → (L : List Entry) → IsUsable (K.standing book.old) L
         → is_partner who ≡ true
-        → OnErr result (LeavesEither (K.standing book.new) L (after (K.standing book.old).warehouse L (Enrol who, moment))) }
+        → OnErr result (LeavesEither (K.standing book.new) L (after Two (K.standing book.old).warehouse L (Enrol who, moment))) }
     ensures goes { GoesOn (K.standing book.old) (K.standing book.new) }
 {
     let reply = submit(alloc, book, &Command::Enrol(who), moment)?;

@@ -1,35 +1,73 @@
 use crate::over_file::run_over_file;
 use crate::script::run_script;
 use crate::told::{CommandError, ExitStatus, tell_stop, usage};
-use crate::words::{Place, Words, line};
+use crate::words::{LineFault, Place, Words, line};
 use std::io;
 
-// Runs one line of words.
+// The program's version, which is that of the rules by which it judges.
+const VERSION: &str = "whx12 2.0\n";
+
+// Does what one line of words asks for.
+fn run_words<W: io::Write, E: io::Write>(
+    rt: &HostRuntime,
+    words: &Words<'_>,
+    out: &mut W,
+    err: &mut E,
+) -> Result<ExitStatus, CommandError> {
+    match words {
+        Words::Script { file } => run_script(rt, file, out, err),
+        Words::Over {
+            book: Some(file),
+            task,
+        } => run_over_file(rt, file, task, out, err),
+        Words::Over { book: None, .. } => Err(usage(rt.alloc(), "--book is missing\n")),
+    }
+}
+
+// Runs one line of words, or shows the help that it asks for.
 fn run_line<W: io::Write, E: io::Write>(
     rt: &HostRuntime,
     words: &[&str],
     out: &mut W,
     err: &mut E,
 ) -> Result<ExitStatus, CommandError> {
-    match line(rt.alloc(), Place::Program, words)? {
-        Words::Script { file } => run_script(rt, file, out, err),
-        Words::Over {
-            book: Some(file),
-            task,
-        } => run_over_file(rt, file, &task, out, err),
-        Words::Over { book: None, .. } => Err(usage(rt.alloc(), "--book is missing\n")),
+    match line(rt.alloc(), Place::Program, words) {
+        Ok(asked) => run_words(rt, &asked, out, err),
+        Err(LineFault::Help(text)) => show(out, &text),
+        Err(fault) => Err(CommandError::from(fault)),
+    }
+}
+
+// Shows a text that is asked for.
+fn show<W: io::Write>(out: &mut W, text: &str) -> Result<ExitStatus, CommandError> {
+    out.write_all(text.as_bytes())?;
+    Ok(ExitStatus::Done)
+}
+
+// Runs one line of words: `help` is `--help`, `help count` is `count --help`, and `--version` shows the version.
+fn run_any<W: io::Write, E: io::Write>(
+    rt: &HostRuntime,
+    words: &[&str],
+    out: &mut W,
+    err: &mut E,
+) -> Result<ExitStatus, CommandError> {
+    match words {
+        [word] if *word == "help" => run_line(rt, &["--help"], out, err),
+        [word] if *word == "--version" => show(out, VERSION),
+        [word, name] if *word == "help" => run_line(rt, &[*name, "--help"], out, err),
+        _ => run_line(rt, words, out, err),
     }
 }
 
 /// Runs one line of words, without the program's name: its output goes to `out`, its refusals and faults to `err`. The exit
-/// status is 0 where all was done, 1 where something was refused, 2 where the words can't be read, 3 at a fault.
+/// status is 0 where all was done or help was shown, 1 where something was refused, 2 where the words can't be read, 3 at a fault.
 pub fn command<W: io::Write, E: io::Write>(
     rt: &HostRuntime,
     words: &[&str],
     out: &mut W,
     err: &mut E,
 ) -> u8 {
-    match run_line(rt, words, out, err) {
+    match run_any(rt, words, out, err) {
         Ok(status) => status.code(),
         Err(stop) => tell_stop(err, &stop).code(),
     }

@@ -4,10 +4,26 @@ use crate::clock::now;
 use crate::told::{CommandError, ExitStatus};
 use crate::words::Service;
 use http::StatusCode;
-use intake::serve_count;
+use intake::{Patience, serve_within};
 use std::io;
 use std::net::TcpListener;
+use std::time::Duration;
 use store::{Fault, Keeper, Moment};
+
+// How many seconds a request is waited for, and its response, where a line doesn't say it.
+const PATIENCE: u16 = 30;
+
+// How long a service waits for a request, and for its response.
+fn patience_of<'a>(rt: &'a HostRuntime, service: &Service) -> Patience<'a, HostRuntime> {
+    let seconds = match service.patience {
+        Some(seconds) => seconds,
+        None => PATIENCE,
+    };
+    Patience {
+        timer: rt,
+        limit: Duration::from_secs(u64::from(seconds)),
+    }
+}
 
 // Prints what became of a connection at once: the status that was answered, or the fault.
 fn tell_outcome<W: io::Write>(out: &mut W, outcome: &Result<StatusCode, Fault>) -> io::Result<()> {
@@ -32,13 +48,13 @@ fn moment_behind(rt: &HostRuntime, last: Moment) -> Moment {
     }
 }
 
-/// Serves that many connections of a listener, and prints what became of each. The moment of each is `first`, or the clock's if
-/// `has_clock`; where the clock can't be used, the last good one. Device (44) where an outcome couldn't be printed, which is
-/// told at the end; Reopen (42) where the book has to be opened again.
+/// Serves so many connections of a listener as the service says, and prints what became of each. The moment of each is `first`,
+/// or the clock's if `has_clock`; where the clock can't be used, the last good one. Device (44) where an outcome couldn't be
+/// printed, which is told at the end; Reopen (42) where the book has to be opened again.
 pub fn serve_on<K: Keeper, W: io::Write>(
     rt: &HostRuntime,
     listener: &TcpListener,
-    count: u16,
+    service: &Service,
     book: &mut K,
     first: Moment,
     has_clock: bool,
@@ -46,10 +62,10 @@ pub fn serve_on<K: Keeper, W: io::Write>(
 ) -> Result<ExitStatus, CommandError> {
     let mut last = first;
     let mut is_told = true;
-    serve_count(
+    serve_within(
         rt.alloc(),
         listener,
-        count,
+        service.count,
         book,
         || {
             if has_clock {
@@ -62,6 +78,7 @@ pub fn serve_on<K: Keeper, W: io::Write>(
                 is_told = false;
             }
         },
+        &patience_of(rt, service),
     )?;
     if is_told {
         Ok(ExitStatus::Done)
@@ -80,5 +97,5 @@ pub fn serve<K: Keeper, W: io::Write>(
     out: &mut W,
 ) -> Result<ExitStatus, CommandError> {
     let listener = TcpListener::bind(rt, service.address)?;
-    serve_on(rt, &listener, service.count, book, first, has_clock, out)
+    serve_on(rt, &listener, service, book, first, has_clock, out)
 }

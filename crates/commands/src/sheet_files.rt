@@ -1,10 +1,11 @@
 ghost use Rattle.std.specs.Prelude.{◌≡◌, true, IfOk};
+ghost use Rattle.profile.specs.declared.rules.Rules.TheVariants.{Two};
 ghost use Rattle.profile.specs.Clerk.{is_sheet};
 ghost use Rattle.commands.specs.Clerks.{kind_of};
 
 use crate::words::Deed;
 use csv::{ByteRecord, Error, ReaderBuilder};
-use profile::MOST_LINES;
+use profile::{MOST_LINES_TWO, Rules};
 use std::alloc::{AllocError, Global};
 use store::{Line, Refusal, Sheet, SheetKind};
 
@@ -52,7 +53,7 @@ fn read_records(alloc: Global, text: &[u8]) -> Result<Option<Records>, AllocErro
     let mut record = ByteRecord::new(alloc);
     let mut lines = Vec::new(alloc);
     let mut is_uneven = false;
-    for _ in 0..MOST_LINES {
+    for _ in 0..MOST_LINES_TWO {
         if !reader.read_byte_record(&mut record).map_err(refused)? {
             return Ok(Some(Records { lines, is_uneven }));
         }
@@ -73,20 +74,20 @@ fn refused(_error: Error) -> AllocError {
 
 // The sheet of a deed with these lines, or the number of its refusal.
 fn made(deed: Deed, lines: Vec<Line>) -> Result<Sheet, u8>
-    ensures kind { IfOk result (λ sheet. is_sheet (kind_of deed) sheet ≡ true) }
+    ensures kind { IfOk result (λ sheet. is_sheet Two (kind_of deed) sheet ≡ true) }
 {
     match deed {
-        Deed::Count => Sheet::new(SheetKind::Count, lines),
-        Deed::Pick => Sheet::new(SheetKind::Pick, lines),
-        Deed::Recount => Sheet::new(SheetKind::Recount, lines),
+        Deed::Count => Sheet::new(SheetKind::Count, lines, Rules::Two),
+        Deed::Pick => Sheet::new(SheetKind::Pick, lines, Rules::Two),
+        Deed::Recount => Sheet::new(SheetKind::Recount, lines, Rules::Two),
     }
 }
 
 /// The sheet of a CSV text without a header: records of three fields, item, lot and quantity. The refusal is 33 where there
-/// are over 99 records; 32 where one hasn't three fields, or can't be read; 30 where a quantity is over its limit; 31 where
+/// are over 999 records; 32 where one hasn't three fields, or can't be read; 30 where a quantity is over its limit; 31 where
 /// a pair stands twice. Want of memory is the one error.
 pub fn sheet(alloc: Global, deed: Deed, text: &[u8]) -> Result<Result<Sheet, Refusal>, AllocError>
-    ensures kind { IfOk result (λ made. IfOk made (λ sheet. is_sheet (kind_of deed) sheet ≡ true)) }
+    ensures kind { IfOk result (λ made. IfOk made (λ sheet. is_sheet Two (kind_of deed) sheet ≡ true)) }
 {
     let Some(records) = read_records(alloc, text)? else {
         return Ok(Err(Refusal::TooManyLines));

@@ -1,5 +1,6 @@
 //! What is shown of a book, which stays as it is.
 ghost use Rattle.std.specs.Prelude.{◌≡◌, ◌≢◌, List, Some, IfOk, if◌then◌else◌, option_map};
+ghost use Rattle.profile.specs.declared.rules.Rules.TheVariants.{Two};
 ghost use Rattle.profile.specs.Reports as meant;
 ghost use Rattle.profile.specs.Accepted.{IsLegal};
 ghost use Rattle.profile.specs.Decision.{standing as standing_of};
@@ -42,8 +43,8 @@ pub fn ask<'a>(show: &Show<'a>) -> Result<Asked<'a>, Refusal>
 
 // The stock report, or its export as CSV.
 fn stock_text(alloc: Global, rows: &[StockRow], is_csv: bool) -> Result<Vec<u8>, AllocError>
-    ensures { IfOk result (λ text. text.items ≡ (if is_csv then meant.stock_csv rows.now
-        else meant.stock_report rows.now)) }
+    ensures { IfOk result (λ text. text.items ≡ (if is_csv then meant.stock_csv Two rows.now
+        else meant.stock_report Two rows.now)) }
 {
     if is_csv {
         stock_csv(alloc, rows)
@@ -62,7 +63,7 @@ fn stock<K: Keeper, W: io::Write, E: io::Write>(
     err: &mut E,
 ) -> Result<ExitStatus, CommandError>
     ensures shown { (K.standing book.new).doubt ≡ 0 → (L : List Entry)
-        → (K.standing book.old).keeps L → IsLegal (K.standing book.old).warehouse L
+        → (K.standing book.old).keeps L → IsLegal Two (K.standing book.old).warehouse L
         → IfOk result (λ status. IsShown (shown_stock is_csv (stock_of L who))
         (W.contents out.old) (W.contents out.new) status) }
     ensures same { IsUnchanged (K.standing book.old) (K.standing book.new) }
@@ -103,7 +104,7 @@ fn order<K: Keeper, W: io::Write, E: io::Write>(
     err: &mut E,
 ) -> Result<ExitStatus, CommandError>
     ensures shown { (K.standing book.new).doubt ≡ 0 → (L : List Entry)
-        → (K.standing book.old).keeps L → IsLegal (K.standing book.old).warehouse L
+        → (K.standing book.old).keeps L → IsLegal Two (K.standing book.old).warehouse L
         → IfOk result (λ status. IsShown (shown_order number.now (standing_of (own L who)))
         (W.contents out.old) (W.contents out.new) status) }
     ensures same { IsUnchanged (K.standing book.old) (K.standing book.new) }
@@ -130,7 +131,7 @@ fn outbox<K: Keeper, W: io::Write, E: io::Write>(
     err: &mut E,
 ) -> Result<ExitStatus, CommandError>
     ensures shown { (K.standing book.new).doubt ≡ 0 → (L : List Entry)
-        → (K.standing book.old).keeps L → IsLegal (K.standing book.old).warehouse L
+        → (K.standing book.old).keeps L → IsLegal Two (K.standing book.old).warehouse L
         → IfOk result (λ status. IsShown (shown_list (outbox_of (K.standing book.old).warehouse L who))
         (W.contents out.old) (W.contents out.new) status) }
     ensures same { IsUnchanged (K.standing book.old) (K.standing book.new) }
@@ -172,7 +173,7 @@ fn content<K: Keeper, W: io::Write, E: io::Write>(
     err: &mut E,
 ) -> Result<ExitStatus, CommandError>
     ensures shown { (K.standing book.new).doubt ≡ 0 → (L : List Entry)
-        → (K.standing book.old).keeps L → IsLegal (K.standing book.old).warehouse L
+        → (K.standing book.old).keeps L → IsLegal Two (K.standing book.old).warehouse L
         → IfOk result (λ status. IsShown (shown_text (text_of (K.standing book.old).warehouse L who number))
         (W.contents out.old) (W.contents out.new) status) }
     ensures same { IsUnchanged (K.standing book.old) (K.standing book.new) }
@@ -193,7 +194,7 @@ pub fn show<K: Keeper, W: io::Write, E: io::Write>(
     err: &mut E,
 ) -> Result<ExitStatus, CommandError>
     ensures shown { (K.standing book.new).doubt ≡ 0 → (L : List Entry)
-        → (K.standing book.old).keeps L → IsLegal (K.standing book.old).warehouse L
+        → (K.standing book.old).keeps L → IsLegal Two (K.standing book.old).warehouse L
         → IfOk result (λ status. IsShown (shown_of (K.standing book.old).warehouse L asked.now)
         (W.contents out.old) (W.contents out.new) status) }
     ensures same { IsUnchanged (K.standing book.old) (K.standing book.new) }

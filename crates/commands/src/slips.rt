@@ -1,5 +1,6 @@
 //! What clerks did, with their sheets.
 ghost use Rattle.std.specs.Prelude.{◌≡◌, true, IsTrue, IfOk, IfSome};
+ghost use Rattle.profile.specs.declared.rules.Rules.TheVariants.{Two};
 ghost use Rattle.profile.specs.Accepted.{is_command};
 ghost use Rattle.rules.specs.Asked.{asked, act_of as asked_act};
 ghost use Rattle.commands.specs.Clerks.{IsDepositor, act_of, command_of};
@@ -18,7 +19,7 @@ pub struct Slip<'a> {
     who: Who,
     told: ClerkWords<'a>,
     sheet: Sheet,
-    pub ghost given: { IsTrue (is_command (command_of who told sheet)) },
+    pub ghost given: { IsTrue (is_command Two (command_of who told sheet)) },
 }
 
 // The depositor of a clerk's words; None where a word can't be read.
@@ -77,7 +78,7 @@ fn act<'a>(deed: Deed, number: &'a [u8], sheet: &'a Sheet) -> Act<'a>
 /// What a clerk did, as a command.
 pub fn clerk<'a>(slip: &'a Slip<'_>) -> Command<'a>
     ensures told { asked result ≡ command_of slip.now.who slip.now.told slip.now.sheet }
-    ensures given { is_command (asked result) ≡ true }
+    ensures given { is_command Two (asked result) ≡ true }
 {
     let told = &slip.told;
     Command::Clerk {

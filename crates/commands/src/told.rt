@@ -78,7 +78,8 @@ impl From<Fault> for CommandError {
 impl From<LineFault> for CommandError {
     fn from(fault: LineFault) -> CommandError {
         match fault {
-            LineFault::Usage(text) => CommandError::Usage(text),
+            // A line of a script that asks for help stops it as one that can't be read does.
+            LineFault::Usage(text) | LineFault::Help(text) => CommandError::Usage(text),
             LineFault::OutOfMemory => CommandError::Fault(Fault::OutOfMemory),
         }
     }

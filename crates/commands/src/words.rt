@@ -77,6 +77,8 @@ pub struct Service {
     pub address: SocketAddr,
     /// How many connections are served, 1 to 65535.
     pub count: u16,
+    /// How many seconds a request is waited for, and again its response, 1 to 65535, if the line says it.
+    pub patience: Option<u16>,
 }
 
 /// What changes a book.
@@ -161,8 +163,10 @@ pub enum Show<'a> {
 /// Why a line of words asks for nothing.
 #[derive(Drop)]
 pub enum LineFault {
-    /// It can't be read; the text says why, or is the help that it asks for.
+    /// It can't be read; the text says why.
     Usage(String),
+    /// It asks for help, which is this text.
+    Help(String),
     /// A growth was refused.
     OutOfMemory,
 }
@@ -181,12 +185,13 @@ fn usage(alloc: Global, text: &str) -> LineFault {
     }
 }
 
-// A usage fault with what the parser says.
+// What the parser says: what is wrong, or the help that is asked for.
 fn refused(alloc: Global, error: &clap::Error) -> LineFault {
     if error.kind() == ErrorKind::OutOfMemory {
         return LineFault::OutOfMemory;
     }
     match error.to_string(alloc) {
+        Ok(text) if error.kind() == ErrorKind::DisplayHelp => LineFault::Help(text),
         Ok(text) => LineFault::Usage(text),
         Err(_) => LineFault::OutOfMemory,
     }
@@ -256,6 +261,22 @@ fn connections(alloc: Global, values: &ArgMatches<'_>) -> Result<u16, LineFault>
     }
 }
 
+// How many seconds a line says that a request is waited for, if it says it.
+fn patience(alloc: Global, values: &ArgMatches<'_>) -> Result<Option<u16>, LineFault>
+    ensures { IfOk result (meant.SaysPatience (rows_of (found_of values.now))) }
+{
+    let Some(text) = values.get_str("patience") else {
+        return Ok(None);
+    };
+    match count_of(text.as_bytes()) {
+        Some(seconds) => Ok(Some(seconds)),
+        None => Err(usage(
+            alloc,
+            "--patience wants a number of seconds from 1 to 65535\n",
+        )),
+    }
+}
+
 // Where a line says that a book is served, and for how long.
 fn service_of(alloc: Global, values: &ArgMatches<'_>) -> Result<Service, LineFault>
     ensures { IfOk result (meant.SaysService (rows_of (found_of values.now))) }
@@ -263,6 +284,7 @@ fn service_of(alloc: Global, values: &ArgMatches<'_>) -> Result<Service, LineFau
     Ok(Service {
         address: address(alloc, values)?,
         count: connections(alloc, values)?,
+        patience: patience(alloc, values)?,
     })
 }
 
@@ -409,8 +431,8 @@ fn stands_first(words: &[&str], name: &str) -> bool
     }
 }
 
-/// Reads one line of words, without a program's name in front. A line that can't be read, or that asks for help, is a usage
-/// fault with the text to show; want of memory is told apart.
+/// Reads one line of words, without a program's name in front. A line that can't be read is a usage fault with the text to show,
+/// and one that asks for help has that text; want of memory is told apart.
 pub fn line<'a>(alloc: Global, place: Place, words: &'a [&'a str]) -> Result<Words<'a>, LineFault>
     // The first word names the subcommand, and its values are those that `clap` defines for a simple command.
     ensures { IfOk result (λ asked. (f : meant.Found) × (meant.found_at place (map (λ w. w.now) words.now) ≡ Some f)

@@ -2,6 +2,7 @@
 use Rattle.std.proofs.Common.{◌≡◌, ◌∙◌, sym, refl, ap, subst, ℕ, true, false, List, [], ◌∷◌, ◌++◌, map, ◌⊎◌, inl, inr, Result, Ok, Err, IfErr}
 use Rattle.std.specs.Result.{IsErr, IsErrAnd}
 use Rattle.std.proofs.lemmas.List.{map-append}
+use Rattle.profile.specs.declared.rules.Rules.TheVariants.{Two}
 use Rattle.profile.specs.Header.{Who}
 use Rattle.profile.specs.Moments.{Moment}
 use Rattle.profile.specs.Register.{Entry, Command, Interchange}
@@ -25,16 +26,16 @@ became_more (x ∷ rs) r = ap (λ (bs : List Became). became x ∷ bs) (became_m
 
 -- the register and the replies after one text more
 behind_more : (W : Who) (L : List Entry) (t : Moment) (texts : List (List ℕ)) (text : List ℕ)
-    → accepted_on W L (handed t (texts ++ text ∷ [])) ≡ after W (accepted_on W L (handed t texts)) (Interchange text, t)
-behind_more W L t texts text = ap (accepted_on W L) (handed_more t texts text) ∙ accepted_on-more W L (handed t texts) (Interchange text, t)
+    → accepted_on Two W L (handed t (texts ++ text ∷ [])) ≡ after Two W (accepted_on Two W L (handed t texts)) (Interchange text, t)
+behind_more W L t texts text = ap (accepted_on Two W L) (handed_more t texts text) ∙ accepted_on-more Two W L (handed t texts) (Interchange text, t)
 
 told_more : (W : Who) (L : List Entry) (t : Moment) (texts : List (List ℕ)) (text : List ℕ)
-    → map became (replies_on W L (handed t (texts ++ text ∷ [])))
-    ≡ map became (replies_on W L (handed t texts)) ++ became (reply_to W (accepted_on W L (handed t texts)) (Interchange text) t) ∷ []
+    → map became (replies_on Two W L (handed t (texts ++ text ∷ [])))
+    ≡ map became (replies_on Two W L (handed t texts)) ++ became (reply_to Two W (accepted_on Two W L (handed t texts)) (Interchange text) t) ∷ []
 told_more W L t texts text =
-    ap (λ cs. map became (replies_on W L cs)) (handed_more t texts text)
-    ∙ ap (map became) (replies_on-more W L (handed t texts) (Interchange text, t))
-    ∙ became_more (replies_on W L (handed t texts)) (reply_to W (accepted_on W L (handed t texts)) (Interchange text) t)
+    ap (λ cs. map became (replies_on Two W L cs)) (handed_more t texts text)
+    ∙ ap (map became) (replies_on-more Two W L (handed t texts) (Interchange text, t))
+    ∙ became_more (replies_on Two W L (handed t texts)) (reply_to Two W (accepted_on Two W L (handed t texts)) (Interchange text) t)
 
 -- Nothing was taken yet.
 
@@ -50,13 +51,13 @@ taken_more a b c t texts text told one p q before file = record {
       let early = clean_before b c q clean in
       let mid = before.usable early L u in
       ap (λ (bs : List Became). bs ++ one ∷ []) (before.told_is early L u)
-      ∙ ap (λ (bs : List Became). map became (replies_on a.warehouse L (handed t texts)) ++ bs) (file.told_is clean _ mid)
-      ∙ ap (λ W. map became (replies_on a.warehouse L (handed t texts)) ++ became (reply_to W (accepted_on a.warehouse L (handed t texts)) (Interchange text) t) ∷ []) p.warehouse
+      ∙ ap (λ (bs : List Became). map became (replies_on Two a.warehouse L (handed t texts)) ++ bs) (file.told_is clean _ mid)
+      ∙ ap (λ W. map became (replies_on Two a.warehouse L (handed t texts)) ++ became (reply_to Two W (accepted_on Two a.warehouse L (handed t texts)) (Interchange text) t) ∷ []) p.warehouse
       ∙ sym (told_more a.warehouse L t texts text);
   usable = λ clean L u.
       let mid = before.usable (clean_before b c q clean) L u in
       subst (IsUsable c)
-      (ap (λ W. after W (accepted_on a.warehouse L (handed t texts)) (Interchange text, t)) p.warehouse ∙ sym (behind_more a.warehouse L t texts text))
+      (ap (λ W. after Two W (accepted_on Two a.warehouse L (handed t texts)) (Interchange text, t)) p.warehouse ∙ sym (behind_more a.warehouse L t texts text))
       (file.usable clean _ mid);
 }
 
@@ -64,9 +65,9 @@ taken_more a b c t texts text told one p q before file = record {
 
 -- the one text of a file that stopped, after those that were taken
 last_behind : (a b : Standing) (t : Moment) (texts : List (List ℕ)) (last : List ℕ) (L : List Entry) → GoesOn a b
-    → after b.warehouse (accepted_on a.warehouse L (handed t texts)) (Interchange last, t) ≡ accepted_on a.warehouse L (handed t (texts ++ last ∷ []))
+    → after Two b.warehouse (accepted_on Two a.warehouse L (handed t texts)) (Interchange last, t) ≡ accepted_on Two a.warehouse L (handed t (texts ++ last ∷ []))
 last_behind a b t texts last L p =
-    ap (λ W. after W (accepted_on a.warehouse L (handed t texts)) (Interchange last, t)) p.warehouse ∙ sym (behind_more a.warehouse L t texts last)
+    ap (λ W. after Two W (accepted_on Two a.warehouse L (handed t texts)) (Interchange last, t)) p.warehouse ∙ sym (behind_more a.warehouse L t texts last)
 
 pub fault_behind : (a b c : Standing) (fault : Fault) (t : Moment) (texts : List (List ℕ)) (told : List Became) → GoesOn a b → a.shut ≡ b.shut → GoesOn b c
     → AreTaken a b t texts told → IsFolderFault fault b c → IsFolderFault fault a c
@@ -93,7 +94,7 @@ stopped_behind a b c fault t texts told p same q before file = record {
         either_usable c _ _ _ _ refl (last_behind a b t texts file.last L p) (file.taken.usable clean opened _ mid);
     left = λ clean L u.
         let mid = before.usable (clean_before b c q clean) L u in
-        subst (LeavesEither c (accepted_on a.warehouse L (handed t texts))) (last_behind a b t texts file.last L p) (file.taken.left clean _ mid);
+        subst (LeavesEither c (accepted_on Two a.warehouse L (handed t texts))) (last_behind a b t texts file.last L p) (file.taken.left clean _ mid);
   };
   why = fault_behind a b c fault t texts told p same q before file.why;
 }
@@ -130,8 +131,8 @@ stopped_between a b fault t texts told p same before why = record {
 
 -- a reply to the text of a file
 pub file_taken : (a b : Standing) (t : Moment) (text : List ℕ) (reply : replies.Reply) (told : Became) → told ≡ became reply
-    → (b.doubt ≡ 0 → (L : List Entry) → IsUsable a L → reply ≡ reply_to a.warehouse L (Interchange text) t)
-    → (b.doubt ≡ 0 → (L : List Entry) → IsUsable a L → IsUsable b (after a.warehouse L (Interchange text, t))) → AreTaken a b t (text ∷ []) (told ∷ [])
+    → (b.doubt ≡ 0 → (L : List Entry) → IsUsable a L → reply ≡ reply_to Two a.warehouse L (Interchange text) t)
+    → (b.doubt ≡ 0 → (L : List Entry) → IsUsable a L → IsUsable b (after Two a.warehouse L (Interchange text, t))) → AreTaken a b t (text ∷ []) (told ∷ [])
 file_taken a b t text reply told is said goes = record {
   told_is = λ clean L u. ap (λ (x : Became). x ∷ []) (is ∙ ap became (said clean L u));
   usable = goes;
@@ -147,7 +148,7 @@ unread a fault t why = record {
 
 -- a fault of the book when a file is handed in
 pub unsubmitted : (a b : Standing) (fault : Fault) (t : Moment) (text : List ℕ) → IsFault fault a b
-    → (b.doubt ≡ 0 → (L : List Entry) → IsUsable a L → LeavesEither b L (after a.warehouse L (Interchange text, t))) → IsUntaken fault a b t
+    → (b.doubt ≡ 0 → (L : List Entry) → IsUsable a L → LeavesEither b L (after Two a.warehouse L (Interchange text, t))) → IsUntaken fault a b t
 unsubmitted a b fault t text f left = record {
   last = text;
   taken = record {
@@ -158,7 +159,7 @@ unsubmitted a b fault t text f left = record {
 }
 
 -- an answer that can't be written
-pub unanswered : (a b : Standing) (fault : Fault) (t : Moment) (text : List ℕ) → (b.doubt ≡ 0 → (L : List Entry) → IsUsable a L → IsUsable b (after a.warehouse L (Interchange text, t)))
+pub unanswered : (a b : Standing) (fault : Fault) (t : Moment) (text : List ℕ) → (b.doubt ≡ 0 → (L : List Entry) → IsUsable a L → IsUsable b (after Two a.warehouse L (Interchange text, t)))
     → a.shut ≡ b.shut → IsDeviceFault fault → IsUntaken fault a b t
 unanswered a b fault t text goes same why = record {
   last = text;

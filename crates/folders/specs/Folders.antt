@@ -1,5 +1,6 @@
 -- What taking the files of a folder comes to.
 use Rattle.std.specs.Prelude.{◌≡◌, ◌⊎◌, ◌∷◌, ◌++◌, [], true, false, ℕ, List, map}
+use Rattle.profile.specs.declared.rules.Rules.TheVariants.{Two}
 use Rattle.profile.specs.Moments.{Moment}
 use Rattle.profile.specs.Register.{Entry, Command, Interchange}
 use Rattle.profile.specs.Reply as replies
@@ -38,16 +39,16 @@ IsDeviceFault fault = (fault ≡ OutOfMemory) ⊎ (fault ≡ Device)
 
 -- The texts were handed in one after the other: this became of them, and the register is the one after them.
 pub record AreTaken (old new : Standing) (t : Moment) (texts : List (List ℕ)) (told : List Became) : Type 0 where
-  pub told_is : new.doubt ≡ 0 → (L : List Entry) → IsUsable old L → told ≡ map became (replies_on old.warehouse L (handed t texts))
-  pub usable : new.doubt ≡ 0 → (L : List Entry) → IsUsable old L → IsUsable new (accepted_on old.warehouse L (handed t texts))
+  pub told_is : new.doubt ≡ 0 → (L : List Entry) → IsUsable old L → told ≡ map became (replies_on Two old.warehouse L (handed t texts))
+  pub usable : new.doubt ≡ 0 → (L : List Entry) → IsUsable old L → IsUsable new (accepted_on Two old.warehouse L (handed t texts))
 
 -- The texts were handed in, and one more perhaps. The register is the one after those, or after that one too; a crash leaves
 -- one of the two, also where the book has to be opened again.
 pub record AreTakenUntil (old new : Standing) (t : Moment) (texts : List (List ℕ)) (last : List ℕ) : Type 0 where
   pub usable : new.doubt ≡ 0 → new.shut ≡ false → (L : List Entry) → IsUsable old L
-      → IsUsable new (accepted_on old.warehouse L (handed t texts)) ⊎ IsUsable new (accepted_on old.warehouse L (handed t (texts ++ last ∷ [])))
+      → IsUsable new (accepted_on Two old.warehouse L (handed t texts)) ⊎ IsUsable new (accepted_on Two old.warehouse L (handed t (texts ++ last ∷ [])))
   pub left : new.doubt ≡ 0 → (L : List Entry) → IsUsable old L
-      → LeavesEither new (accepted_on old.warehouse L (handed t texts)) (accepted_on old.warehouse L (handed t (texts ++ last ∷ [])))
+      → LeavesEither new (accepted_on Two old.warehouse L (handed t texts)) (accepted_on Two old.warehouse L (handed t (texts ++ last ∷ [])))
 
 -- Why the rest of a folder wasn't taken.
 pub record IsFolderFault (fault : Fault) (old new : Standing) : Type 0 where

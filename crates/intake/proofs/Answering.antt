@@ -6,6 +6,7 @@ use Rattle.httparse.specs.Grammar.{RequestHead}
 use Rattle.httparse.specs.Spans.{IsRequestWithin, IsRequestAt}
 use Rattle.httparse.specs.declared.spans.HeaderSpan.{HeaderSpan}
 use Rattle.httparse.specs.declared.spans.RequestSpans.{RequestSpans}
+use Rattle.profile.specs.declared.rules.Rules.TheVariants.{Two}
 use Rattle.profile.specs.Moments.{Moment}
 use Rattle.profile.specs.Response.{Response, Method, Route, Head, bare, is_exchange, stated_length, asked, submitted_by, response_of, resp, fault_response}
 use Rattle.store.specs.Faults.{fault_of}
@@ -42,7 +43,7 @@ module _ (h : Head) (rest : List ℕ) where
 
 -- an answer to what is asked for
 abbrev Answers : Standing → Standing → Moment → Response → Result (Head × List ℕ) ℕ → Type 0
-Answers old new t r q = IsAnswered old new t (submitted_by q) (λ L. response_of old.warehouse L t q) r
+Answers old new t r q = IsAnswered old new t (submitted_by q) (λ L. response_of Two old.warehouse L t q) r
 
 at_error : (s : Standing) (t : Moment) (r : Response) (status : ℕ) → r ≡ bare status → Answers s s t r (Err status)
 at_error s t r status is = inl (record {
@@ -77,7 +78,7 @@ module _ (known : Option (List ℕ)) (t : Moment) (h : Head) (start : List ℕ) 
   -- by the book
   module _ (old new : Standing) where
     pub queried : h.is_encoded ≡ false → is_exchange h.method h.route ≡ false
-        → IsAnswered old new t (handed_in h.method h.route []) (λ L. resp old.warehouse L h.method h.route [] t) r → IsExchangeBehind old new known t h start r
+        → IsAnswered old new t (handed_in h.method h.route []) (λ L. resp Two old.warehouse L h.method h.route [] t) r → IsExchangeBehind old new known t h start r
     queried e x is = record {
       input = unwrap_or known [];
       is_input = own_input known;
@@ -86,7 +87,7 @@ module _ (known : Option (List ℕ)) (t : Moment) (h : Head) (start : List ℕ) 
 
     pub handed : (n : ℕ) (input body tail : List ℕ) → tail ≡ start → IsInput known input → h.is_encoded ≡ false → is_exchange h.method h.route ≡ true → stated_length h.lengths ≡ Ok n
         → n ≤ length (tail ++ input) → body ≡ take n (tail ++ input)
-        → IsAnswered old new t (handed_in h.method h.route body) (λ L. resp old.warehouse L h.method h.route body t) r → IsExchangeBehind old new known t h start r
+        → IsAnswered old new t (handed_in h.method h.route body) (λ L. resp Two old.warehouse L h.method h.route body t) r → IsExchangeBehind old new known t h start r
     handed n input body tail same i e x l fits b is =
         let q : asked (Some h) (start ++ input) ≡ Ok (h, body) =
         asked_whole h (start ++ input) n e x l (subst (λ (k : List ℕ). n ≤ length (k ++ input)) same fits)
@@ -95,11 +96,11 @@ module _ (known : Option (List ℕ)) (t : Moment) (h : Head) (start : List ℕ) 
 
 -- an answer by a method and a route is one by those of the head
 pub at_head : (old new : Standing) (t : Moment) (h : Head) (m : Method) (to : Route) (body : List ℕ) (r : Response) → h.method ≡ m → h.route ≡ to
-    → IsAnswered old new t (handed_in m to body) (λ L. resp old.warehouse L m to body t) r
-    → IsAnswered old new t (handed_in h.method h.route body) (λ L. resp old.warehouse L h.method h.route body t) r
+    → IsAnswered old new t (handed_in m to body) (λ L. resp Two old.warehouse L m to body t) r
+    → IsAnswered old new t (handed_in h.method h.route body) (λ L. resp Two old.warehouse L h.method h.route body t) r
 at_head old new t h m to body r e f is =
-    subst (λ (k : Method). IsAnswered old new t (handed_in k h.route body) (λ L. resp old.warehouse L k h.route body t) r) (sym e)
-    (subst (λ (k : Route). IsAnswered old new t (handed_in m k body) (λ L. resp old.warehouse L m k body t) r) (sym f) is)
+    subst (λ (k : Method). IsAnswered old new t (handed_in k h.route body) (λ L. resp Two old.warehouse L k h.route body t) r) (sym e)
+    (subst (λ (k : Route). IsAnswered old new t (handed_in m k body) (λ L. resp Two old.warehouse L m k body t) r) (sym f) is)
 
 -- the answer to a head is the answer to the input that begins with it
 pub whole_answer : (old new : Standing) (t : Moment) (known mid : Option (List ℕ)) (got : List ℕ) (fields : List HeaderSpan) (spans : RequestSpans) (h : RequestHead) (r : Response)

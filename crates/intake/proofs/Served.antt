@@ -1,5 +1,6 @@
 -- a response that is served, or the 503 of a fault
 use Rattle.std.proofs.Common.{◌≡◌, ℕ, List, Bool, true, false, refl, Option, Some, None, subst, inl, inr, if◌then◌else◌}
+use Rattle.profile.specs.declared.rules.Rules.TheVariants.{Two}
 use Rattle.profile.specs.Moments.{Moment}
 use Rattle.profile.specs.Register.{Entry, Interchange}
 use Rattle.profile.specs.Accepted.{IsLegal, is_accepted, reply_to, after}
@@ -27,18 +28,18 @@ some_handed_in m r body text e = by (is_exchange m r) e
 
 module _ (old new : Standing) (t : Moment) (m : Method) (r : Route) (body : List ℕ) where
   abbrev pub Taken : List ℕ → Type 0
-  Taken text = new.doubt ≡ 0 → (L : List Entry) → IsUsable old L → IsUsable new (after old.warehouse L (Interchange text, t))
+  Taken text = new.doubt ≡ 0 → (L : List Entry) → IsUsable old L → IsUsable new (after Two old.warehouse L (Interchange text, t))
 
   abbrev pub Repeated : List ℕ → Type 0
-  Repeated text = new.doubt ≡ 0 → (L : List Entry) → old.keeps L → IsLegal old.warehouse L
-      → is_accepted (reply_to old.warehouse L (Interchange text) t) ≡ false → IsUnchanged old new
+  Repeated text = new.doubt ≡ 0 → (L : List Entry) → old.keeps L → IsLegal Two old.warehouse L
+      → is_accepted (reply_to Two old.warehouse L (Interchange text) t) ≡ false → IsUnchanged old new
 
   abbrev pub Left : List ℕ → Type 0
-  Left text = new.doubt ≡ 0 → (L : List Entry) → IsUsable old L → LeavesEither new L (after old.warehouse L (Interchange text, t))
+  Left text = new.doubt ≡ 0 → (L : List Entry) → IsUsable old L → LeavesEither new L (after Two old.warehouse L (Interchange text, t))
 
-  pub served : (answer : Response) → (new.doubt ≡ 0 → (L : List Entry) → old.keeps L → IsLegal old.warehouse L → answer ≡ resp old.warehouse L m r body t)
+  pub served : (answer : Response) → (new.doubt ≡ 0 → (L : List Entry) → old.keeps L → IsLegal Two old.warehouse L → answer ≡ resp Two old.warehouse L m r body t)
       → (is_exchange m r ≡ false → IsUnchanged old new) → (is_exchange m r ≡ true → Taken body) → (is_exchange m r ≡ true → Repeated body)
-      → (is_exchange m r ≡ true → new.shut ≡ false) → IsAnswered old new t (handed_in m r body) (λ L. resp old.warehouse L m r body t) answer
+      → (is_exchange m r ≡ true → new.shut ≡ false) → IsAnswered old new t (handed_in m r body) (λ L. resp Two old.warehouse L m r body t) answer
   served answer response kept taken repeated opened = inl (record {
     response = response;
     kept = λ e. kept (none_handed_in m r body e);
@@ -69,5 +70,5 @@ no_memory s t body meant answer response = inr (record {
     why = record { store = λ e. cc; reopen = λ e. cc; not_this = λ e clean L keeps. cc; device = λ e. cc };
   };
   kept = λ e. unchanged_refl s;
-  left = λ text e clean L u. leaves_first s L (after s.warehouse L (Interchange text, t)) u;
+  left = λ text e clean L u. leaves_first s L (after Two s.warehouse L (Interchange text, t)) u;
 })

@@ -1,6 +1,7 @@
 -- What a request is answered, and what it leaves of the book.
 use Rattle.std.specs.Prelude.{◌≡◌, ◌⊎◌, ℕ, false, List, ◌++◌, if◌then◌else◌, Option, Some, None, option_map}
 use Rattle.httparse.specs.Grammar.{RequestHead}
+use Rattle.profile.specs.declared.rules.Rules.TheVariants.{Two}
 use Rattle.profile.specs.Moments.{Moment}
 use Rattle.profile.specs.Register.{Entry, Interchange}
 use Rattle.profile.specs.Accepted.{IsLegal, is_accepted, reply_to, after}
@@ -20,12 +21,12 @@ handed_in method route body = if is_exchange method route then Some body else No
 -- The response of the definitions, over a register that the book keeps. The book is left as the interchange that was handed in
 -- leaves it; where none was, or it isn't accepted now, the book is as it was.
 pub record IsServed (old new : Standing) (t : Moment) (body : Option (List ℕ)) (meant : List Entry → Response) (r : Response) : Type 0 where
-  pub response : new.doubt ≡ 0 → (L : List Entry) → old.keeps L → IsLegal old.warehouse L → r ≡ meant L
+  pub response : new.doubt ≡ 0 → (L : List Entry) → old.keeps L → IsLegal Two old.warehouse L → r ≡ meant L
   pub kept : body ≡ None → IsUnchanged old new
   pub taken : (text : List ℕ) → body ≡ Some text → new.doubt ≡ 0 → (L : List Entry) → IsUsable old L
-      → IsUsable new (after old.warehouse L (Interchange text, t))
-  pub repeated : (text : List ℕ) → body ≡ Some text → new.doubt ≡ 0 → (L : List Entry) → old.keeps L → IsLegal old.warehouse L
-      → is_accepted (reply_to old.warehouse L (Interchange text) t) ≡ false → IsUnchanged old new
+      → IsUsable new (after Two old.warehouse L (Interchange text, t))
+  pub repeated : (text : List ℕ) → body ≡ Some text → new.doubt ≡ 0 → (L : List Entry) → old.keeps L → IsLegal Two old.warehouse L
+      → is_accepted (reply_to Two old.warehouse L (Interchange text) t) ≡ false → IsUnchanged old new
   pub opened : (text : List ℕ) → body ≡ Some text → new.shut ≡ false
 
 -- The 503 of a fault that happened. The book is as it was, or it has to be opened again; then a crash leaves the register as it
@@ -36,7 +37,7 @@ pub record IsFaulted (old new : Standing) (t : Moment) (body : Option (List ℕ)
   pub why : IsFault fault old new
   pub kept : body ≡ None → IsUnchanged old new
   pub left : (text : List ℕ) → body ≡ Some text → new.doubt ≡ 0 → (L : List Entry) → IsUsable old L
-      → LeavesEither new L (after old.warehouse L (Interchange text, t))
+      → LeavesEither new L (after Two old.warehouse L (Interchange text, t))
 
 abbrev pub IsAnswered : Standing → Standing → Moment → Option (List ℕ) → (List Entry → Response) → Response → Type 0
 IsAnswered old new t body meant r = IsServed old new t body meant r ⊎ IsFaulted old new t body r
@@ -53,13 +54,13 @@ pub record IsExchange (old new : Standing) (known : Option (List ℕ)) (t : Mome
   pub head : Option RequestHead
   pub rest : List ℕ
   pub begins : BeginsWith input head rest
-  pub answered : IsAnswered old new t (submitted (option_map head_of head) rest) (λ L. response_to old.warehouse L (option_map head_of head) rest t) r
+  pub answered : IsAnswered old new t (submitted (option_map head_of head) rest) (λ L. response_to Two old.warehouse L (option_map head_of head) rest t) r
 
 -- the same of a request whose head was read, with the first bytes of what is after it
 pub record IsExchangeBehind (old new : Standing) (known : Option (List ℕ)) (t : Moment) (h : Head) (start : List ℕ) (r : Response) : Type 0 where
   pub input : List ℕ
   pub is_input : IsInput known input
-  pub answered : IsAnswered old new t (submitted (Some h) (start ++ input)) (λ L. response_to old.warehouse L (Some h) (start ++ input) t) r
+  pub answered : IsAnswered old new t (submitted (Some h) (start ++ input)) (λ L. response_to Two old.warehouse L (Some h) (start ++ input) t) r
 
 -- A response was written: it was that to what the reader had.
 pub record IsWritten (old new : Standing) (known : Option (List ℕ)) (t : Moment) (before behind : Option (List ℕ)) (status : ℕ) : Type 0 where

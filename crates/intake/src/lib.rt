@@ -5,6 +5,7 @@ mod gauge;
 mod heading;
 pub mod laws;
 mod listening;
+mod patience;
 mod queries;
 mod reading;
 mod replies;
@@ -17,7 +18,8 @@ mod texts;
 
 pub use folders::{FileOutcome, Taken, read_first, read_interchange, take_folder};
 pub use gauge::Gauge;
-pub use listening::serve_count;
+pub use listening::{serve_count, serve_within};
+pub use patience::Patience;
 pub use responding::respond;
 pub use response::{Allow, Body, MediaType, Response, Status};
 pub use serving::serve_one;

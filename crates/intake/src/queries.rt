@@ -1,4 +1,5 @@
 ghost use Rattle.std.specs.Prelude.{◌≡◌, ◌≤◌, ◌+◌, ◌-◌, ◌*◌, ◌==◌, ℕ, List, Some, None, IfOk, IfErr, if◌then◌else◌, find, option_map, unwrap_or};
+ghost use Rattle.profile.specs.declared.rules.Rules.TheVariants.{Two};
 ghost use Rattle.profile.specs.Accepted.{IsLegal};
 ghost use Rattle.profile.specs.Bytes.{value};
 ghost use Rattle.profile.specs.Header.{Who as Partner};
@@ -21,9 +22,9 @@ use store::{Fault, Keeper, Who};
 // The stock report of the depositor that a part of a path names.
 fn stock_at<K: Keeper>(alloc: Global, keeper: &mut K, who: &str) -> Result<Response, Fault>
     ensures response { (K.standing keeper.new).doubt ≡ 0 → (L : List Entry)
-        → (K.standing keeper.old).keeps L → IsLegal (K.standing keeper.old).warehouse L
+        → (K.standing keeper.old).keeps L → IsLegal Two (K.standing keeper.old).warehouse L
         → IfOk result (λ r. seen r ≡ found_for who.now (stock_of L)
-        (λ rows. with_body 200 plain_type (reports.stock_report rows))) }
+        (λ rows. with_body 200 plain_type (reports.stock_report Two rows))) }
     ensures same { IsUnchanged (K.standing keeper.old) (K.standing keeper.new) }
     ensures fault { IfErr result (λ fault. IsQueryFault fault (K.standing keeper.old) (K.standing keeper.new)) }
 {
@@ -39,7 +40,7 @@ fn stock_at<K: Keeper>(alloc: Global, keeper: &mut K, who: &str) -> Result<Respo
 // The list of what went out to the depositor that a part of a path names.
 fn outbox_at<K: Keeper>(alloc: Global, keeper: &mut K, who: &str) -> Result<Response, Fault>
     ensures response { (K.standing keeper.new).doubt ≡ 0 → (L : List Entry)
-        → (K.standing keeper.old).keeps L → IsLegal (K.standing keeper.old).warehouse L
+        → (K.standing keeper.old).keeps L → IsLegal Two (K.standing keeper.old).warehouse L
         → IfOk result (λ r. seen r ≡ found_for who.now (outbox_of (K.standing keeper.old).warehouse L)
         (λ rows. with_body 200 plain_type (reports.outbox_list rows))) }
     ensures same { IsUnchanged (K.standing keeper.old) (K.standing keeper.new) }
@@ -94,7 +95,7 @@ fn content_of(text: Option<Option<Vec<u8>>>) -> Response
 // The text that went out under the number that a part of a path names, to the depositor that another names.
 fn content_at<K: Keeper>(keeper: &mut K, who: &str, n: &str) -> Result<Response, Fault>
     ensures response { (K.standing keeper.new).doubt ≡ 0 → (L : List Entry)
-        → (K.standing keeper.old).keeps L → IsLegal (K.standing keeper.old).warehouse L
+        → (K.standing keeper.old).keeps L → IsLegal Two (K.standing keeper.old).warehouse L
         → IfOk result (λ r. seen r ≡ found_for who.now (outbox_of (K.standing keeper.old).warehouse L)
         (content_response n.now)) }
     ensures same { IsUnchanged (K.standing keeper.old) (K.standing keeper.new) }
@@ -116,9 +117,9 @@ pub(crate) fn got<K: Keeper>(
     route: &Route<'_>,
 ) -> Result<Response, Fault>
     ensures response { (K.standing keeper.new).doubt ≡ 0 → (L : List Entry)
-        → (K.standing keeper.old).keeps L → IsLegal (K.standing keeper.old).warehouse L
+        → (K.standing keeper.old).keeps L → IsLegal Two (K.standing keeper.old).warehouse L
         → (body : List ℕ) (t : Minute)
-        → IfOk result (λ r. seen r ≡ resp (K.standing keeper.old).warehouse L Get (seen_route route.now)
+        → IfOk result (λ r. seen r ≡ resp Two (K.standing keeper.old).warehouse L Get (seen_route route.now)
         body t) }
     ensures same { IsUnchanged (K.standing keeper.old) (K.standing keeper.new) }
     ensures fault { IfErr result (λ fault. IsQueryFault fault (K.standing keeper.old) (K.standing keeper.new)) }
@@ -135,7 +136,7 @@ pub(crate) fn got<K: Keeper>(
 /// The response to a request by a method that no path allows.
 pub(crate) fn not_served(route: &Route<'_>) -> Response
     ensures { (W : Partner) (L : List Entry) (body : List ℕ) (t : Minute)
-        → seen result ≡ resp W L OtherMethod (seen_route route.now) body t }
+        → seen result ≡ resp Two W L OtherMethod (seen_route route.now) body t }
 {
     match *route {
         Route::Exchange => not_allowed_response(Allow::Post),

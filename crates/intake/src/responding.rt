@@ -1,4 +1,5 @@
 ghost use Rattle.std.specs.Prelude.{◌≡◌, ◌⊎◌, ℕ, List, true, false, IfOk, IfErr, OnOk, OnErr};
+ghost use Rattle.profile.specs.declared.rules.Rules.TheVariants.{Two};
 ghost use Rattle.profile.specs.Accepted.{IsLegal, is_accepted, reply_to, after};
 ghost use Rattle.profile.specs.Register.{Entry, Interchange};
 ghost use Rattle.profile.specs.Response.{Post, is_exchange, reply_response, resp};
@@ -25,18 +26,18 @@ fn hand_in<K: Keeper>(
     moment: Moment,
 ) -> Result<Response, Fault>
     ensures response { (K.standing keeper.new).doubt ≡ 0 → (L : List Entry)
-        → (K.standing keeper.old).keeps L → IsLegal (K.standing keeper.old).warehouse L
-        → IfOk result (λ r. seen r ≡ reply_response (reply_to (K.standing keeper.old).warehouse L
+        → (K.standing keeper.old).keeps L → IsLegal Two (K.standing keeper.old).warehouse L
+        → IfOk result (λ r. seen r ≡ reply_response (reply_to Two (K.standing keeper.old).warehouse L
         (Interchange body.now) moment)) }
     ensures repeated { (K.standing keeper.new).doubt ≡ 0 → (L : List Entry)
-        → (K.standing keeper.old).keeps L → IsLegal (K.standing keeper.old).warehouse L
-        → is_accepted (reply_to (K.standing keeper.old).warehouse L (Interchange body.now) moment) ≡ false
+        → (K.standing keeper.old).keeps L → IsLegal Two (K.standing keeper.old).warehouse L
+        → is_accepted (reply_to Two (K.standing keeper.old).warehouse L (Interchange body.now) moment) ≡ false
         → OnOk result (IsUnchanged (K.standing keeper.old) (K.standing keeper.new)) }
     ensures taken { (K.standing keeper.new).doubt ≡ 0 → (L : List Entry) → IsUsable (K.standing keeper.old) L
-        → OnOk result (IsUsable (K.standing keeper.new) (after (K.standing keeper.old).warehouse L
+        → OnOk result (IsUsable (K.standing keeper.new) (after Two (K.standing keeper.old).warehouse L
         (Interchange body.now, moment))) }
     ensures left { (K.standing keeper.new).doubt ≡ 0 → (L : List Entry) → IsUsable (K.standing keeper.old) L
-        → OnErr result (LeavesEither (K.standing keeper.new) L (after (K.standing keeper.old).warehouse L
+        → OnErr result (LeavesEither (K.standing keeper.new) L (after Two (K.standing keeper.old).warehouse L
         (Interchange body.now, moment))) }
     ensures opened { OnOk result ((K.standing keeper.new).shut ≡ false) }
     ensures fault { IfErr result (λ fault. IsFault fault (K.standing keeper.old) (K.standing keeper.new)) }
@@ -55,22 +56,22 @@ fn posted<K: Keeper>(
     moment: Moment,
 ) -> Result<Response, Fault>
     ensures response { (K.standing keeper.new).doubt ≡ 0 → (L : List Entry)
-        → (K.standing keeper.old).keeps L → IsLegal (K.standing keeper.old).warehouse L
-        → IfOk result (λ r. seen r ≡ resp (K.standing keeper.old).warehouse L Post (seen_route route.now)
+        → (K.standing keeper.old).keeps L → IsLegal Two (K.standing keeper.old).warehouse L
+        → IfOk result (λ r. seen r ≡ resp Two (K.standing keeper.old).warehouse L Post (seen_route route.now)
         body.now moment) }
     ensures kept { is_exchange Post (seen_route route.now) ≡ false
         → IsUnchanged (K.standing keeper.old) (K.standing keeper.new) }
     ensures repeated { is_exchange Post (seen_route route.now) ≡ true → (K.standing keeper.new).doubt ≡ 0
-        → (L : List Entry) → (K.standing keeper.old).keeps L → IsLegal (K.standing keeper.old).warehouse L
-        → is_accepted (reply_to (K.standing keeper.old).warehouse L (Interchange body.now) moment) ≡ false
+        → (L : List Entry) → (K.standing keeper.old).keeps L → IsLegal Two (K.standing keeper.old).warehouse L
+        → is_accepted (reply_to Two (K.standing keeper.old).warehouse L (Interchange body.now) moment) ≡ false
         → OnOk result (IsUnchanged (K.standing keeper.old) (K.standing keeper.new)) }
     ensures taken { is_exchange Post (seen_route route.now) ≡ true → (K.standing keeper.new).doubt ≡ 0
         → (L : List Entry) → IsUsable (K.standing keeper.old) L
-        → OnOk result (IsUsable (K.standing keeper.new) (after (K.standing keeper.old).warehouse L
+        → OnOk result (IsUsable (K.standing keeper.new) (after Two (K.standing keeper.old).warehouse L
         (Interchange body.now, moment))) }
     ensures left { is_exchange Post (seen_route route.now) ≡ true → (K.standing keeper.new).doubt ≡ 0
         → (L : List Entry) → IsUsable (K.standing keeper.old) L
-        → OnErr result (LeavesEither (K.standing keeper.new) L (after (K.standing keeper.old).warehouse L
+        → OnErr result (LeavesEither (K.standing keeper.new) L (after Two (K.standing keeper.old).warehouse L
         (Interchange body.now, moment))) }
     ensures opened { is_exchange Post (seen_route route.now) ≡ true
         → OnOk result ((K.standing keeper.new).shut ≡ false) }
@@ -93,23 +94,23 @@ fn answered<K: Keeper>(
     moment: Moment,
 ) -> Result<Response, Fault>
     ensures response { (K.standing keeper.new).doubt ≡ 0 → (L : List Entry)
-        → (K.standing keeper.old).keeps L → IsLegal (K.standing keeper.old).warehouse L
-        → IfOk result (λ r. seen r ≡ resp (K.standing keeper.old).warehouse L (seen_method method)
+        → (K.standing keeper.old).keeps L → IsLegal Two (K.standing keeper.old).warehouse L
+        → IfOk result (λ r. seen r ≡ resp Two (K.standing keeper.old).warehouse L (seen_method method)
         (seen_route route.now) body.now moment) }
     ensures kept { is_exchange (seen_method method) (seen_route route.now) ≡ false
         → IsUnchanged (K.standing keeper.old) (K.standing keeper.new) }
     ensures repeated { is_exchange (seen_method method) (seen_route route.now) ≡ true
         → (K.standing keeper.new).doubt ≡ 0 → (L : List Entry) → (K.standing keeper.old).keeps L
-        → IsLegal (K.standing keeper.old).warehouse L
-        → is_accepted (reply_to (K.standing keeper.old).warehouse L (Interchange body.now) moment) ≡ false
+        → IsLegal Two (K.standing keeper.old).warehouse L
+        → is_accepted (reply_to Two (K.standing keeper.old).warehouse L (Interchange body.now) moment) ≡ false
         → OnOk result (IsUnchanged (K.standing keeper.old) (K.standing keeper.new)) }
     ensures taken { is_exchange (seen_method method) (seen_route route.now) ≡ true
         → (K.standing keeper.new).doubt ≡ 0 → (L : List Entry) → IsUsable (K.standing keeper.old) L
-        → OnOk result (IsUsable (K.standing keeper.new) (after (K.standing keeper.old).warehouse L
+        → OnOk result (IsUsable (K.standing keeper.new) (after Two (K.standing keeper.old).warehouse L
         (Interchange body.now, moment))) }
     ensures left { is_exchange (seen_method method) (seen_route route.now) ≡ true
         → (K.standing keeper.new).doubt ≡ 0 → (L : List Entry) → IsUsable (K.standing keeper.old) L
-        → OnErr result (LeavesEither (K.standing keeper.new) L (after (K.standing keeper.old).warehouse L
+        → OnErr result (LeavesEither (K.standing keeper.new) L (after Two (K.standing keeper.old).warehouse L
         (Interchange body.now, moment))) }
     ensures opened { is_exchange (seen_method method) (seen_route route.now) ≡ true
         → OnOk result ((K.standing keeper.new).shut ≡ false) }
@@ -134,7 +135,7 @@ pub(crate) fn respond_at<K: Keeper>(
 ) -> Response
     ensures answered { IsAnswered (K.standing keeper.old) (K.standing keeper.new) moment (handed_in
         (seen_method method) (seen_route route.now) body.now)
-        (λ L. resp (K.standing keeper.old).warehouse L (seen_method method) (seen_route route.now) body.now
+        (λ L. resp Two (K.standing keeper.old).warehouse L (seen_method method) (seen_route route.now) body.now
         moment) (seen result) }
     ensures goes { GoesOn (K.standing keeper.old) (K.standing keeper.new) }
 {
@@ -158,7 +159,7 @@ pub fn respond<K: Keeper>(
 ) -> Response
     ensures answered { IsAnswered (K.standing keeper.old) (K.standing keeper.new) moment (handed_in
         (method_of method.now) (route_of path.now) body.now)
-        (λ L. resp (K.standing keeper.old).warehouse L (method_of method.now) (route_of path.now) body.now
+        (λ L. resp Two (K.standing keeper.old).warehouse L (method_of method.now) (route_of path.now) body.now
         moment) (seen result) }
     ensures goes { GoesOn (K.standing keeper.old) (K.standing keeper.new) }
 {

@@ -1,19 +1,27 @@
--- What rules 1 allow rules 2 allow: a set without fault.
+-- What rules 1 allow rules 2 allow.
 use Rattle.std.proofs.Common.{◌≡◌, ℕ, ◌+◌, ◌≤◌, Bool, true, false, not, cond, ◌&&◌, List, [], ◌∷◌, ◌++◌, map, length, drop, refl, sym, ap, ◌∙◌, arith, Some, None, Option, option_map, unwrap_or, bytes_eq, codes, ltb-true, ltb-false}
 use Rattle.std.specs.Prelude.{◌==◌, nat_lt, slice_get, find, option_and_then}
 use Rattle.std.specs.List.{list_all}
+use Rattle.std.specs.Cmp.Derive.{both_true}
 use Rattle.profile.specs.declared.widths.TheConstants.{DATE_DIGITS}
 use Rattle.profile.specs.declared.rules.Rules.TheVariants.{Two}
 use Rattle.profile.specs.declared.rules.Rules.TheVariants as rules
 use Rattle.profile.specs.Limits.{most_lines}
 use Rattle.profile.specs.Bytes.{Delims, is_one_of}
 use Rattle.profile.specs.Lists.{first_of, or_else}
+use Rattle.profile.specs.Moments.{Moment, is_moment}
+use Rattle.profile.specs.Header.{is_partner}
 use Rattle.profile.specs.Cut.{Segment, id_of, last_segment}
 use Rattle.profile.specs.Words.{Words, Then, Times, IsWord, IsViable, SetKind, ShippingOrder, ShipmentAdvice, FunctionalAcknowledgment, kind_words, is_viable}
 use Rattle.profile.specs.Elements.{Row, Kind, Date, Quantity, must, may, quantity_digits, advice_total_digits, order_total_digits, goods_rows, takes, value_fault, element_fault, plain_lot_rows, lot_rows, segment_rows, rows_in, ElementFault, least_element_fault, faulty_element}
 use Rattle.profile.specs.Faults.{SetFault, rows_after, inner_fault, segment_fault, least_fault, set_fault}
+use Rattle.profile.specs.Register.{Command, Interchange, Enrol, Clerk}
+use Rattle.profile.specs.Clerk.{is_act}
+use Rattle.profile.specs.Accepted.{is_command, can_be_given}
+use Rattle.profile.proofs.TextLaws.{both_parts}
 use Rattle.profile.proofs.WordsLaws.{viable_to, viable_from}
 use Rattle.profile.proofs.FaultsLaws.{segment_fault-in_place, segment_fault-out_of_place}
+use Rattle.profile.proofs.SheetLaws.{is_act-later}
 
 -- ---- words
 
@@ -187,3 +195,19 @@ least-later d kind before (s ∷ ss) h =
 -- a set without fault stays one
 pub set_fault-later : (d : Delims) (kind : SetKind) (ss : List Segment) → set_fault rules.One d (kind_words rules.One kind) ss ≡ None → set_fault Two d (kind_words Two kind) ss ≡ None
 set_fault-later d kind ss h = least-later d kind [] ss h
+
+-- ---- commands
+
+-- a command that can be given can be given later
+pub is_command-later : (c : Command) → is_command rules.One c ≡ true → is_command Two c ≡ true
+is_command-later (Interchange text) h = refl
+is_command-later (Enrol w) h = h
+is_command-later (Clerk w ticket act) h =
+    let p = both_parts (is_partner w && _) (is_act rules.One act) h in both_true p.0 (is_act-later act p.1)
+
+pub can_be_given-later : (cs : List (Command × Moment)) → can_be_given rules.One cs ≡ true → can_be_given Two cs ≡ true
+can_be_given-later [] h = refl
+can_be_given-later (c ∷ cs) h =
+    let p = both_parts (is_command rules.One c.0 && is_moment c.1) (can_be_given rules.One cs) h in
+    let q = both_parts (is_command rules.One c.0) (is_moment c.1) p.0 in
+    both_true (both_true (is_command-later c.0 q.0) q.1) (can_be_given-later cs p.1)

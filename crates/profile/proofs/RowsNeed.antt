@@ -3,6 +3,8 @@ use Rattle.std.specs.Prelude.{◌≡◌, ℕ, ◌+◌, ◌*◌, List, [], ◌∷
 use Rattle.std.specs.List.{range_with_len}
 use Rattle.std.proofs.Common.{refl}
 use Rattle.std.specs.Fmt.{digits}
+use Rattle.profile.specs.declared.rules.Rules.{Rules}
+use Rattle.profile.specs.declared.rules.Rules.TheVariants.{One, Two}
 use Rattle.profile.specs.Moments.{Moment}
 use Rattle.profile.specs.Register.{Count, Command, Interchange, own}
 use Rattle.profile.specs.Page.{Page, page_of}
@@ -10,12 +12,12 @@ use Rattle.profile.specs.Need.{nothing, need_of, need_of_number, part, pairs}
 use Rattle.profile.proofs.Sample.{ACME, received, sends, line, does, book}
 use Rattle.profile.proofs.RowsTrade.{first_order, last_acknowledgment, until_count, until_order, until_pick, second_advice, second_count}
 
-abbrev page_after : List (Command × Moment) → Page
-page_after cs = page_of (own (book cs) ACME)
+abbrev page_after : Rules → List (Command × Moment) → Page
+page_after r cs = page_of (own (book r cs) ACME)
 
 -- what a command loads
-abbrev loaded : List (Command × Moment) → Command × Moment → Page
-loaded cs c = part (page_after cs) (need_of c.0)
+abbrev loaded : Rules → List (Command × Moment) → Command × Moment → Page
+loaded r cs c = part (page_after r cs) (need_of c.0)
 
 needs : map need_of (Interchange first_order ∷ Interchange last_acknowledgment ∷ second_count.0 ∷ [])
     ≡ record { items = codes "BOLT" ∷ []; shipments = []; orders = codes "ORD1" ∷ []; documents = [] }
@@ -50,26 +52,31 @@ abbrev others : ℕ → List (Command × Moment)
 others n = flat_map (λ k. other_advice n k ∷ other_count n k ∷ []) (range_with_len 1 3)
 
 -- an order loads the lots of its items alone
-one_pair : pairs (page_after (others 9 ++ until_count)) ∷ pairs (loaded (others 9 ++ until_count) (sends first_order)) ∷ [] ≡ 10 ∷ 1 ∷ []
+one_pair : (r : Rules) → pairs (page_after r (others 9 ++ until_count)) ∷ pairs (loaded r (others 9 ++ until_count) (sends first_order)) ∷ [] ≡ 10 ∷ 1 ∷ []
 unfolding digits
-one_pair = refl
+one_pair One = refl
+one_pair Two = refl
 
 -- a count loads the lots of its advice, also those that its sheet doesn't name
-advised_lots : map (λ l. l.item ++ codes " " ++ l.lot) (loaded (others 2 ++ sends second_advice ∷ []) second_count).rows
+advised_lots : (r : Rules) → map (λ l. l.item ++ codes " " ++ l.lot) (loaded r (others 2 ++ sends second_advice ∷ []) second_count).rows
     ≡ codes "BOLT L1" ∷ codes "NUT L9" ∷ []
 unfolding digits
-advised_lots = refl
+advised_lots One = refl
+advised_lots Two = refl
 
 -- an acknowledgment loads its document, and no lots
-document_alone : (loaded until_pick (sends last_acknowledgment)).rows ≡ []
+document_alone : (r : Rules) → (loaded r until_pick (sends last_acknowledgment)).rows ≡ []
 unfolding digits
-document_alone = refl
+document_alone One = refl
+document_alone Two = refl
 
-numbers_loaded : map (λ d. d.n) (loaded until_pick (sends last_acknowledgment)).documents ≡ 4 ∷ []
+numbers_loaded : (r : Rules) → map (λ d. d.n) (loaded r until_pick (sends last_acknowledgment)).documents ≡ 4 ∷ []
 unfolding digits
-numbers_loaded = refl
+numbers_loaded One = refl
+numbers_loaded Two = refl
 
 -- a picking sheet's order alone comes with its lots
-order_alone : map (λ o. o.number) (part (page_after until_order) (need_of_number (codes "ORD1"))).orders ≡ codes "ORD1" ∷ []
+order_alone : (r : Rules) → map (λ o. o.number) (part (page_after r until_order) (need_of_number (codes "ORD1"))).orders ≡ codes "ORD1" ∷ []
 unfolding digits
-order_alone = refl
+order_alone One = refl
+order_alone Two = refl

@@ -2,6 +2,7 @@
 use Rattle.std.specs.Prelude.{◌≡◌, ℕ, List, [], ◌∷◌, ◌++◌, map, replicate, Some, None, codes, Option}
 use Rattle.std.proofs.Common.{refl}
 use Rattle.std.specs.Fmt.{digits}
+use Rattle.profile.specs.declared.rules.Rules.{Rules}
 use Rattle.profile.specs.Moments.{Moment}
 use Rattle.profile.specs.Register.{Command}
 use Rattle.profile.specs.Refusals.{Refusal, Note}
@@ -25,30 +26,30 @@ GE = codes "GE*1*1~"
 abbrev pub IEA : List ℕ
 IEA = iea (codes "1") control
 
-abbrev pub refusal_after : List (Command × Moment) → List ℕ → Option Refusal
-refusal_after cs text = refusal_alone (reply_after cs (sends text))
+abbrev pub refusal_after : Rules → List (Command × Moment) → List ℕ → Option Refusal
+refusal_after r cs text = refusal_alone (reply_after r cs (sends text))
 
-abbrev refusal : List ℕ → Option Refusal
-refusal text = refusal_after [] text
+abbrev refusal : Rules → List ℕ → Option Refusal
+refusal r text = refusal_after r [] text
 
 -- refused with this note
 abbrev pub note : ℕ → Option Refusal
 note code = Some (Note code)
 
 -- ISA and this
-abbrev pub after_ISA : List ℕ → Option Refusal
-after_ISA rest = refusal (ISA ++ rest)
+abbrev pub after_ISA : Rules → List ℕ → Option Refusal
+after_ISA r rest = refusal r (ISA ++ rest)
 
-plain : after_ISA (GS ++ set ++ GE ++ IEA) ≡ None
+plain : (r : Rules) → after_ISA r (GS ++ set ++ GE ++ IEA) ≡ None
 unfolding digits
-plain = refl
+plain r = refl
 
 -- GS: each element, one missing, one too many.
 
-abbrev with_GS : List ℕ → Option Refusal
-with_GS gs = after_ISA (codes "GS*" ++ gs ++ codes "~" ++ set ++ GE ++ IEA)
+abbrev with_GS : Rules → List ℕ → Option Refusal
+with_GS r gs = after_ISA r (codes "GS*" ++ gs ++ codes "~" ++ set ++ GE ++ IEA)
 
-malformed_GS : map with_GS
+malformed_GS : (r : Rules) → map (with_GS r)
     (codes "*ACME*WHSE1*20250304*0915*1*X*004010"
     ∷ codes "A*ACME*WHSE1*20250304*0915*1*X*004010"
     ∷ codes "ARX*ACME*WHSE1*20250304*0915*1*X*004010"
@@ -81,10 +82,10 @@ malformed_GS : map with_GS
     ∷ [])
     ≡ replicate 29 (note 24)
 unfolding digits
-malformed_GS = refl
+malformed_GS r = refl
 
 -- what belongs to no group that is read, or to another version, is a fault of the group alone
-well_formed_GS : map with_GS
+well_formed_GS : (r : Rules) → map (with_GS r)
     (codes "XX*ACME*WHSE1*20250304*0915*1*X*004010"
     ∷ codes "AR*AC*AB*20250304*0915*1*X*004010"
     ∷ codes "AR*ABCDEFGHIJKLMNO*A B, (c)*20240229*0915*1*X*004010"
@@ -98,68 +99,68 @@ well_formed_GS : map with_GS
     ∷ [])
     ≡ replicate 10 None
 unfolding digits
-well_formed_GS = refl
+well_formed_GS r = refl
 
 -- GE, ST, SE and IEA.
 
-abbrev with_GE : List ℕ → Option Refusal
-with_GE ge = after_ISA (GS ++ set ++ ge ++ codes "~" ++ IEA)
+abbrev with_GE : Rules → List ℕ → Option Refusal
+with_GE r ge = after_ISA r (GS ++ set ++ ge ++ codes "~" ++ IEA)
 
-malformed_GE : map with_GE
+malformed_GE : (r : Rules) → map (with_GE r)
     (codes "GE" ∷ codes "GE*1" ∷ codes "GE**1" ∷ codes "GE*1*" ∷ codes "GE*0000001*1"
     ∷ codes "GE*A*1"
     ∷ codes "GE*-1*1" ∷ codes "GE*1*1234567890" ∷ codes "GE*1*A" ∷ codes "GE*1*1*"
     ∷ codes "GE*1*1*1" ∷ [])
     ≡ replicate 11 (note 24)
 unfolding digits
-malformed_GE = refl
+malformed_GE r = refl
 
-well_formed_GE : map with_GE
+well_formed_GE : (r : Rules) → map (with_GE r)
     (codes "GE*000001*1" ∷ codes "GE*2*1" ∷ codes "GE*0*1" ∷ codes "GE*1*01"
     ∷ codes "GE*1*123456789" ∷ [])
     ≡ replicate 5 None
 unfolding digits
-well_formed_GE = refl
+well_formed_GE r = refl
 
-abbrev with_ST : List ℕ → Option Refusal
-with_ST st = after_ISA (GS ++ st ++ codes "~SE*2*0001~" ++ GE ++ IEA)
+abbrev with_ST : Rules → List ℕ → Option Refusal
+with_ST r st = after_ISA r (GS ++ st ++ codes "~SE*2*0001~" ++ GE ++ IEA)
 
-malformed_ST : map with_ST
+malformed_ST : (r : Rules) → map (with_ST r)
     (codes "ST" ∷ codes "ST*943" ∷ codes "ST**0001" ∷ codes "ST*943*" ∷ codes "ST*94*0001"
     ∷ codes "ST*9430*0001" ∷ codes "ST*94a*0001" ∷ codes "ST*943*001" ∷ codes "ST*943*0000000001"
     ∷ codes "ST*943*000a" ∷ codes "ST*943*00-1" ∷ codes "ST*943*0001*" ∷ [])
     ≡ replicate 12 (note 24)
 unfolding digits
-malformed_ST = refl
+malformed_ST r = refl
 
-well_formed_ST : map with_ST
+well_formed_ST : (r : Rules) → map (with_ST r)
     (codes "ST*944*0001" ∷ codes "ST*XYZ*0001" ∷ codes "ST*943*000000001" ∷ codes "ST*943*A1B2" ∷ [])
     ≡ replicate 4 None
 unfolding digits
-well_formed_ST = refl
+well_formed_ST r = refl
 
-abbrev with_SE : List ℕ → Option Refusal
-with_SE se = after_ISA (GS ++ codes "ST*943*0001~" ++ se ++ codes "~" ++ GE ++ IEA)
+abbrev with_SE : Rules → List ℕ → Option Refusal
+with_SE r se = after_ISA r (GS ++ codes "ST*943*0001~" ++ se ++ codes "~" ++ GE ++ IEA)
 
-malformed_SE : map with_SE
+malformed_SE : (r : Rules) → map (with_SE r)
     (codes "SE" ∷ codes "SE*2" ∷ codes "SE**0001" ∷ codes "SE*2*" ∷ codes "SE*00000000002*0001"
     ∷ codes "SE*A*0001" ∷ codes "SE*2*001" ∷ codes "SE*2*0000000001" ∷ codes "SE*2*000a"
     ∷ codes "SE*2*0001*" ∷ [])
     ≡ replicate 10 (note 24)
 unfolding digits
-malformed_SE = refl
+malformed_SE r = refl
 
-well_formed_SE : map with_SE
+well_formed_SE : (r : Rules) → map (with_SE r)
     (codes "SE*0000000002*0001" ∷ codes "SE*0*0001" ∷ codes "SE*2*000000001" ∷ codes "SE*2*ABCD" ∷ [])
     ≡ replicate 4 None
 unfolding digits
-well_formed_SE = refl
+well_formed_SE r = refl
 
 -- IEA as given, then what may stand after it
-abbrev with_IEA : List ℕ → Option Refusal
-with_IEA trailer = after_ISA (GS ++ set ++ GE ++ trailer ++ codes "~")
+abbrev with_IEA : Rules → List ℕ → Option Refusal
+with_IEA r trailer = after_ISA r (GS ++ set ++ GE ++ trailer ++ codes "~")
 
-malformed_IEA : map with_IEA
+malformed_IEA : (r : Rules) → map (with_IEA r)
     (codes "IEA" ∷ codes "IEA*1" ∷ codes "IEA**000000001" ∷ codes "IEA*1*"
     ∷ codes "IEA*000001*000000001" ∷ codes "IEA*A*000000001" ∷ codes "IEA*1*00000001"
     ∷ codes "IEA*1*0000000001" ∷ codes "IEA*1*00000000A" ∷ codes "IEA*1*000000001*"
@@ -167,33 +168,33 @@ malformed_IEA : map with_IEA
     ∷ codes "IEA*1*000000001~" ∷ codes "IEA*1*000000001~IEA*1*000000001" ∷ [])
     ≡ replicate 14 (note 22)
 unfolding digits
-malformed_IEA = refl
+malformed_IEA r = refl
 
-well_formed_IEA : map with_IEA
+well_formed_IEA : (r : Rules) → map (with_IEA r)
     (codes "IEA*1*000000001" ∷ codes "IEA*01*000000001" ∷ codes "IEA*00001*000000001" ∷ [])
     ≡ replicate 3 None
 unfolding digits
-well_formed_IEA = refl
+well_formed_IEA r = refl
 
-no_IEA : map after_ISA ([] ∷ GS ∷ (GS ++ set) ∷ (GS ++ set ++ GE) ∷ []) ≡ replicate 4 (note 23)
+no_IEA : (r : Rules) → map (after_ISA r) ([] ∷ GS ∷ (GS ++ set) ∷ (GS ++ set ++ GE) ∷ []) ≡ replicate 4 (note 23)
 unfolding digits
-no_IEA = refl
+no_IEA r = refl
 
 -- Segment ids, in a set.
 
-abbrev with_segment : List ℕ → Option Refusal
-with_segment s = after_ISA (GS ++ codes "ST*943*0001~" ++ s ++ codes "~SE*3*0001~" ++ GE ++ IEA)
+abbrev with_segment : Rules → List ℕ → Option Refusal
+with_segment r s = after_ISA r (GS ++ codes "ST*943*0001~" ++ s ++ codes "~SE*3*0001~" ++ GE ++ IEA)
 
-bad_ids : map with_segment
+bad_ids : (r : Rules) → map (with_segment r)
     (codes "N*A" ∷ codes "N123*A" ∷ codes "W" ∷ codes "w06*F"
     ∷ codes "n1" ∷ codes "N-" ∷ codes "N 1" ∷ codes " N1"
     ∷ codes "N>1" ∷ [] ∷ codes "*A" ∷ [])
     ≡ replicate 11 (note 24)
 unfolding digits
-bad_ids = refl
+bad_ids r = refl
 
-good_ids : map with_segment
+good_ids : (r : Rules) → map (with_segment r)
     (codes "N1" ∷ codes "ZZZ*A" ∷ codes "99" ∷ codes "A0Z*" ∷ codes "N1***" ∷ codes "N1* " ∷ [])
     ≡ replicate 6 None
 unfolding digits
-good_ids = refl
+good_ids r = refl

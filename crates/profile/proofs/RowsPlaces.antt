@@ -4,6 +4,7 @@ use Rattle.std.specs.Prelude.{◌≡◌, ℕ, ◌+◌, List, [], ◌∷◌, ◌+
 use Rattle.std.specs.List.{range_with_len}
 use Rattle.std.proofs.Common.{refl}
 use Rattle.std.specs.Fmt.{digits}
+use Rattle.profile.specs.declared.rules.Rules.{Rules}
 use Rattle.profile.specs.Header.{separator_offsets}
 use Rattle.profile.specs.Refusals.{Refusal, Unreadable, Duplicate}
 use Rattle.profile.specs.Reply.{Accepted}
@@ -29,15 +30,15 @@ at_each_place s =
     ∷ (GS ++ set ++ GE ++ s)
     ∷ []
 
-never_inside : map (λ inside. after_ISA (inside ++ IEA))
+never_inside : (r : Rules) → map (λ inside. after_ISA r (inside ++ IEA))
     (at_each_place ISA ++ at_each_place TA1
     ++ at_each_place (codes "ISA~") ++ at_each_place (codes "TA1~"))
     ≡ replicate 20 (note 24)
 unfolding digits
-never_inside = refl
+never_inside r = refl
 
 -- what stands outside its place: between ISA and GS, GS and ST, SE and ST or GE, GE and GS or IEA
-outside : map (λ inside. after_ISA (inside ++ IEA))
+outside : (r : Rules) → map (λ inside. after_ISA r (inside ++ IEA))
     ((N1 ++ GS ++ set ++ GE)
     ∷ (GS ++ N1 ++ set ++ GE)
     ∷ (GS ++ set ++ N1 ++ GE)
@@ -58,26 +59,26 @@ outside : map (λ inside. after_ISA (inside ++ IEA))
     ∷ [])
     ≡ replicate 17 (note 24)
 unfolding digits
-outside = refl
+outside r = refl
 
 -- the same between two groups
-between_groups : map
-    (λ inside. after_ISA (GS ++ set ++ GE ++ inside ++ GS ++ set ++ GE ++ iea (codes "2") control))
+between_groups : (r : Rules) → map
+    (λ inside. after_ISA r (GS ++ set ++ GE ++ inside ++ GS ++ set ++ GE ++ iea (codes "2") control))
     (N1 ∷ set ∷ SE ∷ GE ∷ [])
     ≡ replicate 4 (note 24)
 unfolding digits
-between_groups = refl
+between_groups r = refl
 
 -- a group in which a group begins has no set
 abbrev two_heads : List ℕ
 two_heads = GS ++ GS ++ set ++ GE ++ iea (codes "2") control
 
-group_in_group : after_ISA two_heads ≡ note 24
+group_in_group : (r : Rules) → after_ISA r two_heads ≡ note 24
 unfolding digits
-group_in_group = refl
+group_in_group r = refl
 
 -- sets without SE and groups without GE are accepted, and so is an interchange of nothing else
-unclosed : map after_ISA
+unclosed : (r : Rules) → map (after_ISA r)
     ((GS ++ codes "ST*943*0001~" ++ GE ++ IEA)
     ∷ (GS ++ set ++ IEA)
     ∷ (GS ++ codes "ST*943*0001~" ++ IEA)
@@ -86,10 +87,10 @@ unclosed : map after_ISA
     ∷ [])
     ≡ replicate 5 None
 unfolding digits
-unclosed = refl
+unclosed r = refl
 
 -- what the depositor is told of two sets without SE in a group with GE, and of groups without GE
-told_unclosed : map (λ rest. reply_after [] (sends (ISA ++ rest)))
+told_unclosed : (r : Rules) → map (λ rest. reply_after r [] (sends (ISA ++ rest)))
     ((GS ++ codes "ST*943*0001~ST*943*0002~GE*2*1~" ++ IEA)
     ∷ (GS ++ codes "ST*943*0001~" ++ codes "GS*OW*ACME*WHSE1*20250304*0915*02*X*004010~"
     ++ set ++ iea (codes "2") control)
@@ -103,7 +104,7 @@ told_unclosed : map (λ rest. reply_after [] (sends (ISA ++ rest)))
     ++ codes "GE*2*1~" ++ IEA)
     ∷ []
 unfolding digits
-told_unclosed = refl
+told_unclosed r = refl
 
 -- The order of the conditions.
 
@@ -148,32 +149,32 @@ mended_in_turn =
     map (λ n. wrong_after n ++ codes "GS~GE*1*1~IEA*2*000000009~IEA~X") (range_with_len 0 13)
     ++ map (λ end. ISA ++ end) ends
 
-in_order : map (refusal_after []) mended_in_turn
+in_order : (r : Rules) → map (refusal_after r []) mended_in_turn
     ≡ Some Unreadable ∷ note 6 ∷ note 9 ∷ note 10 ∷ note 11 ∷ note 12
     ∷ note 13 ∷ note 14 ∷ note 15 ∷ note 2 ∷ note 3
     ∷ note 19 ∷ note 20 ∷ note 23 ∷ note 22 ∷ note 1 ∷ note 21 ∷ note 24 ∷ None ∷ []
 unfolding digits
-in_order = refl
+in_order r = refl
 
 -- once the control number is known, nothing after it is looked at
-in_order_known : map (refusal_after (sends first_advice ∷ [])) mended_in_turn
+in_order_known : (r : Rules) → map (refusal_after r (sends first_advice ∷ [])) mended_in_turn
     ≡ Some Unreadable ∷ note 6 ∷ replicate 17 (Some Duplicate)
 unfolding digits
-in_order_known = refl
+in_order_known r = refl
 
 -- Fields of ISA at their limits.
 
-abbrev ISA_with : (ℕ × List ℕ) → Option Refusal
-ISA_with change = refusal_after [] (changed ISA change ++ GS ++ set ++ GE ++ IEA)
+abbrev ISA_with : Rules → (ℕ × List ℕ) → Option Refusal
+ISA_with r change = refusal_after r [] (changed ISA change ++ GS ++ set ++ GE ++ IEA)
 
-good_fields : map ISA_with
+good_fields : (r : Rules) → map (ISA_with r)
     ((70, codes "000229") ∷ (70, codes "000101") ∷ (70, codes "991231") ∷ (77, codes "0000")
     ∷ (77, codes "2359") ∷ (100, codes "1") ∷ [])
     ≡ replicate 6 None
 unfolding digits
-good_fields = refl
+good_fields r = refl
 
-bad_fields : map ISA_with
+bad_fields : (r : Rules) → map (ISA_with r)
     ((70, codes "010229") ∷ (70, codes "250431") ∷ (70, codes "250100") ∷ (70, codes "250001")
     ∷ (70, codes "2503 4")
     ∷ (77, codes "2400") ∷ (77, codes "0060") ∷ (77, codes "09 5") ∷ (77, codes "-915")
@@ -181,11 +182,11 @@ bad_fields : map ISA_with
     ≡ replicate 5 (note 14) ++ replicate 4 (note 15)
     ++ note 19 ∷ note 20 ∷ note 2 ∷ Some Unreadable ∷ []
 unfolding digits
-bad_fields = refl
+bad_fields r = refl
 
 -- What can't be read: a byte of ISA that isn't data, other delimiters, a separator missing.
 
-unreadable_fields : map ISA_with
+unreadable_fields : (r : Rules) → map (ISA_with r)
     ((7, codes ">") ∷ (40, codes "~") ∷ (102, codes ">") ∷ (35, codes "\r") ∷ (54, codes "\n")
     ∷ (35, 31 ∷ []) ∷ (35, 127 ∷ []) ∷ (35, 195 ∷ 132 ∷ [])
     ∷ (0, codes "isa") ∷ (0, codes " IS") ∷ (90, codes " ") ∷ (98, codes "-")
@@ -194,26 +195,26 @@ unreadable_fields : map ISA_with
     ∷ (105, 32 ∷ []) ∷ [])
     ≡ replicate 23 (Some Unreadable)
 unfolding digits
-unreadable_fields = refl
+unreadable_fields r = refl
 
-no_separator : map (λ k. ISA_with (k, codes " ")) separator_offsets ≡ replicate 16 (Some Unreadable)
+no_separator : (r : Rules) → map (λ k. ISA_with r (k, codes " ")) separator_offsets ≡ replicate 16 (Some Unreadable)
 unfolding digits
-no_separator = refl
+no_separator r = refl
 
 -- after ISA: CR and LF stand only after a terminator, and other control bytes nowhere
-abbrev with_bytes : List ℕ → Option Refusal
-with_bytes bytes = after_ISA
+abbrev with_bytes : Rules → List ℕ → Option Refusal
+with_bytes r bytes = after_ISA r
     (GS ++ codes "ST*943*0001~N1*A" ++ bytes ++ codes "B~SE*3*0001~" ++ GE ++ IEA)
 
-bytes_in_element : map with_bytes
+bytes_in_element : (r : Rules) → map (with_bytes r)
     (codes "\r" ∷ codes "\n" ∷ codes "\r\n" ∷ codes "\t"
     ∷ (0 ∷ []) ∷ (31 ∷ []) ∷ (127 ∷ []) ∷ (128 ∷ []) ∷ (255 ∷ []) ∷ [])
     ≡ replicate 9 (Some Unreadable)
 unfolding digits
-bytes_in_element = refl
+bytes_in_element r = refl
 
-good_bytes : map with_bytes
+good_bytes : (r : Rules) → map (with_bytes r)
     (codes " " ∷ codes "}" ∷ codes ">" ∷ codes "*" ∷ codes "~\r\n\nN1*" ∷ codes "~\n\r\rN1*" ∷ [])
     ≡ replicate 6 None
 unfolding digits
-good_bytes = refl
+good_bytes r = refl

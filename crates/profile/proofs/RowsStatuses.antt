@@ -2,6 +2,8 @@
 use Rattle.std.specs.Prelude.{◌≡◌, ℕ, true, false, List, [], ◌∷◌, ◌++◌, map, replicate, Some, None, Ok, Err, codes, Option}
 use Rattle.std.proofs.Common.{refl}
 use Rattle.std.specs.Fmt.{digits}
+use Rattle.profile.specs.declared.rules.Rules.{Rules}
+use Rattle.profile.specs.declared.rules.Rules.TheVariants.{One, Two}
 use Rattle.profile.specs.Refusals.{Unreadable, Note, Duplicate, NumbersUsedUp, OutOfMemory, Store, Reopen, NotThisBook, Device}
 use Rattle.profile.specs.Reply.{Accepted, Stored, Refused}
 use Rattle.profile.specs.Response.{Method, Get, Post, OtherMethod, Route, ToExchange, ToStock, ToOutbox, ToContent, Nowhere, Response, bare, reply_response, fault_response, resp, Head, stated_length, body_after, response_to, submitted, response_bytes}
@@ -101,38 +103,40 @@ allowed method = record {
   body = codes "405 Method Not Allowed\n";
 }
 
-abbrev asked_by : Method → Route → Response
-asked_by method route = resp WHSE1 (book []) method route [] morning
+abbrev asked_by : Rules → Method → Route → Response
+asked_by r method route = resp r WHSE1 (book r []) method route [] morning
 
 abbrev queries : List Route
 queries = ToStock (codes "ZZ-ACME") ∷ ToOutbox (codes "ZZ-ACME")
     ∷ ToContent (codes "ZZ-ACME") (codes "1") ∷ []
 
-wrong_methods : map (asked_by Get) (ToExchange ∷ []) ++ map (asked_by OtherMethod) (ToExchange ∷ [])
-    ++ map (asked_by Post) queries ++ map (asked_by OtherMethod) queries
+wrong_methods : (r : Rules) → map (asked_by r Get) (ToExchange ∷ []) ++ map (asked_by r OtherMethod) (ToExchange ∷ [])
+    ++ map (asked_by r Post) queries ++ map (asked_by r OtherMethod) queries
     ≡ replicate 2 (allowed (codes "POST")) ++ replicate 6 (allowed (codes "GET"))
 unfolding digits
-wrong_methods = refl
+wrong_methods r = refl
 
-nowhere : map (λ method. asked_by method Nowhere) (Get ∷ Post ∷ OtherMethod ∷ [])
+nowhere : (r : Rules) → map (λ method. asked_by r method Nowhere) (Get ∷ Post ∷ OtherMethod ∷ [])
     ≡ replicate 3 (bare 404)
 unfolding digits
-nowhere = refl
+nowhere r = refl
 
 -- a number in a path: 1 to 6 digits without a leading zero, of a content that is there
-abbrev content : List ℕ → Response
-content n = resp WHSE1 (book (sends first_advice ∷ [])) Get (ToContent (codes "ZZ-ACME") n) [] morning
+abbrev content : Rules → List ℕ → Response
+content r n = resp r WHSE1 (book r (sends first_advice ∷ [])) Get (ToContent (codes "ZZ-ACME") n) [] morning
 
-content_there : content (codes "1") ≡ x12 200 first_answer
+content_there : (r : Rules) → content r (codes "1") ≡ x12 200 first_answer
 unfolding digits
-content_there = refl
+content_there One = refl
+content_there Two = refl
 
-content_missing : map content
+content_missing : (r : Rules) → map (content r)
     (codes "0" ∷ codes "2" ∷ codes "01" ∷ codes "999999" ∷ codes "1000001" ∷ codes "0000001"
     ∷ codes "+1" ∷ codes "1 " ∷ codes "A" ∷ [] ∷ [])
     ≡ replicate 10 (bare 404)
 unfolding digits
-content_missing = refl
+content_missing One = refl
+content_missing Two = refl
 
 -- Lengths of a body as they are stated.
 
@@ -178,30 +182,31 @@ abbrev encoded : Method → Route → List (List ℕ) → Option Head
 encoded method route stated =
     Some (record { method = method; route = route; is_encoded = true; lengths = stated })
 
-abbrev status_of : Option Head → List ℕ → ℕ
-status_of h rest = (response_to WHSE1 (book []) h rest morning).status
+abbrev status_of : Rules → Option Head → List ℕ → ℕ
+status_of r h rest = (response_to r WHSE1 (book r []) h rest morning).status
 
 abbrev twice : List (List ℕ)
 twice = codes "1" ∷ codes "1" ∷ []
 
-tests : status_of (encoded Post ToExchange twice) []
-    ∷ status_of (encoded OtherMethod ToExchange []) []
-    ∷ status_of (encoded Get (ToStock (codes "ZZ-ACME")) []) []
-    ∷ status_of (head OtherMethod Nowhere twice) []
-    ∷ status_of (head Post Nowhere twice) []
-    ∷ status_of (head Get ToExchange twice) []
-    ∷ status_of (head OtherMethod ToExchange (codes "1048577" ∷ [])) []
-    ∷ status_of (head Post (ToOutbox (codes "ZZ-ACME")) twice) []
-    ∷ status_of (head Get (ToOutbox (codes "ZZ-ACME")) twice) []
-    ∷ status_of (head Post ToExchange (codes "1048577" ∷ [])) []
-    ∷ status_of (head Post ToExchange (codes "2" ∷ [])) (codes "a")
-    ∷ status_of (head Post ToExchange (codes "0" ∷ [])) []
-    ∷ status_of (head Post ToExchange (codes "106" ∷ [])) first_advice
-    ∷ status_of (head Post ToExchange (codes "255" ∷ [])) first_advice
+tests : (r : Rules) → status_of r (encoded Post ToExchange twice) []
+    ∷ status_of r (encoded OtherMethod ToExchange []) []
+    ∷ status_of r (encoded Get (ToStock (codes "ZZ-ACME")) []) []
+    ∷ status_of r (head OtherMethod Nowhere twice) []
+    ∷ status_of r (head Post Nowhere twice) []
+    ∷ status_of r (head Get ToExchange twice) []
+    ∷ status_of r (head OtherMethod ToExchange (codes "1048577" ∷ [])) []
+    ∷ status_of r (head Post (ToOutbox (codes "ZZ-ACME")) twice) []
+    ∷ status_of r (head Get (ToOutbox (codes "ZZ-ACME")) twice) []
+    ∷ status_of r (head Post ToExchange (codes "1048577" ∷ [])) []
+    ∷ status_of r (head Post ToExchange (codes "2" ∷ [])) (codes "a")
+    ∷ status_of r (head Post ToExchange (codes "0" ∷ [])) []
+    ∷ status_of r (head Post ToExchange (codes "106" ∷ [])) first_advice
+    ∷ status_of r (head Post ToExchange (codes "255" ∷ [])) first_advice
     ∷ []
     ≡ 501 ∷ 501 ∷ 501 ∷ 404 ∷ 404 ∷ 405 ∷ 405 ∷ 405 ∷ 200 ∷ 413 ∷ 400 ∷ 400 ∷ 422 ∷ 200 ∷ []
 unfolding digits
-tests = refl
+tests One = refl
+tests Two = refl
 
 -- nothing is submitted by a request that fails a test
 nothing_submitted : map (λ h. submitted h first_advice)

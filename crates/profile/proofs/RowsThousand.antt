@@ -1,13 +1,16 @@
 -- Worked examples at the limits of rules 2: 999 lines of a set, and one more. The set is judged by its segments in one pass.
-use Rattle.std.specs.Prelude.{◌≡◌, ℕ, ◌+◌, ◌*◌, ◌<◌, ◌^◌, List, [], ◌∷◌, ◌++◌, codes, decimal, flat_map, Some, None}
+use Rattle.std.specs.Prelude.{◌≡◌, ℕ, ◌+◌, ◌*◌, ◌/◌, ◌%◌, ◌<◌, ◌^◌, map, List, [], ◌∷◌, ◌++◌, codes, decimal, flat_map, Some, None}
 use Rattle.std.specs.List.{range_with_len}
-use Rattle.std.proofs.Common.{refl, ◌∙◌, arith}
+use Rattle.std.proofs.Common.{refl, ap, ◌∙◌, arith}
 use Rattle.std.specs.Fmt.{digits}
 use Rattle.profile.specs.declared.rules.Rules.TheVariants.{Two}
 use Rattle.profile.specs.Limits.{most_lines, most_quantity}
+use Rattle.profile.specs.Lists.{first_present}
 use Rattle.profile.specs.Cut.{Segment}
 use Rattle.profile.specs.Words.{words_943, words_940}
 use Rattle.profile.specs.Faults.{set_fault}
+use Rattle.profile.specs.Means.{Advice}
+use Rattle.profile.specs.Events.{advice_fault, trade_fault, repeated_pair, redated_pair, wrong_advice_total, sooner, expiry}
 use Rattle.profile.specs.Texts.{own_delims}
 use Rattle.profile.proofs.FaultsLaws.{set_fault-from}
 
@@ -30,6 +33,32 @@ line_too_many : set_fault Two own_delims (words_943 Two) (long_943 1000 (codes "
     ≡ Some (record { id = codes "W04"; position = 2001; code = 2; element = None })
 unfolding digits
 line_too_many = set_fault-from Two own_delims (words_943 Two) (long_943 1000 (codes "999999000")) ∙ refl
+
+-- the advice that such a set is, with these lots
+abbrev long_advice : ℕ → ℕ → Advice
+long_advice n total = record {
+  shipment = codes "SHP1";
+  order = codes "PO77";
+  lines = map (λ k. record {
+    line = record { item = codes "BOLT"; lot = (48 + k % 10) ∷ (48 + k / 10 % 10) ∷ (48 + k / 100) ∷ []; quantity = 999999 };
+    expiry = None;
+    position = 2 * k + 1;
+  }) (range_with_len 1 n);
+  total = total;
+  total_position = 2 * n + 3;
+}
+
+none_repeated : (total : ℕ) → repeated_pair (long_advice 999 total) ≡ None
+none_repeated total = refl
+
+where_none_repeated : (a : Advice) → repeated_pair a ≡ None → advice_fault [] a ≡ first_present (redated_pair (expiry []) a ∷ wrong_advice_total a ∷ [])
+where_none_repeated a none = ap (λ o. first_present (sooner o (redated_pair (expiry []) a) ∷ wrong_advice_total a ∷ [])) none
+
+full_advice : advice_fault [] (long_advice 999 998999001) ≡ None
+full_advice = where_none_repeated (long_advice 999 998999001) (none_repeated 998999001) ∙ refl
+
+wrong_total : advice_fault [] (long_advice 999 998999000) ≡ Some (trade_fault (codes "W03") 2001 1)
+wrong_total = where_none_repeated (long_advice 999 998999000) (none_repeated 998999000) ∙ refl
 
 abbrev long_940 : ℕ → List Segment
 long_940 n = (codes "ST" ∷ codes "940" ∷ codes "0001" ∷ [])

@@ -1,10 +1,12 @@
 ghost use Rattle.std.specs.Prelude.{◌≡◌, ◌++◌, ◌∷◌, IfOk, OnOk, flat_map, map};
+ghost use Rattle.profile.specs.declared.rules.Rules.TheVariants.{Two};
 ghost use Rattle.profile.specs.Bytes.{right_aligned};
 ghost use Rattle.profile.specs.Reports as meant;
 
 use crate::columns::{append_left, append_right};
+use crate::dates::expiry_text;
 use itoa::Buffer;
-use profile::{AMOUNT_COLUMN, MOST_ITEM, MOST_LOT};
+use profile::{AMOUNT_COLUMN, DATE_DIGITS, MOST_ITEM, MOST_LOT};
 use std::alloc::{AllocError, Global};
 use store::StockRow;
 
@@ -24,13 +26,16 @@ fn append_line(
     out: &mut Vec<u8>,
     item: &[u8],
     lot: &[u8],
+    expiry: &[u8],
     amounts: &[&[u8]; 4],
 ) -> Result<(), AllocError>
-    ensures { OnOk result (out.new.items ≡ out.old.items ++ meant.stock_columns item.now lot.now (map (λ a. a.now) amounts.now)) }
+    ensures { OnOk result (out.new.items ≡ out.old.items ++ meant.stock_columns Two item.now lot.now expiry.now (map (λ a. a.now) amounts.now)) }
 {
     append_left(out, item, MOST_ITEM)?;
     out.push(b' ')?;
     append_left(out, lot, MOST_LOT)?;
+    out.push(b' ')?;
+    append_left(out, expiry, DATE_DIGITS)?;
     append_amounts(out, amounts)?;
     out.push(b'\n')?;
     Ok(())
@@ -38,7 +43,7 @@ fn append_line(
 
 // Appends the line of a row.
 fn append_row(out: &mut Vec<u8>, row: &StockRow) -> Result<(), AllocError>
-    ensures { OnOk result (out.new.items ≡ out.old.items ++ meant.stock_line row.now) }
+    ensures { OnOk result (out.new.items ≡ out.old.items ++ meant.stock_line Two row.now) }
 {
     let mut expected = Buffer::new();
     let mut on_hand = Buffer::new();
@@ -48,6 +53,7 @@ fn append_row(out: &mut Vec<u8>, row: &StockRow) -> Result<(), AllocError>
         out,
         &row.item,
         &row.lot,
+        expiry_text(row),
         &[
             expected.format(row.expected).as_bytes(),
             on_hand.format(row.on_hand).as_bytes(),
@@ -58,16 +64,18 @@ fn append_row(out: &mut Vec<u8>, row: &StockRow) -> Result<(), AllocError>
 }
 
 /// The stock report of these rows: a line of headings and a line for each row, in the order given, each with the item left in
-/// 20, the lot left in 12, and expected, on hand, reserved and shipped, in the unit EA, right in 15, with a space between each
-/// two columns and LF at its end. What is longer than its column widens it. The one error is want of memory.
+/// 20, the lot left in 12, its expiry left in 8, blank where it has none, and expected, on hand, reserved and shipped, in the unit
+/// EA, right in 15, with a space between each two columns and LF at its end. What is longer than its column widens it. The one
+/// error is want of memory.
 pub fn stock_report(alloc: Global, rows: &[StockRow]) -> Result<Vec<u8>, AllocError>
-    ensures { IfOk result (λ text. text.items ≡ meant.stock_report rows.now) }
+    ensures { IfOk result (λ text. text.items ≡ meant.stock_report Two rows.now) }
 {
     let mut text = Vec::new(alloc);
     append_line(
         &mut text,
         b"item",
         b"lot",
+        b"expiry",
         &[b"expected", b"on hand", b"reserved", b"shipped"],
     )?;
     for row in rows {

@@ -1,7 +1,9 @@
 ghost use Rattle.std.specs.Prelude.{◌≡◌, ◌++◌, [], List, ℕ, IfOk, OnOk};
+ghost use Rattle.profile.specs.declared.rules.Rules.TheVariants.{Two};
 ghost use Rattle.profile.specs.Reports as meant;
 ghost use Rattle.reports.specs.Exports.{Holds};
 
+use crate::dates::expiry_text;
 use csv::{Error, QuoteStyle, Writer, WriterBuilder};
 use itoa::Buffer;
 use std::alloc::{AllocError, Global};
@@ -9,7 +11,7 @@ use store::StockRow;
 
 // Writes the record of a row.
 fn write_row(writer: &mut Writer<Vec<u8>>, row: &StockRow) -> Result<(), Error>
-    ensures { OnOk result ((text : List ℕ) → Holds writer.old text → Holds writer.new (text ++ meant.stock_record row.now)) }
+    ensures { OnOk result ((text : List ℕ) → Holds writer.old text → Holds writer.new (text ++ meant.stock_record Two row.now)) }
 {
     let mut expected = Buffer::new();
     let mut on_hand = Buffer::new();
@@ -18,6 +20,7 @@ fn write_row(writer: &mut Writer<Vec<u8>>, row: &StockRow) -> Result<(), Error>
     writer.write_fields(&[
         &row.item,
         &row.lot,
+        expiry_text(row),
         expected.format(row.expected).as_bytes(),
         on_hand.format(row.on_hand).as_bytes(),
         reserved.format(row.reserved).as_bytes(),
@@ -29,11 +32,12 @@ fn write_row(writer: &mut Writer<Vec<u8>>, row: &StockRow) -> Result<(), Error>
 // Writes the record of headings and those of the rows.
 fn write_rows(writer: &mut Writer<Vec<u8>>, rows: &[StockRow]) -> Result<(), Error>
     requires { Holds writer.old [] }
-    ensures { OnOk result (Holds writer.new (meant.stock_csv rows.now)) }
+    ensures { OnOk result (Holds writer.new (meant.stock_csv Two rows.now)) }
 {
     writer.write_fields(&[
         b"item",
         b"lot",
+        b"expiry",
         b"expected",
         b"on_hand",
         b"reserved",
@@ -45,11 +49,11 @@ fn write_rows(writer: &mut Writer<Vec<u8>>, rows: &[StockRow]) -> Result<(), Err
     Ok(())
 }
 
-/// The stock export of these rows: CSV, the record `item,lot,expected,on_hand,reserved,shipped` and then a record for each row,
-/// in the order given, with amounts in the unit EA. Nothing is quoted, since no identifier and no number needs it. The one error
+/// The stock export of these rows: CSV, the record `item,lot,expiry,expected,on_hand,reserved,shipped` and then a record for each
+/// row, in the order given, with amounts in the unit EA, and nothing for an expiry where a lot has none. Nothing is quoted, since no identifier and no number needs it. The one error
 /// is want of memory, the only one that a writer into a vector has.
 pub fn stock_csv(alloc: Global, rows: &[StockRow]) -> Result<Vec<u8>, AllocError>
-    ensures { IfOk result (λ text. text.items ≡ meant.stock_csv rows.now) }
+    ensures { IfOk result (λ text. text.items ≡ meant.stock_csv Two rows.now) }
 {
     let mut writer = WriterBuilder::new()
         .quote_style(QuoteStyle::Never)

@@ -3,6 +3,7 @@
 
 mod balances;
 mod columns;
+mod dates;
 mod exports;
 mod outboxes;
 mod picking;

@@ -2,7 +2,7 @@
 use Rattle.std.proofs.Common.{◌≡◌, ℕ, Bool, true, false, not, List, [], ◌∷◌, ◌++◌, Option, Some, None, Ok, Err, refl, sym, subst, append_assoc, append-nil}
 use Rattle.std.specs.Prelude.{Result, is_some, is_none, if◌then◌else◌, option_to_list, ◌==◌, nat_lt}
 use Rattle.std.specs.List.{cons_option, list_any, list_all}
-use Rattle.profile.specs.declared.rules.Rules.TheVariants.{One}
+use Rattle.profile.specs.declared.rules.Rules.{Rules}
 use Rattle.profile.specs.Bytes.{Delims}
 use Rattle.profile.specs.Cut.{Segment, cut}
 use Rattle.profile.specs.Words.{SetKind, ShippingOrder, ShipmentAdvice, FunctionalAcknowledgment, kind_words}
@@ -11,7 +11,7 @@ use Rattle.profile.specs.Lists.{first_present}
 use Rattle.profile.specs.Means.{Line, Advice, advice_of, Order, order_of}
 use Rattle.profile.specs.Structure.{Set, Group, kind_of, group_fault, examined, groups_of}
 use Rattle.profile.specs.Header.{delims_of}
-use Rattle.profile.specs.Events.{Event, Advised, Ordered, Acknowledged, Counted, Picked, Recounted, Reserved, advice_under, order_under, advice_fault, order_fault, fault_where, repeated_pair, repeated_item, wrong_advice_total, wrong_order_total, is_advice_open, is_order_open, quantity_of, since}
+use Rattle.profile.specs.Events.{Event, Advised, Ordered, Acknowledged, Counted, Picked, Recounted, Reserved, advice_under, order_under, advice_fault, order_fault, fault_where, expiry, repeated_pair, redated_pair, sooner, repeated_item, wrong_advice_total, wrong_order_total, is_advice_open, is_order_open, quantity_of, since}
 use Rattle.profile.specs.Allotment.{order_shares}
 use Rattle.profile.specs.Movements.{OnHand, Reservation, balance}
 use Rattle.profile.specs.Refusals.{Refusal, UnknownAdvice, AdviceClosed, UnknownOrder, OrderClosed, NotReserved, UnknownLot, BelowReserved, NoDifference}
@@ -54,39 +54,39 @@ none_known None f fs h = refl
 none_known (Some x) f fs h = absurd (cc (h))
 
 pub advice_new : (es : List Event) (a : Advice) → advice_fault es a ≡ None → advice_under a.shipment es ≡ None
-advice_new es a h = none_known (advice_under a.shipment es) _ (repeated_pair a ∷ wrong_advice_total a ∷ []) h
+advice_new es a h = none_known (advice_under a.shipment es) _ (sooner (repeated_pair a) (redated_pair (expiry es) a) ∷ wrong_advice_total a ∷ []) h
 
 pub order_new : (es : List Event) (o : Order) → order_fault es o ≡ None → order_under o.number es ≡ None
 order_new es o h = none_known (order_under o.number es) _ (repeated_item o ∷ wrong_order_total o ∷ []) h
 
-of_trade : (es : List Event) (n : ℕ) (kind : SetKind) (ss : List Segment) → OfTrade es n (traded es n kind ss)
-of_trade es n ShipmentAdvice ss = by (advice_fault es (advice_of ss)) refl
+of_trade : (r : Rules) (es : List Event) (n : ℕ) (kind : SetKind) (ss : List Segment) → OfTrade es n (traded r es n kind ss)
+of_trade r es n ShipmentAdvice ss = by (advice_fault es (advice_of ss)) refl
   where
     by : (o : Option SetFault) → advice_fault es (advice_of ss) ≡ o → OfTrade es n (unless o (Advised (advice_of ss)))
     by None e = advice_new es (advice_of ss) e
     by (Some f) e = tt
-of_trade es n ShippingOrder ss = by (order_fault es (order_of ss)) refl
+of_trade r es n ShippingOrder ss = by (order_fault es (order_of ss)) refl
   where
-    by : (o : Option SetFault) → order_fault es (order_of ss) ≡ o → OfTrade es n (unless o (Ordered (order_of ss) (order_shares es (order_of ss))))
+    by : (o : Option SetFault) → order_fault es (order_of ss) ≡ o → OfTrade es n (unless o (Ordered (order_of ss) (order_shares r es (order_of ss))))
     by None e = order_new es (order_of ss) e
     by (Some f) e = tt
-of_trade es n FunctionalAcknowledgment ss = refl
+of_trade r es n FunctionalAcknowledgment ss = refl
 
-of_judged : (d : Delims) (es : List Event) (n : ℕ) (kind : SetKind) (ss : List Segment) → OfTrade es n (judged d es n kind ss)
-of_judged d es n kind ss = by (set_fault One d (kind_words One kind) ss) refl
+of_judged : (r : Rules) (d : Delims) (es : List Event) (n : ℕ) (kind : SetKind) (ss : List Segment) → OfTrade es n (judged r d es n kind ss)
+of_judged r d es n kind ss = by (set_fault r d (kind_words r kind) ss) refl
   where
-    by : (o : Option SetFault) → set_fault One d (kind_words One kind) ss ≡ o → OfTrade es n (judged d es n kind ss)
-    by None e = subst (OfTrade es n) (sym (judged_sound d es n kind ss e)) (of_trade es n kind ss)
-    by (Some f) e = subst (OfTrade es n) (sym (judged_faulty d es n kind ss f e)) tt
+    by : (o : Option SetFault) → set_fault r d (kind_words r kind) ss ≡ o → OfTrade es n (judged r d es n kind ss)
+    by None e = subst (OfTrade es n) (sym (judged_sound r d es n kind ss e)) (of_trade r es n kind ss)
+    by (Some f) e = subst (OfTrade es n) (sym (judged_faulty r d es n kind ss f e)) tt
 
 of_segment : (es : List Event) (n : ℕ) (r : Result Event SetFault) → OfTrade es n r → OfSet es n (by_segment r)
 of_segment es n (Ok e) h = h
 of_segment es n (Err f) h = tt
 
-of_outcome : (d : Delims) (es : List Event) (n : ℕ) (kind : Option SetKind) (code : Option ℕ) (s : Set) → OfSet es n (outcome_of d es n kind code s)
-of_outcome d es n kind (Some code) s = tt
-of_outcome d es n None None s = tt
-of_outcome d es n (Some kind) None s = of_segment es n (judged d es n kind s.segments) (of_judged d es n kind s.segments)
+of_outcome : (r : Rules) (d : Delims) (es : List Event) (n : ℕ) (kind : Option SetKind) (code : Option ℕ) (s : Set) → OfSet es n (outcome_of r d es n kind code s)
+of_outcome r d es n kind (Some code) s = tt
+of_outcome r d es n None None s = tt
+of_outcome r d es n (Some kind) None s = of_segment es n (judged r d es n kind s.segments) (of_judged r d es n kind s.segments)
 
 -- Sets and groups, one after another.
 
@@ -95,27 +95,27 @@ one_more : (es : List Event) (n : ℕ) (s : Set) (r : Result Event Rejection) (m
 one_more es n s (Ok e) more h later = (h, later (es ++ e ∷ []))
 one_more es n s (Err r) more h later = subst (λ (fs : List Event). AreOfSets fs n (more (es ++ []))) (append-nil es) (later (es ++ []))
 
-of_verdicts : (d : Delims) (es : List Event) (n : ℕ) (kind : Option SetKind) (ps : List (Set × Option ℕ)) → AreOfSets es n (passed (verdicts_on d es n kind ps))
-of_verdicts d es n kind [] = tt
-of_verdicts d es n kind (p ∷ ps) =
-    one_more es n p.0 (outcome_of d es n kind p.1 p.0) (λ (fs : List Event). passed (verdicts_on d fs n kind ps)) (of_outcome d es n kind p.1 p.0) (λ fs. of_verdicts d fs n kind ps)
+of_verdicts : (r : Rules) (d : Delims) (es : List Event) (n : ℕ) (kind : Option SetKind) (ps : List (Set × Option ℕ)) → AreOfSets es n (passed (verdicts_on r d es n kind ps))
+of_verdicts r d es n kind [] = tt
+of_verdicts r d es n kind (p ∷ ps) =
+    one_more es n p.0 (outcome_of r d es n kind p.1 p.0) (λ (fs : List Event). passed (verdicts_on r d fs n kind ps)) (of_outcome r d es n kind p.1 p.0) (λ fs. of_verdicts r d fs n kind ps)
 
-of_telling : (d : Delims) (es : List Event) (n : ℕ) (g : Group) → AreOfSets es n (events_told (telling_of d es n g))
-of_telling d es n g = by (is_none (group_fault g))
+of_telling : (r : Rules) (d : Delims) (es : List Event) (n : ℕ) (g : Group) → AreOfSets es n (events_told (telling_of r d es n g))
+of_telling r d es n g = by (is_none (group_fault g))
   where
-    by : (b : Bool) → AreOfSets es n (passed (if b then verdicts_on d es n (kind_of g) (examined g) else []))
-    by true = of_verdicts d es n (kind_of g) (examined g)
+    by : (b : Bool) → AreOfSets es n (passed (if b then verdicts_on r d es n (kind_of g) (examined g) else []))
+    by true = of_verdicts r d es n (kind_of g) (examined g)
     by false = tt
 
-of_tellings : (d : Delims) (es : List Event) (n : ℕ) (gs : List Group) → AreOfSets es n (told_events (tellings_on d es n gs))
-of_tellings d es n [] = tt
-of_tellings d es n (g ∷ gs) =
-    let t = telling_of d es n g in
-    of_both es n (events_told t) (told_events (tellings_on d (es ++ events_told t) n gs)) (of_telling d es n g) (of_tellings d (es ++ events_told t) n gs)
+of_tellings : (r : Rules) (d : Delims) (es : List Event) (n : ℕ) (gs : List Group) → AreOfSets es n (told_events (tellings_on r d es n gs))
+of_tellings r d es n [] = tt
+of_tellings r d es n (g ∷ gs) =
+    let t = telling_of r d es n g in
+    of_both es n (events_told t) (told_events (tellings_on r d (es ++ events_told t) n gs)) (of_telling r d es n g) (of_tellings r d (es ++ events_told t) n gs)
 
 -- the events of an interchange
-pub of_received : (es : List Event) (n : ℕ) (text : List ℕ) → AreOfSets es n (events_added es n (Received text))
-of_received es n text = of_tellings (delims_of text) es n (groups_of ((cut (delims_of text) text).segments))
+pub of_received : (r : Rules) (es : List Event) (n : ℕ) (text : List ℕ) → AreOfSets es n (events_added r es n (Received text))
+of_received r es n text = of_tellings r (delims_of text) es n (groups_of ((cut (delims_of text) text).segments))
 
 -- Acts.
 

@@ -2,6 +2,7 @@
 use Rattle.std.proofs.Common.{◌≡◌, ℕ, ◌+◌, ◌<◌, Bool, true, false, not, cond, List, [], Option, Some, None, refl, sym, ap, ◌∙◌, subst, arith}
 use Rattle.std.specs.Prelude.{◌&&◌, bytes_eq, nat_lt, if◌then◌else◌}
 use Rattle.std.specs.Borrow.{Bor}
+use Rattle.profile.specs.declared.rules.Rules.{Rules}
 use Rattle.profile.specs.Accepted.{depositor_of}
 use Rattle.std.proofs.lemmas.Bool.{le-ltb}
 use Rattle.profile.specs.Limits.{most_entries}
@@ -33,7 +34,7 @@ use Rattle.rules.specs.declared.decisions.Decision.{Decision}
 
 -- a known control number of other bytes
 again_by : (W : Who) (text : List ℕ) (t : Moment) (e : Entry) (out : List ℕ) (d : Deed) → e.deed ≡ d → deed_mark d ≡ interchange_mark (isa text 13) → bytes_eq (body_of d) text ≡ false
-    → known.interchange_again W text t (record { entry = record { who = e.who; moment = e.moment; deed = d }; outgoing = out }) ≡ Refused Duplicate (refusal_answer W text t Duplicate)
+    → known.interchange_again W text t (record { entry = record { who = e.who; moment = e.moment; deed = d; rules = e.rules }; outgoing = out }) ≡ Refused Duplicate (refusal_answer W text t Duplicate)
 again_by W text t e out Enrolled is key other = refl
 again_by W text t e out (Received bytes) is key other = rw other refl
 again_by W text t e out (Performed ticket act) is key other = refl
@@ -45,32 +46,32 @@ again_other W text t r k out entry key other is =
     again_by W text t k.entry k.outgoing k.entry.deed refl key (ap (λ (b : List ℕ). bytes_eq b text) (sym body) ∙ other) ∙ ap (Refused Duplicate) (sym is)
 
 -- an interchange that is accepted under the next number
-pub accepted_out : (W w : Who) (t : Moment) (number : ℕ) (text header : List ℕ) (p new P : PageFacts) (cs : List Change) (told : List Told) (out : List ℕ) (h : History) (n : Named)
-    → header ≡ text → number ≡ p.entries + 1 → AreGroupsTaken (delims_of text) (groups_of ((cut (delims_of text) text).segments)) p new cs told
+pub accepted_out : (q : Rules) (W w : Who) (t : Moment) (number : ℕ) (text header : List ℕ) (p new P : PageFacts) (cs : List Change) (told : List Told) (out : List ℕ) (h : History) (n : Named)
+    → header ≡ text → number ≡ p.entries + 1 → AreGroupsTaken q (delims_of text) (groups_of ((cut (delims_of text) text).segments)) p new cs told
     → out ≡ answer_of (delims_of header) W w t number (heading_of header) told → IsPart n p P → NamesGroups (delims_of text) n (groups_of ((cut (delims_of text) text).segments)) → IsPageOf P h → w ≡ sender text
-    → out ≡ known.out_by W h (interchange_entry text t)
-accepted_out W w t number text header p new P cs told out h n same is groups made part names of from =
+    → out ≡ known.out_by W h (interchange_entry q text t)
+accepted_out q W w t number text header p new P cs told out h n same is groups made part names of from =
     let m = p.entries + 1 in
-    let ts = tellings h.events m text in
+    let ts = tellings q h.events m text in
     made ∙ ap (λ (x : List ℕ). answer_of (delims_of x) W w t number (heading_of x) told) same
     ∙ ap (λ k. answer_of (delims_of text) W w t k (heading_of text) told) is
     ∙ ap (λ (x : List Told). answer_of (delims_of text) W w t m (heading_of text) x) (groups.told n P h.events part names of.shows)
     ∙ sym (answer-told W w t m text ts)
     ∙ ap (λ (x : Who). answer W x t m text ts) from
-    ∙ ap (λ k. answer W (sender text) t (k + 1) text (tellings h.events (k + 1) text)) (part.entries ∙ of.entries)
+    ∙ ap (λ k. answer W (sender text) t (k + 1) text (tellings q h.events (k + 1) text)) (part.entries ∙ of.entries)
 
-pub accepted_reply : (W w : Who) (t : Moment) (number : ℕ) (text header : List ℕ) (p new P : PageFacts) (cs : List Change) (told : List Told) (out : List ℕ) (e : Written) (h : History) (n : Named)
-    → header ≡ text → number ≡ p.entries + 1 → p.entries < most_entries → AreGroupsTaken (delims_of text) (groups_of ((cut (delims_of text) text).segments)) p new cs told
+pub accepted_reply : (q : Rules) (W w : Who) (t : Moment) (number : ℕ) (text header : List ℕ) (p new P : PageFacts) (cs : List Change) (told : List Told) (out : List ℕ) (e : Written) (h : History) (n : Named)
+    → header ≡ text → number ≡ p.entries + 1 → p.entries < most_entries → AreGroupsTaken q (delims_of text) (groups_of ((cut (delims_of text) text).segments)) p new cs told
     → out ≡ answer_of (delims_of header) W w t number (heading_of header) told
-    → e ≡ record { who = w; key = interchange_mark (isa header 13); n = number; moment = t; body = text }
+    → e ≡ record { who = w; key = interchange_mark (isa header 13); n = number; moment = t; body = text; rules = q }
     → IsPart n p P → NamesGroups (delims_of text) n (groups_of ((cut (delims_of text) text).segments)) → IsPageOf P h → w ≡ sender text
-    → (known.accepted_by W h (interchange_entry text t) ≡ Accepted out) × (e ≡ written_as (p.entries + 1) (interchange_entry text t))
-accepted_reply W w t number text header p new P cs told out e h n same is few groups made entered part names of from =
+    → (known.accepted_by W h (interchange_entry q text t) ≡ Accepted out) × (e ≡ written_as (p.entries + 1) (interchange_entry q text t))
+accepted_reply q W w t number text header p new P cs told out e h n same is few groups made entered part names of from =
     let room : nat_lt most_entries (h.numbered + 1) ≡ false = le-ltb most_entries (h.numbered + 1) (omega (arith, few, part.entries, of.entries)) in (
-      rw room (ap Accepted (sym (accepted_out W w t number text header p new P cs told out h n same is groups made part names of from))),
-      entered ∙ ap (λ (x : List ℕ). record { who = w; key = interchange_mark (isa x 13); n = number; moment = t; body = text }) same
-          ∙ ap (λ k. record { who = w; key = interchange_mark (isa text 13); n = k; moment = t; body = text }) is
-          ∙ ap (λ (x : Who). record { who = x; key = interchange_mark (isa text 13); n = p.entries + 1; moment = t; body = text }) from,
+      rw room (ap Accepted (sym (accepted_out q W w t number text header p new P cs told out h n same is groups made part names of from))),
+      entered ∙ ap (λ (x : List ℕ). record { who = w; key = interchange_mark (isa x 13); n = number; moment = t; body = text; rules = q }) same
+          ∙ ap (λ k. record { who = w; key = interchange_mark (isa text 13); n = k; moment = t; body = text; rules = q }) is
+          ∙ ap (λ (x : Who). record { who = x; key = interchange_mark (isa text 13); n = p.entries + 1; moment = t; body = text; rules = q }) from,
     )
 
 -- the first note of the header's conditions, else that of the conditions on the segments
@@ -85,15 +86,15 @@ noted_segments W text header o later same is none other =
     ∙ ap (λ (x : Option ℕ). or_else x (first_note (structure_notes text))) (ap (λ (x : List ℕ). first_note (header_notes W x)) (sym same) ∙ sym is ∙ none) ∙ other
 
 -- a note's refusal is the reply to a new control number that has the note
-pub noted_new : (W : Who) (h : History) (text header : List ℕ) (t : Moment) (n code : ℕ) (found : Option ℕ) (d : Decision) → header ≡ text → found ≡ Some code
-    → IsReply n (Interchange text) t (Refused (Note code) (refusal_answer W header t (Note code))) d → IsReply n (Interchange text) t (known.interchange_new W h text t found) d
-noted_new W h text header t n code found d same is reply =
-    subst (λ (o : Option ℕ). IsReply n (Interchange text) t (known.interchange_new W h text t o) d) (sym is)
-    (subst (λ (x : List ℕ). IsReply n (Interchange text) t (Refused (Note code) (refusal_answer W x t (Note code))) d) same reply)
+pub noted_new : (q : Rules) (W : Who) (h : History) (text header : List ℕ) (t : Moment) (n code : ℕ) (found : Option ℕ) (d : Decision) → header ≡ text → found ≡ Some code
+    → IsReply q n (Interchange text) t (Refused (Note code) (refusal_answer W header t (Note code))) d → IsReply q n (Interchange text) t (known.interchange_new q W h text t found) d
+noted_new q W h text header t n code found d same is reply =
+    subst (λ (o : Option ℕ). IsReply q n (Interchange text) t (known.interchange_new q W h text t o) d) (sym is)
+    (subst (λ (x : List ℕ). IsReply q n (Interchange text) t (Refused (Note code) (refusal_answer W x t (Note code))) d) same reply)
 
-pub accepted_new : (W : Who) (h : History) (text : List ℕ) (t : Moment) (n : ℕ) (found : Option ℕ) (d : Decision) → found ≡ None
-    → IsReply n (Interchange text) t (known.accepted_by W h (interchange_entry text t)) d → IsReply n (Interchange text) t (known.interchange_new W h text t found) d
-accepted_new W h text t n found d is reply = subst (λ (o : Option ℕ). IsReply n (Interchange text) t (known.interchange_new W h text t o) d) (sym is) reply
+pub accepted_new : (q : Rules) (W : Who) (h : History) (text : List ℕ) (t : Moment) (n : ℕ) (found : Option ℕ) (d : Decision) → found ≡ None
+    → IsReply q n (Interchange text) t (known.accepted_by W h (interchange_entry q text t)) d → IsReply q n (Interchange text) t (known.interchange_new q W h text t found) d
+accepted_new q W h text t n found d is reply = subst (λ (o : Option ℕ). IsReply q n (Interchange text) t (known.interchange_new q W h text t o) d) (sym is) reply
 
 -- who has no page has no history
 pub no_page : (c : Command) (held : Option (Bor PageFacts)) (h : Option History) → held ≡ None → StandsFor c held h → h ≡ None
@@ -125,48 +126,48 @@ sender_is text header o w same is some = by (is_partner (sender header)) (sym is
     by true e = let here : sender header ≡ w = cc (e) in sym here ∙ ap sender same
     by false e = absurd (cc (e))
 
-pub stranger_reply : (W : Who) (h : Option History) (k : Option known.Recalled) (text header : List ℕ) (t : Moment) (n : ℕ) (d : Decision) → header ≡ text → h ≡ None
-    → IsReply n (Interchange text) t (Refused (Note 6) (refusal_answer W header t (Note 6))) d → IsReply n (Interchange text) t (known.interchange_known W h k text t) d
-stranger_reply W h k text header t n d same is reply =
-    subst (λ (o : Option History). IsReply n (Interchange text) t (known.interchange_known W o k text t) d) (sym is)
-    (subst (λ (x : List ℕ). IsReply n (Interchange text) t (Refused (Note 6) (refusal_answer W x t (Note 6))) d) same reply)
+pub stranger_reply : (q : Rules) (W : Who) (h : Option History) (k : Option known.Recalled) (text header : List ℕ) (t : Moment) (n : ℕ) (d : Decision) → header ≡ text → h ≡ None
+    → IsReply q n (Interchange text) t (Refused (Note 6) (refusal_answer W header t (Note 6))) d → IsReply q n (Interchange text) t (known.interchange_known q W h k text t) d
+stranger_reply q W h k text header t n d same is reply =
+    subst (λ (o : Option History). IsReply q n (Interchange text) t (known.interchange_known q W o k text t) d) (sym is)
+    (subst (λ (x : List ℕ). IsReply q n (Interchange text) t (Refused (Note 6) (refusal_answer W x t (Note 6))) d) same reply)
 
 -- the reply to a known control number
-again_given : (W : Who) (h : Option History) (k : Option known.Recalled) (text : List ℕ) (t : Moment) (n : ℕ) (d : Decision) (p : Bor PageFacts) (r : Recalled)
+again_given : (q : Rules) (W : Who) (h : Option History) (k : Option known.Recalled) (text : List ℕ) (t : Moment) (n : ℕ) (d : Decision) (p : Bor PageFacts) (r : Recalled)
     → StandsFor (Interchange text) (Some p) h → IsRecalled (Some r) k → IsUnder (interchange_mark (isa text 13)) k
-    → ((n : ℕ) (K : known.Recalled) → IsEntry r K → mark K.entry ≡ interchange_mark (isa text 13) → IsReply n (Interchange text) t (known.interchange_again W text t K) d)
-    → IsReply n (Interchange text) t (known.interchange_known W h k text t) d
-again_given W None k text t n d p r held is under reply = absurd held
-again_given W (Some h) None text t n d p r held is under reply = absurd is
-again_given W (Some h) (Some k) text t n d p r held is under reply = reply n k is under
+    → ((n : ℕ) (K : known.Recalled) → IsEntry r K → mark K.entry ≡ interchange_mark (isa text 13) → IsReply q n (Interchange text) t (known.interchange_again W text t K) d)
+    → IsReply q n (Interchange text) t (known.interchange_known q W h k text t) d
+again_given q W None k text t n d p r held is under reply = absurd held
+again_given q W (Some h) None text t n d p r held is under reply = absurd is
+again_given q W (Some h) (Some k) text t n d p r held is under reply = reply n k is under
 
-pub given_again : (W : Who) (held : Option (Bor PageFacts)) (o : Option Recalled) (h : Option History) (k : Option known.Recalled) (text : List ℕ) (t : Moment) (d : Decision) (p : Bor PageFacts) (r : Recalled)
+pub given_again : (q : Rules) (W : Who) (held : Option (Bor PageFacts)) (o : Option Recalled) (h : Option History) (k : Option known.Recalled) (text : List ℕ) (t : Moment) (d : Decision) (p : Bor PageFacts) (r : Recalled)
     → held ≡ Some p → o ≡ Some r → IsGiven held o (Interchange text) h k
-    → ((n : ℕ) (K : known.Recalled) → IsEntry r K → mark K.entry ≡ interchange_mark (isa text 13) → IsReply n (Interchange text) t (known.interchange_again W text t K) d)
-    → IsReply (entries_of held) (Interchange text) t (known.interchange_known W h k text t) d
-given_again W held o h k text t d p r page recalled given reply =
-    again_given W h k text t (entries_of held) d p r (subst (λ (x : Option (Bor PageFacts)). StandsFor (Interchange text) x h) page given.page)
+    → ((n : ℕ) (K : known.Recalled) → IsEntry r K → mark K.entry ≡ interchange_mark (isa text 13) → IsReply q n (Interchange text) t (known.interchange_again W text t K) d)
+    → IsReply q (entries_of held) (Interchange text) t (known.interchange_known q W h k text t) d
+given_again q W held o h k text t d p r page recalled given reply =
+    again_given q W h k text t (entries_of held) d p r (subst (λ (x : Option (Bor PageFacts)). StandsFor (Interchange text) x h) page given.page)
     (subst (λ (x : Option Recalled). IsRecalled x k) recalled given.known) given.under reply
 
 -- the reply to a new control number
-new_given : (W : Who) (h : Option History) (k : Option known.Recalled) (text : List ℕ) (t : Moment) (d : Decision) (p : Bor PageFacts)
+new_given : (q : Rules) (W : Who) (h : Option History) (k : Option known.Recalled) (text : List ℕ) (t : Moment) (d : Decision) (p : Bor PageFacts)
     → StandsFor (Interchange text) (Some p) h → IsRecalled None k
-    → ((H : History) (P : PageFacts) → HasNeeded (Interchange text) p.now P → IsPageOf P H → IsReply p.now.entries (Interchange text) t (known.interchange_new W H text t (known.new_note W text)) d)
-    → IsReply p.now.entries (Interchange text) t (known.interchange_known W h k text t) d
-new_given W None k text t d p held is reply = absurd held
-new_given W (Some h) (Some k) text t d p held is reply = absurd is
-new_given W (Some h) None text t d p held is reply = reply h held.0 held.1 held.2
+    → ((H : History) (P : PageFacts) → HasNeeded (Interchange text) p.now P → IsPageOf P H → IsReply q p.now.entries (Interchange text) t (known.interchange_new q W H text t (known.new_note W text)) d)
+    → IsReply q p.now.entries (Interchange text) t (known.interchange_known q W h k text t) d
+new_given q W None k text t d p held is reply = absurd held
+new_given q W (Some h) (Some k) text t d p held is reply = absurd is
+new_given q W (Some h) None text t d p held is reply = reply h held.0 held.1 held.2
 
-pub given_new : (W : Who) (held : Option (Bor PageFacts)) (o : Option Recalled) (h : Option History) (k : Option known.Recalled) (text : List ℕ) (t : Moment) (d : Decision) (p : Bor PageFacts)
+pub given_new : (q : Rules) (W : Who) (held : Option (Bor PageFacts)) (o : Option Recalled) (h : Option History) (k : Option known.Recalled) (text : List ℕ) (t : Moment) (d : Decision) (p : Bor PageFacts)
     → held ≡ Some p → o ≡ None → IsGiven held o (Interchange text) h k
-    → ((H : History) (P : PageFacts) → HasNeeded (Interchange text) p.now P → IsPageOf P H → IsReply p.now.entries (Interchange text) t (known.interchange_new W H text t (known.new_note W text)) d)
-    → IsReply (entries_of held) (Interchange text) t (known.interchange_known W h k text t) d
-given_new W held o h k text t d p page recalled given reply =
-    subst (λ (x : Option (Bor PageFacts)). IsReply (entries_of x) (Interchange text) t (known.interchange_known W h k text t) d) (sym page)
-    (new_given W h k text t d p (subst (λ (x : Option (Bor PageFacts)). StandsFor (Interchange text) x h) page given.page) (subst (λ (x : Option Recalled). IsRecalled x k) recalled given.known) reply)
+    → ((H : History) (P : PageFacts) → HasNeeded (Interchange text) p.now P → IsPageOf P H → IsReply q p.now.entries (Interchange text) t (known.interchange_new q W H text t (known.new_note W text)) d)
+    → IsReply q (entries_of held) (Interchange text) t (known.interchange_known q W h k text t) d
+given_new q W held o h k text t d p page recalled given reply =
+    subst (λ (x : Option (Bor PageFacts)). IsReply q (entries_of x) (Interchange text) t (known.interchange_known q W h k text t) d) (sym page)
+    (new_given q W h k text t d p (subst (λ (x : Option (Bor PageFacts)). StandsFor (Interchange text) x h) page given.page) (subst (λ (x : Option Recalled). IsRecalled x k) recalled given.known) reply)
 
 -- the reply to a text that can be read
-pub readable_reply : (W : Who) (h : Option History) (k : Option known.Recalled) (text : List ℕ) (t : Moment) (n : ℕ) (d : Decision) → is_unreadable text ≡ false
-    → IsReply n (Interchange text) t (known.interchange_known W h k text t) d → IsReply n (Interchange text) t (known.interchange_by W h k text t) d
-readable_reply W h k text t n d readable reply =
-    subst (λ (b : Bool). IsReply n (Interchange text) t (cond b (Refused Unreadable []) (known.interchange_known W h k text t)) d) (sym readable) reply
+pub readable_reply : (q : Rules) (W : Who) (h : Option History) (k : Option known.Recalled) (text : List ℕ) (t : Moment) (n : ℕ) (d : Decision) → is_unreadable text ≡ false
+    → IsReply q n (Interchange text) t (known.interchange_known q W h k text t) d → IsReply q n (Interchange text) t (known.interchange_by q W h k text t) d
+readable_reply q W h k text t n d readable reply =
+    subst (λ (b : Bool). IsReply q n (Interchange text) t (cond b (Refused Unreadable []) (known.interchange_known q W h k text t)) d) (sym readable) reply

@@ -4,6 +4,7 @@ use Rattle.std.specs.Prelude.{find, flat_map, option_map, if◌then◌else◌, �
 use Rattle.std.specs.List.{list_all}
 use borrow.Author.Tests.{eqb-true}
 use Rattle.std.proofs.lemmas.Bool.{cases_lt, ne_eqb, eq-eqb, lt-ltb}
+use Rattle.profile.specs.declared.rules.Rules.{Rules}
 use Rattle.profile.specs.Moments.{Moment}
 use Rattle.profile.specs.Header.{Who}
 use Rattle.profile.specs.Events.{Event, pair_before}
@@ -55,14 +56,14 @@ sent_behind n k (e ∷ M) lt = by e.deed (sent_behind n (k + (if is_numbered e t
 
 sent_rises : (k : ℕ) (M : List Entry) → rises_by nat_lt (λ (d : SentOne). d.0) (sent_on k M) ≡ true
 sent_rises k [] = refl
-sent_rises k (e ∷ M) = by e.who e.moment e.deed (sent_rises (k + (if is_numbered e then 1 else 0)) M) refl
+sent_rises k (e ∷ M) = by e.who e.moment e.deed e.rules (sent_rises (k + (if is_numbered e then 1 else 0)) M) refl
   where
-    by : (w : Who) (t : Moment) (d : Deed) → rises_by nat_lt (λ (x : SentOne). x.0) (sent_on (k + (if is_numbered e then 1 else 0)) M) ≡ true
-        → is_numbered e ≡ is_numbered (record { who = w; moment = t; deed = d })
+    by : (w : Who) (t : Moment) (d : Deed) (q : Rules) → rises_by nat_lt (λ (x : SentOne). x.0) (sent_on (k + (if is_numbered e then 1 else 0)) M) ≡ true
+        → is_numbered e ≡ is_numbered (record { who = w; moment = t; deed = d; rules = q })
         → rises_by nat_lt (λ (x : SentOne). x.0) (sent_by k d ++ sent_on (k + (if is_numbered e then 1 else 0)) M) ≡ true
-    by w t Enrolled h same = h
-    by w t (Received text) h same = h
-    by w t (Performed ticket act) h same =
+    by w t Enrolled q h same = h
+    by w t (Received text) q h same = h
+    by w t (Performed ticket act) q h same =
         let lt : k < k + (if is_numbered e then 1 else 0) = omega (arith, ap (λ (b : Bool). cond {A = ℕ} b 1 0) same) in
         both (list_all (λ (x : SentOne). nat_lt k x.0) (sent_on (k + (if is_numbered e then 1 else 0)) M)) _ (sent_behind k (k + (if is_numbered e then 1 else 0)) M lt) h
 
@@ -87,15 +88,15 @@ abbrev function_sent : Option SentOne → Option (List ℕ)
 function_sent o = option_map (λ (d : SentOne). d.1) o
 
 -- one entry more in front
-entry_sent : (n k j : ℕ) (w : Who) (t : Moment) (d : Deed) (M : List Entry) (o : Option (List ℕ)) → k ≤ n → j ≡ k + (if is_numbered (record { who = w; moment = t; deed = d }) then 1 else 0)
-    → (j ≤ n → function_sent (find (is_sent n) (sent_on j M)) ≡ o) → (n ≡ k → is_numbered (record { who = w; moment = t; deed = d }) ≡ true → o ≡ sent_of d)
+entry_sent : (n k j : ℕ) (w : Who) (t : Moment) (d : Deed) (q : Rules) (M : List Entry) (o : Option (List ℕ)) → k ≤ n → j ≡ k + (if is_numbered (record { who = w; moment = t; deed = d; rules = q }) then 1 else 0)
+    → (j ≤ n → function_sent (find (is_sent n) (sent_on j M)) ≡ o) → (n ≡ k → is_numbered (record { who = w; moment = t; deed = d; rules = q }) ≡ true → o ≡ sent_of d)
     → function_sent (find (is_sent n) (sent_by k d ++ sent_on j M)) ≡ o
-entry_sent n k j w t Enrolled M o le is later here = later (omega (arith, is, le))
-entry_sent n k j w t (Received text) M o le is later here = elim (cases_lt k n) [
+entry_sent n k j w t Enrolled q M o le is later here = later (omega (arith, is, le))
+entry_sent n k j w t (Received text) q M o le is later here = elim (cases_lt k n) [
   | inl lt ↦ later (omega (arith, is, lt))
   | inr ge ↦ ap function_sent (none_sent n j M (omega (arith, is, ge, le))) ∙ sym (here (omega (arith, ge, le)) refl)
 ]
-entry_sent n k j w t (Performed ticket act) M o le is later here = elim (cases_lt k n) [
+entry_sent n k j w t (Performed ticket act) q M o le is later here = elim (cases_lt k n) [
   | inl lt ↦
       ap (λ (b : Bool). function_sent (cond b (Some (k, act_function act)) (find (is_sent n) (sent_on j M)))) (ne_eqb k n (λ same. absurd (omega (arith, same, lt))))
       ∙ later (omega (arith, is, lt))
@@ -110,7 +111,7 @@ found_sent n before [] done le = sym (sent_above before n le) ∙ ap (λ (N : Li
 found_sent n before (e ∷ M) done le =
     let k = next_number before in
     let j = k + (if is_numbered e then 1 else 0) in
-    entry_sent n k j e.who e.moment e.deed M (sent_under n (events (before ++ e ∷ M))) le refl
+    entry_sent n k j e.who e.moment e.deed e.rules M (sent_under n (events (before ++ e ∷ M))) le refl
     (λ l. ap (λ (i : ℕ). function_sent (find (is_sent n) (sent_on i M))) (sym (next_snoc before e))
     ∙ found_sent n (before ++ e ∷ []) M done.1 (omega (arith, next_snoc before e, l))
     ∙ ap (λ (N : List Entry). sent_under n (events N)) (append_assoc before (e ∷ []) M))
@@ -148,14 +149,14 @@ documents_are p M sorted shows done =
     (λ n. shows.documents n ∙ ap (option_map (document_of (events M) n)) (sym (all_sent n M done)) ∙ sym (document_found (events M) n (sent_on 1 M)))
 
 -- a page in order, of own entries of a legal register
-pub page_is_defined : (W : Who) (L : List Entry) (w : Who) (p : PageFacts) → IsLegal W L → AreSorted p → IsPageOf p (history (own L w)) → IsDefined p (page_of (own L w))
-page_is_defined W L w p legal sorted of =
+pub page_is_defined : (r : Rules) (W : Who) (L : List Entry) (w : Who) (p : PageFacts) → IsLegal r W L → AreSorted p → IsPageOf p (history (own L w)) → IsDefined p (page_of (own L w))
+page_is_defined r W L w p legal sorted of =
     let M = own L w in
     record {
       rows = rows_in_order p (events M) sorted.rows of.shows;
       advices = advices_are_page p (events M) sorted of.shows (advices_once M);
       orders = orders_are_page p (events M) sorted of.shows (orders_once M);
-      documents = documents_are p M sorted of.shows (done_own W L w legal);
+      documents = documents_are p M sorted of.shows (done_own r W L w legal);
       entries = of.entries;
     }
 

@@ -4,6 +4,7 @@ use Rattle.std.specs.Prelude.{find, bytes_eq, option_to_list, ◌==◌, if◌the
 use Rattle.std.specs.List.{list_all}
 use borrow.Author.Tests.{eqb-true}
 use Rattle.std.proofs.lemmas.Slice.Eq.{bytes_eq-Decides}
+use Rattle.profile.specs.declared.rules.Rules.{Rules}
 use Rattle.profile.specs.Bytes.{comes_before}
 use Rattle.profile.specs.Lists.{placed, in_order, or_else}
 use Rattle.profile.specs.Moments.{Moment}
@@ -38,15 +39,15 @@ enrolled_in (e ∷ L) = with_enrolled e.who e.deed (enrolled_in L)
 abbrev who_before : Who → Who → Bool
 who_before a b = comes_before (who_text a) (who_text b)
 
-depositors_with : (w : Who) (t : Moment) (d : Deed) (L : List Entry) → depositors L ≡ in_order who_before (enrolled_in L)
-    → depositors (record { who = w; moment = t; deed = d } ∷ L) ≡ in_order who_before (with_enrolled w d (enrolled_in L))
-depositors_with w t Enrolled L h = ap (placed who_before w) h
-depositors_with w t (Received text) L h = h
-depositors_with w t (Performed ticket act) L h = h
+depositors_with : (w : Who) (t : Moment) (d : Deed) (q : Rules) (L : List Entry) → depositors L ≡ in_order who_before (enrolled_in L)
+    → depositors (record { who = w; moment = t; deed = d; rules = q } ∷ L) ≡ in_order who_before (with_enrolled w d (enrolled_in L))
+depositors_with w t Enrolled q L h = ap (placed who_before w) h
+depositors_with w t (Received text) q L h = h
+depositors_with w t (Performed ticket act) q L h = h
 
 depositors_are : (L : List Entry) → depositors L ≡ in_order who_before (enrolled_in L)
 depositors_are [] = refl
-depositors_are (e ∷ L) = depositors_with e.who e.moment e.deed L (depositors_are L)
+depositors_are (e ∷ L) = depositors_with e.who e.moment e.deed e.rules L (depositors_are L)
 
 enrolled_more : (L : List Entry) (e : Entry) → enrolled_in (L ++ e ∷ []) ≡ enrolled_in L ++ with_enrolled e.who e.deed []
 enrolled_more [] e = refl
@@ -121,20 +122,20 @@ pub depositors_rise : (L : List Entry) → rises_by comes_before who_text (depos
 depositors_rise L = ap (rises_by comes_before who_text) (depositors_are L) ∙ order_rises comes_before texts_strict who_text (enrolled_in L)
 
 -- one who enrolled is found
-found_enrolled : (W : Who) (L : List Entry) (w : Who) → IsLegal W L → is_partner w ≡ true → Has w (enrolled_in L) → find (is_called (who_text w)) (depositors L) ≡ Some w
-found_enrolled W L w legal partner has =
-    let good = enrolled_partners L (legal-entries W L legal) in
+found_enrolled : (r : Rules) (W : Who) (L : List Entry) (w : Who) → IsLegal r W L → is_partner w ≡ true → Has w (enrolled_in L) → find (is_called (who_text w)) (depositors L) ≡ Some w
+found_enrolled r W L w legal partner has =
+    let good = enrolled_partners L (legal-entries r W L legal) in
     let some = last_some (who_text w) w (enrolled_in L) refl has in
     let f = last_has (who_text w) (enrolled_in L) some.0 good some.1 in
     find_called L (who_text w) ∙ some.1 ∙ ap Some (same_partner some.0 w f.2 partner f.1)
 
-found_stranger : (W : Who) (L : List Entry) (w : Who) → IsLegal W L → is_partner w ≡ true → (Has w (enrolled_in L) → ⊥) → find (is_called (who_text w)) (depositors L) ≡ None
-found_stranger W L w legal partner lacks = find_called L (who_text w) ∙ by (last_found (called (who_text w)) (enrolled_in L)) refl
+found_stranger : (r : Rules) (W : Who) (L : List Entry) (w : Who) → IsLegal r W L → is_partner w ≡ true → (Has w (enrolled_in L) → ⊥) → find (is_called (who_text w)) (depositors L) ≡ None
+found_stranger r W L w legal partner lacks = find_called L (who_text w) ∙ by (last_found (called (who_text w)) (enrolled_in L)) refl
   where
     by : (o : Option Who) → last_found (called (who_text w)) (enrolled_in L) ≡ o → o ≡ None
     by None e = refl
     by (Some v) e =
-        let f = last_has (who_text w) (enrolled_in L) v (enrolled_partners L (legal-entries W L legal)) e in
+        let f = last_has (who_text w) (enrolled_in L) v (enrolled_partners L (legal-entries r W L legal)) e in
         absurd (lacks (subst (λ (u : Who). Has u (enrolled_in L)) (same_partner v w f.2 partner f.1) f.0))
 
 -- Who has entries enrolled, and who hasn't didn't.
@@ -169,26 +170,26 @@ has_entries (k ∷ L) w h is = by (who_eq k.who w) refl k.deed h is (λ a b. has
     by false e (Performed ticket act) h g later = later h g
 
 pub unnumbered : (e : Entry) → is_numbered e ≡ false → e.deed ≡ Enrolled
-unnumbered e h = by e.who e.moment e.deed h
+unnumbered e h = by e.who e.moment e.deed e.rules h
   where
-    by : (w : Who) (t : Moment) (d : Deed) → is_numbered (record { who = w; moment = t; deed = d }) ≡ false → d ≡ Enrolled
-    by w t Enrolled g = refl
-    by w t (Received text) g = absurd (cc (g))
-    by w t (Performed ticket act) g = absurd (cc (g))
+    by : (w : Who) (t : Moment) (d : Deed) (q : Rules) → is_numbered (record { who = w; moment = t; deed = d; rules = q }) ≡ false → d ≡ Enrolled
+    by w t Enrolled q g = refl
+    by w t (Received text) q g = absurd (cc (g))
+    by w t (Performed ticket act) q g = absurd (cc (g))
 
 numbered_deed : (e : Entry) → is_numbered e ≡ true → (ws : List Who) → with_enrolled e.who e.deed ws ≡ ws
-numbered_deed e h ws = by e.who e.moment e.deed h
+numbered_deed e h ws = by e.who e.moment e.deed e.rules h
   where
-    by : (w : Who) (t : Moment) (d : Deed) → is_numbered (record { who = w; moment = t; deed = d }) ≡ true → with_enrolled w d ws ≡ ws
-    by w t Enrolled g = absurd (cc (g))
-    by w t (Received text) g = refl
-    by w t (Performed ticket act) g = refl
+    by : (w : Who) (t : Moment) (d : Deed) (q : Rules) → is_numbered (record { who = w; moment = t; deed = d; rules = q }) ≡ true → with_enrolled w d ws ≡ ws
+    by w t Enrolled q g = absurd (cc (g))
+    by w t (Received text) q g = refl
+    by w t (Performed ticket act) q g = refl
 
 -- the first own entry of a legal register is the enrolment
-first_enrols : (W : Who) (L : List Entry) (w : Who) → IsLegal W L → (M : List Entry) → own L w ≡ M → (length M == 0) ≡ false → Has w (enrolled_in L)
-first_enrols W L w legal [] is h = absurd (cc (h))
-first_enrols W L w legal (e ∷ M) is h =
-    let follows : Along1 CanFollow [] (e ∷ M) = subst (Along1 CanFollow []) is (follows_own W L w legal) in
+first_enrols : (r : Rules) (W : Who) (L : List Entry) (w : Who) → IsLegal r W L → (M : List Entry) → own L w ≡ M → (length M == 0) ≡ false → Has w (enrolled_in L)
+first_enrols r W L w legal [] is h = absurd (cc (h))
+first_enrols r W L w legal (e ∷ M) is h =
+    let follows : Along1 CanFollow [] (e ∷ M) = subst (Along1 CanFollow []) is (follows_own r W L w legal) in
     enrols L w e M is (unnumbered e follows.0.numbered)
 
 -- One entry more.
@@ -236,8 +237,8 @@ pub record IsAmong (L : List Entry) (e : Entry) : Type 0 where
   pub below : list_all (λ (v : Who). comes_before (who_text v) (who_text e.who)) front ≡ true
   pub above : list_all (λ (v : Who). comes_before (who_text e.who) (who_text v)) behind ≡ true
 
-pub among : (W : Who) (L : List Entry) (e : Entry) → IsLegal W L → is_partner e.who ≡ true → is_numbered e ≡ not (length (own L e.who) == 0) → IsAmong L e
-among W L e legal partner follows = by (is_numbered e) refl
+pub among : (r : Rules) (W : Who) (L : List Entry) (e : Entry) → IsLegal r W L → is_partner e.who ≡ true → is_numbered e ≡ not (length (own L e.who) == 0) → IsAmong L e
+among r W L e legal partner follows = by (is_numbered e) refl
   where
     s : IsSplit comes_before who_text (is_called (who_text e.who)) e.who (depositors L)
     s = split comes_before texts_strict who_text (is_called (who_text e.who)) e.who (called_test (who_text e.who)) (depositors L) (depositors_rise L)
@@ -245,7 +246,7 @@ among W L e legal partner follows = by (is_numbered e) refl
     by : (b : Bool) → is_numbered e ≡ b → IsAmong L e
     by true h =
         let some : (length (own L e.who) == 0) ≡ false = not_true (length (own L e.who) == 0) (sym follows ∙ h) in
-        let found = found_enrolled W L e.who legal partner (first_enrols W L e.who legal (own L e.who) refl some) in
+        let found = found_enrolled r W L e.who legal partner (first_enrols r W L e.who legal (own L e.who) refl some) in
         let full : s.old ≡ e.who ∷ [] = sym s.found ∙ ap option_to_list found in
         record {
           front = s.front;
@@ -263,7 +264,7 @@ among W L e legal partner follows = by (is_numbered e) refl
         not_true false g = refl
     by false h =
         let none : (length (own L e.who) == 0) ≡ true = not_false (length (own L e.who) == 0) (sym follows ∙ h) in
-        let lost = found_stranger W L e.who legal partner (λ has. has_entries L e.who has (empty (own L e.who) none)) in
+        let lost = found_stranger r W L e.who legal partner (λ has. has_entries L e.who has (empty (own L e.who) none)) in
         let gone : s.old ≡ [] = sym s.found ∙ ap option_to_list lost in
         record {
           front = s.front;

@@ -1,9 +1,9 @@
 -- Each entry of a legal register can be replayed after those before it.
 use Rattle.std.proofs.Common.{◌≡◌, ℕ, ◌+◌, ◌≤◌, Bool, true, false, not, List, [], ◌∷◌, ◌++◌, length, Option, Some, None, refl, sym, ap, ◌∙◌, subst, arith, append_assoc, append-nil}
 use Rattle.std.specs.Prelude.{◌&&◌, ◌==◌, nat_lt, is_none, bytes_eq, option_map, Result, Ok, Err, if◌then◌else◌}
-use Rattle.std.specs.List.{list_all}
 use Rattle.std.specs.Cmp.Derive.{both_true}
 use borrow.Author.Tests.{ltb-false, eqb-true}
+use Rattle.profile.specs.declared.rules.Rules.{Rules}
 use Rattle.profile.specs.Limits.{most_entries}
 use Rattle.profile.specs.Moments.{Moment, is_moment}
 use Rattle.profile.specs.Header.{Who, is_partner, sender, isa, is_unreadable}
@@ -17,10 +17,11 @@ use Rattle.profile.specs.History.{History, history}
 use Rattle.profile.specs.Reply.{reply, interchange_entry, clerk_entry, refusal_answer, Reply, Stored, Refused, stored}
 use Rattle.profile.specs.Decision as known
 use Rattle.profile.specs.Decision.{standing, recalled, reply_by}
-use Rattle.profile.specs.Accepted.{depositor_of, own_of, reply_to, is_accepted, entry_of, after, accepted_on, is_command, IsLegal}
+use Rattle.profile.specs.Accepted.{depositor_of, own_of, reply_to, is_accepted, entry_of, after, is_command, IsLegal, Ruled, left_by, each_given}
 use Rattle.profile.proofs.TextLaws.{both_parts, same_text}
 use Rattle.profile.proofs.DecisionLaws.{reply-by}
 use Rattle.profile.proofs.RegisterLaws.{accepted_entry, accepted_sender}
+use Rattle.profile.proofs.RisingLaws.{legal-ruled}
 use Rattle.envelope.specs.Conditions.{first_note}
 use Rattle.envelope.specs.Halting.{first_appended}
 use Rattle.rules.specs.Played.{CanFollow}
@@ -51,40 +52,40 @@ no_note W text none = by_header (first_note (header_notes W text)) (sym (first_a
     by_header None e = e
     by_header (Some n) e = absurd (cc)
 
-new_open : (W : Who) (h : History) (text : List ℕ) (t : Moment) (o : Option ℕ) → is_accepted (known.interchange_new W h text t o) ≡ true
+new_open : (r : Rules) (W : Who) (h : History) (text : List ℕ) (t : Moment) (o : Option ℕ) → is_accepted (known.interchange_new r W h text t o) ≡ true
     → (o ≡ None) × (h.numbered + 1 ≤ most_entries)
-new_open W h text t (Some n) a = absurd (cc (a))
-new_open W h text t None a = (refl, accepted_few W h (interchange_entry text t) a)
+new_open r W h text t (Some n) a = absurd (cc (a))
+new_open r W h text t None a = (refl, accepted_few W h (interchange_entry r text t) a)
 
-again_refused : (W : Who) (text : List ℕ) (t : Moment) (w : Who) (s : Moment) (d : Deed) (out : List ℕ)
-    → is_accepted (known.interchange_again W text t (record { entry = record { who = w; moment = s; deed = d }; outgoing = out })) ≡ false
-again_refused W text t w s Enrolled out = refl
-again_refused W text t w s (Performed ticket act) out = refl
-again_refused W text t w s (Received bytes) out = by_test (bytes_eq bytes text)
+again_refused : (W : Who) (text : List ℕ) (t : Moment) (w : Who) (s : Moment) (d : Deed) (q : Rules) (out : List ℕ)
+    → is_accepted (known.interchange_again W text t (record { entry = record { who = w; moment = s; deed = d; rules = q }; outgoing = out })) ≡ false
+again_refused W text t w s Enrolled q out = refl
+again_refused W text t w s (Performed ticket act) q out = refl
+again_refused W text t w s (Received bytes) q out = by_test (bytes_eq bytes text)
   where
     by_test : (b : Bool) → is_accepted (if b then Stored out else Refused Duplicate (refusal_answer W text t Duplicate)) ≡ false
     by_test true = refl
     by_test false = refl
 
-known_open : (W : Who) (h : Option History) (k : Option known.Recalled) (text : List ℕ) (t : Moment) → is_accepted (known.interchange_known W h k text t) ≡ true
+known_open : (r : Rules) (W : Who) (h : Option History) (k : Option known.Recalled) (text : List ℕ) (t : Moment) → is_accepted (known.interchange_known r W h k text t) ≡ true
     → (structure_note text ≡ None) × IsOpen h
-known_open W None k text t a = absurd (cc (a))
-known_open W (Some h) (Some k) text t a = let no = again_refused W text t k.entry.who k.entry.moment k.entry.deed k.outgoing in absurd (cc (a, no))
-known_open W (Some h) None text t a = let o = new_open W h text t (known.new_note W text) a in (no_note W text o.0, record { history = h; is = refl; few = o.1 })
+known_open r W None k text t a = absurd (cc (a))
+known_open r W (Some h) (Some k) text t a = let no = again_refused W text t k.entry.who k.entry.moment k.entry.deed k.entry.rules k.outgoing in absurd (cc (a, no))
+known_open r W (Some h) None text t a = let o = new_open r W h text t (known.new_note W text) a in (no_note W text o.0, record { history = h; is = refl; few = o.1 })
 
-interchange_open : (W : Who) (h : Option History) (k : Option known.Recalled) (text : List ℕ) (t : Moment) → is_accepted (known.interchange_by W h k text t) ≡ true
+interchange_open : (r : Rules) (W : Who) (h : Option History) (k : Option known.Recalled) (text : List ℕ) (t : Moment) → is_accepted (known.interchange_by r W h k text t) ≡ true
     → (is_unreadable text ≡ false) × (structure_note text ≡ None) × IsOpen h
-interchange_open W h k text t a = by_test (is_unreadable text) refl a
+interchange_open r W h k text t a = by_test (is_unreadable text) refl a
   where
-    by_test : (b : Bool) → is_unreadable text ≡ b → is_accepted (if b then Refused Unreadable [] else known.interchange_known W h k text t) ≡ true
+    by_test : (b : Bool) → is_unreadable text ≡ b → is_accepted (if b then Refused Unreadable [] else known.interchange_known r W h k text t) ≡ true
         → (is_unreadable text ≡ false) × (structure_note text ≡ None) × IsOpen h
     by_test true e g = absurd (cc (g))
-    by_test false e g = let o = known_open W h k text t g in (e, o.0, o.1)
+    by_test false e g = let o = known_open r W h k text t g in (e, o.0, o.1)
 
-pub act_refused : (act : Act) (w : Who) (s : Moment) (d : Deed) (out : List ℕ) → is_accepted (known.act_again act (record { entry = record { who = w; moment = s; deed = d }; outgoing = out })) ≡ false
-act_refused act w s Enrolled out = refl
-act_refused act w s (Received bytes) out = refl
-act_refused act w s (Performed ticket done) out = by_test (bytes_eq (canonical done) (canonical act))
+pub act_refused : (act : Act) (w : Who) (s : Moment) (d : Deed) (q : Rules) (out : List ℕ) → is_accepted (known.act_again act (record { entry = record { who = w; moment = s; deed = d; rules = q }; outgoing = out })) ≡ false
+act_refused act w s Enrolled q out = refl
+act_refused act w s (Received bytes) q out = refl
+act_refused act w s (Performed ticket done) q out = by_test (bytes_eq (canonical done) (canonical act))
   where
     by_test : (b : Bool) → is_accepted (if b then Stored out else Refused TicketUsed []) ≡ false
     by_test true = refl
@@ -92,17 +93,17 @@ act_refused act w s (Performed ticket done) out = by_test (bytes_eq (canonical d
 
 told_open : (W : Who) (h : History) (e : Entry) (o : Result Event Refusal) → is_accepted (known.act_told W h e o) ≡ true → h.numbered + 1 ≤ most_entries
 told_open W h e (Ok event) a = accepted_few W h e a
-told_open W h e (Err r) a = absurd (cc (a))
+told_open W h e (Err refusal) a = absurd (cc (a))
 
-clerk_open : (W : Who) (h : Option History) (k : Option known.Recalled) (w : Who) (ticket : List ℕ) (act : Act) (t : Moment) → is_accepted (known.clerk_by W h k w ticket act t) ≡ true → IsOpen h
-clerk_open W None k w ticket act t a = absurd (cc (a))
-clerk_open W (Some h) (Some k) w ticket act t a = let no = act_refused act k.entry.who k.entry.moment k.entry.deed k.outgoing in absurd (cc (a, no))
-clerk_open W (Some h) None w ticket act t a =
-    record { history = h; is = refl; few = told_open W h (clerk_entry w ticket act t) (performed h.events (h.numbered + 1) act) a }
+clerk_open : (r : Rules) (W : Who) (h : Option History) (k : Option known.Recalled) (w : Who) (ticket : List ℕ) (act : Act) (t : Moment) → is_accepted (known.clerk_by r W h k w ticket act t) ≡ true → IsOpen h
+clerk_open r W None k w ticket act t a = absurd (cc (a))
+clerk_open r W (Some h) (Some k) w ticket act t a = let no = act_refused act k.entry.who k.entry.moment k.entry.deed k.entry.rules k.outgoing in absurd (cc (a, no))
+clerk_open r W (Some h) None w ticket act t a =
+    record { history = h; is = refl; few = told_open W h (clerk_entry r w ticket act t) (performed h.events (h.numbered + 1) act) a }
 
-enrol_new : (W : Who) (h : Option History) (k : Option known.Recalled) (w : Who) (t : Moment) → is_accepted (reply_by W h k (Enrol w) t) ≡ true → h ≡ None
-enrol_new W None k w t a = refl
-enrol_new W (Some h) k w t a = absurd (cc (a))
+enrol_new : (r : Rules) (W : Who) (h : Option History) (k : Option known.Recalled) (w : Who) (t : Moment) → is_accepted (reply_by r W h k (Enrol w) t) ≡ true → h ≡ None
+enrol_new r W None k w t a = refl
+enrol_new r W (Some h) k w t a = absurd (cc (a))
 
 -- what a depositor's entries come to, by whether there are some
 
@@ -122,29 +123,29 @@ standing_new M e = by_test (length M == 0) refl e
 
 -- Commands.
 
-by_little : (W : Who) (M : List Entry) (c : Command) (t : Moment) → is_accepted (reply W M c t) ≡ true → is_accepted (reply_by W (standing M) (recalled W (command_mark c) M) c t) ≡ true
-by_little W M c t a = ap is_accepted (sym (reply-by W M c t)) ∙ a
+by_little : (r : Rules) (W : Who) (M : List Entry) (c : Command) (t : Moment) → is_accepted (reply r W M c t) ≡ true → is_accepted (reply_by r W (standing M) (recalled W (command_mark c) M) c t) ≡ true
+by_little r W M c t a = ap is_accepted (sym (reply-by r W M c t)) ∙ a
 
 pub own_sender : (L : List Entry) (text : List ℕ) → is_unreadable text ≡ false → is_partner (sender text) ≡ true → own_of L (Interchange text) ≡ own L (sender text)
 own_sender L text readable partner = rw (readable, partner) refl
 
-pub can_follow : (W : Who) (L : List Entry) (c : Command) (t : Moment) → is_command c ≡ true → is_moment t ≡ true → is_accepted (reply_to W L c t) ≡ true
-    → CanFollow (own L (entry_of c t).who) (entry_of c t)
-can_follow W L (Interchange text) t given now a =
+pub can_follow : (r : Rules) (W : Who) (L : List Entry) (c : Command) (t : Moment) → is_command r c ≡ true → is_moment t ≡ true → is_accepted (reply_to r W L c t) ≡ true
+    → CanFollow (own L (entry_of r c t).who) (entry_of r c t)
+can_follow r W L (Interchange text) t given now a =
     let M = own_of L (Interchange text) in
-    let o = interchange_open W (standing M) (recalled W (interchange_mark (isa text 13)) M) text t (by_little W M (Interchange text) t a) in
+    let o = interchange_open r W (standing M) (recalled W (interchange_mark (isa text 13)) M) text t (by_little r W M (Interchange text) t a) in
     let s = standing_open M o.2 in
-    let same = own_sender L text o.0 (accepted_sender W L text t a) in
-    subst (λ (N : List Entry). CanFollow N (interchange_entry text t)) same
-    (record { numbered = ap not (sym s.0); few = s.1; good = accepted_entry W L (Interchange text) t given now a; clean = both_true (ap not o.0) (ap is_none o.1) })
-can_follow W L (Enrol w) t given now a =
+    let same = own_sender L text o.0 (accepted_sender r W L text t a) in
+    subst (λ (N : List Entry). CanFollow N (interchange_entry r text t)) same
+    (record { numbered = ap not (sym s.0); few = s.1; good = accepted_entry r W L (Interchange text) t given now a; clean = both_true (ap not o.0) (ap is_none o.1) })
+can_follow r W L (Enrol w) t given now a =
     let M = own L w in
-    let new = standing_new M (enrol_new W (standing M) (recalled W (command_mark (Enrol w)) M) w t (by_little W M (Enrol w) t a)) in
-    record { numbered = ap not (sym new); few = omega arith; good = accepted_entry W L (Enrol w) t given now a; clean = refl }
-can_follow W L (Clerk w ticket act) t given now a =
+    let new = standing_new M (enrol_new r W (standing M) (recalled W (command_mark (Enrol w)) M) w t (by_little r W M (Enrol w) t a)) in
+    record { numbered = ap not (sym new); few = omega arith; good = accepted_entry r W L (Enrol w) t given now a; clean = refl }
+can_follow r W L (Clerk w ticket act) t given now a =
     let M = own L w in
-    let s = standing_open M (clerk_open W (standing M) (recalled W (ticket_mark ticket) M) w ticket act t (by_little W M (Clerk w ticket act) t a)) in
-    record { numbered = ap not (sym s.0); few = s.1; good = accepted_entry W L (Clerk w ticket act) t given now a; clean = refl }
+    let s = standing_open M (clerk_open r W (standing M) (recalled W (ticket_mark ticket) M) w ticket act t (by_little r W M (Clerk w ticket act) t a)) in
+    record { numbered = ap not (sym s.0); few = s.1; good = accepted_entry r W L (Clerk w ticket act) t given now a; clean = refl }
 
 -- Registers: each entry can follow those before it.
 
@@ -157,26 +158,27 @@ follow_more before [] e f c = (subst (λ (B : List Entry). CanFollow (own B e.wh
 follow_more before (k ∷ L) e f c =
     (f.0, follow_more (before ++ k ∷ []) L e f.1 (subst (λ (B : List Entry). CanFollow (own B e.who) e) (sym (append_assoc before (k ∷ []) L)) c))
 
-follow_after : (W : Who) (L : List Entry) (c : Command × Moment) → (is_command c.0 && is_moment c.1) ≡ true → Follow [] L → Follow [] (after W L c)
-follow_after W L c given f = by_test (is_accepted (reply_to W L c.0 c.1)) refl
+follow_after : (r : Rules) (W : Who) (L : List Entry) (c : Command × Moment) → (is_command r c.0 && is_moment c.1) ≡ true → Follow [] L → Follow [] (after r W L c)
+follow_after r W L c given f = by_test (is_accepted (reply_to r W L c.0 c.1)) refl
   where
-    by_test : (b : Bool) → is_accepted (reply_to W L c.0 c.1) ≡ b → Follow [] (if b then L ++ entry_of c.0 c.1 ∷ [] else L)
-    by_test true e = let p = both_parts (is_command c.0) (is_moment c.1) given in follow_more [] L (entry_of c.0 c.1) f (can_follow W L c.0 c.1 p.0 p.1 e)
+    by_test : (b : Bool) → is_accepted (reply_to r W L c.0 c.1) ≡ b → Follow [] (if b then L ++ entry_of r c.0 c.1 ∷ [] else L)
+    by_test true e = let p = both_parts (is_command r c.0) (is_moment c.1) given in follow_more [] L (entry_of r c.0 c.1) f (can_follow r W L c.0 c.1 p.0 p.1 e)
     by_test false e = f
 
-follow_on : (W : Who) (L : List Entry) (cs : List (Command × Moment)) → list_all (λ (c : Command × Moment). is_command c.0 && is_moment c.1) cs ≡ true → Follow [] L → Follow [] (accepted_on W L cs)
+follow_on : (W : Who) (L : List Entry) (cs : List Ruled) → each_given cs ≡ true → Follow [] L → Follow [] (left_by W L cs)
 follow_on W L [] given f = f
 follow_on W L (c ∷ cs) given f =
-    let p = both_parts (is_command c.0 && is_moment c.1) (list_all (λ (d : Command × Moment). is_command d.0 && is_moment d.1) cs) given in
-    follow_on W (after W L c) cs p.1 (follow_after W L c p.0 f)
+    let p = both_parts (is_command c.0 c.1.0 && is_moment c.1.1) (each_given cs) given in
+    follow_on W (after c.0 W L c.1) cs p.1 (follow_after c.0 W L c.1 p.0 f)
 
 follow_at : (before front : List Entry) (e : Entry) (rest : List Entry) → Follow before (front ++ e ∷ rest) → CanFollow (own (before ++ front) e.who) e
 follow_at before [] e rest f = subst (λ (B : List Entry). CanFollow (own B e.who) e) (sym (append-nil before)) f.0
 follow_at before (k ∷ front) e rest f = subst (λ (B : List Entry). CanFollow (own B e.who) e) (append_assoc before (k ∷ []) front) (follow_at (before ++ k ∷ []) front e rest f.1)
 
-pub legal_follow : (W : Who) (L front : List Entry) (e : Entry) (rest : List Entry) → IsLegal W L → L ≡ front ++ e ∷ rest → CanFollow (own front e.who) e
-legal_follow W L front e rest legal is =
-    follow_at [] front e rest (subst (Follow []) (sym legal.left ∙ is) (follow_on W [] legal.commands legal.can_be_given tt))
+pub legal_follow : (r : Rules) (W : Who) (L front : List Entry) (e : Entry) (rest : List Entry) → IsLegal r W L → L ≡ front ++ e ∷ rest → CanFollow (own front e.who) e
+legal_follow r W L front e rest legal is =
+    let ruled = legal-ruled r W L legal in
+    follow_at [] front e rest (subst (Follow []) (sym ruled.left ∙ is) (follow_on W [] ruled.commands ruled.given tt))
 
 -- Own entries, and known commands.
 
@@ -199,25 +201,25 @@ stands key (e ∷ M) k found = (history (e ∷ M), ap (λ (b : Bool). if b then 
         by_test true same = absurd (omega (arith, eqb-true (length (e ∷ M)) 0 same))
         by_test false same = refl
 
-again_same : (W : Who) (text : List ℕ) (t : Moment) (w : Who) (s : Moment) (d : Deed) (out : List ℕ) → d ≡ Received text
-    → known.interchange_again W text t (record { entry = record { who = w; moment = s; deed = d }; outgoing = out }) ≡ Stored out
-again_same W text t w s d out e =
-    subst (λ (x : Deed). known.interchange_again W text t (record { entry = record { who = w; moment = s; deed = x }; outgoing = out }) ≡ Stored out) (sym e) (rw (same_text text) refl)
+again_same : (W : Who) (text : List ℕ) (t : Moment) (w : Who) (s : Moment) (d : Deed) (q : Rules) (out : List ℕ) → d ≡ Received text
+    → known.interchange_again W text t (record { entry = record { who = w; moment = s; deed = d; rules = q }; outgoing = out }) ≡ Stored out
+again_same W text t w s d q out e =
+    subst (λ (x : Deed). known.interchange_again W text t (record { entry = record { who = w; moment = s; deed = x; rules = q }; outgoing = out }) ≡ Stored out) (sym e) (rw (same_text text) refl)
 
-act_same : (act : Act) (ticket : List ℕ) (w : Who) (s : Moment) (d : Deed) (out : List ℕ) → d ≡ Performed ticket act
-    → known.act_again act (record { entry = record { who = w; moment = s; deed = d }; outgoing = out }) ≡ Stored out
-act_same act ticket w s d out e =
-    subst (λ (x : Deed). known.act_again act (record { entry = record { who = w; moment = s; deed = x }; outgoing = out }) ≡ Stored out) (sym e) (rw (same_text (canonical act)) refl)
+act_same : (act : Act) (ticket : List ℕ) (w : Who) (s : Moment) (d : Deed) (q : Rules) (out : List ℕ) → d ≡ Performed ticket act
+    → known.act_again act (record { entry = record { who = w; moment = s; deed = d; rules = q }; outgoing = out }) ≡ Stored out
+act_same act ticket w s d q out e =
+    subst (λ (x : Deed). known.act_again act (record { entry = record { who = w; moment = s; deed = x; rules = q }; outgoing = out }) ≡ Stored out) (sym e) (rw (same_text (canonical act)) refl)
 
 recalled_is : (W : Who) (key : List ℕ) (M : List Entry) (k : Known) → find_known key M ≡ Some k → recalled W key M ≡ Some (record { entry = k.entry; outgoing = stored W k })
 recalled_is W key M k found = ap (option_map (λ (x : Known). record { entry = x.entry; outgoing = stored W x })) found
 
 -- the same bytes under a known control number
-pub interchange_stored : (W : Who) (L : List Entry) (text : List ℕ) (t : Moment) (k : Known) → find_known (interchange_mark (isa text 13)) (own_of L (Interchange text)) ≡ Some k
-    → k.entry.deed ≡ Received text → reply_to W L (Interchange text) t ≡ Stored (stored W k)
-interchange_stored W L text t k found deed = by_test (is_unreadable text) refl
+pub interchange_stored : (r : Rules) (W : Who) (L : List Entry) (text : List ℕ) (t : Moment) (k : Known) → find_known (interchange_mark (isa text 13)) (own_of L (Interchange text)) ≡ Some k
+    → k.entry.deed ≡ Received text → reply_to r W L (Interchange text) t ≡ Stored (stored W k)
+interchange_stored r W L text t k found deed = by_test (is_unreadable text) refl
   where
-    by_test : (b : Bool) → is_unreadable text ≡ b → reply_to W L (Interchange text) t ≡ Stored (stored W k)
+    by_test : (b : Bool) → is_unreadable text ≡ b → reply_to r W L (Interchange text) t ≡ Stored (stored W k)
     by_test true e =
         let none : own_of L (Interchange text) ≡ [] = rw e refl in
         let lost : find_known (interchange_mark (isa text 13)) (own_of L (Interchange text)) ≡ None = ap (find_known (interchange_mark (isa text 13))) none in
@@ -226,22 +228,22 @@ interchange_stored W L text t k found deed = by_test (is_unreadable text) refl
         let key = interchange_mark (isa text 13) in
         let M = own_of L (Interchange text) in
         let h = stands key M k found in
-        let r = recalled_is W key M k found in
-        reply-by W M (Interchange text) t
-        ∙ (λ i. if e i then Refused Unreadable [] else known.interchange_known W (h.1 i) (r i) text t)
-        ∙ again_same W text t k.entry.who k.entry.moment k.entry.deed (stored W k) deed
+        let is = recalled_is W key M k found in
+        reply-by r W M (Interchange text) t
+        ∙ (λ i. if e i then Refused Unreadable [] else known.interchange_known r W (h.1 i) (is i) text t)
+        ∙ again_same W text t k.entry.who k.entry.moment k.entry.deed k.entry.rules (stored W k) deed
 
 -- the same act under a known ticket
-pub act_stored : (W : Who) (L : List Entry) (w : Who) (ticket : List ℕ) (act : Act) (t : Moment) (k : Known) → find_known (ticket_mark ticket) (own L w) ≡ Some k
-    → k.entry.deed ≡ Performed ticket act → reply_to W L (Clerk w ticket act) t ≡ Stored (stored W k)
-act_stored W L w ticket act t k found deed =
+pub act_stored : (r : Rules) (W : Who) (L : List Entry) (w : Who) (ticket : List ℕ) (act : Act) (t : Moment) (k : Known) → find_known (ticket_mark ticket) (own L w) ≡ Some k
+    → k.entry.deed ≡ Performed ticket act → reply_to r W L (Clerk w ticket act) t ≡ Stored (stored W k)
+act_stored r W L w ticket act t k found deed =
     let M = own L w in
     let h = stands (ticket_mark ticket) M k found in
-    let r = recalled_is W (ticket_mark ticket) M k found in
-    reply-by W M (Clerk w ticket act) t
-    ∙ (λ i. known.clerk_by W (h.1 i) (r i) w ticket act t)
-    ∙ act_same act ticket k.entry.who k.entry.moment k.entry.deed (stored W k) deed
+    let is = recalled_is W (ticket_mark ticket) M k found in
+    reply-by r W M (Clerk w ticket act) t
+    ∙ (λ i. known.clerk_by r W (h.1 i) (is i) w ticket act t)
+    ∙ act_same act ticket k.entry.who k.entry.moment k.entry.deed k.entry.rules (stored W k) deed
 
 -- and nothing comes of what is stored
-pub nothing_after : (W : Who) (L : List Entry) (c : Command) (t : Moment) (text : List ℕ) → reply_to W L c t ≡ Stored text → after W L (c, t) ≡ L
-nothing_after W L c t text e = ap (λ (r : Reply). if is_accepted r then L ++ entry_of c t ∷ [] else L) e
+pub nothing_after : (r : Rules) (W : Who) (L : List Entry) (c : Command) (t : Moment) (text : List ℕ) → reply_to r W L c t ≡ Stored text → after r W L (c, t) ≡ L
+nothing_after r W L c t text e = ap (λ (answer : Reply). if is_accepted answer then L ++ entry_of r c t ∷ [] else L) e

@@ -1,7 +1,7 @@
 -- Steps of sets, as the definitions judge them.
 use Rattle.std.proofs.Common.{◌≡◌, ℕ, List, Option, Some, None, Ok, Err, refl, sym, ap, ◌∙◌, subst}
 use Rattle.std.specs.Prelude.{Result}
-use Rattle.profile.specs.declared.rules.Rules.TheVariants.{One}
+use Rattle.profile.specs.declared.rules.Rules.{Rules}
 use Rattle.profile.specs.Bytes.{Delims}
 use Rattle.profile.specs.Cut.{Segment, Piece, AreOf, segments_of}
 use Rattle.profile.specs.Words.{SetKind, ShipmentAdvice, ShippingOrder, FunctionalAcknowledgment, kind_words}
@@ -23,33 +23,33 @@ stops e fault outcome (stopped.Set f) is h = is ∙ ap (λ (o : Option SetFault)
 stops e fault outcome (stopped.Refused n) is h = h
 stops e fault outcome stopped.OutOfMemory is h = tt
 
-advised_is : (es : List Event) (n : ℕ) (kind : SetKind) (ss : List Segment) (a : Advice) → kind ≡ ShipmentAdvice → a ≡ advice_of ss
-    → traded es n kind ss ≡ unless (advice_fault es a) (Advised a)
-advised_is es n kind ss a is same = ap (λ (k : SetKind). traded es n k ss) is ∙ ap (λ (x : Advice). unless (advice_fault es x) (Advised x)) (sym same)
+advised_is : (r : Rules) (es : List Event) (n : ℕ) (kind : SetKind) (ss : List Segment) (a : Advice) → kind ≡ ShipmentAdvice → a ≡ advice_of ss
+    → traded r es n kind ss ≡ unless (advice_fault es a) (Advised a)
+advised_is r es n kind ss a is same = ap (λ (k : SetKind). traded r es n k ss) is ∙ ap (λ (x : Advice). unless (advice_fault es x) (Advised x)) (sym same)
 
-pub advised_ok : (es : List Event) (n : ℕ) (kind : SetKind) (ss : List Segment) (a : Advice) → kind ≡ ShipmentAdvice → a ≡ advice_of ss
-    → advice_fault es a ≡ None → traded es n kind ss ≡ Ok (Advised a)
-advised_ok es n kind ss a is same none = advised_is es n kind ss a is same ∙ ap (λ (o : Option SetFault). unless o (Advised a)) none
+pub advised_ok : (r : Rules) (es : List Event) (n : ℕ) (kind : SetKind) (ss : List Segment) (a : Advice) → kind ≡ ShipmentAdvice → a ≡ advice_of ss
+    → advice_fault es a ≡ None → traded r es n kind ss ≡ Ok (Advised a)
+advised_ok r es n kind ss a is same none = advised_is r es n kind ss a is same ∙ ap (λ (o : Option SetFault). unless o (Advised a)) none
 
-pub advised_stops : (es : List Event) (n : ℕ) (kind : SetKind) (ss : List Segment) (a : Advice) (stop : Stop) → kind ≡ ShipmentAdvice → a ≡ advice_of ss
-    → StopsFor (advice_fault es a) stop → IsStop (traded es n kind ss) stop
-advised_stops es n kind ss a stop is same h = stops (Advised a) (advice_fault es a) (traded es n kind ss) stop (advised_is es n kind ss a is same) h
+pub advised_stops : (r : Rules) (es : List Event) (n : ℕ) (kind : SetKind) (ss : List Segment) (a : Advice) (stop : Stop) → kind ≡ ShipmentAdvice → a ≡ advice_of ss
+    → StopsFor (advice_fault es a) stop → IsStop (traded r es n kind ss) stop
+advised_stops r es n kind ss a stop is same h = stops (Advised a) (advice_fault es a) (traded r es n kind ss) stop (advised_is r es n kind ss a is same) h
 
-ordered_is : (es : List Event) (n : ℕ) (kind : SetKind) (ss : List Segment) (o : Order) → kind ≡ ShippingOrder → o ≡ order_of ss
-    → traded es n kind ss ≡ unless (order_fault es o) (Ordered o (order_shares es o))
-ordered_is es n kind ss o is same = ap (λ (k : SetKind). traded es n k ss) is ∙ ap (λ (x : Order). unless (order_fault es x) (Ordered x (order_shares es x))) (sym same)
+ordered_is : (r : Rules) (es : List Event) (n : ℕ) (kind : SetKind) (ss : List Segment) (o : Order) → kind ≡ ShippingOrder → o ≡ order_of ss
+    → traded r es n kind ss ≡ unless (order_fault es o) (Ordered o (order_shares r es o))
+ordered_is r es n kind ss o is same = ap (λ (k : SetKind). traded r es n k ss) is ∙ ap (λ (x : Order). unless (order_fault es x) (Ordered x (order_shares r es x))) (sym same)
 
-pub ordered_ok : (es : List Event) (n : ℕ) (kind : SetKind) (ss : List Segment) (o : Order) → kind ≡ ShippingOrder → o ≡ order_of ss
-    → order_fault es o ≡ None → traded es n kind ss ≡ Ok (Ordered o (order_shares es o))
-ordered_ok es n kind ss o is same none = ordered_is es n kind ss o is same ∙ ap (λ (x : Option SetFault). unless x (Ordered o (order_shares es o))) none
+pub ordered_ok : (r : Rules) (es : List Event) (n : ℕ) (kind : SetKind) (ss : List Segment) (o : Order) → kind ≡ ShippingOrder → o ≡ order_of ss
+    → order_fault es o ≡ None → traded r es n kind ss ≡ Ok (Ordered o (order_shares r es o))
+ordered_ok r es n kind ss o is same none = ordered_is r es n kind ss o is same ∙ ap (λ (x : Option SetFault). unless x (Ordered o (order_shares r es o))) none
 
-pub ordered_stops : (es : List Event) (n : ℕ) (kind : SetKind) (ss : List Segment) (o : Order) (stop : Stop) → kind ≡ ShippingOrder → o ≡ order_of ss
-    → StopsFor (order_fault es o) stop → IsStop (traded es n kind ss) stop
-ordered_stops es n kind ss o stop is same h = stops (Ordered o (order_shares es o)) (order_fault es o) (traded es n kind ss) stop (ordered_is es n kind ss o is same) h
+pub ordered_stops : (r : Rules) (es : List Event) (n : ℕ) (kind : SetKind) (ss : List Segment) (o : Order) (stop : Stop) → kind ≡ ShippingOrder → o ≡ order_of ss
+    → StopsFor (order_fault es o) stop → IsStop (traded r es n kind ss) stop
+ordered_stops r es n kind ss o stop is same h = stops (Ordered o (order_shares r es o)) (order_fault es o) (traded r es n kind ss) stop (ordered_is r es n kind ss o is same) h
 
-pub acknowledged_ok : (es : List Event) (n : ℕ) (kind : SetKind) (ss : List Segment) (a : Acknowledgment) → kind ≡ FunctionalAcknowledgment → a ≡ acknowledgment_of ss
-    → traded es n kind ss ≡ Ok (Acknowledged n a)
-acknowledged_ok es n kind ss a is same = ap (λ (k : SetKind). traded es n k ss) is ∙ ap (λ (x : Acknowledgment). Ok (Acknowledged n x)) (sym same)
+pub acknowledged_ok : (r : Rules) (es : List Event) (n : ℕ) (kind : SetKind) (ss : List Segment) (a : Acknowledgment) → kind ≡ FunctionalAcknowledgment → a ≡ acknowledgment_of ss
+    → traded r es n kind ss ≡ Ok (Acknowledged n a)
+acknowledged_ok r es n kind ss a is same = ap (λ (k : SetKind). traded r es n k ss) is ∙ ap (λ (x : Acknowledgment). Ok (Acknowledged n x)) (sym same)
 
 -- an outcome by segment
 pub by_segment_ok : (outcome : Result Event SetFault) (e : Event) → outcome ≡ Ok e → by_segment outcome ≡ Ok e
@@ -59,20 +59,21 @@ pub by_segment_err : (outcome : Result Event SetFault) (f : SetFault) (r : Rejec
 by_segment_err outcome f r is same = ap by_segment is ∙ ap Err (sym same)
 
 -- a set without a fault of its own is judged by trade alone, and another by its fault
-pub judged_sound : (d : Delims) (es : List Event) (n : ℕ) (kind : SetKind) (ss : List Segment) → set_fault One d (kind_words One kind) ss ≡ None
-    → judged d es n kind ss ≡ traded es n kind ss
-judged_sound d es n kind ss none = rw none refl
+pub judged_sound : (r : Rules) (d : Delims) (es : List Event) (n : ℕ) (kind : SetKind) (ss : List Segment) → set_fault r d (kind_words r kind) ss ≡ None
+    → judged r d es n kind ss ≡ traded r es n kind ss
+judged_sound r d es n kind ss none = rw none refl
 
-pub judged_faulty : (d : Delims) (es : List Event) (n : ℕ) (kind : SetKind) (ss : List Segment) (f : SetFault) → set_fault One d (kind_words One kind) ss ≡ Some f
-    → judged d es n kind ss ≡ Err f
-judged_faulty d es n kind ss f some = rw some refl
+pub judged_faulty : (r : Rules) (d : Delims) (es : List Event) (n : ℕ) (kind : SetKind) (ss : List Segment) (f : SetFault) → set_fault r d (kind_words r kind) ss ≡ Some f
+    → judged r d es n kind ss ≡ Err f
+judged_faulty r d es n kind ss f some = rw some refl
 
 -- a set that is judged by trade alone
-pub judged_traded : (d : Delims) (es : List Event) (n : ℕ) (kind k : SetKind) (ps qs : List Piece) → k ≡ kind → qs ≡ ps → IsFaultOf One kind ps None → AreOf d ps
-    → by_segment (traded es n k (segments_of qs)) ≡ by_segment (judged d es n kind (segments_of ps))
-judged_traded d es n kind k ps qs is same none of =
-    ap by_segment (ap (λ (x : SetKind). traded es n x (segments_of qs)) is ∙ ap (λ (xs : List Piece). traded es n kind (segments_of xs)) same
-    ∙ sym (judged_sound d es n kind (segments_of ps) (none d of)))
+pub judged_traded : (r : Rules) (d : Delims) (es : List Event) (n : ℕ) (kind k : SetKind) (q : Rules) (ps qs : List Piece) → k ≡ kind → qs ≡ ps → q ≡ r → IsFaultOf r kind ps None → AreOf d ps
+    → by_segment (traded q es n k (segments_of qs)) ≡ by_segment (judged r d es n kind (segments_of ps))
+judged_traded r d es n kind k q ps qs is same ruled none of =
+    ap by_segment (ap (λ (x : Rules). traded x es n k (segments_of qs)) ruled ∙ ap (λ (x : SetKind). traded r es n x (segments_of qs)) is
+    ∙ ap (λ (xs : List Piece). traded r es n kind (segments_of xs)) same
+    ∙ sym (judged_sound r d es n kind (segments_of ps) (none d of)))
 
 -- a trade fault that stopped it
 pub stopped_by : (outcome : Result Event SetFault) (stop : Stop) (f : Fault) (r : Rejection) → stop ≡ stopped.Set f → IsStop outcome stop

@@ -2,6 +2,7 @@
 use Rattle.std.proofs.Common.{◌≡◌, ℕ, ◌+◌, ◌≤◌, Bool, true, false, not, List, [], ◌∷◌, ◌++◌, length, Some, None, refl, sym, ap, ◌∙◌, subst, arith, append_assoc, append-nil}
 use Rattle.std.specs.Prelude.{◌==◌, if◌then◌else◌, sum_by}
 use borrow.Author.Tests.{eqb-true}
+use Rattle.profile.specs.declared.rules.Rules.{Rules}
 use Rattle.profile.specs.Limits.{most_entries}
 use Rattle.profile.specs.Moments.{Moment}
 use Rattle.profile.specs.Header.{Who, delims_of}
@@ -29,55 +30,55 @@ use Rattle.rules.proofs.Registers.{Along1, follows_own}
 abbrev Page : History → Type 0
 Page h = (p : PageFacts) × IsLegalPage p h
 
-abbrev entry_with : Who → Moment → Deed → Entry
-entry_with w t d = record { who = w; moment = t; deed = d }
+abbrev entry_with : Who → Moment → Deed → Rules → Entry
+entry_with w t d z = record { who = w; moment = t; deed = d; rules = z }
 
 -- a depositor that enrols
-first : (w : Who) (t : Moment) (d : Deed) → is_numbered (entry_with w t d) ≡ false
-    → Page (after_entry no_history (entry_with w t d))
-first w t Enrolled numbered = (
+first : (w : Who) (t : Moment) (d : Deed) (z : Rules) → is_numbered (entry_with w t d z) ≡ false
+    → Page (after_entry no_history (entry_with w t d z))
+first w t Enrolled z numbered = (
   record { rows = []; advices = []; orders = []; documents = []; entries = 0; recent = 0 },
   record { sound = blank_sound; page = record { shows = blank_shows; entries = refl }; rest = refl },
 )
-first w t (Received text) numbered = absurd (cc (numbered))
-first w t (Performed ticket act) numbered = absurd (cc (numbered))
+first w t (Received text) z numbered = absurd (cc (numbered))
+first w t (Performed ticket act) z numbered = absurd (cc (numbered))
 
 -- a numbered entry ends
-ended : (h : History) (w : Who) (t : Moment) (d : Deed) (p q : PageFacts) (most : ℕ)
-    → is_numbered (entry_with w t d) ≡ true → h.numbered + 1 ≤ most_entries → IsLegalPage p h
-    → IsMore p h.events (events_added h.events (h.numbered + 1) d) most q → Page (after_entry h (entry_with w t d))
-ended h w t d p q most numbered few legal more =
+ended : (h : History) (w : Who) (t : Moment) (d : Deed) (z : Rules) (p q : PageFacts) (most : ℕ)
+    → is_numbered (entry_with w t d z) ≡ true → h.numbered + 1 ≤ most_entries → IsLegalPage p h
+    → IsMore p h.events (events_added z h.events (h.numbered + 1) d) most q → Page (after_entry h (entry_with w t d z))
+ended h w t d z p q most numbered few legal more =
     let same : q.entries ≡ h.numbered = more.entries ∙ legal.page.entries in (
       next_entry q,
       record {
         sound = next_sound q (omega (arith, same, few)) more.sound;
         page = record {
-          shows = next_shows q (h.events ++ events_added h.events (h.numbered + 1) d) more.shows;
+          shows = next_shows q (h.events ++ events_added z h.events (h.numbered + 1) d) more.shows;
           entries = ap (λ (n : ℕ). n + 1) same ∙ ap (λ (b : Bool). h.numbered + (if b then 1 else 0)) (sym numbered);
         };
         rest = refl;
       },
     )
 
-later : (h : History) (w : Who) (t : Moment) (d : Deed) → is_numbered (entry_with w t d) ≡ true
-    → number_after h (entry_with w t d) ≤ most_entries
-    → is_entry (entry_with w t d) ≡ true → is_clean d ≡ true → Page h → Page (after_entry h (entry_with w t d))
-later h w t Enrolled numbered few good clean page = absurd (cc (numbered))
-later h w t (Received text) numbered few good clean page =
+later : (h : History) (w : Who) (t : Moment) (d : Deed) (z : Rules) → is_numbered (entry_with w t d z) ≡ true
+    → number_after h (entry_with w t d z) ≤ most_entries
+    → is_entry (entry_with w t d z) ≡ true → is_clean d ≡ true → Page h → Page (after_entry h (entry_with w t d z))
+later h w t Enrolled z numbered few good clean page = absurd (cc (numbered))
+later h w t (Received text) z numbered few good clean page =
     let p = page.0 in
     let sets : ℕ = sum_by (λ (g : Group). length g.sets) (groups_of ((cut (delims_of text) text).segments)) in
     let room = (content text (clean_note text clean)).1 in
     let follows : h.numbered + 1 ≡ p.entries + 1 = omega (arith, page.1.page.entries) in
-    let more = received_more p h.events (h.numbered + 1) text page.1.sound page.1.page.shows
+    let more = received_more z p h.events (h.numbered + 1) text page.1.sound page.1.page.shows
     (omega (arith, page.1.rest, room)) follows in
-    ended h w t (Received text) p more.0 sets refl few page.1 more.1
-later h w t (Performed ticket act) numbered few good clean page =
+    ended h w t (Received text) z p more.0 sets refl few page.1 more.1
+later h w t (Performed ticket act) z numbered few good clean page =
     let p = page.0 in
-    let act_good = (both_parts _ (is_act act) ((both_parts _ (is_deed (Performed ticket act)) good).1)).1 in
+    let act_good = (both_parts _ (is_act z act) ((both_parts _ (is_deed z (Performed ticket act)) good).1)).1 in
     let follows : h.numbered + 1 ≡ p.entries + 1 = omega (arith, page.1.page.entries) in
-    let more = performed_more p h.events (h.numbered + 1) ticket act page.1.sound page.1.page.shows
+    let more = performed_more z p h.events (h.numbered + 1) ticket act page.1.sound page.1.page.shows
     (omega (arith, page.1.rest)) follows act_good in
-    ended h w t (Performed ticket act) p more.0 1 refl few page.1 more.1
+    ended h w t (Performed ticket act) z p more.0 1 refl few page.1 more.1
 
 -- Entries in turn.
 
@@ -101,11 +102,11 @@ some_standing k M = by_test (length (k ∷ M) == 0) refl
 
 -- the page after one entry more
 page_after : (M : List Entry) (e : Entry) → CanFollow M e → HasPage M → Page (after_entry (history M) e)
-page_after [] e f held = first e.who e.moment e.deed f.numbered
+page_after [] e f held = first e.who e.moment e.deed e.rules f.numbered
 page_after (k ∷ M) e f held =
     let some = some_standing k M in
     let page = held (history (k ∷ M)) (ap (λ (b : Bool). if b then None else Some (history (k ∷ M))) some) in
-    later (history (k ∷ M)) e.who e.moment e.deed (f.numbered ∙ ap not some) f.few f.good f.clean page
+    later (history (k ∷ M)) e.who e.moment e.deed e.rules (f.numbered ∙ ap not some) f.few f.good f.clean page
 
 one_more : (M : List Entry) (e : Entry) → CanFollow M e → HasPage M → HasPage (M ++ e ∷ [])
 one_more M e f held =
@@ -116,6 +117,6 @@ along_pages before [] f held = subst HasPage (sym (append-nil before)) held
 along_pages before (e ∷ M) f held = subst HasPage (append_assoc before (e ∷ []) M)
     (along_pages (before ++ e ∷ []) M f.1 (one_more before e f.0 held))
 
-pub legal_page : (W : Who) (L : List Entry) (w : Who) (h : History) → IsLegal W L → standing (own L w) ≡ Some h
+pub legal_page : (r : Rules) (W : Who) (L : List Entry) (w : Who) (h : History) → IsLegal r W L → standing (own L w) ≡ Some h
     → (P : PageFacts) × IsLegalPage P h
-legal_page W L w h legal is = along_pages [] (own L w) (follows_own W L w legal) (λ g none. absurd (cc (none))) h is
+legal_page r W L w h legal is = along_pages [] (own L w) (follows_own r W L w legal) (λ g none. absurd (cc (none))) h is

@@ -20,8 +20,9 @@ pub mod SentUnder
 pub mod KeyedLists
 pub mod Once
 pub mod Paged
-pub mod Propers
 pub mod Blocks
+pub mod Dates
+pub mod Propers
 pub mod Portions
 pub mod TableSteps
 pub mod TableChanges
@@ -40,5 +41,8 @@ pub mod LegalPages
 pub mod Small
 pub mod SmallEvents
 pub mod Fits
+pub mod OnePair
+pub mod Expected
+pub mod Columns
 pub mod GivenAgain
 pub mod GivenRead

@@ -2,7 +2,7 @@
 use Rattle.std.proofs.Common.{◌≡◌, ℕ, true, List, [], ◌∷◌, ◌++◌, map, refl, sym, ap, ◌∙◌, Option, Some, None}
 use Rattle.std.specs.Prelude.{flat_map}
 use Rattle.std.specs.List.{list_all}
-use Rattle.profile.specs.declared.rules.Rules.TheVariants.{One}
+use Rattle.profile.specs.declared.rules.Rules.{Rules}
 use Rattle.profile.specs.Bytes.{Delims, is_one_of}
 use Rattle.profile.specs.Cut.{cut}
 use Rattle.profile.specs.Header.{delims_of}
@@ -38,21 +38,21 @@ module _ (need : Need) (P : PageFacts) where
   -- ---- sets
 
   module _ (d : Delims) where
-    names_set : (kind : SetKind) (s : Set) → Within (need_of_set s) need → TwoAtLeast s.segments → set_fault One d (kind_words One kind) s.segments ≡ None → NamesSet n kind s.segments
-    names_set ShipmentAdvice s w two h = record {
-      shipment = w.shipments ((advice_of s.segments).shipment) (shipment_named One d s.segments two h);
+    names_set : (r : Rules) (kind : SetKind) (s : Set) → Within (need_of_set s) need → TwoAtLeast s.segments → set_fault r d (kind_words r kind) s.segments ≡ None → NamesSet n kind s.segments
+    names_set r ShipmentAdvice s w two h = record {
+      shipment = w.shipments ((advice_of s.segments).shipment) (shipment_named r d s.segments two h);
       items = all_among (λ (l : Line). l.item) (items_in need (as_page P)) (advised (advice_of s.segments))
           (λ t k. item_named t (w.items t (advice_items s.segments t (ap (λ xs. is_one_of xs t) (sym (mapped (λ (l : Line). l.item) (λ l. l.line) ((advice_of s.segments).lines))) ∙ k))));
     }
-    names_set ShippingOrder s w two h = record {
-      number = w.orders ((order_of s.segments).number) (order_named One d s.segments two h);
+    names_set r ShippingOrder s w two h = record {
+      number = w.orders ((order_of s.segments).number) (order_named r d s.segments two h);
       items = all_among (λ l. l.item) (items_in need (as_page P)) ((order_of s.segments).lines) (λ t k. item_named t (w.items t (order_items s.segments t k)));
     }
-    names_set FunctionalAcknowledgment s w two h = w.documents _ (document_named One d s.segments two h)
+    names_set r FunctionalAcknowledgment s w two h = w.documents _ (document_named r d s.segments two h)
 
     names_judged : (kind : SetKind) (earlier : List (List ℕ)) (s : Set) → Within (need_of_set s) need → (o : Option ℕ) → envelope_fault (Some kind) earlier s ≡ o → NamesJudged d n kind s o
     names_judged kind earlier s w (Some code) e = tt
-    names_judged kind earlier s w None e = λ h. names_set kind s w (two_segments kind earlier s e) h
+    names_judged kind earlier s w None e = λ r h. names_set r kind s w (two_segments kind earlier s e) h
 
     names_under : (kind : Option SetKind) (earlier : List (List ℕ)) (s : Set) → Within (need_of_set s) need → NamesUnder d n kind (s, envelope_fault kind earlier s)
     names_under None earlier s w = tt

@@ -1,6 +1,7 @@
 -- No shipment number is announced twice and no order number ordered twice: an advice or an order is only added where no earlier one has its number.
 use Rattle.std.proofs.Common.{◌≡◌, ℕ, ◌+◌, Bool, true, false, List, [], ◌∷◌, ◌++◌, ◌⊎◌, Option, Some, None, Ok, Err, refl, sym, ap, ◌∙◌, subst, inl, inr, append_assoc, append-nil}
 use Rattle.std.specs.Prelude.{Result, bytes_eq, fold, if◌then◌else◌}
+use Rattle.profile.specs.declared.rules.Rules.{Rules}
 use Rattle.profile.specs.Lists.{first_found}
 use Rattle.profile.specs.Means.{Advice}
 use Rattle.profile.specs.Events.{Event, Enrolment, Advised, Ordered, Acknowledged, Counted, Picked, Recounted, advice_if, advice_under, Reserved, order_if, order_under}
@@ -25,18 +26,18 @@ once_sets f new es n [] h o = subst (Once f) (sym (append-nil es)) o
 once_sets f new es n (e ∷ fs) h o =
     subst (Once f) (append_assoc es (e ∷ []) fs) (once_sets f new (es ++ e ∷ []) n fs h.1 (once_more f es e o (new.set es n e h.0)))
 
-once_added : {Y : Type 0} (f : Event → Option Y) → IsNew f → (es : List Event) (n : ℕ) (d : Deed) → Once f es → Once f (es ++ events_added es n d)
-once_added f new es n Enrolled o = once_more f es Enrolment o (inl new.enrolment)
-once_added f new es n (Received text) o = once_sets f new es n (events_added es n (Received text)) (of_received es n text) o
-once_added f new es n (Performed ticket act) o = by (performed es n act) refl
+once_added : {Y : Type 0} (f : Event → Option Y) → IsNew f → (r : Rules) (es : List Event) (n : ℕ) (d : Deed) → Once f es → Once f (es ++ events_added r es n d)
+once_added f new r es n Enrolled o = once_more f es Enrolment o (inl new.enrolment)
+once_added f new r es n (Received text) o = once_sets f new es n (events_added r es n (Received text)) (of_received r es n text) o
+once_added f new r es n (Performed ticket act) o = by (performed es n act) refl
   where
-    by : (r : Result Event Refusal) → performed es n act ≡ r → Once f (es ++ added_of r)
+    by : (done : Result Event Refusal) → performed es n act ≡ done → Once f (es ++ added_of done)
     by (Ok e) h = once_more f es e o (inl (new.act es n act e (of_performed es n act e h)))
-    by (Err r) h = subst (Once f) (sym (append-nil es)) o
+    by (Err refusal) h = subst (Once f) (sym (append-nil es)) o
 
 once_from : {Y : Type 0} (f : Event → Option Y) → IsNew f → (h : History) (M : List Entry) → Once f h.events → Once f (fold after_entry h M).events
 once_from f new h [] o = o
-once_from f new h (e ∷ M) o = once_from f new (after_entry h e) M (once_added f new h.events (h.numbered + 1) e.deed o)
+once_from f new h (e ∷ M) o = once_from f new (after_entry h e) M (once_added f new e.rules h.events (h.numbered + 1) e.deed o)
 
 -- Advices and orders.
 

@@ -3,6 +3,8 @@ use Rattle.std.proofs.Common.{◌≡◌, ℕ, ◌+◌, ◌*◌, ◌≤◌, ◌<�
 use Rattle.std.specs.Prelude.{Result, option_map, count_by, codes, nat_lt, if◌then◌else◌}
 use Rattle.std.specs.List.{AllByRecursion, list_any}
 use Rattle.std.proofs.lemmas.Bool.{cases_Bool, and_parts, le-ltb}
+use Rattle.profile.specs.declared.rules.Rules.{Rules}
+use Rattle.profile.specs.declared.rules.Rules.TheVariants.{Two}
 use Rattle.profile.specs.Moments.{Moment}
 use Rattle.profile.specs.Header.{Who}
 use Rattle.profile.specs.Means.{Line, Advice, OrderLine}
@@ -152,7 +154,7 @@ adjusted_lines es p whole (l ∷ ls) shows sheet all =
     ∙ ap (λ (x : List AdjustedLine). adjusted_for (on_hand_now es whole) l ∷ x) (adjusted_lines es p whole ls shows sheet all.1)
 
 pub adjustment_is : (w : Envelope) (p : PageFacts) (es : List Event) (n : ℕ) (sheet : List Line) (e : Event) (text : List ℕ)
-    → Shows p es → recounted es n sheet ≡ Ok e → is_sheet RecountSheet sheet ≡ true → text ≡ adjustment_text w p sheet
+    → Shows p es → recounted es n sheet ≡ Ok e → is_sheet Two RecountSheet sheet ≡ true → text ≡ adjustment_text w p sheet
     → text ≡ document_of w.warehouse w.depositor w.moment w.number e
 adjustment_is w p es n sheet e text shows is good made =
     made
@@ -175,22 +177,22 @@ adjustment_part w n p P sheet part all =
 
 -- Replies to new tickets.
 
-pub act_done : (W : Who) (m : ℕ) (h : History) (en : Entry) (act : Act) (e : Event) (n : ℕ) (c : Command) (t : Moment) (d : Decision) → m ≡ h.numbered → performed h.events (m + 1) act ≡ Ok e
-    → IsReply n c t (known.accepted_by W h en) d → IsReply n c t (known.act_new W h en act) d
-act_done W m h en act e n c t d same done reply =
+pub act_done : (q : Rules) (W : Who) (m : ℕ) (h : History) (en : Entry) (act : Act) (e : Event) (n : ℕ) (c : Command) (t : Moment) (d : Decision) → m ≡ h.numbered → performed h.events (m + 1) act ≡ Ok e
+    → IsReply q n c t (known.accepted_by W h en) d → IsReply q n c t (known.act_new W h en act) d
+act_done q W m h en act e n c t d same done reply =
     let there : performed h.events (h.numbered + 1) act ≡ Ok e = ap (λ k. performed h.events (k + 1) act) (sym same) ∙ done in
-    subst (λ (o : Result Event Refusal). IsReply n c t (known.act_told W h en o) d) (sym there) reply
+    subst (λ (o : Result Event Refusal). IsReply q n c t (known.act_told W h en o) d) (sym there) reply
 
-pub act_told_of : (W : Who) (m : ℕ) (h : History) (en : Entry) (act : Act) (n : ℕ) (c : Command) (t : Moment) (d : Decision) → m ≡ h.numbered
-    → IsReply n c t (known.act_told W h en (performed h.events (m + 1) act)) d → IsReply n c t (known.act_new W h en act) d
-act_told_of W m h en act n c t d same reply =
-    subst (λ (o : Result Event Refusal). IsReply n c t (known.act_told W h en o) d) (ap (λ k. performed h.events (k + 1) act) same) reply
+pub act_told_of : (q : Rules) (W : Who) (m : ℕ) (h : History) (en : Entry) (act : Act) (n : ℕ) (c : Command) (t : Moment) (d : Decision) → m ≡ h.numbered
+    → IsReply q n c t (known.act_told W h en (performed h.events (m + 1) act)) d → IsReply q n c t (known.act_new W h en act) d
+act_told_of q W m h en act n c t d same reply =
+    subst (λ (o : Result Event Refusal). IsReply q n c t (known.act_told W h en o) d) (ap (λ k. performed h.events (k + 1) act) same) reply
 
 -- an act that was performed is accepted under the next number
-pub act_accepted : (w : Envelope) (m : ℕ) (ticket : List ℕ) (act : Act) (h : History) (e : Event) (out : List ℕ) → m ≡ h.numbered → m < most_entries
+pub act_accepted : (q : Rules) (w : Envelope) (m : ℕ) (ticket : List ℕ) (act : Act) (h : History) (e : Event) (out : List ℕ) → m ≡ h.numbered → m < most_entries
     → performed h.events (m + 1) act ≡ Ok e → w.number ≡ m + 1 → out ≡ document_of w.warehouse w.depositor w.moment w.number e
-    → known.accepted_by w.warehouse h (clerk_entry w.depositor ticket act w.moment) ≡ Accepted out
-act_accepted w m ticket act h e out same few done number made =
+    → known.accepted_by w.warehouse h (clerk_entry q w.depositor ticket act w.moment) ≡ Accepted out
+act_accepted q w m ticket act h e out same few done number made =
     let room : nat_lt most_entries (h.numbered + 1) ≡ false = le-ltb most_entries (h.numbered + 1) (omega (arith, few, same)) in
     let there : performed h.events (h.numbered + 1) act ≡ Ok e = ap (λ k. performed h.events (k + 1) act) (sym same) ∙ done in
     let is : out ≡ document_of w.warehouse w.depositor w.moment (h.numbered + 1) e = made ∙ ap (λ k. document_of w.warehouse w.depositor w.moment k e) (number ∙ ap (λ k. k + 1) same) in
@@ -202,21 +204,21 @@ none_known None (Some k) is there = absurd there
 none_known (Some r) k is there = absurd (cc (is))
 
 -- the reply to an act of a depositor with a page
-clerk_stands : (W w : Who) (ticket : List ℕ) (act : Act) (t : Moment) (d : Decision) (p : Bor PageFacts) (o : Option Recalled) (h : Option History) (k : Option known.Recalled)
+clerk_stands : (q : Rules) (W w : Who) (ticket : List ℕ) (act : Act) (t : Moment) (d : Decision) (p : Bor PageFacts) (o : Option Recalled) (h : Option History) (k : Option known.Recalled)
     → StandsFor (Clerk w ticket act) (Some p) h → IsRecalled o k → IsUnder (ticket_mark ticket) k
     → ((H : History) (P : PageFacts) (K : Option known.Recalled) → HasNeeded (Clerk w ticket act) p.now P → IsPageOf P H → IsRecalled o K → IsUnder (ticket_mark ticket) K
-    → IsReply p.now.entries (Clerk w ticket act) t (known.clerk_by W (Some H) K w ticket act t) d)
-    → IsReply p.now.entries (Clerk w ticket act) t (known.clerk_by W h k w ticket act t) d
-clerk_stands W w ticket act t d p o None k held is under reply = absurd held
-clerk_stands W w ticket act t d p o (Some h) k held is under reply = reply h held.0 k held.1 held.2 is under
+    → IsReply q p.now.entries (Clerk w ticket act) t (known.clerk_by q W (Some H) K w ticket act t) d)
+    → IsReply q p.now.entries (Clerk w ticket act) t (known.clerk_by q W h k w ticket act t) d
+clerk_stands q W w ticket act t d p o None k held is under reply = absurd held
+clerk_stands q W w ticket act t d p o (Some h) k held is under reply = reply h held.0 k held.1 held.2 is under
 
-pub clerk_given : (V W w : Who) (ticket : List ℕ) (act : Act) (t : Moment) (d : Decision) (held : Option (Bor PageFacts)) (p : Bor PageFacts) (o : Option Recalled) (h : Option History) (k : Option known.Recalled)
+pub clerk_given : (q : Rules) (V W w : Who) (ticket : List ℕ) (act : Act) (t : Moment) (d : Decision) (held : Option (Bor PageFacts)) (p : Bor PageFacts) (o : Option Recalled) (h : Option History) (k : Option known.Recalled)
     → V ≡ W → held ≡ Some p → IsGiven held o (Clerk w ticket act) h k
     → ((H : History) (P : PageFacts) (K : Option known.Recalled) → HasNeeded (Clerk w ticket act) p.now P → IsPageOf P H → IsRecalled o K → IsUnder (ticket_mark ticket) K
-    → IsReply p.now.entries (Clerk w ticket act) t (known.clerk_by V (Some H) K w ticket act t) d)
-    → IsReply (entries_of held) (Clerk w ticket act) t (known.clerk_by W h k w ticket act t) d
-clerk_given V W w ticket act t d held p o h k house page given reply =
-    subst (λ (x : Option (Bor PageFacts)). IsReply (entries_of x) (Clerk w ticket act) t (known.clerk_by W h k w ticket act t) d) (sym page)
-    (clerk_stands W w ticket act t d p o h k (subst (λ (x : Option (Bor PageFacts)). StandsFor (Clerk w ticket act) x h) page given.page) given.known given.under
+    → IsReply q p.now.entries (Clerk w ticket act) t (known.clerk_by q V (Some H) K w ticket act t) d)
+    → IsReply q (entries_of held) (Clerk w ticket act) t (known.clerk_by q W h k w ticket act t) d
+clerk_given q V W w ticket act t d held p o h k house page given reply =
+    subst (λ (x : Option (Bor PageFacts)). IsReply q (entries_of x) (Clerk w ticket act) t (known.clerk_by q W h k w ticket act t) d) (sym page)
+    (clerk_stands q W w ticket act t d p o h k (subst (λ (x : Option (Bor PageFacts)). StandsFor (Clerk w ticket act) x h) page given.page) given.known given.under
     (subst (λ (x : Who). (H : History) (P : PageFacts) (K : Option known.Recalled) → HasNeeded (Clerk w ticket act) p.now P → IsPageOf P H → IsRecalled o K → IsUnder (ticket_mark ticket) K
-    → IsReply p.now.entries (Clerk w ticket act) t (known.clerk_by x (Some H) K w ticket act t) d) house reply))
+    → IsReply q p.now.entries (Clerk w ticket act) t (known.clerk_by q x (Some H) K w ticket act t) d) house reply))

@@ -2,6 +2,7 @@
 use Rattle.std.proofs.Common.{◌≡◌, ℕ, ◌+◌, Bool, true, false, not, List, [], ◌∷◌, ◌++◌, Option, Some, None, Ok, Err, cond, refl, sym, ap, ◌∙◌, subst, append-nil, map}
 use Rattle.std.specs.Prelude.{Result, codes, is_none, ◌==◌}
 use Rattle.std.specs.List.{starts_with}
+use Rattle.profile.specs.declared.rules.Rules.{Rules}
 use Rattle.profile.specs.Moments.{Moment}
 use Rattle.profile.specs.Header.{Who, delims_of, is_unreadable}
 use Rattle.profile.specs.Cut.{cut}
@@ -33,20 +34,20 @@ use Rattle.rules.specs.Played.{number_after, IsBefore, IsPlayed, IsReplayed, is_
 
 -- Interchanges.
 
-pub grouped_played : (W w : Who) (t : Moment) (number : ℕ) (text : List ℕ) (p new : PageFacts) (cs : List Change) (told : List Told) (out : List ℕ) (h : History)
-    → AreGroupsTaken (delims_of text) (groups_of ((cut (delims_of text) text).segments)) p new cs told → AreSorted p
+pub grouped_played : (r : Rules) (W w : Who) (t : Moment) (number : ℕ) (text : List ℕ) (p new : PageFacts) (cs : List Change) (told : List Told) (out : List ℕ) (h : History)
+    → AreGroupsTaken r (delims_of text) (groups_of ((cut (delims_of text) text).segments)) p new cs told → AreSorted p
     → out ≡ answer_of (delims_of text) W w t number (heading_of text) told → IsPageOf p h → number ≡ h.numbered + 1
-    → IsPlayed W h (record { who = w; moment = t; deed = Received text }) new out
-grouped_played W w t number text p new cs told out h groups sorted made of is =
+    → IsPlayed W h (record { who = w; moment = t; deed = Received text; rules = r }) new out
+grouped_played r W w t number text p new cs told out h groups sorted made of is =
     let part = part_of_self all_named p sorted in
     let names = all_groups (delims_of text) (groups_of ((cut (delims_of text) text).segments)) in
     let n = h.numbered + 1 in
-    let ts = tellings h.events n text in
-    let same : told ≡ map told_of (answered ts) = subst (λ (k : ℕ). told ≡ map told_of (answered (tellings h.events (k + 1) text))) of.entries (groups.told all_named p h.events part names of.shows) in
-    let there : Shows (after cs new.recent p) (h.events ++ events_added h.events (h.numbered + 1) (Received text)) =
-    subst (λ (k : ℕ). Shows (after cs new.recent p) (h.events ++ events_added h.events (k + 1) (Received text))) of.entries (groups.shows all_named p h.events part names of.shows) in
+    let ts = tellings r h.events n text in
+    let same : told ≡ map told_of (answered ts) = subst (λ (k : ℕ). told ≡ map told_of (answered (tellings r h.events (k + 1) text))) of.entries (groups.told all_named p h.events part names of.shows) in
+    let there : Shows (after cs new.recent p) (h.events ++ events_added r h.events (h.numbered + 1) (Received text)) =
+    subst (λ (k : ℕ). Shows (after cs new.recent p) (h.events ++ events_added r h.events (k + 1) (Received text))) of.entries (groups.shows all_named p h.events part names of.shows) in
     record {
-      shows = subst (λ (q : PageFacts). Shows q (h.events ++ events_added h.events (h.numbered + 1) (Received text))) (sym groups.same) there;
+      shows = subst (λ (q : PageFacts). Shows q (h.events ++ events_added r h.events (h.numbered + 1) (Received text))) (sym groups.same) there;
       entries = groups.entries ∙ of.entries;
       outgoing = made ∙ ap (λ k. answer_of (delims_of text) W w t k (heading_of text) told) is
           ∙ ap (λ (x : List Told). answer_of (delims_of text) W w t n (heading_of text) x) same
@@ -72,16 +73,16 @@ clean_read text h = by_test (is_unreadable text) ((both_parts (not (is_unreadabl
 
 abbrev pub added_of : Result Event Refusal → List Event
 added_of (Ok e) = e ∷ []
-added_of (Err r) = []
+added_of (Err refusal) = []
 
 -- an act that was performed
-pub done_played : (W w : Who) (t : Moment) (number : ℕ) (ticket : List ℕ) (act : Act) (p new : PageFacts) (out : List ℕ) (h : History)
+pub done_played : (r : Rules) (W w : Who) (t : Moment) (number : ℕ) (ticket : List ℕ) (act : Act) (p new : PageFacts) (out : List ℕ) (h : History)
     → ((es : List Event) → Shows p es → (e : Event) × (performed es (p.entries + 1) act ≡ Ok e) × Shows new (es ++ e ∷ []))
     → new.entries ≡ p.entries
     → ((es : List Event) (e : Event) → Shows p es → performed es number act ≡ Ok e → out ≡ document_of W w t number e)
     → IsPageOf p h → number ≡ h.numbered + 1
-    → IsPlayed W h (clerk_entry w ticket act t) new out
-done_played W w t number ticket act p new out h steps entries made of is =
+    → IsPlayed W h (clerk_entry r w ticket act t) new out
+done_played r W w t number ticket act p new out h steps entries made of is =
     let found = steps h.events of.shows in
     let here : performed h.events (h.numbered + 1) act ≡ Ok found.0 = subst (λ (k : ℕ). performed h.events (k + 1) act ≡ Ok found.0) of.entries found.1 in
     let there : performed h.events number act ≡ Ok found.0 = ap (λ k. performed h.events k act) is ∙ here in
@@ -93,11 +94,11 @@ done_played W w t number ticket act p new out h steps entries made of is =
     }
 
 -- an act that was refused
-pub stopped_played : (W w : Who) (t : Moment) (ticket : List ℕ) (act : Act) (p new : PageFacts) (out : List ℕ) (h : History) (r : Refusal)
-    → performed h.events (p.entries + 1) act ≡ Err r → new ≡ p → out ≡ [] → IsPageOf p h
-    → IsPlayed W h (clerk_entry w ticket act t) new out
-stopped_played W w t ticket act p new out h r is same none of =
-    let here : performed h.events (h.numbered + 1) act ≡ Err r = subst (λ (k : ℕ). performed h.events (k + 1) act ≡ Err r) of.entries is in
+pub stopped_played : (r : Rules) (W w : Who) (t : Moment) (ticket : List ℕ) (act : Act) (p new : PageFacts) (out : List ℕ) (h : History) (why : Refusal)
+    → performed h.events (p.entries + 1) act ≡ Err why → new ≡ p → out ≡ [] → IsPageOf p h
+    → IsPlayed W h (clerk_entry r w ticket act t) new out
+stopped_played r W w t ticket act p new out h why is same none of =
+    let here : performed h.events (h.numbered + 1) act ≡ Err why = subst (λ (k : ℕ). performed h.events (k + 1) act ≡ Err why) of.entries is in
     record {
       shows = subst (λ (o : Result Event Refusal). Shows new (h.events ++ added_of o)) (sym here)
           (subst (Shows new) (sym (append-nil h.events)) (subst (λ (q : PageFacts). Shows q h.events) (sym same) of.shows));
@@ -106,33 +107,33 @@ stopped_played W w t ticket act p new out h r is same none of =
     }
 
 -- the act that is read from a canonical text
-pub read_same : (text : List ℕ) (act b : Act) (o : Option Act) → o ≡ act_of text → o ≡ Some b → text ≡ canonical act → is_act act ≡ true → b ≡ act
-read_same text act b o read some same good =
-    let there : act_of text ≡ Some act = ap act_of same ∙ act_of-canonical act good in
+pub read_same : (r : Rules) (text : List ℕ) (act b : Act) (o : Option Act) → o ≡ act_of r text → o ≡ Some b → text ≡ canonical act → is_act r act ≡ true → b ≡ act
+read_same r text act b o read some same good =
+    let there : act_of r text ≡ Some act = ap (act_of r) same ∙ act_of-canonical r act good in
     cc (read, some, there)
 
-pub read_none : (text : List ℕ) (act : Act) (o : Option Act) → o ≡ act_of text → o ≡ None → text ≡ canonical act → is_act act ≡ true → ⊥
-read_none text act o read none same good =
-    let there : act_of text ≡ Some act = ap act_of same ∙ act_of-canonical act good in
+pub read_none : (r : Rules) (text : List ℕ) (act : Act) (o : Option Act) → o ≡ act_of r text → o ≡ None → text ≡ canonical act → is_act r act ≡ true → ⊥
+read_none r text act o read none same good =
+    let there : act_of r text ≡ Some act = ap (act_of r) same ∙ act_of-canonical r act good in
     absurd (cc (read, none, there))
 
 -- Entries.
 
 -- a new page, of a depositor that enrols
-pub enrolled : (W : Who) (h : History) (w : Who) (t : Moment) (d : Deed) (p : PageFacts) (out : List ℕ) → Shows p (Enrolment ∷ []) → p.entries ≡ 0 → out ≡ []
-    → IsBefore None h (record { who = w; moment = t; deed = d }) → IsReplayed W h (record { who = w; moment = t; deed = d }) p out
-enrolled W h w t Enrolled p out shows entries none before =
-    subst (λ (g : History). IsReplayed W g (record { who = w; moment = t; deed = Enrolled }) p out) (sym before.0)
+pub enrolled : (W : Who) (h : History) (w : Who) (t : Moment) (d : Deed) (q : Rules) (p : PageFacts) (out : List ℕ) → Shows p (Enrolment ∷ []) → p.entries ≡ 0 → out ≡ []
+    → IsBefore None h (record { who = w; moment = t; deed = d; rules = q }) → IsReplayed W h (record { who = w; moment = t; deed = d; rules = q }) p out
+enrolled W h w t Enrolled q p out shows entries none before =
+    subst (λ (g : History). IsReplayed W g (record { who = w; moment = t; deed = Enrolled; rules = q }) p out) (sym before.0)
     (record { page = record { shows = shows; entries = entries }; outgoing = none })
-enrolled W h w t (Received text) p out shows entries none before = absurd (cc (before.1))
-enrolled W h w t (Performed ticket act) p out shows entries none before = absurd (cc (before.1))
+enrolled W h w t (Received text) q p out shows entries none before = absurd (cc (before.1))
+enrolled W h w t (Performed ticket act) q p out shows entries none before = absurd (cc (before.1))
 
 -- an entry that was played, and then counts
 pub counted : (W : Who) (h : History) (e : Entry) (p q : PageFacts) (out : List ℕ) → IsPlayed W h e p out → is_numbered e ≡ true
     → q ≡ next_entry p → ((es : List Event) → Shows p es → Shows q es) → IsReplayed W h e q out
 counted W h e p q out played numbered next shows = record {
   page = record {
-    shows = shows (h.events ++ events_added h.events (h.numbered + 1) e.deed) played.shows;
+    shows = shows (h.events ++ events_added e.rules h.events (h.numbered + 1) e.deed) played.shows;
     entries = ap (λ (x : PageFacts). x.entries) next ∙ ap (λ n. n + 1) played.entries ∙ ap (λ b. h.numbered + cond b 1 0) (sym numbered);
   };
   outgoing = played.outgoing;
@@ -150,35 +151,37 @@ number_is w h e known = ap (λ (x : Written). x.n) known.entry ∙ ap (λ b. con
 
 -- an entry whose key begins with `T` is an act's, any other an interchange's
 
-pub act_played : (W V : Who) (w : Written) (h : History) (e : Entry) (p new : PageFacts) (out : List ℕ) (who : Who) (t : Moment) (n : ℕ) (text : List ℕ)
-    → V ≡ W → who ≡ w.who → t ≡ w.moment → n ≡ w.n → text ≡ w.body → starts_with (λ a b. a == b) w.key (codes "T") ≡ true → IsNumbered w h e → IsPageOf p h
-    → ((g : History) (ticket : List ℕ) (act : Act) → IsPageOf p g → n ≡ g.numbered + 1 → is_act act ≡ true → text ≡ canonical act
-    → IsPlayed V g (clerk_entry who ticket act t) new out)
+pub act_played : (W V : Who) (w : Written) (h : History) (e : Entry) (p new : PageFacts) (out : List ℕ) (who : Who) (t : Moment) (n : ℕ) (text : List ℕ) (q : Rules)
+    → V ≡ W → who ≡ w.who → t ≡ w.moment → n ≡ w.n → text ≡ w.body → q ≡ w.rules → starts_with (λ a b. a == b) w.key (codes "T") ≡ true → IsNumbered w h e → IsPageOf p h
+    → ((g : History) (ticket : List ℕ) (act : Act) → IsPageOf p g → n ≡ g.numbered + 1 → is_act q act ≡ true → text ≡ canonical act
+    → IsPlayed V g (clerk_entry q who ticket act t) new out)
     → IsPlayed W h e new out
-act_played W V w h e p new out who t n text house whose when under body key known of each = by_deed e.deed known.entry known.good known.is
+act_played W V w h e p new out who t n text q house whose when under body ruled key known of each = by_deed e.deed known.entry known.good known.is
   where
-    by_deed : (d : Deed) → w ≡ written_as (number_after h e) (record { who = e.who; moment = e.moment; deed = d }) → is_entry (record { who = e.who; moment = e.moment; deed = d }) ≡ true
-        → is_numbered (record { who = e.who; moment = e.moment; deed = d }) ≡ true → IsPlayed W h (record { who = e.who; moment = e.moment; deed = d }) new out
+    by_deed : (d : Deed) → w ≡ written_as (number_after h e) (record { who = e.who; moment = e.moment; deed = d; rules = e.rules }) → is_entry (record { who = e.who; moment = e.moment; deed = d; rules = e.rules }) ≡ true
+        → is_numbered (record { who = e.who; moment = e.moment; deed = d; rules = e.rules }) ≡ true → IsPlayed W h (record { who = e.who; moment = e.moment; deed = d; rules = e.rules }) new out
     by_deed Enrolled is good numbered = absurd (cc (numbered))
     by_deed (Received bytes) is good numbered =
         let wrong : starts_with (λ a b. a == b) w.key (codes "T") ≡ false = ap (λ (x : Written). starts_with (λ a b. a == b) x.key (codes "T")) is in
         absurd (cc)
     by_deed (Performed ticket act) is good numbered =
-        let act_good = (both_parts _ (is_act act) ((both_parts _ (is_deed (Performed ticket act)) good).1)).1 in
-        let played = each h ticket act of (under ∙ number_is w h e known) act_good (body ∙ ap (λ (x : Written). x.body) is) in
-        subst (λ (x : Who). IsPlayed x h (clerk_entry e.who ticket act e.moment) new out) house
-        (subst (λ (x : Who). IsPlayed V h (clerk_entry x ticket act e.moment) new out) (whose ∙ ap (λ (x : Written). x.who) is)
-        (subst (λ (x : Moment). IsPlayed V h (clerk_entry who ticket act x) new out) (when ∙ ap (λ (x : Written). x.moment) is) played))
+        let act_good = (both_parts _ (is_act e.rules act) ((both_parts _ (is_deed e.rules (Performed ticket act)) good).1)).1 in
+        let same : q ≡ e.rules = ruled ∙ ap (λ (x : Written). x.rules) is in
+        let played = each h ticket act of (under ∙ number_is w h e known) (ap (λ (x : Rules). is_act x act) same ∙ act_good) (body ∙ ap (λ (x : Written). x.body) is) in
+        subst (λ (x : Who). IsPlayed x h (clerk_entry e.rules e.who ticket act e.moment) new out) house
+        (subst (λ (x : Rules). IsPlayed V h (clerk_entry x e.who ticket act e.moment) new out) same
+        (subst (λ (x : Who). IsPlayed V h (clerk_entry q x ticket act e.moment) new out) (whose ∙ ap (λ (x : Written). x.who) is)
+        (subst (λ (x : Moment). IsPlayed V h (clerk_entry q who ticket act x) new out) (when ∙ ap (λ (x : Written). x.moment) is) played)))
 
-pub interchange_played : (W V : Who) (w : Written) (h : History) (e : Entry) (p new : PageFacts) (out : List ℕ) (who : Who) (t : Moment) (n : ℕ) (text : List ℕ)
-    → V ≡ W → who ≡ w.who → t ≡ w.moment → n ≡ w.n → text ≡ w.body → starts_with (λ a b. a == b) w.key (codes "T") ≡ false → IsNumbered w h e → IsPageOf p h
+pub interchange_played : (W V : Who) (w : Written) (h : History) (e : Entry) (p new : PageFacts) (out : List ℕ) (who : Who) (t : Moment) (n : ℕ) (text : List ℕ) (q : Rules)
+    → V ≡ W → who ≡ w.who → t ≡ w.moment → n ≡ w.n → text ≡ w.body → q ≡ w.rules → starts_with (λ a b. a == b) w.key (codes "T") ≡ false → IsNumbered w h e → IsPageOf p h
     → ((g : History) → IsPageOf p g → n ≡ g.numbered + 1 → is_clean (Received text) ≡ true
-    → IsPlayed V g (record { who = who; moment = t; deed = Received text }) new out)
+    → IsPlayed V g (record { who = who; moment = t; deed = Received text; rules = q }) new out)
     → IsPlayed W h e new out
-interchange_played W V w h e p new out who t n text house whose when under body key known of each = by_deed e.deed known.entry known.clean known.is
+interchange_played W V w h e p new out who t n text q house whose when under body ruled key known of each = by_deed e.deed known.entry known.clean known.is
   where
-    by_deed : (d : Deed) → w ≡ written_as (number_after h e) (record { who = e.who; moment = e.moment; deed = d }) → is_clean d ≡ true
-        → is_numbered (record { who = e.who; moment = e.moment; deed = d }) ≡ true → IsPlayed W h (record { who = e.who; moment = e.moment; deed = d }) new out
+    by_deed : (d : Deed) → w ≡ written_as (number_after h e) (record { who = e.who; moment = e.moment; deed = d; rules = e.rules }) → is_clean d ≡ true
+        → is_numbered (record { who = e.who; moment = e.moment; deed = d; rules = e.rules }) ≡ true → IsPlayed W h (record { who = e.who; moment = e.moment; deed = d; rules = e.rules }) new out
     by_deed Enrolled is clean numbered = absurd (cc (numbered))
     by_deed (Performed ticket act) is clean numbered =
         let wrong : starts_with (λ a b. a == b) w.key (codes "T") ≡ true = ap (λ (x : Written). starts_with (λ a b. a == b) x.key (codes "T")) is in
@@ -186,7 +189,8 @@ interchange_played W V w h e p new out who t n text house whose when under body 
     by_deed (Received bytes) is clean numbered =
         let same : text ≡ bytes = body ∙ ap (λ (x : Written). x.body) is in
         let played = each h of (under ∙ number_is w h e known) (ap (λ (x : List ℕ). is_clean (Received x)) same ∙ clean) in
-        subst (λ (x : Who). IsPlayed x h (record { who = e.who; moment = e.moment; deed = Received bytes }) new out) house
-        (subst (λ (x : Who). IsPlayed V h (record { who = x; moment = e.moment; deed = Received bytes }) new out) (whose ∙ ap (λ (x : Written). x.who) is)
-        (subst (λ (x : Moment). IsPlayed V h (record { who = who; moment = x; deed = Received bytes }) new out) (when ∙ ap (λ (x : Written). x.moment) is)
-        (subst (λ (x : List ℕ). IsPlayed V h (record { who = who; moment = t; deed = Received x }) new out) same played)))
+        subst (λ (x : Who). IsPlayed x h (record { who = e.who; moment = e.moment; deed = Received bytes; rules = e.rules }) new out) house
+        (subst (λ (x : Rules). IsPlayed V h (record { who = e.who; moment = e.moment; deed = Received bytes; rules = x }) new out) (ruled ∙ ap (λ (x : Written). x.rules) is)
+        (subst (λ (x : Who). IsPlayed V h (record { who = x; moment = e.moment; deed = Received bytes; rules = q }) new out) (whose ∙ ap (λ (x : Written). x.who) is)
+        (subst (λ (x : Moment). IsPlayed V h (record { who = who; moment = x; deed = Received bytes; rules = q }) new out) (when ∙ ap (λ (x : Written). x.moment) is)
+        (subst (λ (x : List ℕ). IsPlayed V h (record { who = who; moment = t; deed = Received x; rules = q }) new out) same played))))

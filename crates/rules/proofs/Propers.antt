@@ -8,12 +8,13 @@ use Rattle.profile.specs.Lists.{or_else}
 use Rattle.profile.specs.Means.{Line, Advice, Order, Acknowledgment}
 use Rattle.profile.specs.Rows.{LotRow}
 use Rattle.profile.specs.Clerk.{counted, picked}
-use Rattle.profile.specs.Events.{Event, Advised, Ordered, Counted, Picked, advice_if, advice_under, Reserved, order_if, order_under, counts, picks, advice_fault, order_fault}
+use Rattle.profile.specs.Events.{Event, Advised, Ordered, Counted, Picked, expiry, advice_if, advice_under, Reserved, order_if, order_under, counts, picks, advice_fault, order_fault}
 use Rattle.profile.specs.Register.{Count, Pick}
 use Rattle.profile.specs.Page.{PageAdvice, PageOrder, PageDocument, reserved_lines}
 use Rattle.profile.proofs.TextLaws.{same_text}
 use Rattle.stock.specs.Keyed.{key_before, rises_by}
-use Rattle.stock.specs.Pages.{PageFacts, advice_at, order_at, document_at}
+use Rattle.stock.specs.Told.{told_date, changed_rows}
+use Rattle.stock.specs.Pages.{PageFacts, AreSorted, advice_at, order_at, document_at}
 use Rattle.stock.specs.Puts.{put, put_change}
 use Rattle.stock.specs.Shows.{Shows}
 use Rattle.stock.specs.Steps.{decides}
@@ -26,9 +27,11 @@ use Rattle.stock.proofs.Finds.{first_found_push}
 use Rattle.stock.proofs.Views.{seen_advice, seen_order, advice_seen, order_seen, uncounted, unpicked, advice_view, order_view, advice_found_under, order_found_under}
 use Rattle.stock.proofs.Events.{any_push}
 use Rattle.stock.proofs.KeyLemmas.{pairs_strict}
-use Rattle.rules.specs.Proper.{IsProper, IsProperAdvice, IsProperOrder, AreProper, pair_of}
+use Rattle.rules.specs.Proper.{KeepsDate, IsProper, IsProperAdvice, IsProperOrder, AreProper, pair_of}
 use Rattle.rules.proofs.Added.{advice_new, order_new, of_performed}
 use Rattle.rules.proofs.KeyedLists.{order_rises}
+use Rattle.rules.proofs.Dates.{Dates, AreKept, AreDated, dates_kept, kept_put, changed_dated}
+use Rattle.rules.proofs.TableChanges.{sorted_with_all}
 
 -- Lists of changes.
 
@@ -62,30 +65,51 @@ proper_led ds old mid cs led proper =
     let there : AreProper (record q { entries = old.entries; recent = mid.recent }) ds = subst (λ (x : PageFacts). AreProper x ds) led proper in
     proper_recent ds q mid.recent (subst (λ (n : ℕ). AreProper (record q { entries = n; recent = mid.recent }) ds) (sym (entries_kept cs old)) there)
 
+-- rows that keep the dates of a page
+record KeepDates (p : PageFacts) (rows : List LotRow) : Type 0 where
+  known : Dates
+  kept : AreKept known p.rows
+  dated : AreDated known rows
+
+-- those that change where an event comes
+keep_dates : (p : PageFacts) (es : List Event) (e : Event) (cs : List Change) → AreSorted p → Shows p es → Shows (put cs p) (es ++ e ∷ [])
+    → KeepDates p (changed_rows p.rows (put cs p).rows)
+keep_dates p es e cs sorted shows next = record {
+  known = expiry (es ++ e ∷ []);
+  kept = dates_kept p es e shows;
+  dated = changed_dated p.rows (put cs p) (es ++ e ∷ []) (sorted_with_all cs p sorted).rows next;
+}
+
+behind_first : (r : LotRow) (rows : List LotRow) (p : PageFacts) → KeepDates p (r ∷ rows) → KeepDates (put_change p (Stock r)) rows
+behind_first r rows p keep = record { known = keep.known; kept = kept_put keep.known r p.rows keep.dated.0 keep.kept; dated = keep.dated.1 }
+
+row_proper : (r : LotRow) (rows : List LotRow) (p : PageFacts) → KeepDates p (r ∷ rows) → IsProper p (Stock r)
+row_proper r rows p keep = subst (KeepsDate (told_date r.item r.lot p.rows)) (sym keep.dated.0) (keep.kept r.item r.lot)
+
 -- rows are put in first
-rows_first : (rows : List LotRow) (p : PageFacts) (more : List Change) → ((rs : List LotRow) → AreProper (record p { rows = rs }) more) → AreProper p (map Stock rows ++ more)
-rows_first [] p more h = h p.rows
-rows_first (r ∷ rows) p more h = (tt, rows_first rows (put_change p (Stock r)) more h)
+rows_first : (rows : List LotRow) (p : PageFacts) (more : List Change) → KeepDates p rows → ((rs : List LotRow) → AreProper (record p { rows = rs }) more) → AreProper p (map Stock rows ++ more)
+rows_first [] p more keep h = h p.rows
+rows_first (r ∷ rows) p more keep h = (row_proper r rows p keep, rows_first rows (put_change p (Stock r)) more (behind_first r rows p keep) h)
 
 -- after the rows what was found, and more
-row_one : (rows : List LotRow) (p : PageFacts) (c : Change) (more : List Change)
+row_one : (rows : List LotRow) (p : PageFacts) (c : Change) (more : List Change) → KeepDates p rows
     → ((rs : List LotRow) → IsProper (record p { rows = rs }) c × AreProper (put_change (record p { rows = rs }) c) more)
     → AreProper p ((map Stock rows ++ c ∷ []) ++ more)
-row_one [] p c more h = h p.rows
-row_one (r ∷ rows) p c more h = (tt, row_one rows (put_change p (Stock r)) c more h)
+row_one [] p c more keep h = h p.rows
+row_one (r ∷ rows) p c more keep h = (row_proper r rows p keep, row_one rows (put_change p (Stock r)) c more (behind_first r rows p keep) h)
 
 -- Advices.
 
-advice_one : (p : PageFacts) (rows : List LotRow) (o : Option PageAdvice) (k : PageAdvice) → o ≡ Some k → IsProperAdvice (advice_at k.shipment p.advices) k
+advice_one : (p : PageFacts) (rows : List LotRow) (o : Option PageAdvice) (k : PageAdvice) → KeepDates p rows → o ≡ Some k → IsProperAdvice (advice_at k.shipment p.advices) k
     → AreProper p (map Stock rows ++ option_to_list (option_map Announces o))
-advice_one p rows o k is proper =
-    subst (λ (x : Option PageAdvice). AreProper p (map Stock rows ++ option_to_list (option_map Announces x))) (sym is) (rows_first rows p (Announces k ∷ []) (λ rs. (proper, tt)))
+advice_one p rows o k keep is proper =
+    subst (λ (x : Option PageAdvice). AreProper p (map Stock rows ++ option_to_list (option_map Announces x))) (sym is) (rows_first rows p (Announces k ∷ []) keep (λ rs. (proper, tt)))
 
-advice_sent : (p : PageFacts) (rows : List LotRow) (o : Option PageAdvice) (k : PageAdvice) (f : Function) → o ≡ Some k → IsProperAdvice (advice_at k.shipment p.advices) k
+advice_sent : (p : PageFacts) (rows : List LotRow) (o : Option PageAdvice) (k : PageAdvice) (f : Function) → KeepDates p rows → o ≡ Some k → IsProperAdvice (advice_at k.shipment p.advices) k
     → AreProper p ((map Stock rows ++ option_to_list (option_map Announces o)) ++ Sent (p.entries + 1) f ∷ [])
-advice_sent p rows o k f is proper =
+advice_sent p rows o k f keep is proper =
     subst (λ (x : Option PageAdvice). AreProper p ((map Stock rows ++ option_to_list (option_map Announces x)) ++ Sent (p.entries + 1) f ∷ [])) (sym is)
-    (row_one rows p (Announces k) (Sent (p.entries + 1) f ∷ []) (λ rs. (proper, (refl, tt))))
+    (row_one rows p (Announces k) (Sent (p.entries + 1) f ∷ []) keep (λ rs. (proper, (refl, tt))))
 
 -- what is found of an advice on a page
 advice_there : (p : PageFacts) (es : List Event) (s : List ℕ) (o : Option Advice) → Shows p es → advice_under s es ≡ o → advice_at s p.advices ≡ advice_seen o (uncounted s es)
@@ -94,9 +118,9 @@ advice_there p es s o shows found = shows.advices s ∙ advice_view s es ∙ ap 
 uncounted_new : (p : PageFacts) (es : List Event) (s : List ℕ) (a : Advice) → Shows p es → advice_under s es ≡ None → uncounted s (es ++ Advised a ∷ []) ≡ true
 uncounted_new p es s a shows none = ap not (any_push (counts s) es (Advised a) ∙ ap (λ (b : Bool). b || false) (shows.counted s none))
 
-pub announced_proper : (p : PageFacts) (es : List Event) (a : Advice) (cs : List Change) → Shows p es → advice_fault es a ≡ None → Shows (put cs p) (es ++ Advised a ∷ [])
+pub announced_proper : (p : PageFacts) (es : List Event) (a : Advice) (cs : List Change) → AreSorted p → Shows p es → advice_fault es a ≡ None → Shows (put cs p) (es ++ Advised a ∷ [])
     → cs ≡ advice_changes a.shipment p (put cs p) → AreProper p cs
-announced_proper p es a cs shows good next is =
+announced_proper p es a cs sorted shows good next is =
     let s = a.shipment in
     let new = put cs p in
     let fs = es ++ Advised a ∷ [] in
@@ -106,7 +130,7 @@ announced_proper p es a cs shows good next is =
     first_found_push (advice_if s) es (Advised a) ∙ ap (λ (o : Option Advice). or_else o (advice_if s (Advised a))) none ∙ ap (λ (b : Bool). if b then Some a else None) (same_text s) in
     let there : advice_at s new.advices ≡ Some (seen_advice true a) = advice_there new fs s (Some a) next found ∙ ap (λ (b : Bool). Some (seen_advice b a)) (uncounted_new p es s a shows none) in
     subst (AreProper p) (sym is)
-    (advice_one p _ (advice_at s new.advices) (seen_advice true a) there (subst (λ (o : Option PageAdvice). IsProperAdvice o (seen_advice true a)) (sym old) refl))
+    (advice_one p _ (advice_at s new.advices) (seen_advice true a) (keep_dates p es (Advised a) cs sorted shows next) there (subst (λ (o : Option PageAdvice). IsProperAdvice o (seen_advice true a)) (sym old) refl))
 
 counted_now : (es : List Event) (n : ℕ) (s : List ℕ) (a : Advice) (sheet : List Line) → a.shipment ≡ s → uncounted s (es ++ Counted n a sheet ∷ []) ≡ false
 counted_now es n s a sheet under =
@@ -117,9 +141,9 @@ counted_now es n s a sheet under =
     or_true true = refl
     or_true false = refl
 
-pub counted_proper : (p : PageFacts) (es : List Event) (s : List ℕ) (sheet : List Line) (e : Event) (cs : List Change) → Shows p es → counted es (p.entries + 1) s sheet ≡ Ok e
+pub counted_proper : (p : PageFacts) (es : List Event) (s : List ℕ) (sheet : List Line) (e : Event) (cs : List Change) → AreSorted p → Shows p es → counted es (p.entries + 1) s sheet ≡ Ok e
     → Shows (put cs p) (es ++ e ∷ []) → cs ≡ advice_changes s p (put cs p) ++ Sent (p.entries + 1) Receipt ∷ [] → AreProper p cs
-counted_proper p es s sheet e cs shows made next is =
+counted_proper p es s sheet e cs sorted shows made next is =
     let n = p.entries + 1 in
     let new = put cs p in
     let done = of_performed es n (Count s sheet) e made in
@@ -131,20 +155,20 @@ counted_proper p es s sheet e cs shows made next is =
     advice_there new (es ++ Counted n a sheet ∷ []) s (Some a) shown found ∙ ap (λ (b : Bool). Some (seen_advice b a)) (counted_now es n s a sheet under) in
     let old : advice_at a.shipment p.advices ≡ Some (seen_advice (uncounted s es) a) = ap (λ (t : List ℕ). advice_at t p.advices) under ∙ advice_there p es s (Some a) shows done.1 in
     subst (AreProper p) (sym is)
-    (advice_sent p _ (advice_at s new.advices) (seen_advice false a) Receipt there (subst (λ (o : Option PageAdvice). IsProperAdvice o (seen_advice false a)) (sym old) refl))
+    (advice_sent p _ (advice_at s new.advices) (seen_advice false a) Receipt (keep_dates p es e cs sorted shows next) there (subst (λ (o : Option PageAdvice). IsProperAdvice o (seen_advice false a)) (sym old) refl))
 
 -- Orders.
 
-order_one : (p : PageFacts) (rows : List LotRow) (o : Option PageOrder) (k : PageOrder) → o ≡ Some k → IsProperOrder (order_at k.number p.orders) k
+order_one : (p : PageFacts) (rows : List LotRow) (o : Option PageOrder) (k : PageOrder) → KeepDates p rows → o ≡ Some k → IsProperOrder (order_at k.number p.orders) k
     → AreProper p (map Stock rows ++ option_to_list (option_map Orders o))
-order_one p rows o k is proper =
-    subst (λ (x : Option PageOrder). AreProper p (map Stock rows ++ option_to_list (option_map Orders x))) (sym is) (rows_first rows p (Orders k ∷ []) (λ rs. (proper, tt)))
+order_one p rows o k keep is proper =
+    subst (λ (x : Option PageOrder). AreProper p (map Stock rows ++ option_to_list (option_map Orders x))) (sym is) (rows_first rows p (Orders k ∷ []) keep (λ rs. (proper, tt)))
 
-order_sent : (p : PageFacts) (rows : List LotRow) (o : Option PageOrder) (k : PageOrder) (f : Function) → o ≡ Some k → IsProperOrder (order_at k.number p.orders) k
+order_sent : (p : PageFacts) (rows : List LotRow) (o : Option PageOrder) (k : PageOrder) (f : Function) → KeepDates p rows → o ≡ Some k → IsProperOrder (order_at k.number p.orders) k
     → AreProper p ((map Stock rows ++ option_to_list (option_map Orders o)) ++ Sent (p.entries + 1) f ∷ [])
-order_sent p rows o k f is proper =
+order_sent p rows o k f keep is proper =
     subst (λ (x : Option PageOrder). AreProper p ((map Stock rows ++ option_to_list (option_map Orders x)) ++ Sent (p.entries + 1) f ∷ [])) (sym is)
-    (row_one rows p (Orders k) (Sent (p.entries + 1) f ∷ []) (λ rs. (proper, (refl, tt))))
+    (row_one rows p (Orders k) (Sent (p.entries + 1) f ∷ []) keep (λ rs. (proper, (refl, tt))))
 
 order_there : (p : PageFacts) (es : List Event) (s : List ℕ) (o : Option Reserved) → Shows p es → order_under s es ≡ o → order_at s p.orders ≡ order_seen o (unpicked s es)
 order_there p es s o shows found = shows.orders s ∙ order_view s es ∙ ap (λ (x : Option Reserved). order_seen x (unpicked s es)) found
@@ -156,9 +180,9 @@ unpicked_new p es s o shares shows none = ap not (any_push (picks s) es (Ordered
 shares_rise : (shares : List Line) → rises_by key_before pair_of (reserved_lines shares) ≡ true
 shares_rise shares = order_rises key_before pairs_strict pair_of (filter (λ (l : Line). nat_lt 0 l.quantity) shares)
 
-pub ordered_proper : (p : PageFacts) (es : List Event) (o : Order) (shares : List Line) (cs : List Change) → Shows p es → order_fault es o ≡ None → Shows (put cs p) (es ++ Ordered o shares ∷ [])
+pub ordered_proper : (p : PageFacts) (es : List Event) (o : Order) (shares : List Line) (cs : List Change) → AreSorted p → Shows p es → order_fault es o ≡ None → Shows (put cs p) (es ++ Ordered o shares ∷ [])
     → cs ≡ order_changes o.number p (put cs p) → AreProper p cs
-ordered_proper p es o shares cs shows good next is =
+ordered_proper p es o shares cs sorted shows good next is =
     let s = o.number in
     let new = put cs p in
     let r : Reserved = record { order = o; shares = shares } in
@@ -169,7 +193,7 @@ ordered_proper p es o shares cs shows good next is =
     first_found_push (order_if s) es (Ordered o shares) ∙ ap (λ (x : Option Reserved). or_else x (order_if s (Ordered o shares))) none ∙ ap (λ (b : Bool). if b then Some r else None) (same_text s) in
     let there : order_at s new.orders ≡ Some (seen_order true r) = order_there new fs s (Some r) next found ∙ ap (λ (b : Bool). Some (seen_order b r)) (unpicked_new p es s o shares shows none) in
     subst (AreProper p) (sym is)
-    (order_one p _ (order_at s new.orders) (seen_order true r) there (subst (λ (x : Option PageOrder). IsProperOrder x (seen_order true r)) (sym old) (refl, shares_rise shares)))
+    (order_one p _ (order_at s new.orders) (seen_order true r) (keep_dates p es (Ordered o shares) cs sorted shows next) there (subst (λ (x : Option PageOrder). IsProperOrder x (seen_order true r)) (sym old) (refl, shares_rise shares)))
 
 picked_now : (es : List Event) (n : ℕ) (s : List ℕ) (r : Reserved) (sheet : List Line) → r.order.number ≡ s → unpicked s (es ++ Picked n r.order r.shares sheet ∷ []) ≡ false
 picked_now es n s r sheet under =
@@ -180,9 +204,9 @@ picked_now es n s r sheet under =
     or_true true = refl
     or_true false = refl
 
-pub picked_proper : (p : PageFacts) (es : List Event) (s : List ℕ) (sheet : List Line) (e : Event) (cs : List Change) → Shows p es → picked es (p.entries + 1) s sheet ≡ Ok e
+pub picked_proper : (p : PageFacts) (es : List Event) (s : List ℕ) (sheet : List Line) (e : Event) (cs : List Change) → AreSorted p → Shows p es → picked es (p.entries + 1) s sheet ≡ Ok e
     → Shows (put cs p) (es ++ e ∷ []) → cs ≡ order_changes s p (put cs p) ++ Sent (p.entries + 1) Shipment ∷ [] → AreProper p cs
-picked_proper p es s sheet e cs shows made next is =
+picked_proper p es s sheet e cs sorted shows made next is =
     let n = p.entries + 1 in
     let new = put cs p in
     let done = of_performed es n (Pick s sheet) e made in
@@ -195,12 +219,14 @@ picked_proper p es s sheet e cs shows made next is =
     order_there new fs s (Some r) shown found ∙ ap (λ (b : Bool). Some (seen_order b r)) (picked_now es n s r sheet under) in
     let old : order_at r.order.number p.orders ≡ Some (seen_order (unpicked s es) r) = ap (λ (t : List ℕ). order_at t p.orders) under ∙ order_there p es s (Some r) shows done.1 in
     subst (AreProper p) (sym is)
-    (order_sent p _ (order_at s new.orders) (seen_order false r) Shipment there (subst (λ (o : Option PageOrder). IsProperOrder o (seen_order false r)) (sym old) refl))
+    (order_sent p _ (order_at s new.orders) (seen_order false r) Shipment (keep_dates p es e cs sorted shows next) there (subst (λ (o : Option PageOrder). IsProperOrder o (seen_order false r)) (sym old) refl))
 
 -- Recounts and acknowledgments.
 
-pub recounted_proper : (p : PageFacts) (cs : List Change) → cs ≡ row_changes p (put cs p) ++ Sent (p.entries + 1) Adjustment ∷ [] → AreProper p cs
-recounted_proper p cs is = subst (AreProper p) (sym is) (rows_first _ p (Sent (p.entries + 1) Adjustment ∷ []) (λ rs. (refl, tt)))
+pub recounted_proper : (p : PageFacts) (es : List Event) (e : Event) (cs : List Change) → AreSorted p → Shows p es → Shows (put cs p) (es ++ e ∷ [])
+    → cs ≡ row_changes p (put cs p) ++ Sent (p.entries + 1) Adjustment ∷ [] → AreProper p cs
+recounted_proper p es e cs sorted shows next is =
+    subst (AreProper p) (sym is) (rows_first _ p (Sent (p.entries + 1) Adjustment ∷ []) (keep_dates p es e cs sorted shows next) (λ rs. (refl, tt)))
 
 decided : (n : ℕ) (a : Acknowledgment) (ds : List PageDocument) → list_any (decides n a) ds ≡ true → (a.document ≤ n) × (is_some (document_at a.document ds) ≡ true)
 decided n a [] h = absurd (cc (h))

@@ -9,6 +9,9 @@ use Rattle.std.specs.Cmp.Derive.{both_true}
 use Rattle.std.proofs.lemmas.Bool.{cases_Bool}
 use Rattle.std.proofs.lemmas.Fmt.{decimal_nonempty, length-decimal-le}
 use Rattle.std.proofs.lemmas.Slice.Eq.{bytes_eq-Decides}
+use Rattle.profile.specs.declared.rules.Rules.{Rules}
+use Rattle.profile.specs.declared.rules.Rules.TheVariants.{One, Two}
+use Rattle.profile.specs.Limits.{most_lines}
 use Rattle.profile.specs.Bytes.{is_between, is_identifier_byte, is_identifier, is_digit, is_number, value}
 use Rattle.profile.specs.Lists.{placed, in_order, has_repeats}
 use Rattle.profile.specs.Means.{Line}
@@ -41,17 +44,19 @@ record IsGood (l : Line) : Type 0 where
   lot : is_identifier 1 12 l.lot ≡ true
   quantity : l.quantity < 10 ^ 9
 
-limit-small : (kind : clerk.SheetKind) → quantity_limit kind < 10 ^ 9
-limit-small clerk.CountSheet = omega arith
-limit-small clerk.PickSheet = omega arith
-limit-small clerk.RecountSheet = omega arith
+limit-small : (r : Rules) (kind : clerk.SheetKind) → quantity_limit r kind < 10 ^ 9
+limit-small One clerk.CountSheet = omega arith
+limit-small One clerk.PickSheet = omega arith
+limit-small Two clerk.CountSheet = omega arith
+limit-small Two clerk.PickSheet = omega arith
+limit-small r clerk.RecountSheet = omega arith
 
-line_good : (kind : clerk.SheetKind) (l : Line) → is_sheet_line kind l ≡ true → IsGood l
-line_good kind l h =
-    let a = both_parts (is_identifier 1 20 l.item && is_identifier 1 12 l.lot && nat_le (least_quantity kind) l.quantity) (nat_le l.quantity (quantity_limit kind)) h in
+line_good : (r : Rules) (kind : clerk.SheetKind) (l : Line) → is_sheet_line r kind l ≡ true → IsGood l
+line_good r kind l h =
+    let a = both_parts (is_identifier 1 20 l.item && is_identifier 1 12 l.lot && nat_le (least_quantity kind) l.quantity) (nat_le l.quantity (quantity_limit r kind)) h in
     let b = both_parts (is_identifier 1 20 l.item && is_identifier 1 12 l.lot) (nat_le (least_quantity kind) l.quantity) a.0 in
     let c = both_parts (is_identifier 1 20 l.item) (is_identifier 1 12 l.lot) b.0 in
-    record { item = c.0; lot = c.1; quantity = omega (arith, leb-true l.quantity (quantity_limit kind) a.1, limit-small kind) }
+    record { item = c.0; lot = c.1; quantity = omega (arith, leb-true l.quantity (quantity_limit r kind) a.1, limit-small r kind) }
 
 -- the bytes of a line of a canonical text
 abbrev is_line_byte : ℕ → Bool
@@ -94,9 +99,9 @@ abbrev AreGood : List Line → Type 0
 AreGood [] = Unit {0}
 AreGood (l ∷ ls) = IsGood l × AreGood ls
 
-all_good : (kind : clerk.SheetKind) (sheet : List Line) → list_all (is_sheet_line kind) sheet ≡ true → AreGood sheet
-all_good kind [] h = tt
-all_good kind (l ∷ ls) h = let p = both_parts (is_sheet_line kind l) (list_all (is_sheet_line kind) ls) h in (line_good kind l p.0, all_good kind ls p.1)
+all_good : (r : Rules) (kind : clerk.SheetKind) (sheet : List Line) → list_all (is_sheet_line r kind) sheet ≡ true → AreGood sheet
+all_good r kind [] h = tt
+all_good r kind (l ∷ ls) h = let p = both_parts (is_sheet_line r kind l) (list_all (is_sheet_line r kind) ls) h in (line_good r kind l p.0, all_good r kind ls p.1)
 
 records_read : (sheet : List Line) → AreGood sheet → filter_map record_in (parts_at 10 (flat_map line_text sheet)) ≡ map raw_of sheet
 records_read [] g = refl
@@ -128,38 +133,38 @@ is_some_number n h = by_test (n == 0) refl
     by_test true e = absurd (omega (arith, h, eqb-true n 0 e))
     by_test false e = refl
 
-picks_some : (kind : clerk.SheetKind) (l : Line) → is_sheet_line kind l ≡ true → picks_nothing kind (raw_of l) ≡ false
-picks_some clerk.CountSheet l h = refl
-picks_some clerk.RecountSheet l h = refl
-picks_some clerk.PickSheet l h =
-    let g = line_good clerk.PickSheet l h in
-    let a = both_parts (is_identifier 1 20 l.item && is_identifier 1 12 l.lot && nat_le 1 l.quantity) (nat_le l.quantity (quantity_limit clerk.PickSheet)) h in
+picks_some : (r : Rules) (kind : clerk.SheetKind) (l : Line) → is_sheet_line r kind l ≡ true → picks_nothing kind (raw_of l) ≡ false
+picks_some r clerk.CountSheet l h = refl
+picks_some r clerk.RecountSheet l h = refl
+picks_some r clerk.PickSheet l h =
+    let g = line_good r clerk.PickSheet l h in
+    let a = both_parts (is_identifier 1 20 l.item && is_identifier 1 12 l.lot && nat_le 1 l.quantity) (nat_le l.quantity (quantity_limit r clerk.PickSheet)) h in
     let b = both_parts (is_identifier 1 20 l.item && is_identifier 1 12 l.lot) (nat_le 1 l.quantity) a.0 in
     let some = leb-true 1 l.quantity b.1 in
     ap (λ t. t && value (decimal l.quantity) == 0) (le-leb (length (decimal l.quantity)) 9 (short l g))
     ∙ is_some_number (value (decimal l.quantity)) (omega (arith, (digits_of l g).1, some))
 
-good_line : (kind : clerk.SheetKind) (l : Line) → is_sheet_line kind l ≡ true → is_bad_line kind (raw_of l) ≡ false
-good_line kind l h =
-    let g = line_good kind l h in
+good_line : (r : Rules) (kind : clerk.SheetKind) (l : Line) → is_sheet_line r kind l ≡ true → is_bad_line kind (raw_of l) ≡ false
+good_line r kind l h =
+    let g = line_good r kind l h in
     let number : is_number (decimal l.quantity) ≡ true = both_true (lt-ltb 0 (length (decimal l.quantity)) (decimal_nonempty l.quantity (omega (arith, g.quantity)))) (digits_of l g).0 in
-    λ i. not (g.item i && g.lot i && number i) || picks_some kind l h i
+    λ i. not (g.item i && g.lot i && number i) || picks_some r kind l h i
 
-few : (kind : clerk.SheetKind) (l : Line) → is_sheet_line kind l ≡ true → is_too_much kind (raw_of l) ≡ false
-few kind l h =
-    let g = line_good kind l h in
-    let a = both_parts (is_identifier 1 20 l.item && is_identifier 1 12 l.lot && nat_le (least_quantity kind) l.quantity) (nat_le l.quantity (quantity_limit kind)) h in
-    let most = leb-true l.quantity (quantity_limit kind) a.1 in
+few : (r : Rules) (kind : clerk.SheetKind) (l : Line) → is_sheet_line r kind l ≡ true → is_too_much r kind (raw_of l) ≡ false
+few r kind l h =
+    let g = line_good r kind l h in
+    let a = both_parts (is_identifier 1 20 l.item && is_identifier 1 12 l.lot && nat_le (least_quantity kind) l.quantity) (nat_le l.quantity (quantity_limit r kind)) h in
+    let most = leb-true l.quantity (quantity_limit r kind) a.1 in
     let length_is = le-ltb 9 (length (decimal l.quantity)) (short l g) in
-    let value_is = le-ltb (quantity_limit kind) (value (decimal l.quantity)) (omega (arith, most, (digits_of l g).1)) in
+    let value_is = le-ltb (quantity_limit r kind) (value (decimal l.quantity)) (omega (arith, most, (digits_of l g).1)) in
     λ i. length_is i || value_is i
 
-none_of : (p : RawLine → Bool) (kind : clerk.SheetKind) → ((l : Line) → is_sheet_line kind l ≡ true → p (raw_of l) ≡ false)
-    → (sheet : List Line) → list_all (is_sheet_line kind) sheet ≡ true → list_any p (map raw_of sheet) ≡ false
-none_of p kind each [] h = refl
-none_of p kind each (l ∷ ls) h =
-    let q = both_parts (is_sheet_line kind l) (list_all (is_sheet_line kind) ls) h in
-    λ i. each l q.0 i || none_of p kind each ls q.1 i
+none_of : (r : Rules) (p : RawLine → Bool) (kind : clerk.SheetKind) → ((l : Line) → is_sheet_line r kind l ≡ true → p (raw_of l) ≡ false)
+    → (sheet : List Line) → list_all (is_sheet_line r kind) sheet ≡ true → list_any p (map raw_of sheet) ≡ false
+none_of r p kind each [] h = refl
+none_of r p kind each (l ∷ ls) h =
+    let q = both_parts (is_sheet_line r kind l) (list_all (is_sheet_line r kind) ls) h in
+    λ i. each l q.0 i || none_of r p kind each ls q.1 i
 
 flipped : (l k : Line) → same_raw_pair (raw_of l) (raw_of k) ≡ false → is_pair l.item l.lot k ≡ false
 flipped l k e = elim (cases_Bool (is_pair l.item l.lot k)) [
@@ -211,19 +216,20 @@ in_order_same (l ∷ ls) h = ap (placed pair_before l) (in_order_same ls (tail_a
     placed_first (k ∷ ks) e = rw ((both_parts (pair_before l k) (is_ascending (k ∷ ks)) e).0) refl
 
 -- a sheet is made of its lines as they are written
-sheet_made : (kind : clerk.SheetKind) (sheet : List Line) → is_sheet kind sheet ≡ true → sheet_of kind (map raw_of sheet) ≡ Ok sheet
-sheet_made kind sheet h =
-    let p = both_parts (nat_le (length sheet) 99 && list_all (is_sheet_line kind) sheet) (is_ascending sheet) h in
-    let q = both_parts (nat_le (length sheet) 99) (list_all (is_sheet_line kind) sheet) p.0 in
-    let few_lines : nat_lt 99 (length (map raw_of sheet)) ≡ false = le-ltb 99 (length (map raw_of sheet)) (omega (arith, length-raw sheet, leb-true (length sheet) 99 q.0)) in
-    let none_bad = none_of (is_bad_line kind) kind (good_line kind) sheet q.1 in
-    let none_much = none_of (is_too_much kind) kind (few kind) sheet q.1 in
+sheet_made : (r : Rules) (kind : clerk.SheetKind) (sheet : List Line) → is_sheet r kind sheet ≡ true → sheet_of r kind (map raw_of sheet) ≡ Ok sheet
+sheet_made r kind sheet h =
+    let p = both_parts (nat_le (length sheet) (most_lines r) && list_all (is_sheet_line r kind) sheet) (is_ascending sheet) h in
+    let q = both_parts (nat_le (length sheet) (most_lines r)) (list_all (is_sheet_line r kind) sheet) p.0 in
+    let few_lines : nat_lt (most_lines r) (length (map raw_of sheet)) ≡ false =
+    le-ltb (most_lines r) (length (map raw_of sheet)) (omega (arith, length-raw sheet, leb-true (length sheet) (most_lines r) q.0)) in
+    let none_bad = none_of r (is_bad_line kind) kind (good_line r kind) sheet q.1 in
+    let none_much = none_of r (is_too_much r kind) kind (few r kind) sheet q.1 in
     let once = no_repeats sheet p.1 in
-    let same : in_order pair_before (map line_of (map raw_of sheet)) ≡ sheet = ap (in_order pair_before) (same_lines sheet (all_good kind sheet q.1)) ∙ in_order_same sheet p.1 in
+    let same : in_order pair_before (map line_of (map raw_of sheet)) ≡ sheet = ap (in_order pair_before) (same_lines sheet (all_good r kind sheet q.1)) ∙ in_order_same sheet p.1 in
     λ i. cond (few_lines i) (Err TooManyLines) (cond (none_bad i) (Err BadText) (cond (none_much i) (Err TooMuch) (cond (once i) (Err RepeatedLine) (Ok (same i)))))
 
-sheet_good : (kind : clerk.SheetKind) (sheet : List Line) → is_sheet kind sheet ≡ true → AreGood sheet
-sheet_good kind sheet h = all_good kind sheet (both_parts _ _ (both_parts _ _ h).0).1
+sheet_good : (r : Rules) (kind : clerk.SheetKind) (sheet : List Line) → is_sheet r kind sheet ≡ true → AreGood sheet
+sheet_good r kind sheet h = all_good r kind sheet (both_parts _ _ (both_parts _ _ h).0).1
 
 -- ---- acts
 
@@ -235,13 +241,13 @@ in_head : (b : ℕ) → is_identifier_byte b ≡ true → is_head_byte b ≡ tru
 in_head b h = ap (λ t. t || (b == 32 || is_between 97 122 b)) h
 
 -- a head and a sheet, from their text
-headed : (head : List ℕ) (h : Head) (sheet : List Line) → head_in (parts_at 32 head) ≡ Some h → list_all is_head_byte head ≡ true → is_sheet (kind_of h.kind) sheet ≡ true
-    → likely_act (head ++ 10 ∷ flat_map line_text sheet) ≡ with_sheet h (Ok sheet)
-headed head h sheet is bytes good =
-    ap act_among (split_first is_head_byte 10 refl head (flat_map line_text sheet) bytes)
-    ∙ ap (option_and_then (act_from (filter_map record_in (parts_at 10 (flat_map line_text sheet))))) is
-    ∙ ap (λ (rs : List RawLine). with_sheet h (sheet_of (kind_of h.kind) rs)) (records_read sheet (sheet_good (kind_of h.kind) sheet good))
-    ∙ ap (with_sheet h) (sheet_made (kind_of h.kind) sheet good)
+headed : (r : Rules) (head : List ℕ) (h : Head) (sheet : List Line) → head_in (parts_at 32 head) ≡ Some h → list_all is_head_byte head ≡ true → is_sheet r (kind_of h.kind) sheet ≡ true
+    → likely_act r (head ++ 10 ∷ flat_map line_text sheet) ≡ with_sheet h (Ok sheet)
+headed r head h sheet is bytes good =
+    ap (act_among r) (split_first is_head_byte 10 refl head (flat_map line_text sheet) bytes)
+    ∙ ap (option_and_then (act_from r (filter_map record_in (parts_at 10 (flat_map line_text sheet))))) is
+    ∙ ap (λ (rs : List RawLine). with_sheet h (sheet_of r (kind_of h.kind) rs)) (records_read sheet (sheet_good r (kind_of h.kind) sheet good))
+    ∙ ap (with_sheet h) (sheet_made r (kind_of h.kind) sheet good)
 
 -- the words of a head with a name
 words : (word name : List ℕ) → list_all (is_between 97 122) word ≡ true → list_all is_identifier_byte name ≡ true → parts_at 32 (word ++ 32 ∷ [] ++ name) ≡ word ∷ name ∷ []
@@ -250,15 +256,15 @@ words word name w i =
     ∙ split_first (is_between 97 122) 32 refl word name w
     ∙ ap (λ ps. word ∷ ps) (split_last is_identifier_byte 32 refl name i)
 
-named : (word name : List ℕ) (h : Head) (sheet : List Line) → list_all is_head_byte (word ++ 32 ∷ []) ≡ true → list_all (is_between 97 122) word ≡ true
-    → is_identifier 1 22 name ≡ true → named_head word name ≡ Some h → is_sheet (kind_of h.kind) sheet ≡ true
-    → likely_act (word ++ 32 ∷ [] ++ name ++ codes "\n" ++ flat_map line_text sheet) ≡ with_sheet h (Ok sheet)
-named word name h sheet front letters i is good =
+named : (r : Rules) (word name : List ℕ) (h : Head) (sheet : List Line) → list_all is_head_byte (word ++ 32 ∷ []) ≡ true → list_all (is_between 97 122) word ≡ true
+    → is_identifier 1 22 name ≡ true → named_head word name ≡ Some h → is_sheet r (kind_of h.kind) sheet ≡ true
+    → likely_act r (word ++ 32 ∷ [] ++ name ++ codes "\n" ++ flat_map line_text sheet) ≡ with_sheet h (Ok sheet)
+named r word name h sheet front letters i is good =
     let bytes = identifier_bytes 1 22 name i in
     let ended : word ++ 32 ∷ [] ++ name ++ codes "\n" ++ flat_map line_text sheet ≡ word ++ 32 ∷ [] ++ name ++ 10 ∷ flat_map line_text sheet
     = append_assoc (word ++ 32 ∷ [] ++ name) (10 ∷ []) (flat_map line_text sheet) in
-    ap likely_act ended
-    ∙ headed (word ++ 32 ∷ [] ++ name) h sheet (ap head_in (words word name letters bytes) ∙ is)
+    ap (likely_act r) ended
+    ∙ headed r (word ++ 32 ∷ [] ++ name) h sheet (ap head_in (words word name letters bytes) ∙ is)
     (all_both is_head_byte (word ++ 32 ∷ []) name front (all_in is_identifier_byte is_head_byte in_head name bytes)) good
 
 head_is : (word name : List ℕ) (h : Option Head) → is_identifier 1 22 name ≡ true
@@ -267,20 +273,20 @@ head_is : (word name : List ℕ) (h : Option Head) → is_identifier 1 22 name �
 head_is word name h i is = rw i is
 
 -- every act is found in its canonical text
-pub likely-canonical : (act : Act) → is_act act ≡ true → likely_act (canonical act) ≡ Some act
-likely-canonical (Count shipment sheet) h =
-    let p = both_parts (is_identifier 1 22 shipment) (is_sheet clerk.CountSheet sheet) h in
-    named (codes "count") shipment (record { kind = kinds.Count; number = shipment }) sheet refl refl p.0 (head_is (codes "count") shipment (Some (record { kind = kinds.Count; number = shipment })) p.0 refl) p.1
-likely-canonical (Pick number sheet) h =
-    let p = both_parts (is_identifier 1 22 number) (is_sheet clerk.PickSheet sheet) h in
-    named (codes "pick") number (record { kind = kinds.Pick; number = number }) sheet refl refl p.0 (head_is (codes "pick") number (Some (record { kind = kinds.Pick; number = number })) p.0 refl) p.1
-likely-canonical (Recount sheet) h = headed (codes "recount") (record { kind = kinds.Recount; number = [] }) sheet refl refl h
+pub likely-canonical : (r : Rules) (act : Act) → is_act r act ≡ true → likely_act r (canonical act) ≡ Some act
+likely-canonical r (Count shipment sheet) h =
+    let p = both_parts (is_identifier 1 22 shipment) (is_sheet r clerk.CountSheet sheet) h in
+    named r (codes "count") shipment (record { kind = kinds.Count; number = shipment }) sheet refl refl p.0 (head_is (codes "count") shipment (Some (record { kind = kinds.Count; number = shipment })) p.0 refl) p.1
+likely-canonical r (Pick number sheet) h =
+    let p = both_parts (is_identifier 1 22 number) (is_sheet r clerk.PickSheet sheet) h in
+    named r (codes "pick") number (record { kind = kinds.Pick; number = number }) sheet refl refl p.0 (head_is (codes "pick") number (Some (record { kind = kinds.Pick; number = number })) p.0 refl) p.1
+likely-canonical r (Recount sheet) h = headed r (codes "recount") (record { kind = kinds.Recount; number = [] }) sheet refl refl h
 
 -- what is found can be given
 
-abbrev IsAct : Option Act → Type 0
-IsAct None = Unit {0}
-IsAct (Some act) = is_act act ≡ true
+abbrev IsAct : Rules → Option Act → Type 0
+IsAct r None = Unit {0}
+IsAct r (Some act) = is_act r act ≡ true
 
 -- a head, with a number where its kind has one
 abbrev is_numbered : SheetKind → List ℕ → Bool
@@ -308,64 +314,64 @@ head_good (word ∷ []) = refl
 head_good (word ∷ number ∷ []) = named_good word number
 head_good (word ∷ number ∷ other ∷ more) = tt
 
-by_kind_good : (kind : SheetKind) (number : List ℕ) (sheet : List Line) → is_numbered kind number ≡ true → is_sheet (kind_of kind) sheet ≡ true → is_act (by_kind kind number sheet) ≡ true
-by_kind_good kinds.Count number sheet h g = both_true h g
-by_kind_good kinds.Pick number sheet h g = both_true h g
-by_kind_good kinds.Recount number sheet h g = g
+by_kind_good : (r : Rules) (kind : SheetKind) (number : List ℕ) (sheet : List Line) → is_numbered kind number ≡ true → is_sheet r (kind_of kind) sheet ≡ true → is_act r (by_kind kind number sheet) ≡ true
+by_kind_good r kinds.Count number sheet h g = both_true h g
+by_kind_good r kinds.Pick number sheet h g = both_true h g
+by_kind_good r kinds.Recount number sheet h g = g
 
-from_good : (lines : List RawLine) (h : Option Head) → IsHead h → IsAct (option_and_then (act_from lines) h)
-from_good lines None good = tt
-from_good lines (Some h) good = by_sheet (sheet_of (kind_of h.kind) lines) refl
+from_good : (r : Rules) (lines : List RawLine) (h : Option Head) → IsHead h → IsAct r (option_and_then (act_from r lines) h)
+from_good r lines None good = tt
+from_good r lines (Some h) good = by_sheet (sheet_of r (kind_of h.kind) lines) refl
   where
-    by_sheet : (r : Result (List Line) Refusal) → sheet_of (kind_of h.kind) lines ≡ r → IsAct (with_sheet h r)
-    by_sheet (Ok sheet) e = by_kind_good h.kind h.number sheet good ((sheet_of-is (kind_of h.kind) lines sheet e).0)
-    by_sheet (Err r) e = tt
+    by_sheet : (o : Result (List Line) Refusal) → sheet_of r (kind_of h.kind) lines ≡ o → IsAct r (with_sheet h o)
+    by_sheet (Ok sheet) e = by_kind_good r h.kind h.number sheet good ((sheet_of-is r (kind_of h.kind) lines sheet e).0)
+    by_sheet (Err refusal) e = tt
 
-among_good : (texts : List (List ℕ)) → IsAct (act_among texts)
-among_good [] = tt
-among_good (head ∷ lines) = from_good (filter_map record_in lines) (head_in (parts_at 32 head)) (head_good (parts_at 32 head))
+among_good : (r : Rules) (texts : List (List ℕ)) → IsAct r (act_among r texts)
+among_good r [] = tt
+among_good r (head ∷ lines) = from_good r (filter_map record_in lines) (head_in (parts_at 32 head)) (head_good (parts_at 32 head))
 
 -- an act is read only from its canonical text
-pub act_of-is : (text : List ℕ) (act : Act) → act_of text ≡ Some act → (is_act act ≡ true) × (canonical act ≡ text)
-act_of-is text act h = by_act (act_in (parts_at 10 text)) h
+pub act_of-is : (r : Rules) (text : List ℕ) (act : Act) → act_of r text ≡ Some act → (is_act r act ≡ true) × (canonical act ≡ text)
+act_of-is r text act h = by_act (act_in (parts_at 10 text)) h
   where
-    by_act : (o : Option Act) → option_and_then (act_if text) o ≡ Some act → (is_act act ≡ true) × (canonical act ≡ text)
+    by_act : (o : Option Act) → option_and_then (act_if r text) o ≡ Some act → (is_act r act ≡ true) × (canonical act ≡ text)
     by_act None e = absurd (cc)
-    by_act (Some b) e = by_test (is_act b && bytes_eq (canonical b) text) refl e
+    by_act (Some b) e = by_test (is_act r b && bytes_eq (canonical b) text) refl e
       where
-        by_test : (t : Bool) → (is_act b && bytes_eq (canonical b) text) ≡ t → cond t (Some b) None ≡ Some act → (is_act act ≡ true) × (canonical act ≡ text)
+        by_test : (t : Bool) → (is_act r b && bytes_eq (canonical b) text) ≡ t → cond t (Some b) None ≡ Some act → (is_act r act ≡ true) × (canonical act ≡ text)
         by_test true f g =
             let same : b ≡ act = cc g in
-            let p = both_parts (is_act b) (bytes_eq (canonical b) text) f in
+            let p = both_parts (is_act r b) (bytes_eq (canonical b) text) f in
             (rw (← same) p.0, rw (← same) (text_is (canonical b) text p.1))
         by_test false f g = absurd (cc)
 
 -- nothing is found where no act is read
-pub none_read : (text : List ℕ) → likely_act text ≡ None → act_of text ≡ None
-none_read text none = by_read (act_of text) refl
+pub none_read : (r : Rules) (text : List ℕ) → likely_act r text ≡ None → act_of r text ≡ None
+none_read r text none = by_read (act_of r text) refl
   where
-    by_read : (o : Option Act) → act_of text ≡ o → o ≡ None
+    by_read : (o : Option Act) → act_of r text ≡ o → o ≡ None
     by_read None e = refl
     by_read (Some act) e =
-        let p = act_of-is text act e in
-        let found : likely_act text ≡ Some act = ap likely_act (sym p.1) ∙ likely-canonical act p.0 in
+        let p = act_of-is r text act e in
+        let found : likely_act r text ≡ Some act = ap (likely_act r) (sym p.1) ∙ likely-canonical r act p.0 in
         absurd (cc)
 
 -- what is found and writes the text again is read
-pub same_read : (text : List ℕ) (act : Act) → likely_act text ≡ Some act → canonical act ≡ text → act_of text ≡ Some act
-same_read text act found same =
-    let good : is_act act ≡ true = subst IsAct found (among_good (parts_at 10 text)) in
-    ap act_of (sym same) ∙ act_of-canonical act good
+pub same_read : (r : Rules) (text : List ℕ) (act : Act) → likely_act r text ≡ Some act → canonical act ≡ text → act_of r text ≡ Some act
+same_read r text act found same =
+    let good : is_act r act ≡ true = subst (IsAct r) found (among_good r (parts_at 10 text)) in
+    ap (act_of r) (sym same) ∙ act_of-canonical r act good
 
 -- and what writes another text isn't
-pub other_read : (text : List ℕ) (act : Act) → likely_act text ≡ Some act → bytes_eq (canonical act) text ≡ false → act_of text ≡ None
-other_read text act found other = by_read (act_of text) refl
+pub other_read : (r : Rules) (text : List ℕ) (act : Act) → likely_act r text ≡ Some act → bytes_eq (canonical act) text ≡ false → act_of r text ≡ None
+other_read r text act found other = by_read (act_of r text) refl
   where
-    by_read : (o : Option Act) → act_of text ≡ o → o ≡ None
+    by_read : (o : Option Act) → act_of r text ≡ o → o ≡ None
     by_read None e = refl
     by_read (Some b) e =
-        let p = act_of-is text b e in
-        let there : likely_act text ≡ Some b = ap likely_act (sym p.1) ∙ likely-canonical b p.0 in
+        let p = act_of-is r text b e in
+        let there : likely_act r text ≡ Some b = ap (likely_act r) (sym p.1) ∙ likely-canonical r b p.0 in
         let same : act ≡ b = cc (found, there) in
         let whole : bytes_eq (canonical act) text ≡ true = (bytes_eq-Decides (canonical act) text).1 (ap canonical same ∙ p.1) in
         absurd (cc)

@@ -1,8 +1,8 @@
 -- What holds of each accepted entry after its depositor's own holds along a legal register, and along a depositor's part of it.
 use Rattle.std.proofs.Common.{◌≡◌, ℕ, ◌+◌, Bool, true, false, List, [], ◌∷◌, ◌++◌, length, Option, Some, None, refl, sym, ap, ◌∙◌, subst, append_assoc, append-nil}
 use Rattle.std.specs.Prelude.{◌&&◌, ◌==◌, bytes_eq, if◌then◌else◌, Result, Ok, Err}
-use Rattle.std.specs.List.{list_all}
 use Rattle.std.proofs.lemmas.List.Elements.{filter-append}
+use Rattle.profile.specs.declared.rules.Rules.{Rules}
 use Rattle.profile.specs.Moments.{Moment, is_moment}
 use Rattle.profile.specs.Header.{Who, who_eq}
 use Rattle.profile.specs.Events.{Event}
@@ -12,11 +12,12 @@ use Rattle.profile.specs.Register.{Command, Interchange, Enrol, Clerk, Act, Deed
 use Rattle.profile.specs.History.{History, history, events}
 use Rattle.profile.specs.Reply.{clerk_entry}
 use Rattle.profile.specs.Decision as known
-use Rattle.profile.specs.Decision.{standing, recalled, reply_by}
-use Rattle.profile.specs.Accepted.{reply_to, is_accepted, entry_of, after, accepted_on, is_command, IsLegal}
+use Rattle.profile.specs.Decision.{standing, recalled}
+use Rattle.profile.specs.Accepted.{reply_to, is_accepted, entry_of, after, is_command, IsLegal, Ruled, left_by, each_given}
 use Rattle.profile.proofs.TextLaws.{both_parts, text_is, same_text}
 use Rattle.profile.proofs.HistoryLaws.{history-numbered}
 use Rattle.profile.proofs.DecisionLaws.{reply-by}
+use Rattle.profile.proofs.RisingLaws.{legal-ruled}
 use Rattle.rules.specs.Played.{CanFollow}
 use Rattle.rules.proofs.Follows.{can_follow, act_refused}
 
@@ -34,25 +35,26 @@ along_more P before (k ∷ L) e f c =
 
 -- each accepted command makes an entry of this relation
 abbrev pub Accepts : Who → (List Entry → Entry → Type 0) → Type 0
-Accepts W P = (L : List Entry) (c : Command) (t : Moment) → is_command c ≡ true → is_moment t ≡ true → is_accepted (reply_to W L c t) ≡ true
-    → P (own L (entry_of c t).who) (entry_of c t)
+Accepts W P = (r : Rules) (L : List Entry) (c : Command) (t : Moment) → is_command r c ≡ true → is_moment t ≡ true → is_accepted (reply_to r W L c t) ≡ true
+    → P (own L (entry_of r c t).who) (entry_of r c t)
 
-along_after : (W : Who) (P : List Entry → Entry → Type 0) → Accepts W P → (L : List Entry) (c : Command × Moment) → (is_command c.0 && is_moment c.1) ≡ true → Along P [] L → Along P [] (after W L c)
-along_after W P each L c given f = by_test (is_accepted (reply_to W L c.0 c.1)) refl
+along_after : (r : Rules) (W : Who) (P : List Entry → Entry → Type 0) → Accepts W P → (L : List Entry) (c : Command × Moment) → (is_command r c.0 && is_moment c.1) ≡ true → Along P [] L → Along P [] (after r W L c)
+along_after r W P each L c given f = by_test (is_accepted (reply_to r W L c.0 c.1)) refl
   where
-    by_test : (b : Bool) → is_accepted (reply_to W L c.0 c.1) ≡ b → Along P [] (if b then L ++ entry_of c.0 c.1 ∷ [] else L)
-    by_test true e = let p = both_parts (is_command c.0) (is_moment c.1) given in along_more P [] L (entry_of c.0 c.1) f (each L c.0 c.1 p.0 p.1 e)
+    by_test : (b : Bool) → is_accepted (reply_to r W L c.0 c.1) ≡ b → Along P [] (if b then L ++ entry_of r c.0 c.1 ∷ [] else L)
+    by_test true e = let p = both_parts (is_command r c.0) (is_moment c.1) given in along_more P [] L (entry_of r c.0 c.1) f (each r L c.0 c.1 p.0 p.1 e)
     by_test false e = f
 
-along_on : (W : Who) (P : List Entry → Entry → Type 0) → Accepts W P → (L : List Entry) (cs : List (Command × Moment))
-    → list_all (λ (c : Command × Moment). is_command c.0 && is_moment c.1) cs ≡ true → Along P [] L → Along P [] (accepted_on W L cs)
+along_on : (W : Who) (P : List Entry → Entry → Type 0) → Accepts W P → (L : List Entry) (cs : List Ruled) → each_given cs ≡ true → Along P [] L → Along P [] (left_by W L cs)
 along_on W P each L [] given f = f
 along_on W P each L (c ∷ cs) given f =
-    let p = both_parts (is_command c.0 && is_moment c.1) (list_all (λ (d : Command × Moment). is_command d.0 && is_moment d.1) cs) given in
-    along_on W P each (after W L c) cs p.1 (along_after W P each L c p.0 f)
+    let p = both_parts (is_command c.0 c.1.0 && is_moment c.1.1) (each_given cs) given in
+    along_on W P each (after c.0 W L c.1) cs p.1 (along_after c.0 W P each L c.1 p.0 f)
 
-pub along_legal : (W : Who) (P : List Entry → Entry → Type 0) (L : List Entry) → Accepts W P → IsLegal W L → Along P [] L
-along_legal W P L each legal = subst (Along P []) (sym legal.left) (along_on W P each [] legal.commands legal.can_be_given tt)
+pub along_legal : (r : Rules) (W : Who) (P : List Entry → Entry → Type 0) (L : List Entry) → Accepts W P → IsLegal r W L → Along P [] L
+along_legal r W P L each legal =
+    let ruled = legal-ruled r W L legal in
+    subst (Along P []) (sym ruled.left) (along_on W P each [] ruled.commands ruled.given tt)
 
 -- Own entries.
 
@@ -91,8 +93,8 @@ along_own P w before (e ∷ L) f = by_test (who_eq e.who w) refl (along_own P w 
         (subst (λ (v : Who). P (own before v) e) same f.0, subst (λ (B : List Entry). Along1 P B (own L w)) (own_more before e w ∙ ap (λ (b : Bool). own before w ++ (if b then e ∷ [] else [])) h) later)
     by_test false h later = subst (λ (B : List Entry). Along1 P B (own L w)) (own_without before e w h) later
 
-pub own_legal : (W : Who) (P : List Entry → Entry → Type 0) (L : List Entry) (w : Who) → Accepts W P → IsLegal W L → Along1 P [] (own L w)
-own_legal W P L w each legal = along_own P w [] L (along_legal W P L each legal)
+pub own_legal : (r : Rules) (W : Who) (P : List Entry → Entry → Type 0) (L : List Entry) (w : Who) → Accepts W P → IsLegal r W L → Along1 P [] (own L w)
+own_legal r W P L w each legal = along_own P w [] L (along_legal r W P L each legal)
 
 pub along_at : (P : List Entry → Entry → Type 0) (before front : List Entry) (e : Entry) (rest : List Entry) → Along1 P before (front ++ e ∷ rest) → P (before ++ front) e
 along_at P before [] e rest f = subst (λ (B : List Entry). P B e) (sym (append-nil before)) f.0
@@ -100,8 +102,8 @@ along_at P before (k ∷ front) e rest f = subst (λ (B : List Entry). P B e) (a
 
 -- Each can follow those before it.
 
-pub follows_own : (W : Who) (L : List Entry) (w : Who) → IsLegal W L → Along1 CanFollow [] (own L w)
-follows_own W L w legal = own_legal W CanFollow L w (λ K c t given now a. can_follow W K c t given now a) legal
+pub follows_own : (r : Rules) (W : Who) (L : List Entry) (w : Who) → IsLegal r W L → Along1 CanFollow [] (own L w)
+follows_own r W L w legal = own_legal r W CanFollow L w (λ q K c t given now a. can_follow q W K c t given now a) legal
 
 -- Each act was performed.
 
@@ -113,26 +115,26 @@ IsDone M (Performed ticket act) = (event : Event) × (performed (events M) (next
 
 told_done : (W : Who) (h : History) (e : Entry) (o : Result Event Refusal) → is_accepted (known.act_told W h e o) ≡ true → (event : Event) × (o ≡ Ok event)
 told_done W h e (Ok event) a = (event, refl)
-told_done W h e (Err r) a = absurd (cc (a))
+told_done W h e (Err refusal) a = absurd (cc (a))
 
-clerk_done : (W : Who) (M : List Entry) (k : Option known.Recalled) (w : Who) (ticket : List ℕ) (act : Act) (t : Moment)
-    → is_accepted (known.clerk_by W (standing M) k w ticket act t) ≡ true → (event : Event) × (performed (history M).events ((history M).numbered + 1) act ≡ Ok event)
-clerk_done W M k w ticket act t a = by_test (length M == 0) refl k a
+clerk_done : (r : Rules) (W : Who) (M : List Entry) (k : Option known.Recalled) (w : Who) (ticket : List ℕ) (act : Act) (t : Moment)
+    → is_accepted (known.clerk_by r W (standing M) k w ticket act t) ≡ true → (event : Event) × (performed (history M).events ((history M).numbered + 1) act ≡ Ok event)
+clerk_done r W M k w ticket act t a = by_test (length M == 0) refl k a
   where
-    by_test : (b : Bool) → (length M == 0) ≡ b → (k : Option known.Recalled) → is_accepted (known.clerk_by W (if b then None else Some (history M)) k w ticket act t) ≡ true
+    by_test : (b : Bool) → (length M == 0) ≡ b → (k : Option known.Recalled) → is_accepted (known.clerk_by r W (if b then None else Some (history M)) k w ticket act t) ≡ true
         → (event : Event) × (performed (history M).events ((history M).numbered + 1) act ≡ Ok event)
     by_test true e k g = absurd (cc (g))
-    by_test false e (Some k) g = let no = act_refused act k.entry.who k.entry.moment k.entry.deed k.outgoing in absurd (cc (g, no))
-    by_test false e None g = told_done W (history M) (clerk_entry w ticket act t) (performed (history M).events ((history M).numbered + 1) act) g
+    by_test false e (Some k) g = let no = act_refused act k.entry.who k.entry.moment k.entry.deed k.entry.rules k.outgoing in absurd (cc (g, no))
+    by_test false e None g = told_done W (history M) (clerk_entry r w ticket act t) (performed (history M).events ((history M).numbered + 1) act) g
 
 done : (W : Who) → Accepts W (λ M e. IsDone M e.deed)
-done W L (Interchange text) t given now a = tt
-done W L (Enrol w) t given now a = tt
-done W L (Clerk w ticket act) t given now a =
+done W r L (Interchange text) t given now a = tt
+done W r L (Enrol w) t given now a = tt
+done W r L (Clerk w ticket act) t given now a =
     let M = own L w in
-    let little : is_accepted (known.clerk_by W (standing M) (recalled W (ticket_mark ticket) M) w ticket act t) ≡ true = ap is_accepted (sym (reply-by W M (Clerk w ticket act) t)) ∙ a in
-    let found = clerk_done W M (recalled W (ticket_mark ticket) M) w ticket act t little in
+    let little : is_accepted (known.clerk_by r W (standing M) (recalled W (ticket_mark ticket) M) w ticket act t) ≡ true = ap is_accepted (sym (reply-by r W M (Clerk w ticket act) t)) ∙ a in
+    let found = clerk_done r W M (recalled W (ticket_mark ticket) M) w ticket act t little in
     (found.0, ap (λ n. performed (events M) n act) (sym (history-numbered M)) ∙ found.1)
 
-pub done_own : (W : Who) (L : List Entry) (w : Who) → IsLegal W L → Along1 (λ M e. IsDone M e.deed) [] (own L w)
-done_own W L w legal = own_legal W (λ M e. IsDone M e.deed) L w (done W) legal
+pub done_own : (r : Rules) (W : Who) (L : List Entry) (w : Who) → IsLegal r W L → Along1 (λ M e. IsDone M e.deed) [] (own L w)
+done_own r W L w legal = own_legal r W (λ M e. IsDone M e.deed) L w (done W) legal

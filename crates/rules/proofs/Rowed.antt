@@ -12,13 +12,14 @@ use Rattle.profile.specs.Events.{Event, is_pair, pair_before, first_count}
 use Rattle.profile.specs.Movements.{Column, Expected, OnHand, Reservation, Shipped, balance}
 use Rattle.profile.specs.Rows.{LotRow, named, lot_row, running_rows}
 use Rattle.profile.proofs.TextLaws.{same_text}
-use Rattle.stock.specs.Told.{told, one, since, amount, is_row, named_by, positive, IsDistinct}
+use Rattle.stock.specs.Told.{told, one, since, amount, is_row, named_by, positive}
 use Rattle.stock.specs.Pages.{PageFacts, IsSound}
 use Rattle.stock.specs.Shows.{Shows}
 use Rattle.stock.specs.Keyed.{Pair, key_before, rises_by, row_key, IsSorted}
 use Rattle.stock.proofs.KeyLemmas.{pairs_strict, sorted_distinct}
-use Rattle.stock.proofs.Orders.{Has, Rises, in_order_rises, has_in_order, in_order_has, rising_same}
+use Rattle.stock.proofs.Orders.{Has, Rises, order_of, total_of, in_order_rises, has_in_order, in_order_has, rising_same}
 use Rattle.stock.proofs.PageLaws.{balance_told}
+use Rattle.rules.proofs.Dates.{row_dated}
 
 -- Pairs of an item and a lot, in order.
 
@@ -148,16 +149,17 @@ since_is o n e = ap (λ (x : Option ℕ). unwrap_or x 0) e ∙ by_test (n == 0) 
     by_test true f = rw f (sym (eqb-true n 0 f))
     by_test false f = rw f refl
 
-row_is : (p : PageFacts) (es : List Event) (r : LotRow) → Shows p es → IsDistinct p.rows → Has r p.rows → r ≡ row_at es (row_key r)
-row_is p es r shows distinct has =
-    let once = distinct r.item r.lot in
+row_is : (p : PageFacts) (es : List Event) (r : LotRow) → IsSorted p.rows → Shows p es → Has r p.rows → r ≡ row_at es (row_key r)
+row_is p es r sorted shows has =
+    let once = sorted_distinct p.rows sorted r.item r.lot in
+    let date = row_dated p es r sorted shows has in
     let column : (c : Column) → balance es c r.item r.lot ≡ amount c r = λ c. sym (balance_told p es shows c r.item r.lot) ∙ told_own (amount c) r p.rows has once in
     let first : unwrap_or (first_count es r.item r.lot) 0 ≡ r.since = since_is (first_count es r.item r.lot) (told since r.item r.lot p.rows) (shows.sinces r.item r.lot) ∙ told_own since r p.rows has once in
     let expected = column Expected in
     let on_hand = column OnHand in
     let reserved = column Reservation in
     let shipped = column Shipped in
-    λ i. record { item = r.item; lot = r.lot; since = sym first i; expected = sym expected i; on_hand = sym on_hand i; reserved = sym reserved i; shipped = sym shipped i }
+    λ i. record { item = r.item; lot = r.lot; expiry = date i; since = sym first i; expected = sym expected i; on_hand = sym on_hand i; reserved = sym reserved i; shipped = sym shipped i }
 
 rows_are_at : (p : PageFacts) (es : List Event) (rs : List LotRow) → ((r : LotRow) → Has r rs → r ≡ row_at es (row_key r)) → rs ≡ map (row_at es) (map row_key rs)
 rows_are_at p es [] each = refl
@@ -192,13 +194,12 @@ some_named ls a e = omega (arith, ap (λ (t : Bool). cond {A = ℕ} t 1 0) e)
 -- rows in order are the definition's
 pub rows_in_order : (p : PageFacts) (es : List Event) → IsSorted p.rows → Shows p es → p.rows ≡ running_rows es
 rows_in_order p es sorted shows =
-    let distinct = sorted_distinct p.rows sorted in
     let ls = flat_map named es in
     let keys : map row_key p.rows ≡ in_order key_before (map line_key ls) =
-    rising_same key_before pairs_strict (map row_key p.rows) (in_order key_before (map line_key ls)) (keys_rise p.rows sorted) (in_order_rises key_before pairs_strict (map line_key ls))
-    (λ a h. in_order_has key_before pairs_strict a (map line_key ls) (has_line a ls (named_some ls a (omega (arith, row_has a p.rows h, shows.pairs a.0 a.1)))))
-    (λ a h. has_row a p.rows (omega (arith, some_named ls a (line_has a ls (has_in_order key_before pairs_strict a (map line_key ls) h)), shows.pairs a.0 a.1))) in
-    rows_are_at p es p.rows (λ r h. row_is p es r shows distinct h)
+    rising_same key_before (order_of key_before pairs_strict) (map row_key p.rows) (in_order key_before (map line_key ls)) (keys_rise p.rows sorted) (in_order_rises key_before (order_of key_before pairs_strict) (map line_key ls))
+    (λ a h. in_order_has key_before a (map line_key ls) (total_of key_before pairs_strict (map line_key ls)) (has_line a ls (named_some ls a (omega (arith, row_has a p.rows h, shows.pairs a.0 a.1)))))
+    (λ a h. has_row a p.rows (omega (arith, some_named ls a (line_has a ls (has_in_order key_before a (map line_key ls) h)), shows.pairs a.0 a.1))) in
+    rows_are_at p es p.rows (λ r h. row_is p es r sorted shows h)
     ∙ ap (map (row_at es)) (keys ∙ sym (ordered_keys ls))
     ∙ sym (rows_at es (in_order pair_before ls))
 

@@ -19,7 +19,7 @@ who = Text (codes "ZZ-ACME")
 
 abbrev bolts : ℕ → ℕ → ℕ → ℕ → ℕ → LotRow
 bolts since expected on_hand reserved shipped =
-    record { item = codes "BOLT"; lot = codes "L1"; since = since; expected = expected; on_hand = on_hand; reserved = reserved; shipped = shipped }
+    record { item = codes "BOLT"; lot = codes "L1"; expiry = None; since = since; expected = expected; on_hand = on_hand; reserved = reserved; shipped = shipped }
 
 abbrev line : ℕ → Line
 line quantity = record { item = codes "BOLT"; lot = codes "L1"; quantity = quantity }
@@ -38,6 +38,13 @@ announced : table_changes acme (Stock (bolts 0 100 0 0 0) ∷ Advice (advice tru
     ∷ Puts (codes "advice_line") (who ∷ Text (codes "SHP1") ∷ Number 1 ∷ Text (codes "BOLT") ∷ Text (codes "L1") ∷ Number 100 ∷ [])
     ∷ []
 announced = refl
+
+-- and, where it gives one, the date of a pair
+dated : table_changes acme (Stock (record (bolts 0 100 0 0 0) { expiry = Some (codes "20271231") }) ∷ []) ≡
+    Puts (codes "stock") (who ∷ Text (codes "BOLT") ∷ Text (codes "L1") ∷ Number 0 ∷ Number 100 ∷ Number 0 ∷ Number 0 ∷ Number 0 ∷ [])
+    ∷ Puts (codes "lot_expiry") (who ∷ Text (codes "BOLT") ∷ Text (codes "L1") ∷ Text (codes "20271231") ∷ [])
+    ∷ []
+dated = refl
 
 -- its count closes it; the document comes with the entry's outgoing text
 counted : table_changes acme (Stock (bolts 2 0 90 0 0) ∷ Advice (advice false) ∷ Sent 2 Receipt ∷ []) ≡

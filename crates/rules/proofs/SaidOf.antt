@@ -4,6 +4,7 @@ use Rattle.std.specs.Prelude.{Result, is_some, fold, option_map, if◌then◌els
 use Rattle.std.specs.Option.{option_or}
 use borrow.Author.Tests.{eqb-true}
 use Rattle.std.proofs.lemmas.Bool.{cases_Bool, ne_eqb, eq-eqb, le-ltb}
+use Rattle.profile.specs.declared.rules.Rules.{Rules}
 use Rattle.profile.specs.Lists.{or_else}
 use Rattle.profile.specs.Moments.{Moment}
 use Rattle.profile.specs.Header.{Who}
@@ -55,11 +56,11 @@ performed_says : (es : List Event) (m : ℕ) (act : Act) (n : ℕ) (f : List ℕ
 performed_says es m act n f (Ok event) e = or_else_none (acknowledges n f event) ∙ act_says es m act event n f (of_performed es m act event e)
 performed_says es m act n f (Err r) e = refl
 
-added_says : (h : History) (w : Who) (t : Moment) (d : Deed) (n : ℕ) (f : List ℕ) → (after_entry h (record { who = w; moment = t; deed = d })).numbered ≤ n
-    → said_of (events_added h.events (h.numbered + 1) d) n f ≡ None
-added_says h w t Enrolled n f le = refl
-added_says h w t (Received text) n f le = sets_say h.events (h.numbered + 1) (events_added h.events (h.numbered + 1) (Received text)) n f le (of_received h.events (h.numbered + 1) text)
-added_says h w t (Performed ticket act) n f le = performed_says h.events (h.numbered + 1) act n f (performed h.events (h.numbered + 1) act) refl
+added_says : (h : History) (w : Who) (t : Moment) (d : Deed) (q : Rules) (n : ℕ) (f : List ℕ) → (after_entry h (record { who = w; moment = t; deed = d; rules = q })).numbered ≤ n
+    → said_of (events_added q h.events (h.numbered + 1) d) n f ≡ None
+added_says h w t Enrolled q n f le = refl
+added_says h w t (Received text) q n f le = sets_say h.events (h.numbered + 1) (events_added q h.events (h.numbered + 1) (Received text)) n f le (of_received q h.events (h.numbered + 1) text)
+added_says h w t (Performed ticket act) q n f le = performed_says h.events (h.numbered + 1) act n f (performed h.events (h.numbered + 1) act) refl
 
 said_from : (f : List ℕ) (h : History) (M : List Entry) → ((n : ℕ) → h.numbered ≤ n → said_of h.events n f ≡ None) → (n : ℕ) → (fold after_entry h M).numbered ≤ n → said_of (fold after_entry h M).events n f ≡ None
 said_from f h [] before n le = before n le
@@ -67,9 +68,9 @@ said_from f h (e ∷ M) before n le = said_from f (after_entry h e) M (λ k l. o
   where
     one : (k : ℕ) → (after_entry h e).numbered ≤ k → said_of (after_entry h e).events k f ≡ None
     one k l =
-        first_found-append (acknowledges k f) h.events (events_added h.events (h.numbered + 1) e.deed)
-        ∙ ap (λ (o : Option Bool). or_else o (said_of (events_added h.events (h.numbered + 1) e.deed) k f)) (before k (omega (arith, l, numbered_le h e)))
-        ∙ added_says h e.who e.moment e.deed k f l
+        first_found-append (acknowledges k f) h.events (events_added e.rules h.events (h.numbered + 1) e.deed)
+        ∙ ap (λ (o : Option Bool). or_else o (said_of (events_added e.rules h.events (h.numbered + 1) e.deed) k f)) (before k (omega (arith, l, numbered_le h e)))
+        ∙ added_says h e.who e.moment e.deed e.rules k f l
 
 -- nothing is said of the last entry's document, or of a later one's
 pub said_above : (M : List Entry) (n : ℕ) (f : List ℕ) → (history M).numbered ≤ n → said_of (events M) n f ≡ None

@@ -1,9 +1,10 @@
--- The tables `entry` and `outgoing` with one entry more.
+-- The tables `entry`, `entry_rules` and `outgoing` with one entry more.
 use Rattle.std.proofs.Common.{◌≡◌, ℕ, ◌+◌, ◌<◌, ◌≤◌, Bool, true, false, ◌&&◌, cond, List, [], ◌∷◌, ◌++◌, length, map, Option, Some, None, refl, sym, ap, ◌∙◌, subst, inl, inr, arith, append_assoc, append-nil}
 use Rattle.std.specs.Prelude.{fold, option_map, ◌==◌, nat_lt, bytes_eq, if◌then◌else◌}
 use Rattle.std.specs.List.{list_all}
 use Rattle.std.proofs.lemmas.Bool.{and_parts, lt-ltb, le-ltb, ltb-true}
 use Rattle.std.proofs.lemmas.List.{length-append, map-id, map-append}
+use Rattle.profile.specs.declared.rules.Rules.{Rules}
 use Rattle.profile.specs.Bytes.{comes_before}
 use Rattle.profile.specs.Moments.{Moment}
 use Rattle.profile.specs.Header.{Who, who_text}
@@ -13,8 +14,8 @@ use Rattle.profile.specs.Page.{PageDocument}
 use Rattle.profile.specs.Register.{Deed, Enrolled, Received, Performed, Entry, is_numbered, next_number}
 use Rattle.profile.specs.History.{events}
 use Rattle.profile.specs.Reply.{out}
-use Rattle.profile.specs.Tables.{Cell, Null, Number, Text, Blob, TableRow, entry_row, entries_on, entry_table, outgoing_cells}
-use Rattle.profile.specs.Schema.{key_in, put_row, entry_schema, outgoing_schema}
+use Rattle.profile.specs.Tables.{Cell, Null, Number, Text, Blob, TableRow, entry_row, entries_on, entry_table, entry_rules_row, entry_rules_on, entry_rules_table, outgoing_cells}
+use Rattle.profile.specs.Schema.{key_in, put_row, entry_schema, entry_rules_schema, outgoing_schema}
 use Rattle.profile.specs.Changes.{with_state}
 use Rattle.profile.proofs.TextLaws.{same_text}
 use Rattle.profile.proofs.HistoryLaws.{history-numbered, history_snoc}
@@ -61,6 +62,33 @@ entries_put before (k ∷ L) n a b c d f lt =
 pub entry_put : (L : List Entry) (e : Entry) → put_row entry_schema (entry_row L e) (entry_table L) ≡ entry_table (L ++ e ∷ [])
 entry_put L e = entries_put [] L (length L + 1) _ _ _ _ _ (omega arith) ∙ sym (entries_snoc [] L e)
 
+-- Rules of entries.
+
+rules_snoc : (before L : List Entry) (e : Entry) → entry_rules_on before (L ++ e ∷ []) ≡ entry_rules_on before L ++ entry_rules_row (before ++ L) e ∷ []
+rules_snoc before [] e = ap (λ (B : List Entry). entry_rules_row B e ∷ []) (sym (append-nil before))
+rules_snoc before (k ∷ L) e =
+    ap (λ (rows : List TableRow). entry_rules_row before k ∷ rows)
+    (rules_snoc (before ++ k ∷ []) L e ∙ ap (λ (B : List Entry). entry_rules_on (before ++ k ∷ []) L ++ entry_rules_row B e ∷ []) (append_assoc before (k ∷ []) L))
+
+-- a row with this number
+abbrev ruled_row : ℕ → Cell → TableRow
+ruled_row n a = Number n ∷ a ∷ []
+
+rules_put : (before L : List Entry) (n : ℕ) (a : Cell) → length before + length L < n
+    → put_row entry_rules_schema (ruled_row n a) (entry_rules_on before L) ≡ entry_rules_on before L ++ ruled_row n a ∷ []
+rules_put before [] n a lt = refl
+rules_put before (k ∷ L) n a lt =
+    let m = length before + 1 in
+    let later : nat_lt n m ≡ false = le-ltb n m (omega (arith, lt)) in
+    let sooner : nat_lt m n ≡ true = lt-ltb m n (omega (arith, lt)) in
+    let one : length (before ++ k ∷ []) ≡ length before + 1 = length-append before (k ∷ []) in
+    (λ i. if (last_cell (nat_lt n m) (nat_lt m n) ∙ later) i then ruled_row n a ∷ entry_rules_row before k ∷ entry_rules_on (before ++ k ∷ []) L
+    else (if (last_cell (nat_lt m n) (nat_lt n m) ∙ sooner) i then entry_rules_row before k ∷ rules_put (before ++ k ∷ []) L n a (omega (arith, one, lt)) i
+    else ruled_row n a ∷ entry_rules_on (before ++ k ∷ []) L))
+
+pub entry_rules_put : (L : List Entry) (e : Entry) → put_row entry_rules_schema (entry_rules_row L e) (entry_rules_table L) ≡ entry_rules_table (L ++ e ∷ [])
+entry_rules_put L e = rules_put [] L (length L + 1) _ (omega arith) ∙ sym (rules_snoc [] L e)
+
 -- Numbers.
 
 pub next_snoc : (M : List Entry) (e : Entry) → next_number (M ++ e ∷ []) ≡ next_number M + (if is_numbered e then 1 else 0)
@@ -88,12 +116,12 @@ next_behind before e M h =
     omega (arith, next_more (before ++ e ∷ []) M, ap next_number (append_assoc before (e ∷ []) M), next_snoc before e, ap (λ (b : Bool). cond {A = ℕ} b 1 0) h)
 
 row_number : (W : Who) (es : List Event) (before : List Entry) (e : Entry) → (out_row W es before e).n ≡ next_number before
-row_number W es before e = by e.who e.moment e.deed
+row_number W es before e = by e.who e.moment e.deed e.rules
   where
-    by : (w : Who) (t : Moment) (d : Deed) → (out_row W es before (record { who = w; moment = t; deed = d })).n ≡ next_number before
-    by w t Enrolled = refl
-    by w t (Received text) = refl
-    by w t (Performed ticket act) = refl
+    by : (w : Who) (t : Moment) (d : Deed) (z : Rules) → (out_row W es before (record { who = w; moment = t; deed = d; rules = z })).n ≡ next_number before
+    by w t Enrolled z = refl
+    by w t (Received text) z = refl
+    by w t (Performed ticket act) z = refl
 
 -- The rows of a depositor.
 
@@ -222,20 +250,20 @@ pub record AreStates (M : List Entry) (e : Entry) (p q : PageFacts) (cs : List C
   pub proper : AreProper p cs
   pub done : Along1 (λ (N : List Entry) (k : Entry). IsDone N k.deed) [] M
 
-row_decided : (W : Who) (M : List Entry) (new : Entry) (p q : PageFacts) (cs : List Change) → AreStates M new p q cs → (before : List Entry) (w : Who) (t : Moment) (d : Deed) (behind : List Entry)
-    → M ≡ before ++ (record { who = w; moment = t; deed = d }) ∷ behind → is_numbered (record { who = w; moment = t; deed = d }) ≡ true
+row_decided : (W : Who) (M : List Entry) (new : Entry) (p q : PageFacts) (cs : List Change) → AreStates M new p q cs → (before : List Entry) (w : Who) (t : Moment) (d : Deed) (z : Rules) (behind : List Entry)
+    → M ≡ before ++ (record { who = w; moment = t; deed = d; rules = z }) ∷ behind → is_numbered (record { who = w; moment = t; deed = d; rules = z }) ≡ true
     → sent_under (next_number before) (events M) ≡ sent_of d → sent_under (next_number before) (events (M ++ new ∷ [])) ≡ sent_of d
-    → all_decided cs (out_row W (events M) before (record { who = w; moment = t; deed = d })) ≡ out_row W (events (M ++ new ∷ [])) before (record { who = w; moment = t; deed = d })
-row_decided W M new p q cs states before w t Enrolled behind is numbered first second = absurd (cc (numbered))
-row_decided W M new p q cs states before w t (Received text) behind is numbered first second =
+    → all_decided cs (out_row W (events M) before (record { who = w; moment = t; deed = d; rules = z })) ≡ out_row W (events (M ++ new ∷ [])) before (record { who = w; moment = t; deed = d; rules = z })
+row_decided W M new p q cs states before w t Enrolled z behind is numbered first second = absurd (cc (numbered))
+row_decided W M new p q cs states before w t (Received text) z behind is numbered first second =
     let n = next_number before in
-    let e : Entry = record { who = w; moment = t; deed = Received text } in
+    let e : Entry = record { who = w; moment = t; deed = Received text; rules = z } in
     let none : document_at n p.documents ≡ None = states.shows.documents n ∙ ap (option_map (document_of (events M) n)) first in
     untouched cs p (out_row W (events M) before e) states.proper none (omega (arith, next_behind before e behind refl, ap next_number is, states.entries))
-row_decided W M new p q cs states before w t (Performed ticket act) behind is numbered first second =
+row_decided W M new p q cs states before w t (Performed ticket act) z behind is numbered first second =
     let n = next_number before in
     let f = act_function act in
-    let e : Entry = record { who = w; moment = t; deed = Performed ticket act } in
+    let e : Entry = record { who = w; moment = t; deed = Performed ticket act; rules = z } in
     let es = events M in
     let fs = events (M ++ new ∷ []) in
     let old : document_at n p.documents ≡ Some (document_of es n f) = states.shows.documents n ∙ ap (option_map (document_of es n)) first in
@@ -265,15 +293,15 @@ rows_decided W M new p q cs states before (e ∷ N) is =
         let first : sent_under n (events M) ≡ sent_of e.deed = ap (λ (K : List Entry). sent_under n (events K)) is ∙ sent_at before e N h done in
         let more : M ++ new ∷ [] ≡ before ++ e ∷ (N ++ new ∷ []) = ap (λ (K : List Entry). K ++ new ∷ []) is ∙ append_assoc before (e ∷ N) (new ∷ []) in
         let second : sent_under n (events (M ++ new ∷ [])) ≡ sent_of e.deed = ap (λ (K : List Entry). sent_under n (events K)) more ∙ sent_at before e (N ++ new ∷ []) h done in
-        ap (λ (r : OutRow). r ∷ []) (row_decided W M new p q cs states before e.who e.moment e.deed N is h first second)
+        ap (λ (r : OutRow). r ∷ []) (row_decided W M new p q cs states before e.who e.moment e.deed e.rules N is h first second)
 
 -- the row of the new entry is as new under the events with it
-new_row : (W : Who) (M : List Entry) (w : Who) (t : Moment) (d : Deed) → is_numbered (record { who = w; moment = t; deed = d }) ≡ true
-    → out_row W [] M (record { who = w; moment = t; deed = d }) ≡ out_row W (events (M ++ (record { who = w; moment = t; deed = d }) ∷ [])) M (record { who = w; moment = t; deed = d })
-new_row W M w t Enrolled numbered = absurd (cc (numbered))
-new_row W M w t (Received text) numbered = refl
-new_row W M w t (Performed ticket act) numbered =
-    let e : Entry = record { who = w; moment = t; deed = Performed ticket act } in
+new_row : (W : Who) (M : List Entry) (w : Who) (t : Moment) (d : Deed) (z : Rules) → is_numbered (record { who = w; moment = t; deed = d; rules = z }) ≡ true
+    → out_row W [] M (record { who = w; moment = t; deed = d; rules = z }) ≡ out_row W (events (M ++ (record { who = w; moment = t; deed = d; rules = z }) ∷ [])) M (record { who = w; moment = t; deed = d; rules = z })
+new_row W M w t Enrolled z numbered = absurd (cc (numbered))
+new_row W M w t (Received text) z numbered = refl
+new_row W M w t (Performed ticket act) z numbered =
+    let e : Entry = record { who = w; moment = t; deed = Performed ticket act; rules = z } in
     let n = next_number M in
     let none : said_of (events (M ++ e ∷ [])) n (act_function act) ≡ None =
     said_above (M ++ e ∷ []) n (act_function act) (omega (arith, history-numbered (M ++ e ∷ []), next_snoc M e)) in
@@ -286,7 +314,7 @@ rows_led W M e p q cs states numbered =
     let r = new_out_row W M e in
     let es = events (M ++ e ∷ []) in
     let last : all_decided cs r ≡ out_row W es M e =
-    untouched_new cs p r states.proper (omega (arith, row_number W [] M e, states.entries)) ∙ new_row W M e.who e.moment e.deed numbered in
+    untouched_new cs p r states.proper (omega (arith, row_number W [] M e, states.entries)) ∙ new_row W M e.who e.moment e.deed e.rules numbered in
     map-append (all_decided cs) (outgoing_on W (events M) [] M) (r ∷ [])
     ∙ (λ i. rows_decided W M e p q cs states [] M refl i ++ last i ∷ [])
     ∙ sym (on_snoc W es [] M e ∙ ap (λ (b : Bool). outgoing_on W es [] M ++ (if b then out_row W es M e ∷ [] else [])) numbered)

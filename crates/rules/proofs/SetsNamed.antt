@@ -1,6 +1,6 @@
 -- What is named of sets.
 use Rattle.std.proofs.Common.{◌≡◌, ℕ, true, List, [], ◌∷◌, ◌++◌, Option, None, ap, sym, subst, ◌∙◌}
-use Rattle.profile.specs.declared.rules.Rules.TheVariants.{One}
+use Rattle.profile.specs.declared.rules.Rules.{Rules}
 use Rattle.profile.specs.Bytes.{Delims}
 use Rattle.profile.specs.Cut.{Segment, Piece, AreOf, segments_of}
 use Rattle.profile.specs.Faults.{set_fault, IsFaultOf}
@@ -19,13 +19,13 @@ order_named n kind ss o is same names = subst (NamesOrder n) (sym same) (subst (
 pub ack_named : (n : Named) (kind : SetKind) (ss : List Segment) (a : Acknowledgment) → kind ≡ FunctionalAcknowledgment → a ≡ acknowledgment_of ss → NamesSet n kind ss → n.documents a.document ≡ true
 ack_named n kind ss a is same names = ap (λ (x : Acknowledgment). n.documents x.document) same ∙ subst (λ (k : SetKind). NamesSet n k ss) is names
 
--- of a set that has no fault
-abbrev pub NamesPassed : Delims → Named → SetKind → List Segment → Type 0
-NamesPassed d n kind ss = set_fault One d (kind_words One kind) ss ≡ None → NamesSet n kind ss
+-- of a set that has no fault by the rules
+abbrev pub NamesPassed : Rules → Delims → Named → SetKind → List Segment → Type 0
+NamesPassed r d n kind ss = set_fault r d (kind_words r kind) ss ≡ None → NamesSet n kind ss
 
-pub named_same : (d : Delims) (n : Named) (kind k : SetKind) (ps qs : List Piece) → k ≡ kind → qs ≡ ps → IsFaultOf One kind ps None → AreOf d ps
-    → NamesPassed d n kind (segments_of ps) → NamesSet n k (segments_of qs)
-named_same d n kind k ps qs is same none of names =
+pub named_same : (r : Rules) (d : Delims) (n : Named) (kind k : SetKind) (ps qs : List Piece) → k ≡ kind → qs ≡ ps → IsFaultOf r kind ps None → AreOf d ps
+    → NamesPassed r d n kind (segments_of ps) → NamesSet n k (segments_of qs)
+named_same r d n kind k ps qs is same none of names =
     subst (λ (x : SetKind). NamesSet n x (segments_of qs)) (sym is) (subst (λ (xs : List Piece). NamesSet n kind (segments_of xs)) (sym same) (names (none d of)))
 
 pub sets_named : (d : Delims) (n : Named) (kind : Option SetKind) (ps qs : List (Set × Option ℕ)) → NamesSets d n kind (ps ++ qs) → NamesSets d n kind ps × NamesSets d n kind qs

@@ -1,6 +1,7 @@
 -- Whom a readable interchange names.
 use Rattle.std.proofs.Common.{◌≡◌, ℕ, Bool, true, false, List, refl, sym, ◌∙◌, ap, Option, Some, None}
 use Rattle.std.specs.Prelude.{option_map, if◌then◌else◌}
+use Rattle.profile.specs.declared.rules.Rules.{Rules}
 use Rattle.profile.specs.Header.{Who, is_unreadable, is_partner, sender, isa}
 use Rattle.profile.specs.Moments.{Moment}
 use Rattle.profile.specs.Register.{Interchange, command_mark, interchange_mark}
@@ -35,9 +36,9 @@ named_is text w h = by_test (is_partner (sender text)) refl h
     by_test false e g = absurd (cc)
 
 -- an entry of these parts is that of the interchange
-pub entry_named : (text header : List ℕ) (w : Who) (n : ℕ) (t : Moment) (e : Written) → header ≡ text → Some w ≡ sender_named header
-    → e ≡ record { who = w; key = interchange_mark (isa header 13); n = n; moment = t; body = text } → e ≡ written_as n (interchange_entry text t)
-entry_named text header w n t e same is made =
+pub entry_named : (r : Rules) (text header : List ℕ) (w : Who) (n : ℕ) (t : Moment) (e : Written) → header ≡ text → Some w ≡ sender_named header
+    → e ≡ record { who = w; key = interchange_mark (isa header 13); n = n; moment = t; body = text; rules = r } → e ≡ written_as n (interchange_entry r text t)
+entry_named r text header w n t e same is made =
     let whose : w ≡ sender text = named_is text w (is ∙ ap sender_named same) in
-    made ∙ ap (λ (x : List ℕ). record { who = w; key = interchange_mark (isa x 13); n = n; moment = t; body = text }) same
-    ∙ ap (λ (x : Who). record { who = x; key = interchange_mark (isa text 13); n = n; moment = t; body = text }) whose
+    made ∙ ap (λ (x : List ℕ). record { who = w; key = interchange_mark (isa x 13); n = n; moment = t; body = text; rules = r }) same
+    ∙ ap (λ (x : Who). record { who = x; key = interchange_mark (isa text 13); n = n; moment = t; body = text; rules = r }) whose

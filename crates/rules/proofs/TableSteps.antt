@@ -1,22 +1,24 @@
 -- A proper change of a depositor's page, as changes of the tables, makes of the page's rows in the tables those of the page with the change.
-use Rattle.std.proofs.Common.{◌≡◌, ℕ, Bool, true, false, not, ◌&&◌, List, [], ◌∷◌, ◌++◌, ◌⊎◌, map, refl, sym, ap, ◌∙◌, inl, inr, Some, None}
-use Rattle.std.specs.Prelude.{fold, filter, flat_map, codes, bytes_eq}
+use Rattle.std.proofs.Common.{◌≡◌, ℕ, Bool, true, false, not, ◌&&◌, List, [], ◌∷◌, ◌++◌, ◌⊎◌, map, refl, sym, ap, ◌∙◌, inl, inr, Option, Some, None}
+use Rattle.std.specs.Prelude.{fold, filter, flat_map, codes, bytes_eq, option_to_list}
 use Rattle.std.specs.List.{list_all, enumerate_from}
 use Rattle.std.proofs.lemmas.Bool.{cases_Bool, both_ways}
 use Rattle.profile.specs.Bytes.{comes_before}
 use Rattle.profile.specs.Means.{Line}
 use Rattle.profile.specs.Rows.{LotRow}
 use Rattle.profile.specs.Page.{PageAdvice, PageLine, PageOrder}
-use Rattle.profile.specs.Tables.{Null, Number, Text, Blob, TableRow, AllTables, text_or_null, stock_cells, advice_cells, advice_line_cells, orders_cells, order_line_cells, reservation_cells}
-use Rattle.profile.specs.Schema.{Schema, key_before, key_in, put_row, stock_schema, advice_schema, advice_line_schema, orders_schema, order_line_schema, reservation_schema}
+use Rattle.profile.specs.Tables.{Null, Number, Text, Blob, TableRow, AllTables, text_or_null, stock_cells, expiry_cells, advice_cells, advice_line_cells, orders_cells, order_line_cells, reservation_cells}
+use Rattle.profile.specs.Schema.{Schema, key_before, key_in, put_row, stock_schema, advice_schema, advice_line_schema, orders_schema, order_line_schema, reservation_schema, lot_expiry_schema}
 use Rattle.profile.specs.Changes.{is_reserved_for}
 use Rattle.profile.proofs.TextLaws.{same_text, text_is}
-use Rattle.stock.specs.Keyed.{put_by, rises_by, row_key, shipment_of, number_of, put_advice, put_order, key_before as pairs_in_order, put_row as put_lot}
+use Rattle.stock.specs.Keyed.{put_by, rises_by, row_key, shipment_of, number_of, put_advice, put_order, key_before as pairs_in_order, put_row as put_lot, IsSorted}
+use Rattle.stock.specs.Told.{told_date}
 use Rattle.stock.specs.Pages.{PageFacts, is_shipment, is_number, advice_at, order_at}
 use Rattle.stock.specs.Steps.{closed_advice, closed_order}
 use Rattle.stock.proofs.Texts.{texts_never}
 use Rattle.stock.proofs.KeyLemmas.{pairs_strict, shipment_test, number_test}
-use Rattle.rules.specs.Proper.{pair_of}
+use Rattle.rules.specs.Proper.{KeepsDate, pair_of}
+use Rattle.rules.proofs.Dates.{cells_of, date_cells, dates_of, undated_put, pair_dated, dated_put}
 use Rattle.rules.proofs.Tables.{last_cell, pairs_before}
 use Rattle.rules.proofs.Blocks.{prefixed, is_below, is_above, put_row_by, put_map, put_within, puts_within}
 use Rattle.rules.proofs.Portions.{rest_in, folds_same, filter_within, map_prefixed, puts_all, puts_numbered, cells_blocks, cells_opened, cells_kept, block_freed}
@@ -33,9 +35,9 @@ pub record IsBeside (t : List ℕ) (x : Sides) : Type 0 where
 abbrev pub framed : List ℕ → Sides → List TableRow → List TableRow
 framed t x rows = x.front ++ (prefixed t rows ++ x.behind)
 
--- the tables by their rows
-abbrev pub nine : List TableRow → List TableRow → List TableRow → List TableRow → List TableRow → List TableRow → List TableRow → List TableRow → List TableRow → AllTables
-nine book entry outgoing stock advice advice_line orders order_line reservation =
+-- the tables by their rows: those of version 1, and the two that come with version 2
+abbrev pub eleven : List TableRow → List TableRow → List TableRow → List TableRow → List TableRow → List TableRow → List TableRow → List TableRow → List TableRow → List TableRow → List TableRow → AllTables
+eleven book entry outgoing stock advice advice_line orders order_line reservation entry_rules lot_expiry =
     (codes "book", book)
     ∷ (codes "entry", entry)
     ∷ (codes "outgoing", outgoing)
@@ -45,6 +47,8 @@ nine book entry outgoing stock advice advice_line orders order_line reservation 
     ∷ (codes "orders", orders)
     ∷ (codes "order_line", order_line)
     ∷ (codes "reservation", reservation)
+    ∷ (codes "entry_rules", entry_rules)
+    ∷ (codes "lot_expiry", lot_expiry)
     ∷ []
 
 -- those of other depositors
@@ -55,6 +59,7 @@ pub record Others : Type 0 where
   pub orders : Sides
   pub order_line : Sides
   pub reservation : Sides
+  pub lot_expiry : Sides
 
 pub record AreBeside (t : List ℕ) (x : Others) : Type 0 where
   pub stock : IsBeside t x.stock
@@ -63,16 +68,19 @@ pub record AreBeside (t : List ℕ) (x : Others) : Type 0 where
   pub orders : IsBeside t x.orders
   pub order_line : IsBeside t x.order_line
   pub reservation : IsBeside t x.reservation
+  pub lot_expiry : IsBeside t x.lot_expiry
 
 -- the tables in which a depositor's page stands among others
-abbrev pub of_page : List TableRow → List TableRow → List TableRow → List ℕ → Others → PageFacts → AllTables
-of_page book entry outgoing t x p = nine book entry outgoing
+abbrev pub of_page : List TableRow → List TableRow → List TableRow → List TableRow → List ℕ → Others → PageFacts → AllTables
+of_page book entry outgoing entry_rules t x p = eleven book entry outgoing
     (framed t x.stock (map stock_cells p.rows))
     (framed t x.advice (map advice_cells p.advices))
     (framed t x.advice_line (flat_map advice_line_cells p.advices))
     (framed t x.orders (map orders_cells p.orders))
     (framed t x.order_line (flat_map order_line_cells p.orders))
     (framed t x.reservation (flat_map reservation_cells p.orders))
+    entry_rules
+    (framed t x.lot_expiry (flat_map expiry_cells p.rows))
 
 -- One table.
 
@@ -96,6 +104,25 @@ pub stock_part : (t : List ℕ) (x : Sides) (r : LotRow) (rows : List LotRow) �
 stock_part t x r rows beside =
     put_framed stock_schema (λ u row. refl) t x (stock_cells r) (map stock_cells rows) beside
     ∙ ap (framed t x) (put_map pairs_in_order row_key (rest_in 1 stock_schema) stock_cells (λ a b. pairs_before a.item a.lot b.item b.lot) r rows)
+
+-- Expiries: a row brings its date, and leaves the one that its pair has.
+
+pub expiries_part : (t : List ℕ) (x : Sides) (r : LotRow) (rows : List LotRow) → IsBeside t x → IsSorted rows → KeepsDate (told_date r.item r.lot rows) r.expiry
+    → fold (λ (U : List TableRow) (q : TableRow). put_row lot_expiry_schema (Text t ∷ q) U) (framed t x (flat_map expiry_cells rows)) (expiry_cells r)
+    ≡ framed t x (flat_map expiry_cells (put_lot r rows))
+expiries_part t x r rows beside sorted kept =
+    puts_framed lot_expiry_schema (λ u row. refl) t x (expiry_cells r) (flat_map expiry_cells rows) beside
+    ∙ ap (framed t x) (by r.expiry refl)
+  where
+    by : (o : Option (List ℕ)) → r.expiry ≡ o
+        → fold (λ (U : List TableRow) (q : TableRow). put_by key_before (rest_in 1 lot_expiry_schema) q U) (flat_map expiry_cells rows)
+        (map (λ (date : List ℕ). Text r.item ∷ Text r.lot ∷ Text date ∷ []) (option_to_list o)) ≡ flat_map expiry_cells (put_lot r rows)
+    by None is = cells_of rows ∙ ap (map date_cells) (undated_put r rows is kept sorted) ∙ sym (cells_of (put_lot r rows))
+    by (Some date) is =
+        ap (put_by key_before (rest_in 1 lot_expiry_schema) (date_cells (row_key r, date))) (cells_of rows)
+        ∙ put_map pairs_in_order pair_dated (rest_in 1 lot_expiry_schema) date_cells (λ a b. pairs_before a.0.0 a.0.1 b.0.0 b.0.1) (row_key r, date) (dates_of rows)
+        ∙ ap (map date_cells) (dated_put r date rows is sorted)
+        ∙ sym (cells_of (put_lot r rows))
 
 -- Advices.
 

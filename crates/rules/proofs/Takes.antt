@@ -3,6 +3,7 @@ use Rattle.std.proofs.Common.{◌≡◌, ℕ, zero, suc, ◌+◌, ◌-◌, ◌<�
 use Rattle.std.specs.Prelude.{codes, slice_get, unwrap_or}
 use Rattle.std.proofs.lemmas.List.{append_assoc, append-nil, map-append, take_more, length-append}
 use Rattle.std.proofs.lemmas.List.Elements.{filter_map-append}
+use Rattle.profile.specs.declared.rules.Rules.{Rules}
 use Rattle.profile.specs.Bytes.{Delims}
 use Rattle.profile.specs.Words.{SetKind}
 use Rattle.profile.specs.Cut.{Segment, Piece, AreOf, segments_of, element, has_id, last_segment}
@@ -32,11 +33,11 @@ abbrev Examined : Type 0
 Examined = Set × Option ℕ
 
 abbrev told_as : Set → Option Rejection → ToldSet
-told_as s r = record { number = element (head_of s) 1; control = control_of s; rejection = r }
+told_as s why = record { number = element (head_of s) 1; control = control_of s; rejection = why }
 
 -- nothing was taken yet
-pub none_taken : (d : Delims) (kind : Option SetKind) (p : PageFacts) → AreTaken d kind [] p p [] []
-none_taken d kind p = record {
+pub none_taken : (r : Rules) (d : Delims) (kind : Option SetKind) (p : PageFacts) → AreTaken r d kind [] p p [] []
+none_taken r d kind p = record {
   same = refl;
   shows = λ n P es part names shows. subst (Shows (after [] p.recent P)) (sym (append-nil es)) (subst (λ (q : PageFacts). Shows q es) (after_none n p P part) shows);
   proper = λ n P es part names shows. tt;
@@ -46,10 +47,10 @@ none_taken d kind p = record {
 }
 
 -- a set that is rejected leaves the page
-pub taken_rejected : (d : Delims) (kind : Option SetKind) (p : PageFacts) (s : Set) (fault : Option ℕ) (r : Rejection) (told : ToldSet)
-    → ((n : Named) (P : PageFacts) (es : List Event) → IsPart n p P → NamesUnder d n kind (s, fault) → Shows P es → outcome_of d es (p.entries + 1) kind fault s ≡ Err r) → told ≡ told_as s (Some r)
-    → AreTaken d kind ((s, fault) ∷ []) p p [] (told ∷ [])
-taken_rejected d kind p s fault r told outcome is = record {
+pub taken_rejected : (r : Rules) (d : Delims) (kind : Option SetKind) (p : PageFacts) (s : Set) (fault : Option ℕ) (why : Rejection) (told : ToldSet)
+    → ((n : Named) (P : PageFacts) (es : List Event) → IsPart n p P → NamesUnder d n kind (s, fault) → Shows P es → outcome_of r d es (p.entries + 1) kind fault s ≡ Err why) → told ≡ told_as s (Some why)
+    → AreTaken r d kind ((s, fault) ∷ []) p p [] (told ∷ [])
+taken_rejected r d kind p s fault why told outcome is = record {
   same = refl;
   shows = λ n P es part names shows. rw (outcome n P es part names.0 shows)
       (subst (Shows (after [] p.recent P)) (sym (append-nil es)) (subst (λ (q : PageFacts). Shows q es) (after_none n p P part) shows));
@@ -60,15 +61,15 @@ taken_rejected d kind p s fault r told outcome is = record {
 }
 
 -- a set that passes adds its event
-pub taken_passed : (d : Delims) (kind : Option SetKind) (p : PageFacts) (cs : List Change) (s : Set) (fault : Option ℕ) (told : ToldSet)
+pub taken_passed : (r : Rules) (d : Delims) (kind : Option SetKind) (p : PageFacts) (cs : List Change) (s : Set) (fault : Option ℕ) (told : ToldSet)
     → ((n : Named) (P : PageFacts) (es : List Event) → IsPart n p P → NamesUnder d n kind (s, fault) → Shows P es
-    → (e : Event) × (outcome_of d es (p.entries + 1) kind fault s ≡ Ok e) × Shows (put cs P) (es ++ e ∷ []) × AreProper P cs) → told ≡ told_as s None
-    → AreTaken d kind ((s, fault) ∷ []) p (put cs p) cs (told ∷ [])
-taken_passed d kind p cs s fault told outcome is = record {
+    → (e : Event) × (outcome_of r d es (p.entries + 1) kind fault s ≡ Ok e) × Shows (put cs P) (es ++ e ∷ []) × AreProper P cs) → told ≡ told_as s None
+    → AreTaken r d kind ((s, fault) ∷ []) p (put cs p) cs (told ∷ [])
+taken_passed r d kind p cs s fault told outcome is = record {
   same = refl;
   shows = λ n P es part names shows.
       let o = outcome n P es part names.0 shows in
-      rw o.1 (subst (λ (r : ℕ). Shows (after cs (r + 1) P) (es ++ o.0 ∷ [])) (sym part.recent) o.2);
+      rw o.1 (subst (λ (m : ℕ). Shows (after cs (m + 1) P) (es ++ o.0 ∷ [])) (sym part.recent) o.2);
   proper = λ n P es part names shows. (outcome n P es part names.0 shows).3;
   told = λ n P es part names shows. let o = outcome n P es part names.0 shows in rw o.1 (ap (λ (x : ToldSet). x ∷ []) is);
   entries = refl;
@@ -80,37 +81,37 @@ pub passed_append : (vs ws : List Verdict) → passed (vs ++ ws) ≡ passed vs +
 passed_append vs ws = filter_map-append event_of vs ws
 
 -- one list of sets after another
-pub taken_both : (d : Delims) (kind : Option SetKind) (ps qs : List Examined) (old mid new : PageFacts) (cs ds : List Change) (some more : List ToldSet)
-    → AreTaken d kind ps old mid cs some → AreTaken d kind qs mid new ds more → AreTaken d kind (ps ++ qs) old new (cs ++ ds) (some ++ more)
-taken_both d kind ps qs old mid new cs ds some more first second = record {
+pub taken_both : (r : Rules) (d : Delims) (kind : Option SetKind) (ps qs : List Examined) (old mid new : PageFacts) (cs ds : List Change) (some more : List ToldSet)
+    → AreTaken r d kind ps old mid cs some → AreTaken r d kind qs mid new ds more → AreTaken r d kind (ps ++ qs) old new (cs ++ ds) (some ++ more)
+taken_both r d kind ps qs old mid new cs ds some more first second = record {
   same = same_both cs ds old mid new first.same second.same;
   shows = λ n P es part names shows.
       let both = sets_named d n kind ps qs names in
       let m = old.entries + 1 in
-      let vs = verdicts_on d es m kind ps in
-      let ws = verdicts_on d (es ++ passed vs) m kind qs in
+      let vs = verdicts_on r d es m kind ps in
+      let ws = verdicts_on r d (es ++ passed vs) m kind qs in
       let q = after cs mid.recent P in
       let later : Shows (after ds new.recent q) ((es ++ passed vs) ++ passed ws) =
-      subst (λ k. Shows (after ds new.recent q) ((es ++ passed vs) ++ passed (verdicts_on d (es ++ passed vs) (k + 1) kind qs))) first.entries
+      subst (λ k. Shows (after ds new.recent q) ((es ++ passed vs) ++ passed (verdicts_on r d (es ++ passed vs) (k + 1) kind qs))) first.entries
       (second.shows n q (es ++ passed vs) (part_behind n cs old mid P first.same part) both.1 (first.shows n P es part both.0 shows)) in
-      let all : (es ++ passed vs) ++ passed ws ≡ es ++ passed (verdicts_on d es m kind (ps ++ qs)) =
-      append_assoc es (passed vs) (passed ws) ∙ ap (λ (x : List Event). es ++ x) (sym (ap passed (verdicts_append d es m kind ps qs) ∙ passed_append vs ws)) in
-      subst (λ (x : PageFacts). Shows x (es ++ passed (verdicts_on d es m kind (ps ++ qs)))) (after_both cs ds mid.recent new.recent P) (subst (Shows (after ds new.recent q)) all later);
+      let all : (es ++ passed vs) ++ passed ws ≡ es ++ passed (verdicts_on r d es m kind (ps ++ qs)) =
+      append_assoc es (passed vs) (passed ws) ∙ ap (λ (x : List Event). es ++ x) (sym (ap passed (verdicts_append r d es m kind ps qs) ∙ passed_append vs ws)) in
+      subst (λ (x : PageFacts). Shows x (es ++ passed (verdicts_on r d es m kind (ps ++ qs)))) (after_both cs ds mid.recent new.recent P) (subst (Shows (after ds new.recent q)) all later);
   proper = λ n P es part names shows.
       let both = sets_named d n kind ps qs names in
       let q = after cs mid.recent P in
       proper_behind cs ds mid.recent P (first.proper n P es part both.0 shows)
-      (second.proper n q (es ++ passed (verdicts_on d es (old.entries + 1) kind ps)) (part_behind n cs old mid P first.same part) both.1 (first.shows n P es part both.0 shows));
+      (second.proper n q (es ++ passed (verdicts_on r d es (old.entries + 1) kind ps)) (part_behind n cs old mid P first.same part) both.1 (first.shows n P es part both.0 shows));
   told = λ n P es part names shows.
       let both = sets_named d n kind ps qs names in
       let m = old.entries + 1 in
-      let vs = verdicts_on d es m kind ps in
-      let ws = verdicts_on d (es ++ passed vs) m kind qs in
+      let vs = verdicts_on r d es m kind ps in
+      let ws = verdicts_on r d (es ++ passed vs) m kind qs in
       let later : more ≡ map told_set ws =
-      subst (λ k. more ≡ map told_set (verdicts_on d (es ++ passed vs) (k + 1) kind qs)) first.entries
+      subst (λ k. more ≡ map told_set (verdicts_on r d (es ++ passed vs) (k + 1) kind qs)) first.entries
       (second.told n (after cs mid.recent P) (es ++ passed vs) (part_behind n cs old mid P first.same part) both.1 (first.shows n P es part both.0 shows)) in
       ap (λ (x : List ToldSet). some ++ x) later ∙ ap (λ (x : List ToldSet). x ++ map told_set ws) (first.told n P es part both.0 shows)
-      ∙ sym (ap (map told_set) (verdicts_append d es m kind ps qs) ∙ map-append told_set vs ws);
+      ∙ sym (ap (map told_set) (verdicts_append r d es m kind ps qs) ∙ map-append told_set vs ws);
   entries = second.entries ∙ first.entries;
   recent = omega (arith, first.recent, second.recent, length-append ps qs);
 }
@@ -180,28 +181,28 @@ pub pieces_closed : (ps : List Piece) (s : Set) (fault : Option ℕ) → segment
 pieces_closed ps s fault same framed closed none = ap (λ (ss : List Segment). ends (last_segment ss)) same ∙ framed_ends s framed (closed none)
 
 -- a set whose verdict is known, by the pieces that it holds
-abbrev IsJudgedAs : (d : Delims) (kind : SetKind) (p : PageFacts) (ps : List Piece) (v : Settled) → Type 0
-IsJudgedAs d kind p ps v = (e : Delims) → AreOf e ps → (n : Named) (P : PageFacts) (es : List Event) → IsPart n p P → NamesPassed e n kind (segments_of ps) → Shows P es
-    → IsVerdict P es (by_segment (judged e es (p.entries + 1) kind (segments_of ps))) v
+abbrev IsJudgedAs : (r : Rules) (d : Delims) (kind : SetKind) (p : PageFacts) (ps : List Piece) (v : Settled) → Type 0
+IsJudgedAs r d kind p ps v = (e : Delims) → AreOf e ps → (n : Named) (P : PageFacts) (es : List Event) → IsPart n p P → NamesPassed r e n kind (segments_of ps) → Shows P es
+    → IsVerdict P es (by_segment (judged r e es (p.entries + 1) kind (segments_of ps))) v
 
-pub take_passed : (d : Delims) (kind : SetKind) (p : PageFacts) (ps : List Piece) (s : Set) (fault : Option ℕ) (v : Settled) (step : Step) (page : PageFacts) (cs : List Change) (told : ToldSet)
-    → segments_of ps ≡ s.segments → AreOf d ps → fault ≡ None → IsJudgedAs d kind p ps v → v ≡ Passed step → page ≡ put step.changes.items p → cs ≡ step.changes.items → told ≡ told_as s None
-    → AreTaken d (Some kind) ((s, fault) ∷ []) p page cs (told ∷ [])
-take_passed d kind p ps s fault v step page cs told same of none is passes here changed shown =
-    let all : AreTaken d (Some kind) ((s, None) ∷ []) p (put step.changes.items p) step.changes.items (told ∷ []) = taken_passed d (Some kind) p step.changes.items s None told
-    (λ n P es part names shows. let w : IsVerdict P es (by_segment (judged d es (p.entries + 1) kind (segments_of ps))) (Passed step) =
-    subst (λ (x : Settled). IsVerdict P es (by_segment (judged d es (p.entries + 1) kind (segments_of ps))) x) passes
-    (is d of n P es part (subst (NamesPassed d n kind) (sym same) names) shows) in
-    (w.0, ap (λ (ss : List Segment). by_segment (judged d es (p.entries + 1) kind ss)) (sym same) ∙ w.1, w.2, w.3))
+pub take_passed : (r : Rules) (d : Delims) (kind : SetKind) (p : PageFacts) (ps : List Piece) (s : Set) (fault : Option ℕ) (v : Settled) (step : Step) (page : PageFacts) (cs : List Change) (told : ToldSet)
+    → segments_of ps ≡ s.segments → AreOf d ps → fault ≡ None → IsJudgedAs r d kind p ps v → v ≡ Passed step → page ≡ put step.changes.items p → cs ≡ step.changes.items → told ≡ told_as s None
+    → AreTaken r d (Some kind) ((s, fault) ∷ []) p page cs (told ∷ [])
+take_passed r d kind p ps s fault v step page cs told same of none is passes here changed shown =
+    let all : AreTaken r d (Some kind) ((s, None) ∷ []) p (put step.changes.items p) step.changes.items (told ∷ []) = taken_passed r d (Some kind) p step.changes.items s None told
+    (λ n P es part names shows. let w : IsVerdict P es (by_segment (judged r d es (p.entries + 1) kind (segments_of ps))) (Passed step) =
+    subst (λ (x : Settled). IsVerdict P es (by_segment (judged r d es (p.entries + 1) kind (segments_of ps))) x) passes
+    (is d of n P es part (subst (NamesPassed r d n kind) (sym same) (names r)) shows) in
+    (w.0, ap (λ (ss : List Segment). by_segment (judged r d es (p.entries + 1) kind ss)) (sym same) ∙ w.1, w.2, w.3))
     shown in
     rw (none, here, changed) all
 
-pub take_rejected : (d : Delims) (kind : SetKind) (p : PageFacts) (ps : List Piece) (s : Set) (fault : Option ℕ) (v : Settled) (r : Rejection) (page : PageFacts) (cs : List Change) (told : ToldSet)
-    → segments_of ps ≡ s.segments → AreOf d ps → fault ≡ None → IsJudgedAs d kind p ps v → v ≡ Rejected r → page ≡ p → cs ≡ [] → told ≡ told_as s (Some r)
-    → AreTaken d (Some kind) ((s, fault) ∷ []) p page cs (told ∷ [])
-take_rejected d kind p ps s fault v r page cs told same of none is rejects here changed shown =
-    let all : AreTaken d (Some kind) ((s, None) ∷ []) p p [] (told ∷ []) = taken_rejected d (Some kind) p s None r told
-    (λ n P es part names shows. ap (λ (ss : List Segment). by_segment (judged d es (p.entries + 1) kind ss)) (sym same)
-    ∙ subst (λ (x : Settled). IsVerdict P es (by_segment (judged d es (p.entries + 1) kind (segments_of ps))) x) rejects
-    (is d of n P es part (subst (NamesPassed d n kind) (sym same) names) shows)) shown in
+pub take_rejected : (r : Rules) (d : Delims) (kind : SetKind) (p : PageFacts) (ps : List Piece) (s : Set) (fault : Option ℕ) (v : Settled) (why : Rejection) (page : PageFacts) (cs : List Change) (told : ToldSet)
+    → segments_of ps ≡ s.segments → AreOf d ps → fault ≡ None → IsJudgedAs r d kind p ps v → v ≡ Rejected why → page ≡ p → cs ≡ [] → told ≡ told_as s (Some why)
+    → AreTaken r d (Some kind) ((s, fault) ∷ []) p page cs (told ∷ [])
+take_rejected r d kind p ps s fault v why page cs told same of none is rejects here changed shown =
+    let all : AreTaken r d (Some kind) ((s, None) ∷ []) p p [] (told ∷ []) = taken_rejected r d (Some kind) p s None why told
+    (λ n P es part names shows. ap (λ (ss : List Segment). by_segment (judged r d es (p.entries + 1) kind ss)) (sym same)
+    ∙ subst (λ (x : Settled). IsVerdict P es (by_segment (judged r d es (p.entries + 1) kind (segments_of ps))) x) rejects
+    (is d of n P es part (subst (NamesPassed r d n kind) (sym same) (names r)) shows)) shown in
     rw (none, here, changed) all

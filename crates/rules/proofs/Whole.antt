@@ -23,7 +23,7 @@ all_set ShippingOrder ss = record { number = refl; items = all_ordered ((order_o
 all_set FunctionalAcknowledgment ss = refl
 
 all_judged : (d : Delims) (kind : SetKind) (s : Set) (fault : Option ℕ) → NamesJudged d all_named kind s fault
-all_judged d kind s None = λ none. all_set kind s.segments
+all_judged d kind s None = λ r none. all_set kind s.segments
 all_judged d kind s (Some code) = tt
 
 all_under : (d : Delims) (kind : Option SetKind) (p : Set × Option ℕ) → NamesUnder d all_named kind p

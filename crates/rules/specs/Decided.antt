@@ -1,6 +1,7 @@
 -- What a page and what is known stand for, and the decision on a command.
 use Rattle.std.specs.Prelude.{ℕ, ◌≡◌, ◌+◌, List, [], Option, Some, None}
 use Rattle.std.specs.Borrow.{Bor}
+use Rattle.profile.specs.declared.rules.Rules.{Rules}
 use Rattle.profile.specs.Moments.{Moment}
 use Rattle.profile.specs.Register as meant
 use Rattle.profile.specs.History.{History, after_entry}
@@ -82,11 +83,11 @@ abbrev pub number_behind : ℕ → meant.Command → ℕ
 number_behind n (meant.Enrol w) = 0
 number_behind n c = n + 1
 
--- the decision that is this reply, after so many numbered entries
-abbrev pub IsReply : ℕ → meant.Command → Moment → replies.Reply → Decision → Type 0
-IsReply n c t reply (Stored text) = reply ≡ replies.Stored text.items
-IsReply n c t reply (Refused refusal text) = reply ≡ replies.Refused (refusal_of refusal) text.items
-IsReply n c t reply (Accepted e changes text) = (reply ≡ replies.Accepted text.items) × (e ≡ written_as (number_behind n c) (entry_of c t))
+-- the decision that is this reply, after so many numbered entries and under the rules of the day, which the new entry has
+abbrev pub IsReply : Rules → ℕ → meant.Command → Moment → replies.Reply → Decision → Type 0
+IsReply r n c t reply (Stored text) = reply ≡ replies.Stored text.items
+IsReply r n c t reply (Refused refusal text) = reply ≡ replies.Refused (refusal_of refusal) text.items
+IsReply r n c t reply (Accepted e changes text) = (reply ≡ replies.Accepted text.items) × (e ≡ written_as (number_behind n c) (entry_of r c t))
 
 -- a page with changes put in, when the entry ends
 abbrev pub led_to : List Change → PageFacts → PageFacts
@@ -100,29 +101,29 @@ pub record AreLeading (p : PageFacts) (cs : List Change) (h : History) : Type 0 
 
 -- the changes of an accepted command lead from each page that p has the needed part of, the page of a history, to that of the
 -- history with the command's entry
-abbrev pub LeadsOn : PageFacts → meant.Command → Moment → Decision → Type 0
-LeadsOn p c t (Stored text) = Unit {0}
-LeadsOn p c t (Refused r text) = Unit {0}
-LeadsOn p c t (Accepted e changes text) = (h : History) (P : PageFacts) → HasNeeded c p P → IsPageOf P h → AreLeading P changes.items (after_entry h (entry_of c t))
+abbrev pub LeadsOn : Rules → PageFacts → meant.Command → Moment → Decision → Type 0
+LeadsOn r p c t (Stored text) = Unit {0}
+LeadsOn r p c t (Refused refusal text) = Unit {0}
+LeadsOn r p c t (Accepted e changes text) = (h : History) (P : PageFacts) → HasNeeded c p P → IsPageOf P h → AreLeading P changes.items (after_entry h (entry_of r c t))
 
 -- a depositor that enrols has no page, and nothing changes on one
 abbrev pub ChangesNothing : Decision → Type 0
 ChangesNothing (Stored text) = Unit {0}
-ChangesNothing (Refused r text) = Unit {0}
+ChangesNothing (Refused refusal text) = Unit {0}
 ChangesNothing (Accepted e changes text) = changes.items ≡ []
 
-abbrev pub LeadsFrom : Option (Bor PageFacts) → meant.Command → Moment → Decision → Type 0
-LeadsFrom None c t d = ChangesNothing d
-LeadsFrom (Some p) c t d = LeadsOn p.now c t d
+abbrev pub LeadsFrom : Rules → Option (Bor PageFacts) → meant.Command → Moment → Decision → Type 0
+LeadsFrom r None c t d = ChangesNothing d
+LeadsFrom r (Some p) c t d = LeadsOn r p.now c t d
 
 -- no entry comes of it
 abbrev pub IsNoEntry : Decision → Type 0
 IsNoEntry (Stored text) = Unit {0}
-IsNoEntry (Refused r text) = Unit {0}
+IsNoEntry (Refused refusal text) = Unit {0}
 IsNoEntry (Accepted e changes text) = ⊥
 
--- the entry that an accepted command makes, whatever its number
-abbrev pub Makes : meant.Command → Moment → Decision → Type 0
-Makes c t (Stored text) = Unit {0}
-Makes c t (Refused r text) = Unit {0}
-Makes c t (Accepted e changes text) = unnumbered e ≡ written_as 0 (entry_of c t)
+-- the entry that an accepted command makes under the rules of the day, whatever its number
+abbrev pub Makes : Rules → meant.Command → Moment → Decision → Type 0
+Makes r c t (Stored text) = Unit {0}
+Makes r c t (Refused refusal text) = Unit {0}
+Makes r c t (Accepted e changes text) = unnumbered e ≡ written_as 0 (entry_of r c t)

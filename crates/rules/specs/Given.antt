@@ -1,7 +1,9 @@
 -- The command that an entry is of, by which it can be given again.
+use Rattle.profile.specs.declared.rules.Rules.{Rules}
 use Rattle.profile.specs.Moments.{Moment}
 use Rattle.profile.specs.Header.{Who}
 use Rattle.profile.specs.Register.{Command, Interchange, Enrol, Clerk, Deed, Enrolled, Received, Performed, Entry}
+use Rattle.profile.specs.Accepted.{Ruled}
 use Rattle.rules.specs.Asked.{read_act}
 use Rattle.rules.specs.declared.given.Deed.{Deed as Read}
 use Rattle.rules.specs.declared.given.Deed.TheVariants as read
@@ -18,6 +20,17 @@ given_by e = given_as e.who e.deed
 -- with the moment at which it was given
 abbrev pub given_at : Entry → Command × Moment
 given_at e = (given_by e, e.moment)
+
+-- and under the rules of the entry
+abbrev pub given_under : Entry → Ruled
+given_under e = (e.rules, given_at e)
+
+-- a command with the rules that it is given under
+abbrev pub RuledCommand : Type 0
+RuledCommand = Rules × Command
+
+abbrev pub ruled_by : Entry → RuledCommand
+ruled_by e = (e.rules, given_by e)
 
 -- a deed that was read
 abbrev pub read_deed : Read → Deed

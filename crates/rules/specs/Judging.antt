@@ -1,5 +1,6 @@
 -- What sets and groups come to over a page: for each list of events that the page stands for.
 use Rattle.std.specs.Prelude.{ℕ, ◌≡◌, ◌+◌, ◌≤◌, List, [], ◌∷◌, ◌++◌, length, map, fold, sum_by, flat_map, filter_map, if◌then◌else◌, Bool, not, bytes_eq, codes, Option, Some, Result, Ok, Err}
+use Rattle.profile.specs.declared.rules.Rules.{Rules}
 use Rattle.profile.specs.Bytes.{Delims}
 use Rattle.profile.specs.Words.{SetKind}
 use Rattle.profile.specs.Cut.{Segment, element}
@@ -48,7 +49,7 @@ CanBePut p (Rejected r) = Unit {0}
 
 -- a page with changes put in, in the same entry, however many events they are of
 abbrev pub after : List Change → ℕ → PageFacts → PageFacts
-after cs r P = record (fold put_change P cs) { entries = P.entries; recent = r }
+after cs m P = record (fold put_change P cs) { entries = P.entries; recent = m }
 
 -- the events of verdicts, and of tellings
 abbrev pub passed : List Told → List Event
@@ -57,22 +58,22 @@ passed vs = filter_map event_of vs
 abbrev pub told_events : List Telling → List Event
 told_events ts = flat_map events_told ts
 
--- examined sets were taken one after another, under the number of the next entry: what holds for each page of which the old
+-- examined sets were taken one after another by the rules, under the number of the next entry: what holds for each page of which the old
 -- one is a part that has what the sets name
-pub record AreTaken (d : Delims) (kind : Option SetKind) (ps : List (Set × Option ℕ)) (old new : PageFacts) (cs : List Change) (sets : List ToldSet) : Type 0 where
+pub record AreTaken (r : Rules) (d : Delims) (kind : Option SetKind) (ps : List (Set × Option ℕ)) (old new : PageFacts) (cs : List Change) (sets : List ToldSet) : Type 0 where
   pub same : new ≡ after cs new.recent old
-  pub shows : (n : Named) (P : PageFacts) (es : List Event) → IsPart n old P → NamesSets d n kind ps → Shows P es → Shows (after cs new.recent P) (es ++ passed (verdicts_on d es (old.entries + 1) kind ps))
+  pub shows : (n : Named) (P : PageFacts) (es : List Event) → IsPart n old P → NamesSets d n kind ps → Shows P es → Shows (after cs new.recent P) (es ++ passed (verdicts_on r d es (old.entries + 1) kind ps))
   pub proper : (n : Named) (P : PageFacts) (es : List Event) → IsPart n old P → NamesSets d n kind ps → Shows P es → AreProper P cs
-  pub told : (n : Named) (P : PageFacts) (es : List Event) → IsPart n old P → NamesSets d n kind ps → Shows P es → sets ≡ map told_set (verdicts_on d es (old.entries + 1) kind ps)
+  pub told : (n : Named) (P : PageFacts) (es : List Event) → IsPart n old P → NamesSets d n kind ps → Shows P es → sets ≡ map told_set (verdicts_on r d es (old.entries + 1) kind ps)
   pub entries : new.entries ≡ old.entries
   pub recent : new.recent ≤ old.recent + length ps
 
 -- a group was taken: its sets, or none of them where it has a fault
-pub record IsGroupTaken (d : Delims) (g : Group) (old new : PageFacts) (cs : List Change) (sets : List ToldSet) : Type 0 where
+pub record IsGroupTaken (r : Rules) (d : Delims) (g : Group) (old new : PageFacts) (cs : List Change) (sets : List ToldSet) : Type 0 where
   pub same : new ≡ after cs new.recent old
-  pub shows : (n : Named) (P : PageFacts) (es : List Event) → IsPart n old P → NamesGroup d n g → Shows P es → Shows (after cs new.recent P) (es ++ events_told (telling_of d es (old.entries + 1) g))
+  pub shows : (n : Named) (P : PageFacts) (es : List Event) → IsPart n old P → NamesGroup d n g → Shows P es → Shows (after cs new.recent P) (es ++ events_told (telling_of r d es (old.entries + 1) g))
   pub proper : (n : Named) (P : PageFacts) (es : List Event) → IsPart n old P → NamesGroup d n g → Shows P es → AreProper P cs
-  pub told : (n : Named) (P : PageFacts) (es : List Event) → IsPart n old P → NamesGroup d n g → Shows P es → sets ≡ map told_set ((telling_of d es (old.entries + 1) g).verdicts)
+  pub told : (n : Named) (P : PageFacts) (es : List Event) → IsPart n old P → NamesGroup d n g → Shows P es → sets ≡ map told_set ((telling_of r d es (old.entries + 1) g).verdicts)
   pub entries : new.entries ≡ old.entries
   pub recent : new.recent ≤ old.recent + length g.sets
 
@@ -99,10 +100,10 @@ abbrev pub IsSmall : Group → Type 0
 IsSmall g = (ge : Segment) → g.tail ≡ Some ge → IsAmount 9 (element ge 1)
 
 -- groups were taken one after another
-pub record AreGroupsTaken (d : Delims) (gs : List Group) (old new : PageFacts) (cs : List Change) (groups : List ToldGroup) : Type 0 where
+pub record AreGroupsTaken (r : Rules) (d : Delims) (gs : List Group) (old new : PageFacts) (cs : List Change) (groups : List ToldGroup) : Type 0 where
   pub same : new ≡ after cs new.recent old
-  pub shows : (n : Named) (P : PageFacts) (es : List Event) → IsPart n old P → NamesGroups d n gs → Shows P es → Shows (after cs new.recent P) (es ++ told_events (tellings_on d es (old.entries + 1) gs))
+  pub shows : (n : Named) (P : PageFacts) (es : List Event) → IsPart n old P → NamesGroups d n gs → Shows P es → Shows (after cs new.recent P) (es ++ told_events (tellings_on r d es (old.entries + 1) gs))
   pub proper : (n : Named) (P : PageFacts) (es : List Event) → IsPart n old P → NamesGroups d n gs → Shows P es → AreProper P cs
-  pub told : (n : Named) (P : PageFacts) (es : List Event) → IsPart n old P → NamesGroups d n gs → Shows P es → groups ≡ map told_of (answered (tellings_on d es (old.entries + 1) gs))
+  pub told : (n : Named) (P : PageFacts) (es : List Event) → IsPart n old P → NamesGroups d n gs → Shows P es → groups ≡ map told_of (answered (tellings_on r d es (old.entries + 1) gs))
   pub entries : new.entries ≡ old.entries
   pub recent : new.recent ≤ old.recent + sum_by (λ g. length g.sets) gs

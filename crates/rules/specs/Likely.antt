@@ -1,5 +1,6 @@
 -- The act that a text looks like: what is written of it again may be another text.
 use Rattle.std.specs.Prelude.{ℕ, not, List, [], ◌∷◌, codes, bytes_eq, filter_map, Option, Some, None, Result, Ok, Err, option_and_then}
+use Rattle.profile.specs.declared.rules.Rules.{Rules}
 use Rattle.profile.specs.Limits.{most_number}
 use Rattle.profile.specs.Bytes.{is_identifier}
 use Rattle.profile.specs.Lists.{first_of}
@@ -38,16 +39,16 @@ record_in text = raw_line (parts_at 44 text)
 
 abbrev pub with_sheet : Head → Result (List Line) Refusal → Option Act
 with_sheet h (Ok sheet) = Some (by_kind h.kind h.number sheet)
-with_sheet h (Err r) = None
+with_sheet h (Err refusal) = None
 
--- the act of a head and of lines, where they make a sheet
-abbrev pub act_from : List RawLine → Head → Option Act
-act_from lines h = with_sheet h (sheet_of (kind_of h.kind) lines)
+-- the act of a head and of lines, where they make a sheet by the rules
+abbrev pub act_from : Rules → List RawLine → Head → Option Act
+act_from r lines h = with_sheet h (sheet_of r (kind_of h.kind) lines)
 
-abbrev pub act_among : List (List ℕ) → Option Act
-act_among [] = None
-act_among (head ∷ lines) = option_and_then (act_from (filter_map record_in lines)) (head_in (parts_at 32 head))
+abbrev pub act_among : Rules → List (List ℕ) → Option Act
+act_among r [] = None
+act_among r (head ∷ lines) = option_and_then (act_from r (filter_map record_in lines)) (head_in (parts_at 32 head))
 
 -- the act that a text looks like
-abbrev pub likely_act : List ℕ → Option Act
-likely_act text = act_among (parts_at 10 text)
+abbrev pub likely_act : Rules → List ℕ → Option Act
+likely_act r text = act_among r (parts_at 10 text)

@@ -1,8 +1,8 @@
 -- What is named of sets that are taken, and of a command.
--- A set's names are asked for only where it has no fault, neither one of its envelope nor one of its segments: so what one scan of
--- all segments names is enough.
+-- A set's names are asked for only where it has no fault, neither one of its envelope nor, by some rules, one of its segments: so
+-- what one scan of all segments names is enough.
 use Rattle.std.specs.Prelude.{ℕ, ◌≡◌, true, false, List, [], ◌∷◌, Option, Some, None}
-use Rattle.profile.specs.declared.rules.Rules.TheVariants.{One}
+use Rattle.profile.specs.declared.rules.Rules.{Rules}
 use Rattle.profile.specs.Bytes.{Delims}
 use Rattle.profile.specs.Cut.{Segment, cut}
 use Rattle.profile.specs.Words.{SetKind, ShipmentAdvice, ShippingOrder, FunctionalAcknowledgment, kind_words}
@@ -21,10 +21,10 @@ NamesSet n ShipmentAdvice ss = NamesAdvice n (advice_of ss)
 NamesSet n ShippingOrder ss = NamesOrder n (order_of ss)
 NamesSet n FunctionalAcknowledgment ss = n.documents (acknowledgment_of ss).document ≡ true
 
--- of a set without fault
+-- of a set that has no fault by some rules
 abbrev pub NamesJudged : Delims → Named → SetKind → Set → Option ℕ → Type 0
 NamesJudged d n kind s (Some code) = Unit {0}
-NamesJudged d n kind s None = set_fault One d (kind_words One kind) s.segments ≡ None → NamesSet n kind s.segments
+NamesJudged d n kind s None = (r : Rules) → set_fault r d (kind_words r kind) s.segments ≡ None → NamesSet n kind s.segments
 
 abbrev pub NamesUnder : Delims → Named → Option SetKind → Set × Option ℕ → Type 0
 NamesUnder d n None p = Unit {0}

@@ -31,7 +31,7 @@ is_clean deed = true
 
 -- a numbered entry's events are added to the page of a history, and its text went out; the entry doesn't count yet
 pub record IsPlayed (W : Who) (h : History) (e : Entry) (p : PageFacts) (text : List ℕ) : Type 0 where
-  pub shows : Shows p (h.events ++ events_added h.events (h.numbered + 1) e.deed)
+  pub shows : Shows p (h.events ++ events_added e.rules h.events (h.numbered + 1) e.deed)
   pub entries : p.entries ≡ h.numbered
   pub outgoing : text ≡ out_by W h e
 

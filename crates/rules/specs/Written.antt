@@ -1,5 +1,6 @@
--- An entry as it is written down: whose it is, its key, its number, its moment and its body.
+-- An entry as it is written down: whose it is, its key, its number, its moment, its body and its rules.
 use Rattle.std.specs.Prelude.{ℕ, List}
+use Rattle.profile.specs.declared.rules.Rules.{Rules}
 use Rattle.profile.specs.Header.{Who}
 use Rattle.profile.specs.Moments.{Moment}
 use Rattle.profile.specs.Register.{Entry, mark, body_of}
@@ -12,10 +13,12 @@ pub record Written : Type 0 where
   pub n : ℕ
   pub moment : Moment
   pub body : List ℕ
+  -- those that it is judged by
+  pub rules : Rules
 
 -- an entry under a number
 abbrev pub written_as : ℕ → Entry → Written
-written_as n e = record { who = e.who; key = mark e; n = n; moment = e.moment; body = body_of e.deed }
+written_as n e = record { who = e.who; key = mark e; n = n; moment = e.moment; body = body_of e.deed; rules = e.rules }
 
 -- an entry when these stand before it in the register
 abbrev pub written : List Entry → Entry → Written

@@ -1,5 +1,6 @@
 //! What a clerk's act comes to.
 ghost use Rattle.std.specs.Prelude.{◌≡◌, ◌<◌, ◌+◌, ◌++◌, ◌∷◌, [], ℕ, List, Option, Some, Ok, IfOk, IfErr, option_copied};
+ghost use Rattle.profile.specs.declared.rules.Rules.{Rules};
 ghost use Rattle.profile.specs.Limits.{most_sets};
 ghost use Rattle.profile.specs.Clerk.{performed};
 ghost use Rattle.profile.specs.Decision as recalled;
@@ -26,7 +27,7 @@ use crate::decisions::Decision;
 use crate::documents::document;
 use crate::entries::{Entry, Known};
 use crate::refusals::Refusal;
-use profile::MOST_ENTRIES;
+use profile::{MOST_ENTRIES, Rules};
 use sets_out::Envelope;
 use std::alloc::{AllocError, Global};
 use stock::{Change, Page, Step, Stop, pick, receive, recount};
@@ -66,14 +67,15 @@ fn numbered(number: u8) -> Refusal
     }
 }
 
-// The entry of an act.
+// The entry of an act, under these rules.
 fn entry(
     alloc: Global,
     envelope: &Envelope,
     ticket: &[u8],
     act: &Act<'_>,
+    rules: Rules,
 ) -> Result<Entry, AllocError>
-    ensures { IfOk result (λ e. e ≡ written_as envelope.now.number (replies.clerk_entry
+    ensures { IfOk result (λ e. e ≡ written_as envelope.now.number (replies.clerk_entry rules
         envelope.now.depositor ticket.now (act_of act.now) envelope.now.moment)) }
 {
     Ok(Entry {
@@ -82,6 +84,7 @@ fn entry(
         n: envelope.number,
         moment: envelope.moment,
         body: act.canonical(alloc)?,
+        rules,
     })
 }
 
@@ -90,8 +93,8 @@ fn refused(alloc: Global, stop: Stop) -> Result<Decision, AllocError>
     ensures comes { IfOk result (IsNoEntry) }
     ensures reply { IfOk result (λ d. (es : List Event) (number : ℕ) (act : register.Act)
         → StopsAct (performed es number act) stop
-        → (W : Who) (h : History) (e : register.Entry) (n : ℕ) (c : register.Command) (t : Moment)
-        → IsReply n c t (recalled.act_told W h e (performed es number act)) d) }
+        → (r : Rules) (W : Who) (h : History) (e : register.Entry) (n : ℕ) (c : register.Command) (t : Moment)
+        → IsReply r n c t (recalled.act_told W h e (performed es number act)) d) }
 {
     match stop {
         Stop::Refused(number) => Ok(Decision::Refused(numbered(number), Vec::new(alloc))),
@@ -107,30 +110,31 @@ fn accepted(
     ticket: &[u8],
     act: &Act<'_>,
     changes: Vec<Change>,
+    rules: Rules,
 ) -> Result<Decision, AllocError>
     requires number { envelope.now.number ≡ page.now.entries + 1 }
     requires led { (h : History) (P : PageFacts)
         → HasNeeded (register.Clerk envelope.now.depositor ticket.now (act_of act.now)) page.now P
         → IsPageOf P h
-        → AreLeading P changes.items (after_entry h (replies.clerk_entry envelope.now.depositor ticket.now
+        → AreLeading P changes.items (after_entry h (replies.clerk_entry rules envelope.now.depositor ticket.now
         (act_of act.now) envelope.now.moment)) }
-    ensures comes { IfOk result (Makes (register.Clerk envelope.now.depositor ticket.now (act_of act.now))
+    ensures comes { IfOk result (Makes rules (register.Clerk envelope.now.depositor ticket.now (act_of act.now))
         envelope.now.moment) }
-    ensures leads { IfOk result (LeadsOn page.now (register.Clerk envelope.now.depositor ticket.now (act_of
+    ensures leads { IfOk result (LeadsOn rules page.now (register.Clerk envelope.now.depositor ticket.now (act_of
         act.now)) envelope.now.moment) }
     ensures reply { IfOk result (λ d. (h : History) (P : PageFacts) (e : Event)
         → HasNeeded (register.Clerk envelope.now.depositor ticket.now (act_of act.now)) page.now P
         → IsPageOf P h → performed h.events (page.now.entries + 1) (act_of act.now) ≡ Ok e
-        → IsReply page.now.entries (register.Clerk envelope.now.depositor ticket.now (act_of act.now))
+        → IsReply rules page.now.entries (register.Clerk envelope.now.depositor ticket.now (act_of act.now))
         envelope.now.moment
-        (recalled.accepted_by envelope.now.warehouse h (replies.clerk_entry envelope.now.depositor
+        (recalled.accepted_by envelope.now.warehouse h (replies.clerk_entry rules envelope.now.depositor
         ticket.now (act_of act.now) envelope.now.moment)) d) }
 {
     if page.entries() >= MOST_ENTRIES {
         return Ok(Decision::Refused(Refusal::NumbersUsedUp, Vec::new(alloc)));
     }
     let outgoing = document(alloc, envelope, page, act)?;
-    let entry = entry(alloc, envelope, ticket, act)?;
+    let entry = entry(alloc, envelope, ticket, act, rules)?;
     Ok(Decision::Accepted {
         entry,
         changes,
@@ -145,25 +149,26 @@ fn fresh(
     page: &Page,
     ticket: &[u8],
     act: &Act<'_>,
+    rules: Rules,
 ) -> Result<Decision, AllocError>
     requires number { envelope.now.number ≡ page.now.entries + 1 }
     requires rest { page.now.recent ≡ 0 }
-    ensures comes { IfOk result (Makes (register.Clerk envelope.now.depositor ticket.now (act_of act.now))
+    ensures comes { IfOk result (Makes rules (register.Clerk envelope.now.depositor ticket.now (act_of act.now))
         envelope.now.moment) }
-    ensures leads { IfOk result (LeadsOn page.now (register.Clerk envelope.now.depositor ticket.now (act_of
+    ensures leads { IfOk result (LeadsOn rules page.now (register.Clerk envelope.now.depositor ticket.now (act_of
         act.now)) envelope.now.moment) }
     ensures reply { IfOk result (λ d. (h : History) (P : PageFacts)
         → HasNeeded (register.Clerk envelope.now.depositor ticket.now (act_of act.now)) page.now P
         → IsPageOf P h
-        → IsReply page.now.entries (register.Clerk envelope.now.depositor ticket.now (act_of act.now))
+        → IsReply rules page.now.entries (register.Clerk envelope.now.depositor ticket.now (act_of act.now))
         envelope.now.moment
-        (recalled.act_new envelope.now.warehouse h (replies.clerk_entry envelope.now.depositor ticket.now
+        (recalled.act_new envelope.now.warehouse h (replies.clerk_entry rules envelope.now.depositor ticket.now
         (act_of act.now) envelope.now.moment) (act_of act.now)) d) }
 {
     // what is known of every page
     let _ = page.rows();
     match perform(alloc, page, act) {
-        Ok(step) => accepted(alloc, envelope, page, ticket, act, step.changes),
+        Ok(step) => accepted(alloc, envelope, page, ticket, act, step.changes, rules),
         Err(stop) => refused(alloc, stop),
     }
 }
@@ -172,9 +177,9 @@ fn fresh(
 fn again(alloc: Global, known: &Known, act: &Act<'_>) -> Result<Decision, AllocError>
     ensures comes { IfOk result (IsNoEntry) }
     ensures reply { IfOk result
-        (λ d. (n : ℕ) (k : recalled.Recalled) (who : Who) (ticket : List ℕ) (t : Moment)
+        (λ d. (r : Rules) (n : ℕ) (k : recalled.Recalled) (who : Who) (ticket : List ℕ) (t : Moment)
         → IsEntry known.now k → register.mark k.entry ≡ register.ticket_mark ticket
-        → IsReply n (register.Clerk who ticket (act_of act.now)) t (recalled.act_again (act_of act.now) k) d) }
+        → IsReply r n (register.Clerk who ticket (act_of act.now)) t (recalled.act_again (act_of act.now) k) d) }
 {
     let text = act.canonical(alloc)?;
     if known.is_of(&text) {
@@ -183,9 +188,9 @@ fn again(alloc: Global, known: &Known, act: &Act<'_>) -> Result<Decision, AllocE
     Ok(Decision::Refused(Refusal::TicketUsed, Vec::new(alloc)))
 }
 
-/// What a clerk's act comes to: it is refused where the depositor isn't enrolled, where its ticket is known of another act,
-/// at the first of its own refusals, and where the numbers are used up. A known act is answered with its document. Want of
-/// memory is the one error.
+/// What a clerk's act comes to under the rules of the day: it is refused where the depositor isn't enrolled, where its ticket is
+/// known of another act, at the first of its own refusals, and where the numbers are used up. A known act is answered with its
+/// document. Want of memory is the one error.
 pub(crate) fn clerk(
     alloc: Global,
     envelope: &Envelope,
@@ -193,24 +198,25 @@ pub(crate) fn clerk(
     known: Option<&Known>,
     ticket: &[u8],
     act: &Act<'_>,
+    rules: Rules,
 ) -> Result<Decision, AllocError>
     requires number { envelope.now.number ≡ page.now.entries + 1 }
     requires rest { page.now.recent ≡ 0 }
-    ensures comes { IfOk result (Makes (register.Clerk envelope.now.depositor ticket.now (act_of act.now))
+    ensures comes { IfOk result (Makes rules (register.Clerk envelope.now.depositor ticket.now (act_of act.now))
         envelope.now.moment) }
-    ensures leads { IfOk result (LeadsOn page.now (register.Clerk envelope.now.depositor ticket.now (act_of
+    ensures leads { IfOk result (LeadsOn rules page.now (register.Clerk envelope.now.depositor ticket.now (act_of
         act.now)) envelope.now.moment) }
     ensures reply { IfOk result (λ d. (h : History) (P : PageFacts) (k : Option recalled.Recalled)
         → HasNeeded (register.Clerk envelope.now.depositor ticket.now (act_of act.now)) page.now P
         → IsPageOf P h → IsRecalled (option_copied known.entry) k
         → IsUnder (register.ticket_mark ticket.now) k
-        → IsReply page.now.entries (register.Clerk envelope.now.depositor ticket.now (act_of act.now))
+        → IsReply rules page.now.entries (register.Clerk envelope.now.depositor ticket.now (act_of act.now))
         envelope.now.moment
-        (recalled.clerk_by envelope.now.warehouse (Some h) k envelope.now.depositor ticket.now (act_of
+        (recalled.clerk_by rules envelope.now.warehouse (Some h) k envelope.now.depositor ticket.now (act_of
         act.now) envelope.now.moment) d) }
 {
     match known {
         Some(known) => again(alloc, known, act),
-        None => fresh(alloc, envelope, page, ticket, act),
+        None => fresh(alloc, envelope, page, ticket, act, rules),
     }
 }

@@ -17,6 +17,7 @@ use crate::entries::{Entry, Known};
 use crate::house::Warehouse;
 use crate::interchanges::interchange;
 use crate::refusals::Refusal;
+use profile::Rules;
 use segments::{Moment, Who};
 use sets_out::Envelope;
 use std::alloc::{AllocError, Global};
@@ -40,9 +41,9 @@ pub enum Decision {
     },
 }
 
-// The entry of an enrolment.
-fn enrolment(alloc: Global, who: Who, moment: Moment) -> Result<Entry, AllocError>
-    ensures { IfOk result (λ entry. entry ≡ written_as 0 (enrolment_entry who moment)) }
+// The entry of an enrolment, under these rules.
+fn enrolment(alloc: Global, who: Who, moment: Moment, rules: Rules) -> Result<Entry, AllocError>
+    ensures { IfOk result (λ entry. entry ≡ written_as 0 (enrolment_entry rules who moment)) }
 {
     Ok(Entry {
         who,
@@ -50,6 +51,7 @@ fn enrolment(alloc: Global, who: Who, moment: Moment) -> Result<Entry, AllocErro
         n: 0,
         moment,
         body: Vec::new(alloc),
+        rules,
     })
 }
 
@@ -59,17 +61,18 @@ fn enrol(
     page: Option<&Page>,
     who: Who,
     moment: Moment,
+    rules: Rules,
 ) -> Result<Decision, AllocError>
-    ensures comes { IfOk result (Makes (register.Enrol who) moment) }
-    ensures leads { IfOk result (LeadsFrom page.entry (register.Enrol who) moment) }
+    ensures comes { IfOk result (Makes rules (register.Enrol who) moment) }
+    ensures leads { IfOk result (LeadsFrom rules page.entry (register.Enrol who) moment) }
     ensures reply { IfOk result (λ d. (h : Option History) (k : Option meant.Recalled) (W : Partner) → StandsFor (register.Enrol who) page.entry h
-        → IsReply (entries_of page.entry) (register.Enrol who) moment (meant.reply_by W h k (register.Enrol who) moment) d) }
+        → IsReply rules (entries_of page.entry) (register.Enrol who) moment (meant.reply_by rules W h k (register.Enrol who) moment) d) }
 {
     if page.is_some() {
         return Ok(Decision::Refused(Refusal::AlreadyEnrolled, Vec::new(alloc)));
     }
     Ok(Decision::Accepted {
-        entry: enrolment(alloc, who, moment)?,
+        entry: enrolment(alloc, who, moment, rules)?,
         changes: Vec::new(alloc),
         outgoing: Vec::new(alloc),
     })
@@ -85,12 +88,13 @@ fn perform(
     ticket: &[u8],
     act: &Act<'_>,
     moment: Moment,
+    rules: Rules,
 ) -> Result<Decision, AllocError>
     requires { IsAtRest page }
-    ensures comes { IfOk result (Makes (register.Clerk who ticket.now (act_of act.now)) moment) }
-    ensures leads { IfOk result (LeadsFrom page.entry (register.Clerk who ticket.now (act_of act.now)) moment) }
+    ensures comes { IfOk result (Makes rules (register.Clerk who ticket.now (act_of act.now)) moment) }
+    ensures leads { IfOk result (LeadsFrom rules page.entry (register.Clerk who ticket.now (act_of act.now)) moment) }
     ensures reply { IfOk result (λ d. (h : Option History) (k : Option meant.Recalled) → IsGiven page.entry (option_copied known.entry) (register.Clerk who ticket.now (act_of act.now)) h k
-        → IsReply (entries_of page.entry) (register.Clerk who ticket.now (act_of act.now)) moment (meant.clerk_by warehouse.now h k who ticket.now (act_of act.now) moment) d) }
+        → IsReply rules (entries_of page.entry) (register.Clerk who ticket.now (act_of act.now)) moment (meant.clerk_by rules warehouse.now h k who ticket.now (act_of act.now) moment) d) }
 {
     let Some(page) = page else {
         return Ok(Decision::Refused(Refusal::UnknownDepositor, Vec::new(alloc)));
@@ -101,13 +105,13 @@ fn perform(
         moment,
         number: page.next_number(),
     };
-    clerk(alloc, &envelope, page, known, ticket, act)
+    clerk(alloc, &envelope, page, known, ticket, act, rules)
 }
 
-/// What a command comes to, by the page of the depositor that it names, if that is enrolled, and what is known under its
-/// key: the defined reply, with the entry that is to be recorded, and the changes that lead from the tables of every legal
-/// register with that page to those with the entry. The page may be a part of the whole one that has what the command names.
-/// Only want of memory keeps it from being decided.
+/// What a command comes to under the rules of the day, by the page of the depositor that it names, if that is enrolled, and what
+/// is known under its key: the defined reply, with the entry that is to be recorded, which has these rules, and the changes that
+/// lead from the tables of every legal register with that page to those with the entry. The page may be a part of the whole one
+/// that has what the command names. Only want of memory keeps it from being decided.
 pub fn decide(
     alloc: Global,
     warehouse: &Warehouse,
@@ -115,19 +119,24 @@ pub fn decide(
     known: Option<&Known>,
     command: &Command<'_>,
     moment: Moment,
+    rules: Rules,
 ) -> Result<Decision, AllocError>
     requires { IsAtRest page }
-    ensures comes { IfOk result (Makes (asked command.now) moment) }
-    ensures leads { IfOk result (LeadsFrom page.entry (asked command.now) moment) }
-    ensures tables { IfOk result (λ d. (W : Partner) (L : List register.Entry) → StandsFor (asked command.now) page.entry (standing (own_of L (asked command.now))) → LeadsInTables W L (asked command.now) moment d) }
+    ensures comes { IfOk result (Makes rules (asked command.now) moment) }
+    ensures leads { IfOk result (LeadsFrom rules page.entry (asked command.now) moment) }
+    ensures tables { IfOk result (λ d. (W : Partner) (L : List register.Entry) → StandsFor (asked command.now) page.entry (standing (own_of L (asked command.now))) → LeadsInTables rules W L (asked command.now) moment d) }
     ensures reply { IfOk result (λ d. (h : Option History) (k : Option meant.Recalled) → IsGiven page.entry (option_copied known.entry) (asked command.now) h k
-        → IsReply (entries_of page.entry) (asked command.now) moment (meant.reply_by warehouse.now h k (asked command.now) moment) d) }
+        → IsReply rules (entries_of page.entry) (asked command.now) moment (meant.reply_by rules warehouse.now h k (asked command.now) moment) d) }
 {
     match command {
-        Command::Interchange(text) => interchange(alloc, warehouse, page, known, text, moment),
-        Command::Enrol(who) => enrol(alloc, page, *who, moment),
+        Command::Interchange(text) => interchange(
+            alloc, warehouse, page, known, text, moment, rules,
+        ),
+        Command::Enrol(who) => enrol(alloc, page, *who, moment, rules),
         Command::Clerk { who, ticket, act } => {
-            perform(alloc, warehouse, page, known, *who, ticket, act, moment)
+            perform(
+                alloc, warehouse, page, known, *who, ticket, act, moment, rules,
+            )
         }
     }
 }

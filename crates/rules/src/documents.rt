@@ -1,7 +1,7 @@
 //! What the documents of a clerk's acts tell: receipts, shipments and adjustments.
 ghost use Rattle.std.specs.Prelude.{◌≡◌, ◌≤◌, ◌++◌, List, Ok, true, IfOk, OnOk, MatchOption, bytes_eq, filter, length, map, sum_by};
 ghost use Rattle.std.specs.List.{insert};
-ghost use Rattle.profile.specs.declared.rules.Rules.TheVariants.{One};
+ghost use Rattle.profile.specs.declared.rules.Rules.TheVariants.{Two};
 ghost use Rattle.profile.specs.Events.{pair_before, quantity_of};
 ghost use Rattle.profile.specs.Lists.{in_order, placed};
 ghost use Rattle.profile.specs.Limits.{most_lines};
@@ -115,7 +115,7 @@ fn lend<'a>(lines: &mut Vec<Pair<'a>>, goods: &'a [Goods]) -> Result<(), AllocEr
 
 // The quantity that lines give a pair.
 fn quantity(goods: &[Goods], item: &[u8], lot: &[u8]) -> u64
-    requires { length goods.now ≤ most_lines One }
+    requires { length goods.now ≤ most_lines Two }
     ensures { result ≡ quantity_of goods.now item.now lot.now }
 {
     let mut quantity: u64 = 0;
@@ -129,7 +129,7 @@ fn quantity(goods: &[Goods], item: &[u8], lot: &[u8]) -> u64
 
 // The sum of the quantities of lines.
 fn total(goods: &[Goods]) -> u64
-    requires { length goods.now ≤ most_lines One }
+    requires { length goods.now ≤ most_lines Two }
     ensures { result ≡ sum_by (λ l. l.quantity) goods.now }
 {
     let mut total: u64 = 0;
@@ -145,7 +145,7 @@ fn received<'a>(
     pairs: &[Pair<'a>],
     sheet: &[Goods],
 ) -> Result<Vec<CountedLine<'a>>, AllocError>
-    requires { length sheet.now ≤ most_lines One }
+    requires { length sheet.now ≤ most_lines Two }
     ensures { IfOk result (λ lines. lines.items ≡ map (received_line sheet.now) pairs.now) }
 {
     let mut lines = Vec::new(alloc);
@@ -179,7 +179,7 @@ fn receipt_lines<'a>(
     advised: &'a [Goods],
     counted: &'a [Goods],
 ) -> Result<Vec<CountedLine<'a>>, AllocError>
-    requires { length counted.now ≤ most_lines One }
+    requires { length counted.now ≤ most_lines Two }
     ensures { IfOk result (λ lines. lines.items ≡ map (received_line counted.now) (in_order pair_before (advised.now ++ counted.now))) }
 {
     let mut pairs = Vec::new(alloc);
@@ -240,7 +240,7 @@ fn picked<'a>(alloc: Global, pairs: &[Pair<'a>]) -> Result<Vec<PickedLot<'a>>, A
 
 // The sum of what pairs have.
 fn sum(pairs: &[Pair<'_>]) -> u64
-    requires { length pairs.now ≤ most_lines One }
+    requires { length pairs.now ≤ most_lines Two }
     ensures { result ≡ total_of pairs.now }
 {
     let mut sum: u64 = 0;
@@ -256,7 +256,7 @@ fn shipped_line<'a>(
     line: &'a KnownLine,
     sheet: &[Pair<'a>],
 ) -> Result<ShippedLine<'a>, AllocError>
-    requires { length sheet.now ≤ most_lines One }
+    requires { length sheet.now ≤ most_lines Two }
     ensures { IfOk result (λ l. l ≡ shipped_of sheet.now line.now) }
 {
     let pairs = of_item(alloc, sheet, &line.item)?;
@@ -275,7 +275,7 @@ fn shipped_lines<'a>(
     lines: &'a [KnownLine],
     sheet: &[Pair<'a>],
 ) -> Result<Vec<ShippedLine<'a>>, AllocError>
-    requires { length sheet.now ≤ most_lines One }
+    requires { length sheet.now ≤ most_lines Two }
     ensures { IfOk result (λ v. v.items ≡ map (shipped_of sheet.now) lines.now) }
 {
     let mut shipment = Vec::new(alloc);
@@ -291,7 +291,7 @@ fn shipped_of<'a>(
     order: &'a KnownOrder,
     goods: &'a [Goods],
 ) -> Result<Vec<ShippedLine<'a>>, AllocError>
-    requires { length goods.now ≤ most_lines One }
+    requires { length goods.now ≤ most_lines Two }
     ensures { IfOk result (λ v. v.items ≡ map (shipped_of goods.now) order.now.lines) }
 {
     let mut pairs = Vec::new(alloc);
@@ -347,7 +347,7 @@ fn adjustment(
     sheet: &Sheet,
 ) -> Result<Vec<u8>, AllocError>
     ensures text { IfOk result (λ text. text.items ≡ adjustment_text envelope.now page.now sheet.now) }
-    ensures sheet { is_sheet RecountSheet sheet.now ≡ true }
+    ensures sheet { is_sheet Two RecountSheet sheet.now ≡ true }
 {
     let goods = sheet.lines(alloc)?;
     let lines = adjusted(alloc, page, &goods)?;

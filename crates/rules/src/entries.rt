@@ -3,6 +3,7 @@ ghost use Rattle.std.specs.List.{starts_with};
 ghost use Rattle.profile.specs.Header.{who_eq};
 ghost use Rattle.rules.specs.Written.{Written};
 
+use profile::Rules;
 use segments::{Moment, Who};
 use std::alloc::AllocError;
 use std::marker::Model;
@@ -21,12 +22,14 @@ pub struct Entry {
     pub moment: Moment,
     /// What was accepted: an interchange's bytes, an act's canonical text, nothing of an enrolment.
     pub body: Vec<u8>,
+    /// The rules that it is judged by: those of the day on which it was accepted.
+    pub rules: Rules,
 }
 
 impl Model for Entry {
     ghost Value = { Written };
 
-    ghost view = { λ e. record { who = e.who; key = e.key.items; n = e.n; moment = e.moment; body = e.body.items } };
+    ghost view = { λ e. record { who = e.who; key = e.key.items; n = e.n; moment = e.moment; body = e.body.items; rules = e.rules } };
 }
 
 impl Entry {
@@ -49,6 +52,13 @@ impl Entry {
         ensures { result.now ≡ self.now.body }
     {
         &self.body
+    }
+
+    /// The rules that it is judged by.
+    pub fn rules(&self) -> Rules
+        ensures { result ≡ self.now.rules }
+    {
+        self.rules
     }
 
     /// Its number, 0 of an enrolment.

@@ -4,13 +4,13 @@ ghost use Rattle.profile.specs.Accepted.{is_command};
 ghost use Rattle.profile.specs.Readings.{is_deed, is_entry};
 ghost use Rattle.profile.specs.Register as register;
 ghost use Rattle.rules.specs.Asked.{asked};
-ghost use Rattle.rules.specs.Given.{given_as, given_by, read_deed};
+ghost use Rattle.rules.specs.Given.{RuledCommand, given_as, read_deed, ruled_by};
 ghost use Rattle.rules.specs.Written.{written_as};
 
 use crate::commands::Command;
 use crate::entries::Entry;
 use crate::readings::{ReadAct, read};
-use profile::MOST_TICKET;
+use profile::{MOST_TICKET, Rules};
 use segments::{Ident, Who};
 use std::alloc::{AllocError, Global};
 use std::marker::Model;
@@ -26,26 +26,27 @@ enum Deed<'a> {
     Performed { ticket: &'a [u8], act: ReadAct<'a> },
 }
 
-/// A command that can be given again: the one that an entry is of, with what it borrows.
+/// A command that can be given again under the rules of its entry: the one that an entry is of, with what it borrows.
 #[derive(Drop)]
 pub struct Given<'a> {
     who: Who,
     deed: Deed<'a>,
+    rules: Rules,
 }
 
 impl<'a> Model for Given<'a> {
-    ghost Value = { register.Command };
+    ghost Value = { RuledCommand };
 
-    ghost view = { λ g. given_as g.who (read_deed g.deed) };
+    ghost view = { λ g. (g.rules, given_as g.who (read_deed g.deed)) };
 
-    ghost invariant = { λ g. IsTrue (is_command (given_as g.who (read_deed g.deed))) };
+    ghost invariant = { λ g. IsTrue (is_command g.rules (given_as g.who (read_deed g.deed))) };
 }
 
 impl<'a> Given<'a> {
-    /// The command. It is one that can be given.
+    /// The command. It is one that can be given under these rules.
     pub fn command(&self) -> Command<'_>
-        ensures same { asked result ≡ self.now }
-        ensures can_be_given { is_command (asked result) ≡ true }
+        ensures same { asked result ≡ self.now.1 }
+        ensures can_be_given { is_command self.now.0 (asked result) ≡ true }
     {
         match &self.deed {
             Deed::Enrolled => Command::Enrol(self.who),
@@ -57,44 +58,53 @@ impl<'a> Given<'a> {
             },
         }
     }
+
+    /// The rules of the entry.
+    pub fn rules(&self) -> Rules
+        ensures { result ≡ self.now.0 }
+    {
+        self.rules
+    }
 }
 
-// A clerk's act under a ticket, where the one is a ticket and the other an act's canonical text.
+// A clerk's act under a ticket, where the one is a ticket and the other the canonical text of an act under the rules.
 fn performed<'a>(
     alloc: Global,
     who: Who,
     ticket: &'a [u8],
     text: &'a [u8],
+    rules: Rules,
 ) -> Result<Option<Given<'a>>, AllocError>
-    ensures { IfOk result (λ o. (act : register.Act) → is_deed (register.Performed ticket.now act) ≡ true
-        → text.now ≡ register.canonical act → o ≡ Some (register.Clerk who ticket.now act)) }
+    ensures { IfOk result (λ o. (act : register.Act) → is_deed rules (register.Performed ticket.now act) ≡ true
+        → text.now ≡ register.canonical act → o ≡ Some (rules, register.Clerk who ticket.now act)) }
 {
     if Ident::new(ticket, MOST_TICKET).is_none() {
         return Ok(None);
     }
-    let Some(act) = read(alloc, text)? else {
+    let Some(act) = read(alloc, text, rules)? else {
         return Ok(None);
     };
     let deed = Deed::Performed { ticket, act };
-    Ok(Some(Given { who, deed }))
+    Ok(Some(Given { who, deed, rules }))
 }
 
-/// The command that an entry is of, by its key: `E` is the depositor's enrolment, `X` and more the interchange that the body
-/// is, and `T` and a ticket the act of which the body is the canonical text. None where the entry is of no command: of another
-/// key, an enrolment with a body, a ticket that is none, or a text that is no act's. Want of memory is the one error.
+/// The command that an entry is of, with the entry's rules, by its key: `E` is the depositor's enrolment, `X` and more the
+/// interchange that the body is, and `T` and a ticket the act of which the body is the canonical text. None where the entry is
+/// of no command that can be given under its rules: of another key, an enrolment with a body, a ticket that is none, or a text
+/// that is no act's under them. Want of memory is the one error.
 pub fn command_of(alloc: Global, entry: &Entry) -> Result<Option<Given<'_>>, AllocError>
     ensures { IfOk result (λ o. (n : ℕ) (e : register.Entry) → entry.now ≡ written_as n e → is_entry e ≡ true
-        → o ≡ Some (given_by e)) }
+        → o ≡ Some (ruled_by e)) }
 {
-    let (who, body) = (entry.who(), entry.body());
+    let (who, body, rules) = (entry.who(), entry.body(), entry.rules());
     let Some((letter, name)) = entry.key.split_first() else {
         return Ok(None);
     };
     let deed = match *letter {
         b'E' if name.is_empty() && body.is_empty() => Deed::Enrolled,
         b'X' => Deed::Received(body),
-        b'T' => return performed(alloc, who, name, body),
+        b'T' => return performed(alloc, who, name, body, rules),
         _ => return Ok(None),
     };
-    Ok(Some(Given { who, deed }))
+    Ok(Some(Given { who, deed, rules }))
 }

@@ -1,5 +1,6 @@
 //! What an interchange comes to.
 ghost use Rattle.std.specs.Prelude.{◌≡◌, ◌+◌, ℕ, false, List, None, Option, IfOk, option_copied};
+ghost use Rattle.profile.specs.declared.rules.Rules.{Rules};
 ghost use Rattle.profile.specs.Header.{is_unreadable, isa as meant_isa, sender};
 ghost use Rattle.profile.specs.Halt.{structure_note};
 ghost use Rattle.profile.specs.History.{History};
@@ -23,7 +24,7 @@ use crate::house::Warehouse;
 use crate::refusals::Refusal;
 use crate::taking::take_groups;
 use envelope::{Halt, Interchange, Isa, header_note, isa, structure};
-use profile::MOST_ENTRIES;
+use profile::{MOST_ENTRIES, Rules};
 use segments::{Moment, Who};
 use sets_out::Envelope;
 use std::alloc::{AllocError, Global};
@@ -38,8 +39,8 @@ fn noted(
     code: u8,
 ) -> Result<Decision, AllocError>
     ensures comes { IfOk result (IsNoEntry) }
-    ensures reply { IfOk result (λ d. (n : ℕ) (c : register.Command)
-        → IsReply n c moment (replies.Refused (refusals.Note code) (replies.refusal_answer warehouse.now
+    ensures reply { IfOk result (λ d. (r : Rules) (n : ℕ) (c : register.Command)
+        → IsReply r n c moment (replies.Refused (refusals.Note code) (replies.refusal_answer warehouse.now
         header.now moment (refusals.Note code))) d) }
 {
     let answer = refusal(alloc, warehouse.who(), header, moment, code)?;
@@ -58,9 +59,9 @@ fn again(
 ) -> Result<Decision, AllocError>
     requires { header.now ≡ text.now }
     ensures comes { IfOk result (IsNoEntry) }
-    ensures reply { IfOk result (λ d. (n : ℕ) (k : recalled.Recalled) → IsEntry known.now k
+    ensures reply { IfOk result (λ d. (r : Rules) (n : ℕ) (k : recalled.Recalled) → IsEntry known.now k
         → register.mark k.entry ≡ register.interchange_mark (meant_isa text.now 13)
-        → IsReply n (register.Interchange text.now) moment (recalled.interchange_again warehouse.now
+        → IsReply r n (register.Interchange text.now) moment (recalled.interchange_again warehouse.now
         text.now moment k) d) }
 {
     if known.is_of(text) {
@@ -70,12 +71,13 @@ fn again(
     Ok(Decision::Refused(Refusal::Duplicate, answer))
 }
 
-// The entry of an interchange.
+// The entry of an interchange, under these rules.
 fn entry(
     alloc: Global,
     envelope: &Envelope,
     header: &Isa<'_>,
     text: &[u8],
+    rules: Rules,
 ) -> Result<Entry, AllocError>
     ensures { IfOk result (λ e. e ≡ record {
       who = envelope.now.depositor;
@@ -84,6 +86,7 @@ fn entry(
       n = envelope.now.number;
       moment = envelope.now.moment;
       body = text.now;
+      rules = rules;
     }) }
 {
     Ok(Entry {
@@ -92,6 +95,7 @@ fn entry(
         n: envelope.number,
         moment: envelope.moment,
         body: text.to_vec(alloc)?,
+        rules,
     })
 }
 
@@ -103,6 +107,7 @@ fn accepted(
     header: &Isa<'_>,
     interchange: &Interchange<'_>,
     text: &[u8],
+    rules: Rules,
 ) -> Result<Decision, AllocError>
     requires same { header.now ≡ text.now }
     requires parts { interchange.now ≡ record {
@@ -115,19 +120,19 @@ fn accepted(
     requires number { envelope.number ≡ page.now.entries + 1 }
     requires rest { page.now.recent ≡ 0 }
     requires whose { envelope.depositor ≡ sender text.now }
-    ensures comes { IfOk result (Makes (register.Interchange text.now) envelope.moment) }
-    ensures leads { IfOk result (LeadsOn page.now (register.Interchange text.now) envelope.moment) }
+    ensures comes { IfOk result (Makes rules (register.Interchange text.now) envelope.moment) }
+    ensures leads { IfOk result (LeadsOn rules page.now (register.Interchange text.now) envelope.moment) }
     ensures reply { IfOk result (λ d. (h : History) (P : PageFacts)
         → HasNeeded (register.Interchange text.now) page.now P → IsPageOf P h
-        → IsReply page.now.entries (register.Interchange text.now) envelope.moment (recalled.accepted_by
-        envelope.warehouse h (replies.interchange_entry text.now envelope.moment)) d) }
+        → IsReply rules page.now.entries (register.Interchange text.now) envelope.moment (recalled.accepted_by
+        envelope.warehouse h (replies.interchange_entry rules text.now envelope.moment)) d) }
 {
     if page.entries() >= MOST_ENTRIES {
         return Ok(Decision::Refused(Refusal::NumbersUsedUp, Vec::new(alloc)));
     }
-    let groups = take_groups(alloc, page.copy()?, interchange)?;
+    let groups = take_groups(alloc, page.copy()?, interchange, rules)?;
     let outgoing = answer(alloc, envelope, header, &groups.told)?;
-    let entry = entry(alloc, &envelope, header, text)?;
+    let entry = entry(alloc, &envelope, header, text, rules)?;
     Ok(Decision::Accepted {
         entry,
         changes: groups.changes,
@@ -144,9 +149,9 @@ fn halted(
     halt: Halt,
 ) -> Result<Decision, AllocError>
     ensures comes { IfOk result (IsNoEntry) }
-    ensures reply { IfOk result (λ d. (text : List ℕ) (h : History) (n : ℕ) → IsTold halt text
+    ensures reply { IfOk result (λ d. (r : Rules) (text : List ℕ) (h : History) (n : ℕ) → IsTold halt text
         → header.now ≡ text
-        → IsReply n (register.Interchange text) moment (recalled.interchange_new warehouse.now h text moment
+        → IsReply r n (register.Interchange text) moment (recalled.interchange_new r warehouse.now h text moment
         (structure_note text)) d) }
 {
     match halt {
@@ -164,17 +169,18 @@ fn fresh(
     header: &Isa<'_>,
     text: &[u8],
     moment: Moment,
+    rules: Rules,
 ) -> Result<Decision, AllocError>
     requires same { header.now ≡ text.now }
     requires readable { is_unreadable text.now ≡ false }
     requires rest { page.now.recent ≡ 0 }
     requires whose { who ≡ sender text.now }
-    ensures comes { IfOk result (Makes (register.Interchange text.now) moment) }
-    ensures leads { IfOk result (LeadsOn page.now (register.Interchange text.now) moment) }
+    ensures comes { IfOk result (Makes rules (register.Interchange text.now) moment) }
+    ensures leads { IfOk result (LeadsOn rules page.now (register.Interchange text.now) moment) }
     ensures reply { IfOk result (λ d. (h : History) (P : PageFacts)
         → HasNeeded (register.Interchange text.now) page.now P → IsPageOf P h
-        → IsReply page.now.entries (register.Interchange text.now) moment (recalled.interchange_new
-        warehouse.now h text.now moment (recalled.new_note warehouse.now text.now)) d) }
+        → IsReply rules page.now.entries (register.Interchange text.now) moment (recalled.interchange_new
+        rules warehouse.now h text.now moment (recalled.new_note warehouse.now text.now)) d) }
 {
     if let Some(code) = header_note(header, &warehouse.who()) {
         return noted(alloc, warehouse, header, moment, code);
@@ -186,7 +192,7 @@ fn fresh(
         number: page.next_number(),
     };
     match structure(alloc, text, header) {
-        Ok(interchange) => accepted(alloc, envelope, page, header, &interchange, text),
+        Ok(interchange) => accepted(alloc, envelope, page, header, &interchange, text, rules),
         Err(halt) => halted(alloc, warehouse, header, moment, halt),
     }
 }
@@ -200,29 +206,30 @@ fn readable(
     header: &Isa<'_>,
     text: &[u8],
     moment: Moment,
+    rules: Rules,
 ) -> Result<Decision, AllocError>
     requires same { header.now ≡ text.now }
     requires readable { is_unreadable text.now ≡ false }
     requires rest { IsAtRest page }
-    ensures comes { IfOk result (Makes (register.Interchange text.now) moment) }
-    ensures leads { IfOk result (LeadsFrom page.entry (register.Interchange text.now) moment) }
+    ensures comes { IfOk result (Makes rules (register.Interchange text.now) moment) }
+    ensures leads { IfOk result (LeadsFrom rules page.entry (register.Interchange text.now) moment) }
     ensures reply { IfOk result (λ d. (h : Option History) (k : Option recalled.Recalled)
         → IsGiven page.entry (option_copied known.entry) (register.Interchange text.now) h k
-        → IsReply (entries_of page.entry) (register.Interchange text.now) moment (recalled.interchange_known
-        warehouse.now h k text.now moment) d) }
+        → IsReply rules (entries_of page.entry) (register.Interchange text.now) moment (recalled.interchange_known
+        rules warehouse.now h k text.now moment) d) }
 {
     let (Some(page), Some(who)) = (page, header.sender()) else {
         return noted(alloc, warehouse, header, moment, 6);
     };
     match known {
         Some(known) => again(alloc, warehouse, known, header, text, moment),
-        None => fresh(alloc, warehouse, page, who, header, text, moment),
+        None => fresh(alloc, warehouse, page, who, header, text, moment, rules),
     }
 }
 
-/// What an interchange comes to: it is refused where it can't be read; where its sender isn't enrolled; where its control
-/// number is known of other bytes; at the first condition on its header and its segments that holds; where the numbers are
-/// used up. A known interchange is answered with what was sent for it. Want of memory is the one error.
+/// What an interchange comes to under the rules of the day: it is refused where it can't be read; where its sender isn't
+/// enrolled; where its control number is known of other bytes; at the first condition on its header and its segments that holds;
+/// where the numbers are used up. A known interchange is answered with what was sent for it. Want of memory is the one error.
 pub(crate) fn interchange(
     alloc: Global,
     warehouse: &Warehouse,
@@ -230,17 +237,18 @@ pub(crate) fn interchange(
     known: Option<&Known>,
     text: &[u8],
     moment: Moment,
+    rules: Rules,
 ) -> Result<Decision, AllocError>
     requires { IsAtRest page }
-    ensures comes { IfOk result (Makes (register.Interchange text.now) moment) }
-    ensures leads { IfOk result (LeadsFrom page.entry (register.Interchange text.now) moment) }
+    ensures comes { IfOk result (Makes rules (register.Interchange text.now) moment) }
+    ensures leads { IfOk result (LeadsFrom rules page.entry (register.Interchange text.now) moment) }
     ensures reply { IfOk result (λ d. (h : Option History) (k : Option recalled.Recalled)
         → IsGiven page.entry (option_copied known.entry) (register.Interchange text.now) h k
-        → IsReply (entries_of page.entry) (register.Interchange text.now) moment (recalled.interchange_by
-        warehouse.now h k text.now moment) d) }
+        → IsReply rules (entries_of page.entry) (register.Interchange text.now) moment (recalled.interchange_by
+        rules warehouse.now h k text.now moment) d) }
 {
     match isa(text) {
-        Ok(header) => readable(alloc, warehouse, page, known, &header, text, moment),
+        Ok(header) => readable(alloc, warehouse, page, known, &header, text, moment, rules),
         Err(_) => Ok(Decision::Refused(Refusal::Unreadable, Vec::new(alloc))),
     }
 }

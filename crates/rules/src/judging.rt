@@ -1,6 +1,5 @@
 //! What a set comes to over a page.
 ghost use Rattle.std.specs.Prelude.{◌≡◌, ◌<◌, ◌+◌, ◌-◌, ◌^◌, List, None, Some, IfOk, IfErr, length};
-ghost use Rattle.profile.specs.declared.rules.Rules.TheVariants.{One};
 ghost use Rattle.profile.specs.Limits.{most_sets};
 ghost use Rattle.profile.specs.Cut.{segments_of, AreOf};
 ghost use Rattle.profile.specs.Bytes.{Delims as Delimiters};
@@ -60,11 +59,11 @@ fn advised(alloc: Global, page: &Page, set: &Checked<'_>) -> Result<Step, Stop>
     requires room { page.now.recent < most_sets }
     ensures ok { IfOk result (λ step. (n : Named) (P : PageFacts) (es : List Event) → IsPart n page.now P
         → NamesSet n set.now.kind (segments_of set.now.pieces) → Shows P es
-        → IsStep P es (meant.traded es (page.now.entries + 1) set.now.kind (segments_of set.now.pieces))
+        → IsStep P es (meant.traded set.now.rules es (page.now.entries + 1) set.now.kind (segments_of set.now.pieces))
         step.changes.items) }
     ensures err { IfErr result (λ stop. (n : Named) (P : PageFacts) (es : List Event) → IsPart n page.now P
         → NamesSet n set.now.kind (segments_of set.now.pieces) → Shows P es
-        → IsStop (meant.traded es (page.now.entries + 1) set.now.kind (segments_of set.now.pieces)) stop) }
+        → IsStop (meant.traded set.now.rules es (page.now.entries + 1) set.now.kind (segments_of set.now.pieces)) stop) }
     ensures sound { IfOk result (λ step. IsSound (put step.changes.items page.now)) }
 {
     let advice = advice(alloc, set)?;
@@ -77,15 +76,15 @@ fn ordered(alloc: Global, page: &Page, set: &Checked<'_>) -> Result<Step, Stop>
     requires room { page.now.recent < most_sets }
     ensures ok { IfOk result (λ step. (n : Named) (P : PageFacts) (es : List Event) → IsPart n page.now P
         → NamesSet n set.now.kind (segments_of set.now.pieces) → Shows P es
-        → IsStep P es (meant.traded es (page.now.entries + 1) set.now.kind (segments_of set.now.pieces))
+        → IsStep P es (meant.traded set.now.rules es (page.now.entries + 1) set.now.kind (segments_of set.now.pieces))
         step.changes.items) }
     ensures err { IfErr result (λ stop. (n : Named) (P : PageFacts) (es : List Event) → IsPart n page.now P
         → NamesSet n set.now.kind (segments_of set.now.pieces) → Shows P es
-        → IsStop (meant.traded es (page.now.entries + 1) set.now.kind (segments_of set.now.pieces)) stop) }
+        → IsStop (meant.traded set.now.rules es (page.now.entries + 1) set.now.kind (segments_of set.now.pieces)) stop) }
     ensures sound { IfOk result (λ step. IsSound (put step.changes.items page.now)) }
 {
     let order = order(alloc, set)?;
-    reserve(alloc, page, &order)
+    reserve(alloc, page, &order, set.rules())
 }
 
 // The step of an acknowledgment.
@@ -94,11 +93,11 @@ fn acknowledged(alloc: Global, page: &Page, set: &Checked<'_>) -> Result<Step, S
     requires room { page.now.recent < most_sets }
     ensures ok { IfOk result (λ step. (n : Named) (P : PageFacts) (es : List Event) → IsPart n page.now P
         → NamesSet n set.now.kind (segments_of set.now.pieces) → Shows P es
-        → IsStep P es (meant.traded es (page.now.entries + 1) set.now.kind (segments_of set.now.pieces))
+        → IsStep P es (meant.traded set.now.rules es (page.now.entries + 1) set.now.kind (segments_of set.now.pieces))
         step.changes.items) }
     ensures err { IfErr result (λ stop. (n : Named) (P : PageFacts) (es : List Event) → IsPart n page.now P
         → NamesSet n set.now.kind (segments_of set.now.pieces) → Shows P es
-        → IsStop (meant.traded es (page.now.entries + 1) set.now.kind (segments_of set.now.pieces)) stop) }
+        → IsStop (meant.traded set.now.rules es (page.now.entries + 1) set.now.kind (segments_of set.now.pieces)) stop) }
     ensures sound { IfOk result (λ step. IsSound (put step.changes.items page.now)) }
 {
     let ack = ack(alloc, set)?;
@@ -110,11 +109,11 @@ fn traded(alloc: Global, page: &Page, set: &Checked<'_>) -> Result<Step, Stop>
     requires { page.now.recent < most_sets }
     ensures ok { IfOk result (λ step. (n : Named) (P : PageFacts) (es : List Event) → IsPart n page.now P
         → NamesSet n set.now.kind (segments_of set.now.pieces) → Shows P es
-        → IsStep P es (meant.traded es (page.now.entries + 1) set.now.kind (segments_of set.now.pieces))
+        → IsStep P es (meant.traded set.now.rules es (page.now.entries + 1) set.now.kind (segments_of set.now.pieces))
         step.changes.items) }
     ensures err { IfErr result (λ stop. (n : Named) (P : PageFacts) (es : List Event) → IsPart n page.now P
         → NamesSet n set.now.kind (segments_of set.now.pieces) → Shows P es
-        → IsStop (meant.traded es (page.now.entries + 1) set.now.kind (segments_of set.now.pieces)) stop) }
+        → IsStop (meant.traded set.now.rules es (page.now.entries + 1) set.now.kind (segments_of set.now.pieces)) stop) }
     ensures sound { IfOk result (λ step. IsSound (put step.changes.items page.now)) }
 {
     match set.kind() {
@@ -129,7 +128,7 @@ fn settled<'a>(alloc: Global, page: &Page, set: &Checked<'a>) -> Result<Verdict<
     requires { page.now.recent < most_sets }
     ensures value { IfOk result (λ v. (n : Named) (P : PageFacts) (es : List Event) → IsPart n page.now P
         → NamesSet n set.now.kind (segments_of set.now.pieces) → Shows P es
-        → IsVerdict P es (meant.by_segment (meant.traded es (page.now.entries + 1) set.now.kind (segments_of
+        → IsVerdict P es (meant.by_segment (meant.traded set.now.rules es (page.now.entries + 1) set.now.kind (segments_of
         set.now.pieces))) v) }
     ensures fits { IfOk result (CanBePut page.now) }
 {
@@ -140,26 +139,27 @@ fn settled<'a>(alloc: Global, page: &Page, set: &Checked<'a>) -> Result<Verdict<
     }
 }
 
-/// What a set of a kind comes to over a page: it passes, or is rejected for its first segment in error. Want of memory is
-/// the one error.
+/// What a set of a kind comes to by the rules over a page: it passes, or is rejected for its first segment in error. Want of
+/// memory is the one error.
 pub(crate) fn judged<'a>(
     alloc: Global,
     page: &Page,
     kind: SetKind,
     segments: &'a [Segment<'a>],
+    rules: Rules,
 ) -> Result<Verdict<'a>, AllocError>
     requires few { length segments.now < 2 ^ 32 - 1 }
     requires closed { IsClosed segments.now }
     requires room { page.now.recent < most_sets }
     ensures value { IfOk result (λ v. (d : Delimiters) → AreOf d segments.now
         → (n : Named) (P : PageFacts) (es : List Event) → IsPart n page.now P
-        → (set_fault One d (kind_words One (kind_of kind)) (segments_of segments.now) ≡ None
+        → (set_fault rules d (kind_words rules (kind_of kind)) (segments_of segments.now) ≡ None
         → NamesSet n (kind_of kind) (segments_of segments.now)) → Shows P es
-        → IsVerdict P es (meant.by_segment (meant.judged d es (page.now.entries + 1) (kind_of kind)
+        → IsVerdict P es (meant.by_segment (meant.judged rules d es (page.now.entries + 1) (kind_of kind)
         (segments_of segments.now))) v) }
     ensures fits { IfOk result (CanBePut page.now) }
 {
-    match judge(kind, segments, Rules::One) {
+    match judge(kind, segments, rules) {
         Ok(set) => settled(alloc, page, &set),
         Err(fault) => Ok(Verdict::Rejected(in_segment(&fault))),
     }

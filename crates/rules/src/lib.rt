@@ -29,6 +29,7 @@ pub use house::Warehouse;
 pub use kinds::OutKind;
 pub use names::{Name, Need};
 pub use needs::need;
+pub use profile::Rules;
 pub use refusals::Refusal;
 pub use replays::{Replayed, replay};
 pub use segments::{Ident, Moment, Who};

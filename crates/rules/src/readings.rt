@@ -7,7 +7,7 @@ ghost use Rattle.rules.specs.Asked.{act_of, read_act};
 ghost use Rattle.rules.specs.Likely.{named_head, head_in, record_in, act_from, likely_act};
 
 use crate::commands::Act;
-use profile::MOST_NUMBER;
+use profile::{MOST_NUMBER, Rules};
 use segments::Ident;
 use std::alloc::{AllocError, Global};
 use std::marker::Model;
@@ -128,11 +128,11 @@ fn lines(alloc: Global, texts: &[&[u8]]) -> Result<Vec<Line>, AllocError>
     Ok(lines)
 }
 
-// The act of a head and of lines, where they make a sheet.
-fn made<'a>(head: Head<'a>, lines: Vec<Line>) -> Option<ReadAct<'a>>
-    ensures { option_map read_act result ≡ act_from lines.items head.entry }
+// The act of a head and of lines, where they make a sheet by the rules.
+fn made<'a>(head: Head<'a>, lines: Vec<Line>, rules: Rules) -> Option<ReadAct<'a>>
+    ensures { option_map read_act result ≡ act_from rules lines.items head.entry }
 {
-    match Sheet::new(head.kind, lines) {
+    match Sheet::new(head.kind, lines, rules) {
         Ok(sheet) => Some(ReadAct {
             kind: head.kind,
             number: head.number,
@@ -143,8 +143,12 @@ fn made<'a>(head: Head<'a>, lines: Vec<Line>) -> Option<ReadAct<'a>>
 }
 
 // The act that the text looks like.
-fn likely<'a>(alloc: Global, text: &'a [u8]) -> Result<Option<ReadAct<'a>>, AllocError>
-    ensures { IfOk result (λ o. option_map read_act o ≡ likely_act text.now) }
+fn likely<'a>(
+    alloc: Global,
+    text: &'a [u8],
+    rules: Rules,
+) -> Result<Option<ReadAct<'a>>, AllocError>
+    ensures { IfOk result (λ o. option_map read_act o ≡ likely_act rules text.now) }
 {
     let texts = parts(alloc, text, b'\n')?;
     let [first, rest @ ..] = texts.as_slice() else {
@@ -154,14 +158,18 @@ fn likely<'a>(alloc: Global, text: &'a [u8]) -> Result<Option<ReadAct<'a>>, Allo
     let Some(head) = first_line(&words) else {
         return Ok(None);
     };
-    Ok(made(head, lines(alloc, rest)?))
+    Ok(made(head, lines(alloc, rest)?, rules))
 }
 
-/// The act of which the text is the canonical one, if there is one. Want of memory is the one error.
-pub(crate) fn read<'a>(alloc: Global, text: &'a [u8]) -> Result<Option<ReadAct<'a>>, AllocError>
-    ensures { IfOk result (λ o. option_map read_act o ≡ meant.act_of text.now) }
+/// The act under the rules of which the text is the canonical one, if there is one. Want of memory is the one error.
+pub(crate) fn read<'a>(
+    alloc: Global,
+    text: &'a [u8],
+    rules: Rules,
+) -> Result<Option<ReadAct<'a>>, AllocError>
+    ensures { IfOk result (λ o. option_map read_act o ≡ meant.act_of rules text.now) }
 {
-    let Some(read) = likely(alloc, text)? else {
+    let Some(read) = likely(alloc, text, rules)? else {
         return Ok(None);
     };
     let again = read.act().canonical(alloc)?;

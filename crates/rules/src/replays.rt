@@ -1,5 +1,6 @@
 //! What an entry of the register came to.
 ghost use Rattle.std.specs.Prelude.{◌≡◌, ◌≤◌, ◌<◌, ◌+◌, [], ℕ, List, Result, Ok, Err, true, None, IfOk, length, sum_by};
+ghost use Rattle.profile.specs.declared.rules.Rules.{Rules};
 ghost use Rattle.profile.specs.Clerk.{is_act, performed};
 ghost use Rattle.profile.specs.Cut.{cut};
 ghost use Rattle.profile.specs.Events.{Event};
@@ -32,7 +33,7 @@ use crate::house::Warehouse;
 use crate::readings::read;
 use crate::taking::take_groups;
 use envelope::{Halt, Interchange, Isa, isa, structure};
-use profile::MOST_ENTRIES;
+use profile::{MOST_ENTRIES, Rules};
 use sets_out::Envelope;
 use std::alloc::{AllocError, Global};
 use stock::{Page, Step, Stop};
@@ -57,13 +58,14 @@ fn nothing(alloc: Global, page: Page) -> Replayed
     }
 }
 
-// What the groups of an interchange came to.
+// What the groups of an interchange came to by the rules.
 fn grouped(
     alloc: Global,
     envelope: Envelope,
     page: Page,
     header: &Isa<'_>,
     interchange: &Interchange<'_>,
+    rules: Rules,
 ) -> Result<Replayed, AllocError>
     requires parts { interchange.now ≡ record {
       delims = delims_of header.now;
@@ -79,11 +81,12 @@ fn grouped(
           moment = envelope.moment;
           deed =
               register.Received header.now;
+          rules = rules;
         }) r.page r.outgoing.items) }
 {
     // what is known of every page
     let _ = page.rows();
-    let groups = take_groups(alloc, page, interchange)?;
+    let groups = take_groups(alloc, page, interchange, rules)?;
     let outgoing = answer(alloc, envelope, header, &groups.told)?;
     Ok(Replayed {
         page: groups.page,
@@ -102,13 +105,14 @@ fn halted(alloc: Global, page: Page, halt: Halt) -> Result<Replayed, AllocError>
     }
 }
 
-// What an interchange that can be read came to.
+// What an interchange that can be read came to by the rules.
 fn structured(
     alloc: Global,
     envelope: Envelope,
     page: Page,
     header: &Isa<'_>,
     text: &[u8],
+    rules: Rules,
 ) -> Result<Replayed, AllocError>
     requires same { header.now ≡ text.now }
     requires rest { page.recent ≡ 0 }
@@ -120,20 +124,22 @@ fn structured(
           moment = envelope.moment;
           deed =
               register.Received text.now;
+          rules = rules;
         }) r.page r.outgoing.items) }
 {
     match structure(alloc, text, header) {
-        Ok(interchange) => grouped(alloc, envelope, page, header, &interchange),
+        Ok(interchange) => grouped(alloc, envelope, page, header, &interchange, rules),
         Err(halt) => halted(alloc, page, halt),
     }
 }
 
-// What an interchange came to.
+// What an interchange came to by the rules.
 fn received(
     alloc: Global,
     envelope: Envelope,
     page: Page,
     text: &[u8],
+    rules: Rules,
 ) -> Result<Replayed, AllocError>
     requires { page.recent ≡ 0 }
     ensures entries { IfOk result (λ r. r.page.entries ≡ page.entries) }
@@ -144,10 +150,11 @@ fn received(
           moment = envelope.moment;
           deed =
               register.Received text.now;
+          rules = rules;
         }) r.page r.outgoing.items) }
 {
     match isa(text) {
-        Ok(header) => structured(alloc, envelope, page, &header, text),
+        Ok(header) => structured(alloc, envelope, page, &header, text, rules),
         Err(_) => Ok(nothing(alloc, page)),
     }
 }
@@ -197,9 +204,9 @@ fn done(
 ) -> Result<Replayed, AllocError>
     requires { page.recent ≡ 0 }
     ensures entries { IfOk result (λ r. r.page.entries ≡ page.entries) }
-    ensures played { IfOk result (λ r. (h : History) (ticket : List ℕ) → IsPageOf page h
+    ensures played { IfOk result (λ r. (h : History) (ticket : List ℕ) (q : Rules) → IsPageOf page h
         → envelope.number ≡ h.numbered + 1
-        → IsPlayed envelope.warehouse h (clerk_entry envelope.depositor ticket (act_of act.now)
+        → IsPlayed envelope.warehouse h (clerk_entry q envelope.depositor ticket (act_of act.now)
         envelope.moment) r.page r.outgoing.items) }
 {
     // what is known of every page
@@ -210,22 +217,23 @@ fn done(
     }
 }
 
-// What a clerk's act came to, by its canonical text.
+// What a clerk's act came to under the rules, by its canonical text.
 fn performed(
     alloc: Global,
     envelope: Envelope,
     page: Page,
     text: &[u8],
+    rules: Rules,
 ) -> Result<Replayed, AllocError>
     requires { page.recent ≡ 0 }
     ensures entries { IfOk result (λ r. r.page.entries ≡ page.entries) }
     ensures played { IfOk result (λ r. (h : History) (ticket : List ℕ) (act : register.Act)
         → IsPageOf page h → envelope.number ≡ h.numbered + 1
-        → is_act act ≡ true → text.now ≡ register.canonical act
-        → IsPlayed envelope.warehouse h (clerk_entry envelope.depositor ticket act envelope.moment) r.page
+        → is_act rules act ≡ true → text.now ≡ register.canonical act
+        → IsPlayed envelope.warehouse h (clerk_entry rules envelope.depositor ticket act envelope.moment) r.page
         r.outgoing.items) }
 {
-    match read(alloc, text)? {
+    match read(alloc, text, rules)? {
         Some(read) => done(alloc, envelope, page, &read.act()),
         None => Ok(nothing(alloc, page)),
     }
@@ -267,9 +275,9 @@ fn numbered(
         number: entry.number(),
     };
     let played = if entry.is_ticketed() {
-        performed(alloc, envelope, page, entry.body())?
+        performed(alloc, envelope, page, entry.body(), entry.rules())?
     } else {
-        received(alloc, envelope, page, entry.body())?
+        received(alloc, envelope, page, entry.body(), entry.rules())?
     };
     Ok(Replayed {
         page: ended(played.page),
@@ -277,8 +285,8 @@ fn numbered(
     })
 }
 
-/// What an entry of the register came to, over the page that its depositor had before it; an enrolment has none before it.
-/// An entry that no command can have made adds nothing but its number. Want of memory is the one error.
+/// What an entry of the register came to by its own rules, over the page that its depositor had before it; an enrolment has none
+/// before it. An entry that no command can have made adds nothing but its number. Want of memory is the one error.
 pub fn replay(
     alloc: Global,
     warehouse: &Warehouse,

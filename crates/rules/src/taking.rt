@@ -1,4 +1,4 @@
-//! What the sets of a group, and the groups of an interchange, come to one after another.
+//! What the sets of a group, and the groups of an interchange, come to one after another, by the rules of their entry.
 ghost use Rattle.std.specs.Prelude.{◌≡◌, ◌≤◌, ◌<◌, ◌+◌, ◌++◌, [], ◌∷◌, true, Some, None, IfOk, OnOk, length, sum_by};
 ghost use Rattle.std.specs.List.{AllByRecursion};
 ghost use Rattle.profile.specs.Limits.{most_sets};
@@ -12,6 +12,7 @@ ghost use Rattle.rules.specs.Judging.{AreTaken, IsGroupTaken, AreGroupsTaken, Is
 
 use crate::judging::{Verdict, judged};
 use envelope::{Group, Interchange, Set};
+use profile::Rules;
 use sets_in::number;
 use sets_out::{Rejection, ToldGroup, ToldSet};
 use std::alloc::{AllocError, Global};
@@ -88,10 +89,11 @@ fn take_set<'a>(
     kind: SetKind,
     set: &'a Set<'a>,
     fault: Option<u8>,
+    rules: Rules,
 ) -> Result<TakenSet<'a>, AllocError>
     requires room { page.recent < most_sets }
     requires closed { fault ≡ None → set.now.set.is_closed ≡ true }
-    ensures { IfOk result (λ t. AreTaken set.now.delims (Some (kind_of kind)) ((set.now.set, fault) ∷ []) page t.page t.changes.items (t.told ∷ [])) }
+    ensures { IfOk result (λ t. AreTaken rules set.now.delims (Some (kind_of kind)) ((set.now.set, fault) ∷ []) page t.page t.changes.items (t.told ∷ [])) }
 {
     if let Some(code) = fault {
         let rejection = Rejection {
@@ -100,7 +102,7 @@ fn take_set<'a>(
         };
         return Ok(rejected(alloc, page, set, rejection));
     }
-    match judged(alloc, &page, kind, set.segments())? {
+    match judged(alloc, &page, kind, set.segments(), rules)? {
         Verdict::Passed(step) => passed(page, set, step),
         Verdict::Rejected(rejection) => Ok(rejected(alloc, page, set, rejection)),
     }
@@ -112,16 +114,17 @@ fn take_sets<'a>(
     start: Page,
     kind: SetKind,
     group: &'a Group<'a>,
+    rules: Rules,
 ) -> Result<TakenSets<'a>, AllocError>
     requires { start.recent + length group.now.group.sets ≤ most_sets }
-    ensures { IfOk result (λ t. AreTaken group.now.delims (Some (kind_of kind)) (meant.examined group.now.group) start t.page t.changes.items t.told.items) }
+    ensures { IfOk result (λ t. AreTaken rules group.now.delims (Some (kind_of kind)) (meant.examined group.now.group) start t.page t.changes.items t.told.items) }
 {
     let faults = group.set_faults(alloc)?;
     let mut page = start;
     let mut changes = Vec::new(alloc);
     let mut told = Vec::new(alloc);
     for (i, set) in group.sets().iter().enumerate() {
-        let mut taken = take_set(alloc, page, kind, set, faults[i])?;
+        let mut taken = take_set(alloc, page, kind, set, faults[i], rules)?;
         page = taken.page;
         changes.append(&mut taken.changes)?;
         told.push(taken.told)?;
@@ -145,13 +148,14 @@ fn take_group<'a>(
     alloc: Global,
     start: Page,
     group: &'a Group<'a>,
+    rules: Rules,
 ) -> Result<TakenSets<'a>, AllocError>
     requires { start.recent + length group.now.group.sets ≤ most_sets }
-    ensures { IfOk result (λ t. IsGroupTaken group.now.delims group.now.group start t.page t.changes.items t.told.items) }
+    ensures { IfOk result (λ t. IsGroupTaken rules group.now.delims group.now.group start t.page t.changes.items t.told.items) }
 {
     let kind = SetKind::of_function(function(group));
     match (group.fault(), kind) {
-        (None, Some(kind)) => take_sets(alloc, start, kind, group),
+        (None, Some(kind)) => take_sets(alloc, start, kind, group, rules),
         _ => Ok(TakenSets {
             page: start,
             changes: Vec::new(alloc),
@@ -223,21 +227,22 @@ pub(crate) struct TakenGroups<'a> {
     pub(crate) told: Vec<ToldGroup<'a>>,
 }
 
-/// The groups of an interchange, in turn. Want of memory is the one error.
+/// The groups of an interchange, in turn, by the rules. Want of memory is the one error.
 pub(crate) fn take_groups<'a>(
     alloc: Global,
     start: Page,
     interchange: &'a Interchange<'a>,
+    rules: Rules,
 ) -> Result<TakenGroups<'a>, AllocError>
     requires room { start.recent + sum_by (λ g. length g.sets) interchange.now.groups ≤ most_sets }
     requires small { AllByRecursion IsSmall interchange.now.groups }
-    ensures { IfOk result (λ t. AreGroupsTaken interchange.now.delims interchange.now.groups start t.page t.changes.items t.told.items) }
+    ensures { IfOk result (λ t. AreGroupsTaken rules interchange.now.delims interchange.now.groups start t.page t.changes.items t.told.items) }
 {
     let mut page = start;
     let mut changes = Vec::new(alloc);
     let mut told = Vec::new(alloc);
     for group in interchange.groups() {
-        let mut taken = take_group(alloc, page, group)?;
+        let mut taken = take_group(alloc, page, group, rules)?;
         page = taken.page;
         changes.append(&mut taken.changes)?;
         tell(&mut told, group, taken.told)?;

@@ -34,13 +34,16 @@ and_of f (Some g) os h k = (h, k)
 three : (f : SetFault) (a b c : Option SetFault) → IsBefore f a × IsBefore f b × IsBefore f c → IsLeastOf f (a ∷ b ∷ c ∷ [])
 three f a b c h = and_of f a (b ∷ c ∷ []) h.0 (and_of f b (c ∷ []) h.1 (and_of f c [] h.2 tt))
 
+four : (f : SetFault) (a b c d : Option SetFault) → IsBefore f a × IsBefore f b × IsBefore f c × IsBefore f d → IsLeastOf f (a ∷ b ∷ c ∷ d ∷ [])
+four f a b c d h = and_of f a (b ∷ c ∷ d ∷ []) h.0 (three f b c d (h.1, h.2, h.3))
+
 pub least_of_advice : (es : List Event) (ss : List Segment) (a : Advice) (f : SetFault) → advised.SaysAdvice ss a → advice_fault es a ≡ Some f → IsLeastOf f (faults_of_advice es a)
 least_of_advice es ss a f (t, parts, is, e) h =
     let n = length t.header + 3 in
     let lines : are_advice_lines (advised.meaning t) ≡ true = advice_lines (n + 2 * length t.goods) n t.goods (omega arith) (omega arith) in
     let total : 2 ≤ (advised.meaning t).total_position = omega arith in
     let same = sym e in
-    three f _ _ _ (advice_fault-least es a f (subst (λ (x : Advice). are_advice_lines x ≡ true) same lines) (subst (λ (x : Advice). 2 ≤ x.total_position) same total) h)
+    four f _ _ _ _ (advice_fault-least es a f (subst (λ (x : Advice). are_advice_lines x ≡ true) same lines) (subst (λ (x : Advice). 2 ≤ x.total_position) same total) h)
 
 pub least_of_order : (es : List Event) (ss : List Segment) (o : Order) (f : SetFault) → ordered.SaysOrder ss o → order_fault es o ≡ Some f → IsLeastOf f (faults_of_order es o)
 least_of_order es ss o f (t, parts, is, e) h =

@@ -1,15 +1,15 @@
 -- The segments of an advice's tree mean what the tree says.
-use Rattle.std.proofs.Common.{◌≡◌, ℕ, ◌+◌, ◌-◌, ◌*◌, false, List, [], ◌∷◌, ◌++◌, length, map, refl, sym, ◌∙◌, ap, Some, arith, append_assoc, length-append}
-use Rattle.std.specs.Prelude.{codes, bytes_eq, slice_get, unwrap_or, Option}
+use Rattle.std.proofs.Common.{◌≡◌, ℕ, ◌+◌, ◌-◌, ◌*◌, false, ◌&&◌, cond, List, [], ◌∷◌, ◌++◌, length, map, refl, sym, ◌∙◌, ap, Some, None, arith, lt-ltb, append_assoc, length-append}
+use Rattle.std.specs.Prelude.{codes, bytes_eq, nat_lt, slice_get, unwrap_or, Option}
 use Rattle.std.proofs.Common.{inl, inr}
 use Rattle.std.specs.List.{AllByRecursion}
 use Rattle.profile.specs.Bytes.{value}
 use Rattle.profile.specs.Cut.{Segment, element, id_of, has_id, segment_with, segments_of}
 use Rattle.profile.specs.Words.{ShipmentAdvice}
-use Rattle.profile.specs.Means.{Advice, AdviceLine, advice_of, advice_line, segment_at, place_of}
+use Rattle.profile.specs.Means.{Advice, AdviceLine, advice_of, advice_line, expiry_of, segment_at, place_of}
 use Rattle.tables.specs.Judged.{Whole, IsSound}
 use Rattle.sets_in.specs.Places.{places_from}
-use Rattle.sets_in.specs.Said.{AdviceSet, IsAdviceSet, IsHeader, in_pairs, printed, lines_at, meaning, SaysAdvice}
+use Rattle.sets_in.specs.Said.{AdviceSet, IsAdviceSet, IsHeader, in_pairs, printed, date_in, lines_at, meaning, SaysAdvice}
 use Rattle.sets_in.proofs.Places.{with_yes, with_no, from_yes, from_no}
 use Rattle.sets_in.proofs.Parse.{Parsed}
 use Rattle.sets_in.proofs.Whole.{whole_advice}
@@ -81,20 +81,32 @@ at ss front s ys n e p =
     let k : n - 1 ≡ length front = omega arith in
     ap (λ i. unwrap_or (slice_get ss i) []) k ∙ ap (λ (x : List Segment). unwrap_or (slice_get x (length front)) []) e ∙ ap (λ (o : Option Segment). unwrap_or o []) (nth front s ys)
 
-lines_mean : (ss front : List Segment) (gs : Goods) (back : List Segment) (n : ℕ) → ss ≡ front ++ (in_pairs gs ++ back) → n ≡ length front + 1
+-- the date of an N9
+date_of : (s : Segment) → id_of s ≡ codes "N9" → expiry_of s ≡ date_in (element s 4)
+date_of s e = ap (λ b. cond (b && nat_lt 0 (length (element s 4))) (Some (element s 4)) None) (ap (λ y. bytes_eq y (codes "N9")) e) ∙ if_any (element s 4)
+  where
+    if_any : (text : List ℕ) → cond (nat_lt 0 (length text)) (Some text) None ≡ date_in text
+    if_any [] = refl
+    if_any (b ∷ bs) = ap (λ t. cond t (Some (b ∷ bs)) None) (lt-ltb 0 (length (b ∷ bs)) (omega arith))
+
+abbrev line_said : Segment → Segment → Option (List ℕ) → ℕ → AdviceLine
+line_said w04 n9 date n = record { line = record { item = element w04 5; lot = element n9 2; quantity = value (element w04 1) }; expiry = date; position = n }
+
+lines_mean : (ss front : List Segment) (gs : Goods) (back : List Segment) (n : ℕ) → AreGoods gs → ss ≡ front ++ (in_pairs gs ++ back) → n ≡ length front + 1
     → map (advice_line ss) (evens n gs) ≡ lines_at n gs
 unfolding evens
-lines_mean ss front [] back n e p = refl
-lines_mean ss front (g ∷ gs) back n e p =
+lines_mean ss front [] back n h e p = refl
+lines_mean ss front (g ∷ gs) back n h e p =
     let rest = in_pairs gs ++ back in
     let first : segment_at ss n ≡ g.0 = at ss front g.0 (g.1 ∷ rest) n e p in
     let split : ss ≡ (front ++ g.0 ∷ []) ++ g.1 ∷ rest = e ∙ sym (append_assoc front (g.0 ∷ []) (g.1 ∷ rest)) in
     let second : segment_at ss (n + 1) ≡ g.1 = at ss (front ++ g.0 ∷ []) g.1 rest (n + 1) split (omega (arith, length-append front (g.0 ∷ []))) in
     let after : ss ≡ (front ++ g.0 ∷ g.1 ∷ []) ++ rest = e ∙ sym (append_assoc front (g.0 ∷ g.1 ∷ []) rest) in
-    let more = lines_mean ss (front ++ g.0 ∷ g.1 ∷ []) gs back (n + 2) after (omega (arith, length-append front (g.0 ∷ g.1 ∷ []))) in
-    ap (λ (s : Segment). record { line = record { item = element s 5; lot = element (segment_at ss (n + 1)) 2; quantity = value (element s 1) }; position = n } ∷ map (advice_line ss) (evens (n + 2) gs)) first
-    ∙ ap (λ (s : Segment). record { line = record { item = element g.0 5; lot = element s 2; quantity = value (element g.0 1) }; position = n } ∷ map (advice_line ss) (evens (n + 2) gs)) second
-    ∙ ap (λ (ls : List AdviceLine). record { line = record { item = element g.0 5; lot = element g.1 2; quantity = value (element g.0 1) }; position = n } ∷ ls) more
+    let more = lines_mean ss (front ++ g.0 ∷ g.1 ∷ []) gs back (n + 2) h.1 after (omega (arith, length-append front (g.0 ∷ g.1 ∷ []))) in
+    ap (λ (s : Segment). line_said s (segment_at ss (n + 1)) (expiry_of (segment_at ss (n + 1))) n ∷ map (advice_line ss) (evens (n + 2) gs)) first
+    ∙ ap (λ (s : Segment). line_said g.0 s (expiry_of s) n ∷ map (advice_line ss) (evens (n + 2) gs)) second
+    ∙ ap (λ (date : Option (List ℕ)). line_said g.0 g.1 date n ∷ map (advice_line ss) (evens (n + 2) gs)) (date_of g.1 h.0.1)
+    ∙ ap (λ (ls : List AdviceLine). line_said g.0 g.1 (date_in (element g.1 4)) n ∷ ls) more
 
 pairs_length : (gs : Goods) → length (in_pairs gs) ≡ 2 * length gs
 pairs_length [] = refl
@@ -127,7 +139,7 @@ means t h =
     ∙ goods_places (length t.header + 3) t.goods t.w03 t.se h.goods (is_no (codes "W04") (codes "W03") t.w03 h.w03 refl) (is_no (codes "W04") (codes "SE") t.se h.se refl) in
     let lines : map (advice_line (printed t)) (places_from (codes "W04") 1 (printed t)) ≡ lines_at (length t.header + 3) t.goods =
     ap (map (advice_line (printed t))) places
-    ∙ lines_mean (printed t) (t.st ∷ t.w06 ∷ t.header) t.goods end (length t.header + 3) refl (omega arith) in
+    ∙ lines_mean (printed t) (t.st ∷ t.w06 ∷ t.header) t.goods end (length t.header + 3) h.goods refl (omega arith) in
     let after_goods : 1 + 1 + 1 + length t.header + length (in_pairs t.goods) ≡ length t.header + 3 + 2 * length t.goods = omega (arith, pairs_length t.goods) in
     let total : place_of (codes "W03") (printed t) ≡ length t.header + 3 + 2 * length t.goods =
     ap (λ (ns : List ℕ). unwrap_or (slice_get ns 0) 0)

@@ -1,5 +1,5 @@
 -- What a shipment advice says, as a tree with its printer.
-use Rattle.std.specs.Prelude.{◌≡◌, ℕ, ◌+◌, ◌*◌, ◌⊎◌, List, [], ◌∷◌, ◌++◌, length, codes}
+use Rattle.std.specs.Prelude.{◌≡◌, ℕ, ◌+◌, ◌*◌, ◌⊎◌, List, [], ◌∷◌, ◌++◌, length, codes, Option, Some, None}
 use Rattle.std.specs.List.{AllByRecursion}
 use Rattle.profile.specs.Bytes.{value}
 use Rattle.profile.specs.Cut.{Segment, element, id_of}
@@ -34,11 +34,20 @@ pub record IsAdviceSet (t : AdviceSet) : Type 0 where
   pub w03 : id_of t.w03 ≡ codes "W03"
   pub se : id_of t.se ≡ codes "SE"
 
+-- a date, if there is one
+abbrev pub date_in : List ℕ → Option (List ℕ)
+date_in [] = None
+date_in (digit ∷ digits) = Some (digit ∷ digits)
+
 -- the lines, of which the first stands at the position and each has two segments
 abbrev pub lines_at : ℕ → List (Segment × Segment) → List AdviceLine
 lines_at n [] = []
 lines_at n (g ∷ gs) =
-    record { line = record { item = element g.0 5; lot = element g.1 2; quantity = value (element g.0 1) }; position = n } ∷ lines_at (n + 2) gs
+    record {
+      line = record { item = element g.0 5; lot = element g.1 2; quantity = value (element g.0 1) };
+      expiry = date_in (element g.1 4);
+      position = n;
+    } ∷ lines_at (n + 2) gs
 
 abbrev pub meaning : AdviceSet → Advice
 meaning t = record {

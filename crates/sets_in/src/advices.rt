@@ -1,4 +1,4 @@
-ghost use Rattle.std.specs.Prelude.{◌≡◌, ◌≤◌, ◌<◌, ◌^◌, ◌-◌, IfOk, All, codes, map, length};
+ghost use Rattle.std.specs.Prelude.{◌≡◌, ◌≤◌, ◌<◌, ◌^◌, ◌-◌, IfOk, All, codes, map, length, option_map};
 ghost use Rattle.profile.specs.declared.rules.Rules.TheVariants.{Two};
 ghost use Rattle.profile.specs.Cut.{segments_of, places_of, element};
 ghost use Rattle.profile.specs.Limits.{most_quantity};
@@ -26,6 +26,22 @@ fn advised<'a>(set: &Checked<'a>) -> &'a [Segment<'a>]
     set.segments()
 }
 
+// The day on which the lot of the segment at the position expires, if it is an N9 that gives one.
+fn expiry_at(
+    alloc: Global,
+    segments: &[Segment<'_>],
+    position: usize,
+) -> Result<Option<Vec<u8>>, AllocError>
+    ensures { IfOk result (λ e. option_map (λ v. v.items) e ≡ meant.expiry_of (meant.segment_at (segments_of segments.now) position)) }
+{
+    match segments.get(position.saturating_sub(1)) {
+        Some(segment) if segment.has_id(b"N9") && !segment.element(4).is_empty() => {
+            Ok(Some(copied(alloc, segment.element(4))?))
+        }
+        _ => Ok(None),
+    }
+}
+
 // The line whose W04 stands at the position.
 fn advice_line(
     alloc: Global,
@@ -39,6 +55,7 @@ fn advice_line(
     let at = position as usize;
     let item = copied(alloc, element_at(segments, at, 5))?;
     let lot = copied(alloc, element_at(segments, at + 1, 2))?;
+    let expiry = expiry_at(alloc, segments, at + 1)?;
     let quantity = number(element_at(segments, at, 1));
     Ok(AdviceLine {
         line: Goods {
@@ -46,6 +63,7 @@ fn advice_line(
             lot,
             quantity,
         },
+        expiry,
         position,
     })
 }

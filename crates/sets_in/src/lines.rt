@@ -1,3 +1,4 @@
+ghost use Rattle.std.specs.Prelude.{option_map};
 ghost use Rattle.profile.specs.Means.{Line as LineSaid, AdviceLine as AdviceLineSaid};
 
 use std::marker::Model;
@@ -24,6 +25,8 @@ impl Model for Goods {
 pub struct AdviceLine {
     /// What is advised.
     pub line: Goods,
+    /// The day on which the lot expires, eight digits CCYYMMDD (element 4 of the N9 after its W04), if it is given.
+    pub expiry: Option<Vec<u8>>,
     /// The position of its W04 in the set, ST at 1; its N9 stands directly after.
     pub position: u32,
 }
@@ -31,5 +34,5 @@ pub struct AdviceLine {
 impl Model for AdviceLine {
     ghost Value = { AdviceLineSaid };
 
-    ghost view = { λ l. record { line = l.line; position = l.position } };
+    ghost view = { λ l. record { line = l.line; expiry = option_map (λ v. v.items) l.expiry; position = l.position } };
 }

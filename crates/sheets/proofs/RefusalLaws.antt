@@ -2,7 +2,7 @@
 use Rattle.std.proofs.Common.{◌≡◌, ℕ, Bool, true, false, cond, List, map, length, refl, ap, Option, Some, None, Ok, Err}
 use Rattle.std.specs.Prelude.{nat_lt}
 use Rattle.std.specs.List.{list_any}
-use Rattle.profile.specs.declared.rules.Rules.TheVariants.{One}
+use Rattle.profile.specs.declared.rules.Rules.{Rules}
 use Rattle.profile.specs.Limits.{most_lines}
 use Rattle.profile.specs.Lists.{has_repeats, in_order}
 use Rattle.profile.specs.Events.{pair_before}
@@ -15,13 +15,13 @@ number_or d (Some n) = n
 number_or d None = d
 
 -- it is that of the refusal
-pub refused_is : (kind : SheetKind) (raw : List RawLine) (n : ℕ) → refused kind raw ≡ Some n → (r : Refusal) × (sheet_of kind raw ≡ Err r) × (refusal_number r ≡ n)
-refused_is kind raw n h =
-    by_tests (nat_lt (most_lines One) (length raw)) (list_any (is_bad_line kind) raw) (list_any (is_too_much kind) raw) (has_repeats same_raw_pair raw) refl refl refl refl h
+pub refused_is : (r : Rules) (kind : SheetKind) (raw : List RawLine) (n : ℕ) → refused r kind raw ≡ Some n → (why : Refusal) × (sheet_of r kind raw ≡ Err why) × (refusal_number why ≡ n)
+refused_is r kind raw n h =
+    by_tests (nat_lt (most_lines r) (length raw)) (list_any (is_bad_line kind) raw) (list_any (is_too_much r kind) raw) (has_repeats same_raw_pair raw) refl refl refl refl h
   where
-    by_tests : (a b c d : Bool) → nat_lt (most_lines One) (length raw) ≡ a → list_any (is_bad_line kind) raw ≡ b → list_any (is_too_much kind) raw ≡ c → has_repeats same_raw_pair raw ≡ d
+    by_tests : (a b c d : Bool) → nat_lt (most_lines r) (length raw) ≡ a → list_any (is_bad_line kind) raw ≡ b → list_any (is_too_much r kind) raw ≡ c → has_repeats same_raw_pair raw ≡ d
         → cond a (Some 33) (cond b (Some 32) (cond c (Some 30) (cond d (Some 31) None))) ≡ Some n
-        → (r : Refusal) × (sheet_of kind raw ≡ Err r) × (refusal_number r ≡ n)
+        → (why : Refusal) × (sheet_of r kind raw ≡ Err why) × (refusal_number why ≡ n)
     by_tests true b c d e f g i k = (TooManyLines, rw e refl, ap (number_or 0) k)
     by_tests false true c d e f g i k = (BadText, rw (e, f) refl, ap (number_or 0) k)
     by_tests false false true d e f g i k = (TooMuch, rw (e, f, g) refl, ap (number_or 0) k)
@@ -29,14 +29,14 @@ refused_is kind raw n h =
     by_tests false false false false e f g i k = absurd (cc)
 
 -- without one the lines make a sheet
-pub accepted_is : (kind : SheetKind) (raw : List RawLine) → refused kind raw ≡ None
-    → (has_repeats same_raw_pair raw ≡ false) × (sheet_of kind raw ≡ Ok (in_order pair_before (map line_of raw)))
-accepted_is kind raw h =
-    by_tests (nat_lt (most_lines One) (length raw)) (list_any (is_bad_line kind) raw) (list_any (is_too_much kind) raw) (has_repeats same_raw_pair raw) refl refl refl refl h
+pub accepted_is : (r : Rules) (kind : SheetKind) (raw : List RawLine) → refused r kind raw ≡ None
+    → (has_repeats same_raw_pair raw ≡ false) × (sheet_of r kind raw ≡ Ok (in_order pair_before (map line_of raw)))
+accepted_is r kind raw h =
+    by_tests (nat_lt (most_lines r) (length raw)) (list_any (is_bad_line kind) raw) (list_any (is_too_much r kind) raw) (has_repeats same_raw_pair raw) refl refl refl refl h
   where
-    by_tests : (a b c d : Bool) → nat_lt (most_lines One) (length raw) ≡ a → list_any (is_bad_line kind) raw ≡ b → list_any (is_too_much kind) raw ≡ c → has_repeats same_raw_pair raw ≡ d
+    by_tests : (a b c d : Bool) → nat_lt (most_lines r) (length raw) ≡ a → list_any (is_bad_line kind) raw ≡ b → list_any (is_too_much r kind) raw ≡ c → has_repeats same_raw_pair raw ≡ d
         → cond {A = Option ℕ} a (Some 33) (cond b (Some 32) (cond c (Some 30) (cond d (Some 31) None))) ≡ None
-        → (has_repeats same_raw_pair raw ≡ false) × (sheet_of kind raw ≡ Ok (in_order pair_before (map line_of raw)))
+        → (has_repeats same_raw_pair raw ≡ false) × (sheet_of r kind raw ≡ Ok (in_order pair_before (map line_of raw)))
     by_tests true b c d e f g i k = absurd (cc)
     by_tests false true c d e f g i k = absurd (cc)
     by_tests false false true d e f g i k = absurd (cc)

@@ -7,14 +7,15 @@ use Rattle.std.specs.Cmp.Derive.{both_true}
 use Rattle.std.proofs.Common.{le-leb, leb-true}
 use Rattle.std.proofs.lemmas.List.Sorted.{IsPermutation-map, sum_by-IsPermutation}
 use Rattle.std.proofs.lemmas.List.Elements.{All-nil, All-cons}
-use Rattle.profile.specs.declared.rules.Rules.TheVariants.{One}
+use Rattle.profile.specs.declared.rules.Rules.{Rules}
+use Rattle.profile.specs.declared.rules.Rules.TheVariants.{One, Two}
 use Rattle.profile.specs.Bytes.{value, is_identifier}
 use Rattle.profile.specs.Limits.{most_lines, most_item, most_lot, most_quantity, most_recounted}
 use Rattle.profile.specs.Lists.{in_order}
 use Rattle.profile.specs.Means.{Line}
 use Rattle.profile.specs.Events.{pair_before}
 use Rattle.profile.specs.Clerk.{RawLine, SheetKind, CountSheet, PickSheet, RecountSheet, line_of, sheet_of, is_sheet, is_sheet_line, is_ascending, least_quantity, quantity_limit}
-use Rattle.profile.proofs.SheetLaws.{sheet_of-is}
+use Rattle.profile.proofs.SheetLaws.{sheet_of-is, is_sheet-later}
 use Rattle.profile.proofs.TextLaws.{both_parts}
 use Rattle.sheets.specs.Pairs.{pair_cmp}
 use Rattle.sheets.specs.Refused.{refused}
@@ -22,13 +23,13 @@ use Rattle.sheets.proofs.OrderLaws.{one_of, told, told_once, sorted_ascends, asc
 use Rattle.sheets.proofs.RefusalLaws.{accepted_is}
 
 -- lines that aren't refused are, sorted, the sheet
-pub made : (kind : SheetKind) (raw sorted : List RawLine) → refused kind raw ≡ None → IsPermutation raw sorted → IsSorted pair_cmp sorted
-    → sheet_of kind raw ≡ Ok (map line_of sorted)
-made kind raw sorted h moved up =
-    let accepted = accepted_is kind raw h in
+pub made : (r : Rules) (kind : SheetKind) (raw sorted : List RawLine) → refused r kind raw ≡ None → IsPermutation raw sorted → IsSorted pair_cmp sorted
+    → sheet_of r kind raw ≡ Ok (map line_of sorted)
+made r kind raw sorted h moved up =
+    let accepted = accepted_is r kind raw h in
     let lines = in_order pair_before (map line_of raw) in
-    let sheet = sheet_of-is kind raw lines accepted.1 in
-    let sizes = both_parts (nat_le (length lines) (most_lines One) && list_all (is_sheet_line kind) lines) (is_ascending lines) sheet.0 in
+    let sheet = sheet_of-is r kind raw lines accepted.1 in
+    let sizes = both_parts (nat_le (length lines) (most_lines r) && list_all (is_sheet_line r kind) lines) (is_ascending lines) sheet.0 in
     let counted : (f : Line → ℕ) → sum_by f (map line_of sorted) ≡ sum_by f (map line_of raw) =
     λ f. sum_by-IsPermutation f (map line_of raw) (map line_of sorted) (IsPermutation-map line_of raw sorted moved) in
     let once : (item lot : List ℕ) → told item lot (map line_of sorted) ≤ 1 =
@@ -37,47 +38,51 @@ made kind raw sorted h moved up =
     (λ f. counted f ∙ sym (sum_by-IsPermutation f (map line_of raw) lines sheet.1)) in
     accepted.1 ∙ ap Ok same
 
-pub made_of_kind : (kind : SheetKind) (raw : List RawLine) (ls : List Line) → sheet_of kind raw ≡ Ok ls → is_sheet kind ls ≡ true
-made_of_kind kind raw ls h = (sheet_of-is kind raw ls h).0
+pub made_of_kind : (r : Rules) (kind : SheetKind) (raw : List RawLine) (ls : List Line) → sheet_of r kind raw ≡ Ok ls → is_sheet r kind ls ≡ true
+made_of_kind r kind raw ls h = (sheet_of-is r kind raw ls h).0
 
--- a sheet of any kind keeps the limits of a recount
+-- a sheet of any kind, by rules 1 or 2, keeps the limits of a recount by rules 2
 
-widened_line : (kind : SheetKind) (l : Line) → is_sheet_line kind l ≡ true → is_sheet_line RecountSheet l ≡ true
+widened_line : (kind : SheetKind) (l : Line) → is_sheet_line Two kind l ≡ true → is_sheet_line Two RecountSheet l ≡ true
 widened_line kind l h =
-    let p = both_parts (is_identifier 1 most_item l.item && is_identifier 1 most_lot l.lot && nat_le (least_quantity kind) l.quantity) (nat_le l.quantity (quantity_limit kind)) h in
+    let p = both_parts (is_identifier 1 most_item l.item && is_identifier 1 most_lot l.lot && nat_le (least_quantity kind) l.quantity) (nat_le l.quantity (quantity_limit Two kind)) h in
     let q = both_parts (is_identifier 1 most_item l.item && is_identifier 1 most_lot l.lot) (nat_le (least_quantity kind) l.quantity) p.0 in
     both_true (both_true q.0 (le-leb 0 l.quantity (omega arith))) (by_kind kind p.1)
   where
-    by_kind : (kind : SheetKind) → nat_le l.quantity (quantity_limit kind) ≡ true → nat_le l.quantity most_recounted ≡ true
-    by_kind CountSheet e = le-leb l.quantity most_recounted (omega (arith, leb-true l.quantity (most_quantity One) e))
-    by_kind PickSheet e = le-leb l.quantity most_recounted (omega (arith, leb-true l.quantity (most_quantity One) e))
+    by_kind : (kind : SheetKind) → nat_le l.quantity (quantity_limit Two kind) ≡ true → nat_le l.quantity most_recounted ≡ true
+    by_kind CountSheet e = le-leb l.quantity most_recounted (omega (arith, leb-true l.quantity (most_quantity Two) e))
+    by_kind PickSheet e = le-leb l.quantity most_recounted (omega (arith, leb-true l.quantity (most_quantity Two) e))
     by_kind RecountSheet e = e
 
-widened_lines : (kind : SheetKind) (ls : List Line) → list_all (is_sheet_line kind) ls ≡ true → list_all (is_sheet_line RecountSheet) ls ≡ true
+widened_lines : (kind : SheetKind) (ls : List Line) → list_all (is_sheet_line Two kind) ls ≡ true → list_all (is_sheet_line Two RecountSheet) ls ≡ true
 widened_lines kind [] h = refl
 widened_lines kind (l ∷ ls) h =
-    let p = both_parts (is_sheet_line kind l) (list_all (is_sheet_line kind) ls) h in
+    let p = both_parts (is_sheet_line Two kind l) (list_all (is_sheet_line Two kind) ls) h in
     both_true (widened_line kind l p.0) (widened_lines kind ls p.1)
 
-pub widened : (kind : SheetKind) (ls : List Line) → is_sheet kind ls ≡ true → is_sheet RecountSheet ls ≡ true
-widened kind ls h =
-    let p = both_parts (nat_le (length ls) (most_lines One) && list_all (is_sheet_line kind) ls) (is_ascending ls) h in
-    let q = both_parts (nat_le (length ls) (most_lines One)) (list_all (is_sheet_line kind) ls) p.0 in
+widened_two : (kind : SheetKind) (ls : List Line) → is_sheet Two kind ls ≡ true → is_sheet Two RecountSheet ls ≡ true
+widened_two kind ls h =
+    let p = both_parts (nat_le (length ls) (most_lines Two) && list_all (is_sheet_line Two kind) ls) (is_ascending ls) h in
+    let q = both_parts (nat_le (length ls) (most_lines Two)) (list_all (is_sheet_line Two kind) ls) p.0 in
     both_true (both_true q.0 (widened_lines kind ls q.1)) p.1
+
+pub widened : (r : Rules) (kind : SheetKind) (ls : List Line) → is_sheet r kind ls ≡ true → is_sheet Two RecountSheet ls ≡ true
+widened One kind ls h = widened_two kind ls (is_sheet-later kind ls h)
+widened Two kind ls h = widened_two kind ls h
 
 -- the quantities of a sheet's lines
 
 abbrev Fits : RawLine → Type 0
 Fits l = value l.quantity ≤ most_recounted
 
-lines_fit : (ls : List RawLine) → list_all (is_sheet_line RecountSheet) (map line_of ls) ≡ true → All Fits ls
+lines_fit : (ls : List RawLine) → list_all (is_sheet_line Two RecountSheet) (map line_of ls) ≡ true → All Fits ls
 lines_fit [] h = All-nil Fits
 lines_fit (l ∷ ls) h =
-    let p = both_parts (is_sheet_line RecountSheet (line_of l)) (list_all (is_sheet_line RecountSheet) (map line_of ls)) h in
+    let p = both_parts (is_sheet_line Two RecountSheet (line_of l)) (list_all (is_sheet_line Two RecountSheet) (map line_of ls)) h in
     let q = both_parts (is_identifier 1 most_item l.item && is_identifier 1 most_lot l.lot && nat_le 0 (value l.quantity)) (nat_le (value l.quantity) most_recounted) p.0 in
     All-cons Fits l ls (leb-true (value l.quantity) most_recounted q.1) (lines_fit ls p.1)
 
-pub fits : (ls : List RawLine) → is_sheet RecountSheet (map line_of ls) ≡ true → All (λ (l : RawLine). value l.quantity ≤ most_recounted) ls
+pub fits : (ls : List RawLine) → is_sheet Two RecountSheet (map line_of ls) ≡ true → All (λ (l : RawLine). value l.quantity ≤ most_recounted) ls
 fits ls h =
-    let p = both_parts (nat_le (length (map line_of ls)) (most_lines One) && list_all (is_sheet_line RecountSheet) (map line_of ls)) (is_ascending (map line_of ls)) h in
-    lines_fit ls (both_parts (nat_le (length (map line_of ls)) (most_lines One)) (list_all (is_sheet_line RecountSheet) (map line_of ls)) p.0).1
+    let p = both_parts (nat_le (length (map line_of ls)) (most_lines Two) && list_all (is_sheet_line Two RecountSheet) (map line_of ls)) (is_ascending (map line_of ls)) h in
+    lines_fit ls (both_parts (nat_le (length (map line_of ls)) (most_lines Two)) (list_all (is_sheet_line Two RecountSheet) (map line_of ls)) p.0).1

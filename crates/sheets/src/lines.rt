@@ -6,7 +6,7 @@ ghost use Rattle.sheets.specs.Kinds.{kind_of};
 ghost use Rattle.sheets.specs.Pairs.{pair_cmp};
 
 use crate::kinds::SheetKind;
-use profile::{MOST_ITEM, MOST_LOT, SHEET_DIGITS};
+use profile::{MOST_ITEM, MOST_LOT, Rules, SHEET_DIGITS};
 use segments::{Ident, all_digits, value_up_to};
 use std::alloc::{AllocError, Global};
 use std::cmp::Ordering;
@@ -95,10 +95,10 @@ impl Line {
     }
 
     // Whether its quantity is over the limit.
-    pub(crate) fn is_too_much(&self, kind: SheetKind) -> bool
-        ensures { result ≡ clerk.is_too_much (kind_of kind) self.now }
+    pub(crate) fn is_too_much(&self, kind: SheetKind, rules: Rules) -> bool
+        ensures { result ≡ clerk.is_too_much rules (kind_of kind) self.now }
     {
-        self.quantity.len() > SHEET_DIGITS || self.amount() > kind.most()
+        self.quantity.len() > SHEET_DIGITS || self.amount() > kind.most(rules)
     }
 
     // Whether both are of one item and one lot.

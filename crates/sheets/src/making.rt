@@ -1,7 +1,9 @@
 ghost use Rattle.std.specs.Prelude.{◌≡◌, ◌==◌, ◌++◌, OnOk, OnErr, flat_map, List, true, Ok, Err, IfOk, IfErr, IsPermutation, length, map};
 ghost use Rattle.std.specs.List.{list_any};
 ghost use Rattle.std.specs.List.Sorted.{IsSorted};
+ghost use Rattle.profile.specs.declared.rules.Rules.TheVariants.{Two};
 ghost use Rattle.profile.specs.Clerk as clerk;
+ghost use Rattle.profile.specs.Limits as limits;
 ghost use Rattle.profile.specs.Lists as lists;
 ghost use Rattle.profile.specs.Means as meant;
 ghost use Rattle.profile.specs.Register.{line_text};
@@ -13,7 +15,7 @@ ghost use Rattle.sheets.specs.Refused.{refused};
 use crate::kinds::SheetKind;
 use crate::lines::Line;
 use crate::writing::append_lines;
-use profile::MOST_LINES;
+use profile::{MOST_LINES, MOST_LINES_TWO, Rules};
 use std::alloc::{AllocError, Global};
 use std::marker::Model;
 
@@ -26,8 +28,8 @@ const BAD_TEXT: u8 = 32;
 
 const TOO_MANY_LINES: u8 = 33;
 
-/// A sheet of a clerk's act: at most 99 lines of identifiers and quantities within their limits, by item and then lot
-/// bytes, each pair once.
+/// A sheet of a clerk's act: at most 99 lines under rules 1 and 999 under rules 2, of identifiers and quantities within
+/// their limits, by item and then lot bytes, each pair once.
 #[derive(Debug, Drop)]
 pub struct Sheet {
     lines: Vec<Line>,
@@ -38,7 +40,7 @@ impl Model for Sheet {
 
     ghost view = { λ s. map clerk.line_of s.lines.items };
 
-    ghost invariant = { λ s. clerk.is_sheet clerk.RecountSheet (map clerk.line_of s.lines.items) ≡ true };
+    ghost invariant = { λ s. clerk.is_sheet Two clerk.RecountSheet (map clerk.line_of s.lines.items) ≡ true };
 }
 
 // Whether one of the others is of the line's pair.
@@ -66,23 +68,33 @@ fn has_bad_line(kind: SheetKind, lines: &[Line]) -> bool
     lines.iter().any(|line| line.is_bad(kind))
 }
 
-fn has_too_much(kind: SheetKind, lines: &[Line]) -> bool
-    ensures { result ≡ list_any (clerk.is_too_much (kind_of kind)) lines.now }
+fn has_too_much(kind: SheetKind, lines: &[Line], rules: Rules) -> bool
+    ensures { result ≡ list_any (clerk.is_too_much rules (kind_of kind)) lines.now }
 {
-    lines.iter().any(|line| line.is_too_much(kind))
+    lines.iter().any(|line| line.is_too_much(kind, rules))
+}
+
+// The most lines of a sheet.
+fn most_lines(rules: Rules) -> u16
+    ensures { result ≡ limits.most_lines rules }
+{
+    match rules {
+        Rules::One => MOST_LINES,
+        Rules::Two => MOST_LINES_TWO,
+    }
 }
 
 // The number of the first refusal, each over all lines.
-fn refusal(kind: SheetKind, lines: &[Line]) -> Option<u8>
-    ensures { result ≡ refused (kind_of kind) lines.now }
+fn refusal(kind: SheetKind, lines: &[Line], rules: Rules) -> Option<u8>
+    ensures { result ≡ refused rules (kind_of kind) lines.now }
 {
-    if lines.len() > usize::from(MOST_LINES) {
+    if lines.len() > usize::from(most_lines(rules)) {
         return Some(TOO_MANY_LINES);
     }
     if has_bad_line(kind, lines) {
         return Some(BAD_TEXT);
     }
-    if has_too_much(kind, lines) {
+    if has_too_much(kind, lines, rules) {
         return Some(TOO_MUCH);
     }
     if has_repeats(lines) {
@@ -101,15 +113,15 @@ fn in_order(mut lines: Vec<Line>) -> Vec<Line>
 }
 
 impl Sheet {
-    /// The sheet of these lines, in order. It takes no memory. The error is the number of the first refusal that holds:
-    /// 33 more than 99 lines; 32 an item, a lot or a quantity that can't be read, or a pick of 0; 30 a quantity of more
-    /// than nine digits or over its limit; 31 a pair of item and lot twice.
-    pub fn new(kind: SheetKind, lines: Vec<Line>) -> Result<Sheet, u8>
-        ensures ok { IfOk result (λ sheet. clerk.sheet_of (kind_of kind) lines.items ≡ Ok sheet) }
-        ensures kind { IfOk result (λ sheet. clerk.is_sheet (kind_of kind) sheet ≡ true) }
-        ensures err { IfErr result (λ n. (r : Refusal) × (clerk.sheet_of (kind_of kind) lines.items ≡ Err r) × (refusal_number r ≡ n)) }
+    /// The sheet of these lines under the rules, in order. It takes no memory. The error is the number of the first
+    /// refusal that holds: 33 more lines than the rules allow, 99 or 999; 32 an item, a lot or a quantity that can't be
+    /// read, or a pick of 0; 30 a quantity of more than nine digits or over its limit; 31 a pair of item and lot twice.
+    pub fn new(kind: SheetKind, lines: Vec<Line>, rules: Rules) -> Result<Sheet, u8>
+        ensures ok { IfOk result (λ sheet. clerk.sheet_of rules (kind_of kind) lines.items ≡ Ok sheet) }
+        ensures kind { IfOk result (λ sheet. clerk.is_sheet rules (kind_of kind) sheet ≡ true) }
+        ensures err { IfErr result (λ n. (r : Refusal) × (clerk.sheet_of rules (kind_of kind) lines.items ≡ Err r) × (refusal_number r ≡ n)) }
     {
-        match refusal(kind, &lines) {
+        match refusal(kind, &lines, rules) {
             Some(number) => Err(number),
             None => Ok(Sheet {
                 lines: in_order(lines),
@@ -134,7 +146,7 @@ impl Sheet {
     /// Its lines as they were read, by item and then lot.
     pub fn raw_lines(&self) -> &[Line]
         ensures lines { map clerk.line_of result.now ≡ self.now }
-        ensures sheet { clerk.is_sheet clerk.RecountSheet self.now ≡ true }
+        ensures sheet { clerk.is_sheet Two clerk.RecountSheet self.now ≡ true }
     {
         &self.lines
     }
@@ -142,7 +154,7 @@ impl Sheet {
     /// Its lines, by item and then lot, with quantities as numbers. The one error is want of memory.
     pub fn lines(&self, alloc: Global) -> Result<Vec<sets_in::Goods>, AllocError>
         ensures lines { IfOk result (λ v. v.items ≡ self.now) }
-        ensures sheet { clerk.is_sheet clerk.RecountSheet self.now ≡ true }
+        ensures sheet { clerk.is_sheet Two clerk.RecountSheet self.now ≡ true }
     {
         let mut lines = Vec::new(alloc);
         for line in &self.lines {

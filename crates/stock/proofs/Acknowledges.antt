@@ -10,10 +10,10 @@ use Rattle.profile.specs.Lists.{or_else}
 use Rattle.profile.specs.Means.{Line, Acknowledgment}
 use Rattle.profile.specs.Rows.{LotRow, named, said_of, acknowledges}
 use Rattle.profile.specs.Page.{PageAdvice, PageOrder, PageDocument}
-use Rattle.profile.specs.Events.{Event, Acknowledged, count_naming}
+use Rattle.profile.specs.Events.{Event, Acknowledged, count_naming, date_naming}
 use Rattle.profile.specs.Movements.{OnHand, Expected, Reservation}
 use Rattle.stock.specs.declared.steps.Change.TheVariants as change
-use Rattle.stock.specs.Told.{told, one, amount, since, named_by, positive}
+use Rattle.stock.specs.Told.{told, told_date, one, amount, since, named_by, positive}
 use Rattle.stock.specs.Keyed.{rises_by, key_before, row_key, shipment_of, number_of, entry_of}
 use Rattle.stock.specs.Pages.{PageFacts, is_document, advice_at, order_at, document_at, awaited, held, IsSound, AreSorted, is_in_lines}
 use Rattle.stock.specs.Puts.{put}
@@ -206,6 +206,7 @@ pub acknowledged_shows : (a : Acknowledgment) (old new : PageFacts) (es : List E
 acknowledged_shows a old new es step shows = let e = Acknowledged (old.entries + 1) a in record {
   amounts = λ c x y. omega (arith, ap (told (amount c) x y) step.rows, shows.amounts c x y, came_push es e c x y, went_push es e c x y);
   sinces = λ x y. found_kept (count_naming x y) es e refl ∙ shows.sinces x y ∙ ap (λ (rows : List LotRow). positive (told since x y rows)) (sym step.rows);
+  expiries = λ x y. found_kept (date_naming x y) es e refl ∙ shows.expiries x y ∙ ap (told_date x y) (sym step.rows);
   pairs = λ x y. omega (
     arith,
     ap (told one x y) step.rows,

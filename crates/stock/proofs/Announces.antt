@@ -1,24 +1,28 @@
 -- A page with an advice more.
-use Rattle.std.proofs.Common.{◌≡◌, ℕ, ◌+◌, ◌<◌, ◌^◌, Bool, true, false, not, cond, List, [], ◌∷◌, ◌++◌, refl, ap, sym, ◌∙◌, arith, Option, Some, None}
+use Rattle.std.proofs.Common.{◌≡◌, ℕ, ◌+◌, ◌<◌, ◌^◌, Bool, true, false, not, cond, List, [], ◌∷◌, ◌++◌, map, refl, ap, sym, ◌∙◌, arith, Option, Some, None}
 use Rattle.std.proofs.lemmas.List.{append-nil}
 use Rattle.std.proofs.lemmas.Grind.{flat_map-append}
 use Rattle.std.specs.List.{list_all}
-use Rattle.std.specs.Prelude.{bytes_eq, is_some, option_map, flat_map, nat_lt}
+use Rattle.std.proofs.lemmas.Bool.{and_parts}
+use Rattle.std.specs.Prelude.{bytes_eq, codes, find, is_some, option_map, flat_map, nat_lt}
 use Rattle.std.specs.Option.{option_or}
-use Rattle.profile.specs.Lists.{or_else}
-use Rattle.profile.specs.Means.{Line, Advice, advised}
-use Rattle.profile.specs.Rows.{named}
+use Rattle.profile.specs.Faults.{SetFault}
+use Rattle.profile.specs.Lists.{or_else, first_present}
+use Rattle.profile.specs.Means.{Line, AdviceLine, Advice, advised}
+use Rattle.profile.specs.Rows.{LotRow, named}
 use Rattle.profile.specs.Page.{PageAdvice, PageOrder, page_advice}
-use Rattle.profile.specs.Events.{Event, Advised, quantity_of, advice_if, advice_under, counts, count_naming, advice_fault, advice_fault_where}
+use Rattle.profile.specs.Events.{Event, Advised, quantity_of, advice_if, advice_under, counts, count_naming, date_naming, is_other_date, is_redated, trade_fault, fault_where, repeated_pair, sooner, wrong_advice_total, advice_fault, advice_fault_where}
 use Rattle.profile.specs.Movements.{Expected, OnHand, Reservation}
 use Rattle.sets_in.specs.Limits.{HasFewLines}
-use Rattle.stock.specs.Told.{told, amount, named_by, positive}
+use Rattle.stock.specs.Told.{told, told_date, amount, named_by, date_of, positive}
 use Rattle.stock.specs.Pages.{PageFacts, advice_at, order_at, document_at, awaited, held, IsSound, AreSorted, is_in_lines}
+use Rattle.stock.specs.Parts.{Named, IsPart, NamesAdvice, are_items}
 use Rattle.stock.specs.Shows.{Shows, is_numbered_within}
 use Rattle.stock.specs.Steps.{opened, IsAnnounced}
 use Rattle.stock.proofs.Sums.{named_append}
 use Rattle.profile.specs.Bytes.{comes_before}
 use Rattle.stock.specs.Keyed.{rises_by, number_of, entry_of}
+use Rattle.stock.proofs.Dates.{dates_told}
 use Rattle.stock.proofs.Keys.{was}
 use Rattle.stock.proofs.KeyLemmas.{sorted_distinct, advice_sum, advice_put_new, advices_put_sorted, advices_once, orders_once, documents_once}
 use Rattle.stock.proofs.Moves.{came_push, went_push, came_comes, went_comes, given_le, quantity_le, advised_le}
@@ -74,6 +78,8 @@ pub announced_shows : (a : Advice) (old new : PageFacts) (es : List Event) → I
 announced_shows a old new es step unknown shows = let e = Advised a in record {
   amounts = λ c i l. omega (arith, step.rows.amounts c i l, shows.amounts c i l, came_push es e c i l, went_push es e c i l, came_comes Expected (advised a) c i l, went_comes Expected (advised a) c i l);
   sinces = λ i l. found_kept (count_naming i l) es e refl ∙ shows.sinces i l ∙ ap positive (sym (step.rows.sinces i l));
+  expiries = λ i l. first_found_push (date_naming i l) es e ∙ ap (λ (o : Option (List ℕ)). or_else o (date_of a.lines i l)) (shows.expiries i l)
+      ∙ sym (step.rows.expiries i l);
   pairs = λ i l. omega (arith, step.rows.named i l, shows.pairs i l, named_append (flat_map named es) (advised a) i l, ap (λ (ls : List Line). named_by ls i l) (flat_map-append named es (e ∷ []) ∙ ap (λ (ls : List Line). flat_map named es ++ ls) (append-nil (advised a))));
   advices = λ s. ap (advice_at s) step.advices ∙ advice_put_new s (opened a) old.advices unknown
       ∙ ap (λ (o : Option PageAdvice). option_or o (cond (bytes_eq a.shipment s) (Some (opened a)) None)) (shows.advices s ∙ advice_view s es)
@@ -94,14 +100,46 @@ is_some_view f (Some a) = refl
 is_some_view f None = refl
 
 -- the fault that the page tells is that of the events
-pub advice_fault_shown : (p : PageFacts) (es : List Event) (a : Advice) → Shows p es → advice_fault_where (is_some (advice_at a.shipment p.advices)) a ≡ advice_fault es a
-advice_fault_shown p es a shows = ap (λ (v : Bool). advice_fault_where v a) (ap is_some (shows.advices a.shipment) ∙ is_some_view (page_advice es) (advice_under a.shipment es))
+pub advice_fault_shown : (p : PageFacts) (es : List Event) (a : Advice) → Shows p es
+    → advice_fault_where (is_some (advice_at a.shipment p.advices)) (λ i l. told_date i l p.rows) a ≡ advice_fault es a
+advice_fault_shown p es a shows =
+    ap (λ (v : Bool). advice_fault_where v (λ i l. told_date i l p.rows) a) (ap is_some (shows.advices a.shipment) ∙ is_some_view (page_advice es) (advice_under a.shipment es))
+    ∙ (λ j. advice_fault_where (is_some (advice_under a.shipment es)) (λ i l. sym (shows.expiries i l) j) a)
+
+-- and a part of the page tells it where it has the items of the lines
+
+redated_same : (n : Named) (known other : List ℕ → List ℕ → Option (List ℕ)) → ((i l : List ℕ) → n.items i ≡ true → known i l ≡ other i l)
+    → (ls : List AdviceLine) → are_items n (map (λ l. l.line) ls) ≡ true → find (is_redated known) ls ≡ find (is_redated other) ls
+redated_same n known other same [] all = refl
+redated_same n known other same (l ∷ ls) all =
+    let q = and_parts (n.items l.line.item) (are_items n (map (λ l. l.line) ls)) all in
+    (λ j. cond (is_other_date (same l.line.item l.line.lot q.0 j) l.expiry) (Some l) (redated_same n known other same ls q.1 j))
+
+abbrev fault_by : Bool → Advice → Option AdviceLine → Option SetFault
+fault_by v a o = first_present
+    (fault_where v (trade_fault (codes "W06") 2 4)
+    ∷ sooner (repeated_pair a) (option_map (λ (l : AdviceLine). trade_fault (codes "N9") (l.position + 1) 4) o)
+    ∷ wrong_advice_total a
+    ∷ [])
+
+advice_fault_part : (n : Named) (p P : PageFacts) (v : Bool) (a : Advice) → IsPart n p P → NamesAdvice n a
+    → advice_fault_where v (λ i l. told_date i l p.rows) a ≡ advice_fault_where v (λ i l. told_date i l P.rows) a
+advice_fault_part n p P v a part names = ap (fault_by v a) (redated_same n (λ i l. told_date i l p.rows) (λ i l. told_date i l P.rows)
+    (λ i l is. dates_told i l p.rows P.rows part.in_order.rows part.sorted.rows (λ f. part.rows f i l is)) a.lines names.items)
+
+pub advice_fault_told : (n : Named) (p P : PageFacts) (es : List Event) (v : Bool) (rows : List LotRow) (a : Advice) → IsPart n p P → NamesAdvice n a → Shows P es
+    → v ≡ is_some (advice_at a.shipment p.advices) → rows ≡ p.rows → advice_fault_where v (λ i l. told_date i l rows) a ≡ advice_fault es a
+advice_fault_told n p P es v rows a part names shows known same =
+    (λ j. advice_fault_where (known j) (λ i l. told_date i l (same j)) a)
+    ∙ advice_fault_part n p P (is_some (advice_at a.shipment p.advices)) a part names
+    ∙ ap (λ (o : Option PageAdvice). advice_fault_where (is_some o) (λ i l. told_date i l P.rows) a) (part.advices a.shipment names.shipment)
+    ∙ advice_fault_shown P es a shows
 
 is_none : {X : Type 0} (o : Option X) → is_some o ≡ false → o ≡ None
 is_none (Some x) h = absurd (cc)
 is_none None h = refl
 
 -- an advice without a fault is new
-pub advice_unknown : (o : Option PageAdvice) (a : Advice) → advice_fault_where (is_some o) a ≡ None → o ≡ None
-advice_unknown (Some k) a h = absurd (cc)
-advice_unknown None a h = refl
+pub advice_unknown : (o : Option PageAdvice) (known : List ℕ → List ℕ → Option (List ℕ)) (a : Advice) → advice_fault_where (is_some o) known a ≡ None → o ≡ None
+advice_unknown (Some k) known a h = absurd (cc)
+advice_unknown None known a h = refl

@@ -11,7 +11,7 @@ use Rattle.profile.specs.Rows.{LotRow, named}
 use Rattle.profile.specs.Refusals.{UnknownLot, BelowReserved, NoDifference}
 use Rattle.profile.specs.Clerk.{recounted, on_hand_now}
 use Rattle.profile.specs.Page.{PageAdvice, PageOrder}
-use Rattle.profile.specs.Events.{Event, Recounted, is_pair, quantity_of, count_naming, since as since_events}
+use Rattle.profile.specs.Events.{Event, Recounted, is_pair, quantity_of, count_naming, date_naming, since as since_events}
 use Rattle.profile.specs.Movements.{Column, Expected, OnHand, Reservation, Shipped, comes, goes, balance}
 use Rattle.stock.specs.Told.{told, one, amount, since, given, named_by, positive}
 use Rattle.stock.specs.Moved.{set_by}
@@ -228,6 +228,7 @@ recounted_shows n sheet old new es follows step is_sheet shows =
         moved c a b,
       );
       sinces = λ a b. found_kept (count_naming a b) es e refl ∙ shows.sinces a b ∙ ap positive (sym (step.rows.sinces a b));
+      expiries = λ a b. found_kept (date_naming a b) es e refl ∙ shows.expiries a b ∙ sym (step.rows.expiries a b);
       pairs = λ a b. omega (
         arith,
         step.rows.named a b,

@@ -14,5 +14,6 @@ counted_made n expected sheet r0 r1 r2 r3 taken added marked = record {
   sorted = marked.sorted;
   amounts = λ c a b. omega (arith, taken.amounts c a b, added.amounts c a b, marked.amounts c a b);
   sinces = λ a b. marked.sinces a b ∙ ap (first_number n (list_any (is_pair a b) sheet)) (added.sinces a b ∙ taken.sinces a b);
+  expiries = λ a b. marked.expiries a b ∙ added.expiries a b ∙ taken.expiries a b;
   named = λ a b. omega (arith, taken.named a b, added.named a b, marked.named a b);
 }

@@ -7,6 +7,7 @@ use Rattle.std.proofs.lemmas.List.Sums.{sum_by-cons}
 use Rattle.std.specs.Cmp.Derive.{both_true}
 use Rattle.std.proofs.lemmas.List.{length-map}
 use Rattle.std.proofs.lemmas.List.Elements.{All-cons, All-nil, All-map}
+use Rattle.profile.specs.declared.rules.Rules.{Rules}
 use Rattle.profile.specs.declared.rules.Rules.TheVariants.{One, Two}
 use Rattle.profile.specs.declared.widths.TheConstants.{QUANTITY_DIGITS_TWO}
 use Rattle.profile.specs.Allotment.{order_shares}
@@ -67,52 +68,57 @@ advice_small : (d : Delims) (ss : List Segment) → set_fault Two d (words_943 T
 advice_small d ss none = All-map (λ (l : AdviceLine). l.line.quantity ≤ most_quantity Two) (advice_line ss) (places_of (codes "W04") ss)
     (quantities_small ss [] ss 1 refl (omega arith) (goods_amounts Two d (words_943 Two) ss (sym (set_fault-from Two d (words_943 Two) ss) ∙ none)))
 
+-- what has no fault by some rules has none by rules 2
+later : (r : Rules) (d : Delims) (kind : SetKind) (ss : List Segment) → set_fault r d (kind_words r kind) ss ≡ None → set_fault Two d (kind_words Two kind) ss ≡ None
+later One d kind ss none = set_fault-later d kind ss none
+later Two d kind ss none = none
+
 -- One set.
 
 event_is : (o : Option SetFault) (e f : Event) → unless o f ≡ Ok e → (o ≡ None) × (f ≡ e)
 event_is None e f h = (refl, cc (h))
 event_is (Some x) e f h = absurd (cc (h))
 
-traded_more : (d : Delims) (p : PageFacts) (es : List Event) (n : ℕ) (kind : SetKind) (ss : List Segment) (e : Event)
+traded_more : (r : Rules) (d : Delims) (p : PageFacts) (es : List Event) (n : ℕ) (kind : SetKind) (ss : List Segment) (e : Event)
     → IsSound p → Shows p es → p.recent < 1000 → n ≡ p.entries + 1
-    → set_fault One d (kind_words One kind) ss ≡ None → traded es n kind ss ≡ Ok e → (q : PageFacts) × IsOneMore p es e q
-traded_more d p es n ShipmentAdvice ss e sound shows room follows none is =
+    → set_fault r d (kind_words r kind) ss ≡ None → traded r es n kind ss ≡ Ok e → (q : PageFacts) × IsOneMore p es e q
+traded_more r d p es n ShipmentAdvice ss e sound shows room follows none is =
     let a = advice_of ss in
-    let later = set_fault-later d ShipmentAdvice ss none in
+    let two = later r d ShipmentAdvice ss none in
     let o = event_is (advice_fault es a) e (Advised a) is in
     subst (λ (x : Event). (q : PageFacts) × IsOneMore p es x q) o.1
-    (announced_more p es a sound shows room (advice_few d ss later) (advice_small d ss later) o.0)
-traded_more d p es n ShippingOrder ss e sound shows room follows none is =
+    (announced_more p es a sound shows room (advice_few d ss two) (advice_small d ss two) o.0)
+traded_more r d p es n ShippingOrder ss e sound shows room follows none is =
     let a = order_of ss in
-    let o = event_is (order_fault es a) e (Ordered a (order_shares es a)) is in
-    subst (λ (x : Event). (q : PageFacts) × IsOneMore p es x q) o.1 (ordered_more p es a sound shows room o.0)
-traded_more d p es n FunctionalAcknowledgment ss e sound shows room follows none is =
+    let o = event_is (order_fault es a) e (Ordered a (order_shares r es a)) is in
+    subst (λ (x : Event). (q : PageFacts) × IsOneMore p es x q) o.1 (ordered_more r p es a sound shows room o.0)
+traded_more r d p es n FunctionalAcknowledgment ss e sound shows room follows none is =
     let a = acknowledgment_of ss in
     let same : Acknowledged (p.entries + 1) a ≡ e = ap (λ (k : ℕ). Acknowledged k a) (sym follows) ∙ cc (is) in
     subst (λ (x : Event). (q : PageFacts) × IsOneMore p es x q) same (acknowledged_more p es a sound shows room)
 
-judged_more : (d : Delims) (p : PageFacts) (es : List Event) (n : ℕ) (kind : SetKind) (ss : List Segment) (e : Event)
+judged_more : (r : Rules) (d : Delims) (p : PageFacts) (es : List Event) (n : ℕ) (kind : SetKind) (ss : List Segment) (e : Event)
     → IsSound p → Shows p es → p.recent < 1000 → n ≡ p.entries + 1
-    → judged d es n kind ss ≡ Ok e → (q : PageFacts) × IsOneMore p es e q
-judged_more d p es n kind ss e sound shows room follows is = by (set_fault One d (kind_words One kind) ss) refl
+    → judged r d es n kind ss ≡ Ok e → (q : PageFacts) × IsOneMore p es e q
+judged_more r d p es n kind ss e sound shows room follows is = by (set_fault r d (kind_words r kind) ss) refl
   where
-    by : (o : Option SetFault) → set_fault One d (kind_words One kind) ss ≡ o → (q : PageFacts) × IsOneMore p es e q
+    by : (o : Option SetFault) → set_fault r d (kind_words r kind) ss ≡ o → (q : PageFacts) × IsOneMore p es e q
     by None h =
-        let same : judged d es n kind ss ≡ traded es n kind ss = rw h refl in
-        traded_more d p es n kind ss e sound shows room follows h (sym same ∙ is)
-    by (Some f) h = let same : judged d es n kind ss ≡ Err f = rw h refl in absurd (cc (same, is))
+        let same : judged r d es n kind ss ≡ traded r es n kind ss = rw h refl in
+        traded_more r d p es n kind ss e sound shows room follows h (sym same ∙ is)
+    by (Some f) h = let same : judged r d es n kind ss ≡ Err f = rw h refl in absurd (cc (same, is))
 
 segment_ok : (r : Result Event SetFault) (e : Event) → by_segment r ≡ Ok e → r ≡ Ok e
 segment_ok (Ok f) e h = ap Ok (cc (h))
 segment_ok (Err f) e h = absurd (cc (h))
 
-set_more : (d : Delims) (p : PageFacts) (es : List Event) (n : ℕ) (kind : Option SetKind) (code : Option ℕ) (s : Set) (e : Event)
+set_more : (r : Rules) (d : Delims) (p : PageFacts) (es : List Event) (n : ℕ) (kind : Option SetKind) (code : Option ℕ) (s : Set) (e : Event)
     → IsSound p → Shows p es → p.recent < 1000
-    → n ≡ p.entries + 1 → outcome_of d es n kind code s ≡ Ok e → (q : PageFacts) × IsOneMore p es e q
-set_more d p es n kind (Some code) s e sound shows room follows is = absurd (cc (is))
-set_more d p es n None None s e sound shows room follows is = absurd (cc (is))
-set_more d p es n (Some kind) None s e sound shows room follows is =
-    judged_more d p es n kind s.segments e sound shows room follows (segment_ok (judged d es n kind s.segments) e is)
+    → n ≡ p.entries + 1 → outcome_of r d es n kind code s ≡ Ok e → (q : PageFacts) × IsOneMore p es e q
+set_more r d p es n kind (Some code) s e sound shows room follows is = absurd (cc (is))
+set_more r d p es n None None s e sound shows room follows is = absurd (cc (is))
+set_more r d p es n (Some kind) None s e sound shows room follows is =
+    judged_more r d p es n kind s.segments e sound shows room follows (segment_ok (judged r d es n kind s.segments) e is)
 
 -- Sets and groups, one after another.
 
@@ -140,30 +146,30 @@ both_more p q r es fs gs a b first second = record {
   recent = omega (arith, first.recent, second.recent);
 }
 
-outcome_more : (d : Delims) (p : PageFacts) (es : List Event) (n : ℕ) (kind : Option SetKind) (code : Option ℕ) (s : Set)
-    (r : Result Event Rejection) → IsSound p → Shows p es → p.recent < 1000 → n ≡ p.entries + 1 → outcome_of d es n kind code s ≡ r
-    → (q : PageFacts) × IsMore p es (option_to_list (event_of (record { set = s; outcome = r }))) 1 q
-outcome_more d p es n kind code s (Ok e) sound shows room follows is =
-    let m = set_more d p es n kind code s e sound shows room follows is in
+outcome_more : (r : Rules) (d : Delims) (p : PageFacts) (es : List Event) (n : ℕ) (kind : Option SetKind) (code : Option ℕ) (s : Set)
+    (o : Result Event Rejection) → IsSound p → Shows p es → p.recent < 1000 → n ≡ p.entries + 1 → outcome_of r d es n kind code s ≡ o
+    → (q : PageFacts) × IsMore p es (option_to_list (event_of (record { set = s; outcome = o }))) 1 q
+outcome_more r d p es n kind code s (Ok e) sound shows room follows is =
+    let m = set_more r d p es n kind code s e sound shows room follows is in
     (m.0, record { sound = m.1.sound; shows = m.1.shows; entries = m.1.entries; recent = omega (arith, m.1.recent) })
-outcome_more d p es n kind code s (Err f) sound shows room follows is = (p, none_more p es 1 sound shows)
+outcome_more r d p es n kind code s (Err f) sound shows room follows is = (p, none_more p es 1 sound shows)
 
 cons_same : (o : Option Event) (fs : List Event) → cons_option o fs ≡ option_to_list o ++ fs
 cons_same None fs = refl
 cons_same (Some e) fs = refl
 
-sets_more : (d : Delims) (p : PageFacts) (es : List Event) (n : ℕ) (kind : Option SetKind) (ps : List (Set × Option ℕ))
+sets_more : (r : Rules) (d : Delims) (p : PageFacts) (es : List Event) (n : ℕ) (kind : Option SetKind) (ps : List (Set × Option ℕ))
     → IsSound p → Shows p es
     → p.recent + length ps ≤ 1000 → n ≡ p.entries + 1
-    → (q : PageFacts) × IsMore p es (filter_map event_of (verdicts_on d es n kind ps)) (length ps) q
-sets_more d p es n kind [] sound shows room follows = (p, none_more p es 0 sound shows)
-sets_more d p es n kind (s ∷ ps) sound shows room follows =
-    let r = outcome_of d es n kind s.1 s.0 in
-    let o : Option Event = event_of (record { set = s.0; outcome = r }) in
-    let one = outcome_more d p es n kind s.1 s.0 r sound shows (omega (arith, room)) follows refl in
-    let rest = sets_more d one.0 (es ++ option_to_list o) n kind ps one.1.sound one.1.shows
+    → (q : PageFacts) × IsMore p es (filter_map event_of (verdicts_on r d es n kind ps)) (length ps) q
+sets_more r d p es n kind [] sound shows room follows = (p, none_more p es 0 sound shows)
+sets_more r d p es n kind (s ∷ ps) sound shows room follows =
+    let made = outcome_of r d es n kind s.1 s.0 in
+    let o : Option Event = event_of (record { set = s.0; outcome = made }) in
+    let one = outcome_more r d p es n kind s.1 s.0 made sound shows (omega (arith, room)) follows refl in
+    let rest = sets_more r d one.0 (es ++ option_to_list o) n kind ps one.1.sound one.1.shows
     (omega (arith, room, one.1.recent)) (omega (arith, follows, one.1.entries)) in
-    let fs : List Event = filter_map event_of (verdicts_on d (es ++ option_to_list o) n kind ps) in
+    let fs : List Event = filter_map event_of (verdicts_on r d (es ++ option_to_list o) n kind ps) in
     let both = both_more p one.0 rest.0 es (option_to_list o) fs 1 (length ps) one.1 rest.1 in (
       rest.0,
       record {
@@ -179,98 +185,106 @@ examined_length : (kind : Option SetKind) (earlier : List (List ℕ)) (ss : List
 examined_length kind earlier [] = refl
 examined_length kind earlier (s ∷ ss) = ap (λ (k : ℕ). suc k) (examined_length kind (control_of s ∷ earlier) ss)
 
-group_more : (d : Delims) (p : PageFacts) (es : List Event) (n : ℕ) (g : Group) → IsSound p → Shows p es
+group_more : (r : Rules) (d : Delims) (p : PageFacts) (es : List Event) (n : ℕ) (g : Group) → IsSound p → Shows p es
     → p.recent + length g.sets ≤ 1000 → n ≡ p.entries + 1
-    → (q : PageFacts) × IsMore p es (events_told (telling_of d es n g)) (length g.sets) q
-group_more d p es n g sound shows room follows = by (is_none (group_fault g))
+    → (q : PageFacts) × IsMore p es (events_told (telling_of r d es n g)) (length g.sets) q
+group_more r d p es n g sound shows room follows = by (is_none (group_fault g))
   where
     many : length (examined g) ≡ length g.sets
     many = examined_length (kind_of g) [] g.sets
 
     by : (b : Bool)
-        → (q : PageFacts) × IsMore p es (filter_map event_of (if b then verdicts_on d es n (kind_of g) (examined g) else [])) (length g.sets) q
+        → (q : PageFacts) × IsMore p es (filter_map event_of (if b then verdicts_on r d es n (kind_of g) (examined g) else [])) (length g.sets) q
     by true =
-        let m = sets_more d p es n (kind_of g) (examined g) sound shows (omega (arith, room, many)) follows in
-        (m.0, subst (λ (k : ℕ). IsMore p es (filter_map event_of (verdicts_on d es n (kind_of g) (examined g))) k m.0) many m.1)
+        let m = sets_more r d p es n (kind_of g) (examined g) sound shows (omega (arith, room, many)) follows in
+        (m.0, subst (λ (k : ℕ). IsMore p es (filter_map event_of (verdicts_on r d es n (kind_of g) (examined g))) k m.0) many m.1)
     by false = (p, none_more p es (length g.sets) sound shows)
 
-groups_more : (d : Delims) (p : PageFacts) (es : List Event) (n : ℕ) (gs : List Group) → IsSound p → Shows p es
+groups_more : (r : Rules) (d : Delims) (p : PageFacts) (es : List Event) (n : ℕ) (gs : List Group) → IsSound p → Shows p es
     → p.recent + sum_by (λ g. length g.sets) gs ≤ 1000 → n ≡ p.entries + 1
-    → (q : PageFacts) × IsMore p es (flat_map events_told (tellings_on d es n gs)) (sum_by (λ g. length g.sets) gs) q
-groups_more d p es n [] sound shows room follows = (p, none_more p es 0 sound shows)
-groups_more d p es n (g ∷ gs) sound shows room follows =
+    → (q : PageFacts) × IsMore p es (flat_map events_told (tellings_on r d es n gs)) (sum_by (λ g. length g.sets) gs) q
+groups_more r d p es n [] sound shows room follows = (p, none_more p es 0 sound shows)
+groups_more r d p es n (g ∷ gs) sound shows room follows =
     let size = sum_by-cons (λ (x : Group). length x.sets) g gs in
-    let fs : List Event = events_told (telling_of d es n g) in
-    let first = group_more d p es n g sound shows (omega (arith, room, size)) follows in
-    let rest = groups_more d first.0 (es ++ fs) n gs first.1.sound first.1.shows
+    let fs : List Event = events_told (telling_of r d es n g) in
+    let first = group_more r d p es n g sound shows (omega (arith, room, size)) follows in
+    let rest = groups_more r d first.0 (es ++ fs) n gs first.1.sound first.1.shows
     (omega (arith, room, size, first.1.recent)) (omega (arith, follows, first.1.entries)) in
-    let more : List Event = flat_map events_told (tellings_on d (es ++ fs) n gs) in
+    let more : List Event = flat_map events_told (tellings_on r d (es ++ fs) n gs) in
     let both = both_more p first.0 rest.0 es fs more (length g.sets) (sum_by (λ g. length g.sets) gs) first.1 rest.1 in
     (rest.0, record { sound = both.sound; shows = both.shows; entries = both.entries; recent = omega (arith, both.recent, size) })
 
 -- the events of an interchange
-pub received_more : (p : PageFacts) (es : List Event) (n : ℕ) (text : List ℕ) → IsSound p → Shows p es
+pub received_more : (r : Rules) (p : PageFacts) (es : List Event) (n : ℕ) (text : List ℕ) → IsSound p → Shows p es
     → p.recent + sum_by (λ g. length g.sets) (groups_of ((cut (delims_of text) text).segments)) ≤ 1000
     → n ≡ p.entries + 1
-    → (q : PageFacts) × IsMore p es (events_added es n (Received text)) (sum_by (λ g. length g.sets) (groups_of ((cut (delims_of text) text).segments))) q
-received_more p es n text sound shows room follows =
-    groups_more (delims_of text) p es n (groups_of ((cut (delims_of text) text).segments)) sound shows room follows
+    → (q : PageFacts) × IsMore p es (events_added r es n (Received text)) (sum_by (λ g. length g.sets) (groups_of ((cut (delims_of text) text).segments))) q
+received_more r p es n text sound shows room follows =
+    groups_more r (delims_of text) p es n (groups_of ((cut (delims_of text) text).segments)) sound shows room follows
 
 -- An act.
 
--- a sheet of any kind keeps the limits of a recount
+-- a sheet of any kind keeps the limits of a recount by rules 2
 
-widened_line : (kind : Sheets) (l : Line) → is_sheet_line kind l ≡ true → is_sheet_line RecountSheet l ≡ true
-widened_line kind l h =
+small : (r : Rules) → most_quantity r ≤ most_recounted
+small One = omega arith
+small Two = omega arith
+
+few : (r : Rules) → most_lines r ≤ most_lines Two
+few One = omega arith
+few Two = omega arith
+
+widened_line : (r : Rules) (kind : Sheets) (l : Line) → is_sheet_line r kind l ≡ true → is_sheet_line Two RecountSheet l ≡ true
+widened_line r kind l h =
     let p = and_parts
     (is_identifier 1 most_item l.item && is_identifier 1 most_lot l.lot && nat_le (least_quantity kind) l.quantity)
-    (nat_le l.quantity (quantity_limit kind)) h in
+    (nat_le l.quantity (quantity_limit r kind)) h in
     let q = and_parts
     (is_identifier 1 most_item l.item && is_identifier 1 most_lot l.lot) (nat_le (least_quantity kind) l.quantity) p.0 in
     both_true (both_true q.0 (le-leb 0 l.quantity (omega arith))) (by_kind kind p.1)
   where
-    by_kind : (kind : Sheets) → nat_le l.quantity (quantity_limit kind) ≡ true → nat_le l.quantity most_recounted ≡ true
-    by_kind CountSheet e = le-leb l.quantity most_recounted (omega (arith, leb-true l.quantity (most_quantity One) e))
-    by_kind PickSheet e = le-leb l.quantity most_recounted (omega (arith, leb-true l.quantity (most_quantity One) e))
+    by_kind : (kind : Sheets) → nat_le l.quantity (quantity_limit r kind) ≡ true → nat_le l.quantity most_recounted ≡ true
+    by_kind CountSheet e = le-leb l.quantity most_recounted (omega (arith, leb-true l.quantity (most_quantity r) e, small r))
+    by_kind PickSheet e = le-leb l.quantity most_recounted (omega (arith, leb-true l.quantity (most_quantity r) e, small r))
     by_kind RecountSheet e = e
 
-widened_lines : (kind : Sheets) (ls : List Line) → list_all (is_sheet_line kind) ls ≡ true
-    → list_all (is_sheet_line RecountSheet) ls ≡ true
-widened_lines kind [] h = refl
-widened_lines kind (l ∷ ls) h =
-    let p = and_parts (is_sheet_line kind l) (list_all (is_sheet_line kind) ls) h in
-    both_true (widened_line kind l p.0) (widened_lines kind ls p.1)
+widened_lines : (r : Rules) (kind : Sheets) (ls : List Line) → list_all (is_sheet_line r kind) ls ≡ true
+    → list_all (is_sheet_line Two RecountSheet) ls ≡ true
+widened_lines r kind [] h = refl
+widened_lines r kind (l ∷ ls) h =
+    let p = and_parts (is_sheet_line r kind l) (list_all (is_sheet_line r kind) ls) h in
+    both_true (widened_line r kind l p.0) (widened_lines r kind ls p.1)
 
-sheet_is : (kind : Sheets) (ls : List Line) → is_sheet kind ls ≡ true → IsSheet ls
-sheet_is kind ls h =
-    let p = and_parts (nat_le (length ls) (most_lines One) && list_all (is_sheet_line kind) ls) (is_ascending ls) h in
-    let q = and_parts (nat_le (length ls) (most_lines One)) (list_all (is_sheet_line kind) ls) p.0 in
-    sheet_facts ls (both_true (both_true q.0 (widened_lines kind ls q.1)) p.1)
+sheet_is : (r : Rules) (kind : Sheets) (ls : List Line) → is_sheet r kind ls ≡ true → IsSheet ls
+sheet_is r kind ls h =
+    let p = and_parts (nat_le (length ls) (most_lines r) && list_all (is_sheet_line r kind) ls) (is_ascending ls) h in
+    let q = and_parts (nat_le (length ls) (most_lines r)) (list_all (is_sheet_line r kind) ls) p.0 in
+    sheet_facts ls (both_true (both_true (le-leb (length ls) (most_lines Two) (omega (arith, leb-true (length ls) (most_lines r) q.0, few r))) (widened_lines r kind ls q.1)) p.1)
 
-act_more : (p : PageFacts) (es : List Event) (n : ℕ) (act : Act) (e : Event) → IsSound p → Shows p es → p.recent < 1000
-    → n ≡ p.entries + 1 → is_act act ≡ true
+act_more : (r : Rules) (p : PageFacts) (es : List Event) (n : ℕ) (act : Act) (e : Event) → IsSound p → Shows p es → p.recent < 1000
+    → n ≡ p.entries + 1 → is_act r act ≡ true
     → performed es n act ≡ Ok e → (q : PageFacts) × IsOneMore p es e q
-act_more p es n (Count shipment sheet) e sound shows room follows good is =
-    let g = and_parts (is_identifier 1 most_number shipment) (is_sheet CountSheet sheet) good in
-    counted_more p es n shipment sheet e sound shows room follows (sheet_is CountSheet sheet g.1) is
-act_more p es n (Pick number sheet) e sound shows room follows good is =
-    let g = and_parts (is_identifier 1 most_number number) (is_sheet PickSheet sheet) good in
-    picked_more p es n number sheet e sound shows room follows (sheet_is PickSheet sheet g.1) is
-act_more p es n (Recount sheet) e sound shows room follows good is =
-    recounted_more p es n sheet e sound shows room follows (sheet_is RecountSheet sheet good) is
+act_more r p es n (Count shipment sheet) e sound shows room follows good is =
+    let g = and_parts (is_identifier 1 most_number shipment) (is_sheet r CountSheet sheet) good in
+    counted_more p es n shipment sheet e sound shows room follows (sheet_is r CountSheet sheet g.1) is
+act_more r p es n (Pick number sheet) e sound shows room follows good is =
+    let g = and_parts (is_identifier 1 most_number number) (is_sheet r PickSheet sheet) good in
+    picked_more p es n number sheet e sound shows room follows (sheet_is r PickSheet sheet g.1) is
+act_more r p es n (Recount sheet) e sound shows room follows good is =
+    recounted_more p es n sheet e sound shows room follows (sheet_is r RecountSheet sheet good) is
 
 abbrev added_of : Result Event Refusal → List Event
 added_of (Ok e) = e ∷ []
 added_of (Err r) = []
 
 -- the event of an act, if it was performed
-pub performed_more : (p : PageFacts) (es : List Event) (n : ℕ) (ticket : List ℕ) (act : Act) → IsSound p → Shows p es
-    → p.recent < 1000 → n ≡ p.entries + 1 → is_act act ≡ true
-    → (q : PageFacts) × IsMore p es (events_added es n (Performed ticket act)) 1 q
-performed_more p es n ticket act sound shows room follows good = by (performed es n act) refl
+pub performed_more : (r : Rules) (p : PageFacts) (es : List Event) (n : ℕ) (ticket : List ℕ) (act : Act) → IsSound p → Shows p es
+    → p.recent < 1000 → n ≡ p.entries + 1 → is_act r act ≡ true
+    → (q : PageFacts) × IsMore p es (events_added r es n (Performed ticket act)) 1 q
+performed_more r p es n ticket act sound shows room follows good = by (performed es n act) refl
   where
-    by : (r : Result Event Refusal) → performed es n act ≡ r → (q : PageFacts) × IsMore p es (added_of r) 1 q
+    by : (o : Result Event Refusal) → performed es n act ≡ o → (q : PageFacts) × IsMore p es (added_of o) 1 q
     by (Ok e) is =
-        let m = act_more p es n act e sound shows room follows good is in
+        let m = act_more r p es n act e sound shows room follows good is in
         (m.0, record { sound = m.1.sound; shows = m.1.shows; entries = m.1.entries; recent = omega (arith, m.1.recent) })
     by (Err r) is = (p, none_more p es 1 sound shows)

@@ -12,6 +12,7 @@ use Rattle.profile.specs.Movements.{Column, Expected, OnHand, Reservation, Shipp
 use Rattle.stock.specs.Told.{is_row, told, one, since, amount, named_by, marked, positive, first_number}
 use Rattle.stock.specs.Keyed.{IsSorted}
 use Rattle.stock.specs.Moved.{IsPlace, IsMarked}
+use Rattle.stock.proofs.Dates.{date_kept}
 use Rattle.stock.proofs.KeyLemmas.{sorted_distinct, sorted_kept}
 use Rattle.stock.proofs.Tells.{part, part_yes, part_no, told_set, told_kept, told_here, row_at, row_as_line}
 use Rattle.stock.proofs.Sums.{own_pair}
@@ -57,6 +58,7 @@ marked_at n line rows i r sorted place is =
             let t : told since a b (set rows i y) ≡ told since a b rows = omega (arith, told_set since a b rows i y r place.within, ap (part since a b) is, part_no since a b r here, part_no since a b y here) in
             t ∙ sym (first_no n (told since a b rows)) ∙ ap (λ (v : Bool). first_number n v (told since a b rows)) (sym (or_false (is_pair a b line) ∙ e))
       ];
+      expiries = date_kept rows i r y sorted at.within is refl refl;
       named = λ a b. told_kept one line rows i r y at (λ a b. refl) refl a b;
     }
 
@@ -70,6 +72,7 @@ marked_more n lines i l old mid new positive within is first next =
       sinces = λ a b. next.sinces a b ∙ ap (first_number n (list_any (is_pair a b) (l ∷ []))) (first.sinces a b)
           ∙ first_twice n (told since a b old) (list_any (is_pair a b) (take i lines)) (list_any (is_pair a b) (l ∷ [])) positive
           ∙ ap (λ (v : Bool). first_number n v (told since a b old)) (sym (list_any-append (is_pair a b) (take i lines) (l ∷ [])));
+      expiries = λ a b. next.expiries a b ∙ first.expiries a b;
       named = λ a b. next.named a b ∙ first.named a b;
     })
 

@@ -1,15 +1,17 @@
 -- The page with one event more exists.
-use Rattle.std.proofs.Common.{◌≡◌, ℕ, ◌+◌, ◌-◌, ◌<◌, ◌≤◌, ◌^◌, Bool, true, false, ◌||◌, cond, List, [], ◌∷◌, ◌++◌, refl, ap, sym, ◌∙◌, subst, arith, inl, inr, Option, Some, None, Ok, Result}
+use Rattle.std.proofs.Common.{◌≡◌, ℕ, ◌+◌, ◌-◌, ◌<◌, ◌≤◌, ◌^◌, max, Bool, true, false, ◌||◌, cond, List, [], ◌∷◌, ◌++◌, refl, ap, sym, ◌∙◌, subst, arith, inl, inr, Option, Some, None, Ok, Result}
 use Rattle.std.proofs.lemmas.Bool.{cases_Bool, eqb-false}
 use Rattle.std.proofs.lemmas.Slice.Eq.{bytes_eq-Decides}
 use Rattle.std.specs.Prelude.{codes, length, All, map}
 use Rattle.std.proofs.lemmas.List.{length-map}
 use Rattle.std.proofs.lemmas.List.Elements.{All-map}
 use Rattle.std.specs.List.{list_any, list_all}
+use Rattle.profile.specs.declared.rules.Rules.{Rules}
 use Rattle.profile.specs.declared.rules.Rules.TheVariants.{Two}
-use Rattle.profile.specs.Events.{Event, Advised, Ordered, Acknowledged, Counted, Picked, Recounted, is_pair, quantity_of, advice_fault, order_fault}
+use Rattle.profile.specs.Events.{Event, Advised, Ordered, Acknowledged, Counted, Picked, Recounted, is_pair, quantity_of, date_given, advice_fault, order_fault}
 use Rattle.profile.specs.Clerk.{counted, picked, recounted, on_hand_now}
 use Rattle.profile.specs.Allotment.{order_shares}
+use Rattle.profile.specs.Lists.{or_else}
 use Rattle.profile.specs.Limits.{most_lines, most_quantity}
 use Rattle.profile.specs.Means.{Line, AdviceLine, Advice, advised, Order, Acknowledgment}
 use Rattle.profile.specs.Movements.{Column, Expected, OnHand, Reservation, Shipped, column_eq}
@@ -18,16 +20,18 @@ use Rattle.profile.specs.Rows.{LotRow}
 use Rattle.sets_in.specs.Limits.{HasFewLines}
 use Rattle.stock.specs.Keyed.{put_advice, put_order}
 use Rattle.stock.specs.Lots.{all_shares_in}
-use Rattle.stock.specs.Moved.{IsAdded, IsCounted, IsShipped, IsSet, set_by}
+use Rattle.stock.specs.Moved.{IsAdded, IsAdvised, IsCounted, IsShipped, IsSet, set_by}
 use Rattle.stock.specs.Pages.{PageFacts, IsSound, is_shipment, is_number, advice_at, order_at}
 use Rattle.stock.specs.Puts.{put}
 use Rattle.stock.specs.Shows.{Shows}
 use Rattle.stock.specs.Steps.{opened, opened_order, closed_advice, closed_order, with_sent, exceeds, is_unknown, is_below, is_on_hand, IsAnnounced, IsReserved, IsReceived, IsPicked, IsRecounted, IsAcknowledged}
 use Rattle.stock.specs.Stops.{document_changes}
-use Rattle.stock.specs.Told.{told, one, since, amount, given, first_number}
+use Rattle.stock.specs.Told.{told, told_date, one, since, amount, given, named_by, date_of, first_number}
 use Rattle.stock.proofs.Acknowledges.{acknowledged_put, acknowledged_sound, acknowledged_shows}
 use Rattle.stock.proofs.Allots.{IsAllotted, allotted}
 use Rattle.stock.proofs.Announces.{announced_sound, announced_shows, advice_fault_shown, advice_unknown}
+use Rattle.stock.proofs.Dated.{no_date}
+use Rattle.stock.proofs.Dates.{date_absent}
 use Rattle.stock.proofs.Existing.{rows_made}
 use Rattle.stock.proofs.PartShares.{opened_in_lines}
 use Rattle.stock.proofs.Pairs.{IsSheet, quantity_no}
@@ -60,19 +64,46 @@ unnamed a b (l ∷ ls) h =
 rows_added : (column : Column) (lines : List Line) (p : PageFacts) → IsSound p
     → (new : List LotRow) × IsAdded column lines p.rows new
 rows_added column lines p sound =
+    let date : List ℕ → List ℕ → Option (List ℕ) = λ a b. told_date a b p.rows in
     let number : List ℕ → List ℕ → ℕ = λ a b. told since a b p.rows in
     let more : Column → List ℕ → List ℕ → ℕ = λ c a b. told (amount c) a b p.rows + given column lines c a b in
-    let m = rows_made number more lines p.rows sound.sorted.rows nothing in
-    (m.0, record { sorted = m.1.sorted; amounts = m.1.amounts; sinces = m.1.sinces; named = m.1.named })
+    let m = rows_made date number more lines p.rows sound.sorted.rows nothing in
+    (m.0, record { sorted = m.1.sorted; amounts = m.1.amounts; sinces = m.1.sinces; expiries = m.1.expiries; named = m.1.named })
   where
     nothing : (a b : List ℕ) → told one a b p.rows ≡ 0 → list_any (is_pair a b) lines ≡ false
-        → (told since a b p.rows ≡ 0) × ((c : Column) → told (amount c) a b p.rows + given column lines c a b ≡ 0)
+        → (told since a b p.rows ≡ 0) × ((c : Column) → told (amount c) a b p.rows + given column lines c a b ≡ 0) × (told_date a b p.rows ≡ None)
     nothing a b none unnamed_it = (
       told_absent since a b p.rows none,
       λ c. omega (arith, told_absent (amount c) a b p.rows none, given_at_most column lines c a b, unnamed a b lines unnamed_it),
+      date_absent a b p.rows sound.sorted.rows none,
     )
 
--- an advice with its lines at no place brings as much
+rows_advised : (lines : List AdviceLine) (p : PageFacts) → IsSound p → (new : List LotRow) × IsAdvised lines p.rows new
+rows_advised lines p sound =
+    let m = rows_made date number more goods p.rows sound.sorted.rows nothing in
+    (m.0, record { sorted = m.1.sorted; amounts = m.1.amounts; sinces = m.1.sinces; expiries = m.1.expiries; named = m.1.named })
+  where
+    goods : List Line
+    goods = map (λ l. l.line) lines
+
+    date : List ℕ → List ℕ → Option (List ℕ)
+    date a b = or_else (told_date a b p.rows) (date_of lines a b)
+
+    number : List ℕ → List ℕ → ℕ
+    number a b = told since a b p.rows
+
+    more : Column → List ℕ → List ℕ → ℕ
+    more c a b = told (amount c) a b p.rows + given Expected goods c a b
+
+    nothing : (a b : List ℕ) → told one a b p.rows ≡ 0 → list_any (is_pair a b) goods ≡ false
+        → (number a b ≡ 0) × ((c : Column) → more c a b ≡ 0) × (date a b ≡ None)
+    nothing a b none unnamed_it = (
+      told_absent since a b p.rows none,
+      λ c. omega (arith, told_absent (amount c) a b p.rows none, given_at_most Expected goods c a b, unnamed a b goods unnamed_it),
+      ap (λ (o : Option (List ℕ)). or_else o (date_of lines a b)) (date_absent a b p.rows sound.sorted.rows none) ∙ no_date lines a b unnamed_it,
+    )
+
+-- an advice with its lines at no place brings as much, and the same dates
 placeless : AdviceLine → AdviceLine
 placeless l = record l { position = 0 }
 
@@ -80,6 +111,20 @@ same_lines : (ls : List AdviceLine) → map (λ l. l.line) (map placeless ls) �
 unfolding placeless
 same_lines [] = refl
 same_lines (l ∷ ls) = ap (λ xs. l.line ∷ xs) (same_lines ls)
+
+same_dates : (ls : List AdviceLine) (a b : List ℕ) → date_of (map placeless ls) a b ≡ date_of ls a b
+unfolding placeless
+same_dates [] a b = refl
+same_dates (l ∷ ls) a b = ap (or_else (date_given a b l)) (same_dates ls a b)
+
+advised_placeless : (ls : List AdviceLine) (old new : List LotRow) → IsAdvised ls old new → IsAdvised (map placeless ls) old new
+advised_placeless ls old new step = record {
+  sorted = step.sorted;
+  amounts = λ c a b. step.amounts c a b ∙ ap (λ (goods : List Line). told (amount c) a b old + given Expected goods c a b) (sym (same_lines ls));
+  sinces = step.sinces;
+  expiries = λ a b. step.expiries a b ∙ ap (or_else (told_date a b old)) (sym (same_dates ls a b));
+  named = λ a b. step.named a b ∙ ap (λ (goods : List Line). max (told one a b old) (named_by goods a b)) (sym (same_lines ls));
+}
 
 little : (ls : List AdviceLine) → length ls ≤ most_lines Two → All (λ (l : AdviceLine). l.line.quantity ≤ most_quantity Two) ls
     → HasFewLines (map placeless ls)
@@ -95,9 +140,9 @@ pub announced_more : (p : PageFacts) (es : List Event) (a : Advice) → IsSound 
     → advice_fault es a ≡ None
     → (q : PageFacts) × IsOneMore p es (Advised a) q
 announced_more p es a sound shows room few small none =
-    let rows = rows_added Expected (advised a) p sound in
+    let rows = rows_advised a.lines p sound in
     let q : PageFacts = record p { rows = rows.0; advices = put_advice (opened a) p.advices; recent = p.recent + 1 } in
-    let unknown = advice_unknown (advice_at a.shipment p.advices) a (advice_fault_shown p es a shows ∙ none) in
+    let unknown = advice_unknown (advice_at a.shipment p.advices) (λ i l. told_date i l p.rows) a (advice_fault_shown p es a shows ∙ none) in
     let step : IsAnnounced a p q = record {
       rows = rows.1;
       advices = refl;
@@ -108,7 +153,7 @@ announced_more p es a sound shows room few small none =
     let b : Advice = record a { lines = map placeless a.lines } in
     let same : advised b ≡ advised a = same_lines a.lines in
     let like : IsAnnounced b p q = record {
-      rows = subst (λ (ls : List Line). IsAdded Expected ls p.rows q.rows) (sym same) rows.1;
+      rows = advised_placeless a.lines p.rows q.rows rows.1;
       advices = ap (λ (ls : List Line). put_advice (record (opened a) { lines = ls }) p.advices) (sym same);
       orders = refl;
       documents = refl;
@@ -123,11 +168,11 @@ announced_more p es a sound shows room few small none =
       },
     )
 
-pub ordered_more : (p : PageFacts) (es : List Event) (o : Order) → IsSound p → Shows p es → p.recent < 1000
+pub ordered_more : (r : Rules) (p : PageFacts) (es : List Event) (o : Order) → IsSound p → Shows p es → p.recent < 1000
     → order_fault es o ≡ None
-    → (q : PageFacts) × IsOneMore p es (Ordered o (order_shares es o)) q
-ordered_more p es o sound shows room none =
-    let shares = all_shares_in p.rows o.lines in
+    → (q : PageFacts) × IsOneMore p es (Ordered o (order_shares r es o)) q
+ordered_more r p es o sound shows room none =
+    let shares = all_shares_in r p.rows o.lines in
     let rows = rows_added Reservation (reserved_lines shares) p sound in
     let q : PageFacts = record p {
       rows = rows.0;
@@ -136,7 +181,7 @@ ordered_more p es o sound shows room none =
     } in
     let fault = order_fault_shown p es o shows ∙ none in
     let unknown = order_unknown (order_at o.number p.orders) o fault in
-    let facts : IsAllotted p.rows shares = allotted p.rows o.lines sound.distinct (order_items_once _ o fault) in
+    let facts : IsAllotted p.rows shares = allotted r p.rows o.lines sound.distinct (order_items_once _ o fault) in
     let step : IsReserved o shares p q = record {
       rows = rows.1;
       advices = refl;
@@ -146,8 +191,8 @@ ordered_more p es o sound shows room none =
     } in (
       q,
       record {
-        sound = reserved_sound o shares p q step facts (opened_in_lines o p) unknown room sound;
-        shows = subst (λ (ls : List Line). Shows q (es ++ Ordered o ls ∷ [])) (all_shares_shown p es o shows sound.distinct)
+        sound = reserved_sound o shares p q step facts (opened_in_lines r o p) unknown room sound;
+        shows = subst (λ (ls : List Line). Shows q (es ++ Ordered o ls ∷ [])) (all_shares_shown r p es o shows sound.distinct)
             (reserved_shows o shares p q es step facts unknown shows);
         entries = refl;
         recent = refl;
@@ -180,16 +225,20 @@ rows_counted : (n : ℕ) (lines sheet : List Line) (p : PageFacts) → IsSound p
     → ((a b : List ℕ) → quantity_of lines a b ≤ told (amount Expected) a b p.rows)
     → (new : List LotRow) × IsCounted n lines sheet p.rows new
 rows_counted n lines sheet p sound enough =
-    let m = rows_made number left sheet p.rows sound.sorted.rows nothing in (
+    let m = rows_made date number left sheet p.rows sound.sorted.rows nothing in (
       m.0,
       record {
         sorted = m.1.sorted;
         amounts = λ c a b. omega (arith, m.1.amounts c a b, within c a b);
         sinces = m.1.sinces;
+        expiries = m.1.expiries;
         named = m.1.named;
       },
     )
   where
+    date : List ℕ → List ℕ → Option (List ℕ)
+    date a b = told_date a b p.rows
+
     number : List ℕ → List ℕ → ℕ
     number a b = first_number n (list_any (is_pair a b) sheet) (told since a b p.rows)
 
@@ -203,10 +252,11 @@ rows_counted n lines sheet p sound enough =
     within Shipped a b = omega arith
 
     nothing : (a b : List ℕ) → told one a b p.rows ≡ 0 → list_any (is_pair a b) sheet ≡ false
-        → (number a b ≡ 0) × ((c : Column) → left c a b ≡ 0)
+        → (number a b ≡ 0) × ((c : Column) → left c a b ≡ 0) × (date a b ≡ None)
     nothing a b none unnamed_it = (
       rw (unnamed_it, told_absent since a b p.rows none) refl,
       λ c. omega (arith, told_absent (amount c) a b p.rows none, given_at_most OnHand sheet c a b, unnamed a b sheet unnamed_it),
+      date_absent a b p.rows sound.sorted.rows none,
     )
 
 pub counted_more : (p : PageFacts) (es : List Event) (n : ℕ) (s : List ℕ) (sheet : List Line) (e : Event) → IsSound p
@@ -261,16 +311,20 @@ rows_shipped : (reserved sheet : List Line) (p : PageFacts) → IsSound p
     → ((a b : List ℕ) → quantity_of sheet a b ≤ quantity_of reserved a b)
     → (new : List LotRow) × IsShipped reserved sheet p.rows new
 rows_shipped reserved sheet p sound enough covers =
-    let m = rows_made number left [] p.rows sound.sorted.rows nothing in (
+    let m = rows_made date number left [] p.rows sound.sorted.rows nothing in (
       m.0,
       record {
         sorted = m.1.sorted;
         amounts = λ c a b. omega (arith, m.1.amounts c a b, within c a b);
         sinces = m.1.sinces;
+        expiries = m.1.expiries;
         named = λ a b. omega (arith, m.1.named a b);
       },
     )
   where
+    date : List ℕ → List ℕ → Option (List ℕ)
+    date a b = told_date a b p.rows
+
     number : List ℕ → List ℕ → ℕ
     number a b = told since a b p.rows
 
@@ -285,7 +339,7 @@ rows_shipped reserved sheet p sound enough covers =
     within Shipped a b = omega arith
 
     nothing : (a b : List ℕ) → told one a b p.rows ≡ 0 → list_any (is_pair a b) [] ≡ false
-        → (number a b ≡ 0) × ((c : Column) → left c a b ≡ 0)
+        → (number a b ≡ 0) × ((c : Column) → left c a b ≡ 0) × (date a b ≡ None)
     nothing a b none unnamed_it = (
       told_absent since a b p.rows none,
       λ c. omega (
@@ -296,6 +350,7 @@ rows_shipped reserved sheet p sound enough covers =
         enough a b,
         told_absent (amount Reservation) a b p.rows none,
       ),
+      date_absent a b p.rows sound.sorted.rows none,
     )
 
 pub picked_more : (p : PageFacts) (es : List Event) (n : ℕ) (s : List ℕ) (sheet : List Line) (e : Event) → IsSound p
@@ -379,17 +434,21 @@ set_unnamed a b (l ∷ ls) n h =
 rows_set : (sheet : List Line) (p : PageFacts) → IsSound p → list_any (is_unknown p.rows) sheet ≡ false
     → (new : List LotRow) × IsSet sheet p.rows new
 rows_set sheet p sound known =
-    let m = rows_made number left [] p.rows sound.sorted.rows nothing in (
+    let m = rows_made date number left [] p.rows sound.sorted.rows nothing in (
       m.0,
       record {
         sorted = m.1.sorted;
         on_hand = m.1.amounts OnHand;
         others = λ c a b apart. m.1.amounts c a b ∙ kept c a b apart;
         sinces = m.1.sinces;
+        expiries = m.1.expiries;
         named = λ a b. omega (arith, m.1.named a b);
       },
     )
   where
+    date : List ℕ → List ℕ → Option (List ℕ)
+    date a b = told_date a b p.rows
+
     number : List ℕ → List ℕ → ℕ
     number a b = told since a b p.rows
 
@@ -414,8 +473,8 @@ rows_set sheet p sound known =
     nought a b none Shipped = told_absent (amount Shipped) a b p.rows none
 
     nothing : (a b : List ℕ) → told one a b p.rows ≡ 0 → list_any (is_pair a b) [] ≡ false
-        → (number a b ≡ 0) × ((c : Column) → left c a b ≡ 0)
-    nothing a b none unnamed_it = (told_absent since a b p.rows none, nought a b none)
+        → (number a b ≡ 0) × ((c : Column) → left c a b ≡ 0) × (date a b ≡ None)
+    nothing a b none unnamed_it = (told_absent since a b p.rows none, nought a b none, date_absent a b p.rows sound.sorted.rows none)
 
 pub recounted_more : (p : PageFacts) (es : List Event) (n : ℕ) (sheet : List Line) (e : Event) → IsSound p → Shows p es
     → p.recent < 1000

@@ -1,19 +1,30 @@
 -- Laws of pages.
-use Rattle.std.proofs.Common.{◌≡◌, ℕ, ◌<◌, ◌^◌, Bool, true, false, not, ◌&&◌, List, refl, ap, ◌∙◌, arith, inl, inr, Option, Some, None, Ok, Err}
+use Rattle.std.proofs.Common.{◌≡◌, ℕ, ◌<◌, ◌^◌, Bool, true, false, not, ◌&&◌, List, ◌++◌, refl, ap, sym, ◌∙◌, arith, inl, inr, Option, Some, None, Ok, Err}
 use Rattle.std.proofs.lemmas.Bool.{cases_Bool}
 use Rattle.std.specs.List.{list_any}
 use Rattle.profile.specs.Clerk.{counted, picked}
-use Rattle.profile.specs.Events.{Event, Reserved, counts, picks, advice_under, order_under, is_advice_open, is_order_open}
+use Rattle.profile.specs.Lists.{or_else}
+use Rattle.profile.specs.Events.{Event, Reserved, expiry, counts, picks, advice_under, order_under, is_advice_open, is_order_open}
 use Rattle.std.specs.Prelude.{is_some}
 use Rattle.profile.specs.Means.{Line, Advice}
 use Rattle.profile.specs.Movements.{Column, OnHand, Reservation, IsCovered, balance}
 use Rattle.profile.specs.Refusals.{UnknownAdvice, AdviceClosed, UnknownOrder, OrderClosed}
+use Rattle.profile.proofs.EventsLaws.{expiry-append}
 use Rattle.stock.specs.Pages.{PageFacts, IsSound}
 use Rattle.stock.specs.Shows.{Shows}
-use Rattle.stock.specs.Told.{told, amount}
+use Rattle.stock.specs.Told.{told, told_date, amount}
 
 pub balance_told : (p : PageFacts) (es : List Event) → Shows p es → (c : Column) (a b : List ℕ) → told (amount c) a b p.rows ≡ balance es c a b
 balance_told p es shows c a b = omega (arith, shows.amounts c a b)
+
+pub date_told : (p : PageFacts) (es : List Event) → Shows p es → (a b : List ℕ) → told_date a b p.rows ≡ expiry es a b
+date_told p es shows a b = sym (shows.expiries a b)
+
+pub date_stays : (p q : PageFacts) (es more : List Event) → Shows p es → Shows q (es ++ more)
+    → (a b date : List ℕ) → told_date a b p.rows ≡ Some date → told_date a b q.rows ≡ Some date
+date_stays p q es more shows after a b date is =
+    date_told q (es ++ more) after a b ∙ expiry-append es more a b
+    ∙ ap (λ (o : Option (List ℕ)). or_else o (expiry more a b)) (shows.expiries a b ∙ is)
 
 pub covered_events : (p : PageFacts) (es : List Event) → IsSound p → Shows p es → IsCovered es
 covered_events p es sound shows = record {

@@ -30,6 +30,7 @@ pub blank_shows : Shows (record { rows = []; advices = []; orders = []; document
 blank_shows = record {
   amounts = λ c a b. refl;
   sinces = λ a b. refl;
+  expiries = λ a b. refl;
   pairs = λ a b. refl;
   advices = λ s. refl;
   orders = λ n. refl;
@@ -85,6 +86,7 @@ pub next_shows : (p : PageFacts) (es : List Event) → Shows p es → Shows (nex
 next_shows p es shows = record {
   amounts = shows.amounts;
   sinces = shows.sinces;
+  expiries = shows.expiries;
   pairs = shows.pairs;
   advices = shows.advices;
   orders = shows.orders;

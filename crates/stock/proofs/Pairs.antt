@@ -5,7 +5,7 @@ use Rattle.std.proofs.lemmas.List.Sums.{sum_by-cons}
 use Rattle.std.proofs.lemmas.Slice.Eq.{bytes_eq-Decides}
 use Rattle.std.specs.Prelude.{bytes_eq, count_by, nat_le}
 use Rattle.std.specs.List.{list_all}
-use Rattle.profile.specs.declared.rules.Rules.TheVariants.{One}
+use Rattle.profile.specs.declared.rules.Rules.TheVariants.{Two}
 use Rattle.profile.specs.Bytes.{comes_before, is_identifier}
 use Rattle.profile.specs.Limits.{most_recounted, most_lines, most_item, most_lot}
 use Rattle.profile.specs.Means.{Line}
@@ -106,10 +106,10 @@ quantity_none a b (k ∷ ls) h = elim (cases_Bool (is_pair a b k)) [
   | inr e ↦ quantity_no a b k ls e ∙ quantity_none a b ls (sym (count_no (is_pair a b) k ls e) ∙ h)
 ]
 
-little_each : (a b : List ℕ) (ls : List Line) → list_all (is_sheet_line RecountSheet) ls ≡ true → count_by (is_pair a b) ls ≤ 1 → quantity_of ls a b ≤ most_recounted
+little_each : (a b : List ℕ) (ls : List Line) → list_all (is_sheet_line Two RecountSheet) ls ≡ true → count_by (is_pair a b) ls ≤ 1 → quantity_of ls a b ≤ most_recounted
 little_each a b [] h few = omega arith
 little_each a b (k ∷ ls) h few =
-    let p = and_parts (is_sheet_line RecountSheet k) (list_all (is_sheet_line RecountSheet) ls) h in
+    let p = and_parts (is_sheet_line Two RecountSheet k) (list_all (is_sheet_line Two RecountSheet) ls) h in
     let s = and_parts (is_identifier 1 most_item k.item && is_identifier 1 most_lot k.lot && nat_le 0 k.quantity) (nat_le k.quantity most_recounted) p.0 in
     elim (cases_Bool (is_pair a b k)) [
       | inl e ↦
@@ -123,10 +123,10 @@ pub record IsSheet (ls : List Line) : Type 0 where
   pub little : (a b : List ℕ) → quantity_of ls a b ≤ most_recounted
   pub once : (a b : List ℕ) → count_by (is_pair a b) ls ≤ 1
 
-pub sheet_facts : (ls : List Line) → is_sheet RecountSheet ls ≡ true → IsSheet ls
+pub sheet_facts : (ls : List Line) → is_sheet Two RecountSheet ls ≡ true → IsSheet ls
 sheet_facts ls h =
-    let p = and_parts (nat_le (length ls) (most_lines One) && list_all (is_sheet_line RecountSheet) ls) (is_ascending ls) h in
-    let q = and_parts (nat_le (length ls) (most_lines One)) (list_all (is_sheet_line RecountSheet) ls) p.0 in
+    let p = and_parts (nat_le (length ls) (most_lines Two) && list_all (is_sheet_line Two RecountSheet) ls) (is_ascending ls) h in
+    let q = and_parts (nat_le (length ls) (most_lines Two)) (list_all (is_sheet_line Two RecountSheet) ls) p.0 in
     record {
       little = λ a b. little_each a b ls q.1 (ascending_once a b ls p.1);
       once = λ a b. ascending_once a b ls p.1;

@@ -7,7 +7,7 @@ use Rattle.std.specs.Option.{option_or}
 use Rattle.std.specs.List.{list_any, list_all}
 use Rattle.profile.specs.Events.{is_pair}
 use Rattle.profile.specs.Means.{Line, Advice, advised, OrderLine, Order}
-use Rattle.profile.specs.Movements.{Expected, OnHand, Reservation}
+use Rattle.profile.specs.Movements.{OnHand, Reservation}
 use Rattle.profile.specs.Rows.{LotRow}
 use Rattle.profile.specs.Page.{PageAdvice, PageOrder, PageDocument, reserved_lines}
 use Rattle.stock.specs.declared.steps.Change.{Change}
@@ -17,12 +17,13 @@ use Rattle.stock.specs.Pages.{PageFacts, AreSorted, document_at, is_document}
 use Rattle.stock.specs.Parts.{Named, all_named, IsPart, are_items, NamesAdvice}
 use Rattle.stock.specs.Puts.{put, put_change}
 use Rattle.stock.specs.declared.documents.Function.TheVariants.{Receipt, Shipment, Adjustment}
-use Rattle.stock.specs.Moved.{IsAdded, IsCounted, IsShipped, IsSet}
+use Rattle.stock.specs.Moved.{IsAdded, IsAdvised, IsCounted, IsShipped, IsSet}
 use Rattle.stock.specs.Steps.{opened, opened_order, closed_advice, closed_order, with_said, said_of_found, is_unknown, is_below, is_on_hand, IsAnnounced, IsReserved, IsReceived, IsPicked, IsRecounted}
 use Rattle.stock.specs.Stops.{row_changes, advice_changes, order_changes}
-use Rattle.stock.specs.Told.{is_row, told, one, since, amount, same_row, changed_rows}
+use Rattle.stock.specs.Told.{is_row, told, told_date, one, since, amount, same_row, changed_rows}
 use Rattle.stock.specs.Touched.{IsTouched}
 use Rattle.stock.proofs.ChangeLaws.{same_is}
+use Rattle.stock.proofs.Dates.{dates_told}
 use Rattle.stock.proofs.KeyLemmas.{told_put, advice_put, order_put, document_put, sent_found}
 use Rattle.stock.proofs.Finds.{found_says}
 use Rattle.stock.proofs.Leads.{touched_none, not_named, among_second}
@@ -40,6 +41,10 @@ all_items (l ∷ ls) = all_items ls
 pub all_ordered : (lines : List OrderLine) → list_all (λ l. all_named.items l.item) lines ≡ true
 all_ordered [] = refl
 all_ordered (l ∷ ls) = all_ordered ls
+
+-- a part tells the dates of named items
+pub part_date : (n : Named) (p P : PageFacts) → IsPart n p P → (a b : List ℕ) → n.items a ≡ true → told_date a b p.rows ≡ told_date a b P.rows
+part_date n p P part a b is = dates_told a b p.rows P.rows part.in_order.rows part.sorted.rows (λ f. part.rows f a b is)
 
 -- A row is on the part where it is on the page.
 
@@ -217,7 +222,7 @@ put_part n cs p P part =
 
 -- What a step makes of the part it makes of the page.
 
-pub announced_whole : (n : Named) (a : Advice) (p P : PageFacts) (t0 t1 : List LotRow) → IsPart n p P → NamesAdvice n a → IsTouched (advised a) p.rows t0 → IsAdded Expected (advised a) t0 t1
+pub announced_whole : (n : Named) (a : Advice) (p P : PageFacts) (t0 t1 : List LotRow) → IsPart n p P → NamesAdvice n a → IsTouched (advised a) p.rows t0 → IsAdvised a.lines t0 t1
     → Makes (IsAnnounced a P) (advice_changes a.shipment P) P (map change.Stock (changed_rows p.rows t1) ++ change.Advice (opened a) ∷ [])
 announced_whole n a p P t0 t1 part names touched moved =
     let same = changed_same n p P part t1 (rows_named n (advised a) t1 names.items (λ i l e. omega (arith, moved.named i l, touched_none (advised a) p.rows t0 touched one i l e, not_named (advised a) i l e))) in

@@ -9,6 +9,7 @@ use Rattle.profile.specs.Events.{is_pair, quantity_of}
 use Rattle.profile.specs.Movements.{Column, Expected, OnHand, Reservation, Shipped, column_eq}
 use Rattle.stock.specs.Told.{is_row, told, one, since, amount, named_by, raised, with_on_hand, IsDistinct}
 use Rattle.stock.specs.Keyed.{IsSorted}
+use Rattle.stock.proofs.Dates.{date_kept}
 use Rattle.stock.proofs.KeyLemmas.{sorted_distinct, sorted_kept}
 use Rattle.stock.specs.Moved.{IsPlace, IsTaken, IsRaised, IsShipped, IsSet, set_by}
 use Rattle.stock.proofs.Tells.{part, part_yes, part_no, told_set, told_kept, told_here, IsRowAt, row_at, row_as_line, told_named, placed_there, added_at, given_one, told_absent}
@@ -22,6 +23,7 @@ raised_at k line rows i r sorted place is =
       sorted = added.sorted;
       amounts = added.amounts;
       sinces = added.sinces;
+      expiries = added.expiries;
       named = λ a b. omega (arith, added.named a b, told_named line rows i place a b);
     }
 
@@ -35,6 +37,7 @@ raised_none k line rows sorted nothing = record {
     | inr e ↦ rw (given_one k line c a b, e) (omega arith)
   ];
   sinces = λ a b. refl;
+  expiries = λ a b. refl;
   named = λ a b. refl;
 }
 
@@ -46,6 +49,7 @@ raised_more k lines i l old mid new within is first next =
       sorted = next.sorted;
       amounts = λ c a b. omega (arith, first.amounts c a b, next.amounts c a b, given_append k (take i lines) (l ∷ []) c a b);
       sinces = λ a b. next.sinces a b ∙ first.sinces a b;
+      expiries = λ a b. next.expiries a b ∙ first.expiries a b;
       named = λ a b. next.named a b ∙ first.named a b;
     })
 
@@ -67,6 +71,7 @@ shipped_made reserved sheet r0 r1 r2 r3 first second third = record {
   sorted = third.sorted;
   amounts = λ c a b. omega (arith, first.amounts c a b, second.amounts c a b, third.amounts c a b);
   sinces = λ a b. third.sinces a b ∙ second.sinces a b ∙ first.sinces a b;
+  expiries = λ a b. third.expiries a b ∙ second.expiries a b ∙ first.expiries a b;
   named = λ a b. third.named a b ∙ second.named a b ∙ first.named a b;
 }
 
@@ -107,6 +112,7 @@ set_at line rows i r sorted place is =
       on_hand = set_told line rows i r distinct at;
       others = λ c a b e. told_kept (amount c) line rows i r y at (λ a b. refl) (amount_set c line.quantity r e) a b;
       sinces = λ a b. told_kept since line rows i r y at (λ a b. refl) refl a b;
+      expiries = date_kept rows i r y sorted at.within is refl refl;
       named = λ a b. told_kept one line rows i r y at (λ a b. refl) refl a b;
     }
 
@@ -120,6 +126,7 @@ set_more lines i l old mid new within is first next =
           ∙ sym (fold-append (λ (m : ℕ) (k : Line). cond (is_pair a b k) k.quantity m) (told (amount OnHand) a b old) (take i lines) (l ∷ []));
       others = λ c a b e. next.others c a b e ∙ first.others c a b e;
       sinces = λ a b. next.sinces a b ∙ first.sinces a b;
+      expiries = λ a b. next.expiries a b ∙ first.expiries a b;
       named = λ a b. next.named a b ∙ first.named a b;
     })
 

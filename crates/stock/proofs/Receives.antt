@@ -13,7 +13,7 @@ use Rattle.profile.specs.Rows.{named, said_of, acknowledges}
 use Rattle.profile.specs.Refusals.{UnknownAdvice, AdviceClosed}
 use Rattle.profile.specs.Clerk.{counted}
 use Rattle.profile.specs.Page.{PageAdvice, PageOrder, PageDocument, page_advice}
-use Rattle.profile.specs.Events.{Event, Enrolment, Advised, Ordered, Acknowledged, Counted, Picked, Recounted, is_pair, quantity_of, advice_if, advice_under, counts, is_advice_open, count_naming}
+use Rattle.profile.specs.Events.{Event, Enrolment, Advised, Ordered, Acknowledged, Counted, Picked, Recounted, is_pair, quantity_of, advice_if, advice_under, counts, is_advice_open, count_naming, date_naming}
 use Rattle.profile.specs.Movements.{Column, Expected, OnHand, Reservation, column_eq, comes, goes}
 use Rattle.stock.specs.Told.{told, amount, since, given, named_by, positive}
 use Rattle.profile.specs.Bytes.{comes_before}
@@ -200,6 +200,7 @@ received_shows n k a sheet shipment old new es number step known found seen show
       );
       sinces = λ x y. first_found_push (count_naming x y) es e ∙ ap (λ (o : Option ℕ). or_else o (count_naming x y e)) (shows.sinces x y)
           ∙ first_positive n (told since x y old.rows) (list_any (is_pair x y) sheet) (omega (arith, number)) ∙ ap positive (sym (step.rows.sinces x y));
+      expiries = λ x y. found_kept (date_naming x y) es e refl ∙ shows.expiries x y ∙ sym (step.rows.expiries x y);
       pairs = λ x y. omega (
         arith,
         step.rows.named x y,

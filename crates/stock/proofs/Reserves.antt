@@ -9,7 +9,7 @@ use Rattle.profile.specs.Lists.{or_else}
 use Rattle.profile.specs.Means.{Line, Order}
 use Rattle.profile.specs.Rows.{named}
 use Rattle.profile.specs.Page.{PageAdvice, PageOrder, page_order, reserved_lines}
-use Rattle.profile.specs.Events.{Event, Ordered, quantity_of, order_if, order_under, Reserved, picks, count_naming, order_fault, order_fault_where, repeated, same_order_item, repeated_item, wrong_order_total}
+use Rattle.profile.specs.Events.{Event, Ordered, quantity_of, order_if, order_under, Reserved, picks, count_naming, date_naming, order_fault, order_fault_where, repeated, same_order_item, repeated_item, wrong_order_total}
 use Rattle.profile.specs.Movements.{Column, Expected, OnHand, Reservation, Shipped}
 use Rattle.stock.specs.Told.{told, amount, given, named_by, positive}
 use Rattle.stock.specs.Pages.{PageFacts, advice_at, order_at, document_at, awaited, held, IsSound, AreSorted, is_in_lines}
@@ -98,6 +98,7 @@ reserved_shows o shares old new es step allotted unknown shows = let e = Ordered
     same_given c a b,
   );
   sinces = λ a b. found_kept (count_naming a b) es e refl ∙ shows.sinces a b ∙ ap positive (sym (step.rows.sinces a b));
+  expiries = λ a b. found_kept (date_naming a b) es e refl ∙ shows.expiries a b ∙ sym (step.rows.expiries a b);
   pairs = λ a b. omega (
     arith,
     step.rows.named a b,

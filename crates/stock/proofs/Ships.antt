@@ -11,7 +11,7 @@ use Rattle.profile.specs.Rows.{named}
 use Rattle.profile.specs.Refusals.{UnknownOrder, OrderClosed, NotReserved}
 use Rattle.profile.specs.Clerk.{picked}
 use Rattle.profile.specs.Page.{PageAdvice, PageOrder, page_order, reserved_lines}
-use Rattle.profile.specs.Events.{Event, Picked, is_pair, quantity_of, order_if, order_under, Reserved, picks, is_order_open, count_naming}
+use Rattle.profile.specs.Events.{Event, Picked, is_pair, quantity_of, order_if, order_under, Reserved, picks, is_order_open, count_naming, date_naming}
 use Rattle.profile.specs.Movements.{Column, Expected, OnHand, Reservation, Shipped, comes, goes}
 use Rattle.stock.specs.Told.{told, amount, given, named_by, positive}
 use Rattle.profile.specs.Bytes.{comes_before}
@@ -200,6 +200,7 @@ picked_shows n k r sheet number old new es follows step known found seen opened 
         went_goes Reservation r.shares c x y,
       );
       sinces = λ x y. found_kept (count_naming x y) es e refl ∙ shows.sinces x y ∙ ap positive (sym (step.rows.sinces x y));
+      expiries = λ x y. found_kept (date_naming x y) es e refl ∙ shows.expiries x y ∙ sym (step.rows.expiries x y);
       pairs = λ x y. omega (
         arith,
         step.rows.named x y,

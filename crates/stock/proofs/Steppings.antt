@@ -4,7 +4,7 @@ use Rattle.std.proofs.lemmas.List.Sums.{fold-append}
 use Rattle.std.proofs.lemmas.Slice.Eq.{bytes_eq-Decides}
 use Rattle.std.specs.Prelude.{fold, bytes_eq, codes, option_map, option_to_list}
 use Rattle.profile.specs.Means.{Line, Advice, advised, Order}
-use Rattle.profile.specs.Movements.{Expected, Reservation}
+use Rattle.profile.specs.Movements.{Reservation}
 use Rattle.profile.specs.Page.{PageAdvice, PageOrder, reserved_lines}
 use Rattle.profile.specs.Rows.{LotRow}
 use Rattle.stock.specs.declared.steps.Change.{Change}
@@ -12,7 +12,7 @@ use Rattle.stock.specs.declared.steps.Change.TheVariants as change
 use Rattle.stock.specs.declared.documents.Function.TheVariants.{Receipt, Shipment, Adjustment}
 use Rattle.stock.specs.Functions.{function_text}
 use Rattle.stock.specs.Keyed.{put_advice, put_order, IsSorted}
-use Rattle.stock.specs.Moved.{IsAdded, IsCounted, IsShipped, IsSet}
+use Rattle.stock.specs.Moved.{IsAdded, IsAdvised, IsCounted, IsShipped, IsSet}
 use Rattle.stock.specs.Pages.{PageFacts, AreSorted, advice_at, order_at}
 use Rattle.stock.specs.Puts.{put, put_change}
 use Rattle.stock.specs.Steps.{opened, opened_order, closed_advice, closed_order, with_sent, IsAnnounced, IsReserved, IsReceived, IsPicked, IsRecounted}
@@ -21,7 +21,7 @@ use Rattle.stock.specs.Told.{changed_rows}
 use Rattle.stock.specs.Touched.{IsTouched}
 use Rattle.stock.proofs.Keys.{put_rises}
 use Rattle.stock.proofs.KeyLemmas.{advice_put, order_put, put_sorted, texts_strict, said_sorted, sent_sorted}
-use Rattle.stock.proofs.Leads.{put_rows, rows_exact, added_led, counted_led, shipped_led, set_led}
+use Rattle.stock.proofs.Leads.{put_rows, rows_exact, added_led, advised_led, counted_led, shipped_led, set_led}
 use Rattle.profile.specs.Bytes.{comes_before}
 use Rattle.stock.specs.Keyed.{shipment_of, number_of}
 
@@ -79,13 +79,13 @@ pub record Makes (R : PageFacts → Type 0) (listed : PageFacts → List Change)
 makes : (R : PageFacts → Type 0) (listed : PageFacts → List Change) (p q : PageFacts) (cs : List Change) → put cs p ≡ q → R q → cs ≡ listed q → Makes R listed p cs
 makes R listed p q cs e made exact = record { made = subst R (sym e) made; exact = exact ∙ ap listed (sym e) }
 
-pub announced_put : (a : Advice) (p : PageFacts) (t0 t1 : List LotRow) → IsSorted p.rows → IsTouched (advised a) p.rows t0 → IsAdded Expected (advised a) t0 t1
+pub announced_put : (a : Advice) (p : PageFacts) (t0 t1 : List LotRow) → IsSorted p.rows → IsTouched (advised a) p.rows t0 → IsAdvised a.lines t0 t1
     → Makes (IsAnnounced a p) (advice_changes a.shipment p) p (map change.Stock (changed_rows p.rows t1) ++ change.Advice (opened a) ∷ [])
 announced_put a p t0 t1 sorted touched moved =
     let cs = changed_rows p.rows t1 in
     let q : PageFacts = record p { rows = put_rows cs p.rows; advices = put_advice (opened a) p.advices; recent = p.recent + 1 } in
     makes (IsAnnounced a p) (advice_changes a.shipment p) p q (rows_and cs (change.Advice (opened a) ∷ [])) (put_rest cs (change.Advice (opened a) ∷ []) p)
-    (record { rows = added_led Expected (advised a) p.rows t0 t1 sorted touched moved; advices = refl; orders = refl; documents = refl; next = record { entries = refl; recent = refl } })
+    (record { rows = advised_led a.lines p.rows t0 t1 sorted touched moved; advices = refl; orders = refl; documents = refl; next = record { entries = refl; recent = refl } })
     (advice_exact p q (opened a) a.shipment t1 sorted moved.sorted refl refl refl)
 
 pub reserved_put : (o : Order) (shares : List Line) (p : PageFacts) (t0 t1 : List LotRow) → IsSorted p.rows → IsTouched (reserved_lines shares) p.rows t0

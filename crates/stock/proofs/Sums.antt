@@ -91,6 +91,7 @@ added_more k lines i l old mid new within is first next =
       sorted = next.sorted;
       amounts = λ c a b. omega (arith, first.amounts c a b, next.amounts c a b, given_append k (take i lines) (l ∷ []) c a b);
       sinces = λ a b. next.sinces a b ∙ first.sinces a b;
+      expiries = λ a b. next.expiries a b ∙ first.expiries a b;
       named = λ a b. omega (arith, first.named a b, next.named a b, named_append (take i lines) (l ∷ []) a b);
     })
 
@@ -102,6 +103,7 @@ taken_more k lines i l old mid new within is first next =
       sorted = next.sorted;
       amounts = λ c a b. omega (arith, first.amounts c a b, next.amounts c a b, given_append k (take i lines) (l ∷ []) c a b);
       sinces = λ a b. next.sinces a b ∙ first.sinces a b;
+      expiries = λ a b. next.expiries a b ∙ first.expiries a b;
       named = λ a b. next.named a b ∙ first.named a b;
     })
 

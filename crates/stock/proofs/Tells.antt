@@ -13,8 +13,9 @@ use Rattle.stock.specs.Moved.{IsPlace, IsPlaced, IsAdded, IsTaken}
 use Rattle.std.specs.List.{insert}
 use Rattle.std.proofs.lemmas.List.Edits.{length-insert, get_or-insert_at}
 use Rattle.std.proofs.lemmas.List.Sums.{sum_by-insert}
-use Rattle.stock.specs.Keyed.{key_before, row_key, rises_by, IsSorted, IsRank}
+use Rattle.stock.specs.Keyed.{key_before, row_key, put_row, rises_by, IsSorted, IsRank}
 use Rattle.stock.proofs.Keys.{rank_insert}
+use Rattle.stock.proofs.Dates.{date_kept, date_blank}
 use Rattle.stock.proofs.KeyLemmas.{pairs_strict, row_test, put_sorted, sorted_kept, sorted_distinct, key_raised, key_lowered}
 
 -- one row's part of what is told of a pair
@@ -102,6 +103,18 @@ since_lowered Expected n r = refl
 since_lowered OnHand n r = refl
 since_lowered Reservation n r = refl
 since_lowered Shipped n r = refl
+
+pub date_raised : (k : Column) (n : ℕ) (r : LotRow) → (raised k n r).expiry ≡ r.expiry
+date_raised Expected n r = refl
+date_raised OnHand n r = refl
+date_raised Reservation n r = refl
+date_raised Shipped n r = refl
+
+pub date_lowered : (k : Column) (n : ℕ) (r : LotRow) → (lowered k n r).expiry ≡ r.expiry
+date_lowered Expected n r = refl
+date_lowered OnHand n r = refl
+date_lowered Reservation n r = refl
+date_lowered Shipped n r = refl
 
 pub amount_raised : (c k : Column) (n : ℕ) (r : LotRow) → amount c (raised k n r) ≡ amount c r + cond (column_eq k c) n 0
 amount_raised Expected Expected n r = omega arith
@@ -210,6 +223,7 @@ placed_there line rows i sorted place = record {
   place = place;
   amounts = λ c a b. refl;
   sinces = λ a b. refl;
+  expiries = λ a b. refl;
   named = λ a b. omega (arith, told_named line rows i place a b);
 }
 
@@ -232,13 +246,14 @@ own_row line = rw (same_bytes line.item, same_bytes line.lot) refl
 pub placed_new : (line : Line) (rows : List LotRow) (i : ℕ) → IsSorted rows → IsRank key_before row_key rows (line.item, line.lot) i → told one line.item line.lot rows ≡ 0
     → IsPlaced rows (insert rows i (blank line)) line i
 placed_new line rows i sorted rank none = record {
-  sorted = ap (rises_by key_before row_key) (rank_insert key_before pairs_strict row_key rows i (blank line) rank apart) ∙ put_sorted (blank line) rows sorted;
+  sorted = ap (rises_by key_before row_key) put ∙ put_sorted (blank line) rows sorted;
   place = record {
     within = omega (arith, length-insert rows i (blank line) rank.bound);
     here = λ d. ap (is_row line.item line.lot) (get_or-insert_at rows i (blank line) d rank.bound) ∙ own_row line;
   };
   amounts = λ c a b. omega (arith, told_insert (amount c) a b rows i (blank line), part_blank (amount c) line a b (amount_blank c line));
   sinces = λ a b. omega (arith, told_insert since a b rows i (blank line), part_blank since line a b refl);
+  expiries = date_blank line rows i sorted put none;
   named = λ a b. elim (cases_Bool (is_pair a b line)) [
     | inl y ↦ let same = pair_is a b line y in
         let absent : told one a b rows ≡ 0 = ap (λ (x : List ℕ). told one x b rows) (sym same.0) ∙ ap (λ (x : List ℕ). told one line.item x rows) (sym same.1) ∙ none in
@@ -250,6 +265,9 @@ placed_new line rows i sorted rank none = record {
     apart : (d : LotRow) → i < length rows → row_key (get_or rows i d) ≡ row_key (blank line) → ⊥
     apart d within same = absurd (omega (arith, none, told_there line.item line.lot rows i d within ((row_test line.item line.lot).said (get_or rows i d) same)))
 
+    put : insert rows i (blank line) ≡ put_row (blank line) rows
+    put = rank_insert key_before pairs_strict row_key rows i (blank line) rank apart
+
 -- a line that comes to a row which was placed
 pub added_at : (k : Column) (line : Line) (old mid : List LotRow) (i : ℕ) (r : LotRow) → IsPlaced old mid line i → r ≡ get_or mid i r
     → IsAdded k (line ∷ []) old (set mid i (raised k line.quantity r))
@@ -259,6 +277,7 @@ added_at k line old mid i r placed is =
       sorted = sorted_kept mid i r y placed.sorted at.within is (key_raised k line.quantity r);
       amounts = λ c a b. omega (arith, raised_amounts k line mid i r at c a b, placed.amounts c a b);
       sinces = λ a b. told_kept since line mid i r y at (λ a b. is_row_raised a b k line.quantity r) (since_raised k line.quantity r) a b ∙ placed.sinces a b;
+      expiries = λ a b. date_kept mid i r y placed.sorted at.within is (key_raised k line.quantity r) (date_raised k line.quantity r) a b ∙ placed.expiries a b;
       named = λ a b. told_kept one line mid i r y at (λ a b. is_row_raised a b k line.quantity r) refl a b ∙ placed.named a b;
     }
 
@@ -271,6 +290,7 @@ taken_at k line rows i r sorted place is enough =
       sorted = sorted_kept rows i r y sorted at.within is (key_lowered k line.quantity r);
       amounts = λ c a b. lowered_amounts k line rows i r at enough c a b;
       sinces = λ a b. told_kept since line rows i r y at (λ a b. is_row_lowered a b k line.quantity r) (since_lowered k line.quantity r) a b;
+      expiries = date_kept rows i r y sorted at.within is (key_lowered k line.quantity r) (date_lowered k line.quantity r);
       named = λ a b. told_kept one line rows i r y at (λ a b. is_row_lowered a b k line.quantity r) refl a b;
     }
 
@@ -292,5 +312,6 @@ taken_none k line rows sorted none enough =
         | inr e ↦ rw (given_one k line c a b, e) (omega arith)
       ];
       sinces = λ a b. refl;
+      expiries = λ a b. refl;
       named = λ a b. refl;
     }

@@ -1,5 +1,6 @@
 -- The lots of an item that a page has, and what a line of an order is given of them.
 use Rattle.std.specs.Prelude.{ℕ, ◌-◌, Bool, ◌&&◌, List, map, filter, flat_map, bytes_eq, nat_lt, Option}
+use Rattle.profile.specs.declared.rules.Rules.{Rules}
 use Rattle.profile.specs.Rows.{LotRow}
 use Rattle.profile.specs.Allotment.{Ranked, ranks_before, may_have, shares_from}
 use Rattle.profile.specs.Lists.{in_order}
@@ -11,7 +12,7 @@ abbrev pub is_lot_of : List ℕ → LotRow → Bool
 is_lot_of item r = bytes_eq r.item item && nat_lt 0 r.since
 
 abbrev pub rank_of : LotRow → Ranked
-rank_of r = record { since = r.since; lot = r.lot }
+rank_of r = record { expiry = r.expiry; since = r.since; lot = r.lot }
 
 abbrev pub ranks_of : List ℕ → List LotRow → List Ranked
 ranks_of item rows = map rank_of (filter (is_lot_of item) rows)
@@ -25,9 +26,9 @@ abbrev pub shares_left : List LotRow → List ℕ → Option (List ℕ) → List
 shares_left rows item pin lots left = shares_from item (filter (may_have pin) lots) (free_in rows item) left
 
 -- what a line is given
-abbrev pub shares_in : List LotRow → OrderLine → List Line
-shares_in rows l = shares_left rows l.item l.pin (map (λ r. r.lot) (in_order ranks_before (ranks_of l.item rows))) l.quantity
+abbrev pub shares_in : Rules → List LotRow → OrderLine → List Line
+shares_in r rows l = shares_left rows l.item l.pin (map (λ k. k.lot) (in_order (ranks_before r) (ranks_of l.item rows))) l.quantity
 
 -- what the lines of an order are given
-abbrev pub all_shares_in : List LotRow → List OrderLine → List Line
-all_shares_in rows lines = flat_map (shares_in rows) lines
+abbrev pub all_shares_in : Rules → List LotRow → List OrderLine → List Line
+all_shares_in r rows lines = flat_map (shares_in r rows) lines

@@ -2,11 +2,11 @@
 use Rattle.std.specs.Prelude.{ℕ, ◌≡◌, ◌+◌, Bool, true, false, ◌&&◌, List, if◌then◌else◌, nat_lt, nat_le, ◌==◌, Some, None, codes, Option, option_map, flat_map}
 use Rattle.std.specs.List.{list_any, list_all}
 use Rattle.profile.specs.Lists.{first_found}
-use Rattle.profile.specs.Events.{Event, Acknowledged, Counted, Picked, Recounted, quantity_of, advice_under, Reserved, order_under, counts, picks, first_count}
+use Rattle.profile.specs.Events.{Event, Acknowledged, Counted, Picked, Recounted, quantity_of, advice_under, Reserved, order_under, counts, picks, first_count, expiry}
 use Rattle.profile.specs.Movements.{Column, came_to, went_from}
 use Rattle.profile.specs.Rows.{named, said_of}
 use Rattle.profile.specs.Page.{PageDocument, reserved_lines, page_advice, page_order}
-use Rattle.stock.specs.Told.{told, one, since, amount, named_by, positive}
+use Rattle.stock.specs.Told.{told, told_date, one, since, amount, named_by, positive}
 use Rattle.stock.specs.Pages.{PageFacts, advice_at, order_at, document_at}
 
 -- the functional identifier of the document that a clerk's event sent under a number
@@ -40,6 +40,8 @@ NamesEachOnce (Some r) = (item lot : List ℕ) → quantity_of (reserved_lines r
 pub record Shows (p : PageFacts) (es : List Event) : Type 0 where
   pub amounts : (c : Column) (item lot : List ℕ) → told (amount c) item lot p.rows + went_from es c item lot ≡ came_to es c item lot
   pub sinces : (item lot : List ℕ) → first_count es item lot ≡ positive (told since item lot p.rows)
+  -- the date in the first advice that gave the pair one
+  pub expiries : (item lot : List ℕ) → expiry es item lot ≡ told_date item lot p.rows
   -- a row for each pair that was named, and no two
   pub pairs : (item lot : List ℕ) → told one item lot p.rows ≡ named_by (flat_map named es) item lot
   pub advices : (shipment : List ℕ) → advice_at shipment p.advices ≡ option_map (page_advice es) (advice_under shipment es)

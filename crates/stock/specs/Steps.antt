@@ -2,10 +2,10 @@
 use Rattle.std.specs.Prelude.{ℕ, ◌≡◌, ◌+◌, ◌==◌, Bool, true, false, List, [], if◌then◌else◌, Option, Some, None, codes, map, nat_lt, nat_le, is_none, ◌&&◌, bytes_eq, option_map}
 use Rattle.profile.specs.Means.{Line, Advice, advised, Order, Acknowledgment}
 use Rattle.profile.specs.Events.{quantity_of}
-use Rattle.profile.specs.Movements.{Expected, OnHand, Reservation}
+use Rattle.profile.specs.Movements.{OnHand, Reservation}
 use Rattle.profile.specs.Rows.{LotRow}
 use Rattle.profile.specs.Page.{PageAdvice, PageOrder, PageDocument, page_line, reserved_lines}
-use Rattle.stock.specs.Moved.{IsAdded, IsCounted, IsShipped, IsSet}
+use Rattle.stock.specs.Moved.{IsAdvised, IsAdded, IsCounted, IsShipped, IsSet}
 use Rattle.stock.specs.Told.{told, since, amount}
 use Rattle.stock.specs.Keyed.{put_advice, put_order, put_document, rises_by, entry_of}
 use Rattle.stock.specs.Pages.{PageFacts, document_at}
@@ -20,7 +20,7 @@ pub record IsNext (old new : PageFacts) : Type 0 where
   pub recent : new.recent ≡ old.recent + 1
 
 pub record IsAnnounced (a : Advice) (old new : PageFacts) : Type 0 where
-  pub rows : IsAdded Expected (advised a) old.rows new.rows
+  pub rows : IsAdvised a.lines old.rows new.rows
   pub advices : new.advices ≡ put_advice (opened a) old.advices
   pub orders : new.orders ≡ old.orders
   pub documents : new.documents ≡ old.documents

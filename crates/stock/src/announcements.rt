@@ -1,4 +1,4 @@
-ghost use Rattle.std.specs.Prelude.{◌≡◌, ◌<◌, ◌++◌, ◌≤◌, [], ◌∷◌, List, None, true, IfOk, IfErr, length};
+ghost use Rattle.std.specs.Prelude.{◌≡◌, ◌<◌, ◌++◌, ◌≤◌, [], ◌∷◌, List, None, IfOk, IfErr, length};
 ghost use Rattle.profile.specs.declared.rules.Rules.TheVariants.{Two};
 ghost use Rattle.profile.specs.Limits.{most_lines, most_sets};
 ghost use Rattle.profile.specs.Events.{Event, Advised, advice_fault};
@@ -15,7 +15,7 @@ use crate::faults::advice_fault;
 use crate::known_advices::KnownAdvice;
 use crate::lines::advised;
 use crate::page::Page;
-use crate::rows::{Column, add_lines, touched};
+use crate::rows::{Column, add_lines, date_lines, touched};
 use crate::steps::{Change, Step, Stop};
 use sets_in::{Advice, Goods};
 use std::alloc::{AllocError, Global};
@@ -44,22 +44,24 @@ fn changes(alloc: Global, page: &Page, advice: &Advice) -> Result<Vec<Change>, A
     let rows = page.rows();
     let mut touched = touched(alloc, rows, &lines)?;
     add_lines(alloc, &mut touched, Column::Expected, &lines)?;
+    date_lines(alloc, &mut touched, set_lines)?;
     let mut changes = row_changes(alloc, rows, &touched)?;
     changes.push(Change::Advice(opened(alloc, advice, lines)?))?;
     Ok(changes)
 }
 
-/// Opens an advice: each of its lines is added to what is expected of its pair. The error is the trade fault at the least
-/// position (a known shipment number, a pair that stands twice, a W03 that isn't the sum), or want of memory.
+/// Opens an advice: each of its lines is added to what is expected of its pair, and gives a pair without a date of expiry its
+/// own, if it has one. The error is the trade fault at the least position (a known shipment number, a pair that stands twice
+/// or has another date, a W03 that isn't the sum), or want of memory.
 pub fn announce(alloc: Global, page: &Page, advice: &Advice) -> Result<Step, Stop>
     requires { page.now.recent < most_sets }
     ensures ok { IfOk result (λ step. (n : Named) (P : PageFacts) (es : List Event) → IsPart n page.now P → NamesAdvice n advice.now → Shows P es → (advice_fault es advice.now ≡ None) × Shows (put step.changes.items P) (es ++ Advised advice.now ∷ [])) }
-    ensures err { IfErr result (λ stop. (n : Named) (P : PageFacts) (es : List Event) → IsPart n page.now P → n.shipments advice.now.shipment ≡ true → Shows P es → StopsFor (advice_fault es advice.now) stop) }
+    ensures err { IfErr result (λ stop. (n : Named) (P : PageFacts) (es : List Event) → IsPart n page.now P → NamesAdvice n advice.now → Shows P es → StopsFor (advice_fault es advice.now) stop) }
     ensures changes { IfOk result (λ step. (n : Named) (P : PageFacts) → IsPart n page.now P → NamesAdvice n advice.now → step.changes.items ≡ advice_changes advice.now.shipment P (put step.changes.items P)) }
     ensures sound { IfOk result (λ step. IsSound (put step.changes.items page.now)) }
 {
     let is_known = page.has_advice(advice.shipment());
-    if let Some(fault) = advice_fault(advice, is_known) {
+    if let Some(fault) = advice_fault(alloc, advice, is_known, page.rows())? {
         return Err(Stop::Set(fault));
     }
     let changes = changes(alloc, page, advice)?;

@@ -1,11 +1,16 @@
-ghost use Rattle.std.specs.Prelude.{◌≡◌, ◌<◌, ◌-◌, ◌^◌, IfSome, [], sum_by, Option, option_map};
+ghost use Rattle.std.specs.Prelude.{◌≡◌, ◌<◌, ◌-◌, ◌^◌, IfOk, IfSome, List, [], sum_by, Option, find, option_map};
 ghost use Rattle.std.specs.List.{list_any};
 ghost use Rattle.profile.specs.Means as meant;
 ghost use Rattle.profile.specs.Events as events;
+ghost use Rattle.stock.specs.Keyed.{IsSorted};
+ghost use Rattle.stock.specs.Told.{AreRowsOf, told_date};
 ghost use Rattle.sets_in.specs.Limits.{HasFewLines, HasFewOrderLines};
 ghost use Rattle.tables.specs.Judged.{told};
 
+use crate::lots::new_line;
+use crate::rows::{Row, is_redated, place_of, placed};
 use sets_in::{Advice, AdviceLine, Order, OrderLine};
+use std::alloc::{AllocError, Global};
 use tables::SetFault;
 
 // A trade fault of a segment, at an element of this place.
@@ -20,37 +25,83 @@ fn trade_fault(segment: &'static [u8], position: u32, place: u32) -> SetFault<'s
     }
 }
 
-// Whether the two lines are of one pair.
-fn has_pair_of(line: &AdviceLine, other: &AdviceLine) -> bool
-    ensures { result ≡ events.same_advice_pair line.now other.now }
+// Whether one of the lines of which these are the rows is of the pair.
+fn is_among(seen: &[Row], item: &[u8], lot: &[u8]) -> bool
+    requires { IsSorted seen.now }
+    ensures { (lines : List meant.Line) → AreRowsOf lines seen.now → result ≡ list_any (events.is_pair item.now lot.now) lines }
 {
-    other.line.item == line.line.item && other.line.lot == line.line.lot
-}
-
-// Whether one of the lines is of the line's pair.
-fn is_pair_among(line: &AdviceLine, others: &[AdviceLine]) -> bool
-    ensures { result ≡ list_any (events.same_advice_pair line.now) others.now }
-{
-    for other in others {
-        if has_pair_of(line, other) {
-            return true;
-        }
+    match place_of(seen, item, lot) {
+        None => false,
+        Some(_) => true,
     }
-    false
 }
 
-// The position of the first line whose pair stood before in the set.
-fn repeated_pair(lines: &[AdviceLine]) -> Option<u32>
+// The position of the first line whose pair stood before in the set. The pairs of the lines before it are kept as rows, in
+// order, so that each is found by halves.
+fn repeated_pair(alloc: Global, lines: &[AdviceLine]) -> Result<Option<u32>, AllocError>
     requires { HasFewLines lines.now }
-    ensures room { IfSome result (λ n. n < 2 ^ 32 - 1) }
-    ensures first { result ≡ option_map (λ (l : meant.AdviceLine). l.position) (events.repeated events.same_advice_pair [] lines.now) }
+    ensures room { IfOk result (λ o. IfSome o (λ n. n < 2 ^ 32 - 1)) }
+    ensures first { IfOk result (λ o. o ≡ option_map (λ (l : meant.AdviceLine). l.position) (events.repeated events.same_advice_pair [] lines.now)) }
 {
-    for (i, line) in lines.iter().enumerate() {
-        if is_pair_among(line, &lines[..i]) {
+    let mut seen = Vec::new(alloc);
+    for line in lines {
+        let goods = &line.line;
+        if is_among(&seen, &goods.item, &goods.lot) {
+            return Ok(Some(line.position));
+        }
+        placed(alloc, &mut seen, goods)?;
+    }
+    Ok(None)
+}
+
+// The position of the first line with a date for a pair whose row has another.
+fn redated_pair(lines: &[AdviceLine], rows: &[Row]) -> Option<u32>
+    requires few { HasFewLines lines.now }
+    requires sorted { IsSorted rows.now }
+    ensures room { IfSome result (λ n. n < 2 ^ 32 - 1) }
+    ensures first { result ≡ option_map (λ (l : meant.AdviceLine). l.position) (find (events.is_redated (λ item lot. told_date item lot rows.now)) lines.now) }
+{
+    for line in lines {
+        if is_redated(rows, line) {
             return Some(line.position);
         }
     }
     None
+}
+
+// The fault at the lesser position, the first where they stand in one segment.
+fn sooner(
+    fault: Option<SetFault<'static>>,
+    other: Option<SetFault<'static>>,
+) -> Option<SetFault<'static>>
+    ensures { option_map told result ≡ events.sooner (option_map told fault.entry) (option_map told other.entry) }
+{
+    let Some(fault) = fault else {
+        return other;
+    };
+    let Some(other) = other else {
+        return Some(fault);
+    };
+    if fault.position <= other.position {
+        Some(fault)
+    } else {
+        Some(other)
+    }
+}
+
+// The fault of a pair: it stands twice in the advice (element 2 of its N9), or has another date (element 4).
+fn pair_fault(
+    alloc: Global,
+    advice: &Advice,
+    rows: &[Row],
+) -> Result<Option<SetFault<'static>>, AllocError>
+    requires { IsSorted rows.now }
+    ensures { IfOk result (λ f. option_map told f ≡ events.sooner (events.repeated_pair advice.now) (events.redated_pair (λ item lot. told_date item lot rows.now) advice.now)) }
+{
+    let lines = advice.lines();
+    let repeated = repeated_pair(alloc, lines)?.map(|position| trade_fault(b"N9", position + 1, 2));
+    let redated = redated_pair(lines, rows).map(|position| trade_fault(b"N9", position + 1, 4));
+    Ok(sooner(repeated, redated))
 }
 
 // The sum of the quantities of an advice.
@@ -66,46 +117,43 @@ fn advice_total(lines: &[AdviceLine]) -> u64
     total
 }
 
-/// The trade fault of an advice, at the least position: its shipment number is known, a pair stands twice in it, or W03
-/// isn't the sum.
-pub(crate) fn advice_fault(advice: &Advice, is_known: bool) -> Option<SetFault<'static>>
-    ensures { option_map told result ≡ events.advice_fault_where is_known advice.now }
+/// The trade fault of an advice, at the least position: its shipment number is known, a pair stands twice in it or has
+/// another date in its row, or W03 isn't the sum.
+pub(crate) fn advice_fault(
+    alloc: Global,
+    advice: &Advice,
+    is_known: bool,
+    rows: &[Row],
+) -> Result<Option<SetFault<'static>>, AllocError>
+    requires { IsSorted rows.now }
+    ensures { IfOk result (λ f. option_map told f ≡ events.advice_fault_where is_known (λ item lot. told_date item lot rows.now) advice.now) }
 {
     let lines = advice.lines();
     if is_known {
-        return Some(trade_fault(b"W06", 2, 4));
+        return Ok(Some(trade_fault(b"W06", 2, 4)));
     }
-    if let Some(position) = repeated_pair(lines) {
-        return Some(trade_fault(b"N9", position + 1, 2));
+    if let Some(fault) = pair_fault(alloc, advice, rows)? {
+        return Ok(Some(fault));
     }
     if advice_total(lines) != u64::from(advice.total()) {
-        return Some(trade_fault(b"W03", advice.total_position(), 1));
+        return Ok(Some(trade_fault(b"W03", advice.total_position(), 1)));
     }
-    None
+    Ok(None)
 }
 
-// Whether one of the lines is of the line's item.
-fn is_item_among(line: &OrderLine, others: &[OrderLine]) -> bool
-    ensures { result ≡ list_any (events.same_order_item line.now) others.now }
+// The position of the first line whose item stood before in the set. The items of the lines before it are kept as rows of no
+// lot, in order, so that each is found by halves.
+fn repeated_item(alloc: Global, lines: &[OrderLine]) -> Result<Option<u32>, AllocError>
+    ensures { IfOk result (λ o. o ≡ option_map (λ (l : meant.OrderLine). l.position) (events.repeated events.same_order_item [] lines.now)) }
 {
-    for other in others {
-        if line.item == other.item {
-            return true;
+    let mut seen = Vec::new(alloc);
+    for line in lines {
+        if is_among(&seen, &line.item, &[]) {
+            return Ok(Some(line.position));
         }
+        placed(alloc, &mut seen, &new_line(alloc, &line.item, &[], 0)?)?;
     }
-    false
-}
-
-// The position of the first line whose item stood before in the set.
-fn repeated_item(lines: &[OrderLine]) -> Option<u32>
-    ensures { result ≡ option_map (λ (l : meant.OrderLine). l.position) (events.repeated events.same_order_item [] lines.now) }
-{
-    for (i, line) in lines.iter().enumerate() {
-        if is_item_among(line, &lines[..i]) {
-            return Some(line.position);
-        }
-    }
-    None
+    Ok(None)
 }
 
 // The sum of the quantities of an order.
@@ -122,18 +170,22 @@ fn order_total(lines: &[OrderLine]) -> u64
 
 /// The trade fault of an order, at the least position: its number is known, an item stands twice in it, or W76 isn't the
 /// sum.
-pub(crate) fn order_fault(order: &Order, is_known: bool) -> Option<SetFault<'static>>
-    ensures { option_map told result ≡ events.order_fault_where is_known order.now }
+pub(crate) fn order_fault(
+    alloc: Global,
+    order: &Order,
+    is_known: bool,
+) -> Result<Option<SetFault<'static>>, AllocError>
+    ensures { IfOk result (λ f. option_map told f ≡ events.order_fault_where is_known order.now) }
 {
     let lines = order.lines();
     if is_known {
-        return Some(trade_fault(b"W05", 2, 2));
+        return Ok(Some(trade_fault(b"W05", 2, 2)));
     }
-    if let Some(position) = repeated_item(lines) {
-        return Some(trade_fault(b"W01", position, 5));
+    if let Some(position) = repeated_item(alloc, lines)? {
+        return Ok(Some(trade_fault(b"W01", position, 5)));
     }
     if order_total(lines) != u64::from(order.total()) {
-        return Some(trade_fault(b"W76", order.total_position(), 1));
+        return Ok(Some(trade_fault(b"W76", order.total_position(), 1)));
     }
-    None
+    Ok(None)
 }

@@ -1,6 +1,6 @@
-ghost use Rattle.std.specs.Prelude.{◌≡◌, ◌≤◌, ◌<◌, ℕ, true, slice_index_or, min, IfOk, OnOk, MatchOption, length};
+ghost use Rattle.std.specs.Prelude.{◌≡◌, ◌≤◌, ◌<◌, ℕ, true, slice_index_or, min, IfOk, OnOk, MatchOption, length, option_map};
 ghost use Rattle.std.specs.List.{insert};
-ghost use Rattle.profile.specs.Allotment.{ranks_before, may_have};
+ghost use Rattle.profile.specs.Allotment.{expires_before, counted_before, ranks_before, may_have};
 ghost use Rattle.profile.specs.Bytes.{comes_before};
 ghost use Rattle.profile.specs.Rows.{LotRow};
 ghost use Rattle.profile.specs.Lists.{placed, in_order};
@@ -8,23 +8,26 @@ ghost use Rattle.stock.specs.Keyed.{IsSorted};
 ghost use Rattle.stock.specs.Lots.{is_lot_of, rank_of, ranks_of, free_in, shares_in, all_shares_in};
 
 use crate::rows::{Column, Row, amount_of};
+use profile::Rules;
 use sets_in::{Goods, OrderLine};
 use std::alloc::{AllocError, Global};
 use std::marker::Model;
 
-// A lot with the number of the first count that named it.
+// A lot with its date, if it has one, and the number of the first count that named it.
 #[derive(Debug, Drop)]
 struct Ranked {
+    expiry: Option<Vec<u8>>,
     since: u32,
     lot: Vec<u8>,
 }
 
 impl Model for Ranked {
+    ghost use Rattle.std.specs.Prelude.{option_map};
     ghost use Rattle.profile.specs.Allotment.{Ranked};
 
     ghost Value = { Ranked };
 
-    ghost view = { λ r. record { since = r.since; lot = r.lot.items } };
+    ghost view = { λ r. record { expiry = option_map (λ v. v.items) r.expiry; since = r.since; lot = r.lot.items } };
 }
 
 impl Ranked {
@@ -32,6 +35,7 @@ impl Ranked {
         ensures { IfOk result (λ ranked. ranked ≡ rank_of row.now) }
     {
         Ok(Ranked {
+            expiry: copied_date(alloc, row)?,
             since: row.since,
             lot: row.lot.to_vec(alloc)?,
         })
@@ -43,21 +47,49 @@ impl Ranked {
         &self.lot
     }
 
-    fn comes_before(&self, other: &Ranked) -> bool
-        ensures { result ≡ ranks_before self.now other.now }
+    // Whether it expires before another, or has a date where the other has none.
+    fn expires_before(&self, other: &Ranked) -> bool
+        ensures { result ≡ expires_before self.now.expiry other.now.expiry }
     {
-        ranks_before(self.since, &self.lot, other.since, &other.lot)
+        match (&self.expiry, &other.expiry) {
+            (Some(date), Some(other)) => date.as_slice().cmp(&other.as_slice()).is_lt(),
+            (Some(_), None) => true,
+            (None, _) => false,
+        }
+    }
+
+    // Whether it was counted before another: by the first count that named it, then by its bytes.
+    fn counted_before(&self, other: &Ranked) -> bool
+        ensures { result ≡ counted_before self.now other.now }
+    {
+        if self.since == other.since {
+            return self.lot.as_slice().cmp(&other.lot.as_slice()).is_lt();
+        }
+        self.since < other.since
+    }
+
+    // Whether it is given before another: under rules 1 by its count, under rules 2 by its date before that.
+    fn comes_before(&self, other: &Ranked, rules: Rules) -> bool
+        ensures { result ≡ ranks_before rules self.now other.now }
+    {
+        match rules {
+            Rules::One => self.counted_before(other),
+            Rules::Two => {
+                self.expires_before(other)
+                    || !other.expires_before(self) && self.counted_before(other)
+            }
+        }
     }
 }
 
-// Whether a lot was counted before another: by the first count that named it, then by its bytes.
-fn ranks_before(since: u32, lot: &[u8], other_since: u32, other_lot: &[u8]) -> bool
-    ensures { result ≡ ranks_before (record { since = since; lot = lot.now }) (record { since = other_since; lot = other_lot.now }) }
+// A copy of the date of a row, if it has one.
+fn copied_date(alloc: Global, row: &Row) -> Result<Option<Vec<u8>>, AllocError>
+    ensures { IfOk result (λ date. option_map (λ v. v.items) date ≡ row.now.expiry) }
 {
-    if since == other_since {
-        return lot.cmp(&other_lot).is_lt();
+    match &row.expiry {
+        Some(date) => Ok(Some(date.to_vec(alloc)?)),
+        None => Ok(None),
     }
-    since < other_since
 }
 
 // Whether it is the row of a lot of the item that a count named.
@@ -68,14 +100,14 @@ fn is_lot_of(row: &Row, item: &[u8]) -> bool
 }
 
 // Where a lot belongs, if it isn't there.
-fn place_among(ranked: &[Ranked], new: &Ranked) -> Option<usize>
-    ensures { MatchOption result (placed ranks_before new.now ranked.now ≡ ranked.now) (λ i. (i ≤ length ranked.now) × (placed ranks_before new.now ranked.now ≡ insert ranked.now i new.now)) }
+fn place_among(ranked: &[Ranked], new: &Ranked, rules: Rules) -> Option<usize>
+    ensures { MatchOption result (placed (ranks_before rules) new.now ranked.now ≡ ranked.now) (λ i. (i ≤ length ranked.now) × (placed (ranks_before rules) new.now ranked.now ≡ insert ranked.now i new.now)) }
 {
     for (i, other) in ranked.iter().enumerate() {
-        if new.comes_before(other) {
+        if new.comes_before(other, rules) {
             return Some(i);
         }
-        if !other.comes_before(new) {
+        if !other.comes_before(new, rules) {
             return None;
         }
     }
@@ -83,10 +115,10 @@ fn place_among(ranked: &[Ranked], new: &Ranked) -> Option<usize>
 }
 
 // Puts a lot in its place.
-fn place(ranked: &mut Vec<Ranked>, new: Ranked) -> Result<(), AllocError>
-    ensures { OnOk result (ranked.new.items ≡ placed ranks_before new ranked.old.items) }
+fn place(ranked: &mut Vec<Ranked>, new: Ranked, rules: Rules) -> Result<(), AllocError>
+    ensures { OnOk result (ranked.new.items ≡ placed (ranks_before rules) new ranked.old.items) }
 {
-    if let Some(i) = place_among(ranked, &new) {
+    if let Some(i) = place_among(ranked, &new, rules) {
         ranked.insert(i, new)?;
     }
     Ok(())
@@ -109,23 +141,28 @@ fn item_end(rows: &[Row], item: &[u8]) -> usize
     rows.partition_point(|row| !row.is_behind_item(item))
 }
 
-// The lots of an item that a count named, the first counted first.
-fn lots(alloc: Global, rows: &[Row], item: &[u8]) -> Result<Vec<Ranked>, AllocError>
+// The lots of an item that a count named, in the order of the rules.
+fn lots(alloc: Global, rows: &[Row], item: &[u8], rules: Rules) -> Result<Vec<Ranked>, AllocError>
     requires { IsSorted rows.now }
-    ensures { IfOk result (λ lots. lots.items ≡ in_order ranks_before (ranks_of item.now rows.now)) }
+    ensures { IfOk result (λ lots. lots.items ≡ in_order (ranks_before rules) (ranks_of item.now rows.now)) }
 {
     let mut lots = Vec::new(alloc);
     for i in item_start(rows, item)..item_end(rows, item) {
         let row = &rows[i];
         if is_lot_of(row, item) {
-            place(&mut lots, Ranked::of(alloc, row)?)?;
+            place(&mut lots, Ranked::of(alloc, row)?, rules)?;
         }
     }
     Ok(lots)
 }
 
 // A line of so much of a pair.
-fn new_line(alloc: Global, item: &[u8], lot: &[u8], quantity: u32) -> Result<Goods, AllocError>
+pub(crate) fn new_line(
+    alloc: Global,
+    item: &[u8],
+    lot: &[u8],
+    quantity: u32,
+) -> Result<Goods, AllocError>
     ensures { IfOk result (λ line. line ≡ record { item = item.now; lot = lot.now; quantity = quantity }) }
 {
     Ok(Goods {
@@ -162,11 +199,16 @@ fn share_of(left: u32, free: u64) -> u32
 }
 
 // What a line of an order is given of each lot that it may have, 0 included.
-fn shares(alloc: Global, rows: &[Row], line: &OrderLine) -> Result<Vec<Goods>, AllocError>
+fn shares(
+    alloc: Global,
+    rows: &[Row],
+    line: &OrderLine,
+    rules: Rules,
+) -> Result<Vec<Goods>, AllocError>
     requires { IsSorted rows.now }
-    ensures { IfOk result (λ shares. shares.items ≡ shares_in rows.now line.now) }
+    ensures { IfOk result (λ shares. shares.items ≡ shares_in rules rows.now line.now) }
 {
-    let lots = lots(alloc, rows, &line.item)?;
+    let lots = lots(alloc, rows, &line.item, rules)?;
     let mut left = line.quantity;
     let mut shares = Vec::new(alloc);
     for ranked in &lots {
@@ -184,13 +226,14 @@ pub(crate) fn all_shares(
     alloc: Global,
     rows: &[Row],
     lines: &[OrderLine],
+    rules: Rules,
 ) -> Result<Vec<Goods>, AllocError>
     requires { IsSorted rows.now }
-    ensures { IfOk result (λ all. all.items ≡ all_shares_in rows.now lines.now) }
+    ensures { IfOk result (λ all. all.items ≡ all_shares_in rules rows.now lines.now) }
 {
     let mut all = Vec::new(alloc);
     for line in lines {
-        all.append(&mut shares(alloc, rows, line)?)?;
+        all.append(&mut shares(alloc, rows, line, rules)?)?;
     }
     Ok(all)
 }

@@ -1,4 +1,5 @@
 ghost use Rattle.std.specs.Prelude.{true, ◌≡◌, ◌<◌, ◌++◌, [], ◌∷◌, List, None, IfOk, IfErr, option_map};
+ghost use Rattle.profile.specs.declared.rules.Rules.{Rules};
 ghost use Rattle.profile.specs.Limits.{most_sets};
 ghost use Rattle.profile.specs.Allotment.{order_shares};
 ghost use Rattle.profile.specs.Events.{Event, Ordered, order_fault, repeated, same_order_item};
@@ -19,6 +20,7 @@ use crate::lots::all_shares;
 use crate::page::Page;
 use crate::rows::{Column, add_lines, touched};
 use crate::steps::{Change, Step, Stop};
+use profile::Rules;
 use sets_in::{Address, Goods, Order};
 use std::alloc::{AllocError, Global};
 
@@ -64,7 +66,7 @@ fn changes(
     requires room { page.now.recent < most_sets }
     requires unknown { order_at order.now.number page.now.orders ≡ None }
     requires once { repeated same_order_item [] order.now.lines ≡ None }
-    requires allotted { shares.now ≡ all_shares_in page.now.rows order.now.lines }
+    requires allotted { (r : Rules) × (shares.now ≡ all_shares_in r page.now.rows order.now.lines) }
     ensures made { IfOk result (λ changes. (n : Named) (P : PageFacts) → IsPart n page.now P → NamesOrder n order.now → IsReserved order.now shares.now P (put changes.items P)) }
     ensures exact { IfOk result (λ changes. (n : Named) (P : PageFacts) → IsPart n page.now P → NamesOrder n order.now → changes.items ≡ order_changes order.now.number P (put changes.items P)) }
     ensures sound { IfOk result (λ changes. IsSound (put changes.items page.now)) }
@@ -78,22 +80,23 @@ fn changes(
     Ok(changes)
 }
 
-/// Opens an order: each of its lines is given what is free of the lots that it may have, the lot that was counted first
-/// before the others, as far as it is wanted, and that is reserved. The error is the trade fault at the least position (a
-/// known order number, an item that stands twice, a W76 that isn't the sum), or want of memory.
-pub fn reserve(alloc: Global, page: &Page, order: &Order) -> Result<Step, Stop>
+/// Opens an order: each of its lines is given what is free of the lots that it may have, as far as it is wanted, and that is
+/// reserved. Under rules 1 the lot that was counted first comes before the others. Under rules 2 that is the lot that expires
+/// first, those without a date come last, and of one date the one that was counted first comes first. The error is the trade
+/// fault at the least position (a known order number, an item that stands twice, a W76 that isn't the sum), or want of memory.
+pub fn reserve(alloc: Global, page: &Page, order: &Order, rules: Rules) -> Result<Step, Stop>
     requires { page.now.recent < most_sets }
     ensures ok { IfOk result (λ step. (n : Named) (P : PageFacts) (es : List Event) → IsPart n page.now P → NamesOrder n order.now → Shows P es
-        → (order_fault es order.now ≡ None) × Shows (put step.changes.items P) (es ++ Ordered order.now (order_shares es order.now) ∷ [])) }
+        → (order_fault es order.now ≡ None) × Shows (put step.changes.items P) (es ++ Ordered order.now (order_shares rules es order.now) ∷ [])) }
     ensures err { IfErr result (λ stop. (n : Named) (P : PageFacts) (es : List Event) → IsPart n page.now P → n.orders order.now.number ≡ true → Shows P es → StopsFor (order_fault es order.now) stop) }
     ensures changes { IfOk result (λ step. (n : Named) (P : PageFacts) → IsPart n page.now P → NamesOrder n order.now → step.changes.items ≡ order_changes order.now.number P (put step.changes.items P)) }
     ensures sound { IfOk result (λ step. IsSound (put step.changes.items page.now)) }
 {
     let is_known = page.has_order(order.number());
-    if let Some(fault) = order_fault(order, is_known) {
+    if let Some(fault) = order_fault(alloc, order, is_known)? {
         return Err(Stop::Set(fault));
     }
-    let shares = all_shares(alloc, page.rows(), order.lines())?;
+    let shares = all_shares(alloc, page.rows(), order.lines(), rules)?;
     let changes = changes(alloc, page, order, &shares)?;
     Ok(Step { changes })
 }

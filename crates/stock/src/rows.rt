@@ -1,16 +1,16 @@
-ghost use Rattle.std.specs.Prelude.{◌≡◌, [], ◌∷◌, ◌≤◌, ◌<◌, ◌+◌, ◌^◌, ℕ, List, length, IfOk, OnOk, OnErr, MatchOption, IsSome, slice_index_or, if◌then◌else◌, cond, true, ◌&&◌};
+ghost use Rattle.std.specs.Prelude.{◌≡◌, [], ◌∷◌, ◌≤◌, ◌<◌, ◌+◌, ◌^◌, ℕ, List, length, map, IfOk, OnOk, OnErr, MatchOption, IsSome, slice_index_or, if◌then◌else◌, cond, true, ◌&&◌, option_map};
 ghost use Rattle.std.specs.List.{list_any};
 ghost use Rattle.profile.specs.Rows.{LotRow};
 ghost use Rattle.profile.specs.Bytes.{comes_before};
-ghost use Rattle.profile.specs.Events.{is_pair, quantity_of};
+ghost use Rattle.profile.specs.Events.{is_pair, quantity_of, is_other_date, is_redated};
 ghost use Rattle.profile.specs.Movements.{Column as Kind, Expected, OnHand, Reservation, Shipped};
 ghost use Rattle.stock.specs.Keyed.{key_before, row_key, put_row, IsSorted, IsRank};
-ghost use Rattle.stock.specs.Told.{is_row, told, one, since, amount, given, named_by, same_row, raised, lowered, marked, blank, with_on_hand};
+ghost use Rattle.stock.specs.Told.{is_row, told, told_date, one, since, amount, given, named_by, same_date, same_row, raised, lowered, marked, dated, blank, with_on_hand};
 ghost use Rattle.stock.specs.Touched.{IsTouched, IsTouchedBy};
-ghost use Rattle.stock.specs.Moved.{IsPlace, IsPlaced, IsAdded, IsTaken, IsMarked, IsCounted, IsRaised, IsShipped, IsSet};
+ghost use Rattle.stock.specs.Moved.{IsPlace, IsPlaced, IsAdded, IsTaken, IsMarked, IsDated, IsCounted, IsRaised, IsShipped, IsSet};
 ghost use Rattle.stock.specs.Columns.{column_of};
 
-use sets_in::Goods;
+use sets_in::{AdviceLine, Goods};
 use std::alloc::{AllocError, Global};
 use std::marker::Model;
 
@@ -30,6 +30,8 @@ pub struct Row {
     pub item: Vec<u8>,
     /// The lot, 1 to 12 bytes.
     pub lot: Vec<u8>,
+    /// The date on which it expires, eight digits CCYYMMDD: that in the first advice that gave the pair one.
+    pub expiry: Option<Vec<u8>>,
     /// The number of the first count that named the pair, or 0.
     pub since: u32,
     /// What is announced and not counted yet.
@@ -43,11 +45,12 @@ pub struct Row {
 }
 
 impl Model for Row {
+    ghost use Rattle.std.specs.Prelude.{option_map};
     ghost use Rattle.profile.specs.Rows.{LotRow};
 
     ghost Value = { LotRow };
 
-    ghost view = { λ r. record { item = r.item.items; lot = r.lot.items; since = r.since; expected = r.expected; on_hand = r.on_hand; reserved = r.reserved; shipped = r.shipped } };
+    ghost view = { λ r. record { item = r.item.items; lot = r.lot.items; expiry = option_map (λ v. v.items) r.expiry; since = r.since; expected = r.expected; on_hand = r.on_hand; reserved = r.reserved; shipped = r.shipped } };
 }
 
 impl Row {
@@ -89,12 +92,34 @@ impl Row {
         self.clone()
     }
 
+    // Whether another has the same date, or none has one.
+    fn has_date_of(&self, other: &Row) -> bool
+        ensures { result ≡ same_date self.now.expiry other.now.expiry }
+    {
+        match (&self.expiry, &other.expiry) {
+            (Some(date), Some(other)) => date.as_slice() == other.as_slice(),
+            (None, None) => true,
+            _ => false,
+        }
+    }
+
+    // Whether it has a date, and the line another.
+    fn is_redated(&self, line: &AdviceLine) -> bool
+        ensures { result ≡ is_other_date self.now.expiry line.now.expiry }
+    {
+        match (&self.expiry, &line.expiry) {
+            (Some(known), Some(date)) => known.as_slice() != date.as_slice(),
+            _ => false,
+        }
+    }
+
     // Whether another is the same.
     fn is_same(&self, other: &Row) -> bool
         ensures { result ≡ same_row self.now other.now }
     {
         self.item.as_slice() == other.item.as_slice()
             && self.lot.as_slice() == other.lot.as_slice()
+            && self.has_date_of(other)
             && self.since == other.since
             && self.expected == other.expected
             && self.on_hand == other.on_hand
@@ -109,6 +134,7 @@ impl Row {
         Ok(Row {
             item: line.item.to_vec(alloc)?,
             lot: line.lot.to_vec(alloc)?,
+            expiry: None,
             since: 0,
             expected: 0,
             on_hand: 0,
@@ -143,6 +169,16 @@ impl Row {
         }
     }
 
+    // Gives it the date of a line, if it has none.
+    fn date(&mut self, alloc: Global, line: &AdviceLine) -> Result<(), AllocError>
+        ensures { OnOk result (self.new ≡ dated line.now.expiry self.old) }
+    {
+        if self.expiry.is_none() {
+            self.expiry = copied_date(alloc, line)?;
+        }
+        Ok(())
+    }
+
     fn set_on_hand(&mut self, n: u32)
         ensures { self.new ≡ with_on_hand n self.old }
     {
@@ -171,6 +207,16 @@ impl Row {
             Column::Reservation => self.reserved -= n as u64,
             Column::Shipped => self.shipped -= n as u64,
         }
+    }
+}
+
+// A copy of the date of a line, if it gives one.
+fn copied_date(alloc: Global, line: &AdviceLine) -> Result<Option<Vec<u8>>, AllocError>
+    ensures { IfOk result (λ date. option_map (λ v. v.items) date ≡ line.now.expiry) }
+{
+    match &line.expiry {
+        Some(date) => Ok(Some(date.to_vec(alloc)?)),
+        None => Ok(None),
     }
 }
 
@@ -258,8 +304,20 @@ pub(crate) fn since_of(rows: &[Row], item: &[u8], lot: &[u8]) -> u32
     }
 }
 
+// Whether a line gives a date to a pair whose row has another.
+pub(crate) fn is_redated(rows: &[Row], line: &AdviceLine) -> bool
+    requires { IsSorted rows.now }
+    ensures { result ≡ is_redated (λ item lot. told_date item lot rows.now) line.now }
+{
+    let goods = &line.line;
+    match place_of(rows, &goods.item, &goods.lot) {
+        None => false,
+        Some(i) => rows[i].is_redated(line),
+    }
+}
+
 // The place of the line's row, which is made where there is none.
-fn placed(alloc: Global, rows: &mut Vec<Row>, line: &Goods) -> Result<usize, AllocError>
+pub(crate) fn placed(alloc: Global, rows: &mut Vec<Row>, line: &Goods) -> Result<usize, AllocError>
     requires { IsSorted rows.old.items }
     ensures { IfOk result (λ i. IsPlaced rows.old.items rows.new.items line.now i) }
 {
@@ -421,6 +479,36 @@ pub(crate) fn mark_lines(rows: &mut Vec<Row>, n: u32, lines: &[Goods])
     for line in lines {
         mark_line(rows, n, line);
     }
+}
+
+// Gives the line's row the date of the line, if it has none.
+fn date_line(alloc: Global, rows: &mut Vec<Row>, line: &AdviceLine) -> Result<(), AllocError>
+    requires sorted { IsSorted rows.old.items }
+    requires there { 1 ≤ told one line.now.line.item line.now.line.lot rows.old.items }
+    ensures { OnOk result (IsDated (line.now ∷ []) rows.old.items rows.new.items) }
+{
+    let goods = &line.line;
+    if let Some(i) = place_of(rows, &goods.item, &goods.lot) {
+        let row = &mut rows[i];
+        row.date(alloc, line)?;
+    }
+    Ok(())
+}
+
+// Gives the rows of the lines that have no date those of the lines.
+pub(crate) fn date_lines(
+    alloc: Global,
+    rows: &mut Vec<Row>,
+    lines: &[AdviceLine],
+) -> Result<(), AllocError>
+    requires sorted { IsSorted rows.old.items }
+    requires there { (item lot : List ℕ) → named_by (map (λ l. l.line) lines.now) item lot ≤ told one item lot rows.old.items }
+    ensures { OnOk result (IsDated lines.now rows.old.items rows.new.items) }
+{
+    for line in lines {
+        date_line(alloc, rows, line)?;
+    }
+    Ok(())
 }
 
 // Takes what was expected, adds the sheet to what is on hand, and numbers the sheet's rows.

@@ -2,12 +2,14 @@
 use Rattle.std.proofs.Common.{◌≡◌, ℕ, ◌<◌, ◌+◌, Bool, true, false, not, List, [], ◌∷◌, ◌++◌, length, take, drop, get_or, suc, zero, refl, sym, ap, ◌∙◌, subst, arith, Option, Some, None, option_map, append-nil}
 use Rattle.std.specs.Prelude.{◌&&◌, ◌==◌, if◌then◌else◌, find, bytes_eq}
 use Rattle.std.proofs.lemmas.Bool.{eqb-true}
+use Rattle.profile.specs.declared.rules.Rules.TheVariants.{Two}
+use Rattle.profile.specs.Rules.{rules_number}
 use Rattle.profile.specs.Header.{Who, who_eq}
 use Rattle.profile.specs.Register.{Entry, Known, known, own, mark, is_numbered}
 use Rattle.profile.specs.History.{history, after_entry}
 use Rattle.profile.specs.Decision as decided
 use Rattle.profile.specs.Decision.{standing, recalled}
-use Rattle.profile.specs.Tables.{number_of, TableRow, Number, Text, Blob, entry_row, entries_on}
+use Rattle.profile.specs.Tables.{number_of, TableRow, Number, Text, Blob, entry_row, entries_on, entry_rules_row, entry_rules_on}
 use Rattle.profile.specs.Header.{who_text, is_partner}
 use Rattle.profile.specs.Moments.{stamp}
 use Rattle.profile.specs.Limits.{most_entries}
@@ -205,12 +207,25 @@ rows_of before (e ∷ L) =
     ap (λ (rs : List TableRow). entry_row before e ∷ rs)
     (rows_of (before ++ e ∷ []) L ∙ ap (λ n. rows_from n (written_on (before ++ e ∷ []) L)) (one_longer before e))
 
-pub one_register : (V W : Who) (L M : List Entry) → IsLegal V L → IsLegal W M → all_written L ≡ all_written M → L ≡ M
+-- with the rules of each
+rules_from : ℕ → List Written → List TableRow
+rules_from n [] = []
+rules_from n (w ∷ ws) = (Number (n + 1) ∷ Number (rules_number w.rules) ∷ []) ∷ rules_from (n + 1) ws
+
+rules_of : (before L : List Entry) → entry_rules_on before L ≡ rules_from (length before) (written_on before L)
+unfolding rules_from
+rules_of before [] = refl
+rules_of before (e ∷ L) =
+    ap (λ (rs : List TableRow). entry_rules_row before e ∷ rs)
+    (rules_of (before ++ e ∷ []) L ∙ ap (λ n. rules_from n (written_on (before ++ e ∷ []) L)) (one_longer before e))
+
+pub one_register : (V W : Who) (L M : List Entry) → IsLegal Two V L → IsLegal Two W M → all_written L ≡ all_written M → L ≡ M
 one_register V W L M l m e =
     entry_table-determines V W L M l m (rows_of [] L ∙ ap (rows_from 0) e ∙ sym (rows_of [] M))
+    (rules_of [] L ∙ ap (rules_from 0) e ∙ sym (rules_of [] M))
 
-pub nothing_legal : (W : Who) → IsTrue (is_partner W) → IsLegal W []
-nothing_legal W h = record { commands = []; of_a_partner = h; can_be_given = refl; left = refl }
+pub nothing_legal : (W : Who) → IsTrue (is_partner W) → IsLegal Two W []
+nothing_legal W h = record { first = []; commands = []; of_a_partner = h; first_given = refl; given = refl; left = refl }
 
 -- one entry more that is written down
 pub written_more : (before L : List Entry) (e : Entry) → written_on before (L ++ e ∷ []) ≡ written_on before L ++ written (before ++ L) e ∷ []
@@ -234,15 +249,15 @@ Replays W page w p text = (h : History) (e : Entry) → IsBefore page h e → w 
     → is_entry e ≡ true → is_clean e.deed ≡ true → IsReplayed W h e p text
 
 pub replayed_at : (W : Who) (X : List Entry) (e : Entry) (behind : List Entry) (who : Who) (w : Written) (page : Option PageFacts) (p : PageFacts) (text : List ℕ)
-    → IsLegal W (X ++ e ∷ behind) → w ≡ written X e → e.who ≡ who → IsHeldFor page (standing (own X who)) → Replays W page w p text
+    → IsLegal Two W (X ++ e ∷ behind) → w ≡ written X e → e.who ≡ who → IsHeldFor page (standing (own X who)) → Replays W page w p text
     → IsReplayed W (history (own X e.who)) e p text
 replayed_at W X e behind who w page p text legal row same held replays =
-    let follow = legal_follow W (X ++ e ∷ behind) X e behind legal refl in
+    let follow = legal_follow Two W (X ++ e ∷ behind) X e behind legal refl in
     let at : IsHeldFor page (standing (own X e.who)) = subst (λ d. IsHeldFor page (standing (own X d))) (sym same) held in
     replays (history (own X e.who)) e (before_is page (own X e.who) e at follow.numbered) (written_behind X e w row) follow.few follow.good follow.clean
 
 pub text_at : (W : Who) (X : List Entry) (e : Entry) (behind : List Entry) (who : Who) (w : Written) (page : Option PageFacts) (p : PageFacts) (text : List ℕ)
-    → IsLegal W (X ++ e ∷ behind) → w ≡ written X e → e.who ≡ who → IsHeldFor page (standing (own X who)) → Replays W page w p text
+    → IsLegal Two W (X ++ e ∷ behind) → w ≡ written X e → e.who ≡ who → IsHeldFor page (standing (own X who)) → Replays W page w p text
     → text ≡ out W (own X e.who) e
 text_at W X e behind who w page p text legal row same held replays =
     (replayed_at W X e behind who w page p text legal row same held replays).outgoing ∙ sym (out-by W (own X e.who) e)
@@ -251,7 +266,7 @@ one_more : (i : ℕ) → i + 1 ≡ suc i
 one_more i = omega arith
 
 pub held_next : (W : Who) (L behind : List Entry) (i : ℕ) (w : Written) (who : Who) (page : Option PageFacts) (p : PageFacts) (text : List ℕ)
-    → IsLegal W (L ++ behind) → i < length (all_written L) → w ≡ get_or (all_written L) i w → who_eq w.who who ≡ true
+    → IsLegal Two W (L ++ behind) → i < length (all_written L) → w ≡ get_or (all_written L) i w → who_eq w.who who ≡ true
     → IsHeldFor page (standing (own (take i L) who)) → Replays W page w p text → IsHeldFor (Some p) (standing (own (take (i + 1) L) who))
 held_next W L behind i w who page p text legal lt is whose held replays =
     let t = there_on [] L i w lt is in
@@ -260,7 +275,7 @@ held_next W L behind i w who page p text legal lt is whose held replays =
     let of_e : w.who ≡ e.who = ap (λ (x : Written). x.who) t.1.row in
     let same : e.who ≡ who = sym of_e ∙ who_is w.who who whose in
     let all : L ++ behind ≡ X ++ e ∷ (drop (suc i) L ++ behind) = ap (λ (M : List Entry). M ++ behind) t.1.split ∙ assoc X e (drop (suc i) L) behind in
-    let r = replayed_at W X e (drop (suc i) L ++ behind) who w page p text (subst (IsLegal W) all legal) t.1.row same held replays in
+    let r = replayed_at W X e (drop (suc i) L ++ behind) who w page p text (subst (IsLegal Two W) all legal) t.1.row same held replays in
     let after : IsHeldFor (Some p) (standing (own X e.who ++ e ∷ [])) = held_after W (own X e.who) e p text r in
     let grown : own (take (i + 1) L) who ≡ own X e.who ++ e ∷ [] =
     ap (λ n. own (take n L) who) (one_more i) ∙ ap (λ (M : List Entry). own M who) t.1.more

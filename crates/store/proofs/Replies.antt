@@ -4,6 +4,8 @@ use Rattle.std.specs.Prelude.{◌==◌, if◌then◌else◌}
 use Rattle.std.specs.Cmp.Derive.{both_true}
 use Rattle.std.proofs.lemmas.List.Folds.{list_all-append}
 use Rattle.std.proofs.lemmas.Bool.{eqb-true}
+use Rattle.profile.specs.declared.rules.Rules.{Rules}
+use Rattle.profile.specs.declared.rules.Rules.TheVariants.{One, Two}
 use Rattle.profile.specs.Moments.{Moment, is_moment}
 use Rattle.profile.specs.Header.{Who, is_partner, sender, is_unreadable}
 use Rattle.profile.specs.Register.{Act, Command, Interchange, Enrol, Clerk, Entry, Deed, Enrolled, Received, Performed, Known, known, own, command_mark, ticket_mark, next_number, mark, canonical}
@@ -90,34 +92,34 @@ named_key c who key h = by_depositor (depositor_of c) refl h
 -- Accepted commands.
 
 -- the depositor of an accepted interchange is its sender
-pub accepted_owner : (W : Who) (L : List Entry) (c : Command) (t : Moment) → is_accepted (reply_to W L c t) ≡ true → own_of L c ≡ own L (entry_of c t).who
-accepted_owner W L (Interchange text) t h = by_test (not (is_unreadable text) && is_partner (sender text)) refl
+pub accepted_owner : (r : Rules) (W : Who) (L : List Entry) (c : Command) (t : Moment) → is_accepted (reply_to r W L c t) ≡ true → own_of L c ≡ own L (entry_of r c t).who
+accepted_owner r W L (Interchange text) t h = by_test (not (is_unreadable text) && is_partner (sender text)) refl
   where
     by_test : (b : Bool) → (not (is_unreadable text) && is_partner (sender text)) ≡ b → own_of L (Interchange text) ≡ own L (sender text)
     by_test true e = rw e refl
     by_test false e =
-        let alone : is_accepted (reply_to W L (Interchange text) t) ≡ false = rw e (of_a_stranger W text t) in
+        let alone : is_accepted (reply_to r W L (Interchange text) t) ≡ false = rw e (of_a_stranger r W text t) in
         absurd (cc)
-accepted_owner W L (Enrol w) t h = refl
-accepted_owner W L (Clerk w ticket act) t h = refl
+accepted_owner r W L (Enrol w) t h = refl
+accepted_owner r W L (Clerk w ticket act) t h = refl
 
-number_is : (L : List Entry) (c : Command) (t : Moment) → number_of L (entry_of c t) ≡ number_behind ((history (own L (entry_of c t).who)).numbered) c
-number_is L (Interchange text) t = sym (history-numbered (own L (sender text)))
-number_is L (Enrol w) t = refl
-number_is L (Clerk w ticket act) t = sym (history-numbered (own L w))
+number_is : (r : Rules) (L : List Entry) (c : Command) (t : Moment) → number_of L (entry_of r c t) ≡ number_behind ((history (own L (entry_of r c t).who)).numbered) c
+number_is r L (Interchange text) t = sym (history-numbered (own L (sender text)))
+number_is r L (Enrol w) t = refl
+number_is r L (Clerk w ticket act) t = sym (history-numbered (own L w))
 
 -- the entry of an accepted command as it is written down
-pub accepted_entry : (W : Who) (L : List Entry) (c : Command) (t : Moment) → is_accepted (reply_to W L c t) ≡ true
-    → written_as (number_behind ((history (own_of L c)).numbered) c) (entry_of c t) ≡ written L (entry_of c t)
-accepted_entry W L c t h =
-    ap (λ M. written_as (number_behind ((history M).numbered) c) (entry_of c t)) (accepted_owner W L c t h)
-    ∙ ap (λ n. written_as n (entry_of c t)) (sym (number_is L c t))
+pub accepted_entry : (r : Rules) (W : Who) (L : List Entry) (c : Command) (t : Moment) → is_accepted (reply_to r W L c t) ≡ true
+    → written_as (number_behind ((history (own_of L c)).numbered) c) (entry_of r c t) ≡ written L (entry_of r c t)
+accepted_entry r W L c t h =
+    ap (λ M. written_as (number_behind ((history M).numbered) c) (entry_of r c t)) (accepted_owner r W L c t h)
+    ∙ ap (λ n. written_as n (entry_of r c t)) (sym (number_is r L c t))
 
 -- the text of a reply
 abbrev text_in : Reply → List ℕ
 text_in (Accepted text) = text
 text_in (Stored text) = text
-text_in (Refused r text) = text
+text_in (Refused refusal text) = text
 
 accepted_out : (W : Who) (M : List Entry) (e : Entry) (text : List ℕ) → accepted W M e ≡ Accepted text → text ≡ out W M e
 accepted_out W M e text h = by_test (numbers_used_up M) refl
@@ -126,11 +128,11 @@ accepted_out W M e text h = by_test (numbers_used_up M) refl
     by_test true u = let k : accepted W M e ≡ Refused NumbersUsedUp [] = rw u refl in absurd (cc)
     by_test false u = let k : accepted W M e ≡ Accepted (out W M e) = rw u refl in ap text_in (sym h ∙ k)
 
-halted_out : (W : Who) (M : List Entry) (text : List ℕ) (t : Moment) (o : Option Halt) (answer : List ℕ)
-    → reply_to_halt W M text t o ≡ Accepted answer → answer ≡ out W M (interchange_entry text t)
-halted_out W M text t None answer h = accepted_out W M (interchange_entry text t) answer h
-halted_out W M text t (Some (Repeats k)) answer h = absurd (cc)
-halted_out W M text t (Some (Refuses r)) answer h = absurd (cc)
+halted_out : (r : Rules) (W : Who) (M : List Entry) (text : List ℕ) (t : Moment) (o : Option Halt) (answer : List ℕ)
+    → reply_to_halt r W M text t o ≡ Accepted answer → answer ≡ out W M (interchange_entry r text t)
+halted_out r W M text t None answer h = accepted_out W M (interchange_entry r text t) answer h
+halted_out r W M text t (Some (Repeats k)) answer h = absurd (cc)
+halted_out r W M text t (Some (Refuses refusal)) answer h = absurd (cc)
 
 enrolled_out : (M : List Entry) (text : List ℕ) → enrol_reply M ≡ Accepted text → text ≡ []
 enrolled_out M text h = by_test (length M == 0) refl
@@ -141,65 +143,67 @@ enrolled_out M text h = by_test (length M == 0) refl
 
 performed_out : (W : Who) (M : List Entry) (e : Entry) (o : Result Event Refusal) (text : List ℕ) → accepted_act W M e o ≡ Accepted text → text ≡ out W M e
 performed_out W M e (Ok event) text h = accepted_out W M e text h
-performed_out W M e (Err r) text h = absurd (cc)
+performed_out W M e (Err refusal) text h = absurd (cc)
 
-known_out : (W : Who) (act : Act) (before : List Entry) (w : Who) (t : Moment) (d : Deed) (text : List ℕ)
-    → known_ticket W act (record { before = before; entry = record { who = w; moment = t; deed = d } }) ≡ Accepted text → ⊥
-known_out W act before w t Enrolled text h = absurd (cc)
-known_out W act before w t (Received bytes) text h = absurd (cc)
-known_out W act before w t (Performed ticket done) text h = by_test (bytes_eq (canonical done) (canonical act)) refl
+known_out : (W : Who) (act : Act) (before : List Entry) (w : Who) (t : Moment) (d : Deed) (q : Rules) (text : List ℕ)
+    → known_ticket W act (record { before = before; entry = record { who = w; moment = t; deed = d; rules = q } }) ≡ Accepted text → ⊥
+known_out W act before w t Enrolled q text h = absurd (cc)
+known_out W act before w t (Received bytes) q text h = absurd (cc)
+known_out W act before w t (Performed ticket done) q text h = by_test (bytes_eq (canonical done) (canonical act)) refl
   where
     by_test : (b : Bool) → bytes_eq (canonical done) (canonical act) ≡ b → ⊥
     by_test true u =
-        let k : known_ticket W act (record { before = before; entry = record { who = w; moment = t; deed = Performed ticket done } })
-        ≡ Stored (stored W (record { before = before; entry = record { who = w; moment = t; deed = Performed ticket done } })) = rw u refl in absurd (cc)
+        let k : known_ticket W act (record { before = before; entry = record { who = w; moment = t; deed = Performed ticket done; rules = q } })
+        ≡ Stored (stored W (record { before = before; entry = record { who = w; moment = t; deed = Performed ticket done; rules = q } })) = rw u refl in absurd (cc)
     by_test false u =
-        let k : known_ticket W act (record { before = before; entry = record { who = w; moment = t; deed = Performed ticket done } }) ≡ Refused TicketUsed [] = rw u refl in absurd (cc)
+        let k : known_ticket W act (record { before = before; entry = record { who = w; moment = t; deed = Performed ticket done; rules = q } }) ≡ Refused TicketUsed [] = rw u refl in absurd (cc)
 
-ticket_out : (W : Who) (M : List Entry) (w : Who) (ticket : List ℕ) (act : Act) (t : Moment) (o : Option Known) (text : List ℕ)
-    → by_ticket W M w ticket act t o ≡ Accepted text → text ≡ out W M (clerk_entry w ticket act t)
-ticket_out W M w ticket act t (Some k) text h = absurd (known_out W act k.before k.entry.who k.entry.moment k.entry.deed text h)
-ticket_out W M w ticket act t None text h = performed_out W M (clerk_entry w ticket act t) (performed (events M) (next_number M) act) text h
+ticket_out : (r : Rules) (W : Who) (M : List Entry) (w : Who) (ticket : List ℕ) (act : Act) (t : Moment) (o : Option Known) (text : List ℕ)
+    → by_ticket r W M w ticket act t o ≡ Accepted text → text ≡ out W M (clerk_entry r w ticket act t)
+ticket_out r W M w ticket act t (Some k) text h = absurd (known_out W act k.before k.entry.who k.entry.moment k.entry.deed k.entry.rules text h)
+ticket_out r W M w ticket act t None text h = performed_out W M (clerk_entry r w ticket act t) (performed (events M) (next_number M) act) text h
 
 -- the answer to an accepted command is what goes out for its entry
-pub accepted_text : (W : Who) (M : List Entry) (c : Command) (t : Moment) (text : List ℕ) → reply W M c t ≡ Accepted text → text ≡ out W M (entry_of c t)
-accepted_text W M (Interchange bytes) t text h = halted_out W M bytes t (halt W M bytes) text h
-accepted_text W M (Enrol w) t text h = enrolled_out M text h
-accepted_text W M (Clerk w ticket act) t text h = by_test (length M == 0) refl
+pub accepted_text : (r : Rules) (W : Who) (M : List Entry) (c : Command) (t : Moment) (text : List ℕ) → reply r W M c t ≡ Accepted text → text ≡ out W M (entry_of r c t)
+accepted_text r W M (Interchange bytes) t text h = halted_out r W M bytes t (halt W M bytes) text h
+accepted_text r W M (Enrol w) t text h = enrolled_out M text h
+accepted_text r W M (Clerk w ticket act) t text h = by_test (length M == 0) refl
   where
-    by_test : (b : Bool) → (length M == 0) ≡ b → text ≡ out W M (clerk_entry w ticket act t)
-    by_test true u = let k : reply W M (Clerk w ticket act) t ≡ Refused UnknownDepositor [] = rw u refl in absurd (cc)
+    by_test : (b : Bool) → (length M == 0) ≡ b → text ≡ out W M (clerk_entry r w ticket act t)
+    by_test true u = let k : reply r W M (Clerk w ticket act) t ≡ Refused UnknownDepositor [] = rw u refl in absurd (cc)
     by_test false u =
-        let k : reply W M (Clerk w ticket act) t ≡ by_ticket W M w ticket act t (known (ticket_mark ticket) M) = rw u refl in
-        ticket_out W M w ticket act t (known (ticket_mark ticket) M) text (sym k ∙ h)
+        let k : reply r W M (Clerk w ticket act) t ≡ by_ticket r W M w ticket act t (known (ticket_mark ticket) M) = rw u refl in
+        ticket_out r W M w ticket act t (known (ticket_mark ticket) M) text (sym k ∙ h)
 
 -- Registers.
 
-pub after_accepted : (W : Who) (L : List Entry) (c : Command) (t : Moment) → is_accepted (reply_to W L c t) ≡ true → after W L (c, t) ≡ L ++ entry_of c t ∷ []
-after_accepted W L c t h = rw h refl
+pub after_accepted : (r : Rules) (W : Who) (L : List Entry) (c : Command) (t : Moment) → is_accepted (reply_to r W L c t) ≡ true → after r W L (c, t) ≡ L ++ entry_of r c t ∷ []
+after_accepted r W L c t h = rw h refl
 
-pub after_other : (W : Who) (L : List Entry) (c : Command) (t : Moment) → is_accepted (reply_to W L c t) ≡ false → after W L (c, t) ≡ L
-after_other W L c t h = rw h refl
+pub after_other : (r : Rules) (W : Who) (L : List Entry) (c : Command) (t : Moment) → is_accepted (reply_to r W L c t) ≡ false → after r W L (c, t) ≡ L
+after_other r W L c t h = rw h refl
 
-pub accepted_on-more : (W : Who) (L : List Entry) (cs : List (Command × Moment)) (c : Command × Moment)
-    → accepted_on W L (cs ++ c ∷ []) ≡ after W (accepted_on W L cs) c
-accepted_on-more W L [] c = refl
-accepted_on-more W L (d ∷ cs) c = accepted_on-more W (after W L d) cs c
+pub accepted_on-more : (r : Rules) (W : Who) (L : List Entry) (cs : List (Command × Moment)) (c : Command × Moment)
+    → accepted_on r W L (cs ++ c ∷ []) ≡ after r W (accepted_on r W L cs) c
+accepted_on-more r W L [] c = refl
+accepted_on-more r W L (d ∷ cs) c = accepted_on-more r W (after r W L d) cs c
 
-pub replies_on-more : (W : Who) (L : List Entry) (cs : List (Command × Moment)) (c : Command × Moment)
-    → replies_on W L (cs ++ c ∷ []) ≡ replies_on W L cs ++ reply_to W (accepted_on W L cs) c.0 c.1 ∷ []
-replies_on-more W L [] c = refl
-replies_on-more W L (d ∷ cs) c = ap (λ rs. reply_to W L d.0 d.1 ∷ rs) (replies_on-more W (after W L d) cs c)
+pub replies_on-more : (r : Rules) (W : Who) (L : List Entry) (cs : List (Command × Moment)) (c : Command × Moment)
+    → replies_on r W L (cs ++ c ∷ []) ≡ replies_on r W L cs ++ reply_to r W (accepted_on r W L cs) c.0 c.1 ∷ []
+replies_on-more r W L [] c = refl
+replies_on-more r W L (d ∷ cs) c = ap (λ rs. reply_to r W L d.0 d.1 ∷ rs) (replies_on-more r W (after r W L d) cs c)
 
 -- a register stays legal
-pub legal_after : (W : Who) (L : List Entry) (c : Command) (t : Moment) → (is_command c && is_moment t) ≡ true → IsLegal W L → IsLegal W (after W L (c, t))
-legal_after W L c t given l = record {
+pub legal_after : (r : Rules) (W : Who) (L : List Entry) (c : Command) (t : Moment) → (is_command r c && is_moment t) ≡ true → IsLegal r W L → IsLegal r W (after r W L (c, t))
+legal_after r W L c t given l = record {
+  first = l.first;
   commands = l.commands ++ (c, t) ∷ [];
   of_a_partner = l.of_a_partner;
-  can_be_given =
-      list_all-append (λ (d : Command × Moment). is_command d.0 && is_moment d.1) l.commands ((c, t) ∷ [])
-      ∙ both_true l.can_be_given (both_true given refl);
-  left = ap (λ (M : List Entry). after W M (c, t)) l.left ∙ sym (accepted_on-more W [] l.commands (c, t));
+  first_given = l.first_given;
+  given =
+      list_all-append (λ (d : Command × Moment). is_command r d.0 && is_moment d.1) l.commands ((c, t) ∷ [])
+      ∙ both_true l.given (both_true given refl);
+  left = ap (λ (M : List Entry). after r W M (c, t)) l.left ∙ sym (accepted_on-more r W (accepted_on One W [] l.first) l.commands (c, t));
 }
 
 -- What is recalled under a key is known under it.
@@ -249,58 +253,59 @@ numbered_by c (Some p) M false e h = h.1.part.entries ∙ h.2.entries
 numbered_is : (c : Command) (b : Option (Bor PageFacts)) (M : List Entry) → StandsFor c b (standing M) → entries_of b ≡ (history M).numbered
 numbered_is c b M h = numbered_by c b M (length M == 0) refl h
 
-pub decided : (W : Who) (L : List Entry) (c : Command) (t : Moment) (d : Decision) (b : Option (Bor PageFacts)) (r : Option Recalled)
-    → IsHeld (need_of c) (option_copied b) (standing (own_of L c)) → IsRecalled r (recalled W (command_mark c) (own_of L c))
-    → ((h : Option History) (k : Option meant.Recalled) → IsGiven b r c h k → IsReply (entries_of b) c t (reply_by W h k c t) d)
-    → IsDecided W L c t d
-decided W L c t d b r page there decides =
+pub decided : (r : Rules) (W : Who) (L : List Entry) (c : Command) (t : Moment) (d : Decision) (b : Option (Bor PageFacts)) (k : Option Recalled)
+    → IsHeld (need_of c) (option_copied b) (standing (own_of L c)) → IsRecalled k (recalled W (command_mark c) (own_of L c))
+    → ((h : Option History) (o : Option meant.Recalled) → IsGiven b k c h o → IsReply r (entries_of b) c t (reply_by r W h o c t) d)
+    → IsDecided r W L c t d
+decided r W L c t d b k page there decides =
     let M = own_of L c in
     let stands = stands_from c b (standing M) page in
-    let given : IsGiven b r c (standing M) (recalled W (command_mark c) M) = record {
+    let given : IsGiven b k c (standing M) (recalled W (command_mark c) M) = record {
       page = stands;
       known = there;
       under = recalled_under W (command_mark c) M;
       stranger = λ none. ap standing (unnamed L c none);
     } in
     let replied = decides (standing M) (recalled W (command_mark c) M) given in
-    subst (λ n. IsReply n c t (reply_to W L c t) d) (numbered_is c b M stands)
-    (subst (λ a. IsReply (entries_of b) c t a d) (sym (reply-by W M c t)) replied)
+    subst (λ n. IsReply r n c t (reply_to r W L c t) d) (numbered_is c b M stands)
+    (subst (λ a. IsReply r (entries_of b) c t a d) (sym (reply-by r W M c t)) replied)
 
 -- what is recalled of the same entries, under the same key, in the same house
-pub recalled_at : {V W : Who} {k key : List ℕ} {M N : List Entry} (r : Option Recalled) → V ≡ W → key ≡ k → N ≡ M
-    → IsRecalled r (recalled V k M) → IsRecalled r (recalled W key N)
-recalled_at {V} {W} {k} {key} {M} {N} r house same whose h =
-    subst (λ X. IsRecalled r (recalled X key N)) house
-    (subst (λ x. IsRecalled r (recalled V x N)) (sym same) (subst (λ X. IsRecalled r (recalled V k X)) (sym whose) h))
+pub recalled_at : {V W : Who} {k key : List ℕ} {M N : List Entry} (found : Option Recalled) → V ≡ W → key ≡ k → N ≡ M
+    → IsRecalled found (recalled V k M) → IsRecalled found (recalled W key N)
+recalled_at {V} {W} {k} {key} {M} {N} found house same whose h =
+    subst (λ X. IsRecalled found (recalled X key N)) house
+    (subst (λ x. IsRecalled found (recalled V x N)) (sym same) (subst (λ X. IsRecalled found (recalled V k X)) (sym whose) h))
 
 -- What is appended for an accepted command.
 
-accepted_is : (W : Who) (L : List Entry) (c : Command) (t : Moment) (text : List ℕ) → reply_to W L c t ≡ Accepted text → is_accepted (reply_to W L c t) ≡ true
-accepted_is W L c t text h = ap is_accepted h
+accepted_is : (r : Rules) (W : Who) (L : List Entry) (c : Command) (t : Moment) (text : List ℕ) → reply_to r W L c t ≡ Accepted text → is_accepted (reply_to r W L c t) ≡ true
+accepted_is r W L c t text h = ap is_accepted h
 
-pub next_is : (W : Who) (L : List Entry) (c : Command) (t : Moment) (row : Written) (changes : List Change) (text : List ℕ) → IsLegal W L → (is_command c && is_moment t) ≡ true
-    → reply_to W L c t ≡ Accepted text → row ≡ written_as (number_behind ((history (own_of L c)).numbered) c) (entry_of c t)
-    → (IsLegal W L → IsLegal W (L ++ entry_of c t ∷ []) → LeadOn W L (entry_of c t) (table_changes (entry_of c t).who changes))
-    → IsNext W L (entry_of c t) row changes text
-next_is W L c t row changes text legal given accepts is leads =
-    let taken = accepted_is W L c t text accepts in
-    let behind : IsLegal W (L ++ entry_of c t ∷ []) = subst (IsLegal W) (after_accepted W L c t taken) (legal_after W L c t given legal) in
+pub next_is : (r : Rules) (W : Who) (L : List Entry) (c : Command) (t : Moment) (row : Written) (changes : List Change) (text : List ℕ)
+    → IsLegal Two W L → IsLegal Two W (after r W L (c, t))
+    → reply_to r W L c t ≡ Accepted text → row ≡ written_as (number_behind ((history (own_of L c)).numbered) c) (entry_of r c t)
+    → ((v : Rules) → IsLegal v W L → IsLegal v W (L ++ entry_of r c t ∷ []) → LeadOn v W L (entry_of r c t) (table_changes (entry_of r c t).who changes))
+    → IsNext W L (entry_of r c t) row changes text
+next_is r W L c t row changes text legal later accepts is leads =
+    let taken = accepted_is r W L c t text accepts in
+    let behind : IsLegal Two W (L ++ entry_of r c t ∷ []) = subst (IsLegal Two W) (after_accepted r W L c t taken) later in
     record {
-      entry = is ∙ accepted_entry W L c t taken;
+      entry = is ∙ accepted_entry r W L c t taken;
       legal = behind;
-      leads = leads legal behind;
-      outgoing = accepted_text W (own_of L c) c t text accepts ∙ ap (λ M. out W M (entry_of c t)) (accepted_owner W L c t taken);
+      leads = leads Two legal behind;
+      outgoing = accepted_text r W (own_of L c) c t text accepts ∙ ap (λ M. out W M (entry_of r c t)) (accepted_owner r W L c t taken);
     }
 
 -- the register after a command that was answered so
-pub behind_accepted : (W : Who) (L : List Entry) (c : Command) (t : Moment) (text : List ℕ) → reply_to W L c t ≡ Accepted text → L ++ entry_of c t ∷ [] ≡ after W L (c, t)
-behind_accepted W L c t text h = sym (after_accepted W L c t (accepted_is W L c t text h))
+pub behind_accepted : (r : Rules) (W : Who) (L : List Entry) (c : Command) (t : Moment) (text : List ℕ) → reply_to r W L c t ≡ Accepted text → L ++ entry_of r c t ∷ [] ≡ after r W L (c, t)
+behind_accepted r W L c t text h = sym (after_accepted r W L c t (accepted_is r W L c t text h))
 
-pub behind_stored : (W : Who) (L : List Entry) (c : Command) (t : Moment) (text : List ℕ) → reply_to W L c t ≡ Stored text → L ≡ after W L (c, t)
-behind_stored W L c t text h = sym (after_other W L c t (ap is_accepted h))
+pub behind_stored : (r : Rules) (W : Who) (L : List Entry) (c : Command) (t : Moment) (text : List ℕ) → reply_to r W L c t ≡ Stored text → L ≡ after r W L (c, t)
+behind_stored r W L c t text h = sym (after_other r W L c t (ap is_accepted h))
 
-pub behind_refused : (W : Who) (L : List Entry) (c : Command) (t : Moment) (r : Refusal) (text : List ℕ) → reply_to W L c t ≡ Refused r text → L ≡ after W L (c, t)
-behind_refused W L c t r text h = sym (after_other W L c t (ap is_accepted h))
+pub behind_refused : (r : Rules) (W : Who) (L : List Entry) (c : Command) (t : Moment) (refusal : Refusal) (text : List ℕ) → reply_to r W L c t ≡ Refused refusal text → L ≡ after r W L (c, t)
+behind_refused r W L c t refusal text h = sym (after_other r W L c t (ap is_accepted h))
 
 pub next_at : {V W : Who} {L : List Entry} {e : Entry} {row : Written} {changes given : List Change} {text said : List ℕ} → V ≡ W → changes ≡ given → text ≡ said
     → IsNext V L e row changes text → IsNext W L e row given said
@@ -320,44 +325,44 @@ asked_more : (cs : List (Asking × Moment)) (i : ℕ) (d : Asking × Moment) →
 asked_more cs i d lt = let one : i + 1 ≡ suc i = omega arith in ap (λ n. take n (all_asked cs)) one ∙ asked_suc cs i d lt
 
 -- the register and the replies after one command more
-accepted_more : (W : Who) (L : List Entry) (cs : List (Asking × Moment)) (i : ℕ) (d : Asking × Moment) → i < length cs
-    → after W (accepted_on W L (take i (all_asked cs))) (asked_at (get_or cs i d)) ≡ accepted_on W L (take (i + 1) (all_asked cs))
-accepted_more W L cs i d lt = sym (ap (accepted_on W L) (asked_more cs i d lt) ∙ accepted_on-more W L (take i (all_asked cs)) (asked_at (get_or cs i d)))
+accepted_more : (r : Rules) (W : Who) (L : List Entry) (cs : List (Asking × Moment)) (i : ℕ) (d : Asking × Moment) → i < length cs
+    → after r W (accepted_on r W L (take i (all_asked cs))) (asked_at (get_or cs i d)) ≡ accepted_on r W L (take (i + 1) (all_asked cs))
+accepted_more r W L cs i d lt = sym (ap (accepted_on r W L) (asked_more cs i d lt) ∙ accepted_on-more r W L (take i (all_asked cs)) (asked_at (get_or cs i d)))
 
-replies_more : (W : Who) (L : List Entry) (cs : List (Asking × Moment)) (i : ℕ) (d : Asking × Moment) → i < length cs
-    → replies_on W L (take i (all_asked cs)) ++ reply_to W (accepted_on W L (take i (all_asked cs))) (asked (get_or cs i d).0) ((get_or cs i d).1) ∷ []
-    ≡ replies_on W L (take (i + 1) (all_asked cs))
-replies_more W L cs i d lt = sym (ap (replies_on W L) (asked_more cs i d lt) ∙ replies_on-more W L (take i (all_asked cs)) (asked_at (get_or cs i d)))
+replies_more : (r : Rules) (W : Who) (L : List Entry) (cs : List (Asking × Moment)) (i : ℕ) (d : Asking × Moment) → i < length cs
+    → replies_on r W L (take i (all_asked cs)) ++ reply_to r W (accepted_on r W L (take i (all_asked cs))) (asked (get_or cs i d).0) ((get_or cs i d).1) ∷ []
+    ≡ replies_on r W L (take (i + 1) (all_asked cs))
+replies_more r W L cs i d lt = sym (ap (replies_on r W L) (asked_more cs i d lt) ∙ replies_on-more r W L (take i (all_asked cs)) (asked_at (get_or cs i d)))
 
 -- what one command more leaves, where another call names the house
-moved : (V W : Who) (L : List Entry) (cs : List (Asking × Moment)) (i : ℕ) (item : Asking × Moment) → i < length cs → item ≡ get_or cs i item → V ≡ W
-    → after V (accepted_on W L (take i (all_asked cs))) (asked_at item) ≡ accepted_on W L (take (i + 1) (all_asked cs))
-moved V W L cs i item lt is house =
-    ap (λ U. after U (accepted_on W L (take i (all_asked cs))) (asked_at item)) house
-    ∙ ap (λ x. after W (accepted_on W L (take i (all_asked cs))) (asked_at x)) is
-    ∙ accepted_more W L cs i item lt
+moved : (r : Rules) (V W : Who) (L : List Entry) (cs : List (Asking × Moment)) (i : ℕ) (item : Asking × Moment) → i < length cs → item ≡ get_or cs i item → V ≡ W
+    → after r V (accepted_on r W L (take i (all_asked cs))) (asked_at item) ≡ accepted_on r W L (take (i + 1) (all_asked cs))
+moved r V W L cs i item lt is house =
+    ap (λ U. after r U (accepted_on r W L (take i (all_asked cs))) (asked_at item)) house
+    ∙ ap (λ x. after r W (accepted_on r W L (take i (all_asked cs))) (asked_at x)) is
+    ∙ accepted_more r W L cs i item lt
 
-pub next_usable : (s : Standing) (V W : Who) (L : List Entry) (cs : List (Asking × Moment)) (i : ℕ) (item : Asking × Moment) → i < length cs → item ≡ get_or cs i item → V ≡ W
-    → IsUsable s (after V (accepted_on W L (take i (all_asked cs))) (asked_at item)) → IsUsable s (accepted_on W L (take (i + 1) (all_asked cs)))
-next_usable s V W L cs i item lt is house h =
-    subst (IsUsable s) (moved V W L cs i item lt is house) h
+pub next_usable : (r : Rules) (s : Standing) (V W : Who) (L : List Entry) (cs : List (Asking × Moment)) (i : ℕ) (item : Asking × Moment) → i < length cs → item ≡ get_or cs i item → V ≡ W
+    → IsUsable s (after r V (accepted_on r W L (take i (all_asked cs))) (asked_at item)) → IsUsable s (accepted_on r W L (take (i + 1) (all_asked cs)))
+next_usable r s V W L cs i item lt is house h =
+    subst (IsUsable s) (moved r V W L cs i item lt is house) h
 
-pub next_left : (s : Standing) (V W : Who) (L : List Entry) (cs : List (Asking × Moment)) (i n : ℕ) (item : Asking × Moment) → i < length cs → item ≡ get_or cs i item → V ≡ W → n ≡ i
-    → LeavesEither s (accepted_on W L (take i (all_asked cs))) (after V (accepted_on W L (take i (all_asked cs))) (asked_at item))
-    → LeavesEither s (accepted_on W L (take n (all_asked cs))) (accepted_on W L (take (n + 1) (all_asked cs)))
-next_left s V W L cs i n item lt is house count h =
-    subst (λ m. LeavesEither s (accepted_on W L (take m (all_asked cs))) (accepted_on W L (take (m + 1) (all_asked cs)))) (sym count)
-    (subst (λ M. LeavesEither s (accepted_on W L (take i (all_asked cs))) M) (moved V W L cs i item lt is house) h)
+pub next_left : (r : Rules) (s : Standing) (V W : Who) (L : List Entry) (cs : List (Asking × Moment)) (i n : ℕ) (item : Asking × Moment) → i < length cs → item ≡ get_or cs i item → V ≡ W → n ≡ i
+    → LeavesEither s (accepted_on r W L (take i (all_asked cs))) (after r V (accepted_on r W L (take i (all_asked cs))) (asked_at item))
+    → LeavesEither s (accepted_on r W L (take n (all_asked cs))) (accepted_on r W L (take (n + 1) (all_asked cs)))
+next_left r s V W L cs i n item lt is house count h =
+    subst (λ m. LeavesEither s (accepted_on r W L (take m (all_asked cs))) (accepted_on r W L (take (m + 1) (all_asked cs)))) (sym count)
+    (subst (λ M. LeavesEither s (accepted_on r W L (take i (all_asked cs))) M) (moved r V W L cs i item lt is house) h)
 
-pub next_told : (old new : List Reply) (V W : Who) (L : List Entry) (cs : List (Asking × Moment)) (i : ℕ) (item : Asking × Moment) → i < length cs → item ≡ get_or cs i item → V ≡ W
-    → old ≡ replies_on W L (take i (all_asked cs))
-    → new ≡ old ++ reply_to V (accepted_on W L (take i (all_asked cs))) (asked item.0) (item.1) ∷ []
-    → new ≡ replies_on W L (take (i + 1) (all_asked cs))
-next_told old new V W L cs i item lt is house before h =
-    h ∙ ap (λ rs. rs ++ reply_to V (accepted_on W L (take i (all_asked cs))) (asked item.0) (item.1) ∷ []) before
-    ∙ ap (λ U. replies_on W L (take i (all_asked cs)) ++ reply_to U (accepted_on W L (take i (all_asked cs))) (asked item.0) (item.1) ∷ []) house
-    ∙ ap (λ (x : Asking × Moment). replies_on W L (take i (all_asked cs)) ++ reply_to W (accepted_on W L (take i (all_asked cs))) (asked x.0) (x.1) ∷ []) is
-    ∙ replies_more W L cs i item lt
+pub next_told : (r : Rules) (old new : List Reply) (V W : Who) (L : List Entry) (cs : List (Asking × Moment)) (i : ℕ) (item : Asking × Moment) → i < length cs → item ≡ get_or cs i item → V ≡ W
+    → old ≡ replies_on r W L (take i (all_asked cs))
+    → new ≡ old ++ reply_to r V (accepted_on r W L (take i (all_asked cs))) (asked item.0) (item.1) ∷ []
+    → new ≡ replies_on r W L (take (i + 1) (all_asked cs))
+next_told r old new V W L cs i item lt is house before h =
+    h ∙ ap (λ rs. rs ++ reply_to r V (accepted_on r W L (take i (all_asked cs))) (asked item.0) (item.1) ∷ []) before
+    ∙ ap (λ U. replies_on r W L (take i (all_asked cs)) ++ reply_to r U (accepted_on r W L (take i (all_asked cs))) (asked item.0) (item.1) ∷ []) house
+    ∙ ap (λ (x : Asking × Moment). replies_on r W L (take i (all_asked cs)) ++ reply_to r W (accepted_on r W L (take i (all_asked cs))) (asked x.0) (x.1) ∷ []) is
+    ∙ replies_more r W L cs i item lt
 
 -- of commands that can be given, so can the first ones
 pub given_fewer : (cs : List (Asking × Moment)) (n k : ℕ) → k ≤ n → can_be_given (take n cs) ≡ true → can_be_given (take k cs) ≡ true
@@ -366,15 +371,15 @@ given_fewer [] n (suc k) le given = refl
 given_fewer (c ∷ cs) n zero le given = refl
 given_fewer (c ∷ cs) zero (suc k) le given = absurd (omega (arith, le))
 given_fewer (c ∷ cs) (suc n) (suc k) le given =
-    let both = both_parts (is_command (asked c.0)) (can_be_given (take n cs)) given in
+    let both = both_parts (is_command Two (asked c.0)) (can_be_given (take n cs)) given in
     both_true both.0 (given_fewer cs n k (omega (arith, le)) both.1)
 
 -- and the one at a place that they reach
-given_within : (cs : List (Asking × Moment)) (n i : ℕ) (d : Asking × Moment) → i < n → can_be_given (take n cs) ≡ true → i < length cs → is_command (asked (get_or cs i d).0) ≡ true
+given_within : (cs : List (Asking × Moment)) (n i : ℕ) (d : Asking × Moment) → i < n → can_be_given (take n cs) ≡ true → i < length cs → is_command Two (asked (get_or cs i d).0) ≡ true
 given_within [] n i d less given lt = absurd (omega (arith, lt))
 given_within (c ∷ cs) zero i d less given lt = absurd (omega (arith, less))
-given_within (c ∷ cs) (suc n) zero d less given lt = (both_parts (is_command (asked c.0)) (can_be_given (take n cs)) given).0
-given_within (c ∷ cs) (suc n) (suc i) d less given lt = given_within cs n i d (omega (arith, less)) (both_parts (is_command (asked c.0)) (can_be_given (take n cs)) given).1 (omega (arith, lt))
+given_within (c ∷ cs) (suc n) zero d less given lt = (both_parts (is_command Two (asked c.0)) (can_be_given (take n cs)) given).0
+given_within (c ∷ cs) (suc n) (suc i) d less given lt = given_within cs n i d (omega (arith, less)) (both_parts (is_command Two (asked c.0)) (can_be_given (take n cs)) given).1 (omega (arith, lt))
 
-pub given_item : (cs : List (Asking × Moment)) (n i : ℕ) (item : Asking × Moment) → i < n → can_be_given (take n cs) ≡ true → i < length cs → item ≡ get_or cs i item → is_command (asked item.0) ≡ true
-given_item cs n i item less given lt is = ap (λ (x : Asking × Moment). is_command (asked x.0)) is ∙ given_within cs n i item less given lt
+pub given_item : (cs : List (Asking × Moment)) (n i : ℕ) (item : Asking × Moment) → i < n → can_be_given (take n cs) ≡ true → i < length cs → item ≡ get_or cs i item → is_command Two (asked item.0) ≡ true
+given_item cs n i item less given lt is = ap (λ (x : Asking × Moment). is_command Two (asked x.0)) is ∙ given_within cs n i item less given lt

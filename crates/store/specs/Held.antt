@@ -1,5 +1,6 @@
 -- The page that a book hands out, and the decision that it leads to.
 use Rattle.std.specs.Prelude.{List, Option, Some, None}
+use Rattle.profile.specs.declared.rules.Rules.{Rules}
 use Rattle.profile.specs.History.{History, history}
 use Rattle.stock.specs.Pages.{PageFacts}
 use Rattle.profile.specs.Header.{Who}
@@ -24,6 +25,6 @@ IsHeldFor None (Some h) = ⊥
 IsHeldFor (Some p) None = ⊥
 IsHeldFor (Some p) (Some h) = IsPageOf p h
 
--- the decision that is the reply of a register
-abbrev pub IsDecided : Who → List Entry → Command → Moment → Decision → Type 0
-IsDecided W L c t d = IsReply ((history (own_of L c)).numbered) c t (reply_to W L c t) d
+-- the decision that is the reply of a register to a command under these rules
+abbrev pub IsDecided : Rules → Who → List Entry → Command → Moment → Decision → Type 0
+IsDecided r W L c t d = IsReply r ((history (own_of L c)).numbered) c t (reply_to r W L c t) d

@@ -1,5 +1,6 @@
 -- How a book stands, whichever way it is kept.
 use Rattle.std.specs.Prelude.{ℕ, ◌-◌, ◌^◌, ◌<◌, ◌≤◌, ◌≡◌, ◌⊎◌, ◌++◌, ◌∷◌, [], List, Bool, true, false}
+use Rattle.profile.specs.declared.rules.Rules.TheVariants.{Two}
 use Rattle.profile.specs.Header.{Who}
 use Rattle.profile.specs.Register.{Entry, own}
 use Rattle.profile.specs.Reply.{out}
@@ -31,7 +32,7 @@ pub record LeavesEither (s : Standing) (first second : List Entry) : Type 0 wher
 -- a book that serves: its store stands for a legal register, and a crash leaves what stands for that register alone
 pub record IsUsable (s : Standing) (L : List Entry) : Type 0 where
   pub opened : s.shut ≡ false
-  pub legal : IsLegal s.warehouse L
+  pub legal : IsLegal Two s.warehouse L
   pub keeps : s.keeps L
   pub stand : s.all_stand
   pub only : (M : List Entry) → s.left M → M ≡ L
@@ -87,6 +88,6 @@ pub record IsRunFault (fault : Fault) (given : Bool) (old new : Standing) : Type
 -- that lead from the tables of the register to those with the entry, and the text that goes out for it
 pub record IsNext (W : Who) (L : List Entry) (e : Entry) (row : Written) (changes : List Change) (text : List ℕ) : Type 0 where
   pub entry : row ≡ written L e
-  pub legal : IsLegal W (L ++ e ∷ [])
-  pub leads : LeadOn W L e (table_changes e.who changes)
+  pub legal : IsLegal Two W (L ++ e ∷ [])
+  pub leads : LeadOn Two W L e (table_changes e.who changes)
   pub outgoing : text ≡ out W (own L e.who) e

@@ -16,4 +16,4 @@ pub use rules::{
     Act, Change, Command, Decision, Entry, Ident, Key, Known, Line, Moment, Need, OutKind, Page,
     Refusal, Row, Sheet, SheetKind, Warehouse, Who, decide, need, subject,
 };
-pub use serving::{Outcome, Reply, outbox, run, stock, submit, text};
+pub use serving::{Outcome, Reply, outbox, run, stock, submit, submit_under, text};

@@ -1,4 +1,5 @@
 ghost use Rattle.std.specs.Prelude.{◌≡◌, ◌==◌, [], ◌∷◌, ◌++◌, List, None, IfOk, OnOk, OnErr, MatchOption, find, map, option_map, Option, ℕ, ◌<◌, ◌+◌, length, take, slice_index_or as get_or, option_to_list};
+ghost use Rattle.profile.specs.declared.rules.Rules.TheVariants.{Two};
 ghost use Rattle.profile.specs.Accepted.{IsLegal};
 ghost use Rattle.profile.specs.Decision.{standing as standing_of, recalled};
 ghost use Rattle.profile.specs.Register as register;
@@ -72,7 +73,7 @@ fn with_entry(
     who: &Who,
 ) -> Result<Option<Page>, AllocError>
     requires { IsHeldAtRest page }
-    ensures page { (L behind : List register.Entry) (i : ℕ) → IsLegal warehouse.now (L ++ behind)
+    ensures page { (L behind : List register.Entry) (i : ℕ) → IsLegal Two warehouse.now (L ++ behind)
         → i < length (all_written L) → entry.now ≡ get_or (all_written L) i entry.now
         → IsHeldFor page (standing_of (register.own (take i L) who.now))
         → IfOk result (λ next. IsHeldFor next (standing_of (register.own (take (i + 1) L) who.now))) }
@@ -93,7 +94,7 @@ fn page_behind(
     who: &Who,
 ) -> Result<Option<Page>, AllocError>
     ensures page { (L behind : List register.Entry) → entries.now ≡ all_written L
-        → IsLegal warehouse.now (L ++ behind)
+        → IsLegal Two warehouse.now (L ++ behind)
         → IfOk result (λ page. IsHeldFor page (standing_of (register.own L who.now))) }
     ensures rest { IfOk result IsHeldAtRest }
 {
@@ -125,7 +126,7 @@ fn outgoing_behind(
 ) -> Result<Vec<u8>, AllocError>
     ensures { (L : List register.Entry) (e : register.Entry) (behind : List register.Entry)
         → before.now ≡ all_written L → entry.now ≡ written L e
-        → IsLegal warehouse.now (L ++ e ∷ behind)
+        → IsLegal Two warehouse.now (L ++ e ∷ behind)
         → IfOk result (λ text. text.items ≡ out warehouse.now (register.own L e.who) e) }
 {
     let page = page_behind(alloc, warehouse, before, &entry.who())?;
@@ -153,7 +154,7 @@ fn recalled(
     who: &Who,
     key: &[u8],
 ) -> Result<Option<Known>, AllocError>
-    ensures { (L : List register.Entry) → entries.now ≡ all_written L → IsLegal warehouse.now L
+    ensures { (L : List register.Entry) → entries.now ≡ all_written L → IsLegal Two warehouse.now L
         → IfOk result (λ known. IsRecalled known (recalled warehouse.now key.now (register.own L who.now))) }
 {
     let Some(i) = place_of(entries, who, key) else {
@@ -210,7 +211,7 @@ fn sent_at(
 ) -> Result<Option<OutRow>, AllocError>
     requires { i < length entries.now }
     ensures { IfOk result (λ row. (L : List register.Entry) → entries.now ≡ all_written L
-        → IsLegal warehouse.now L → IsPageOf page.now (history (register.own L who.now))
+        → IsLegal Two warehouse.now L → IsPageOf page.now (history (register.own L who.now))
         → sent_on warehouse.now (events (register.own L who.now)) (register.own (take (i + 1) L) who.now)
         ≡ sent_on warehouse.now (events (register.own L who.now)) (register.own (take i L) who.now) ++
         option_to_list row) }
@@ -238,7 +239,7 @@ fn sent(
     who: &Who,
 ) -> Result<Vec<OutRow>, AllocError>
     ensures { IfOk result (λ rows. (L : List register.Entry) → entries.now ≡ all_written L
-        → IsLegal warehouse.now L → IsPageOf page.now (history (register.own L who.now))
+        → IsLegal Two warehouse.now L → IsPageOf page.now (history (register.own L who.now))
         → rows.items ≡ outbox_rows warehouse.now (register.own L who.now)) }
 {
     let mut rows = Vec::new(alloc);
@@ -259,7 +260,7 @@ fn sent_to(
     who: &Who,
 ) -> Result<Option<Vec<OutRow>>, AllocError>
     ensures { IfOk result (λ rows. (L : List register.Entry) → entries.now ≡ all_written L
-        → IsLegal warehouse.now L → IsHeldFor page (standing_of (register.own L who.now))
+        → IsLegal Two warehouse.now L → IsHeldFor page (standing_of (register.own L who.now))
         → option_map (λ v. v.items) rows ≡ outbox_of warehouse.now L who.now) }
 {
     match page {
@@ -284,7 +285,7 @@ impl ReplayBook {
     // The whole page of a depositor; None for a stranger.
     fn page(&self, who: &Who) -> Result<Option<Page>, AllocError>
         ensures page { (L : List register.Entry) → self.now.entries ≡ all_written L
-            → IsLegal self.now.warehouse L
+            → IsLegal Two self.now.warehouse L
             → IfOk result (λ page. IsHeldFor page (standing_of (register.own L who.now))) }
         ensures rest { IfOk result IsHeldAtRest }
     {
@@ -294,13 +295,14 @@ impl ReplayBook {
 
 impl Keeper for ReplayBook {
     ghost use Rattle.std.specs.Prelude.{false, ◌≡◌};
+    ghost use Rattle.profile.specs.declared.rules.Rules.TheVariants.{Two};
     ghost use Rattle.profile.specs.Accepted.{IsLegal};
     ghost use Rattle.store.specs.Replayed.{all_written};
 
     ghost standing = { λ b. record {
       warehouse = b.warehouse;
       keeps = λ L. b.entries ≡ all_written L;
-      left = λ L. (b.entries ≡ all_written L) × IsLegal b.warehouse L;
+      left = λ L. (b.entries ≡ all_written L) × IsLegal Two b.warehouse L;
       all_stand = Unit {0};
       doubt = 0;
       refusals = 0;

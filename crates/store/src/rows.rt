@@ -14,6 +14,8 @@ pub struct StockRow {
     pub item: Vec<u8>,
     /// The lot, 1 to 12 bytes.
     pub lot: Vec<u8>,
+    /// The date on which the lot expires, CCYYMMDD, if an advice gave one.
+    pub expiry: Option<Vec<u8>>,
     /// What is announced and not counted yet.
     pub expected: u64,
     /// What is on hand.
@@ -25,11 +27,12 @@ pub struct StockRow {
 }
 
 impl Model for StockRow {
+    ghost use Rattle.std.specs.Prelude.{option_map};
     ghost use Rattle.profile.specs.Rows.{StockRow};
 
     ghost Value = { StockRow };
 
-    ghost view = { λ r. record { item = r.item.items; lot = r.lot.items; expected = r.expected; on_hand = r.on_hand; reserved = r.reserved; shipped = r.shipped } };
+    ghost view = { λ r. record { item = r.item.items; lot = r.lot.items; expiry = option_map (λ v. v.items) r.expiry; expected = r.expected; on_hand = r.on_hand; reserved = r.reserved; shipped = r.shipped } };
 }
 
 /// What the other side said of a document: the first acknowledgment after it that names it decides.
@@ -90,6 +93,7 @@ impl StockRow {
         Ok(StockRow {
             item: row.item.clone()?,
             lot: row.lot.clone()?,
+            expiry: row.expiry.clone()?,
             expected: row.expected,
             on_hand: row.on_hand,
             reserved: row.reserved,

@@ -1,6 +1,7 @@
 ghost use Rattle.std.specs.Prelude.{◌≡◌, ◌++◌, ◌∷◌, [], List, Bool, true, false, IfOk, OnOk, OnErr, IsErrOf, IfErr, IfSome, IsSome, IsNone, option_map, length, ◌<◌, ◌≤◌, ◌+◌};
 ghost use Rattle.std.specs.Prelude.{take, map, IsTrue};
 ghost use Rattle.std.specs.List.{list_all};
+ghost use Rattle.profile.specs.declared.rules.Rules.TheVariants.{Two};
 ghost use Rattle.profile.specs.Register as register;
 ghost use Rattle.profile.specs.Accepted.{IsLegal, is_command, own_of, reply_to, after, accepted_on, replies_on};
 ghost use Rattle.profile.specs.Decision.{standing as standing_of, recalled};
@@ -17,6 +18,7 @@ ghost use Rattle.store.specs.Standing.{Standing, IsUsable, IsUnchanged, GoesOn, 
 use crate::fault::Fault;
 use crate::keeping::Keeper;
 use crate::rows::{OutRow, StockRow};
+use profile::Rules;
 use rules::{Command, Decision, Known, Moment, Page, Refusal, Who, decide, need, subject};
 use std::alloc::Global;
 
@@ -44,11 +46,11 @@ fn recall<K: Keeper>(
     command: &Command<'_>,
 ) -> Result<(Option<Page>, Option<Known>), Fault>
     ensures page { (K.standing keeper.new).doubt ≡ 0 → (L : List register.Entry)
-        → (K.standing keeper.old).keeps L → IsLegal (K.standing keeper.old).warehouse L
+        → (K.standing keeper.old).keeps L → IsLegal Two (K.standing keeper.old).warehouse L
         → IfOk result (λ found. IsHeld (need_of (asked command.now)) found.0 (standing_of (own_of L (asked
         command.now)))) }
     ensures known { (K.standing keeper.new).doubt ≡ 0 → (L : List register.Entry)
-        → (K.standing keeper.old).keeps L → IsLegal (K.standing keeper.old).warehouse L
+        → (K.standing keeper.old).keeps L → IsLegal Two (K.standing keeper.old).warehouse L
         → IfOk result (λ found. IsRecalled found.1 (recalled (K.standing keeper.old).warehouse
         (register.command_mark (asked command.now)) (own_of L (asked command.now)))) }
     ensures rest { IfOk result (λ found. IsHeldAtRest found.0) }
@@ -64,19 +66,20 @@ fn recall<K: Keeper>(
     Ok((page, known))
 }
 
-// What a command comes to. The book is as before.
+// What a command under these rules comes to. The book is as before.
 fn judge<K: Keeper>(
     alloc: Global,
     keeper: &mut K,
     command: &Command<'_>,
     moment: Moment,
+    rules: Rules,
 ) -> Result<Decision, Fault>
     ensures decision { (K.standing keeper.new).doubt ≡ 0 → (L : List register.Entry)
-        → (K.standing keeper.old).keeps L → IsLegal (K.standing keeper.old).warehouse L
-        → IfOk result (IsDecided (K.standing keeper.old).warehouse L (asked command.now) moment) }
+        → (K.standing keeper.old).keeps L → IsLegal Two (K.standing keeper.old).warehouse L
+        → IfOk result (IsDecided rules (K.standing keeper.old).warehouse L (asked command.now) moment) }
     ensures tables { (K.standing keeper.new).doubt ≡ 0 → (L : List register.Entry)
-        → (K.standing keeper.old).keeps L → IsLegal (K.standing keeper.old).warehouse L
-        → IfOk result (LeadsInTables (K.standing keeper.old).warehouse L (asked command.now) moment) }
+        → (K.standing keeper.old).keeps L → IsLegal Two (K.standing keeper.old).warehouse L
+        → IfOk result (LeadsInTables rules (K.standing keeper.old).warehouse L (asked command.now) moment) }
     ensures same { IsUnchanged (K.standing keeper.old) (K.standing keeper.new) }
     ensures fault { IfErr result (λ fault. IsQueryFault fault (K.standing keeper.old) (K.standing keeper.new)) }
 {
@@ -89,32 +92,45 @@ fn judge<K: Keeper>(
         known.as_ref(),
         command,
         moment,
+        rules,
     )?)
 }
 
-/// Answers one command: an accepted one is one commit, and the reply is made before it. A refusal leaves the book as it
+/// Answers one command under these rules, which an accepted one's entry has: those of the day, or, where a register is given again,
+/// those of its entry. An accepted command is one commit, and the reply is made before it. A refusal leaves the book as it
 /// was, and so does a fault, unless the book must be opened again after it; then a crash leaves the register as it was, or
-/// with the command's entry.
-pub fn submit<K: Keeper>(
+/// with the command's entry. The rules of a register never fall, so the register with the entry has to be legal.
+pub fn submit_under<K: Keeper>(
     alloc: Global,
     keeper: &mut K,
     command: &Command<'_>,
     moment: Moment,
+    rules: Rules,
 ) -> Result<Reply, Fault>
     ensures reply { (K.standing keeper.new).doubt ≡ 0 → (L : List register.Entry)
-        → (K.standing keeper.old).keeps L → IsLegal (K.standing keeper.old).warehouse L
-        → IfOk result (λ reply. told reply ≡ reply_to (K.standing keeper.old).warehouse L (asked
+        → (K.standing keeper.old).keeps L → IsLegal Two (K.standing keeper.old).warehouse L
+        → IfOk result (λ reply. told reply ≡ reply_to rules (K.standing keeper.old).warehouse L (asked
         command.now) moment) }
     ensures ok { (K.standing keeper.new).doubt ≡ 0 → (L : List register.Entry)
-        → IsUsable (K.standing keeper.old) L → is_command (asked command.now) ≡ true
-        → OnOk result (IsUsable (K.standing keeper.new) (after (K.standing keeper.old).warehouse L (
+        → IsUsable (K.standing keeper.old) L
+        → IsLegal Two (K.standing keeper.old).warehouse (after rules (K.standing keeper.old).warehouse L (
+          asked
+              command.now,
+          moment,
+        ))
+        → OnOk result (IsUsable (K.standing keeper.new) (after rules (K.standing keeper.old).warehouse L (
           asked
               command.now,
           moment,
         ))) }
     ensures left { (K.standing keeper.new).doubt ≡ 0 → (L : List register.Entry)
-        → IsUsable (K.standing keeper.old) L → is_command (asked command.now) ≡ true
-        → OnErr result (LeavesEither (K.standing keeper.new) L (after (K.standing keeper.old).warehouse L
+        → IsUsable (K.standing keeper.old) L
+        → IsLegal Two (K.standing keeper.old).warehouse (after rules (K.standing keeper.old).warehouse L (
+          asked
+              command.now,
+          moment,
+        ))
+        → OnErr result (LeavesEither (K.standing keeper.new) L (after rules (K.standing keeper.old).warehouse L
         (asked command.now, moment))) }
     ensures kept { IfOk result
         (λ reply. UnlessAccepted reply (IsUnchanged (K.standing keeper.old) (K.standing keeper.new))) }
@@ -127,7 +143,7 @@ pub fn submit<K: Keeper>(
     if keeper.must_reopen() {
         return Err(Fault::Reopen);
     }
-    match judge(alloc, keeper, command, moment)? {
+    match judge(alloc, keeper, command, moment, rules)? {
         Decision::Stored(text) => Ok(Reply::Stored(text)),
         Decision::Refused(refusal, answer) => Ok(Reply::Refused { refusal, answer }),
         Decision::Accepted {
@@ -141,10 +157,45 @@ pub fn submit<K: Keeper>(
     }
 }
 
+/// Answers one command under the rules of the day: an accepted one is one commit, and the reply is made before it. A refusal leaves the book as it
+/// was, and so does a fault, unless the book must be opened again after it; then a crash leaves the register as it was, or
+/// with the command's entry.
+pub fn submit<K: Keeper>(
+    alloc: Global,
+    keeper: &mut K,
+    command: &Command<'_>,
+    moment: Moment,
+) -> Result<Reply, Fault>
+    ensures reply { (K.standing keeper.new).doubt ≡ 0 → (L : List register.Entry)
+        → (K.standing keeper.old).keeps L → IsLegal Two (K.standing keeper.old).warehouse L
+        → IfOk result (λ reply. told reply ≡ reply_to Two (K.standing keeper.old).warehouse L (asked
+        command.now) moment) }
+    ensures ok { (K.standing keeper.new).doubt ≡ 0 → (L : List register.Entry)
+        → IsUsable (K.standing keeper.old) L → is_command Two (asked command.now) ≡ true
+        → OnOk result (IsUsable (K.standing keeper.new) (after Two (K.standing keeper.old).warehouse L (
+          asked
+              command.now,
+          moment,
+        ))) }
+    ensures left { (K.standing keeper.new).doubt ≡ 0 → (L : List register.Entry)
+        → IsUsable (K.standing keeper.old) L → is_command Two (asked command.now) ≡ true
+        → OnErr result (LeavesEither (K.standing keeper.new) L (after Two (K.standing keeper.old).warehouse L
+        (asked command.now, moment))) }
+    ensures kept { IfOk result
+        (λ reply. UnlessAccepted reply (IsUnchanged (K.standing keeper.old) (K.standing keeper.new))) }
+    ensures opened { OnOk result ((K.standing keeper.new).shut ≡ false) }
+    ensures fault { IfErr result (λ fault. IsFault fault (K.standing keeper.old) (K.standing keeper.new)) }
+    ensures shut { (K.standing keeper.old).shut ≡ true → IsErrOf result Fault.Reopen
+        × IsUnchanged (K.standing keeper.old) (K.standing keeper.new) }
+    ensures goes { GoesOn (K.standing keeper.old) (K.standing keeper.new) }
+{
+    submit_under(alloc, keeper, command, moment, Rules::Two)
+}
+
 /// What a depositor has, by item and lot; None for a stranger. The book is as before.
 pub fn stock<K: Keeper>(keeper: &mut K, who: Who) -> Result<Option<Vec<StockRow>>, Fault>
     ensures rows { (K.standing keeper.new).doubt ≡ 0 → (L : List register.Entry)
-        → (K.standing keeper.old).keeps L → IsLegal (K.standing keeper.old).warehouse L
+        → (K.standing keeper.old).keeps L → IsLegal Two (K.standing keeper.old).warehouse L
         → IfOk result (λ rows. option_map (λ v. v.items) rows ≡ stock_of L who) }
     ensures same { IsUnchanged (K.standing keeper.old) (K.standing keeper.new) }
     ensures fault { IfErr result (λ fault. IsQueryFault fault (K.standing keeper.old) (K.standing keeper.new)) }
@@ -156,7 +207,7 @@ pub fn stock<K: Keeper>(keeper: &mut K, who: Who) -> Result<Option<Vec<StockRow>
 /// The texts that went out to a depositor, by number; None for a stranger. The book is as before.
 pub fn outbox<K: Keeper>(keeper: &mut K, who: Who) -> Result<Option<Vec<OutRow>>, Fault>
     ensures rows { (K.standing keeper.new).doubt ≡ 0 → (L : List register.Entry)
-        → (K.standing keeper.old).keeps L → IsLegal (K.standing keeper.old).warehouse L
+        → (K.standing keeper.old).keeps L → IsLegal Two (K.standing keeper.old).warehouse L
         → IfOk result (λ rows. option_map
         (λ v. v.items) rows ≡ outbox_of (K.standing keeper.old).warehouse L who) }
     ensures same { IsUnchanged (K.standing keeper.old) (K.standing keeper.new) }
@@ -170,7 +221,7 @@ pub fn outbox<K: Keeper>(keeper: &mut K, who: Who) -> Result<Option<Vec<OutRow>>
 /// book is as before.
 pub fn text<K: Keeper>(keeper: &mut K, who: Who, n: u32) -> Result<Option<Option<Vec<u8>>>, Fault>
     ensures text { (K.standing keeper.new).doubt ≡ 0 → (L : List register.Entry)
-        → (K.standing keeper.old).keeps L → IsLegal (K.standing keeper.old).warehouse L
+        → (K.standing keeper.old).keeps L → IsLegal Two (K.standing keeper.old).warehouse L
         → IfOk result (λ text. option_map (option_map
         (λ v. v.items)) text ≡ text_of (K.standing keeper.old).warehouse L who n) }
     ensures same { IsUnchanged (K.standing keeper.old) (K.standing keeper.new) }
@@ -198,12 +249,12 @@ fn answer_next<K: Keeper>(
     replies: &mut Vec<Reply>,
 ) -> Result<(), Fault>
     ensures reply { (K.standing keeper.new).doubt ≡ 0 → (L : List register.Entry)
-        → (K.standing keeper.old).keeps L → IsLegal (K.standing keeper.old).warehouse L
-        → OnOk result (map told replies.new.items ≡ map told replies.old.items ++ reply_to (K.standing
+        → (K.standing keeper.old).keeps L → IsLegal Two (K.standing keeper.old).warehouse L
+        → OnOk result (map told replies.new.items ≡ map told replies.old.items ++ reply_to Two (K.standing
         keeper.old).warehouse L (asked command.now) moment ∷ []) }
     ensures ok { (K.standing keeper.new).doubt ≡ 0 → (L : List register.Entry)
-        → IsUsable (K.standing keeper.old) L → is_command (asked command.now) ≡ true
-        → OnOk result (IsUsable (K.standing keeper.new) (after (K.standing keeper.old).warehouse L (
+        → IsUsable (K.standing keeper.old) L → is_command Two (asked command.now) ≡ true
+        → OnOk result (IsUsable (K.standing keeper.new) (after Two (K.standing keeper.old).warehouse L (
           asked
               command.now,
           moment,
@@ -211,8 +262,8 @@ fn answer_next<K: Keeper>(
     ensures more { OnOk result (length replies.new.items ≡ length replies.old.items + 1) }
     ensures no_more { OnErr result (replies.new.items ≡ replies.old.items) }
     ensures left { (K.standing keeper.new).doubt ≡ 0 → (L : List register.Entry)
-        → IsUsable (K.standing keeper.old) L → is_command (asked command.now) ≡ true
-        → OnErr result (LeavesEither (K.standing keeper.new) L (after (K.standing keeper.old).warehouse L
+        → IsUsable (K.standing keeper.old) L → is_command Two (asked command.now) ≡ true
+        → OnErr result (LeavesEither (K.standing keeper.new) L (after Two (K.standing keeper.old).warehouse L
         (asked command.now, moment))) }
     ensures opened { OnOk result ((K.standing keeper.old).shut ≡ (K.standing keeper.new).shut) }
     ensures fault { IfErr result (λ fault. IsFault fault (K.standing keeper.old) (K.standing keeper.new)) }
@@ -234,22 +285,22 @@ pub fn run<K: Keeper>(alloc: Global, keeper: &mut K, commands: &[(Command<'_>, M
     ensures replies { (K.standing keeper.new).doubt ≡ 0 → (L : List register.Entry)
         → IsUsable (K.standing keeper.old) L
         → can_be_given (take (length result.replies.items + 1) commands.now) ≡ true
-        → map told result.replies.items ≡ replies_on (K.standing keeper.old).warehouse L (take (length
+        → map told result.replies.items ≡ replies_on Two (K.standing keeper.old).warehouse L (take (length
         result.replies.items) (all_asked commands.now)) }
     ensures left { (K.standing keeper.new).doubt ≡ 0 → (L : List register.Entry)
         → IsUsable (K.standing keeper.old) L
         → can_be_given (take (length result.replies.items + 1) commands.now) ≡ true
         → (K.standing keeper.new).shut ≡ false
-        → IsUsable (K.standing keeper.new) (accepted_on (K.standing keeper.old).warehouse L (take (length
+        → IsUsable (K.standing keeper.new) (accepted_on Two (K.standing keeper.old).warehouse L (take (length
         result.replies.items) (all_asked commands.now))) }
     ensures broken { (K.standing keeper.new).doubt ≡ 0 → (L : List register.Entry)
         → IsUsable (K.standing keeper.old) L
         → can_be_given (take (length result.replies.items + 1) commands.now) ≡ true
         → (K.standing keeper.new).shut ≡ true
         → IsSome result.fault × LeavesEither (K.standing keeper.new)
-        (accepted_on (K.standing keeper.old).warehouse L (take (length result.replies.items) (all_asked
+        (accepted_on Two (K.standing keeper.old).warehouse L (take (length result.replies.items) (all_asked
         commands.now)))
-        (accepted_on (K.standing keeper.old).warehouse L (take (length result.replies.items + 1) (all_asked
+        (accepted_on Two (K.standing keeper.old).warehouse L (take (length result.replies.items + 1) (all_asked
         commands.now))) }
     ensures goes { GoesOn (K.standing keeper.old) (K.standing keeper.new) }
     ensures fault { IfSome result.fault

@@ -1,6 +1,6 @@
-//! The libraries' tests: texts that are judged, calls, and stories over both books. There is nothing
-//! here but tests: a crate with tests is proved twice, and each crate of tests reads all of its
-//! libraries anew. Those of the program's lines stand in `test_program`.
+//! The repository's tests: texts that are judged, calls, stories over both books, and the program's
+//! lines. There is nothing here but tests: a crate with tests is proved twice, and each crate of
+//! tests reads all of its libraries anew.
 #![tactic(auto)]
 
 #[cfg(test)]

@@ -1,3 +1,5 @@
 mod calls;
+mod program;
 mod stories;
 mod texts;
+mod version1;

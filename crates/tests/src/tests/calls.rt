@@ -2,6 +2,7 @@
 //! that break off, want of memory.
 mod beside;
 mod breaking;
+mod carried;
 mod cut;
 mod day;
 mod exchanges;

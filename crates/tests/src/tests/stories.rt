@@ -1,5 +1,6 @@
 mod counts;
 mod envelopes;
+mod expiries;
 mod faults;
 mod goods;
 mod lots;
@@ -11,6 +12,7 @@ mod sets;
 mod sizes;
 mod texts;
 
+pub(crate) use playing::shown;
 use playing::{in_replays, in_tables};
 use reading::steps_of;
 use std::alloc::Global;
@@ -48,8 +50,8 @@ const MORNING: [u8; 3] = [4, 9, 15];
 const NEXT_DAY: [u8; 3] = [5, 10, 0];
 
 // A command, whose it is and when (day, hour and minute of March 2025), how it is answered, and
-// what its depositor has after it: a line for each row of stock (item, lot, expected, on hand,
-// reserved, shipped) and for each text that went out (number, kind, state).
+// what its depositor has after it: a line for each row of stock (item, lot, its expiry if it has one,
+// expected, on hand, reserved, shipped) and for each text that went out (number, kind, state).
 #[derive(Clone, Copy)]
 struct Step {
     who: &'static str,
@@ -80,6 +82,7 @@ fn goods_are_counted_again(rt: HostRuntime) -> Result<(), Fail> {
 #[test]
 fn orders_take_lots(rt: HostRuntime) -> Result<(), Fail> {
     play(&rt, rt.alloc(), lots::STORIES)?;
+    play(&rt, rt.alloc(), expiries::STORIES)?;
     play(&rt, rt.alloc(), orders::STORIES)
 }
 

@@ -135,6 +135,7 @@ fn widest_row(alloc: Global) -> Result<StockRow, AllocError> {
     Ok(StockRow {
         item: b"ABCDEFGHIJKLMNOPQRST".to_vec(alloc)?,
         lot: b"ABCDEFGHIJKL".to_vec(alloc)?,
+        expiry: Some(b"20991231".to_vec(alloc)?),
         expected: 999_999_999_999_999,
         on_hand: 999_999_999_999_999,
         reserved: 999_999_999_999_999,
@@ -158,11 +159,11 @@ fn the_widest_rows_are_shown(rt: HostRuntime) -> Result<(), Fail> {
     let rows = [widest_row(alloc)?];
     assert_eq!(rt;
         stock_report(alloc, &rows)?.as_slice(),
-        b"item                 lot                 expected         on hand        reserved         shipped\nABCDEFGHIJKLMNOPQRST ABCDEFGHIJKL 999999999999999 999999999999999 999999999999999 999999999999999\n".as_slice()
+        b"item                 lot          expiry          expected         on hand        reserved         shipped\nABCDEFGHIJKLMNOPQRST ABCDEFGHIJKL 20991231 999999999999999 999999999999999 999999999999999 999999999999999\n".as_slice()
     );
     assert_eq!(rt;
         stock_csv(alloc, &rows)?.as_slice(),
-        b"item,lot,expected,on_hand,reserved,shipped\nABCDEFGHIJKLMNOPQRST,ABCDEFGHIJKL,999999999999999,999999999999999,999999999999999,999999999999999\n".as_slice()
+        b"item,lot,expiry,expected,on_hand,reserved,shipped\nABCDEFGHIJKLMNOPQRST,ABCDEFGHIJKL,20991231,999999999999999,999999999999999,999999999999999,999999999999999\n".as_slice()
     );
     assert_eq!(rt;
         outbox_list(alloc, &[last_text(alloc)])?.as_slice(),

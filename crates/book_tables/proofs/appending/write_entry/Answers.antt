@@ -12,18 +12,26 @@ returns-in_err-insert_entry-clause-wrote g c =
     let same : IsErrAnd c.from_residual.result (λ (f : Fault). f ≡ c.in_err-insert_entry.field-0.0) = search rules in
     wrote_failed _ _ _ _ _ c.from_residual.result same c.in_err-insert_entry.ensures.wrote
 
+pub returns-in_err-insert_rules-clause-wrote : goal.returns-in_err-insert_rules-clause-wrote
+returns-in_err-insert_rules-clause-wrote g c =
+    let same : IsErrAnd c.from_residual-in_err-insert_rules.result (λ (f : Fault). f ≡ c.in_err-insert_rules.field-0.0) = search rules in
+    wrote_failed _ _ _ _ _ c.from_residual-in_err-insert_rules.result same
+    (wrote_on _ _ _ _ _ _ _ _ c.in_ok-insert_entry.ensures.wrote c.in_err-insert_rules.ensures.wrote (λ entry ruled. ruled))
+
 pub returns-in_err-insert_sent-clause-wrote : goal.returns-in_err-insert_sent-clause-wrote
 returns-in_err-insert_sent-clause-wrote g c =
     let same : IsErrAnd c.from_residual-in_err-insert_sent.result (λ (f : Fault). f ≡ c.in_err-insert_sent.field-0.0) = search rules in
     wrote_failed _ _ _ _ _ c.from_residual-in_err-insert_sent.result same
-    (wrote_on _ _ _ _ _ _ _ _ c.in_ok-insert_entry.ensures.wrote c.in_err-insert_sent.ensures.wrote (λ entry sent. sent))
+    (wrote_on _ _ _ _ _ _ _ _ (wrote_both _ _ _ _ _ _ _ _ c.in_ok-insert_entry.ensures.wrote c.in_ok-insert_rules.ensures.wrote) c.in_err-insert_sent.ensures.wrote (λ both sent. sent))
 
 pub returns-clause-wrote : goal.returns-clause-wrote
 returns-clause-wrote g c =
-    wrote_on _ _ _ _ _ _ _ c.apply_all.result (wrote_both _ _ _ _ _ _ _ _ c.in_ok-insert_entry.ensures.wrote c.in_ok-insert_sent.ensures.wrote) c.apply_all.ensures.wrote (λ both changed. (
-      both.0.0,
+    let written = wrote_both _ _ _ _ _ _ _ _ (wrote_both _ _ _ _ _ _ _ _ c.in_ok-insert_entry.ensures.wrote c.in_ok-insert_rules.ensures.wrote) c.in_ok-insert_sent.ensures.wrote in
+    wrote_on _ _ _ _ _ _ _ c.apply_all.result written c.apply_all.ensures.wrote (λ all changed. (
+      all.0.0.0,
       λ W L e is next.
-          entry_led_on W L e c.args.changes.now c.args.seq c.args.who.now c.args.entry.now c.moment_text-moment.result c.args.outgoing.now
-          (state g.S.Store c.args.tx.now.conn.now).now (state g.S.Store c.insert_entry.new.tx.conn.now).now (state g.S.Store c.insert_sent.new.tx.conn.now).now (state g.S.Store c.apply_all.new.tx.conn.now).now
-          is (c.moment_text-moment.ensures ∙ ap stamp c.moment.ensures) next both.0.1 (both.1 W L e is next.entry next.outgoing) (changed e.who is),
+          entry_led_on W L e c.args.changes.now c.args.seq c.args.who.now c.args.entry.now c.rules.result c.moment_text-moment.result c.args.outgoing.now
+          (state g.S.Store c.args.tx.now.conn.now).now (state g.S.Store c.insert_entry.new.tx.conn.now).now (state g.S.Store c.insert_rules.new.tx.conn.now).now (state g.S.Store c.insert_sent.new.tx.conn.now).now
+          (state g.S.Store c.apply_all.new.tx.conn.now).now
+          is (c.moment_text-moment.ensures ∙ ap stamp c.moment.ensures) c.rules.ensures next all.0.0.1 all.0.1 (all.1 W L e is next.entry next.outgoing) (changed e.who is),
     ))

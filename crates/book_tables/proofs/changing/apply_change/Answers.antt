@@ -2,7 +2,7 @@ use Rattle.std.proofs.Common.{sym, subst}
 use Rattle.rules.specs.Tabled.{table_changes_of}
 use Rattle.sqlite.specs.Held.{state}
 use Rattle.book_tables.specs.Leading.{Leads}
-use Rattle.book_tables.proofs.Applied.{stock_put, state_set}
+use Rattle.book_tables.proofs.Applied.{state_set}
 use Rattle.book_tables.proofs.LeadingLemmas.{leads_none}
 use Rattle.book_tables.proofs.Writes.{wrote_as, wrote_nothing}
 use Rattle.book_tables.proofs.changing.apply_change.Goals as goal
@@ -10,9 +10,8 @@ use Rattle.book_tables.proofs.changing.apply_change.Goals as goal
 pub returns-in-Stock-clause-wrote : goal.returns-in-Stock-clause-wrote
 returns-in-Stock-clause-wrote g c =
     let old = (state g.S.Store c.args.tx.now.conn.now).now in
-    let new = (state g.S.Store c.put_stock.new.tx.conn.now).now in
-    wrote_as _ _ _ _ c.put_stock.result c.put_stock.ensures.wrote (λ led w is.
-    subst (λ d. Leads (table_changes_of w d) old new) (sym c.in-Stock.is) (stock_put w c.args.who.now is old new old new c.in-Stock.row led))
+    let new = (state g.S.Store c.apply_row.new.tx.conn.now).now in
+    wrote_as _ _ _ _ c.apply_row.result c.apply_row.ensures.wrote (λ led w is. subst (λ d. Leads (table_changes_of w d) old new) (sym c.in-Stock.is) (led w is))
 
 pub returns-in-Advice-clause-wrote : goal.returns-in-Advice-clause-wrote
 returns-in-Advice-clause-wrote g c =

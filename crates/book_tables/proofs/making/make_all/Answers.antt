@@ -24,10 +24,18 @@ returns-in_err-make_third-clause-wrote g c =
     wrote_failed _ _ _ _ _ c.from_residual-in_err-make_third.result same
     (wrote_on _ _ _ _ _ _ _ _ (wrote_both _ _ _ _ _ _ _ _ c.in_ok-make_first.ensures.wrote c.in_ok-make_second.ensures.wrote) c.in_err-make_third.ensures.wrote (λ both three. three))
 
+pub returns-in_err-make_fourth-clause-wrote : goal.returns-in_err-make_fourth-clause-wrote
+returns-in_err-make_fourth-clause-wrote g c =
+    let same : IsErrAnd c.from_residual-in_err-make_fourth.result (λ (f : Fault). f ≡ c.in_err-make_fourth.field-0.0) = search rules in
+    wrote_failed _ _ _ _ _ c.from_residual-in_err-make_fourth.result same
+    (wrote_on _ _ _ _ _ _ _ _ (wrote_both _ _ _ _ _ _ _ _ (wrote_both _ _ _ _ _ _ _ _ c.in_ok-make_first.ensures.wrote c.in_ok-make_second.ensures.wrote) c.in_ok-make_third.ensures.wrote) c.in_err-make_fourth.ensures.wrote
+    (λ all four. four))
+
 pub returns-clause-wrote : goal.returns-clause-wrote
 returns-clause-wrote g c =
     let last = (state g.S.Store c.insert_book.new.tx.conn.now).now in
     let qualifier = c.qualifier.ensures ∙ ap (λ (w : Who). w.qualifier) c.who-who.ensures in
     let id = c.id.ensures ∙ ap (λ (w : Who). w.id) c.who-who.ensures in
-    wrote_on _ _ _ _ _ _ _ c.insert_book.result (wrote_both _ _ _ _ _ _ _ _ (wrote_both _ _ _ _ _ _ _ _ c.in_ok-make_first.ensures.wrote c.in_ok-make_second.ensures.wrote) c.in_ok-make_third.ensures.wrote) c.insert_book.ensures.wrote
-    (λ made book none. subst (λ (P : Type 0). P) (λ i. HasBook (qualifier i) (id i) last) (book (made.1 (made.0.1 (made.0.0 (record { schema = none; empty = tt }))))))
+    let three = wrote_both _ _ _ _ _ _ _ _ (wrote_both _ _ _ _ _ _ _ _ c.in_ok-make_first.ensures.wrote c.in_ok-make_second.ensures.wrote) c.in_ok-make_third.ensures.wrote in
+    wrote_on _ _ _ _ _ _ _ c.insert_book.result (wrote_both _ _ _ _ _ _ _ _ three c.in_ok-make_fourth.ensures.wrote) c.insert_book.ensures.wrote
+    (λ made book none. subst (λ (P : Type 0). P) (λ i. HasBook (qualifier i) (id i) last) (book (made.1.0 (made.0.1 (made.0.0.1 (made.0.0.0 (record { schema = none; empty = tt })))))))

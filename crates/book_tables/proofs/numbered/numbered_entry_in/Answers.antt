@@ -16,4 +16,4 @@ pub returns : goal.returns
 returns c = λ w of is.
     ap Some (numbered_entry c.args.row.now w of is c.in-Some.text.now c.in-Some-new.who c.in_ok-from_slice.field-0.items c.in-Some-small_at.n c.in-Some-text_at-2.stamp.now c.in-Some-moment_of.moment c.in_ok-from_slice-2.field-0.items
     c.in-Some.ensures c.in-Some-new.ensures (c.in-Some-text_at.ensures ∙ ap Text (sym c.in_ok-from_slice.ensures.items)) c.in-Some-small_at.ensures c.in-Some-text_at-2.ensures c.in-Some-moment_of.ensures
-    (c.in-Some-blob_at.ensures ∙ ap Blob (sym c.in_ok-from_slice-2.ensures.items)))
+    (c.in-Some-blob_at.ensures ∙ ap Blob (sym c.in_ok-from_slice-2.ensures.items)) c.args.rules)

@@ -1,4 +1,5 @@
 use Rattle.std.proofs.Common.{rules, ◌≡◌, length, sym, subst, List, MatchOption}
+use Rattle.profile.specs.declared.rules.Rules.{Rules}
 use Rattle.profile.specs.Header.{Who}
 use Rattle.sqlite.specs.Order.{Row}
 use Rattle.book_tables.specs.Recorded.{IsHouse}
@@ -8,4 +9,4 @@ use Rattle.book_tables.proofs.reading.house_of.Goals as goal
 pub returns-in-len1 : goal.returns-in-len1
 returns-in-len1 c =
     let one : length c.args.rows.now ≡ 1 = search rules in
-    subst (λ (rows : List Row). MatchOption c.house_in.result ((W : Who) → IsHouse rows W → ⊥) (IsHouse rows)) (sym (one_row c.args.rows.now c.row-item.result one c.row-item.is)) c.house_in.ensures
+    subst (λ (rows : List Row). MatchOption c.house_in.result ((q : Rules) (W : Who) → IsHouse q rows W → ⊥) (λ h. IsHouse h.0 rows h.1)) (sym (one_row c.args.rows.now c.row-item.result one c.row-item.is)) c.house_in.ensures

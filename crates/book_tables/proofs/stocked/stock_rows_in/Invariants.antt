@@ -1,7 +1,10 @@
-use Rattle.std.proofs.Common.{◌≡◌, List, map, take}
-use Rattle.profile.specs.Rows.{StockRow}
+use Rattle.std.proofs.Common.{◌≡◌, List, map, take, drop, true}
+use Rattle.profile.specs.Rows.{LotRow, shown_row}
+use Rattle.stock.specs.Keyed.{key_before, rises_by, row_key}
+use Rattle.book_tables.specs.Dated.{date_shown, dates_of}
 use Rattle.book_tables.specs.Showing.{stock_shown}
 use Rattle.book_tables.proofs.stocked.stock_rows_in.Given as goal
 
 abbrev pub invariant-loop-row : goal.invariant-loop-row
-invariant-loop-row l = (rs : List StockRow) → l.rows ≡ map stock_shown rs → l.shown.items ≡ take l.row-index rs
+invariant-loop-row l = (rs : List LotRow) → rises_by key_before row_key rs ≡ true → l.rows ≡ map (λ r. stock_shown (shown_row r)) rs → l.dates ≡ map date_shown (dates_of rs)
+    → (l.shown.items ≡ map shown_row (take l.row-index rs)) × (l.left ≡ map date_shown (dates_of (drop l.row-index rs)))

@@ -12,9 +12,10 @@ use Rattle.books.proofs.verifying.replayed.Given as goal
 -- the commands of the first entries were given to the copy
 abbrev pub invariant-loop-before : goal.invariant-loop-before
 invariant-loop-before g l = record {
-  copy : IsCopy l.fn.warehouse (standing_of over_memory l.copy);
+  copy : IsCopy l.last l.fn.warehouse (standing_of over_memory l.copy);
   follows : HasCleanDisk (state g.S.Store l.tables.conn) → (L : List Entry) → l.fn.entries ≡ length L
       → StandsWhileOpen (state g.S.Store l.fn.tables.conn) l.fn.warehouse L
-      → Follows l.before (state g.S.Store l.tables.conn) l.fn.warehouse (standing_of over_memory l.copy) L;
+      → Follows l.before l.last (state g.S.Store l.tables.conn) l.fn.warehouse (standing_of over_memory l.copy) L;
+  told : goal.T-IsAlwaysCallable g l.told;
   went : Went {T = Unit {0}} g.S.Store l.fn.tables l.tables (Ok tt);
 }

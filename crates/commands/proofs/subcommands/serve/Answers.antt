@@ -4,4 +4,5 @@ pub returns : goal.returns
 returns c =
     let one = c.subcommand-command.ensures _ c.wanted.ensures in
     let two = c.with-command.ensures _ _ one c.wanted-2.ensures in
-    c.with.ensures _ _ two c.at.ensures
+    let three = c.with-command-2.ensures _ _ two c.option.ensures in
+    c.with.ensures _ _ three c.at.ensures

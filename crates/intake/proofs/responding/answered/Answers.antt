@@ -1,4 +1,5 @@
 use Rattle.std.proofs.Common.{◌≡◌, sym, ap, subst, true, IfOk}
+use Rattle.profile.specs.declared.rules.Rules.TheVariants.{Two}
 use Rattle.profile.specs.Response.{Method, is_exchange, resp}
 use Rattle.intake.specs.Answers.{seen}
 use Rattle.intake.specs.Fields.{seen_method}
@@ -8,13 +9,13 @@ use Rattle.intake.proofs.responding.answered.Goals as goal
 pub returns-in-Get-clause-response : goal.returns-in-Get-clause-response
 returns-in-Get-clause-response g c = λ clean L keeps legal.
     let W = (g.K.Keeper.standing c.args.keeper.now).warehouse in
-    subst (λ (m : Method). IfOk c.got.result (λ r. seen r ≡ resp W L m (seen_route c.args.route.now) c.args.body.now c.args.moment))
+    subst (λ (m : Method). IfOk c.got.result (λ r. seen r ≡ resp Two W L m (seen_route c.args.route.now) c.args.body.now c.args.moment))
     (sym (ap seen_method c.in-Get.is)) (c.got.ensures.response clean L keeps legal c.args.body.now c.args.moment)
 
 pub returns-in-Post-clause-response : goal.returns-in-Post-clause-response
 returns-in-Post-clause-response g c = λ clean L keeps legal.
     let W = (g.K.Keeper.standing c.args.keeper.now).warehouse in
-    subst (λ (m : Method). IfOk c.posted.result (λ r. seen r ≡ resp W L m (seen_route c.args.route.now) c.args.body.now c.args.moment))
+    subst (λ (m : Method). IfOk c.posted.result (λ r. seen r ≡ resp Two W L m (seen_route c.args.route.now) c.args.body.now c.args.moment))
     (sym (ap seen_method c.in-Post.is)) (c.posted.ensures.response clean L keeps legal)
 
 pub returns-in-Post-clause-repeated : goal.returns-in-Post-clause-repeated
@@ -32,5 +33,5 @@ returns-in-Post-clause-left g c = λ exchange.
 pub returns-in-Other-clause-response : goal.returns-in-Other-clause-response
 returns-in-Other-clause-response g c = λ clean L keeps legal.
     let W = (g.K.Keeper.standing c.args.keeper.now).warehouse in
-    subst (λ (m : Method). seen c.not_served.result ≡ resp W L m (seen_route c.args.route.now) c.args.body.now c.args.moment)
+    subst (λ (m : Method). seen c.not_served.result ≡ resp Two W L m (seen_route c.args.route.now) c.args.body.now c.args.moment)
     (sym (ap seen_method c.in-Other.is)) (c.not_served.ensures W L c.args.body.now c.args.moment)

@@ -1,4 +1,5 @@
 use Rattle.std.proofs.Common.{[], ◌∷◌, take, subst, codes}
+use Rattle.profile.specs.declared.rules.Rules.TheVariants.{Two}
 use Rattle.profile.specs.Reports.{stock_csv, stock_record}
 use Rattle.reports.specs.Exports.{Holds}
 use Rattle.reports.proofs.MoreLaws.{one_more}
@@ -8,11 +9,11 @@ use Rattle.reports.proofs.exports.write_rows.Goals as goal
 pub loop-row-init : goal.loop-row-init
 loop-row-init c =
     let wrote = c.in_ok-write_fields.ensures in
-    holds_more c.args.writer.now c.write_fields.new.self [] (codes "item") (codes "lot") (codes "expected" ∷ codes "on_hand" ∷ codes "reserved" ∷ codes "shipped" ∷ [])
+    holds_more c.args.writer.now c.write_fields.new.self [] (codes "item") (codes "lot") (codes "expiry" ∷ codes "expected" ∷ codes "on_hand" ∷ codes "reserved" ∷ codes "shipped" ∷ [])
     c.requires wrote.bytes wrote.ended wrote.clean wrote.setup
 
 pub loop-row-preserved : goal.loop-row-preserved
 loop-row-preserved c =
-    let more = c.in_ok-write_row.ensures (stock_csv (take c.loop-row.row-index c.args.rows.now)) c.loop-row.invariant in
-    let told = one_more stock_record (stock_csv []) c.args.rows.now c.loop-row.row-index c.row-item.result c.loop-row-test.true c.row-item.is in
+    let more = c.in_ok-write_row.ensures (stock_csv Two (take c.loop-row.row-index c.args.rows.now)) c.loop-row.invariant in
+    let told = one_more (stock_record Two) (stock_csv Two []) c.args.rows.now c.loop-row.row-index c.row-item.result c.loop-row-test.true c.row-item.is in
     subst (Holds c.write_row.new.writer) told more

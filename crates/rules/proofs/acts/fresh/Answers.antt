@@ -13,7 +13,7 @@ returns-in-Ok-clause-reply c =
     let act = act_of c.args.act.now in
     IfOk-weaker c.accepted.result _ _ (λ d reply h P has of.
     let found = c.in-Ok.ensures.ok has.named P h.events has.part has.names of.shows in
-    act_done e.warehouse c.args.page.now.entries h (clerk_entry e.depositor c.args.ticket.now act e.moment) act found.0 c.args.page.now.entries (Clerk e.depositor c.args.ticket.now act) e.moment d (has.part.entries ∙ of.entries) found.1
+    act_done c.args.rules e.warehouse c.args.page.now.entries h (clerk_entry c.args.rules e.depositor c.args.ticket.now act e.moment) act found.0 c.args.page.now.entries (Clerk e.depositor c.args.ticket.now act) e.moment d (has.part.entries ∙ of.entries) found.1
     (reply h P found.0 has of found.1)) c.accepted.ensures.reply
 
 pub returns-in-Err-clause-reply : goal.returns-in-Err-clause-reply
@@ -21,16 +21,16 @@ returns-in-Err-clause-reply c =
     let e = c.args.envelope.now in
     let act = act_of c.args.act.now in
     IfOk-weaker c.refused.result _ _ (λ d reply h P has of.
-    act_told_of e.warehouse c.args.page.now.entries h (clerk_entry e.depositor c.args.ticket.now act e.moment) act c.args.page.now.entries (Clerk e.depositor c.args.ticket.now act) e.moment d (has.part.entries ∙ of.entries)
+    act_told_of c.args.rules e.warehouse c.args.page.now.entries h (clerk_entry c.args.rules e.depositor c.args.ticket.now act e.moment) act c.args.page.now.entries (Clerk e.depositor c.args.ticket.now act) e.moment d (has.part.entries ∙ of.entries)
     (reply h.events (c.args.page.now.entries + 1) act (c.in-Err.ensures.err has.named P h.events has.part has.names of.shows)
-    e.warehouse h (clerk_entry e.depositor c.args.ticket.now act e.moment) c.args.page.now.entries (Clerk e.depositor c.args.ticket.now act) e.moment)) c.refused.ensures.reply
+    c.args.rules e.warehouse h (clerk_entry c.args.rules e.depositor c.args.ticket.now act e.moment) c.args.page.now.entries (Clerk e.depositor c.args.ticket.now act) e.moment)) c.refused.ensures.reply
 
 pub accepted-requires-clause-led : goal.accepted-requires-clause-led
 accepted-requires-clause-led c =
     let e = c.args.envelope.now in
-    λ h P has of. act_leads e.depositor c.args.ticket.now (act_of c.args.act.now) e.moment c.args.page.now P c.in-Ok.step.changes.items h has.named c.in-Ok.ensures.ok has.part has.names of
+    λ h P has of. act_leads c.args.rules e.depositor c.args.ticket.now (act_of c.args.act.now) e.moment c.args.page.now P c.in-Ok.step.changes.items h has.named c.in-Ok.ensures.ok has.part has.names of
 
 pub returns-in-Err-clause-leads : goal.returns-in-Err-clause-leads
 returns-in-Err-clause-leads c =
     let e = c.args.envelope.now in
-    IfOk-weaker c.refused.result _ _ (λ d none. nowhere c.args.page.now (Clerk e.depositor c.args.ticket.now (act_of c.args.act.now)) e.moment d none) c.refused.ensures.comes
+    IfOk-weaker c.refused.result _ _ (λ d none. nowhere c.args.rules c.args.page.now (Clerk e.depositor c.args.ticket.now (act_of c.args.act.now)) e.moment d none) c.refused.ensures.comes

@@ -8,6 +8,6 @@ use Rattle.rules.proofs.Decides.{noted_new}
 use Rattle.rules.proofs.interchanges.halted.Goals as goal
 
 pub returns-in-Note-clause-reply : goal.returns-in-Note-clause-reply
-returns-in-Note-clause-reply c = IfOk-weaker c.noted.result _ _ (λ d reply text h n told same.
-    noted_new c.args.warehouse.now h text c.args.header.now c.args.moment n c.in-Note.code (structure_note text) d same (subst (λ (x : Halt). IsTold x text) c.in-Note.is told)
-    (reply n (Interchange text))) c.noted.ensures.reply
+returns-in-Note-clause-reply c = IfOk-weaker c.noted.result _ _ (λ d reply r text h n told same.
+    noted_new r c.args.warehouse.now h text c.args.header.now c.args.moment n c.in-Note.code (structure_note text) d same (subst (λ (x : Halt). IsTold x text) c.in-Note.is told)
+    (reply r n (Interchange text))) c.noted.ensures.reply

@@ -25,7 +25,7 @@ take_groups-requires-clause-small c =
 pub returns-clause-played : goal.returns-clause-played
 returns-clause-played c = λ h of is.
     let e = c.args.envelope in
-    grouped_played e.warehouse e.depositor e.moment e.number c.args.header.now c.args.page c.in_ok-groups.groups.page c.in_ok-groups.groups.changes.items c.in_ok-groups.groups.told.items c.in_ok-outgoing.outgoing.items h
-    (subst (λ (i : GroupsOf). AreGroupsTaken i.delims i.groups c.args.page c.in_ok-groups.groups.page c.in_ok-groups.groups.changes.items c.in_ok-groups.groups.told.items) c.requires.parts c.in_ok-groups.ensures) c.rows.ensures.sound.sorted
+    grouped_played c.args.rules e.warehouse e.depositor e.moment e.number c.args.header.now c.args.page c.in_ok-groups.groups.page c.in_ok-groups.groups.changes.items c.in_ok-groups.groups.told.items c.in_ok-outgoing.outgoing.items h
+    (subst (λ (i : GroupsOf). AreGroupsTaken c.args.rules i.delims i.groups c.args.page c.in_ok-groups.groups.page c.in_ok-groups.groups.changes.items c.in_ok-groups.groups.told.items) c.requires.parts c.in_ok-groups.ensures) c.rows.ensures.sound.sorted
     (c.in_ok-outgoing.ensures
     ∙ ap (λ (told : List Told). answer_of (delims_of c.args.header.now) e.warehouse e.depositor e.moment e.number (heading_of c.args.header.now) told) c.deref.ensures.value) of is

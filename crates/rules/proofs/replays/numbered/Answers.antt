@@ -11,11 +11,11 @@ returns-clause-replayed c = λ h e of is entry few good clean.
     let played : IsPlayed c.args.warehouse.now h e c.if-is_ticketed.played.page c.if-is_ticketed.played.outgoing.items = elim c.if-is_ticketed.branch [
       | then-is_ticketed+in_ok-played w ↦ subst (λ (x : Replayed). IsPlayed c.args.warehouse.now h e x.page x.outgoing.items) (sym w.played-is)
           (act_played c.args.warehouse.now c.who.result c.args.entry.now h e c.args.page w.in_ok-played.played.page w.in_ok-played.played.outgoing.items
-          c.who-2.result c.moment.result c.number.result w.body.result.now c.who.ensures c.who-2.ensures c.moment.ensures c.number.ensures w.body.ensures
+          c.who-2.result c.moment.result c.number.result w.body.result.now w.rules.result c.who.ensures c.who-2.ensures c.moment.ensures c.number.ensures w.body.ensures w.rules.ensures
           (sym c.is_ticketed.ensures ∙ w.if-is_ticketed.true) known of w.in_ok-played.ensures.played)
       | else-is_ticketed+in_ok-played-2 w ↦ subst (λ (x : Replayed). IsPlayed c.args.warehouse.now h e x.page x.outgoing.items) (sym w.played-is)
           (interchange_played c.args.warehouse.now c.who.result c.args.entry.now h e c.args.page w.in_ok-played-2.played.page w.in_ok-played-2.played.outgoing.items
-          c.who-2.result c.moment.result c.number.result w.body-else-is_ticketed.result.now c.who.ensures c.who-2.ensures c.moment.ensures c.number.ensures w.body-else-is_ticketed.ensures
+          c.who-2.result c.moment.result c.number.result w.body-else-is_ticketed.result.now w.rules-else-is_ticketed.result c.who.ensures c.who-2.ensures c.moment.ensures c.number.ensures w.body-else-is_ticketed.ensures w.rules-else-is_ticketed.ensures
           (sym c.is_ticketed.ensures ∙ w.if-is_ticketed.false) known of w.in_ok-played-2.ensures.played)
     ] in
     counted c.args.warehouse.now h e c.if-is_ticketed.played.page c.ended.result c.if-is_ticketed.played.outgoing.items played is c.ended.ensures.next c.ended.ensures.shows

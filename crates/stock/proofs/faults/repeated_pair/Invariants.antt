@@ -1,6 +1,7 @@
-use Rattle.std.proofs.Common.{◌≡◌, take, drop, []}
-use Rattle.profile.specs.Events.{repeated, same_advice_pair}
+use Rattle.profile.specs.Means.{AdviceLine}
+use Rattle.profile.specs.Events.{same_advice_pair}
+use Rattle.stock.proofs.Repeats.{HaveStood}
 use Rattle.stock.proofs.faults.repeated_pair.Given as goal
 
-abbrev pub invariant-loop-i : goal.invariant-loop-i
-invariant-loop-i l = repeated same_advice_pair [] l.lines ≡ repeated same_advice_pair (take l.i l.lines) (drop l.i l.lines)
+abbrev pub invariant-loop-line : goal.invariant-loop-line
+invariant-loop-line l = HaveStood same_advice_pair (λ (k : AdviceLine). k.line) l.lines l.line-index l.seen.items

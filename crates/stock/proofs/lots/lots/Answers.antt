@@ -1,22 +1,23 @@
 use Rattle.std.proofs.Common.{sym, ◌∙◌, ap, arith}
 use Rattle.profile.specs.Lists.{placed, in_order}
 use Rattle.profile.specs.Allotment.{ranks_before, Ranked}
+use Rattle.stock.proofs.KeyLemmas.{sorted_distinct}
 use Rattle.stock.proofs.LotLemmas.{lots_step_yes, lots_step_no, lots_none_before, lots_none_behind}
 use Rattle.stock.proofs.lots.lots.Goals as goal
 use Rattle.stock.proofs.lots.lots.Goals.{then-is_lot_of+in_ok-of+in_ok-place, else-is_lot_of}
 
 pub loop-i-init : goal.loop-i-init
-loop-i-init c = c.new-lots.ensures.items ∙ ap (in_order ranks_before) (sym (lots_none_before c.args.item.now c.args.rows.now c.item_start-i.result c.item_start-i.ensures))
+loop-i-init c = c.new-lots.ensures.items ∙ ap (in_order (ranks_before c.args.rules)) (sym (lots_none_before c.args.item.now c.args.rows.now c.item_start-i.result c.item_start-i.ensures))
 
 pub loop-i-preserved : goal.loop-i-preserved
 loop-i-preserved c = elim c.if-is_lot_of.branch [
-  | then-is_lot_of+in_ok-of+in_ok-place w ↦ lots_step_yes c.args.item.now c.args.rows.now c.loop-i.i c.index-rows-i.result c.loop-i.lots.items c.if-is_lot_of.lots.items
-      (omega (arith, c.loop-i-test.true, c.item_end-i-end.ensures.bound)) c.index-rows-i.is c.loop-i.invariant (sym w.if-is_lot_of.ensures)
-      (ap (λ v. v.items) w.lots-is ∙ w.in_ok-place.ensures ∙ ap (λ (x : Ranked). placed ranks_before x c.loop-i.lots.items) w.in_ok-of.ensures)
-  | else-is_lot_of w ↦ ap (λ v. v.items) w.lots-is ∙ lots_step_no c.args.item.now c.args.rows.now c.loop-i.i c.index-rows-i.result c.loop-i.lots.items
+  | then-is_lot_of+in_ok-of+in_ok-place w ↦ lots_step_yes c.args.rules c.args.item.now c.args.rows.now c.loop-i.i c.index-rows-i.result c.loop-i.lots.items c.if-is_lot_of.lots.items
+      (sorted_distinct c.args.rows.now c.requires) (omega (arith, c.loop-i-test.true, c.item_end-i-end.ensures.bound)) c.index-rows-i.is c.loop-i.invariant (sym w.if-is_lot_of.ensures)
+      (ap (λ v. v.items) w.lots-is ∙ w.in_ok-place.ensures ∙ ap (λ (x : Ranked). placed (ranks_before c.args.rules) x c.loop-i.lots.items) w.in_ok-of.ensures)
+  | else-is_lot_of w ↦ ap (λ v. v.items) w.lots-is ∙ lots_step_no c.args.rules c.args.item.now c.args.rows.now c.loop-i.i c.index-rows-i.result c.loop-i.lots.items
       (omega (arith, c.loop-i-test.true, c.item_end-i-end.ensures.bound)) c.index-rows-i.is c.loop-i.invariant (sym w.if-is_lot_of.ensures)
 ]
 
 pub returns : goal.returns
 returns c = c.loop-i.invariant
-    ∙ ap (in_order ranks_before) (lots_none_behind c.args.item.now c.args.rows.now c.loop-i.i (λ k d le within. c.item_end-i-end.ensures.behind k d (omega (arith, le, c.loop-i-test.false)) within))
+    ∙ ap (in_order (ranks_before c.args.rules)) (lots_none_behind c.args.item.now c.args.rows.now c.loop-i.i (λ k d le within. c.item_end-i-end.ensures.behind k d (omega (arith, le, c.loop-i-test.false)) within))

@@ -22,9 +22,9 @@ loop-ranked-preserved c = elim c.if-may_have.branch [
       ap (λ v. v.items) w.shares-is ∙ w.in_ok-push.ensures.items ∙ ap (λ (l : Line). c.loop-ranked.shares.items ++ l ∷ []) line in
       let left : c.if-may_have.left ≡ c.loop-ranked.left - share = w.left-is ∙ ap (λ (n : ℕ). c.loop-ranked.left - n) is in
       rw (shares, left) (shares_more c.args.rows.now item c.args.line.now.pin c.deref-ranked-items.result.now c.loop-ranked.ranked-index c.ranked-item.result c.loop-ranked.left
-      (shares_in c.args.rows.now c.args.line.now) c.loop-ranked.shares.items c.loop-ranked-test.true c.ranked-item.is c.loop-ranked.invariant may)
+      (shares_in c.args.rules c.args.rows.now c.args.line.now) c.loop-ranked.shares.items c.loop-ranked-test.true c.ranked-item.is c.loop-ranked.invariant may)
   | else-may_have w ↦
       let not : may_have c.args.line.now.pin c.ranked-item.result.lot ≡ false = cc (w.if-may_have.ensures, c.lot.ensures) in
       rw (w.shares-is, w.left-is) (shares_none c.args.rows.now c.args.line.now.item c.args.line.now.pin c.deref-ranked-items.result.now c.loop-ranked.ranked-index c.ranked-item.result c.loop-ranked.left
-      (shares_in c.args.rows.now c.args.line.now) c.loop-ranked.shares.items c.loop-ranked-test.true c.ranked-item.is c.loop-ranked.invariant not)
+      (shares_in c.args.rules c.args.rows.now c.args.line.now) c.loop-ranked.shares.items c.loop-ranked-test.true c.ranked-item.is c.loop-ranked.invariant not)
 ]

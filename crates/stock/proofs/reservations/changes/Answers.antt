@@ -25,7 +25,7 @@ add_lines-requires-clause-fits c =
     let lines : c.deref.result.now ≡ reserved_lines shares = cc (c.in_ok-lines.ensures, c.deref.ensures.value) in
     let lines2 : c.deref-2.result.now ≡ reserved_lines shares = cc (c.in_ok-lines.ensures, c.deref-2.ensures.value) in
     let touched : IsTouched (reserved_lines shares) p.rows t0 = rw (lines, c.rows-rows.ensures.rows) at c.in_ok-touched.ensures in
-    let facts : IsAllotted p.rows shares = subst (IsAllotted p.rows) (sym c.requires.allotted) (allotted p.rows o.lines c.rows-rows.ensures.sound.distinct c.requires.once) in
+    let facts : IsAllotted p.rows shares = subst (IsAllotted p.rows) (sym c.requires.allotted.1) (allotted c.requires.allotted.0 p.rows o.lines c.rows-rows.ensures.sound.distinct c.requires.once) in
     rw lines2 (λ x y. omega (arith, touched_less (reserved_lines shares) p.rows t0 touched (amount Reservation) x y, reserved_fits p shares facts c.rows-rows.ensures.sound x y))
 
 pub returns-clause-made : goal.returns-clause-made
@@ -40,7 +40,7 @@ returns-clause-made c = λ n P part names.
     let t1 = c.add_lines.new.rows.items in
     let moved : IsAdded Reservation (reserved_lines shares) t0 t1 = rw lines2 at c.in_ok-add_lines.ensures in
     let changed : c.in_ok-changes.changes.items ≡ map change.Stock (changed_rows p.rows t1) = rw (c.rows-rows.ensures.rows, c.deref-3.ensures.value) at c.in_ok-changes.ensures in
-    let items : are_items n (reserved_lines shares) ≡ true = subst (λ (ls : List Line). are_items n (reserved_lines ls) ≡ true) (sym c.requires.allotted) (reserved_items n p o.lines names.items) in
+    let items : are_items n (reserved_lines shares) ≡ true = subst (λ (ls : List Line). are_items n (reserved_lines ls) ≡ true) (sym c.requires.allotted.1) (reserved_items c.requires.allotted.0 n p o.lines names.items) in
     let pushed : c.push.new.self.items ≡ map change.Stock (changed_rows p.rows t1) ++ change.Order (opened_order o shares) ∷ [] =
     c.in_ok-push.ensures.items ∙ (λ i. changed i ++ change.Order (c.in_ok-opened.ensures i) ∷ []) in
     rw pushed (reserved_whole n o shares p P t0 t1 part items touched moved).made
@@ -57,7 +57,7 @@ returns-clause-exact c = λ n P part names.
     let t1 = c.add_lines.new.rows.items in
     let moved : IsAdded Reservation (reserved_lines shares) t0 t1 = rw lines2 at c.in_ok-add_lines.ensures in
     let changed : c.in_ok-changes.changes.items ≡ map change.Stock (changed_rows p.rows t1) = rw (c.rows-rows.ensures.rows, c.deref-3.ensures.value) at c.in_ok-changes.ensures in
-    let items : are_items n (reserved_lines shares) ≡ true = subst (λ (ls : List Line). are_items n (reserved_lines ls) ≡ true) (sym c.requires.allotted) (reserved_items n p o.lines names.items) in
+    let items : are_items n (reserved_lines shares) ≡ true = subst (λ (ls : List Line). are_items n (reserved_lines ls) ≡ true) (sym c.requires.allotted.1) (reserved_items c.requires.allotted.0 n p o.lines names.items) in
     let pushed : c.push.new.self.items ≡ map change.Stock (changed_rows p.rows t1) ++ change.Order (opened_order o shares) ∷ [] =
     c.in_ok-push.ensures.items ∙ (λ i. changed i ++ change.Order (c.in_ok-opened.ensures i) ∷ []) in
     rw pushed (reserved_whole n o shares p P t0 t1 part items touched moved).exact
@@ -65,7 +65,7 @@ returns-clause-exact c = λ n P part names.
 pub returns-clause-sound : goal.returns-clause-sound
 returns-clause-sound c =
     let p = c.args.page.now in
-    let facts : IsAllotted p.rows c.args.shares.now = subst (IsAllotted p.rows) (sym c.requires.allotted) (allotted p.rows c.args.order.now.lines c.rows-rows.ensures.sound.distinct c.requires.once) in
-    let lies = subst (λ (ls : List Line). is_in_lines (opened_order c.args.order.now ls) ≡ true) (sym c.requires.allotted) (opened_in_lines c.args.order.now p) in
+    let facts : IsAllotted p.rows c.args.shares.now = subst (IsAllotted p.rows) (sym c.requires.allotted.1) (allotted c.requires.allotted.0 p.rows c.args.order.now.lines c.rows-rows.ensures.sound.distinct c.requires.once) in
+    let lies = subst (λ (ls : List Line). is_in_lines (opened_order c.args.order.now ls) ≡ true) (sym c.requires.allotted.1) (opened_in_lines c.requires.allotted.0 c.args.order.now p) in
     reserved_sound c.args.order.now c.args.shares.now p _
     (returns-clause-made c all_named p (part_of_self all_named p c.rows-rows.ensures.sound.sorted) (record { number = refl; items = all_ordered c.args.order.now.lines })) facts lies c.requires.unknown c.requires.room c.rows-rows.ensures.sound

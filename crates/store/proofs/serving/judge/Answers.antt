@@ -15,10 +15,10 @@ returns-clause-decision g c = λ clean L keeps legal.
     let asking = asked c.args.command.now in
     let page = c.in_ok-page.ensures.page clean L keeps legal in
     let there = c.in_ok-page.ensures.known clean L keeps legal in
-    decided old.warehouse L asking c.args.moment c.in_ok-decide.field-0 _ _
+    decided c.args.rules old.warehouse L asking c.args.moment c.in_ok-decide.field-0 _ _
     (subst (λ p. IsHeld (need_of asking) p (standing (own_of L asking))) (sym c.as_ref.ensures.value) page)
     (subst (λ r. IsRecalled r (recalled old.warehouse (command_mark asking) (own_of L asking))) (sym c.as_ref-2.ensures.value) there)
-    (λ h k given. subst (λ W. IsReply (entries_of c.as_ref.result) asking c.args.moment (reply_by W h k asking c.args.moment) c.in_ok-decide.field-0) c.warehouse-warehouse.ensures (c.in_ok-decide.ensures.reply h k given))
+    (λ h k given. subst (λ W. IsReply c.args.rules (entries_of c.as_ref.result) asking c.args.moment (reply_by c.args.rules W h k asking c.args.moment) c.in_ok-decide.field-0) c.warehouse-warehouse.ensures (c.in_ok-decide.ensures.reply h k given))
 
 pub returns-clause-tables : goal.returns-clause-tables
 returns-clause-tables g c = λ clean L keeps legal.

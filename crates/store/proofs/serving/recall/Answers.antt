@@ -1,4 +1,5 @@
 use Rattle.std.proofs.Common.{sym, subst}
+use Rattle.profile.specs.declared.rules.Rules.TheVariants.{Two}
 use Rattle.profile.specs.Accepted.{IsLegal}
 use Rattle.profile.specs.Decision.{standing}
 use Rattle.profile.specs.Register.{own}
@@ -34,7 +35,7 @@ returns-clause-known g c = λ clean L keeps legal.
     let early = clean_before mid new c.known.ensures.same.goes clean in
     let names = c.in-Some.ensures in
     let same = c.load.ensures.same in
-    let there = c.in_ok-known.ensures.entry clean L (same.keeps early L keeps) (subst (λ W. IsLegal W L) (sym same.goes.warehouse) legal) in
+    let there = c.in_ok-known.ensures.entry clean L (same.keeps early L keeps) (subst (λ W. IsLegal Two W L) (sym same.goes.warehouse) legal) in
     let whose = owner_some L (asked c.args.command.now) _ _ names in
     let key = named_key (asked c.args.command.now) _ _ names in
     recalled_at c.in_ok-known.known same.goes.warehouse key whose there

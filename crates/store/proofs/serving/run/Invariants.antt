@@ -1,5 +1,6 @@
 use Rattle.std.proofs.Common.{◌≡◌, List, length, map, take, true}
 use Rattle.profile.specs.Register.{Entry}
+use Rattle.profile.specs.declared.rules.Rules.TheVariants.{Two}
 use Rattle.profile.specs.Accepted.{accepted_on, replies_on}
 use Rattle.store.specs.Runs.{told, all_asked, can_be_given}
 use Rattle.store.specs.Standing.{IsUsable, GoesOn}
@@ -14,7 +15,7 @@ invariant-loop-command g l =
       goes : GoesOn old now;
       shut : old.shut ≡ now.shut;
       usable : now.doubt ≡ 0 → (L : List Entry) → IsUsable old L → can_be_given (take l.command-index l.commands) ≡ true
-          → IsUsable now (accepted_on old.warehouse L (take l.command-index (all_asked l.commands)));
+          → IsUsable now (accepted_on Two old.warehouse L (take l.command-index (all_asked l.commands)));
       told : now.doubt ≡ 0 → (L : List Entry) → IsUsable old L → can_be_given (take l.command-index l.commands) ≡ true
-          → map told l.replies.items ≡ replies_on old.warehouse L (take l.command-index (all_asked l.commands));
+          → map told l.replies.items ≡ replies_on Two old.warehouse L (take l.command-index (all_asked l.commands));
     }

@@ -1,77 +1,19 @@
-use Rattle.std.proofs.Common.{rules, subst, sym, List, ◌≡◌, true}
+use Rattle.std.proofs.Common.{rules, ◌≡◌, true}
 use Rattle.std.specs.Cmp.Derive.{both_true}
+use Rattle.profile.specs.declared.rules.Rules.TheVariants.{Two}
 use Rattle.profile.specs.Moments.{is_moment}
-use Rattle.profile.specs.Register.{Entry}
-use Rattle.profile.specs.Accepted.{after, entry_of}
 use Rattle.rules.specs.Asked.{asked}
-use Rattle.rules.specs.Tabled.{LeadsInTables}
-use Rattle.store.specs.Held.{IsDecided}
-use Rattle.store.specs.Standing.{IsUsable, LeavesEither}
-use Rattle.store.proofs.Changes.{clean_before, usable_stays, fault_after, leaves_first, at_fault}
-use Rattle.store.proofs.Replies.{next_at, next_is, behind_accepted, behind_stored, behind_refused}
+use Rattle.store.proofs.Replies.{legal_after}
 use Rattle.store.proofs.serving.submit.Goals as goal
 
-pub returns-in_err-text-clause-left : goal.returns-in_err-text-clause-left
-returns-in_err-text-clause-left g c = λ clean L u given.
-    at_fault c.from_residual.result (leaves_first _ L (after (g.K.Keeper.standing c.args.keeper.now).warehouse L (asked c.args.command.now, c.args.moment))
-    (usable_stays (g.K.Keeper.standing c.args.keeper.now) (g.K.Keeper.standing c.judge.new.keeper) c.judge.ensures.same clean L u))
-
-pub returns-in_err-commit-in-Accepted-clause-left : goal.returns-in_err-commit-in-Accepted-clause-left
-returns-in_err-commit-in-Accepted-clause-left g c = λ clean L u given.
+pub returns-clause-ok : goal.returns-clause-ok
+returns-clause-ok g c = λ clean L u given.
     let old = g.K.Keeper.standing c.args.keeper.now in
-    let mid = g.K.Keeper.standing c.judge.new.keeper in
-    let new = g.K.Keeper.standing c.commit.new.self in
-    let asking = asked c.args.command.now in
-    let t = c.args.moment in
-    let early = clean_before mid new c.commit.ensures.goes clean in
-    let is = subst (IsDecided old.warehouse L asking t) c.in-Accepted.is (c.in_ok-text.ensures.decision early L u.keeps u.legal) in
-    let next = next_is old.warehouse L asking t c.in-Accepted.entry c.in-Accepted.changes.items c.in-Accepted.outgoing.items u.legal (both_true given (let m : is_moment c.args.moment ≡ true = search rules in m)) is.0 is.1
-    (subst (LeadsInTables old.warehouse L asking t) c.in-Accepted.is (c.in_ok-text.ensures.tables early L u.keeps u.legal)) in
-    let house = c.judge.ensures.same.goes.warehouse in
-    at_fault c.from_residual-in_err-commit-in-Accepted.result
-    (subst (λ (M : List Entry). LeavesEither new L M) (behind_accepted old.warehouse L asking t c.in-Accepted.outgoing.items is.0)
-    (c.in_err-commit-in-Accepted.ensures.left clean L (entry_of asking t) (usable_stays old mid c.judge.ensures.same early L u)
-    (next_at (sym house) (sym c.deref.ensures.value) (sym c.deref-in-Accepted.ensures.value) next)))
+    let timely : is_moment c.args.moment ≡ true = search rules in
+    c.submit_under.ensures.ok clean L u (legal_after Two old.warehouse L (asked c.args.command.now) c.args.moment (both_true given timely) u.legal)
 
-pub returns-in_err-commit-in-Accepted-clause-fault : goal.returns-in_err-commit-in-Accepted-clause-fault
-returns-in_err-commit-in-Accepted-clause-fault g c =
-    let whole = fault_after (g.K.Keeper.standing c.args.keeper.now) (g.K.Keeper.standing c.judge.new.keeper) (g.K.Keeper.standing c.commit.new.self) c.judge.ensures.same c.commit.ensures.goes c.in_err-commit-in-Accepted.field-0.0 c.in_err-commit-in-Accepted.ensures.fault in
-    search rules
-
-pub returns-in-Stored-clause-ok : goal.returns-in-Stored-clause-ok
-returns-in-Stored-clause-ok g c = λ clean L u given.
+pub returns-clause-left : goal.returns-clause-left
+returns-clause-left g c = λ clean L u given.
     let old = g.K.Keeper.standing c.args.keeper.now in
-    let new = g.K.Keeper.standing c.judge.new.keeper in
-    let is = subst (IsDecided old.warehouse L (asked c.args.command.now) c.args.moment) c.in-Stored.is (c.in_ok-text.ensures.decision clean L u.keeps u.legal) in
-    subst (IsUsable new) (behind_stored old.warehouse L (asked c.args.command.now) c.args.moment _ is) (usable_stays old new c.judge.ensures.same clean L u)
-
-pub returns-in-Refused-clause-ok : goal.returns-in-Refused-clause-ok
-returns-in-Refused-clause-ok g c = λ clean L u given.
-    let old = g.K.Keeper.standing c.args.keeper.now in
-    let new = g.K.Keeper.standing c.judge.new.keeper in
-    let is = subst (IsDecided old.warehouse L (asked c.args.command.now) c.args.moment) c.in-Refused.is (c.in_ok-text.ensures.decision clean L u.keeps u.legal) in
-    subst (IsUsable new) (behind_refused old.warehouse L (asked c.args.command.now) c.args.moment _ _ is) (usable_stays old new c.judge.ensures.same clean L u)
-
-pub returns-in_ok-commit-in-Accepted-clause-reply : goal.returns-in_ok-commit-in-Accepted-clause-reply
-returns-in_ok-commit-in-Accepted-clause-reply g c = λ clean L keeps legal.
-    let old = g.K.Keeper.standing c.args.keeper.now in
-    let mid = g.K.Keeper.standing c.judge.new.keeper in
-    let early = clean_before mid (g.K.Keeper.standing c.commit.new.self) c.commit.ensures.goes clean in
-    let is = subst (IsDecided old.warehouse L (asked c.args.command.now) c.args.moment) c.in-Accepted.is (c.in_ok-text.ensures.decision early L keeps legal) in
-    sym is.0
-
-pub returns-in_ok-commit-in-Accepted-clause-ok : goal.returns-in_ok-commit-in-Accepted-clause-ok
-returns-in_ok-commit-in-Accepted-clause-ok g c = λ clean L u given.
-    let old = g.K.Keeper.standing c.args.keeper.now in
-    let mid = g.K.Keeper.standing c.judge.new.keeper in
-    let new = g.K.Keeper.standing c.commit.new.self in
-    let asking = asked c.args.command.now in
-    let t = c.args.moment in
-    let early = clean_before mid new c.commit.ensures.goes clean in
-    let is = subst (IsDecided old.warehouse L asking t) c.in-Accepted.is (c.in_ok-text.ensures.decision early L u.keeps u.legal) in
-    let next = next_is old.warehouse L asking t c.in-Accepted.entry c.in-Accepted.changes.items c.in-Accepted.outgoing.items u.legal (both_true given (let m : is_moment c.args.moment ≡ true = search rules in m)) is.0 is.1
-    (subst (LeadsInTables old.warehouse L asking t) c.in-Accepted.is (c.in_ok-text.ensures.tables early L u.keeps u.legal)) in
-    let house = c.judge.ensures.same.goes.warehouse in
-    subst (IsUsable new) (behind_accepted old.warehouse L asking t c.in-Accepted.outgoing.items is.0)
-    (c.in_ok-commit-in-Accepted.ensures.ok clean L (entry_of asking t) (usable_stays old mid c.judge.ensures.same early L u)
-    (next_at (sym house) (sym c.deref.ensures.value) (sym c.deref-in-Accepted.ensures.value) next))
+    let timely : is_moment c.args.moment ≡ true = search rules in
+    c.submit_under.ensures.left clean L u (legal_after Two old.warehouse L (asked c.args.command.now) c.args.moment (both_true given timely) u.legal)

@@ -10,12 +10,12 @@ use std::alloc::Global;
 use std::test::Fail;
 use store::{Command, Fault, Keeper, Key, Moment, Need, Sheet, SheetKind, Warehouse, Who, submit};
 
-// The calls that make a book: nine tables, the row of `book`, and the commit.
-const MAKING: u64 = 11;
+// The calls that make a book: eleven tables, the row of `book`, and the commit.
+const MAKING: u64 = 13;
 
 // The calls that open it, two queries, each prepared and asked; and those of the count's commit: an
-// entry, its text, the lot, the advice, and the commit.
-const LEAST: u64 = 4 + 5;
+// entry, its rules, its text, the lot, the advice, and the commit.
+const LEAST: u64 = 4 + 6;
 
 // How many calls an opening and a count are tried with at most.
 const MOST: u64 = 100;

@@ -2,6 +2,7 @@
 //! stands in the book.
 use super::worked::{ADVICE, acme, count, enrols, house, morning, ninety};
 use books::{Book, Tables};
+use profile::Rules;
 use sqlite::Connection;
 use std::alloc::{AllocError, Global};
 use std::test::Fail;
@@ -57,7 +58,7 @@ fn counted(alloc: Global, letter: u8) -> Result<Sheet, Fail> {
             b"1".to_vec(alloc)?,
         ))?;
     }
-    match Sheet::new(SheetKind::Count, lines) {
+    match Sheet::new(SheetKind::Count, lines, Rules::Two) {
         Ok(sheet) => Ok(sheet),
         Err(_) => Err("a sheet".into()),
     }

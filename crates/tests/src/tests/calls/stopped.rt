@@ -17,7 +17,7 @@ const MOST: u64 = 1_000;
 
 // How a stop is made.
 #[derive(Clone, Copy)]
-enum Stop {
+pub(super) enum Stop {
     // The book is closed and opened again.
     Closing,
     // The store crashes: what wasn't committed is lost.
@@ -50,7 +50,7 @@ fn is_answer_again(reply: &Reply, wanted: &(&[u8], Want), was_answered: bool) ->
 }
 
 // The same of all commands of the day, of which so many were answered before.
-fn are_answers_again(replies: &[Reply], answered: usize) -> bool {
+pub(super) fn are_answers_again(replies: &[Reply], answered: usize) -> bool {
     replies.iter().zip(answers().iter()).enumerate().all(|(at, (reply, wanted))| is_answer_again(
         reply,
         wanted,
@@ -73,7 +73,7 @@ fn entries(answered: usize) -> u64 {
 }
 
 // Whether a book is as the day leaves it without a stop.
-fn is_whole<S: Alter + Drop>(book: &mut Book<S>) -> Result<bool, Fail> {
+pub(super) fn is_whole<S: Alter + Drop>(book: &mut Book<S>) -> Result<bool, Fail> {
     let sent = outbox(book, acme()?)?.ok_or("a depositor")?;
     let rows = stock(book, acme()?)?.ok_or("a depositor")?;
     Ok(is_sent(&sent) && is_shipped(&rows) && book.verify()? == 6)

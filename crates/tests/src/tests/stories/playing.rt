@@ -3,6 +3,7 @@
 use super::texts::Text;
 use super::{Answered, Asked, Step};
 use books::{Book, Tables};
+use profile::Rules;
 use sqlite::{Alter, Connection};
 use sqlite_trees::memory::MemStore;
 use std::alloc::{AllocError, Global};
@@ -47,7 +48,7 @@ fn lines_of(alloc: Global, text: &str) -> Result<Vec<Line>, Fail> {
 
 fn sheet_of(alloc: Global, kind: SheetKind, text: &str) -> Result<Sheet, Fail> {
     Ok(
-        Sheet::new(kind, lines_of(alloc, text)?)
+        Sheet::new(kind, lines_of(alloc, text)?, Rules::Two)
             .ok()
             .ok_or("a sheet")?,
     )
@@ -111,6 +112,10 @@ fn push_stock(alloc: Global, text: &mut Vec<u8>, row: &StockRow) -> Result<(), A
     text.extend_from_slice(&row.item)?;
     text.push(b' ')?;
     text.extend_from_slice(&row.lot)?;
+    if let Some(date) = &row.expiry {
+        text.push(b' ')?;
+        text.extend_from_slice(date)?;
+    }
     let amounts = format!(in alloc;
         " {} {} {} {}\n",
         row.expected, row.on_hand, row.reserved, row.shipped
@@ -144,8 +149,8 @@ fn push_all(
     Ok(())
 }
 
-// What a depositor has, a line for each row.
-fn shown(
+/// What a depositor has, a line for each row.
+pub(crate) fn shown(
     alloc: Global,
     stocked: &Option<Vec<StockRow>>,
     sent: &Option<Vec<OutRow>>,

@@ -50,12 +50,12 @@ loop-number-preserved g c =
 
 pub returns-clause-compares : goal.returns-clause-compares
 returns-clause-compares g c =
-    let whole : 9 ≤ c.loop-number.number = omega (arith, c.loop-number-test.false) in
+    let whole : 11 ≤ c.loop-number.number = omega (arith, c.loop-number-test.false) in
     all_same g.S.Store g.T.Store c.args.self.now c.loop-number.self c.args.other.now c.loop-number.other c.loop-number.number whole c.loop-number.invariant
 
 pub returns-clause-asked : goal.returns-clause-asked
 returns-clause-asked g c =
-    let whole : 9 ≤ c.loop-number.number = omega (arith, c.loop-number-test.false) in
+    let whole : 11 ≤ c.loop-number.number = omega (arith, c.loop-number-test.false) in
     all_asked g.S.Store g.T.Store c.args.self.now c.loop-number.self c.args.other.now c.loop-number.other c.loop-number.number whole c.loop-number.invariant
 
 pub returns-clause-other : goal.returns-clause-other

@@ -1,33 +1,47 @@
 use Rattle.std.proofs.Common.{List, subst}
+use Rattle.profile.specs.declared.rules.Rules.{Rules}
 use Rattle.profile.specs.Header.{Who}
+use Rattle.sqlite.specs.Given.{IsPlain}
 use Rattle.sqlite.specs.Held.{state}
+use Rattle.sqlite.specs.Listing.{understood}
 use Rattle.sqlite.specs.Order.{Row}
+use Rattle.book_tables.specs.Asking.{house_text}
+use Rattle.book_tables.specs.Carrying.{LiesAs}
 use Rattle.book_tables.specs.Recorded.{IsHouse}
-use Rattle.book_tables.proofs.Found.{house_found, one_house}
-use Rattle.book_tables.proofs.ReadingTexts.{house_plain}
+use Rattle.book_tables.proofs.Asked.{asked_weaker}
+use Rattle.book_tables.proofs.Found.{house_found, house_reads, one_house}
 use Rattle.book_tables.proofs.connected.Tables.house.Goals as goal
-
-pub ask-requires : goal.ask-requires
-ask-requires g c = house_plain
 
 pub returns-in-Some-clause-house : goal.returns-in-Some-clause-house
 returns-in-Some-clause-house g c = λ clean.
-    (c.in_ok-rows.rows.items, (c.in_ok-rows.ensures.finds clean).1, subst (λ (rows : List Row). IsHouse rows c.in-Some.warehouse) c.deref.ensures.value c.in-Some.ensures)
+    (c.in_ok-rows.rows.items, (c.in_ok-rows.ensures.finds clean).1, subst (λ (rows : List Row). IsHouse c.in-Some.house.0 rows c.in-Some.house.1) c.deref.ensures.value c.in-Some.ensures)
 
 pub returns-clause-none : goal.returns-clause-none
 returns-clause-none g c = λ clean _.
-    (c.in_ok-rows.rows.items, (c.in_ok-rows.ensures.finds clean).1, subst (λ (rows : List Row). (W : Who) → IsHouse rows W → ⊥) c.deref.ensures.value c.in-None.ensures)
+    (c.in_ok-rows.rows.items, (c.in_ok-rows.ensures.finds clean).1, subst (λ (rows : List Row). (q : Rules) (W : Who) → IsHouse q rows W → ⊥) c.deref.ensures.value c.in-None.ensures)
 
 pub returns-in-Some-clause-whose : goal.returns-in-Some-clause-whose
-returns-in-Some-clause-whose g c = λ clean W L stands.
+returns-in-Some-clause-whose g c = λ clean q W L stands.
     let finds = c.in_ok-rows.ensures.finds clean in
-    one_house c.in_ok-rows.rows.items c.in-Some.warehouse W (subst (λ (rows : List Row). IsHouse rows c.in-Some.warehouse) c.deref.ensures.value c.in-Some.ensures)
-    (house_found W L (state g.S.Store c.args.self.now.conn).now c.in_ok-rows.rows.items (stands finds.0) finds.1)
+    one_house c.in_ok-rows.rows.items c.in-Some.house.0 q c.in-Some.house.1 W (subst (λ (rows : List Row). IsHouse c.in-Some.house.0 rows c.in-Some.house.1) c.deref.ensures.value c.in-Some.ensures)
+    (house_found q W L (state g.S.Store c.args.self.now.conn).now c.in_ok-rows.rows.items (stands finds.0) finds.1)
 
 pub returns-clause-this : goal.returns-clause-this
-returns-clause-this g c = λ clean W L stands _.
+returns-clause-this g c = λ clean q W L stands _.
     let finds = c.in_ok-rows.ensures.finds clean in
-    (subst (λ (rows : List Row). (V : Who) → IsHouse rows V → ⊥) c.deref.ensures.value c.in-None.ensures) W (house_found W L (state g.S.Store c.args.self.now.conn).now c.in_ok-rows.rows.items (stands finds.0) finds.1)
+    (subst (λ (rows : List Row). (p : Rules) (V : Who) → IsHouse p rows V → ⊥) c.deref.ensures.value c.in-None.ensures) q W (house_found q W L (state g.S.Store c.args.self.now.conn).now c.in_ok-rows.rows.items (stands finds.0) finds.1)
 
 pub returns-in-Some-clause-was_open : goal.returns-in-Some-clause-was_open
 returns-in-Some-clause-was_open g c = λ clean. (c.in_ok-rows.ensures.finds clean).0
+
+pub returns-in-Some-clause-asked : goal.returns-in-Some-clause-asked
+returns-in-Some-clause-asked g c = λ q.
+    asked_weaker (LiesAs q) (λ schema. IsPlain (understood schema house_text)) (state g.S.Store c.args.self.now.conn) (state g.S.Store c.ask_any.new.self.conn) (house_reads q) c.ask_any.ensures.asked
+
+pub returns-clause-asked : goal.returns-clause-asked
+returns-clause-asked g c = λ q.
+    asked_weaker (LiesAs q) (λ schema. IsPlain (understood schema house_text)) (state g.S.Store c.args.self.now.conn) (state g.S.Store c.ask_any.new.self.conn) (house_reads q) c.ask_any.ensures.asked
+
+pub returns-in_err-rows-clause-asked : goal.returns-in_err-rows-clause-asked
+returns-in_err-rows-clause-asked g c = λ q.
+    asked_weaker (LiesAs q) (λ schema. IsPlain (understood schema house_text)) (state g.S.Store c.args.self.now.conn) (state g.S.Store c.ask_any.new.self.conn) (house_reads q) c.ask_any.ensures.asked

@@ -1,32 +1,71 @@
-use Rattle.std.proofs.Common.{rules, refl, ◌≡◌, ◌∙◌, sym, ap, subst, List, Option, Some, option_map, map, IsTrue}
-use Rattle.profile.specs.Header.{is_partner, who_text}
+use Rattle.std.proofs.Common.{rules, true, ◌≡◌, ◌∙◌, sym, ap, subst₂, List, Option, Ok, Some, option_map, map, IsTrue}
+use Rattle.std.specs.Prelude.{IsErrAnd}
+use Rattle.profile.specs.Header.{is_partner}
 use Rattle.profile.specs.Register.{own}
-use Rattle.profile.specs.Rows.{StockRow, stock_rows}
+use Rattle.profile.specs.Rows.{LotRow, StockRow, shown_row, stock_rows}
+use Rattle.store.specs.declared.fault.Fault.{Fault}
+use Rattle.store.specs.declared.fault.Fault.TheVariants.{OutOfMemory}
 use Rattle.sqlite.specs.Held.{state}
 use Rattle.sqlite.specs.Order.{Row}
+use Rattle.stock.specs.Keyed.{key_before, rises_by, row_key}
+use Rattle.book_tables.specs.Dated.{date_shown, dates_of}
 use Rattle.book_tables.specs.Showing.{stock_shown}
+use Rattle.book_tables.proofs.AskedLater.{stands_later, clean_before}
 use Rattle.book_tables.proofs.FoundRows.{stock_read}
-use Rattle.book_tables.proofs.Queries.{asked_wrong}
+use Rattle.book_tables.proofs.Queries.{asked_on, asked_then, asked_short, asked_fails, asked_wrong}
 use Rattle.book_tables.proofs.ReadLemmas.{none_some, same_some}
-use Rattle.book_tables.proofs.ShowingTexts.{stock_rows_plain}
+use Rattle.book_tables.proofs.ShowingTexts.{stock_rows_plain, all_dates_plain}
 use Rattle.book_tables.proofs.connected.Tables.stock_rows.Goals as goal
 
-abbrev ReadsRight : List Row → Option (List StockRow) → Type 0
-ReadsRight rows read = (rs : List StockRow) → rows ≡ map stock_shown rs → read ≡ Some rs
+abbrev ReadsRight : List Row → List Row → Option (List StockRow) → Type 0
+ReadsRight rows dates read = (rs : List LotRow) → rises_by key_before row_key rs ≡ true → rows ≡ map (λ r. stock_shown (shown_row r)) rs → dates ≡ map date_shown (dates_of rs) → read ≡ Some (map shown_row rs)
 
 pub of_depositor-requires : goal.of_depositor-requires
 of_depositor-requires g c = stock_rows_plain
 
+pub of_depositor-requires-2 : goal.of_depositor-requires-2
+of_depositor-requires-2 g c = all_dates_plain
+
+pub returns-in_err-dates-clause-asked : goal.returns-in_err-dates-clause-asked
+returns-in_err-dates-clause-asked g c =
+    let same : IsErrAnd c.from_residual-in_err-dates.result (λ (f : Fault). f ≡ c.in_err-dates.field-0.0) = search rules in
+    asked_on g.S.Store c.args.self.now c.of_depositor.new.self c.of_depositor-2.new.self c.in_ok-rows.rows c.from_residual-in_err-dates.result c.in_ok-rows.ensures.asked
+    (asked_fails g.S.Store c.of_depositor.new.self c.of_depositor-2.new.self c.in_err-dates.field-0.0 c.from_residual-in_err-dates.result same c.in_err-dates.ensures.asked)
+
+pub returns-in_err-shown-clause-asked : goal.returns-in_err-shown-clause-asked
+returns-in_err-shown-clause-asked g c =
+    let same : IsErrAnd c.from_residual-in_err-shown.result (λ (f : Fault). f ≡ OutOfMemory) = search rules in
+    asked_on g.S.Store c.args.self.now c.of_depositor.new.self c.of_depositor-2.new.self c.in_ok-rows.rows c.from_residual-in_err-shown.result c.in_ok-rows.ensures.asked
+    (asked_short g.S.Store c.of_depositor.new.self c.of_depositor-2.new.self c.in_ok-dates.dates c.from_residual-in_err-shown.result same c.in_ok-dates.ensures.asked)
+
 pub returns-in-Some-clause-rows : goal.returns-in-Some-clause-rows
 returns-in-Some-clause-rows g c = λ clean W L stands.
     let partner : IsTrue (is_partner c.args.who) = search rules in
-    let right = subst (λ (rows : List Row). ReadsRight rows (option_map (λ v. v.items) c.in_ok-shown.field-0)) c.deref.ensures.value c.in_ok-shown.ensures in
+    let old = state g.S.Store c.args.self.now.conn in
+    let mid = state g.S.Store c.of_depositor.new.self.conn in
+    let new = state g.S.Store c.of_depositor-2.new.self.conn in
+    let early = clean_before mid new c.in_ok-dates.ensures.asked.left clean in
+    let right = subst₂ (λ (rows dates : List Row). ReadsRight rows dates (option_map (λ v. v.items) c.in_ok-shown.field-0)) c.deref.ensures.value c.deref-2.ensures.value c.in_ok-shown.ensures in
     same_some c.in-Some.shown.items (stock_rows (own L c.args.who)) (sym (ap (option_map (λ v. v.items)) c.in-Some.is)
-    ∙ stock_read (state g.S.Store c.args.self.now.conn) W L c.args.who partner c.in_ok-rows.ensures.live stands (who_text c.args.who) refl c.in_ok-rows.rows.items (c.in_ok-rows.ensures.finds clean) _ right)
+    ∙ stock_read old mid W L c.args.who partner c.in_ok-rows.ensures.live c.in_ok-dates.ensures.live stands (stands_later old mid W L early c.in_ok-rows.ensures.asked.left stands)
+    c.in_ok-rows.rows.items c.in_ok-dates.dates.items (c.in_ok-rows.ensures.finds early) (c.in_ok-dates.ensures.finds clean) _ right)
+
+pub returns-in-Some-clause-asked : goal.returns-in-Some-clause-asked
+returns-in-Some-clause-asked g c =
+    asked_on g.S.Store c.args.self.now c.of_depositor.new.self c.of_depositor-2.new.self c.in_ok-rows.rows _ c.in_ok-rows.ensures.asked
+    (asked_then g.S.Store c.of_depositor.new.self c.of_depositor-2.new.self c.in_ok-dates.dates _ c.in_ok-dates.ensures.asked tt)
 
 pub returns-clause-asked : goal.returns-clause-asked
-returns-clause-asked g c = asked_wrong g.S.Store c.args.self.now c.of_depositor.new.self c.in_ok-rows.rows c.in_ok-rows.ensures.asked (λ clean W L stands.
+returns-clause-asked g c =
+    asked_wrong g.S.Store c.args.self.now c.of_depositor-2.new.self c.in_ok-dates.dates
+    (asked_on g.S.Store c.args.self.now c.of_depositor.new.self c.of_depositor-2.new.self c.in_ok-rows.rows (Ok c.in_ok-dates.dates) c.in_ok-rows.ensures.asked c.in_ok-dates.ensures.asked)
+    (λ clean W L stands.
     let partner : IsTrue (is_partner c.args.who) = search rules in
-    let right = subst (λ (rows : List Row). ReadsRight rows (option_map (λ v. v.items) c.in_ok-shown.field-0)) c.deref.ensures.value c.in_ok-shown.ensures in
+    let old = state g.S.Store c.args.self.now.conn in
+    let mid = state g.S.Store c.of_depositor.new.self.conn in
+    let new = state g.S.Store c.of_depositor-2.new.self.conn in
+    let early = clean_before mid new c.in_ok-dates.ensures.asked.left clean in
+    let right = subst₂ (λ (rows dates : List Row). ReadsRight rows dates (option_map (λ v. v.items) c.in_ok-shown.field-0)) c.deref.ensures.value c.deref-2.ensures.value c.in_ok-shown.ensures in
     none_some _ (stock_rows (own L c.args.who)) (ap (option_map (λ v. v.items)) c.in-None.is)
-    (stock_read (state g.S.Store c.args.self.now.conn) W L c.args.who partner c.in_ok-rows.ensures.live stands (who_text c.args.who) refl c.in_ok-rows.rows.items (c.in_ok-rows.ensures.finds clean) _ right))
+    (stock_read old mid W L c.args.who partner c.in_ok-rows.ensures.live c.in_ok-dates.ensures.live stands (stands_later old mid W L early c.in_ok-rows.ensures.asked.left stands)
+    c.in_ok-rows.rows.items c.in_ok-dates.dates.items (c.in_ok-rows.ensures.finds early) (c.in_ok-dates.ensures.finds clean) _ right))

@@ -1,4 +1,5 @@
 use Rattle.std.proofs.Common.{subst, sym, ap, refl, ◌≡◌, ◌∙◌, ◌++◌, ◌∷◌, [], List}
+use Rattle.profile.specs.declared.rules.Rules.TheVariants.{Two}
 use Rattle.profile.specs.Accepted.{IsLegal}
 use Rattle.rules.specs.Written.{Written}
 use Rattle.store.specs.Replayed.{Replayed, all_written}
@@ -14,7 +15,7 @@ returns-clause-ok c = λ clean L e u next.
     ∙ ap (λ (w : Written). all_written L ++ w ∷ []) next.entry ∙ sym (written_more [] L e) in
     record {
       opened = refl;
-      legal = subst (λ W. IsLegal W (L ++ e ∷ [])) (sym house) next.legal;
+      legal = subst (λ W. IsLegal Two W (L ++ e ∷ [])) (sym house) next.legal;
       keeps = same;
       stand = tt;
       only = λ M h. one_register c.self.inside.warehouse c.args.self.now.warehouse M (L ++ e ∷ []) h.1 next.legal (sym h.0 ∙ same);

@@ -38,7 +38,7 @@ pub const EMPTY: &[u8] = b"HTTP/1.1 204 No Content\r\nConnection: close\r\n\r\n"
 
 // What there is after a count of 90.
 pub const STOCK: &[u8] =
-    b"HTTP/1.1 200 OK\r\nContent-Type: text/plain\r\nContent-Length: 196\r\nConnection: close\r\n\r\nitem                 lot                 expected         on hand        reserved         shipped\nBOLT                 L1                         0              90               0               0\n";
+    b"HTTP/1.1 200 OK\r\nContent-Type: text/plain\r\nContent-Length: 214\r\nConnection: close\r\n\r\nitem                 lot          expiry          expected         on hand        reserved         shipped\nBOLT                 L1                                  0              90               0               0\n";
 
 // What went out by then.
 pub const OUTBOX: &[u8] =

@@ -1,0 +1,64 @@
+ghost use Rattle.std.specs.Prelude.{◌≡◌, ◌<◌, ◌^◌};
+ghost use Rattle.sqlite.specs.Held.{state};
+ghost use Rattle.book_tables.specs.Carrying.{CarriesOver, GivesRules, SetsVersion};
+ghost use Rattle.book_tables.specs.Writing.{Wrote};
+
+use crate::calls::Calls;
+use crate::making::make_fourth;
+use crate::recording::insert_rules;
+use crate::running::run;
+use profile::Rules;
+use sqlite::types::ValueRef;
+use sqlite::{Alter, Transaction};
+use store::Fault;
+
+/// Gives each entry, of so many, the first rules.
+pub(crate) fn give_first_rules<S: Alter>(
+    tx: &mut Transaction<'_, S>,
+    calls: &mut Calls,
+    entries: u64,
+) -> Result<(), Fault>
+    requires { entries < 2 ^ 63 }
+    ensures same_reference { tx.new.conn.ghost_name ≡ tx.old.conn.ghost_name }
+    ensures wrote { let old = state S.Store tx.old.conn.now in let new = state S.Store tx.new.conn.now in
+        Wrote (GivesRules entries old.now new.now) old new calls.old calls.new result }
+{
+    for before in 0..entries {
+        insert_rules(tx, calls, before + 1, Rules::One)?;
+    }
+    Ok(())
+}
+
+/// Sets the version of the book to 2.
+pub(crate) fn set_version<S: Alter>(
+    tx: &mut Transaction<'_, S>,
+    calls: &mut Calls,
+) -> Result<(), Fault>
+    ensures same_reference { tx.new.conn.ghost_name ≡ tx.old.conn.ghost_name }
+    ensures wrote { let old = state S.Store tx.old.conn.now in let new = state S.Store tx.new.conn.now in
+        Wrote (SetsVersion old.now new.now) old new calls.old calls.new result }
+{
+    run(
+        tx,
+        calls,
+        "UPDATE book SET version = ?1",
+        &[ValueRef::Int(2)],
+    )
+}
+
+/// Carries the tables of a book of version 1, with so many entries, over to version 2: makes the two tables that are new in it, gives
+/// every entry the first rules, and sets the version.
+pub(crate) fn carry_all<S: Alter>(
+    tx: &mut Transaction<'_, S>,
+    calls: &mut Calls,
+    entries: u64,
+) -> Result<(), Fault>
+    requires { entries < 2 ^ 63 }
+    ensures same_reference { tx.new.conn.ghost_name ≡ tx.old.conn.ghost_name }
+    ensures wrote { let old = state S.Store tx.old.conn.now in let new = state S.Store tx.new.conn.now in
+        Wrote (CarriesOver entries old new) old new calls.old calls.new result }
+{
+    make_fourth(tx, calls)?;
+    give_first_rules(tx, calls, entries)?;
+    set_version(tx, calls)
+}

@@ -1,7 +1,0 @@
-use Rattle.std.proofs.Common.{◌≡◌, take, false}
-use Rattle.std.specs.List.{list_any}
-use Rattle.profile.specs.Events.{same_order_item}
-use Rattle.stock.proofs.faults.is_item_among.Given as goal
-
-abbrev pub invariant-loop-other : goal.invariant-loop-other
-invariant-loop-other l = list_any (same_order_item l.line) (take l.other-index l.others) ≡ false

@@ -1,0 +1,259 @@
+//! What the program prints and tells. A case is a script with its files, and is played twice: over
+//! a book in memory, and line by line over a book in a file, which each line opens and closes.
+//!
+//! Cases stand in texts. A text is made of sections, each of which begins with `@`, a word and what
+//! belongs to it in the rest of the line, and ends where the next one begins:
+//!
+//! - `file NAME` writes a file, of all that stands below the line. It stays for the cases after it.
+//! - `many COUNT NAME` writes a file of the next line COUNT times, with 0, 1, .. in place of its `#`,
+//!   and then of what stands below it.
+//! - `case NAME` begins a case.
+//! - `script` has the lines of its script.
+//! - `printed` has what is printed; with no such section it is nothing.
+//! - `ends STATUS` has what is told on standard error, which may be nothing. With that the case is
+//!   played.
+mod acknowledged;
+mod addresses;
+mod carried;
+mod changes;
+mod day;
+mod envelopes;
+mod goods;
+mod inboxes;
+mod lists;
+mod lots;
+mod on_disk;
+mod picks;
+mod refused_sheets;
+mod served;
+mod sets;
+mod sheet_limits;
+mod shown;
+mod usage;
+
+use commands::command;
+use std::fs;
+use std::test::Fail;
+
+// 943 of one line, BOLT of lot L1, from ZZ ACME under control number 1: 255 bytes.
+const ADVICE: &str =
+    "ISA*00*          *00*          *ZZ*ACME           *ZZ*WHSE1          *250304*0915*U*00401*000000001*1*P*>~GS*AR*ACME*WHSE1*20250304*0915*1*X*004010~ST*943*0001~W06*F*PO77*20250303*SHP1~W04*100*EA**SK*BOLT~N9*LT*L1~W03*100~SE*6*0001~GE*1*1~IEA*1*000000001~";
+
+// Its answer under number 1 on 2025-03-04 at 09:15, and LF: 266 bytes.
+const ANSWER: &str =
+    "ISA*00*          *00*          *ZZ*WHSE1          *ZZ*ACME           *250304*0915*U*00401*000000001*0*P*>~TA1*000000001*250304*0915*A*000~GS*FA*WHSE1*ACME*20250304*0915*1*X*004010~ST*997*0001~AK1*AR*1~AK2*943*0001~AK5*A~AK9*A*1*1*1~SE*6*0001~GE*1*1~IEA*1*000000001~\n";
+
+// What is to come of a script.
+#[derive(Clone, Copy)]
+struct Wanted<'a> {
+    // what is printed
+    printed: &'a str,
+    // what is told on standard error
+    told: &'a str,
+    // the exit status
+    status: u8,
+}
+
+// What a run came to.
+#[derive(Drop)]
+struct Ran {
+    // the exit status
+    status: u8,
+    // what was printed
+    out: String,
+    // what was told on standard error
+    err: String,
+}
+
+impl Ran {
+    // What was printed and told, as texts.
+    fn new(rt: &HostRuntime, status: u8, out: &[u8], err: &[u8]) -> Result<Ran, Fail> {
+        Ok(Ran {
+            status,
+            out: std::str::from_utf8(out)?.to_string(rt.alloc())?,
+            err: std::str::from_utf8(err)?.to_string(rt.alloc())?,
+        })
+    }
+
+    // A failure, if it isn't what was to come of a script.
+    fn compare(&self, name: &str, wanted: &Wanted<'_>) -> Result<(), Fail> {
+        let (status, told, printed) = (self.status, self.err.as_str(), self.out.as_str());
+        if status == wanted.status && told == wanted.told && printed == wanted.printed {
+            Ok(())
+        } else {
+            Err(Fail::new(format_args!("{name}: status {status}, told {told}, printed {printed}")))
+        }
+    }
+}
+
+// Runs a line of words.
+fn run(rt: &HostRuntime, words: &[&str]) -> Result<Ran, Fail> {
+    let mut out = Vec::new(rt.alloc());
+    let mut err = Vec::new(rt.alloc());
+    let status = command(rt, words, &mut out, &mut err);
+    Ran::new(rt, status, &out, &err)
+}
+
+// Runs a script of this text.
+fn run_text(rt: &HostRuntime, text: &str) -> Result<Ran, Fail> {
+    fs::write(rt, "case.script", text)?;
+    run(rt, &["script", "case.script"])
+}
+
+// Runs a line of words over the book in a file, which is named after its first word. The result is
+// the exit status.
+fn run_over(
+    rt: &HostRuntime,
+    book: &str,
+    line: &str,
+    out: &mut Vec<u8>,
+    err: &mut Vec<u8>,
+) -> Result<u8, Fail> {
+    let mut words = Vec::new(rt.alloc());
+    for word in line.split(' ') {
+        words.push(word)?;
+        if words.len() == 1 {
+            words.push("--book")?;
+            words.push(book)?;
+        }
+    }
+    Ok(command(rt, &words, out, err))
+}
+
+// Runs the lines of a text over the book in a file, one after the other, to the first that is no
+// done or refused command. The status is the greatest one.
+fn run_lines(rt: &HostRuntime, book: &str, text: &str) -> Result<Ran, Fail> {
+    let mut out = Vec::new(rt.alloc());
+    let mut err = Vec::new(rt.alloc());
+    let mut status = 0;
+    for line in text.split('\n') {
+        if !line.is_empty() && status < 2 {
+            status = run_over(rt, book, line, &mut out, &mut err)?.max(status);
+        }
+    }
+    Ran::new(rt, status, &out, &err)
+}
+
+// Removes a file, if it is there.
+fn remove(rt: &HostRuntime, file: &str) -> Result<(), Fail> {
+    if fs::exists(rt, file)? {
+        fs::remove_file(rt, file)?;
+    }
+    Ok(())
+}
+
+// Removes the file of a book and its log, where they are left of an earlier run.
+fn remove_book(rt: &HostRuntime, book: &str, log: &str) -> Result<(), Fail> {
+    remove(rt, book)?;
+    remove(rt, log)
+}
+
+// Plays a script over a book in memory and over a new one in a file, and compares what comes of
+// each.
+fn play(rt: &HostRuntime, name: &str, script: &str, wanted: &Wanted<'_>) -> Result<(), Fail> {
+    run_text(rt, script)?.compare(name, wanted)?;
+    remove_book(rt, "case.book", "case.book-wal")?;
+    run_lines(rt, "case.book", script)?.compare(name, wanted)
+}
+
+// What stands after a section's word in its line, and what stands below that.
+fn section_of<'a>(case: &'a str, word: &str) -> (&'a str, &'a str) {
+    for section in case.split('@') {
+        let (head, body) = section.split_once('\n').unwrap_or((section, ""));
+        let (first, rest) = head.split_once(' ').unwrap_or((head, ""));
+        if first == word {
+            return (rest, body);
+        }
+    }
+    ("", "")
+}
+
+// A line so many times, with 0, 1, .. in place of its `#`, and then these lines.
+fn many(rt: &HostRuntime, count: u32, line: &str, rest: &str) -> Result<String, Fail> {
+    let (front, behind) = line.split_once('#').ok_or("a #")?;
+    let mut text = String::new(rt.alloc());
+    for n in 0..count {
+        let one = format!(in rt.alloc(); "{front}{n}{behind}\n")?;
+        text.push_str(&one)?;
+    }
+    text.push_str(rest)?;
+    Ok(text)
+}
+
+// Writes the file that a section of many lines tells of.
+fn write_many(rt: &HostRuntime, section: &str) -> Result<(), Fail> {
+    let (head, body) = section.split_once('\n').ok_or("lines")?;
+    let (count, name) = head.split_once(' ').ok_or("a name")?;
+    let (line, rest) = body.split_once('\n').ok_or("a line")?;
+    let text = many(rt, count.parse()?, line, rest)?;
+    Ok(fs::write(rt, name, text.as_str())?)
+}
+
+// Writes the files of a case.
+fn write_files(rt: &HostRuntime, case: &str) -> Result<(), Fail> {
+    for section in case.split('@') {
+        if let Some(file) = section.strip_prefix("file ") {
+            let (name, body) = file.split_once('\n').unwrap_or((file, ""));
+            fs::write(rt, name, body)?;
+        }
+        if let Some(file) = section.strip_prefix("many ") {
+            write_many(rt, file)?;
+        }
+    }
+    Ok(())
+}
+
+// Plays each case of a text, after the files that they have in common.
+fn play_all(rt: &HostRuntime, text: &str) -> Result<(), Fail> {
+    let (before, cases) = text.split_once("@case ").ok_or("a case")?;
+    write_files(rt, before)?;
+    for case in cases.split("@case ") {
+        write_files(rt, case)?;
+        let (name, _) = case.split_once('\n').unwrap_or((case, ""));
+        let (status, told) = section_of(case, "ends");
+        let wanted = Wanted {
+            printed: section_of(case, "printed").1,
+            told,
+            status: status.parse()?,
+        };
+        play(rt, name, section_of(case, "script").1, &wanted)?;
+    }
+    Ok(())
+}
+
+#[test]
+fn goods_come_and_go(rt: HostRuntime) -> Result<(), Fail> {
+    play_all(&rt, goods::CASES)?;
+    play_all(&rt, lots::CASES)
+}
+
+#[test]
+fn goods_are_picked_and_acknowledged(rt: HostRuntime) -> Result<(), Fail> {
+    play_all(&rt, picks::CASES)?;
+    play_all(&rt, acknowledged::CASES)
+}
+
+#[test]
+fn what_a_book_shows(rt: HostRuntime) -> Result<(), Fail> {
+    play_all(&rt, shown::CASES)?;
+    play_all(&rt, addresses::CASES)?;
+    play_all(&rt, day::CASES)
+}
+
+#[test]
+fn envelopes_are_answered(rt: HostRuntime) -> Result<(), Fail> {
+    play_all(&rt, envelopes::CASES)
+}
+
+#[test]
+fn sheets_and_lists_are_read(rt: HostRuntime) -> Result<(), Fail> {
+    play_all(&rt, refused_sheets::CASES)?;
+    play_all(&rt, sheet_limits::CASES)?;
+    play_all(&rt, lists::CASES)
+}
+
+#[test]
+fn faults_stop_a_script(rt: HostRuntime) -> Result<(), Fail> {
+    play_all(&rt, usage::CASES)?;
+    play_all(&rt, inboxes::CASES)
+}

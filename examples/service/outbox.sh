@@ -1,0 +1,25 @@
+#!/bin/sh
+# Hands the documents of depositors on: each text of an outbox that isn't an answer, once, to a folder for each depositor.
+#
+# Usage: outbox.sh FOLDER BOOK DEPOSITOR ..     as: outbox.sh /srv/edi/out /var/lib/whx12/harbor.book ZZ-HOLM ZZ-TEAROOM
+#
+# A document is written to FOLDER/DEPOSITOR/NUMBER.x12, under another name until it is whole. One whose file, or whose file with .sent added,
+# is there already isn't written again: whoever sends the files renames each to NUMBER.x12.sent. A document is handed on again by removing it
+# there; that does no harm, since it is the same text under the same number.
+set -eu
+
+folder=$1 book=$2
+shift 2
+
+for who in "$@"; do
+    mkdir -p "$folder/$who"
+    whx12 outbox "$who" --book "$book" | while read -r number kind state; do
+        file=$folder/$who/$number.x12
+        if [ "$kind" = ANS ] || [ -e "$file" ] || [ -e "$file.sent" ]; then continue; fi
+        whx12 outbox "$who" --number "$number" --book "$book" >"$file.new"
+        # The program ends the text with a line end, which is no part of it.
+        truncate -s -1 "$file.new"
+        mv -- "$file.new" "$file"
+        printf '%s %s %s %s\n' "$who" "$number" "$kind" "$state"
+    done
+done
