@@ -12,7 +12,7 @@ use Rattle.profile.specs.Register.{Entry}
 use Rattle.profile.specs.Events.{Event, since, fault_where, trade_fault, advice_under, repeated_pair, wrong_advice_total}
 use Rattle.profile.specs.Allotment.{lots_named}
 use Rattle.profile.specs.Rows.{StockRow}
-use Rattle.profile.specs.Reports.{columns}
+use Rattle.profile.specs.Reports.{columns, csv_record}
 use Rattle.profile.specs.Tables.{AllTables, Number, Text, entry_table, outgoing_table, stock_table, advice_table, advice_line_table, orders_table, order_line_table, reservation_table}
 
 -- lines of a set or a sheet, the quantity of a line, and the digits of that and of the sums of a 943 and a 940
@@ -44,6 +44,11 @@ abbrev pub undated_line : StockRow → List ℕ
 undated_line row = columns
     (padded most_item row.item ∷ padded most_lot row.lot
     ∷ map (right_aligned 15) (decimal row.expected ∷ decimal row.on_hand ∷ decimal row.reserved ∷ decimal row.shipped ∷ []))
+
+-- a record of the export: the same
+abbrev pub undated_record : StockRow → List ℕ
+undated_record row = csv_record
+    (row.item ∷ row.lot ∷ decimal row.expected ∷ decimal row.on_hand ∷ decimal row.reserved ∷ decimal row.shipped ∷ [])
 
 -- the nine tables of version 1
 abbrev pub nine_tables : Who → List Entry → AllTables

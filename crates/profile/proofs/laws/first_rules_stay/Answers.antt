@@ -11,6 +11,8 @@ returns c = record {
   lots = λ es item. lots-first es item;
   undated = λ d ss none. advice_of-undated d ss ShipmentAdvice none;
   faults = λ es a none. fault-first es a none;
-  shown = λ row. refl;
+  shown = λ row. (refl, refl);
+  schemas = refl;
   tables = λ W L. refl;
+  put = λ L e. refl;
 }
