@@ -59,11 +59,11 @@ pair_total k l h g =
 
 -- Lines in ascending order.
 
-ascending_tail : (k : Line) (ls : List Line) → is_ascending (k ∷ ls) ≡ true → is_ascending ls ≡ true
+pub ascending_tail : (k : Line) (ls : List Line) → is_ascending (k ∷ ls) ≡ true → is_ascending ls ≡ true
 ascending_tail k [] h = refl
 ascending_tail k (l ∷ ls) h = (and_parts (pair_before k l) (is_ascending (l ∷ ls)) h).1
 
-ascending_skip : (k l : Line) (ls : List Line) → is_ascending (k ∷ l ∷ ls) ≡ true → is_ascending (k ∷ ls) ≡ true
+pub ascending_skip : (k l : Line) (ls : List Line) → is_ascending (k ∷ l ∷ ls) ≡ true → is_ascending (k ∷ ls) ≡ true
 ascending_skip k l [] h = refl
 ascending_skip k l (m ∷ ls) h =
     let p = and_parts (pair_before k l) (is_ascending (l ∷ m ∷ ls)) h in

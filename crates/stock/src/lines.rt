@@ -1,13 +1,17 @@
-ghost use Rattle.std.specs.Prelude.{◌≡◌, ◌++◌, ◌≤◌, ◌<◌, ◌^◌, ℕ, List, IfOk, OnOk, MatchOption, length, map, nat_lt, if◌then◌else◌};
+ghost use Rattle.std.specs.Prelude.{◌≡◌, ◌++◌, ◌≤◌, ◌<◌, ◌^◌, ℕ, List, IfOk, OnOk, MatchOption, IsPermutation, filter, length, map, nat_lt, if◌then◌else◌};
 ghost use Rattle.std.specs.List.{insert, list_any};
+ghost use Rattle.std.specs.List.Sorted.{IsSorted};
+ghost use Rattle.profile.specs.Clerk.{is_ascending};
 ghost use Rattle.profile.specs.Events.{is_pair, pair_before, quantity_of};
 ghost use Rattle.profile.specs.Lists.{placed};
 ghost use Rattle.profile.specs.Page.{page_line, reserved_lines};
+ghost use Rattle.stock.specs.Pairs.{pairs_order};
 ghost use Rattle.stock.specs.Steps.{exceeds};
 
 use crate::known_orders::KnownLine;
 use sets_in::{AdviceLine, Goods, OrderLine};
 use std::alloc::{AllocError, Global};
+use std::cmp::Ordering;
 
 // A copy of a line.
 fn copied(line: &Goods) -> Result<Goods, AllocError>
@@ -78,14 +82,19 @@ pub(crate) fn known_lines(alloc: Global, lines: &[OrderLine]) -> Result<Vec<Know
     Ok(known)
 }
 
+// How a line stands to another, by item and then by lot bytes.
+fn pairs_order(line: &Goods, other: &Goods) -> Ordering
+    ensures { result ≡ pairs_order line.now other.now }
+{
+    let lots = line.lot.as_slice().cmp(other.lot.as_slice());
+    line.item.as_slice().cmp(other.item.as_slice()).then(lots)
+}
+
 // Whether a line stands before another, by item and then by lot bytes.
 fn comes_before(line: &Goods, other: &Goods) -> bool
     ensures { result ≡ pair_before line.now other.now }
 {
-    if line.item == other.item {
-        return line.lot.as_slice().cmp(other.lot.as_slice()).is_lt();
-    }
-    line.item.as_slice().cmp(other.item.as_slice()).is_lt()
+    pairs_order(line, other).is_lt()
 }
 
 // Where a line belongs, if its pair isn't there.
@@ -123,8 +132,8 @@ fn reserve_share(lines: &mut Vec<Goods>, share: &Goods) -> Result<(), AllocError
     Ok(())
 }
 
-// The shares above 0, by item and lot.
-pub(crate) fn reserved(alloc: Global, shares: &[Goods]) -> Result<Vec<Goods>, AllocError>
+// The shares above 0, by item and lot, each put in its place.
+fn placed_shares(alloc: Global, shares: &[Goods]) -> Result<Vec<Goods>, AllocError>
     ensures { IfOk result (λ lines. lines.items ≡ reserved_lines shares.now) }
 {
     let mut lines = Vec::new(alloc);
@@ -132,6 +141,47 @@ pub(crate) fn reserved(alloc: Global, shares: &[Goods]) -> Result<Vec<Goods>, Al
         reserve_share(&mut lines, &shares[i])?;
     }
     Ok(lines)
+}
+
+// Copies of the shares above 0.
+fn copied_shares(alloc: Global, shares: &[Goods]) -> Result<Vec<Goods>, AllocError>
+    ensures { IfOk result (λ copy. copy.items ≡ filter (λ l. nat_lt 0 l.quantity) shares.now) }
+{
+    let mut copy = Vec::new(alloc);
+    for share in shares {
+        if share.quantity > 0 {
+            copy.push(copied(share)?)?;
+        }
+    }
+    Ok(copy)
+}
+
+// The same lines by item and then by lot bytes.
+fn sorted(mut lines: Vec<Goods>) -> Vec<Goods>
+    ensures same { IsPermutation lines.items result.items }
+    ensures sorted { IsSorted pairs_order result.items }
+{
+    lines.sort_unstable_by(|line, other| pairs_order(line, other));
+    lines
+}
+
+// Whether each line stands before the next, so that no pair stands twice.
+fn rises(lines: &[Goods]) -> bool
+    ensures { result ≡ is_ascending lines.now }
+{
+    lines.is_sorted_by(|line, next| comes_before(line, next))
+}
+
+// The shares above 0, by item and lot. They are sorted, since putting each in its place takes the square of their number.
+// Only shares of which two are of one pair are put in place one by one, and no order has such shares.
+pub(crate) fn reserved(alloc: Global, shares: &[Goods]) -> Result<Vec<Goods>, AllocError>
+    ensures { IfOk result (λ lines. lines.items ≡ reserved_lines shares.now) }
+{
+    let lines = sorted(copied_shares(alloc, shares)?);
+    if rises(&lines) {
+        return Ok(lines);
+    }
+    placed_shares(alloc, shares)
 }
 
 // Whether a line is of the pair.
