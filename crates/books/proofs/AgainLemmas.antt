@@ -13,13 +13,13 @@ use Rattle.store.proofs.Again.{stored_again}
 use Rattle.books.specs.Stopped.{Crosses, StoresAgain}
 
 -- where an accepted command stands in a run of which more counts
-record Stood (W : Who) (c : Command) (t : Moment) (text : List ℕ) (R : List Entry) : Type 0 where
-  before : List Entry
-  later : List (Command × Moment)
-  said : reply_to Two W before c t ≡ Accepted text
-  left : R ≡ accepted_on Two W (after Two W before (c, t)) later
+pub record Stood (W : Who) (c : Command) (t : Moment) (text : List ℕ) (R : List Entry) : Type 0 where
+  pub before : List Entry
+  pub later : List (Command × Moment)
+  pub said : reply_to Two W before c t ≡ Accepted text
+  pub left : R ≡ accepted_on Two W (after Two W before (c, t)) later
 
-stood : (W : Who) (L : List Entry) (first : List (Command × Moment)) (n m i : ℕ) (c : Command) (t : Moment) (text : List ℕ) → n ≤ m → slice_get first i ≡ Some (c, t)
+pub stood : (W : Who) (L : List Entry) (first : List (Command × Moment)) (n m i : ℕ) (c : Command) (t : Moment) (text : List ℕ) → n ≤ m → slice_get first i ≡ Some (c, t)
     → slice_get (replies_on Two W L (take n first)) i ≡ Some (Accepted text) → Stood W c t text (accepted_on Two W L (take m first))
 stood W L [] n m i c t text le at said = absurd (cc)
 stood W L (d ∷ first) zero m i c t text le at said = absurd (cc)

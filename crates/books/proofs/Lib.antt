@@ -6,3 +6,4 @@ mod AgainLemmas
 mod GivenLemmas
 mod RulesLemmas
 mod OpeningLemmas
+mod DaysLemmas

@@ -1,11 +1,11 @@
 -- What opening makes of tables of either version.
-use Rattle.std.proofs.Common.{◌≡◌, inl, inr, ℕ, List, [], Bool, false, Result, Ok, Err, IfErr, OnOk, OnErr, length, IsTrue, refl, sym, ap, subst, arith, ◌∙◌}
+use Rattle.std.proofs.Common.{◌≡◌, inl, inr, ℕ, List, [], false, Result, Ok, OnOk, length, IsTrue, refl, sym, ap, subst, arith}
 use Rattle.sqlite.specs.Tree.{Trees}
 use Rattle.sqlite.specs.Order.{Row}
 use Rattle.sqlite.specs.Held.{state}
 use Rattle.sqlite.specs.Store.{Ghosts}
-use Rattle.sqlite.specs.State.{State, HasCleanDisk, IsLive, Survives}
-use Rattle.sqlite.proofs.StateLemmas.{survives_then, survives_weaker}
+use Rattle.sqlite.specs.State.{State, HasCleanDisk, IsLive}
+use Rattle.sqlite.proofs.StateLemmas.{survives_then}
 use Rattle.profile.specs.declared.rules.Rules.{Rules}
 use Rattle.profile.specs.declared.rules.Rules.TheVariants.{One, Two}
 use Rattle.profile.specs.Rules.{rules_number}
@@ -14,15 +14,14 @@ use Rattle.profile.specs.Register.{Entry}
 use Rattle.store.specs.declared.fault.Fault.{Fault}
 use Rattle.store.specs.Standing.{IsUsable}
 use Rattle.book_tables.specs.Asking.{IsAsked, IsAskedOf, IsOfFirst, Finds, house_text}
-use Rattle.book_tables.specs.Carrying.{CarriesOver, LeavesCarried, LiesAs, StandsInAs, StandsOpenAs}
-use Rattle.book_tables.specs.Exits.{HasGrown, LeavesIt}
+use Rattle.book_tables.specs.Carrying.{CarriesOver, LeavesCarried, LiesAs, StandsOpenAs}
+use Rattle.book_tables.specs.Exits.{LeavesIt}
 use Rattle.book_tables.specs.Kept.{Kept}
 use Rattle.book_tables.specs.Recorded.{IsHouse}
-use Rattle.book_tables.specs.Standing.{StandsIn}
 use Rattle.book_tables.proofs.Carried.{stands_open_later}
 use Rattle.books.specs.Carrying.{AllStandAs, BringsUp, OpensAs}
-use Rattle.books.specs.Keeping.{IsKept, standing_in}
-use Rattle.books.proofs.AskedBooks.{opened_kept, opened_usable}
+use Rattle.books.specs.Keeping.{standing_in}
+use Rattle.books.proofs.AskedBooks.{opened_usable}
 use Rattle.books.proofs.KeepingLemmas.{settled_at, usable_now}
 
 both_versions : (version : Rules) (P : Type 0) → (version ≡ One → P) → (version ≡ Two → P) → P

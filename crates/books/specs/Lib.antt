@@ -3,3 +3,4 @@ pub mod Opened
 pub mod Stopped
 pub mod Verified
 pub mod Carrying
+pub mod Days

@@ -4,6 +4,7 @@
 mod book;
 mod crossing;
 mod leaving;
+mod passing;
 mod reopening;
 mod verifying;
 
@@ -11,4 +12,5 @@ pub use book::Book;
 pub use book_tables::Tables;
 pub use crossing::across;
 pub use leaving::something_is_left;
+pub use passing::days;
 pub use reopening::reopened;

@@ -1,0 +1,21 @@
+use Rattle.std.proofs.Common.{◌≡◌, ◌≤◌, List, true, length, map, IsTrue}
+use Rattle.std.specs.List.{list_all}
+use Rattle.sqlite.specs.Tree.{Trees}
+use Rattle.sqlite_trees.specs.View.{IsClean, doubt}
+use Rattle.profile.specs.Header.{Who}
+use Rattle.profile.specs.Register.{Entry}
+use Rattle.store.specs.Runs.{all_asked, can_be_given}
+use Rattle.book_tables.specs.Carrying.{LeavesCarried}
+use Rattle.books.specs.Days.{Pass}
+use Rattle.books.proofs.passing.days.Given as goal
+
+abbrev pub invariant-loop-commands : goal.invariant-loop-commands
+invariant-loop-commands g l =
+    let v = g.S.Store in
+    record {
+      count : length l.told.items ≡ l.commands-index;
+      doubt : doubt (v.view l.fn.store).is_clean ≤ doubt (v.view l.store).is_clean;
+      numbered : IsClean (v.view l.store) → IsTrue (v.view l.store).is_numbered;
+      led : IsClean (v.view l.store) → list_all (λ cs. can_be_given cs.items) l.asked ≡ true → (W : Who) (L : List Entry) → ((db : Trees) → v.recovers l.fn.store db → LeavesCarried W L db)
+          → (db : Trees) → v.recovers l.store db → (M : List Entry) × Pass W L (map (λ cs. all_asked cs.items) l.asked) l.told.items M × LeavesCarried W M db;
+    }
