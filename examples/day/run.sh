@@ -3,7 +3,7 @@
 #
 # Usage: examples/day/run.sh [BOOK]     (default: a new file in a new folder, whose name is told at the end)
 #
-# The program is proved and built first where it isn't there yet, which takes half an hour.
+# The program is proved and built first where it isn't there yet, which takes about an hour.
 set -eu
 cd "$(dirname "$0")"
 program=../../crates/whx12/out/whx12
