@@ -5,13 +5,13 @@ use super::super::version1::{COUNTED, DATED, ORDERED, TABLES, hundred_lines, lay
 use super::day::commands;
 use super::stopped::{Stop, are_answers_again, is_whole};
 use super::worked::{acme, morning, ninety};
-use books::{Book, Tables, days};
+use books::{Book, Tables};
 use sqlite::{Alter, Connection};
 use sqlite_trees::memory::MemStore;
 use sqlite_trees::store::Reopen;
 use std::alloc::Global;
 use std::test::Fail;
-use store::{Fault, Outcome, SheetKind, outbox, run, stock};
+use store::{Fault, SheetKind, outbox, run, stock};
 
 // More calls than an opening makes of its store.
 const MOST: u64 = 100;
@@ -37,7 +37,8 @@ fn laid(alloc: Global, rows: &str) -> Result<Tables<MemStore>, Fail> {
 }
 
 // What a crash leaves of a store.
-fn after_crash<S: Alter + Reopen + Drop>(alloc: Global, mut store: S) -> Result<Tables<S>, Fail> {
+fn crashed<S: Alter + Reopen + Drop>(alloc: Global, tables: Tables<S>) -> Result<Tables<S>, Fail> {
+    let mut store = tables.into_inner().into_store();
     if store.crash_and_reopen().is_err() {
         return Err("a store that isn't there after a crash".into());
     }
@@ -54,7 +55,7 @@ fn left<S: Alter + Reopen + Drop>(
     stop: Stop,
 ) -> Result<Tables<S>, Fail> {
     match stop {
-        Stop::Crash => after_crash(alloc, tables.into_inner().into_store()),
+        Stop::Crash => crashed(alloc, tables),
         Stop::Closing => {
             tables.limit_calls(None);
             Ok(tables)
@@ -151,41 +152,6 @@ fn a_day_goes_on_after_a_carrying_over(rt: HostRuntime) -> Result<(), Fail> {
     };
     let again = run(alloc, &mut book, &day);
     assert!(rt; again.fault.is_none() && are_answers_again(&again.replies, ANSWERED));
-    assert!(rt; is_whole(&mut book)?);
-    Ok(())
-}
-
-// Whether a day was answered to its end, of whose commands so many had been answered before.
-fn is_told(day: &Result<Outcome, Fault>, answered: usize) -> bool {
-    match day {
-        Ok(outcome) => {
-            outcome.fault.is_none()
-                && outcome.replies.len() == 9
-                && are_answers_again(&outcome.replies, answered)
-        }
-        Err(_) => false,
-    }
-}
-
-// The day once more after each of three crashes, the first of which left a book of version 1.
-#[test]
-fn days_after_crashes_keep_what_was_answered(rt: HostRuntime) -> Result<(), Fail> {
-    let alloc = rt.alloc();
-    let counted = ninety(alloc, SheetKind::Count)?;
-    let goods = ninety(alloc, SheetKind::Pick)?;
-    let day = commands(acme()?, &counted, &goods, morning()?);
-    let rows = format!(in alloc; "{COUNTED}{ORDERED}")?;
-    let store = laid(alloc, &rows)?.into_inner().into_store();
-    let (told, store) = days(alloc, store, &[&day, &day, &day]);
-    match told.as_slice() {
-        [first, second, third] => {
-            assert!(rt; is_told(first, ANSWERED) && is_told(second, 9) && is_told(third, 9));
-        }
-        _ => return Err("another number of days".into()),
-    }
-    let Ok(mut book) = Book::open_from(alloc, after_crash(alloc, store)?) else {
-        return Err("a book".into());
-    };
     assert!(rt; is_whole(&mut book)?);
     Ok(())
 }
