@@ -40,31 +40,32 @@ fn day<S: Alter + Reopen + Drop>(
 /// before it left, which carries a book of version 1 over, answers its commands, and stops at its end, or at a fault. Told is what
 /// each came to: its replies, or the fault at which the book wasn't opened. What is left at last stands for one register, to which
 /// the days led: no day lost an entry that was there before it or that was answered on it, and whatever was accepted is answered by
-/// the same text when it is given again. The days end early where no memory is left to write one more down, and after one on which
-/// the store itself wasn't opened (40, 41).
+/// the same text when it is given again. Also whether all days came: they end early where no memory is left to write one more down,
+/// and after one on which the store itself wasn't opened (40, 41).
 pub fn days<S: Alter + Reopen + Drop>(
     alloc: Global,
     mut store: S,
     asked: &[Vec<(Command<'_>, Moment)>],
-) -> (Vec<Result<Outcome, Fault>>, S)
+) -> (Vec<Result<Outcome, Fault>>, bool, S)
     requires { IsClean (S.Store.view store) → IsTrue (S.Store.view store).is_numbered }
-    ensures led { IsClean (S.Store.view result.1) → list_all (λ cs. can_be_given cs.items) asked.now ≡ true
+    ensures led { IsClean (S.Store.view result.2) → list_all (λ cs. can_be_given cs.items) asked.now ≡ true
         → (W : Partner) (L : List Entry) → ((db : Trees) → S.Store.recovers store db → LeavesCarried W L db)
-        → (db : Trees) → S.Store.recovers result.1 db
+        → (db : Trees) → S.Store.recovers result.2 db
         → AreLed W L (map (λ cs. all_asked cs.items) asked.now) result.0.items db }
+    ensures all { result.1 ≡ true → length result.0.items ≡ length asked.now }
     ensures most { length result.0.items ≤ length asked.now }
 {
     let mut told = Vec::new(alloc);
     for commands in asked {
         if told.reserve(1).is_err() {
-            return (told, store);
+            return (told, false, store);
         }
         let (outcome, left, again) = day(alloc, store, commands);
         store = left;
         told.push(outcome).unwrap();
         if !again {
-            return (told, store);
+            return (told, false, store);
         }
     }
-    (told, store)
+    (told, true, store)
 }
