@@ -2,8 +2,11 @@
 """Plays random days through the program and through the second reading of the rules (bench/model.py), and compares what is printed,
 what is told on standard error and the exit status, byte for byte. Not part of the gate.
 
-Usage: bench/compare.py [--days N] [--seed N] [--rules 1|2] [PROGRAM]
+Usage: bench/compare.py [--days N] [--seed N] [--rules 1|2] [--batch] [PROGRAM]
        (default: crates/whx12/out/whx12, which `rt run` in that folder leaves; the second version of the rules)
+
+A day is played by `script`, over a book in memory; with --batch by `init` and then `batch`, over a book in a file, and `verify` must say ok
+after it.
 
 A day is a script of up to 40 commands of two depositors and strangers: interchanges with advices, orders and acknowledgments, good
 ones and such as were changed in a byte, an element, a segment or a group; resends; counts, picks and recounts with good and bad
@@ -235,7 +238,24 @@ class Day:
         else:
             self.take(f"enrol {who.decode()} --at {moment}", self.book.enrol(who))
 
-    def play(self, program):
+    def run(self, program, *words):
+        return subprocess.run([program, *words], cwd=self.folder, capture_output=True, check=False)
+
+    def batch(self, program):
+        """Makes a book in a file by the first line, and plays the others as a batch."""
+        with open(os.path.join(self.folder, "script.txt"), "rb") as file:
+            first, _, rest = file.read().partition(b"\n")
+        with open(os.path.join(self.folder, "batch.txt"), "wb") as file:
+            file.write(rest)
+        over = ["--book", "day.book"]
+        made = self.run(program, *first.decode().split(" "), *over)
+        if made.returncode:
+            return made
+        ran = self.run(program, "batch", "batch.txt", *over)
+        checked = self.run(program, "verify", *over)
+        return ran if checked.stdout.startswith(b"ok ") else checked
+
+    def play(self, program, is_batch=False):
         self.script.append("init ZZ-WHSE1")
         for who in (b"ZZ-ACME", b"ZZ-BETA"):
             self.take(f"enrol {who.decode()} --at 2025-03-04T09:15", self.book.enrol(who))
@@ -248,7 +268,7 @@ class Day:
                 self.take(f"orders {who.decode()} {number.decode()}", self.book.orders(who, number))
         with open(os.path.join(self.folder, "script.txt"), "w", encoding="ascii") as file:
             file.write("\n".join(self.script) + "\n")
-        ran = subprocess.run([program, "script", "script.txt"], cwd=self.folder, capture_output=True, check=False)
+        ran = self.batch(program) if is_batch else self.run(program, "script", "script.txt")
         return (ran.stdout, ran.stderr.decode(), ran.returncode) == (self.expected, self.errors, self.status), ran
 
 
@@ -261,7 +281,7 @@ def main(words):
     for day in range(seed, seed + days):
         folder = tempfile.mkdtemp(prefix="day")
         one = Day(day, folder, option("--rules", 2))
-        same, ran = one.play(program)
+        same, ran = one.play(program, "--batch" in words)
         commands += len(one.script)
         if not same:
             for name, content in (("expected.out", one.expected), ("expected.err", one.errors.encode()), ("was.out", ran.stdout), ("was.err", ran.stderr)):

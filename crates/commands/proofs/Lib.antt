@@ -5,3 +5,4 @@ pub mod TellingLaws
 pub mod ShownLaws
 pub mod ActLaws
 pub mod EnrolLaws
+pub mod PlayLaws

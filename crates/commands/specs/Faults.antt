@@ -1,4 +1,5 @@
 -- The faults of files that are opened and closed as databases, and of devices.
+use Rattle.std.specs.Prelude.{Bool, true, false}
 use Rattle.sqlite.specs.declared.error.Error.{Error}
 use Rattle.sqlite.specs.declared.error.Error.TheVariants.{SqliteFailure}
 use Rattle.sqlite.specs.declared.error.ErrorCode.TheVariants as failures
@@ -11,3 +12,8 @@ fault_of (SqliteFailure failures.OutOfMemory) = OutOfMemory
 fault_of (SqliteFailure failures.NotADatabase) = NotThisBook
 fault_of (SqliteFailure failures.DatabaseCorrupt) = NotThisBook
 fault_of error = Device
+
+-- whether somebody else has the file open as a database
+abbrev pub is_in_use : Error → Bool
+is_in_use (SqliteFailure failures.DatabaseBusy) = true
+is_in_use error = false

@@ -11,6 +11,7 @@ pub mod Clerks
 pub mod Acting
 pub mod Readying
 pub mod Looking
+pub mod Playing
 pub mod Working
 pub mod Takes
 pub mod Enrolling

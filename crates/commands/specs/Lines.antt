@@ -7,7 +7,7 @@ use Rattle.clap.specs.Walk.{Row, Rule, Text, first_of}
 use Rattle.clap.specs.Simple.{App, Shape, new_rule, new_shape, with_subcommand, subcommand_of}
 use Rattle.clap.specs.declared.builder.action.ArgAction.TheVariants.{Set, SetTrue}
 use Rattle.profile.specs.Moments.{Moment}
-use Rattle.commands.specs.Written.{moment_of, number_of, count_of}
+use Rattle.commands.specs.Written.{moment_of, number_of, count_of, wait_of}
 use Rattle.commands.specs.declared.words.Place.{Place}
 use Rattle.commands.specs.declared.words.Place.TheVariants as place
 use Rattle.commands.specs.declared.words.Words.{Words}
@@ -65,6 +65,9 @@ sheet_rule = value_rule (codes "sheet")
 abbrev pub script_shape : Shape
 script_shape = subcommand (codes "script") (file_rule ∷ [])
 
+abbrev pub batch_shape : Shape
+batch_shape = subcommand (codes "batch") (file_rule ∷ [])
+
 abbrev pub init_shape : Shape
 init_shape = subcommand (codes "init") (who_rule ∷ at_rule ∷ [])
 
@@ -108,9 +111,9 @@ verify_shape = subcommand (codes "verify") (at_rule ∷ [])
 abbrev pub and_rule : Shape → Rule → Shape
 and_rule s r = record s { rules = s.rules ++ r ∷ [] }
 
--- a subcommand over the book in a file
+-- a subcommand over the book in a file, which may be told how long to wait for one that is in use
 abbrev pub over_book : Shape → Shape
-over_book s = and_rule s (wanted_rule (codes "book"))
+over_book s = and_rule (and_rule s (wanted_rule (codes "book"))) (option_rule (codes "wait"))
 
 abbrev pub top_shape : Shape
 top_shape = record (new_shape (codes "whx12")) {
@@ -131,9 +134,10 @@ show_subcommands = stock_shape ∷ orders_shape ∷ outbox_shape ∷ []
 abbrev pub script_subcommands : List Shape
 script_subcommands = init_shape ∷ act_subcommands ++ show_subcommands
 
--- the program has those of a script over the book in a file, and three of its own
+-- the program has those of a script over the book in a file, and four of its own
 abbrev pub program_subcommands : List Shape
-program_subcommands = script_shape ∷ map over_book script_subcommands ++ over_book serve_shape ∷ over_book verify_shape ∷ []
+program_subcommands = script_shape ∷ map over_book script_subcommands
+    ++ over_book batch_shape ∷ over_book serve_shape ∷ over_book verify_shape ∷ []
 
 -- a subcommand as it stands at a place
 abbrev pub placed : Place → Shape → Shape
@@ -220,6 +224,7 @@ abbrev pub SaysTask : Found → Task → Type 0
 SaysTask f (task.Init who) = (f.0 ≡ codes "init") × Has f.1 (codes "who") who.now
 SaysTask f (task.Act a at) = SaysAct f a × SaysMoment f.1 at
 SaysTask f (task.Show s) = SaysShow f s
+SaysTask f (task.Batch file) = (f.0 ≡ codes "batch") × Has f.1 (codes "file") file.now
 SaysTask f (task.Serve s at) = (f.0 ≡ codes "serve") × SaysService f.1 s × SaysMoment f.1 at
 SaysTask f task.Verify = f.0 ≡ codes "verify"
 
@@ -227,7 +232,11 @@ SaysTask f task.Verify = f.0 ≡ codes "verify"
 abbrev pub SaysBook : List Row → Option (Bor Text) → Type 0
 SaysBook rows book = first_of (codes "book") rows ≡ option_map (λ b. b.now) book
 
+-- how long the line says that a book in use is waited for, or it says nothing of it
+abbrev pub SaysWait : List Row → Option ℕ → Type 0
+SaysWait rows seconds = option_map wait_of (first_of (codes "wait") rows) ≡ option_map Some seconds
+
 -- the line asks for this
 abbrev pub Says : Found → Words → Type 0
 Says f (words.Script file) = (f.0 ≡ codes "script") × Has f.1 (codes "file") file.now
-Says f (words.Over book t) = SaysBook f.1 book × SaysTask f t
+Says f (words.Over book wait t) = SaysBook f.1 book × SaysWait f.1 wait × SaysTask f t

@@ -49,5 +49,5 @@ IsTaskDone old new (task.Show s) before behind ending = IsView old new s before 
 IsTaskDone old new other before behind ending = IsLeft old new before behind ending
 
 abbrev pub IsLineDone : Standing → Standing → Words → Option (List ℕ) → Option (List ℕ) → Ending → Type 0
-IsLineDone old new (words.Over book t) before behind ending = IsTaskDone old new t before behind ending
+IsLineDone old new (words.Over book wait t) before behind ending = IsTaskDone old new t before behind ending
 IsLineDone old new (words.Script file) before behind ending = IsLeft old new before behind ending

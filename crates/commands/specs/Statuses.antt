@@ -20,3 +20,4 @@ and_then first next = next
 abbrev pub status_of : CommandError → ExitStatus
 status_of (stops.Usage text) = Usage
 status_of (stops.Fault fault) = Fault
+status_of (stops.Caused fault cause) = Fault

@@ -13,3 +13,4 @@ IsDeviceStop stop = (stop ≡ stops.Fault faults.OutOfMemory) ⊎ (stop ≡ stop
 abbrev pub IsFaultThat : CommandError → (Fault → Type 0) → Type 0
 IsFaultThat (stops.Usage text) P = ⊥
 IsFaultThat (stops.Fault fault) P = P fault
+IsFaultThat (stops.Caused fault cause) P = P fault

@@ -7,6 +7,7 @@ use Rattle.profile.specs.Register.{Entry}
 use Rattle.store.specs.Standing.{Standing, IsUnchanged}
 use Rattle.commands.specs.Acting.{Ending, IsPerformed}
 use Rattle.commands.specs.Looking.{IsAskedFor, IsLook}
+use Rattle.commands.specs.Playing.{ArePlayed}
 use Rattle.commands.specs.Readying.{IsMadeReady}
 use Rattle.commands.specs.declared.over_file.Job.{Job}
 use Rattle.commands.specs.declared.over_file.Job.TheVariants as job
@@ -22,6 +23,7 @@ abbrev pub IsJobFor : Task → Job → Type 0
 IsJobFor (task.Init who) (job.Make warehouse) = who_of who.now ≡ Some warehouse
 IsJobFor (task.Act a at) (job.Change ready moment) = IsMadeReady a ready × IfSome at (λ t. moment ≡ t)
 IsJobFor (task.Show s) (job.Look asked) = IsAskedFor s asked
+IsJobFor (task.Batch file) (job.Play text) = Unit {0}
 IsJobFor task.Verify job.Check = Unit {0}
 IsJobFor (task.Serve s at) (job.Listen service first has_clock) =
     (service ≡ s) × IfSome at (λ t. first ≡ t) × (has_clock ≡ says_none at)
@@ -31,6 +33,7 @@ IsJobFor t j = ⊥
 abbrev pub IsWork : Standing → Standing → Job → Option (List ℕ) → Option (List ℕ) → Ending → Type 0
 IsWork old new (job.Change ready moment) before behind ending = IsPerformed old new ready moment before behind ending
 IsWork old new (job.Look asked) before behind ending = IsLook old new asked before behind ending
+IsWork old new (job.Play text) before behind ending = ArePlayed old new before behind
 IsWork old new other before behind ending = Unit {0}
 
 -- what is printed of a book whose tables are what its register gives: how many entries it has

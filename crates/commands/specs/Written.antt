@@ -1,5 +1,5 @@
 -- Moments and numbers as the words of a line write them.
-use Rattle.std.specs.Prelude.{ℕ, ◌+◌, ◌*◌, Bool, ◌&&◌, List, length, take, drop, if◌then◌else◌, ◌==◌, Some, None, codes, bytes_eq, Option}
+use Rattle.std.specs.Prelude.{ℕ, ◌+◌, ◌*◌, Bool, ◌&&◌, nat_lt, List, length, take, drop, if◌then◌else◌, ◌==◌, Some, None, codes, bytes_eq, Option}
 use Rattle.std.specs.List.{list_all}
 use Rattle.profile.specs.Bytes.{is_between, is_digit, value}
 use Rattle.profile.specs.Limits.{most_entries}
@@ -44,6 +44,11 @@ most_connections = 65535
 -- how many connections are written so, in digits alone, with zeros in front or without, if that many may be
 abbrev pub count_of : List ℕ → Option ℕ
 count_of text = if list_all is_digit text && is_between 1 most_connections (value text) then Some (value text) else None
+
+-- for how many seconds a book that is in use is waited for, in digits alone, with zeros in front or without: none at all, or so many
+abbrev pub wait_of : List ℕ → Option ℕ
+wait_of text = if nat_lt 0 (length text) && (list_all is_digit text && is_between 0 most_connections (value text))
+    then Some (value text) else None
 
 -- the number of an entry that is written so, in digits alone, with zeros in front or without, if one is
 abbrev pub number_of : List ℕ → Option ℕ

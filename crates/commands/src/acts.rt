@@ -10,6 +10,7 @@ ghost use Rattle.commands.specs.Clerks.{command_of};
 ghost use Rattle.commands.specs.Readying.{IsMadeReady};
 ghost use Rattle.commands.specs.Telling.{IsPrinted};
 
+use crate::causes::about_file;
 use crate::clock::moment_for;
 use crate::rosters::{enrol_all, read_roster};
 use crate::slips::{Slip, clerk, slip_of};
@@ -57,7 +58,10 @@ fn make_ready<'a, R: Files + AllocGlobal>(
             Some(partners) => Ok(Ok(Ready::Roster(partners))),
             None => Ok(Err(Refusal::BadText)),
         },
-        BookAct::Send { file } => Ok(Ok(Ready::Send(read_interchange(rt, *file)?))),
+        BookAct::Send { file } => match read_interchange(rt, *file) {
+            Ok(bytes) => Ok(Ok(Ready::Send(bytes))),
+            Err(error) => Err(about_file(rt.alloc(), *file, &error)),
+        },
         BookAct::Take { dir } => Ok(Ok(Ready::Take(*dir))),
         BookAct::Clerk(told) => match slip_of(rt, told)? {
             Ok(slip) => Ok(Ok(Ready::Clerk(slip))),

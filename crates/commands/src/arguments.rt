@@ -153,6 +153,28 @@ pub(crate) fn join<'a>(
     parser?.subcommand(command?)
 }
 
+// With the file of the book, and how long it is waited for.
+fn with_book<'a>(
+    alloc: Global,
+    command: Result<Command<'a>, AllocError>,
+) -> Result<Command<'a>, AllocError>
+    ensures { (s : Shape) → IfOk command.entry (IsCommand s) → IfOk result (IsCommand (meant.over_book s)) }
+{
+    let command = with(
+        command,
+        wanted(alloc, "book", "BOOK", "The file with the book"),
+    );
+    with(
+        command,
+        option(
+            alloc,
+            "wait",
+            "SECONDS",
+            "How long a book that is in use is waited for [default: 5]",
+        ),
+    )
+}
+
 /// With a subcommand more, as it stands at the place: the program's are over the book in a file.
 pub(crate) fn join_at<'a>(
     alloc: Global,
@@ -164,13 +186,7 @@ pub(crate) fn join_at<'a>(
         → IfOk result (λ c. app_of c ≡ meant.with_all place a (s ∷ [])) }
 {
     match place {
-        Place::Program => join(
-            parser,
-            with(
-                command,
-                wanted(alloc, "book", "BOOK", "The file with the book"),
-            ),
-        ),
+        Place::Program => join(parser, with_book(alloc, command)),
         Place::Script => join(parser, command),
     }
 }

@@ -35,6 +35,13 @@ pub fn fault(error: &Error) -> Fault
     }
 }
 
+/// Whether a database couldn't be opened since somebody else has it open.
+pub fn is_in_use(error: &Error) -> bool
+    ensures { result ≡ meant.is_in_use error.now }
+{
+    matches!(error, Error::SqliteFailure(ErrorCode::DatabaseBusy))
+}
+
 /// Closes a database: its log is copied into the file. Where that fails (40, 43 or 44), the log still holds what isn't copied, and
 /// the next opening finds it there.
 pub fn disconnect<D: Disk + Drop>(database: Connection<FileStore<D>>) -> Result<(), CommandError> {

@@ -2,10 +2,11 @@
 ghost use Rattle.std.specs.Prelude.{◌≡◌, Ok, IfSome};
 ghost use Rattle.commands.specs.Written as written;
 
-use crate::numbers::{all_digits, pair};
+use crate::numbers::pair;
 use crate::told::{CommandError, usage};
 use jiff::Timestamp;
 use jiff::tz::Offset;
+use segments::all_digits;
 use std::rt::Clock;
 use std::time::SystemTime;
 use store::Moment;

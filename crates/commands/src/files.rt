@@ -1,6 +1,7 @@
 //! Files that a line names, read up to a limit, so that one without an end can't take all memory.
 ghost use Rattle.std.specs.Prelude.{◌≤◌, IfOk, IfSome, length};
 
+use crate::causes::about_file;
 use crate::told::CommandError;
 use intake::read_first;
 use std::rt::Files;
@@ -23,7 +24,10 @@ pub fn read_within<R: Files + AllocGlobal>(
 ) -> Result<Option<Vec<u8>>, CommandError>
     ensures { IfOk result (λ found. IfSome found (λ bytes. length bytes.items ≤ most)) }
 {
-    let bytes = read_first(rt, file, u64::from(most) + 1)?;
+    let bytes = match read_first(rt, file, u64::from(most) + 1) {
+        Ok(bytes) => bytes,
+        Err(error) => return Err(about_file(rt.alloc(), file, &error)),
+    };
     if bytes.len() as u64 > u64::from(most) {
         return Ok(None);
     }

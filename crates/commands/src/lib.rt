@@ -3,11 +3,14 @@
 
 mod acts;
 mod arguments;
+mod bad_sheets;
 mod book_files;
+mod causes;
 mod clock;
 mod files;
 mod numbers;
 mod over_file;
+mod reasons;
 mod rosters;
 mod run;
 mod script;

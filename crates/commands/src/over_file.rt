@@ -1,14 +1,17 @@
 //! What a line says, done over the book in a file: words are tested and files read before the book is opened, and it is closed
 //! before the line is done.
-ghost use Rattle.std.specs.Prelude.{◌≡◌, List, false, length, IfOk};
+ghost use Rattle.std.specs.Prelude.{◌≡◌, ◌≤◌, List, false, length, IfOk};
 ghost use Rattle.profile.specs.Register.{Entry};
 ghost use Rattle.store.specs.Standing.{IsUnchanged};
 ghost use Rattle.books.specs.Opened.{standing_of};
 ghost use Rattle.commands.specs.Working.{IsChecked, IsJobDone, IsJobFor, IsWork};
 
 use crate::acts::{Ready, perform, ready_at};
-use crate::book_files::{close, disconnect, fault, make, open, open_anew};
+use crate::book_files::{close, disconnect, fault, is_in_use, make, open, open_anew};
+use crate::causes::{about_book, about_folder, about_line, about_missing, about_use};
 use crate::clock::moment_for;
+use crate::reasons::tell_reason;
+use crate::script::{play_over, read_lines};
 use crate::serving::serve;
 use crate::shows::{Asked, ask, show};
 use crate::told::{CommandError, ExitStatus, tell_refusal};
@@ -19,7 +22,8 @@ use sqlite_disk::Disk;
 use std::alloc::Global;
 use std::io::IsTerminal;
 use std::rt::{Clock, Files};
-use std::{fs, io};
+use std::time::Duration;
+use std::{fs, io, thread};
 use store::{Fault, Keeper, Moment, Refusal, Warehouse, Who};
 
 // What is to be done over a book, its words tested and its files read.
@@ -31,6 +35,8 @@ enum Job<'a> {
     Change(Ready<'a>, Moment),
     // show something of it
     Look(Asked<'a>),
+    // do what the lines of a text ask for
+    Play(String),
     // serve it over HTTP, from a first moment on, and by the clock or not
     Listen(Service, Moment, bool),
     // compare every table with what the register gives
@@ -52,6 +58,7 @@ fn work<K: Keeper, W: io::Write, E: io::Write>(
         Job::Make(_) | Job::Check => Ok(ExitStatus::Done),
         Job::Change(ready, moment) => perform(rt, book, ready, *moment, out, err),
         Job::Look(asked) => show(rt.alloc(), book, asked, out, err),
+        Job::Play(text) => play_over(rt, book, text, out, err),
         Job::Listen(service, first, has_clock) => serve(rt, book, service, *first, *has_clock, out),
     }
 }
@@ -136,22 +143,31 @@ fn done<S: Alter + Drop, W: io::Write, E: io::Write>(
     }
 }
 
+// Tells why what a clerk did was refused. What can't be told is left out: the refusal stands.
+fn explain<K: Keeper, E: io::Write>(alloc: Global, book: &mut K, job: &Job<'_>, err: &mut E) {
+    if let Job::Change(Ready::Clerk(slip), _) = job {
+        let _ = tell_reason(alloc, book, slip, err);
+    }
+}
+
 // Opens the book in a database, or makes it, does a job over it, and closes it. At a fault the database is let go as it is: its log has all
 // that was answered, and nothing more is written to a store that has just failed.
 fn work_over<S: Alter + Drop, W: io::Write, E: io::Write>(
     rt: &HostRuntime,
     database: Connection<S>,
     job: &Job<'_>,
+    explains: bool,
     out: &mut W,
     err: &mut E,
 ) -> Result<(ExitStatus, Connection<S>), CommandError>
     requires { database.in_transaction ≡ false }
 {
     let mut book = begin(rt.alloc(), database, job)?;
-    match done(rt, &mut book, job, out, err) {
-        Ok(status) => Ok((status, close(book))),
-        Err(stop) => Err(stop),
+    let status = done(rt, &mut book, job, out, err)?;
+    if explains && status == ExitStatus::Refused {
+        explain(rt.alloc(), &mut book, job, err);
     }
+    Ok((status, close(book)))
 }
 
 // Does a job over the book in a database on any disk, and closes the database.
@@ -159,32 +175,88 @@ fn over_disk<D: Disk + Drop, W: io::Write, E: io::Write>(
     rt: &HostRuntime,
     database: Connection<FileStore<D>>,
     job: &Job<'_>,
+    explains: bool,
     out: &mut W,
     err: &mut E,
 ) -> Result<ExitStatus, CommandError>
     requires { database.in_transaction ≡ false }
 {
-    let (status, database) = work_over(rt, database, job, out, err)?;
+    let (status, database) = work_over(rt, database, job, explains, out, err)?;
     disconnect(database)?;
     Ok(status)
 }
 
-// Does a job over the book in a file. NotThisBook (43) where the file holds no database; Device (44) where it can't be made, read or
-// written, is in use, or is missing and isn't to be made. This function alone names a database on disk.
+// For how many seconds a book that is in use is waited for, where a line doesn't say it.
+const WAIT: u16 = 5;
+
+// How often a book that is in use is looked at, in a second.
+const LOOKS_A_SECOND: u32 = 20;
+
+// How often a book is looked at while it is in use, of a line that says for how many seconds that is.
+fn looks_of(wait: Option<u16>) -> u32
+    ensures { 1 ≤ result }
+{
+    let seconds = match wait {
+        Some(seconds) => seconds,
+        None => WAIT,
+    };
+    1 + u32::from(seconds) * LOOKS_A_SECOND
+}
+
+// Does a job over the book in a file, of which it is known whether it is there. This function alone names a database on disk.
 fn over<W: io::Write, E: io::Write>(
     rt: &HostRuntime,
     file: &str,
+    looks: u32,
     job: &Job<'_>,
+    explains: bool,
+    out: &mut W,
+    err: &mut E,
+) -> Result<ExitStatus, CommandError> {
+    for look in 0..looks {
+        if look > 0 {
+            thread::sleep(rt, Duration::from_millis(1_000 / u64::from(LOOKS_A_SECOND)));
+        }
+        match Connection::open(rt, file) {
+            Ok(database) => return over_disk(rt, database, job, explains, out, err),
+            Err(error) if !is_in_use(&error) => return Err(CommandError::Fault(fault(&error))),
+            Err(_) => {}
+        }
+    }
+    Err(about_use(rt.alloc(), file))
+}
+
+// What stopped a job over the book in a file, with what it is about.
+fn about_job(alloc: Global, file: &str, job: &Job<'_>, stop: CommandError) -> CommandError {
+    match job {
+        Job::Make(_) => about_book(alloc, file, true, stop),
+        Job::Change(Ready::Take(dir), _) => {
+            about_book(alloc, file, false, about_folder(alloc, *dir, stop))
+        }
+        _ => about_book(alloc, file, false, stop),
+    }
+}
+
+// Does a job over the book in a file. NotThisBook (43) where the file holds no database; Device (44) where it can't be made, read or
+// written, is missing and isn't to be made, or is still in use after it was waited for.
+fn over_found<W: io::Write, E: io::Write>(
+    rt: &HostRuntime,
+    file: &str,
+    wait: Option<u16>,
+    job: &Job<'_>,
+    explains: bool,
     out: &mut W,
     err: &mut E,
 ) -> Result<ExitStatus, CommandError> {
     if !matches!(job, Job::Make(_)) {
         // A database that is opened is made where its file is missing.
-        fs::metadata(rt, file)?;
+        if let Err(error) = fs::metadata(rt, file) {
+            return Err(about_missing(rt.alloc(), file, &error));
+        }
     }
-    match Connection::open(rt, file) {
-        Ok(database) => over_disk(rt, database, job, out, err),
-        Err(error) => Err(CommandError::Fault(fault(&error))),
+    match over(rt, file, looks_of(wait), job, explains, out, err) {
+        Ok(status) => Ok(status),
+        Err(stop) => Err(about_job(rt.alloc(), file, job, stop)),
     }
 }
 
@@ -208,6 +280,7 @@ fn job_of<'a, R: Files + Clock + AllocGlobal>(
             Ok(asked) => Ok(Ok(Job::Look(asked))),
             Err(refusal) => Ok(Err(refusal)),
         },
+        Task::Batch { file } => Ok(Ok(Job::Play(read_lines(rt, file)?))),
         Task::Verify => Ok(Ok(Job::Check)),
         Task::Serve { service, at } => {
             let first = moment_for(rt, *at)?;
@@ -216,16 +289,37 @@ fn job_of<'a, R: Files + Clock + AllocGlobal>(
     }
 }
 
-/// Does over the book in a file what a line says. A clock that can't be used is told before the book is opened.
+// Tells why a line's words or files are refused, and where it is asked for which of them it is.
+fn tell_unready<R: Files + AllocGlobal, E: io::Write>(
+    rt: &R,
+    task: &Task<'_>,
+    refusal: Refusal,
+    explains: bool,
+    err: &mut E,
+) -> Result<ExitStatus, CommandError> {
+    let status = tell_refusal(rt.alloc(), err, refusal)?;
+    if explains {
+        if let Some(cause) = about_line(rt, task, refusal)? {
+            err.write_all(cause.as_bytes())?;
+            err.write_all(b"\n")?;
+        }
+    }
+    Ok(status)
+}
+
+/// Does over the book in a file what a line says; a book that is in use is waited for, 5 seconds where the line doesn't say how long. A
+/// clock that can't be used is told before the book is opened.
 pub fn run_over_file<W: io::Write, E: io::Write>(
     rt: &HostRuntime,
     file: &str,
+    wait: Option<u16>,
     task: &Task<'_>,
+    explains: bool,
     out: &mut W,
     err: &mut E,
 ) -> Result<ExitStatus, CommandError> {
     match job_of(rt, task)? {
-        Ok(job) => over(rt, file, &job, out, err),
-        Err(refusal) => tell_refusal(rt.alloc(), err, refusal),
+        Ok(job) => over_found(rt, file, wait, &job, explains, out, err),
+        Err(refusal) => tell_unready(rt, task, refusal, explains, err),
     }
 }

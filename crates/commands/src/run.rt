@@ -2,7 +2,7 @@ use crate::over_file::run_over_file;
 use crate::script::run_script;
 use crate::told::{CommandError, ExitStatus, tell_stop, usage};
 use crate::words::{LineFault, Place, Words, line};
-use std::io;
+use std::io::{self, IsTerminal};
 
 // The program's version, which is that of the rules by which it judges.
 const VERSION: &str = "whx12 2.0\n";
@@ -11,6 +11,7 @@ const VERSION: &str = "whx12 2.0\n";
 fn run_words<W: io::Write, E: io::Write>(
     rt: &HostRuntime,
     words: &Words<'_>,
+    explains: bool,
     out: &mut W,
     err: &mut E,
 ) -> Result<ExitStatus, CommandError> {
@@ -18,8 +19,9 @@ fn run_words<W: io::Write, E: io::Write>(
         Words::Script { file } => run_script(rt, file, out, err),
         Words::Over {
             book: Some(file),
+            wait,
             task,
-        } => run_over_file(rt, file, task, out, err),
+        } => run_over_file(rt, file, *wait, task, explains, out, err),
         Words::Over { book: None, .. } => Err(usage(rt.alloc(), "--book is missing\n")),
     }
 }
@@ -28,11 +30,12 @@ fn run_words<W: io::Write, E: io::Write>(
 fn run_line<W: io::Write, E: io::Write>(
     rt: &HostRuntime,
     words: &[&str],
+    explains: bool,
     out: &mut W,
     err: &mut E,
 ) -> Result<ExitStatus, CommandError> {
     match line(rt.alloc(), Place::Program, words) {
-        Ok(asked) => run_words(rt, &asked, out, err),
+        Ok(asked) => run_words(rt, &asked, explains, out, err),
         Err(LineFault::Help(text)) => show(out, &text),
         Err(fault) => Err(CommandError::from(fault)),
     }
@@ -48,27 +51,39 @@ fn show<W: io::Write>(out: &mut W, text: &str) -> Result<ExitStatus, CommandErro
 fn run_any<W: io::Write, E: io::Write>(
     rt: &HostRuntime,
     words: &[&str],
+    explains: bool,
     out: &mut W,
     err: &mut E,
 ) -> Result<ExitStatus, CommandError> {
     match words {
-        [word] if *word == "help" => run_line(rt, &["--help"], out, err),
+        [word] if *word == "help" => run_line(rt, &["--help"], explains, out, err),
         [word] if *word == "--version" => show(out, VERSION),
-        [word, name] if *word == "help" => run_line(rt, &[*name, "--help"], out, err),
-        _ => run_line(rt, words, out, err),
+        [word, name] if *word == "help" => run_line(rt, &[*name, "--help"], explains, out, err),
+        _ => run_line(rt, words, explains, out, err),
     }
 }
 
-/// Runs one line of words, without the program's name: its output goes to `out`, its refusals and faults to `err`. The exit
-/// status is 0 where all was done or help was shown, 1 where something was refused, 2 where the words can't be read, 3 at a fault.
+// Whether the last word asks that a refusal and a fault are explained, and the words before it.
+fn asks_why<'w, 'a>(words: &'w [&'a str]) -> (bool, &'w [&'a str]) {
+    match words.split_last() {
+        Some((last, words)) if *last == "--explain" => (true, words),
+        _ => (false, words),
+    }
+}
+
+/// Runs one line of words, without the program's name: its output goes to `out`, its refusals and faults to `err`. Where the last word
+/// is `--explain`, and on a terminal, what a fault or a refused sheet is about is told after it. The exit status is 0 where all was
+/// done or help was shown, 1 where something was refused, 2 where the words can't be read, 3 at a fault.
 pub fn command<W: io::Write, E: io::Write>(
     rt: &HostRuntime,
     words: &[&str],
     out: &mut W,
     err: &mut E,
 ) -> u8 {
-    match run_any(rt, words, out, err) {
+    let (is_asked, words) = asks_why(words);
+    let explains = is_asked || rt.stderr().is_terminal();
+    match run_any(rt, words, explains, out, err) {
         Ok(status) => status.code(),
-        Err(stop) => tell_stop(err, &stop).code(),
+        Err(stop) => tell_stop(err, &stop, explains).code(),
     }
 }

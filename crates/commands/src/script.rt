@@ -1,4 +1,5 @@
 ghost use Rattle.commands.specs.Looking.{IsLineDone, IsView};
+ghost use Rattle.commands.specs.Playing.{ArePlayed};
 ghost use Rattle.commands.specs.Readying.{IsChange};
 
 use crate::acts::{perform, ready_at};
@@ -65,8 +66,54 @@ fn answer<R: Files + Clock + AllocGlobal + Clone + Drop, K: Keeper, W: io::Write
             task: Task::Show(what),
             ..
         } => look(rt, book, what, out, err),
-        _ => Err(usage(rt.alloc(), "init stands in the first line alone\n")),
+        _ => Err(usage(rt.alloc(), "init makes a book, and here is one\n")),
     }
+}
+
+// Does what a row of a script or a batch asks for, over the book.
+fn answer_row<R: Files + Clock + AllocGlobal + Clone + Drop, K: Keeper, W: io::Write, E: io::Write>(
+    rt: &R,
+    book: &mut K,
+    row: &str,
+    out: &mut W,
+    err: &mut E,
+) -> Result<ExitStatus, CommandError>
+    ensures played { ArePlayed (K.standing book.old) (K.standing book.new) (W.contents out.old) (W.contents out.new) }
+{
+    let words: Vec<&str> = row.split(' ').collect(rt.alloc())?;
+    let asked = line(rt.alloc(), Place::Script, &words)?;
+    answer(rt, book, &asked, out, err)
+}
+
+// Says at which line of a batch it stopped. Where that can't be said, the fault is told all the same.
+fn tell_line<E: io::Write>(err: &mut E, number: usize) {
+    let _ = write!(err, "stopped at line {number}\n");
+}
+
+/// Does what the lines of a text ask for over a book, one after the other. A refusal goes on; words that can't be read, and a fault, stop
+/// it, after the number of the line is told. What was done by then stays done.
+pub fn play_over<
+    R: Files + Clock + AllocGlobal + Clone + Drop,
+    K: Keeper,
+    W: io::Write,
+    E: io::Write,
+>(rt: &R, book: &mut K, text: &str, out: &mut W, err: &mut E) -> Result<ExitStatus, CommandError>
+    ensures played { ArePlayed (K.standing book.old) (K.standing book.new) (W.contents out.old) (W.contents out.new) }
+{
+    let mut status = ExitStatus::Done;
+    for (i, row) in text.split('\n').enumerate() {
+        if row.is_empty() {
+            continue;
+        }
+        match answer_row(rt, book, row, out, err) {
+            Ok(next) => status = status.and(next),
+            Err(stop) => {
+                tell_line(err, i + 1);
+                return Err(stop);
+            }
+        }
+    }
+    Ok(status)
 }
 
 // The book that the first line makes; None where its name is refused.
@@ -120,19 +167,26 @@ fn play<R: Files + Clock + AllocGlobal + Clone + Drop, W: io::Write, E: io::Writ
     }
 }
 
-/// Runs the script in a file over a new book in memory. A script that can't be read as words, or has more than 16,777,216 bytes,
-/// is a usage fault, a file that can't be read a fault; what was printed before either stays.
+/// The text of a script or a batch in a file. One that is no UTF-8 text, or has more than 16,777,216 bytes, is a usage fault, a file
+/// that can't be read Device (44).
+pub fn read_lines<R: Files + AllocGlobal>(rt: &R, file: &str) -> Result<String, CommandError> {
+    let Some(bytes) = read_within(rt, file, MOST_SCRIPT)? else {
+        return Err(usage(rt.alloc(), "a script has at most 16,777,216 bytes\n"));
+    };
+    match String::from_utf8(bytes) {
+        Ok(text) => Ok(text),
+        Err(_) => Err(usage(rt.alloc(), "a script is UTF-8 text\n")),
+    }
+}
+
+/// Runs the script in a file over a new book in memory. A script that can't be read as words is a usage fault; what was printed before
+/// it, or before a fault, stays.
 pub fn run_script<R: Files + Clock + AllocGlobal + Clone + Drop, W: io::Write, E: io::Write>(
     rt: &R,
     file: &str,
     out: &mut W,
     err: &mut E,
 ) -> Result<ExitStatus, CommandError> {
-    let Some(bytes) = read_within(rt, file, MOST_SCRIPT)? else {
-        return Err(usage(rt.alloc(), "a script has at most 16,777,216 bytes\n"));
-    };
-    match std::str::from_utf8(&bytes) {
-        Ok(text) => play(rt, text, out, err),
-        Err(_) => Err(usage(rt.alloc(), "a script is UTF-8 text\n")),
-    }
+    let text = read_lines(rt, file)?;
+    play(rt, &text, out, err)
 }

@@ -1,5 +1,6 @@
 //! A book served over HTTP.
 
+use crate::causes::about_address;
 use crate::clock::now;
 use crate::told::{CommandError, ExitStatus};
 use crate::words::Service;
@@ -96,6 +97,9 @@ pub fn serve<K: Keeper, W: io::Write>(
     has_clock: bool,
     out: &mut W,
 ) -> Result<ExitStatus, CommandError> {
-    let listener = TcpListener::bind(rt, service.address)?;
+    let listener = match TcpListener::bind(rt, service.address) {
+        Ok(listener) => listener,
+        Err(error) => return Err(about_address(rt.alloc(), &service.address, error)),
+    };
     serve_on(rt, &listener, service, book, first, has_clock, out)
 }

@@ -28,8 +28,8 @@ fn refusal(number: u8) -> Refusal {
     }
 }
 
-// The line that a record of three fields is.
-fn line(alloc: Global, record: &ByteRecord) -> Result<Option<Line>, AllocError> {
+/// The line that a record of three fields is.
+pub(crate) fn line(alloc: Global, record: &ByteRecord) -> Result<Option<Line>, AllocError> {
     if record.len() != 3 {
         return Ok(None);
     }
@@ -68,7 +68,8 @@ fn read_records(alloc: Global, text: &[u8]) -> Result<Option<Records>, AllocErro
     Ok(Some(Records { lines, is_uneven }))
 }
 
-fn refused(_error: Error) -> AllocError {
+/// The error of a reader over a text in memory, which is want of memory.
+pub(crate) fn refused(_error: Error) -> AllocError {
     AllocError
 }
 

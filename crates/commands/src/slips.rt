@@ -16,9 +16,9 @@ use store::{Act, Command, Ident, Refusal, Sheet, Who};
 /// What a clerk did, with its sheet: its command can be given.
 #[derive(Drop)]
 pub struct Slip<'a> {
-    who: Who,
-    told: ClerkWords<'a>,
-    sheet: Sheet,
+    pub(crate) who: Who,
+    pub(crate) told: ClerkWords<'a>,
+    pub(crate) sheet: Sheet,
     pub ghost given: { IsTrue (is_command Two (command_of who told sheet)) },
 }
 

@@ -30,6 +30,6 @@ fn run<W: io::Write, E: io::Write>(
 pub fn program<W: io::Write, E: io::Write>(rt: &HostRuntime, out: &mut W, err: &mut E) -> u8 {
     match run(rt, out, err) {
         Ok(status) => status,
-        Err(stop) => tell_stop(err, &stop).code(),
+        Err(stop) => tell_stop(err, &stop, false).code(),
     }
 }

@@ -25,6 +25,19 @@ fn script<'a>(alloc: Global) -> Result<Command<'a>, AllocError>
     )
 }
 
+fn batch<'a>(alloc: Global) -> Result<Command<'a>, AllocError>
+    ensures { IfOk result (IsCommand meant.batch_shape) }
+{
+    subcommand(
+        alloc,
+        "batch",
+        "Runs the commands of a file, line by line, over the book, which is opened once",
+        "whx12 batch FILE --book BOOK",
+        "Example: whx12 batch morning.txt --book harbor.book\n\nThe lines are those of a script, without `init`. Each command is in the book before the next one begins. A refused command is\ntold on standard error, and the next one follows; words that can't be read and faults stop the batch, and the number of their\nline is told. What was done before them stays done, and the file can be given again: what is known gets its first answer.",
+        value(alloc, "file", "FILE", "The file with the commands"),
+    )
+}
+
 fn init<'a>(alloc: Global) -> Result<Command<'a>, AllocError>
     ensures { IfOk result (IsCommand meant.init_shape) }
 {
@@ -318,7 +331,7 @@ fn top<'a>(alloc: Global) -> Command<'a>
         .about("The book of a third-party warehouse that takes its orders as X12 interchanges")
         .override_usage("whx12 COMMAND ..")
         .after_help(
-            "The book:      init, enrol, roster, verify\nInterchanges:  send, take, serve\nClerks:        orders, count, pick, recount\nLooking:       stock, outbox\nTrying out:    script\n\nExample: whx12 init ZZ-WHSE1 --book harbor.book\nExample: whx12 enrol ZZ-ACME --book harbor.book\nExample: whx12 send advice.x12 --book harbor.book\nExample: whx12 script morning.txt\n\n`whx12 help COMMAND` says what a command wants. The exit status is 0 where all was done, 1 where something was refused, 2 where words can't be read, 3 at a fault.",
+            "The book:      init, enrol, roster, verify\nInterchanges:  send, take, serve\nClerks:        orders, count, pick, recount\nLooking:       stock, outbox\nMany at once:  batch\nTrying out:    script\n\nExample: whx12 init ZZ-WHSE1 --book harbor.book\nExample: whx12 enrol ZZ-ACME --book harbor.book\nExample: whx12 send advice.x12 --book harbor.book\nExample: whx12 script morning.txt\n\n`whx12 help COMMAND` says what a command wants. The exit status is 0 where all was done, 1 where something was refused, 2 where words can't be read, 3 at a fault.",
         )
         .no_binary_name(true)
         .subcommand_required(true)
@@ -332,6 +345,7 @@ fn of_programs<'a>(alloc: Global) -> Result<Command<'a>, AllocError>
 {
     let parser = join(Ok(top(alloc)), script(alloc));
     let parser = with_lines(alloc, Place::Program, parser);
+    let parser = join_at(alloc, Place::Program, parser, batch(alloc));
     let parser = join_at(alloc, Place::Program, parser, serve(alloc));
     join_at(alloc, Place::Program, parser, verify(alloc))
 }

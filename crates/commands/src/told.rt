@@ -52,6 +52,8 @@ pub enum CommandError {
     Usage(String),
     /// A fault.
     Fault(Fault),
+    /// A fault, and what it is about, as a line without its end.
+    Caused(Fault, String),
 }
 
 impl From<AllocError> for CommandError {
@@ -134,30 +136,38 @@ pub fn tell_refusal<E: io::Write>(
     Ok(ExitStatus::Refused)
 }
 
+// Tells a fault, as `fault 44 Device`.
+fn tell_fault<E: io::Write>(err: &mut E, fault: Fault) -> io::Result<()> {
+    let (number, name) = (fault.number(), fault.name());
+    write!(err, "fault {number} {name}\n")
+}
+
 // What of a stop can be told.
-fn told<E: io::Write>(err: &mut E, stop: &CommandError) -> io::Result<()> {
+fn told<E: io::Write>(err: &mut E, stop: &CommandError, explains: bool) -> io::Result<()> {
     match stop {
-        CommandError::Usage(text) => {
-            let text = text.as_str();
-            write!(err, "{text}")
-        }
-        CommandError::Fault(fault) => {
-            let (number, name) = (fault.number(), fault.name());
-            write!(err, "fault {number} {name}\n")
+        CommandError::Usage(text) => err.write_all(text.as_bytes()),
+        CommandError::Fault(fault) => tell_fault(err, *fault),
+        CommandError::Caused(fault, cause) => {
+            tell_fault(err, *fault)?;
+            if !explains {
+                return Ok(());
+            }
+            err.write_all(cause.as_bytes())?;
+            err.write_all(b"\n")
         }
     }
 }
 
-/// Tells what stopped a command on standard error: a fault as `fault 44 Device`. Where standard error fails too, the status
-/// alone tells it.
-pub fn tell_stop<E: io::Write>(err: &mut E, stop: &CommandError) -> ExitStatus
+/// Tells what stopped a command on standard error: a fault as `fault 44 Device`, with what it is about on the next line where that is asked
+/// for. Where standard error fails too, the status alone tells it.
+pub fn tell_stop<E: io::Write>(err: &mut E, stop: &CommandError, explains: bool) -> ExitStatus
     ensures { result ≡ meant.status_of stop.now }
 {
     let status = match stop {
         CommandError::Usage(_) => ExitStatus::Usage,
-        CommandError::Fault(_) => ExitStatus::Fault,
+        CommandError::Fault(_) | CommandError::Caused(_, _) => ExitStatus::Fault,
     };
-    match told(err, stop) {
+    match told(err, stop, explains) {
         Ok(()) => status,
         Err(_) => status,
     }

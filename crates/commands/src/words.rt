@@ -8,7 +8,7 @@ ghost use Rattle.commands.specs.Lines as meant;
 ghost use Rattle.commands.specs.Written as written;
 
 use crate::clock::moment_of;
-use crate::numbers::{count_of, number_of};
+use crate::numbers::{count_of, number_of, wait_of};
 use crate::subcommands::parser;
 use clap::ArgMatches;
 use clap::error::ErrorKind;
@@ -37,6 +37,8 @@ pub enum Words<'a> {
     Over {
         /// The file with the book; None in a script, which has a book of its own.
         book: Option<&'a str>,
+        /// For how many seconds a book that is in use is waited for, 0 to 65535, if the line says it.
+        wait: Option<u16>,
         /// What is done.
         task: Task<'a>,
     },
@@ -59,6 +61,11 @@ pub enum Task<'a> {
     },
     /// Show something of the book.
     Show(Show<'a>),
+    /// Do what the lines of a file ask for, one after the other.
+    Batch {
+        /// The file's name.
+        file: &'a str,
+    },
     /// Serve the book over HTTP.
     Serve {
         /// Where, and for how long.
@@ -391,6 +398,10 @@ fn task_of<'a>(alloc: Global, name: &str, values: &ArgMatches<'a>) -> Result<Tas
     if name == "verify" {
         return Ok(Task::Verify);
     }
+    if name == "batch" {
+        let file = given(alloc, values, "file")?;
+        return Ok(Task::Batch { file });
+    }
     if let Some(act) = act_of(alloc, name, values)? {
         return Ok(Task::Act { act, at });
     }
@@ -407,6 +418,19 @@ fn book_of<'a>(values: &ArgMatches<'a>) -> Option<&'a str>
     values.get_str("book")
 }
 
+// For how many seconds a line says that a book in use is waited for, if it says it.
+fn wait(alloc: Global, values: &ArgMatches<'_>) -> Result<Option<u16>, LineFault>
+    ensures { IfOk result (meant.SaysWait (rows_of (found_of values.now))) }
+{
+    let Some(text) = values.get_str("wait") else {
+        return Ok(None);
+    };
+    match wait_of(text.as_bytes()) {
+        Some(seconds) => Ok(Some(seconds)),
+        None => Err(usage(alloc, "--wait wants a number of seconds from 0 to 65535\n")),
+    }
+}
+
 // What a subcommand asks for with its values.
 fn asked<'a>(alloc: Global, name: &str, values: &ArgMatches<'a>) -> Result<Words<'a>, LineFault>
     ensures { IfOk result (meant.Says (name.now, rows_of (found_of values.now))) }
@@ -417,6 +441,7 @@ fn asked<'a>(alloc: Global, name: &str, values: &ArgMatches<'a>) -> Result<Words
     }
     Ok(Words::Over {
         book: book_of(values),
+        wait: wait(alloc, values)?,
         task: task_of(alloc, name, values)?,
     })
 }

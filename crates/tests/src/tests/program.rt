@@ -1,5 +1,6 @@
-//! What the program prints and tells. A case is a script with its files, and is played twice: over
-//! a book in memory, and line by line over a book in a file, which each line opens and closes.
+//! What the program prints and tells. A case is a script with its files, and is played thrice: over
+//! a book in memory, line by line over a book in a file, which each line opens and closes, and as a batch over
+//! such a book, which is opened once.
 //!
 //! Cases stand in texts. A text is made of sections, each of which begins with `@`, a word and what
 //! belongs to it in the rest of the line, and ends where the next one begins:
@@ -148,10 +149,25 @@ fn remove_book(rt: &HostRuntime, book: &str, log: &str) -> Result<(), Fail> {
     remove(rt, log)
 }
 
-// Plays a script over a book in memory and over a new one in a file, and compares what comes of
-// each.
+// Makes the book in a file by the first line of a script, and runs the lines after it as a batch. A
+// stop that is to come is told after the number of its line, which `compare` doesn't know; so such a
+// script isn't run.
+fn play_batch(rt: &HostRuntime, name: &str, script: &str, wanted: &Wanted<'_>) -> Result<(), Fail> {
+    let (first, rest) = script.split_once('\n').ok_or("a line")?;
+    if wanted.status > 1 {
+        return Ok(());
+    }
+    remove_book(rt, "case.book", "case.book-wal")?;
+    run_lines(rt, "case.book", first)?;
+    fs::write(rt, "case.batch", rest)?;
+    run(rt, &["batch", "case.batch", "--book", "case.book"])?.compare(name, wanted)
+}
+
+// Plays a script over a book in memory, over a new one in a file, and as a batch over another, and
+// compares what comes of each.
 fn play(rt: &HostRuntime, name: &str, script: &str, wanted: &Wanted<'_>) -> Result<(), Fail> {
     run_text(rt, script)?.compare(name, wanted)?;
+    play_batch(rt, name, script, wanted)?;
     remove_book(rt, "case.book", "case.book-wal")?;
     run_lines(rt, "case.book", script)?.compare(name, wanted)
 }

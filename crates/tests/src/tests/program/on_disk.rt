@@ -131,7 +131,7 @@ fn stock_is_read_from_its_rows(rt: HostRuntime) -> Result<(), Fail> {
 }
 
 // Lines over books that can't be opened: the book, the line over it, its exit status, and what is
-// told, with `|` between them. In `/proc` nobody can make a file.
+// told, its lines too with `|` between them. In `/proc` nobody can make a file.
 const UNOPENED: &str = "\
 nowhere.book|stock ZZ-ACME|3|fault 44 Device
 .|stock ZZ-ACME|3|fault 44 Device
@@ -140,8 +140,8 @@ no-folder/a.book|init ZZ-WHSE1|3|fault 44 Device
 /proc/house.book|enrol ZZ-ACME|3|fault 44 Device
 /proc/house.book|stock ZZ-ACME|3|fault 44 Device
 :memory:|init ZZ-WHSE1|3|fault 44 Device
-held.book|enrol ZZ-ACME|3|fault 44 Device
-held.book|init ZZ-WHSE1|3|fault 44 Device
+held.book|enrol ZZ-ACME --wait 1|3|fault 44 Device
+held.book|init ZZ-WHSE1 --wait 0|3|fault 44 Device
 text.book|stock ZZ-ACME|3|fault 43 NotThisBook
 text.book|init ZZ-WHSE1|3|fault 43 NotThisBook
 other.book|stock ZZ-ACME|3|fault 41 Store
@@ -149,15 +149,41 @@ text.book|init WHSE1|1|refused 32 BadText
 text.book|outbox acme|1|refused 32 BadText
 text.book|send no.x12|3|fault 44 Device
 text.book|recount ZZ-ACME R#1 no.csv|1|refused 32 BadText
+nowhere.book|stock ZZ-ACME --explain|3|fault 44 Device|nowhere.book: no such file; `whx12 init WHO --book nowhere.book` makes a book
+held.book|stock ZZ-ACME --wait 0 --explain|3|fault 44 Device|held.book is in use: is a server running? Stop it first, or wait longer by --wait SECONDS
+other.book|stock ZZ-ACME --explain|3|fault 41 Store|other.book: the database refused a statement; is it a book, and its disk full or failing?
+text.book|stock ZZ-ACME --explain|3|fault 43 NotThisBook|text.book is no book of this program, or is damaged: see docs/OPERATIONS.md on backups
+text.book|send no.x12 --explain|3|fault 44 Device|no.x12: no such file
+text.book|send . --explain|3|fault 44 Device|.: it is a folder
+text.book|batch no.txt --explain|3|fault 44 Device|no.txt: no such file
+text.book|init WHSE1 --explain|1|refused 32 BadText|WHSE1: a name is a qualifier of two characters, a hyphen and an id of 2 to 15, as ZZ-ACME, of A to Z, 0 to 9, - and .
+text.book|recount ZZ-ACME R#1 no.csv --explain|1|refused 32 BadText|R#1: a ticket has 1 to 20 characters of A to Z, 0 to 9, - and .
+text.book|orders ZZ-ACME ORD#1 --explain|1|refused 32 BadText|ORD#1: a number has 1 to 22 characters of A to Z, 0 to 9, - and .
+text.book|count ZZ-ACME C-1 SHP1 item.csv --explain|1|refused 32 BadText|item.csv line 2: an item has 1 to 20 characters of A to Z, 0 to 9, - and .
+text.book|count ZZ-ACME C-1 SHP1 much.csv --explain|1|refused 30 TooMuch|much.csv line 3: a quantity is at most 999,999
+text.book|pick ZZ-ACME P-1 ORD1 twice.csv --explain|1|refused 31 RepeatedLine|twice.csv line 2: its item and lot stand in a line before it
+text.book|pick ZZ-ACME P-1 ORD1 none.csv --explain|1|refused 32 BadText|none.csv line 1: a picked quantity is 1 at least
+text.book|roster text.book --explain|1|refused 32 BadText|text.book: a list is TOML with the key `depositors`, an array of names as \"ZZ-ACME\"
 ";
+
+// Sheets that are refused, each with its name before it.
+const BAD_SHEETS: [(&str, &str); 4] = [
+    ("item.csv", "BOLT,L1,1\nbolt,L1,2\n"),
+    ("much.csv", "BOLT,L1,1\n\nBOLT,L2,1000000\n"),
+    ("twice.csv", "BOLT,L1,1\nBOLT,L1,2\n"),
+    ("none.csv", "BOLT,L1,00\n"),
+];
 
 // Runs each line of such a text.
 fn play_unopened(rt: &HostRuntime, rows: &str) -> Result<(), Fail> {
     for row in rows.lines() {
         let (book, rest) = row.split_once('|').ok_or("a book")?;
         let (line, rest) = rest.split_once('|').ok_or("a line")?;
-        let (status, told) = rest.split_once('|').ok_or("a status")?;
-        let told = format!(in rt.alloc(); "{told}\n")?;
+        let (status, rest) = rest.split_once('|').ok_or("a status")?;
+        let told = match rest.split_once('|') {
+            Some((told, cause)) => format!(in rt.alloc(); "{told}\n{cause}\n")?,
+            None => format!(in rt.alloc(); "{rest}\n")?,
+        };
         let wanted = Wanted {
             printed: "",
             told: told.as_str(),
@@ -175,6 +201,9 @@ fn files_that_are_no_book(rt: HostRuntime) -> Result<(), Fail> {
     remove_book(&rt, "other.book", "other.book-wal")?;
     remove_book(&rt, "held.book", "held.book-wal")?;
     fs::write(&rt, "text.book", "no database")?;
+    for (name, sheet) in BAD_SHEETS {
+        fs::write(&rt, name, sheet)?;
+    }
     let note = "CREATE TABLE note (id INTEGER PRIMARY KEY) STRICT";
     over_database(&rt, "other.book", note, "")?;
     over_database(&rt, "held.book", "", UNOPENED)?;

@@ -28,6 +28,13 @@ script a --book b.book
 verify
 verify b.book --book b.book
 verify --book b.book --book b.book
+verify --book b.book --wait 65536
+verify --book b.book --wait +1
+verify --explain --book b.book
+batch --book b.book
+batch a.txt
+batch a.txt --book b.book --at 2025-03-04T09:15
+script a --wait 1
 init --book b.book
 enrol ZZ-A --book
 enrol ZZ-A --book b.book --book b.book
@@ -90,8 +97,11 @@ script usage.script
 ship ZZ-ACME
 take
 serve --listen 127.0.0.1:8080 --count 1
+batch usage.script
 verify
 enrol ZZ-ACME --book a.book
+enrol ZZ-ACME --wait 1
+enrol ZZ-ACME --explain
 help
 --version
 enrol
@@ -150,6 +160,26 @@ fn lines_are_read(rt: HostRuntime) -> Result<(), Fail> {
     }
     fs::write(&rt, "stop.x12", ADVICE)?;
     run_text(&rt, STOPS)?.is_unread("ship", ANSWER, "refused 35 AlreadyEnrolled\n")
+}
+
+// A batch that stops tells at which line, and what was done before it stays done.
+#[test]
+fn a_batch_says_where_it_stopped(rt: HostRuntime) -> Result<(), Fail> {
+    fs::write(&rt, "stop.x12", ADVICE)?;
+    fs::write(&rt, "stop.batch", STOPS.split_once('\n').ok_or("a line")?.1)?;
+    remove_book(&rt, "case.book", "case.book-wal")?;
+    run_lines(&rt, "case.book", "init ZZ-WHSE1")?;
+    let told = "refused 35 AlreadyEnrolled\nstopped at line 4\n";
+    let words = ["batch", "stop.batch", "--book", "case.book"];
+    run(&rt, &words)?.is_unread("ship", ANSWER, told)?;
+    fs::write(&rt, "stop.batch", "\nsend stop.x12\nsend nowhere.x12\n")?;
+    let wanted = Wanted {
+        printed: ANSWER,
+        told: "stopped at line 3\nfault 44 Device\nnowhere.x12: no such file\n",
+        status: 3,
+    };
+    let words = ["batch", "stop.batch", "--book", "case.book", "--explain"];
+    run(&rt, &words)?.compare("nowhere", &wanted)
 }
 
 // The help of each line of a script has an example.
