@@ -102,7 +102,8 @@ abbrev pub outbox_shape : Shape
 outbox_shape = subcommand (codes "outbox") (who_rule ∷ option_rule (codes "number") ∷ at_rule ∷ [])
 
 abbrev pub serve_shape : Shape
-serve_shape = subcommand (codes "serve") (wanted_rule (codes "listen") ∷ wanted_rule (codes "count") ∷ option_rule (codes "patience") ∷ at_rule ∷ [])
+serve_shape = subcommand (codes "serve") (wanted_rule (codes "listen") ∷ wanted_rule (codes "count")
+    ∷ option_rule (codes "patience") ∷ flag_rule (codes "anyone") ∷ at_rule ∷ [])
 
 abbrev pub verify_shape : Shape
 verify_shape = subcommand (codes "verify") (at_rule ∷ [])

@@ -48,6 +48,7 @@ fn work<K: Keeper, W: io::Write, E: io::Write>(
     rt: &HostRuntime,
     book: &mut K,
     job: &Job<'_>,
+    explains: bool,
     out: &mut W,
     err: &mut E,
 ) -> Result<ExitStatus, CommandError>
@@ -59,7 +60,9 @@ fn work<K: Keeper, W: io::Write, E: io::Write>(
         Job::Change(ready, moment) => perform(rt, book, ready, *moment, out, err),
         Job::Look(asked) => show(rt.alloc(), book, asked, out, err),
         Job::Play(text) => play_over(rt, book, text, out, err),
-        Job::Listen(service, first, has_clock) => serve(rt, book, service, *first, *has_clock, out),
+        Job::Listen(service, first, has_clock) => serve(
+            rt, book, service, *first, *has_clock, explains, out, err,
+        ),
     }
 }
 
@@ -131,6 +134,7 @@ fn done<S: Alter + Drop, W: io::Write, E: io::Write>(
     rt: &HostRuntime,
     book: &mut Book<S>,
     job: &Job<'_>,
+    explains: bool,
     out: &mut W,
     err: &mut E,
 ) -> Result<ExitStatus, CommandError>
@@ -139,7 +143,7 @@ fn done<S: Alter + Drop, W: io::Write, E: io::Write>(
 {
     match job {
         Job::Check => check(rt, book, out, err),
-        _ => work(rt, book, job, out, err),
+        _ => work(rt, book, job, explains, out, err),
     }
 }
 
@@ -163,7 +167,7 @@ fn work_over<S: Alter + Drop, W: io::Write, E: io::Write>(
     requires { database.in_transaction ≡ false }
 {
     let mut book = begin(rt.alloc(), database, job)?;
-    let status = done(rt, &mut book, job, out, err)?;
+    let status = done(rt, &mut book, job, explains, out, err)?;
     if explains && status == ExitStatus::Refused {
         explain(rt.alloc(), &mut book, job, err);
     }

@@ -88,18 +88,32 @@ pub fn serve_on<K: Keeper, W: io::Write>(
     }
 }
 
-/// Serves a book at an address. Beyond the faults of `serve_on` it is Device (44) where nobody can listen there.
-pub fn serve<K: Keeper, W: io::Write>(
+// Says where a server listens, also where the line left the port to the system. What can't be said is left out: it is no part of what is
+// served.
+fn tell_address<E: io::Write>(err: &mut E, listener: &TcpListener) {
+    if let Ok(address) = listener.local_addr() {
+        let _ = write!(err, "listening at {address}\n");
+    }
+}
+
+/// Serves a book at an address, and where `explains` says where it listens. Beyond the faults of `serve_on` it is Device (44) where nobody can
+/// listen there.
+pub fn serve<K: Keeper, W: io::Write, E: io::Write>(
     rt: &HostRuntime,
     book: &mut K,
     service: &Service,
     first: Moment,
     has_clock: bool,
+    explains: bool,
     out: &mut W,
+    err: &mut E,
 ) -> Result<ExitStatus, CommandError> {
     let listener = match TcpListener::bind(rt, service.address) {
         Ok(listener) => listener,
         Err(error) => return Err(about_address(rt.alloc(), &service.address, error)),
     };
+    if explains {
+        tell_address(err, &listener);
+    }
     serve_on(rt, &listener, service, book, first, has_clock, out)
 }

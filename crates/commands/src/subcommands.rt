@@ -234,7 +234,7 @@ fn serve<'a>(alloc: Global) -> Result<Command<'a>, AllocError>
         alloc,
         "serve",
         "Serves the book over HTTP, one connection after the other",
-        "whx12 serve --listen ADDR --count N [--patience SECONDS] --book BOOK [--at MOMENT]",
+        "whx12 serve --listen ADDR --count N [--patience SECONDS] [--anyone] --book BOOK [--at MOMENT]",
         "Example: whx12 serve --book harbor.book --listen 127.0.0.1:8080 --count 1000\n\nA depositor posts its interchanges to /x12. GET /stock/ZZ-ACME shows stock, /outbox/ZZ-ACME what went out. Printed is the\nstatus of each response, or: fault 44 Device. While it serves, no other command can open the book.",
         wanted(
             alloc,
@@ -259,6 +259,14 @@ fn serve<'a>(alloc: Global) -> Result<Command<'a>, AllocError>
             "patience",
             "SECONDS",
             "How long a request is waited for, and its response [default: 30]",
+        ),
+    );
+    let command = with(
+        command,
+        flag(
+            alloc,
+            "anyone",
+            "Listens at an address that other machines reach: whoever reaches it may post",
         ),
     );
     with(command, at(alloc))

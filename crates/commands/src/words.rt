@@ -284,12 +284,27 @@ fn patience(alloc: Global, values: &ArgMatches<'_>) -> Result<Option<u16>, LineF
     }
 }
 
+// The address that a line says, if it may be listened at: other machines know a depositor by its ISA alone, so one that they reach
+// wants a word more.
+fn guarded_address(alloc: Global, values: &ArgMatches<'_>) -> Result<SocketAddr, LineFault>
+    ensures { IfOk result (λ address. (text : _) × meant.Has (rows_of (found_of values.now)) (codes "listen") text × IsSocketText text address) }
+{
+    let address = address(alloc, values)?;
+    if address.ip().is_loopback() || has_flag(values, "anyone") {
+        return Ok(address);
+    }
+    Err(usage(
+        alloc,
+        "--listen wants 127.0.0.1 or ::1, or --anyone beside an address that other machines reach\n",
+    ))
+}
+
 // Where a line says that a book is served, and for how long.
 fn service_of(alloc: Global, values: &ArgMatches<'_>) -> Result<Service, LineFault>
     ensures { IfOk result (meant.SaysService (rows_of (found_of values.now))) }
 {
     Ok(Service {
-        address: address(alloc, values)?,
+        address: guarded_address(alloc, values)?,
         count: connections(alloc, values)?,
         patience: patience(alloc, values)?,
     })

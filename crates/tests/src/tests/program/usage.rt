@@ -48,6 +48,9 @@ serve --book b.book --listen 127.0.0.1:65536 --count 1
 serve --book b.book --listen 127.0.0.1:8080 --count 0
 serve --book b.book --listen 127.0.0.1:8080 --count 65536
 serve --book b.book --listen 127.0.0.1:8080 --count +1
+serve --book b.book --listen 0.0.0.0:8080 --count 1
+serve --book b.book --listen [::]:8080 --count 1
+serve --book b.book --listen 192.168.1.7:8080 --count 1
 ";
 
 #[test]
