@@ -80,12 +80,21 @@ fn bad_in(
     }
 }
 
-// The line of a record.
-fn line_of(record: &ByteRecord) -> u64 {
-    match record.position() {
-        Some(position) => position.line(),
-        None => 1,
+// The line of a record. The reader tells where it began to read it, which is before the empty lines that it passes over.
+fn line_of(text: &[u8], record: &ByteRecord) -> u64 {
+    let Some(position) = record.position() else {
+        return 1;
+    };
+    let mut line = position.line();
+    let before = usize::try_from(position.byte()).unwrap_or(0);
+    for b in text.iter().skip(before) {
+        match *b {
+            b'\n' => line = line.saturating_add(1),
+            b'\r' => {}
+            _ => break,
+        }
     }
+    line
 }
 
 /// The first line of a sheet for which it is refused so (30 to 33); None where there is none.
@@ -107,7 +116,7 @@ pub fn first_bad(
         }
         if let Some(why) = bad_in(deed, &record, &before, refusal) {
             return Ok(Some(BadLine {
-                line: line_of(&record),
+                line: line_of(text, &record),
                 why,
             }));
         }
@@ -116,7 +125,7 @@ pub fn first_bad(
         }
     }
     Ok(Some(BadLine {
-        line: line_of(&record),
+        line: line_of(text, &record),
         why: "a sheet has at most 999 lines",
     }))
 }
