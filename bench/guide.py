@@ -16,7 +16,7 @@ A table whose first column is a code, or `Sent`, has its tries after it, one in 
     ROW: bench/SCRIPT.py     this other script tries it
     -->
 ROW is how the row's first cell begins. The page's first example of SET is changed so, each OLD in one place, and sent to a book that has nothing but the
-depositor; `again`: after the example itself; `later`: under a new ISA13, to the book that the page's blocks have left. SE01 is counted anew where no
+depositor (<LF>, <NOTHING> and the like stand for what can't be seen); `again`: after the example itself; `later`: under a new ISA13, to the book that the page's blocks have left. SE01 is counted anew where no
 change names SE. What comes has to have the codes that the row says, or OUTCOME, which is a note or the name of a refusal. Each row has to be tried.
 
 The status is 1 where something differs.
@@ -125,7 +125,7 @@ def changed(text, changes):
     for change in filter(None, changes.split("; ")):
         old, new = change.split(" -> ")
         for name, odd in ODD.items():
-            new = new.replace(name, odd)
+            old, new = old.replace(name, odd), new.replace(name, odd)
         # Of two sets the first one is changed.
         if text.count(old) != 1 and not (text.count(old) == 2 and text.count("~ST*") == 2):
             sys.exit(f"{old} stands in {text.count(old)} places")
