@@ -19,6 +19,11 @@ ROW is how the row's first cell begins. The page's first example of SET is chang
 depositor (<LF>, <NOTHING> and the like stand for what can't be seen); `again`: after the example itself; `later`: under a new ISA13, to the book that the page's blocks have left. SE01 is counted anew where no
 change names SE. What comes has to have the codes that the row says, or OUTCOME, which is a note or the name of a refusal. Each row has to be tried.
 
+The tables of elements of 943, 940 and 997 are tried too: a set is made of a table, with each segment once, and each element is given at its longest, longer,
+shorter, empty, with a wrong character, with another code, with 0 and as no date; each segment is given as often as it may come, and once more, and with one element
+more. All these are sets of one group. The sum of a 943 and 940 is wrong, which is told last, so none of them is done. Faults of a 997 aren't answered; there the
+document that it names stays open.
+
 The status is 1 where something differs.
 """
 import argparse
@@ -193,6 +198,116 @@ def is_otherwise(asked):
     return bool(bad)
 
 
+class Row:
+    """An element of a table."""
+
+    def __init__(self, row):
+        name, _, _, self.kind, lengths, self.mark, what = row
+        self.segment, self.place = re.match(r"(\w+?)(\d\d)\b", name).groups()
+        self.least, self.most = map(int, lengths.split("/"))
+        # The codes that are named, as `F`; an entity code of an address is one of many.
+        self.codes = re.findall(r"`([A-Z0-9]+)`", what) if self.kind == "ID" and "any code" not in what and "first" not in what else []
+
+    def good(self, length):
+        if self.codes:
+            return self.codes[0]
+        return {"N": "1".rjust(length, "0"), "DT": "20260302"}.get(self.kind, "A" * length)
+
+    def odd(self):
+        """Values, and the code that each is told with; None of a good one."""
+        yield self.good(self.most), None
+        yield self.good(self.most) + "1", 5
+        if self.least > 1:
+            yield self.good(self.least)[:self.least - 1], 4
+        yield "", 1 if self.mark == "M" else None
+        if self.codes:
+            yield next(word for word in ("ZZZ"[:self.least], "YYY"[:self.least]) if word not in self.codes), 7
+        elif self.kind == "DT":
+            yield "2026-3-2", 6
+            yield "20260229", 8
+        elif self.kind != "X":
+            yield "a".ljust(self.least, "A"), 6
+        if self.kind == "N" and self.segment[:2] != "AK":
+            yield "0", 7
+
+
+def variants(name, layout, rows):
+    """Sets of a kind, as lists of segments without ST and SE, and what is told of each: place in the set, segment, AK304, element and AK403."""
+    parts, often = [], []
+    for row in rows:
+        first, last = re.match(r"(\d\d)(?: to .*(\d\d))?", re.sub(r"^[A-Z]+\d*?(?=\d\d\b)", "", row[0])).groups()
+        one = Row(row)
+        if first == "01":
+            parts.append((one.segment, []))
+        parts[-1][1].extend([one] * (int(last or first) - int(first) + 1))
+    inner = [line for line in layout if line[0] not in ("ST", "SE")]
+    if [line[0] for line in inner] != [segment for segment, _ in parts]:
+        sys.exit(f"{name}: the two tables have other segments")
+    base = [[segment, *(row.good(row.least) for row in elements)] for segment, elements in parts]
+    sums = {"943": "W03", "940": "W76"}.get(name)
+    whole = [(len(base) + 1, sums, "8", "1", "7")] if sums else [None]
+    if sums:
+        # The one line has 2 pieces, and the sum is said to be 7.
+        next(each for each in base if each[0] in ("W04", "W01"))[1], base[-1][1] = "2", "7"
+    for at, (segment, elements) in enumerate(parts):
+        for place, row in enumerate(elements, 1):
+            for value, code in row.odd():
+                made = [list(each) for each in base]
+                made[at][place] = value
+                yield made, (at + 2, segment, "8", str(place), str(code)) if code else whole[0]
+        yield [each + (["A"] if index == at else []) for index, each in enumerate(base)], (at + 2, segment, "8", str(len(elements) + 1), "3")
+        without = base[:at] + base[at + 1:]
+        if inner[at][2].startswith("1"):
+            last = at + 1 == len(base)
+            yield without, (at + 2, segment if last else base[at + 1][0], "3" if last else "2", None, None)
+        elif sums and base[at + 1][0] != "N3":
+            # An N1 with its N3 and N4 is passed over.
+            most = int(re.match(r"0 (?:to|or) (\d+)", inner[at][2]).group(1))
+            made = base[:at] + [base[at]] * most + base[at + 1:]
+            yield made, (len(made) + 1, sums, "8", "1", "7")
+            yield made[:at] + [base[at]] + made[at:], (at + most + 2, segment, "2", None, None)
+            yield without, (len(base), sums, "8", "1", "7")
+
+
+def in_a_group(name, group, number, made):
+    """An interchange with these sets."""
+    sets = ["".join("*".join(each) + "~" for each in [["ST", name, f"{at:04}"], *segments, ["SE", str(len(segments) + 2), f"{at:04}"]])
+            for at, (segments, _) in enumerate(made, 1)]
+    return (f"ISA*00*          *00*          *ZZ*HOLM           *ZZ*HARBOR         *260305*0900*U*00401*00000088{number:d}*0*P*>~"
+            f"GS*{group}*HOLM*HARBOR*20260305*0900*1*X*004010~{''.join(sets)}GE*{len(sets)}*1~IEA*1*00000088{number:d}~")
+
+
+def try_elements(text, fresh, later):
+    """The tries of the elements of each set: how many, and how many differ."""
+    given = differ = 0
+    tables = [(cells(head), [[cell.strip() for cell in row.strip().strip("|").split("|")] for row in rows.splitlines()]) for head, rows, _, _ in TABLE.findall(text)]
+    layouts = [rows for head, rows in tables if head[0] == "Segment"]
+    elements = [rows for head, rows in tables if head[:5] == ["Element", "Ref", "Name", "Type", "Length"] and rows[0][0] != "ISA01"]
+    for name, group, layout, rows in zip(("943", "940", "997"), ("AR", "OW", "FA"), layouts, elements):
+        made = list(variants(name, layout, rows))
+        given += len(made)
+        book = (later if name == "997" else fresh).copy(f"elements{name}")
+        if name == "997":
+            for state, some in (("open", [each for each in made if each[1]]), ("accepted", [each for each in made if not each[1]])):
+                book.send(in_a_group(name, group, state == "open", some).replace("AK1*RE*1~", "AK1*RE*2~"), "2026-03-05T09:00")
+                listed = book.give(["outbox", "ZZ-HOLM"])[0]
+                if f"2 944 {state}" not in listed:
+                    print(f"997: the 944 should be {state}: {listed}")
+                    differ += 1
+            continue
+        answer, told = book.send(in_a_group(name, group, 1, made), "2026-03-05T09:00")
+        found = re.findall(r"AK2\*\d+\*\d+~(.*?)AK5", answer)
+        if len(found) != len(made):
+            sys.exit(f"{name}: {len(made)} sets, and of {len(found)} an answer: {answer[:300]}{told}")
+        for (segments, wants), got in zip(made, found):
+            place, segment, syntax, element, code = wants
+            wanted = f"AK3*{segment}*{place}**{syntax}~" + (f"AK4*{element}**{code}~" if element else "")
+            if got != wanted:
+                print(f"{name}: {'~'.join('*'.join(each) for each in segments)[:400]}\n  the page has {wanted}, the program {got}")
+                differ += 1
+    return given, differ
+
+
 def main():
     parser = argparse.ArgumentParser()
     parser.add_argument("--program", default=os.path.join(TOP, "crates", "whx12", "out", "whx12"))
@@ -208,9 +323,11 @@ def main():
                 each.give(["init", "ZZ-HARBOR"])
                 each.give(["enrol", "ZZ-HOLM", "--at", "2026-03-02T07:00"])
             blocks, played, differ = play(text, book)
+            elements, other = try_elements(text, fresh, book)
             tries, wrong = try_tables(text, fresh, book)
-        print(f"{os.path.basename(page)}: {played} of {blocks} blocks played, {differ} otherwise than the page has them; {tries} tries of its tables, {wrong} otherwise")
-        bad += differ + wrong + (blocks - played)
+        print(f"{os.path.basename(page)}: {played} of {blocks} blocks played, {differ} otherwise than the page has them; "
+              f"{tries} tries of its tables, {wrong} otherwise; {elements} of its elements, {other} otherwise")
+        bad += differ + wrong + other + (blocks - played)
     return 1 if bad else 0
 
 
