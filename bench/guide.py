@@ -22,7 +22,7 @@ change names SE. What comes has to have the codes that the row says, or OUTCOME,
 The tables of elements of 943, 940 and 997 are tried too: a set is made of a table, with each segment once, and each element is given at its longest, longer,
 shorter, empty, with a wrong character, with another code, with 0 and as no date; each segment is given as often as it may come, and once more, and with one element
 more. All these are sets of one group. The sum of a 943 and 940 is wrong, which is told last, so none of them is done. Faults of a 997 aren't answered; there the
-document that it names stays open.
+document that it names stays open. Of the tables of what is written, each element of the examples has to have a row, and its length.
 
 The status is 1 where something differs.
 """
@@ -41,7 +41,7 @@ DAY = os.path.join(TOP, "examples", "day")
 STEP = re.compile(r"^<!-- (run|sent|answered|printed):?([^\n]*?)-->\n(?:```x12\n(.*?)^```$)?", re.M | re.S)
 TABLE = re.compile(r"^(\|[^\n]*\n)\|[-|]+\n((?:\|[^\n]*\n)+)(?:\n<!-- tries ?(\w*)\n(.*?)^-->$)?", re.M | re.S)
 TRIED = ("TA105", "AK905", "AK502", "AK304", "AK403", "AK403 7 at", "Sent")
-ODD = {"<BOM>": "\ufeff", "<TAB>": "\t", "<LF>": "\n"}
+ODD = {"<BOM>": "\ufeff", "<TAB>": "\t", "<LF>": "\n", "<BLANK>": " ", "<NOTHING>": ""}
 
 
 class Book:
@@ -249,6 +249,8 @@ def variants(name, layout, rows):
     if sums:
         # The one line has 2 pieces, and the sum is said to be 7.
         next(each for each in base if each[0] in ("W04", "W01"))[1], base[-1][1] = "2", "7"
+    else:
+        yield base, None
     for at, (segment, elements) in enumerate(parts):
         for place, row in enumerate(elements, 1):
             for value, code in row.odd():
@@ -267,6 +269,15 @@ def variants(name, layout, rows):
             yield made, (len(made) + 1, sums, "8", "1", "7")
             yield made[:at] + [base[at]] + made[at:], (at + most + 2, segment, "2", None, None)
             yield without, (len(base), sums, "8", "1", "7")
+
+
+def merged(base, some):
+    """A set with what some others have otherwise."""
+    made = [list(each) for each in base]
+    for segments in some:
+        for at, each in enumerate(segments):
+            made[at] = [new if new != old else kept for old, new, kept in zip(base[at], each, made[at])]
+    return made
 
 
 def in_a_group(name, group, number, made):
@@ -288,11 +299,17 @@ def try_elements(text, fresh, later):
         given += len(made)
         book = (later if name == "997" else fresh).copy(f"elements{name}")
         if name == "997":
-            for state, some in (("open", [each for each in made if each[1]]), ("accepted", [each for each in made if not each[1]])):
-                book.send(in_a_group(name, group, state == "open", some).replace("AK1*RE*1~", "AK1*RE*2~"), "2026-03-05T09:00")
+            base, *good = [segments for segments, told in made if not told]
+            empty = [segments for segments in good if sum(each.count("") for each in segments)]
+            tries = [("open", 2, [each for each in made if each[1]]), ("accepted", 2, [(merged(base, [each for each in good if each not in empty]), None)]),
+                     ("accepted", 8, [(merged(base, empty), None)])]
+            for at, (state, number, some) in enumerate(tries):
+                code = {2: "RE", 8: "AW"}[number]
+                sent = re.sub(r"AK1\*RE\*(0*)1~", rf"AK1*{code}*\g<1>{number}~", in_a_group(name, group, at, some))
+                book.send(sent, "2026-03-05T09:00")
                 listed = book.give(["outbox", "ZZ-HOLM"])[0]
-                if f"2 944 {state}" not in listed:
-                    print(f"997: the 944 should be {state}: {listed}")
+                if not re.search(rf" {number} 94\d {state}", listed):
+                    print(f"997: document {number} should be {state}: {listed}\n  {sent[:600]}")
                     differ += 1
             continue
         answer, told = book.send(in_a_group(name, group, 1, made), "2026-03-05T09:00")
@@ -305,6 +322,31 @@ def try_elements(text, fresh, later):
             if got != wanted:
                 print(f"{name}: {'~'.join('*'.join(each) for each in segments)[:400]}\n  the page has {wanted}, the program {got}")
                 differ += 1
+    return given, differ
+
+
+def try_written(text):
+    """The examples of what the house writes, beside the tables above them: how many elements, and how many have no row or another length."""
+    given = differ = 0
+    for part in re.split(r"^###? ", text, flags=re.M):
+        heads = [(cells(head), rows) for head, rows, _, _ in TABLE.findall(part)]
+        rows = {}
+        for row in [cells(row) for head, rows_ in heads if head[:4] == ["Element", "Ref", "Name", "Length"] for row in rows_.splitlines()]:
+            segment, place = re.match(r"(\w+?)(\d\d)\b", row[0]).groups()
+            least, _, most = row[3].partition("/")
+            rows[segment, int(place)] = (int(least), int(most or least)) if least else (0, 0)
+        if not rows:
+            continue
+        for block in [block for kind, _, block in STEP.findall(part) if kind in ("answered", "printed")]:
+            for segment, *elements in (each.split("*") for each in block.replace("\n", "").split("~")[:-1]):
+                if segment in ("ISA", "GS", "ST", "SE", "GE", "IEA"):
+                    continue
+                for place, value in enumerate(elements, 1):
+                    least, most = rows.get((segment, place), (1, 0))
+                    given += 1
+                    if not least <= len(value) <= most:
+                        print(f"{segment}, element {place}: {value or 'empty'}; the page has {least} to {most}")
+                        differ += 1
     return given, differ
 
 
@@ -324,10 +366,12 @@ def main():
                 each.give(["enrol", "ZZ-HOLM", "--at", "2026-03-02T07:00"])
             blocks, played, differ = play(text, book)
             elements, other = try_elements(text, fresh, book)
+            written, off = try_written(text)
             tries, wrong = try_tables(text, fresh, book)
         print(f"{os.path.basename(page)}: {played} of {blocks} blocks played, {differ} otherwise than the page has them; "
-              f"{tries} tries of its tables, {wrong} otherwise; {elements} of its elements, {other} otherwise")
-        bad += differ + wrong + other + (blocks - played)
+              f"{tries} tries of its tables, {wrong} otherwise; {elements} of the elements that are read, {other} otherwise; "
+              f"{written} of those that are written, {off} otherwise")
+        bad += differ + wrong + other + off + (blocks - played)
     return 1 if bad else 0
 
 
