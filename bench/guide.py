@@ -15,14 +15,16 @@ A table whose first column is a code, or `Sent`, has its tries after it, one in 
     ROW: [later|again] SET: OLD -> NEW[; OLD -> NEW ..]
     ROW: bench/SCRIPT.py     this other script tries it
     -->
-ROW is how the row's first cell begins. The page's first example of SET is changed so, each OLD in one place, and sent to a book that has nothing but the
-depositor (<LF>, <NOTHING> and the like stand for what can't be seen); `again`: after the example itself; `later`: under a new ISA13, to the book that the page's blocks have left. SE01 is counted anew where no
-change names SE. What comes has to have the codes that the row says, or OUTCOME, which is a note or the name of a refusal. Each row has to be tried.
+ROW is how the row's first cell begins. The page's first example of SET is changed so, each OLD in one place (<LF>, <NOTHING> and the like stand for
+what can't be seen), and sent to a book that has nothing but the depositor; `again`: after the example itself; `later`: under a new ISA13, to the book
+that the page's blocks have left. SE01 is counted anew where no change names SE. What comes has to have the codes that the row says, or OUTCOME, which is
+a note or the name of a refusal. Each row has to be tried.
 
-The tables of elements of 943, 940 and 997 are tried too: a set is made of a table, with each segment once, and each element is given at its longest, longer,
-shorter, empty, with a wrong character, with another code, with 0 and as no date; each segment is given as often as it may come, and once more, and with one element
-more. All these are sets of one group. The sum of a 943 and 940 is wrong, which is told last, so none of them is done. Faults of a 997 aren't answered; there the
-document that it names stays open. Of the tables of what is written, each element of the examples has to have a row, and its length.
+The tables of elements of 943, 940 and 997 are tried too. A set is made of a table, with each segment once. Then each element is given at its longest,
+longer, shorter, empty, with a wrong character, with another code, with 0 and as no date; each segment is given as often as it may come, once more, not
+at all, and with one element more. All these are sets of one group. The sum of a 943 and 940 is wrong, which is told last, so none of them is done. Faults
+of a 997 aren't answered; there the document that it names stays open. Of the tables of what is written, each element of the examples has to have a row,
+and its length.
 
 The status is 1 where something differs.
 """
