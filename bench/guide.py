@@ -85,7 +85,7 @@ def play(text, book):
             book.give(words.split())
         elif kind == "sent":
             answer, _ = book.send(block, words.strip())
-            if answer and steps[index + 1:index + 2] and steps[index + 1][0] != "answered":
+            if answer and (index + 1 == len(steps) or steps[index + 1][0] != "answered"):
                 print(f"sent at{words}: the page has no answer, the program\n  {answer}")
                 differ += 1
         elif (got := answer if kind == "answered" else book.give(words.split())[0]) != wanted:
