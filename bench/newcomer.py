@@ -7,6 +7,8 @@ The commands are taken out of the pages of the last commit. In a block of ```con
 it prints, on standard output and standard error, whole. Two dots there stand for what the page leaves out: on a line by themselves for any lines, else
 for anything within the line. A comment <!-- first: COMMAND --> is given too, and stands for what the page takes to be there; what it prints isn't
 compared. Blocks of ```x12 and ```text hold no commands (bench/guide.py plays the first kind); a block of any other kind is told as `differs`.
+A table whose first column is `Told` has its tries after it, a comment of lines `NUMBER: COMMAND` or `NUMBER: FILE`: the command ends with what the row of this
+number says, or the file of the repository shows it. Each row has to be tried.
 
 Each page has a fresh clone of the repository, a new HOME and a clean shell (env -i) which begins at the top of the clone, as a newcomer does. It finds the
 system's programs, `rt`, and PROGRAM as whx12. PROGRAM also lies where a build leaves it in the clone, so that nothing is proved.
@@ -36,16 +38,18 @@ PASSED_OVER = [
     ("systemctl", "needs a service manager"),
     ("sudo", "needs root"),
 ]
-PART = re.compile(r"^<!-- first: (.*?) -->$|^```(\S*)\n(.*?)^```$", re.M | re.S)
+PART = re.compile(r"^<!-- first: (.*?) -->$|^```(\S*)\n(.*?)^```$|^\| Told \|[^\n]*\n\|[-|]+\n((?:\|[^\n]*\n)+)(?:\n<!-- tries\n(.*?)^-->$)?", re.M | re.S)
 ADDRESS = "127.0.0.1:8080"
 SECONDS = 1200
 
 
 def commands(text):
     """What a page says, in its order: a command, and what it prints; None where that isn't compared. No command: a block of another kind."""
-    for first, kind, block in PART.findall(text):
+    for first, kind, block, rows, tries in PART.findall(text):
         if first:
             yield first, None
+        elif rows:
+            yield from told(rows, tries)
         elif kind == "console":
             # A line that begins with neither a prompt nor a command before it would be lost.
             head, *parts = re.split(r"^\$ ", block, flags=re.M)
@@ -56,6 +60,23 @@ def commands(text):
                 yield lines.rstrip("\n"), part[len(lines):]
         elif kind not in ("x12", "text"):
             yield None, block
+
+
+def told(rows, tries):
+    """The tries of a table, as commands and what they print at last."""
+    names = [re.match(r"\| `(?:fault )?((\d+) [^`]+)`", row).groups() for row in rows.splitlines()]
+    left = dict((number, name) for name, number in names)
+    for line in tries.splitlines():
+        number, _, command = line.partition(": ")
+        name = next(name for name, each in names if each == number)
+        left.pop(number, None)
+        if re.fullmatch(r"(bench|crates)/\S+", command):
+            if not os.path.exists(os.path.join(TOP, command)):
+                yield None, f"no {command}\n"
+        else:
+            yield command, f"..\n{'fault' if int(number) >= 40 else 'refused'} {name.replace('code', '..')}\n"
+    for name in left.values():
+        yield None, f"not tried: {name}\n"
 
 
 def is_shown(wanted, got):

@@ -13,9 +13,11 @@ shift 2
 
 for who in "$@"; do
     mkdir -p "$folder/$who"
-    whx12 outbox "$who" --book "$book" | while read -r number kind state; do
+    # The whole list first: the book is open in one process at a time.
+    list=$(whx12 outbox "$who" --book "$book")
+    printf '%s\n' "$list" | while read -r number kind state; do
         file=$folder/$who/$number.x12
-        if [ "$kind" = ANS ] || [ -e "$file" ] || [ -e "$file.sent" ]; then continue; fi
+        if [ -z "$kind" ] || [ "$kind" = ANS ] || [ -e "$file" ] || [ -e "$file.sent" ]; then continue; fi
         whx12 outbox "$who" --number "$number" --book "$book" >"$file.new"
         # The program ends the text with a line end, which is no part of it.
         truncate -s -1 "$file.new"
