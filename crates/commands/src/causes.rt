@@ -60,6 +60,19 @@ pub fn about_use(alloc: Global, book: &str) -> CommandError {
     )
 }
 
+/// The fault of a file that can't be opened as a database.
+pub fn about_opening(alloc: Global, book: &str, fault: Fault) -> CommandError {
+    if fault != Fault::Device {
+        return CommandError::Fault(fault);
+    }
+    caused(
+        fault,
+        format!(in alloc;
+            "{book} can't be opened: look at its rights, those of its folder, and whether it has a second name (a hard link)"
+        ),
+    )
+}
+
 /// What happened to a book in a file at a fault, as far as its number says it.
 pub fn about_book(alloc: Global, book: &str, is_made: bool, stop: CommandError) -> CommandError {
     let CommandError::Fault(fault) = stop else {

@@ -8,7 +8,9 @@ ghost use Rattle.commands.specs.Working.{IsChecked, IsJobDone, IsJobFor, IsWork}
 
 use crate::acts::{Ready, perform, ready_at};
 use crate::book_files::{close, disconnect, fault, is_in_use, make, open, open_anew};
-use crate::causes::{about_book, about_folder, about_line, about_missing, about_use};
+use crate::causes::{
+    about_book, about_folder, about_line, about_missing, about_opening, about_use,
+};
 use crate::clock::moment_for;
 use crate::reasons::tell_reason;
 use crate::script::{play_over, read_lines};
@@ -223,7 +225,9 @@ fn over<W: io::Write, E: io::Write>(
         }
         match Connection::open(rt, file) {
             Ok(database) => return over_disk(rt, database, job, explains, out, err),
-            Err(error) if !is_in_use(&error) => return Err(CommandError::Fault(fault(&error))),
+            Err(error) if !is_in_use(&error) => {
+                return Err(about_opening(rt.alloc(), file, fault(&error)));
+            }
             Err(_) => {}
         }
     }
