@@ -239,8 +239,8 @@ fn sum_of(lines: &[Goods], item: &[u8], lot: &[u8]) -> u64
     quantity
 }
 
-// The quantity that lines give a pair. A page has what is reserved in order, but that isn't known of each page that is put
-// together, so it is asked before.
+// The quantity that lines give a pair. What events reserve stands in order, and a pair is found there by halves; no clause says
+// so of the orders of a page, so it is asked first.
 fn given(lines: &[Goods], rises: bool, item: &[u8], lot: &[u8]) -> u64
     requires fits { quantity_of lines.now item.now lot.now < 2 ^ 64 }
     requires asked { rises ≡ is_ascending lines.now }

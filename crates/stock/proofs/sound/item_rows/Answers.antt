@@ -1,4 +1,4 @@
-use Rattle.std.proofs.Common.{◌≡◌, ◌∙◌, [], ap, List, ℕ, subst}
+use Rattle.std.proofs.Common.{◌≡◌, ◌∙◌, [], ap, subst}
 use Rattle.profile.specs.Means.{Line}
 use Rattle.profile.specs.Page.{PageLine}
 use Rattle.stock.specs.Moved.{IsPlaced}
