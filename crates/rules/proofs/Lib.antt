@@ -46,3 +46,4 @@ pub mod Expected
 pub mod Columns
 pub mod GivenAgain
 pub mod GivenRead
+pub mod ItemLines

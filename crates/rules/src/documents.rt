@@ -1,15 +1,17 @@
 //! What the documents of a clerk's acts tell: receipts, shipments and adjustments.
-ghost use Rattle.std.specs.Prelude.{◌≡◌, ◌≤◌, ◌++◌, List, Ok, true, IfOk, OnOk, MatchOption, bytes_eq, filter, length, map, sum_by};
+ghost use Rattle.std.specs.Prelude.{◌≡◌, ◌≤◌, ◌++◌, List, Ok, not, true, IfOk, OnOk, MatchOption, bytes_eq, filter, length, map, sum_by};
 ghost use Rattle.std.specs.List.{insert};
 ghost use Rattle.profile.specs.declared.rules.Rules.TheVariants.{Two};
-ghost use Rattle.profile.specs.Events.{pair_before, quantity_of};
+ghost use Rattle.profile.specs.Bytes.{comes_before};
+ghost use Rattle.profile.specs.Events.{pair_before};
 ghost use Rattle.profile.specs.Lists.{in_order, placed};
 ghost use Rattle.profile.specs.Limits.{most_lines};
 ghost use Rattle.rules.specs.Documents.{adjusted_from, adjustment_text, picked_lot, received_line, receipt_text, shipment_text, shipped_of};
-ghost use Rattle.profile.specs.Clerk.{is_sheet, performed, RecountSheet};
+ghost use Rattle.profile.specs.Clerk.{is_ascending, is_sheet, performed, RecountSheet};
 ghost use Rattle.profile.specs.Events.{Event};
-ghost use Rattle.profile.specs.Texts.{total_of, document_of};
+ghost use Rattle.profile.specs.Texts.{document_of};
 ghost use Rattle.rules.specs.Asked.{act_of};
+ghost use Rattle.stock.specs.Keyed.{rises_by, IsRank};
 ghost use Rattle.stock.specs.Pages.{PageFacts};
 ghost use Rattle.stock.specs.Parts.{Named, IsPart};
 ghost use Rattle.stock.specs.Shows.{Shows};
@@ -24,7 +26,7 @@ use sets_out::{
 };
 use std::alloc::{AllocError, Global};
 use std::marker::Model;
-use stock::{KnownAdvice, KnownLine, KnownOrder, Page, Sheet};
+use stock::{KnownAdvice, KnownLine, KnownOrder, Page, Sheet, quantity_of};
 
 /// A quantity of a pair of an item and a lot.
 #[derive(Drop)]
@@ -50,23 +52,32 @@ fn is_before(line: &Pair<'_>, other: &Pair<'_>) -> bool
         || (line.item == other.item && line.lot.cmp(&other.lot).is_lt())
 }
 
+// How many lines come before another.
+fn rank_among(lines: &[Pair<'_>], new: &Pair<'_>) -> usize
+    requires { rises_by pair_before (λ l. l) lines.now ≡ true }
+    ensures { IsRank pair_before (λ l. l) lines.now new.now result }
+{
+    lines.partition_point(|other| is_before(other, new))
+}
+
 // Where a line belongs, if its pair isn't there.
 fn place_among(lines: &[Pair<'_>], new: &Pair<'_>) -> Option<usize>
+    requires { rises_by pair_before (λ l. l) lines.now ≡ true }
     ensures { MatchOption result (placed pair_before new.now lines.now ≡ lines.now) (λ i. (i ≤ length lines.now) × (placed pair_before new.now lines.now ≡ insert lines.now i new.now)) }
 {
-    for (i, other) in lines.iter().enumerate() {
-        if is_before(new, other) {
-            return Some(i);
-        }
-        if !is_before(other, new) {
-            return None;
-        }
+    let i = rank_among(lines, new);
+    if i == lines.len() {
+        return Some(i);
     }
-    Some(lines.len())
+    if is_before(new, &lines[i]) {
+        return Some(i);
+    }
+    None
 }
 
 // Puts a line in its place, if its pair isn't there.
 fn place<'a>(lines: &mut Vec<Pair<'a>>, new: Pair<'a>) -> Result<(), AllocError>
+    requires { rises_by pair_before (λ l. l) lines.old.items ≡ true }
     ensures { OnOk result (lines.new.items ≡ placed pair_before new.entry lines.old.items) }
 {
     if let Some(i) = place_among(lines, &new) {
@@ -113,20 +124,6 @@ fn lend<'a>(lines: &mut Vec<Pair<'a>>, goods: &'a [Goods]) -> Result<(), AllocEr
     Ok(())
 }
 
-// The quantity that lines give a pair.
-fn quantity(goods: &[Goods], item: &[u8], lot: &[u8]) -> u64
-    requires { length goods.now ≤ most_lines Two }
-    ensures { result ≡ quantity_of goods.now item.now lot.now }
-{
-    let mut quantity: u64 = 0;
-    for line in goods {
-        if line.item.as_slice() == item && line.lot.as_slice() == lot {
-            quantity += u64::from(line.quantity);
-        }
-    }
-    quantity
-}
-
 // The sum of the quantities of lines.
 fn total(goods: &[Goods]) -> u64
     requires { length goods.now ≤ most_lines Two }
@@ -145,7 +142,7 @@ fn received<'a>(
     pairs: &[Pair<'a>],
     sheet: &[Goods],
 ) -> Result<Vec<CountedLine<'a>>, AllocError>
-    requires { length sheet.now ≤ most_lines Two }
+    requires { is_ascending sheet.now ≡ true }
     ensures { IfOk result (λ lines. lines.items ≡ map (received_line sheet.now) pairs.now) }
 {
     let mut lines = Vec::new(alloc);
@@ -153,7 +150,7 @@ fn received<'a>(
         lines.push(CountedLine {
             item: pair.item,
             lot: pair.lot,
-            quantity: quantity(sheet, pair.item, pair.lot),
+            quantity: quantity_of(sheet, pair.item, pair.lot),
         })?;
     }
     Ok(lines)
@@ -179,7 +176,7 @@ fn receipt_lines<'a>(
     advised: &'a [Goods],
     counted: &'a [Goods],
 ) -> Result<Vec<CountedLine<'a>>, AllocError>
-    requires { length counted.now ≤ most_lines Two }
+    requires { is_ascending counted.now ≡ true }
     ensures { IfOk result (λ lines. lines.items ≡ map (received_line counted.now) (in_order pair_before (advised.now ++ counted.now))) }
 {
     let mut pairs = Vec::new(alloc);
@@ -211,61 +208,76 @@ fn receipt(
     written(alloc, envelope, &document)
 }
 
-// The pairs of an item.
-fn of_item<'a>(alloc: Global, pairs: &[Pair<'a>], item: &[u8]) -> Result<Vec<Pair<'a>>, AllocError>
-    ensures { IfOk result (λ v. v.items ≡ filter (λ k. bytes_eq k.item item.now) pairs.now) }
+// Whether a line is of an item before another.
+fn is_before_item(line: &Goods, item: &[u8]) -> bool
+    ensures { result ≡ comes_before line.now.item item.now }
 {
-    let mut found = Vec::new(alloc);
-    for pair in pairs {
-        if pair.item == item {
-            found.push(same(pair))?;
-        }
-    }
-    Ok(found)
+    line.item.as_slice().cmp(&item).is_lt()
+}
+
+// Whether a line is of an item after another.
+fn is_behind_item(line: &Goods, item: &[u8]) -> bool
+    ensures { result ≡ comes_before item.now line.now.item }
+{
+    item.cmp(&line.item.as_slice()).is_lt()
+}
+
+// Where the lines of an item begin.
+fn item_start(sheet: &[Goods], item: &[u8]) -> usize
+    requires { is_ascending sheet.now ≡ true }
+    ensures { IsRank comes_before (λ l. l.item) sheet.now item.now result }
+{
+    sheet.partition_point(|line| is_before_item(line, item))
+}
+
+// Where the lines of an item end.
+fn item_end(sheet: &[Goods], item: &[u8]) -> usize
+    requires { is_ascending sheet.now ≡ true }
+    ensures { IsRank (λ a b. not (comes_before b a)) (λ l. l.item) sheet.now item.now result }
+{
+    sheet.partition_point(|line| !is_behind_item(line, item))
+}
+
+// The lines of an item, which stand together.
+fn of_item<'a>(sheet: &'a [Goods], item: &[u8]) -> &'a [Goods]
+    requires { is_ascending sheet.now ≡ true }
+    ensures { result.now ≡ filter (λ k. bytes_eq k.item item.now) sheet.now }
+{
+    let start = item_start(sheet, item);
+    let end = item_end(sheet, item);
+    &sheet[start..end]
 }
 
 // What was picked of lots.
-fn picked<'a>(alloc: Global, pairs: &[Pair<'a>]) -> Result<Vec<PickedLot<'a>>, AllocError>
-    ensures { IfOk result (λ v. v.items ≡ map picked_lot pairs.now) }
+fn picked<'a>(alloc: Global, lines: &'a [Goods]) -> Result<Vec<PickedLot<'a>>, AllocError>
+    ensures { IfOk result (λ v. v.items ≡ map picked_lot lines.now) }
 {
     let mut lots = Vec::new(alloc);
-    for pair in pairs {
+    for line in lines {
         lots.push(PickedLot {
-            lot: pair.lot,
-            quantity: u64::from(pair.quantity),
+            lot: &line.lot,
+            quantity: u64::from(line.quantity),
         })?;
     }
     Ok(lots)
-}
-
-// The sum of what pairs have.
-fn sum(pairs: &[Pair<'_>]) -> u64
-    requires { length pairs.now ≤ most_lines Two }
-    ensures { result ≡ total_of pairs.now }
-{
-    let mut sum: u64 = 0;
-    for pair in pairs {
-        sum += u64::from(pair.quantity);
-    }
-    sum
 }
 
 // A line of an order with what a sheet says of its item.
 fn shipped_line<'a>(
     alloc: Global,
     line: &'a KnownLine,
-    sheet: &[Pair<'a>],
+    sheet: &'a [Goods],
 ) -> Result<ShippedLine<'a>, AllocError>
-    requires { length sheet.now ≤ most_lines Two }
+    requires few { length sheet.now ≤ most_lines Two }
+    requires rises { is_ascending sheet.now ≡ true }
     ensures { IfOk result (λ l. l ≡ shipped_of sheet.now line.now) }
 {
-    let pairs = of_item(alloc, sheet, &line.item)?;
-    let lots = sorted(alloc, &pairs)?;
+    let lots = of_item(sheet, &line.item);
     Ok(ShippedLine {
         item: &line.item,
         ordered: u64::from(line.quantity),
-        shipped: sum(&lots),
-        lots: picked(alloc, &lots)?,
+        shipped: total(lots),
+        lots: picked(alloc, lots)?,
     })
 }
 
@@ -273,9 +285,10 @@ fn shipped_line<'a>(
 fn shipped_lines<'a>(
     alloc: Global,
     lines: &'a [KnownLine],
-    sheet: &[Pair<'a>],
+    sheet: &'a [Goods],
 ) -> Result<Vec<ShippedLine<'a>>, AllocError>
-    requires { length sheet.now ≤ most_lines Two }
+    requires few { length sheet.now ≤ most_lines Two }
+    requires rises { is_ascending sheet.now ≡ true }
     ensures { IfOk result (λ v. v.items ≡ map (shipped_of sheet.now) lines.now) }
 {
     let mut shipment = Vec::new(alloc);
@@ -283,20 +296,6 @@ fn shipped_lines<'a>(
         shipment.push(shipped_line(alloc, line, sheet)?)?;
     }
     Ok(shipment)
-}
-
-// The lines of an order with what was picked of each.
-fn shipped_of<'a>(
-    alloc: Global,
-    order: &'a KnownOrder,
-    goods: &'a [Goods],
-) -> Result<Vec<ShippedLine<'a>>, AllocError>
-    requires { length goods.now ≤ most_lines Two }
-    ensures { IfOk result (λ v. v.items ≡ map (shipped_of goods.now) order.now.lines) }
-{
-    let mut pairs = Vec::new(alloc);
-    lend(&mut pairs, goods)?;
-    shipped_lines(alloc, &order.lines, &pairs)
 }
 
 // The 945 of a pick: each line of the order with what was picked of its item.
@@ -309,7 +308,7 @@ fn shipment(
     ensures { IfOk result (λ text. text.items ≡ shipment_text envelope.now order.now sheet.now) }
 {
     let goods = sheet.lines(alloc)?;
-    let lines = shipped_of(alloc, order, &goods)?;
+    let lines = shipped_lines(alloc, &order.lines, &goods)?;
     let shipment = Shipment {
         order: &order.number,
         lines: &lines,

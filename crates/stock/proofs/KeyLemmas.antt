@@ -285,43 +285,44 @@ said_set n i v d ds sorted at is =
     at_set nat_lt numbers_strict entry_of ds i y sorted at.within key
     ∙ ap (λ (o : Option PageDocument). said_of_found o v ds) (sym (find_at (is_document n) ds i d at is))
 
--- The rows of an item stand together.
-
-items_rise : (rows : List LotRow) (i j : ℕ) (d : LotRow) → IsSorted rows → i < j → j < length rows
-    → (comes_before (get_or rows i d).item (get_or rows j d).item ≡ true) ⊎ ((get_or rows i d).item ≡ (get_or rows j d).item)
-items_rise rows i j d sorted lt within = elim (key_says (row_key (get_or rows i d)) (row_key (get_or rows j d)) (rises_at key_before pairs_strict row_key rows i j d sorted lt within)) [
-  | inl a ↦ inl a
-  | inr b ↦ inr b.0
-]
-
-pub before_parted : (rows : List LotRow) (item : List ℕ) → IsSorted rows → IsPartitionedBy (λ r. comes_before r.item item) rows
-before_parted rows item sorted i j d le within here = elim (cases_lt i j) [
-  | inl lt ↦ elim (items_rise rows i j d sorted lt within) [
-    | inl a ↦ texts_through (get_or rows i d).item (get_or rows j d).item item a here
-    | inr e ↦ ap (λ (x : List ℕ). comes_before x item) e ∙ here
-  ]
-  | inr ge ↦ let e : i ≡ j = omega arith in ap (λ (n : ℕ). comes_before (get_or rows n d).item item) e ∙ here
-]
-
-not_true : (v : Bool) → not v ≡ true → v ≡ false
+pub not_true : (v : Bool) → not v ≡ true → v ≡ false
 not_true true h = absurd (cc)
 not_true false h = refl
-
-pub behind_parted : (rows : List LotRow) (item : List ℕ) → IsSorted rows → IsPartitionedBy (λ r. not (comes_before item r.item)) rows
-behind_parted rows item sorted i j d le within here = elim (cases_lt i j) [
-  | inl lt ↦ elim (cases_Bool (comes_before item (get_or rows i d).item)) [
-    | inl f ↦
-        let later : comes_before item (get_or rows j d).item ≡ true = elim (items_rise rows i j d sorted lt within) [
-          | inl a ↦ texts_through item (get_or rows i d).item (get_or rows j d).item f a
-          | inr e ↦ ap (comes_before item) (sym e) ∙ f
-        ] in
-        let g : true ≡ false = sym later ∙ not_true (comes_before item (get_or rows j d).item) here in
-        absurd (cc)
-    | inr f ↦ rw f refl
-  ]
-  | inr ge ↦ let e : i ≡ j = omega arith in ap (λ (n : ℕ). not (comes_before item (get_or rows n d).item)) e ∙ here
-]
 
 pub not_false : (v : Bool) → not v ≡ false → v ≡ true
 not_false true h = refl
 not_false false h = absurd (cc)
+
+-- What has the keys of an item stands together.
+
+module _ {X : Type 0} (key : X → Pair) where
+  items_rise : (xs : List X) (i j : ℕ) (d : X) → rises_by key_before key xs ≡ true → i < j → j < length xs
+      → (comes_before (key (get_or xs i d)).0 (key (get_or xs j d)).0 ≡ true) ⊎ ((key (get_or xs i d)).0 ≡ (key (get_or xs j d)).0)
+  items_rise xs i j d sorted lt within = elim (key_says (key (get_or xs i d)) (key (get_or xs j d)) (rises_at key_before pairs_strict key xs i j d sorted lt within)) [
+    | inl a ↦ inl a
+    | inr b ↦ inr b.0
+  ]
+
+  pub before_parted : (xs : List X) (item : List ℕ) → rises_by key_before key xs ≡ true → IsPartitionedBy (λ x. comes_before (key x).0 item) xs
+  before_parted xs item sorted i j d le within here = elim (cases_lt i j) [
+    | inl lt ↦ elim (items_rise xs i j d sorted lt within) [
+      | inl a ↦ texts_through (key (get_or xs i d)).0 (key (get_or xs j d)).0 item a here
+      | inr e ↦ ap (λ (t : List ℕ). comes_before t item) e ∙ here
+    ]
+    | inr ge ↦ let e : i ≡ j = omega arith in ap (λ (n : ℕ). comes_before (key (get_or xs n d)).0 item) e ∙ here
+  ]
+
+  pub behind_parted : (xs : List X) (item : List ℕ) → rises_by key_before key xs ≡ true → IsPartitionedBy (λ x. not (comes_before item (key x).0)) xs
+  behind_parted xs item sorted i j d le within here = elim (cases_lt i j) [
+    | inl lt ↦ elim (cases_Bool (comes_before item (key (get_or xs i d)).0)) [
+      | inl f ↦
+          let later : comes_before item (key (get_or xs j d)).0 ≡ true = elim (items_rise xs i j d sorted lt within) [
+            | inl a ↦ texts_through item (key (get_or xs i d)).0 (key (get_or xs j d)).0 f a
+            | inr e ↦ ap (comes_before item) (sym e) ∙ f
+          ] in
+          let g : true ≡ false = sym later ∙ not_true (comes_before item (key (get_or xs j d)).0) here in
+          absurd (cc)
+      | inr f ↦ rw f refl
+    ]
+    | inr ge ↦ let e : i ≡ j = omega arith in ap (λ (n : ℕ). not (comes_before item (key (get_or xs n d)).0)) e ∙ here
+  ]

@@ -6,6 +6,9 @@ use Rattle.std.proofs.lemmas.Slice.Eq.{bytes_eq-Decides}
 use Rattle.std.specs.Prelude.{bytes_eq}
 use Rattle.std.specs.List.{list_any}
 use Rattle.profile.specs.Means.{Line, AdviceLine, OrderLine}
+use Rattle.profile.specs.Bytes.{is_one_of}
+use Rattle.profile.specs.Page.{PageLine}
+use Rattle.stock.specs.Soundness.{item_alone}
 use Rattle.profile.specs.Events.{is_pair, repeated, same_advice_pair, same_order_item}
 use Rattle.profile.specs.Rows.{LotRow}
 use Rattle.stock.specs.Keyed.{IsSorted}
@@ -57,16 +60,34 @@ same_way a b = elim (cases_Bool (bytes_eq a b)) [
   ]
 ]
 
+with_none : (v : Bool) → (v && true) ≡ v
+with_none true = refl
+with_none false = refl
+
 pub items_alike : AreAlike same_order_item item_line
 items_alike x [] = refl
 items_alike x (l ∷ ls) = (λ j. one j || items_alike x ls j)
   where
-    with_none : (v : Bool) → (v && true) ≡ v
-    with_none true = refl
-    with_none false = refl
-
     one : is_pair x.item [] (item_line l) ≡ same_order_item x l
     one = with_none (bytes_eq l.item x.item) ∙ same_way l.item x.item
+
+-- an item is that of one of the lines of a known order
+pub item_among : (item : List ℕ) (ms : List PageLine) → list_any (is_pair item []) (map item_alone ms) ≡ is_one_of (map (λ m. m.item) ms) item
+item_among item [] = refl
+item_among item (m ∷ ms) = (λ j. one j || item_among item ms j)
+  where
+    one : is_pair item [] (item_alone m) ≡ bytes_eq item m.item
+    one = with_none (bytes_eq m.item item) ∙ same_way m.item item
+
+-- one line more has its row
+pub rows_more : {X : Type 0} (f : X → Line) (xs : List X) (i : ℕ) (x : X) (old new : List LotRow) (k : ℕ)
+    → i < length xs → x ≡ get_or xs i x → AreRowsOf (map f (take i xs)) old → IsPlaced old new (f x) k → AreRowsOf (map f (take (i + 1) xs)) new
+rows_more {X} f xs i x old new k within is are placed = λ a b.
+    placed.named a b
+    ∙ ap (λ (n : ℕ). max n (named_by (f x ∷ []) a b)) (are a b)
+    ∙ sym (named_append (map f (take i xs)) (f x ∷ []) a b)
+    ∙ ap (λ (ls : List Line). named_by ls a b) (sym (map_push f (take i xs) x))
+    ∙ ap (λ (ys : List X). named_by (map f ys) a b) (sym (take_more xs i x within ∙ ap (λ (y : X). take i xs ++ y ∷ []) (sym is)))
 
 -- the lines of those before a place have these rows, and none of them is like one before it
 pub record HaveStood {X : Type 0} (same : X → X → Bool) (f : X → Line) (xs : List X) (i : ℕ) (rows : List LotRow) : Type 0 where
@@ -81,12 +102,7 @@ pub stood_more : {X : Type 0} (same : X → X → Bool) (f : X → Line) (xs : L
     → IsPlaced old new (f x) k → HaveStood same f xs (i + 1) new
 stood_more {X} same f xs i x old new k alike within is stood none placed = record {
   sorted = placed.sorted;
-  are = λ a b.
-      placed.named a b
-      ∙ ap (λ (n : ℕ). max n (named_by (f x ∷ []) a b)) (stood.are a b)
-      ∙ sym (named_append (map f (take i xs)) (f x ∷ []) a b)
-      ∙ ap (λ (ls : List Line). named_by ls a b) (sym (map_push f (take i xs) x))
-      ∙ ap (λ (ys : List X). named_by (map f ys) a b) (sym more);
+  are = rows_more f xs i x old new k within is stood.are placed;
   first = stood.first
       ∙ ap (repeated same (take i xs)) rest
       ∙ ap (λ (v : Bool). cond v (Some x) (repeated same (take i xs ++ x ∷ []) (drop (i + 1) xs))) (sym (alike x (take i xs)) ∙ none)

@@ -43,11 +43,11 @@ after_first k [] h z b = absurd b
 after_first k (l ∷ ls) h z (inl a) = subst (λ w. pair_before k w ≡ true) (sym a) (and_parts (pair_before k l) (is_ascending (l ∷ ls)) h).0
 after_first k (l ∷ ls) h z (inr b) = after_first k ls (ascending_skip k l ls h) z b
 
-ascending_rises : (ls : List Line) → is_ascending ls ≡ true → Rises pair_before ls
+pub ascending_rises : (ls : List Line) → is_ascending ls ≡ true → Rises pair_before ls
 ascending_rises [] h = tt
 ascending_rises (k ∷ ls) h = (after_first k ls h, ascending_rises ls (ascending_tail k ls h))
 
-lines_order : IsOrder pair_before
+pub lines_order : IsOrder pair_before
 lines_order = record { never = λ k. before_lot k k refl ∙ texts_never k.lot; through = pair_through }
 
 -- lines that ascend are the same lines put in order, however these stood

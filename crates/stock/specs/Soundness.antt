@@ -1,10 +1,10 @@
 -- What is checked of lists before they are a page.
-use Rattle.std.specs.Prelude.{ℕ, ◌+◌, ◌*◌, Bool, true, ◌&&◌, List, if◌then◌else◌, nat_le}
+use Rattle.std.specs.Prelude.{ℕ, ◌+◌, ◌*◌, Bool, true, ◌&&◌, List, [], if◌then◌else◌, nat_le}
 use Rattle.std.specs.List.{list_all}
 use Rattle.profile.specs.Limits.{most_recounted, most_entries, most_sets}
 use Rattle.profile.specs.Means.{Line}
 use Rattle.profile.specs.Movements.{Expected, Reservation}
-use Rattle.profile.specs.Page.{PageAdvice, PageOrder}
+use Rattle.profile.specs.Page.{PageAdvice, PageLine, PageOrder}
 use Rattle.profile.specs.Rows.{LotRow}
 use Rattle.stock.specs.Pages.{PageFacts, awaited, held, is_in_lines}
 use Rattle.stock.specs.Told.{amount, told}
@@ -34,3 +34,7 @@ most_of entries = (most_recounted + 1) * (most_sets * entries)
 abbrev pub is_kept : PageFacts → Bool
 is_kept p = nat_le p.entries most_entries && list_all (is_within (most_of p.entries)) p.rows
     && all_expected p.rows p.advices p.advices && all_reserved p.rows p.orders p.orders && list_all is_in_lines p.orders
+
+-- the item of a line, without a lot
+abbrev pub item_alone : PageLine → Line
+item_alone m = record { item = m.item; lot = []; quantity = 0 }

@@ -1,14 +1,13 @@
 ghost use Rattle.std.specs.Prelude.{◌≡◌, ◌<◌, ◌-◌, ◌^◌, IfOk, IfSome, List, [], sum_by, Option, find, option_map};
-ghost use Rattle.std.specs.List.{list_any};
 ghost use Rattle.profile.specs.Means as meant;
 ghost use Rattle.profile.specs.Events as events;
 ghost use Rattle.stock.specs.Keyed.{IsSorted};
-ghost use Rattle.stock.specs.Told.{AreRowsOf, told_date};
+ghost use Rattle.stock.specs.Told.{told_date};
 ghost use Rattle.sets_in.specs.Limits.{HasFewLines, HasFewOrderLines};
 ghost use Rattle.tables.specs.Judged.{told};
 
 use crate::lots::new_line;
-use crate::rows::{Row, is_redated, place_of, placed};
+use crate::rows::{Row, is_among, is_redated, placed};
 use sets_in::{Advice, AdviceLine, Order, OrderLine};
 use std::alloc::{AllocError, Global};
 use tables::SetFault;
@@ -22,17 +21,6 @@ fn trade_fault(segment: &'static [u8], position: u32, place: u32) -> SetFault<'s
         position,
         code: 8,
         element: Some((place, 7)),
-    }
-}
-
-// Whether one of the lines of which these are the rows is of the pair.
-fn is_among(seen: &[Row], item: &[u8], lot: &[u8]) -> bool
-    requires { IsSorted seen.now }
-    ensures { (lines : List meant.Line) → AreRowsOf lines seen.now → result ≡ list_any (events.is_pair item.now lot.now) lines }
-{
-    match place_of(seen, item, lot) {
-        None => false,
-        Some(_) => true,
     }
 }
 

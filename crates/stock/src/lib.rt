@@ -32,6 +32,7 @@ pub use documents::{Function, KnownDocument};
 pub use drafts::Draft;
 pub use known_advices::KnownAdvice;
 pub use known_orders::{KnownLine, KnownOrder};
+pub use lines::quantity_of;
 pub use page::Page;
 pub use picks::pick;
 pub use receipts::receive;

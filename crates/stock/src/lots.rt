@@ -4,7 +4,7 @@ ghost use Rattle.profile.specs.Allotment.{expires_before, counted_before, ranks_
 ghost use Rattle.profile.specs.Bytes.{comes_before};
 ghost use Rattle.profile.specs.Rows.{LotRow};
 ghost use Rattle.profile.specs.Lists.{placed, in_order};
-ghost use Rattle.stock.specs.Keyed.{IsSorted};
+ghost use Rattle.stock.specs.Keyed.{rises_by, IsRank, IsSorted};
 ghost use Rattle.stock.specs.Lots.{is_lot_of, rank_of, ranks_of, free_in, shares_in, all_shares_in};
 
 use crate::rows::{Column, Row, amount_of};
@@ -99,23 +99,32 @@ fn is_lot_of(row: &Row, item: &[u8]) -> bool
     row.item.as_slice() == item && 0 < row.since
 }
 
+// How many lots are given before another.
+fn rank_among(ranked: &[Ranked], new: &Ranked, rules: Rules) -> usize
+    requires { rises_by (ranks_before rules) (λ r. r) ranked.now ≡ true }
+    ensures { IsRank (ranks_before rules) (λ r. r) ranked.now new.now result }
+{
+    ranked.partition_point(|other| other.comes_before(new, rules))
+}
+
 // Where a lot belongs, if it isn't there.
 fn place_among(ranked: &[Ranked], new: &Ranked, rules: Rules) -> Option<usize>
+    requires { rises_by (ranks_before rules) (λ r. r) ranked.now ≡ true }
     ensures { MatchOption result (placed (ranks_before rules) new.now ranked.now ≡ ranked.now) (λ i. (i ≤ length ranked.now) × (placed (ranks_before rules) new.now ranked.now ≡ insert ranked.now i new.now)) }
 {
-    for (i, other) in ranked.iter().enumerate() {
-        if new.comes_before(other, rules) {
-            return Some(i);
-        }
-        if !other.comes_before(new, rules) {
-            return None;
-        }
+    let i = rank_among(ranked, new, rules);
+    if i == ranked.len() {
+        return Some(i);
     }
-    Some(ranked.len())
+    if new.comes_before(&ranked[i], rules) {
+        return Some(i);
+    }
+    None
 }
 
 // Puts a lot in its place.
 fn place(ranked: &mut Vec<Ranked>, new: Ranked, rules: Rules) -> Result<(), AllocError>
+    requires { rises_by (ranks_before rules) (λ r. r) ranked.old.items ≡ true }
     ensures { OnOk result (ranked.new.items ≡ placed (ranks_before rules) new ranked.old.items) }
 {
     if let Some(i) = place_among(ranked, &new, rules) {

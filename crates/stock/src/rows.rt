@@ -3,9 +3,10 @@ ghost use Rattle.std.specs.List.{list_any};
 ghost use Rattle.profile.specs.Rows.{LotRow};
 ghost use Rattle.profile.specs.Bytes.{comes_before};
 ghost use Rattle.profile.specs.Events.{is_pair, quantity_of, is_other_date, is_redated};
+ghost use Rattle.profile.specs.Means.{Line};
 ghost use Rattle.profile.specs.Movements.{Column as Kind, Expected, OnHand, Reservation, Shipped};
 ghost use Rattle.stock.specs.Keyed.{key_before, row_key, put_row, IsSorted, IsRank};
-ghost use Rattle.stock.specs.Told.{is_row, told, told_date, one, since, amount, given, named_by, same_date, same_row, raised, lowered, marked, dated, blank, with_on_hand};
+ghost use Rattle.stock.specs.Told.{AreRowsOf, is_row, told, told_date, one, since, amount, given, named_by, same_date, same_row, raised, lowered, marked, dated, blank, with_on_hand};
 ghost use Rattle.stock.specs.Touched.{IsTouched, IsTouchedBy};
 ghost use Rattle.stock.specs.Moved.{IsPlace, IsPlaced, IsAdded, IsTaken, IsMarked, IsDated, IsCounted, IsRaised, IsShipped, IsSet};
 ghost use Rattle.stock.specs.Columns.{column_of};
@@ -242,6 +243,17 @@ pub(crate) fn place_of(rows: &[Row], item: &[u8], lot: &[u8]) -> Option<usize>
         return Some(i);
     }
     None
+}
+
+// Whether one of the lines of which these are the rows is of the pair.
+pub(crate) fn is_among(seen: &[Row], item: &[u8], lot: &[u8]) -> bool
+    requires { IsSorted seen.now }
+    ensures { (lines : List Line) → AreRowsOf lines seen.now → result ≡ list_any (is_pair item.now lot.now) lines }
+{
+    match place_of(seen, item, lot) {
+        None => false,
+        Some(_) => true,
+    }
 }
 
 // Puts a row in the place of that of its pair, or where that belongs.

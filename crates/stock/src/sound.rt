@@ -7,13 +7,15 @@ ghost use Rattle.profile.specs.Limits.{most_entries};
 ghost use Rattle.stock.specs.Keyed.{IsSorted, entry_of, key_before, number_of, rises_by, row_key, shipment_of};
 ghost use Rattle.stock.specs.Pages as pages;
 ghost use Rattle.stock.specs.Soundness as meant;
+ghost use Rattle.stock.specs.Told.{AreRowsOf};
 
 use crate::documents::KnownDocument;
 use crate::known_advices::KnownAdvice;
 use crate::known_orders::{KnownLine, KnownOrder};
 use crate::left::{amounts, take_awaited, take_held};
 use crate::lines::is_of;
-use crate::rows::{Column, Row, amount_of};
+use crate::lots::new_line;
+use crate::rows::{Column, Row, amount_of, is_among, placed};
 use profile::{MOST_ENTRIES, MOST_RECOUNTED, MOST_SETS};
 use sets_in::Goods;
 use std::alloc::{AllocError, Global};
@@ -238,8 +240,33 @@ fn is_of_lines(item: &[u8], lines: &[KnownLine]) -> bool
     is_ordered(lines, item)
 }
 
-// Whether what is reserved for an order is of items of its lines.
-fn is_in_lines(order: &KnownOrder) -> bool
+// The items of lines, each once, as rows of no lot in order, so that one is found by halves.
+fn item_rows(alloc: Global, lines: &[KnownLine]) -> Result<Vec<Row>, AllocError>
+    ensures sorted { IfOk result (λ rows. IsSorted rows.items) }
+    ensures are { IfOk result (λ rows. AreRowsOf (map meant.item_alone lines.now) rows.items) }
+{
+    let mut rows = Vec::new(alloc);
+    for line in lines {
+        placed(alloc, &mut rows, &new_line(alloc, &line.item, &[], 0)?)?;
+    }
+    Ok(rows)
+}
+
+// Whether what is reserved for an order is of items of its lines, where there is memory for these in order.
+fn in_lines_at_once(alloc: Global, order: &KnownOrder) -> Result<bool, AllocError>
+    ensures { IfOk result (λ all. all ≡ pages.is_in_lines order.now) }
+{
+    let items = item_rows(alloc, &order.lines)?;
+    for line in &order.reserved {
+        if !is_among(&items, &line.item, &[]) {
+            return Ok(false);
+        }
+    }
+    Ok(true)
+}
+
+// The same by a look at each line of the order for each that is reserved, which asks for no memory.
+fn each_in_lines(order: &KnownOrder) -> bool
     ensures { result ≡ pages.is_in_lines order.now }
 {
     order
@@ -248,11 +275,26 @@ fn is_in_lines(order: &KnownOrder) -> bool
         .all(|line| is_of_lines(&line.item, &order.lines))
 }
 
+// Whether what is reserved for an order is of items of its lines.
+fn is_in_lines(alloc: Global, order: &KnownOrder) -> bool
+    ensures { result ≡ pages.is_in_lines order.now }
+{
+    match in_lines_at_once(alloc, order) {
+        Ok(all) => all,
+        Err(_) => each_in_lines(order),
+    }
+}
+
 // Whether that holds of each order.
-fn all_in_lines(orders: &[KnownOrder]) -> bool
+fn all_in_lines(alloc: Global, orders: &[KnownOrder]) -> bool
     ensures { result ≡ list_all pages.is_in_lines orders.now }
 {
-    orders.iter().all(is_in_lines)
+    for order in orders {
+        if !is_in_lines(alloc, order) {
+            return false;
+        }
+    }
+    true
 }
 
 /// Whether lists in order are those of a page after so many entries, with no event since.
@@ -270,5 +312,5 @@ pub(crate) fn is_kept(
         && are_within(rows, entries)
         && all_expected(alloc, rows, advices)
         && all_reserved(alloc, rows, orders)
-        && all_in_lines(orders)
+        && all_in_lines(alloc, orders)
 }

@@ -1,14 +1,21 @@
-use Rattle.std.proofs.Common.{arith, sym, ap}
+use Rattle.std.proofs.Common.{sym, ap, ◌∙◌, arith}
+use Rattle.std.proofs.lemmas.List.{get_or_default}
+use Rattle.profile.specs.Events.{is_pair}
 use Rattle.profile.specs.Means.{Line}
-use Rattle.stock.proofs.Sums.{pair_next}
+use Rattle.stock.proofs.Halves.{quantity_at, quantity_nowhere}
 use Rattle.stock.proofs.lines.quantity_of.Goals as goal
 
-pub overflow_add-quantity : goal.overflow_add-quantity
-overflow_add-quantity c = omega (
-  arith,
-  c.requires,
-  c.loop-line.invariant,
-  c.from-quantity.ensures,
-  ap (λ (l : Line). l.quantity) c.line.view_is,
-  pair_next c.args.lines.now c.loop-line.line-index c.line-item.result c.args.item.now c.args.lot.now c.loop-line-test.true c.line-item.is (sym c.if-is_of.ensures),
-)
+pub returns-then-i-lines : goal.returns-then-i-lines
+returns-then-i-lines c =
+    sym (quantity_nowhere c.args.lines.now c.args.item.now c.args.lot.now c.rank_of-i.result c.requires c.rank_of-i.ensures (λ d within. absurd (omega arith)))
+
+pub returns-then-is_of : goal.returns-then-is_of
+returns-then-is_of c =
+    c.from.ensures ∙ ap (λ (l : Line). l.quantity) c.line.view_is
+    ∙ sym (quantity_at c.args.lines.now c.args.item.now c.args.lot.now c.rank_of-i.result c.index-lines-i.result c.requires c.rank_of-i.ensures (omega arith) c.index-lines-i.is
+    (sym c.is_of.ensures ∙ c.if-is_of.true))
+
+pub returns : goal.returns
+returns c =
+    sym (quantity_nowhere c.args.lines.now c.args.item.now c.args.lot.now c.rank_of-i.result c.requires c.rank_of-i.ensures
+    (λ d within. ap (is_pair c.args.item.now c.args.lot.now) (get_or_default c.args.lines.now c.rank_of-i.result d c.index-lines-i.result within ∙ sym c.index-lines-i.is) ∙ sym c.is_of.ensures ∙ c.if-is_of.false))

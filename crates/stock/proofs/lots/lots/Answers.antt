@@ -1,13 +1,21 @@
-use Rattle.std.proofs.Common.{sym, ◌∙◌, ap, arith}
+use Rattle.std.proofs.Common.{sym, ◌∙◌, ap, arith, take}
 use Rattle.profile.specs.Lists.{placed, in_order}
 use Rattle.profile.specs.Allotment.{ranks_before, Ranked}
+use Rattle.stock.specs.Keyed.{rises_by}
+use Rattle.stock.specs.Lots.{ranks_of}
+use Rattle.stock.proofs.Halves.{in_order_by}
 use Rattle.stock.proofs.KeyLemmas.{sorted_distinct}
 use Rattle.stock.proofs.LotLemmas.{lots_step_yes, lots_step_no, lots_none_before, lots_none_behind}
+use Rattle.stock.proofs.Ranks.{ranks_order}
 use Rattle.stock.proofs.lots.lots.Goals as goal
 use Rattle.stock.proofs.lots.lots.Goals.{then-is_lot_of+in_ok-of+in_ok-place, else-is_lot_of}
 
 pub loop-i-init : goal.loop-i-init
 loop-i-init c = c.new-lots.ensures.items ∙ ap (in_order (ranks_before c.args.rules)) (sym (lots_none_before c.args.item.now c.args.rows.now c.item_start-i.result c.item_start-i.ensures))
+
+pub place-requires : goal.place-requires
+place-requires c = ap (rises_by (ranks_before c.args.rules) (λ r. r)) c.loop-i.invariant
+    ∙ in_order_by (ranks_before c.args.rules) (ranks_order c.args.rules) (ranks_of c.args.item.now (take c.loop-i.i c.args.rows.now))
 
 pub loop-i-preserved : goal.loop-i-preserved
 loop-i-preserved c = elim c.if-is_lot_of.branch [

@@ -1,7 +1,7 @@
 use Rattle.std.proofs.Common.{sym, []}
 use Rattle.stock.specs.Told.{blank}
 use Rattle.stock.proofs.Repeats.{none_among, one_among}
-use Rattle.stock.proofs.faults.is_among.Goals as goal
+use Rattle.stock.proofs.rows.is_among.Goals as goal
 
 pub returns-in-None : goal.returns-in-None
 returns-in-None c = λ lines are. sym (none_among c.args.item.now c.args.lot.now lines c.args.seen.now are c.in-None.ensures)

@@ -1,0 +1,8 @@
+use Rattle.std.proofs.Common.{map, take}
+use Rattle.stock.specs.Keyed.{IsSorted}
+use Rattle.stock.specs.Soundness.{item_alone}
+use Rattle.stock.specs.Told.{AreRowsOf}
+use Rattle.stock.proofs.sound.item_rows.Given as goal
+
+abbrev pub invariant-loop-line : goal.invariant-loop-line
+invariant-loop-line l = record { sorted : IsSorted l.rows.items; are : AreRowsOf (map item_alone (take l.line-index l.lines)) l.rows.items }
