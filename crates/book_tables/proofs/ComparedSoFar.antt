@@ -13,9 +13,10 @@ use Rattle.book_tables.specs.declared.comparing.TableName.TheVariants.{Book, Ent
 use Rattle.book_tables.specs.Asking.{Asked, Went, IsAsked}
 use Rattle.book_tables.specs.Comparing.{whole_text, number_of, FindBoth, ShowBoth, IsLaid, Compares}
 use Rattle.book_tables.specs.Kept.{Kept}
-use Rattle.book_tables.specs.Limits.{NoMore}
+use Rattle.book_tables.specs.Limits.{Counts}
 use Rattle.book_tables.proofs.Asked.{asked_twice}
 use Rattle.book_tables.proofs.AskedLater.{clean_before}
+use Rattle.book_tables.proofs.Limited.{counts_both, none_after, spends_none}
 use Rattle.book_tables.proofs.Queries.{went_of, went_none, went_on}
 use Rattle.book_tables.proofs.StepLemmas.{on_ok}
 
@@ -87,16 +88,14 @@ module _ {S : Type 0} (store : Ghosts S) where
   pub asked_after : {T U : Type 0} (a b c : Kept S) (t : T) (r : Result U Fault) → Went {T = T} store a b (Ok t) → Asked store b c r → Asked store a c r
   asked_after a b c t r one two =
       let both = went_on store a b c t r one (went_of store b c r two) in
-      record { left = both.left; fault = both.fault; counts = both.counts; uncounted = both.uncounted; limit = both.limit; allowed = on_ok r (λ some none. some (none_left a.limit b.limit one.limit none)) two.allowed }
-    where
-      none_left : (m n : Option ℕ) → NoMore m n → m ≡ Some 0 → n ≡ Some 0
-      none_left m n less e = let it = less.some 0 e in let zero : it.0 ≡ 0 = omega (arith, it.2) in it.1 ∙ ap Some zero
+      record { left = both.left; fault = both.fault; counts = both.counts; uncounted = both.uncounted; limit = both.limit; allowed = on_ok r (λ some none. some (none_after a.made b.made a.limit b.limit one.limit none)) two.allowed }
 
 module _ {S T : Type 0} (store : Ghosts S) (its : Ghosts T) where
   -- the tables so far show the same rows in both
   pub record SoFar (old now : Kept S) (them them_now : Kept T) (number : ℕ) : Type 0 where
     pub went : Went {T = Bool} store old now (Ok true)
     pub other : IsAsked (state its them.conn) (state its them_now.conn)
+    pub other_limit : Counts them them_now
     pub allowed : 0 < number → old.limit ≢ Some 0
     pub same : HasCleanDisk (state store now.conn) → HasCleanDisk (state its them_now.conn) → IsLaid (state store old.conn) → IsLaid (state its them.conn)
         → (t : TableName) → number_of t < number → ShowBoth (whole_text t) (state store old.conn) (state its them.conn) true
@@ -105,6 +104,7 @@ module _ {S T : Type 0} (store : Ghosts S) (its : Ghosts T) where
   none_so_far old them = record {
     went = went_none store old true;
     other = let w = went_none its them true in w.left;
+    other_limit = spends_none them.made them.limit;
     allowed = λ h. absurd (omega (arith, h));
     same = λ _ _ _ _ t h. absurd (omega (arith, h));
   }
@@ -119,8 +119,11 @@ module _ {S T : Type 0} (store : Ghosts S) (its : Ghosts T) where
     pub other_after : IsAsked (state its them_mid.conn) (state its them_new.conn) → IsAsked (state its them.conn) (state its them_new.conn)
     other_after = both_asked
 
+    pub limit_after : Counts them_mid them_new → Counts them them_new
+    limit_after later = counts_both them them_mid them_new so_far.other_limit later
+
     module _ (t : TableName) (number_is : number_of t ≡ number) (sql : List ℕ) (sql_is : sql ≡ whole_text t) (same : Bool) (asked : Asked {T = Bool} store mid new (Ok same))
-        (other_asked : IsAsked (state its them_mid.conn) (state its them_new.conn))
+        (other_asked : IsAsked (state its them_mid.conn) (state its them_new.conn)) (other_limit : Counts them_mid them_new)
         (shows : HasCleanDisk (state store new.conn) → HasCleanDisk (state its them_new.conn) → ShowBoth sql (state store mid.conn) (state its them_mid.conn) same) where
       early : HasCleanDisk (state store new.conn) → HasCleanDisk (state store mid.conn)
       early = clean_before (state store mid.conn) (state store new.conn) asked.left
@@ -140,6 +143,7 @@ module _ {S T : Type 0} (store : Ghosts S) (its : Ghosts T) where
           record {
             went = went_of store old new (Ok true) (subst (λ (b : Bool). Asked {T = Bool} store old new (Ok b)) passes all);
             other = both_asked other_asked;
+            other_limit = limit_after other_limit;
             allowed = λ _. all.allowed;
             same = λ clean its_clean laid its_laid u low. elim (cases_Bool (nat_lt (number_of u) number)) [
               | inl less ↦ so_far.same (early clean) (its_early its_clean) laid its_laid u (below (number_of u) number less)

@@ -12,12 +12,12 @@ use Rattle.profile.specs.Register.{Entry}
 use Rattle.book_tables.specs.Asking.{Asked, Went, IsAsked, IsAskFault}
 use Rattle.book_tables.specs.Exits.{StandsWhileOpen}
 use Rattle.book_tables.specs.Kept.{Kept}
-use Rattle.book_tables.specs.Limits.{NoMore}
+use Rattle.book_tables.specs.Limits.{Counts}
 use Rattle.book_tables.specs.Rises.{Rises}
 use Rattle.book_tables.proofs.Asked.{asked_twice}
 use Rattle.book_tables.proofs.AskedLater.{fault_later}
 use Rattle.book_tables.proofs.OwnEntries.{shows_none}
-use Rattle.book_tables.proofs.Limited.{no_more_refl, no_more_trans}
+use Rattle.book_tables.proofs.Limited.{spends_none, counts_both}
 use Rattle.book_tables.proofs.StepLemmas.{on_ok}
 use Rattle.book_tables.proofs.Writes.{same_survives}
 
@@ -70,13 +70,13 @@ module _ {S : Type 0} (store : Ghosts S) where
     fault = if_error r (λ f e. memory_fault f (state store s.conn) (state store s.conn) s.refused s.refused e) is;
     counts = omega arith;
     uncounted = never_ok _ _ r is;
-    limit = no_more_refl s.limit;
+    limit = spends_none s.made s.limit;
     allowed = never_ok _ _ r is;
   }
 
   -- one text that was asked
   pub asked_once : {T : Type 0} (old new : Kept S) (r : Result T Fault) → IsAsked (state store old.conn) (state store new.conn) → IfErr r (λ f. (f ≡ OutOfMemory) ⊎ (f ≡ Store))
-      → OnErr r (Rises old.refused new.refused) → OnOk r (new.refused ≡ old.refused) → NoMore old.limit new.limit → OnOk r (old.limit ≢ Some 0) → Asked store old new r
+      → OnErr r (Rises old.refused new.refused) → OnOk r (new.refused ≡ old.refused) → Counts old new → OnOk r (old.limit ≢ Some 0) → Asked store old new r
   asked_once old new (Ok x) left named counted uncounted limit allowed = record {
     left = left;
     fault = tt;
@@ -131,7 +131,7 @@ module _ {S : Type 0} (store : Ghosts S) where
   went_of old new r asked = record { left = asked.left; fault = asked.fault; counts = asked.counts; uncounted = asked.uncounted; limit = asked.limit }
 
   pub went_none : {T : Type 0} (s : Kept S) (t : T) → Went {T = T} store s s (Ok t)
-  went_none s t = record { left = unasked (state store s.conn); fault = tt; counts = omega arith; uncounted = refl; limit = no_more_refl s.limit }
+  went_none s t = record { left = unasked (state store s.conn); fault = tt; counts = omega arith; uncounted = refl; limit = spends_none s.made s.limit }
 
   pub went_on : {T U : Type 0} (a b c : Kept S) (t : T) (r : Result U Fault) → Went {T = T} store a b (Ok t) → Went store b c r → Went store a c r
   went_on a b c t r one two = record {
@@ -139,7 +139,7 @@ module _ {S : Type 0} (store : Ghosts S) where
     fault = if_err r (λ f h. fault_later f (state store a.conn) (state store b.conn) (state store c.conn) a.refused b.refused c.refused one.left two.left one.counts h) two.fault;
     counts = omega (arith, one.counts, two.counts);
     uncounted = on_ok r (λ e. e ∙ one.uncounted) two.uncounted;
-    limit = no_more_trans a.limit b.limit c.limit one.limit two.limit;
+    limit = counts_both a b c one.limit two.limit;
   }
 
   -- another answer of the same queries

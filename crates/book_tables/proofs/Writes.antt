@@ -6,10 +6,10 @@ use Rattle.sqlite.proofs.StateLemmas.{survives_then}
 use Rattle.store.specs.declared.fault.Fault.{Fault}
 use Rattle.store.specs.declared.fault.Fault.TheVariants.{OutOfMemory, Store}
 use Rattle.book_tables.specs.declared.calls.Calls.{Calls}
-use Rattle.book_tables.specs.Limits.{NoMore}
+use Rattle.book_tables.specs.Limits.{Spends}
 use Rattle.book_tables.specs.Rises.{Rises}
 use Rattle.book_tables.specs.Writing.{Wrote}
-use Rattle.book_tables.proofs.Limited.{no_more_refl, no_more_trans}
+use Rattle.book_tables.proofs.Limited.{spends_none, spends_both}
 use Rattle.book_tables.proofs.StepLemmas.{on_ok, same_keeps}
 
 on_err : {T E : Type 0} {A B : Type 0} (r : Result T E) → (A → B) → OnErr r A → OnErr r B
@@ -48,12 +48,12 @@ wrote_nothing s x t a = record {
   survives = same_survives s;
   ok = refl;
   counted = tt;
-  limit = no_more_refl x.limit;
+  limit = spends_none x.made x.limit;
   named = tt;
 }
 
 -- a call that was refused unmade
-pub wrote_refused : {T : Type 0} {A : Type 0} (s : State) (x y : Calls) (f : Fault) → f ≡ Store → Rises x.refused y.refused → NoMore x.limit y.limit
+pub wrote_refused : {T : Type 0} {A : Type 0} (s : State) (x y : Calls) (f : Fault) → f ≡ Store → Rises x.refused y.refused → Spends x.made y.made x.limit y.limit
     → Wrote {T = T} A s s x y (Err f)
 wrote_refused s x y f is rises limit = record {
   done = λ clean inside. tt;
@@ -84,7 +84,7 @@ wrote_on a b c x y z u r one two f = record {
   survives = survives_then a b c _ _ _ (λ _ db none. none) (λ _ db none. none) one.survives two.survives;
   ok = on_ok r (λ e. e ∙ one.ok) two.ok;
   counted = on_err r (subst (λ n. Rises n z.refused) one.ok) two.counted;
-  limit = no_more_trans x.limit y.limit z.limit one.limit two.limit;
+  limit = spends_both x.made y.made z.made x.limit y.limit z.limit one.limit two.limit;
   named = two.named;
 }
 
@@ -105,9 +105,3 @@ wrote_failed a b x y f (Err g) is w = record {
   limit = w.limit;
   named = subst (λ h. (h ≡ OutOfMemory) ⊎ (h ≡ Store)) (sym is) w.named;
 }
-
--- calls may still be made after a write, so they might have been before it
-pub left_before : (a b : Option ℕ) → NoMore a b → b ≢ Some 0 → a ≢ Some 0
-left_before a b limit left none =
-    let it = limit.some 0 none in
-    left (subst (λ m. b ≡ Some m) (let z : it.0 ≡ 0 = omega (arith, it.2) in z) it.1)

@@ -17,7 +17,7 @@ use Rattle.store.specs.declared.fault.Fault.TheVariants.{Store, Reopen, NotThisB
 use Rattle.book_tables.specs.Exits.{IsAsBefore, StandsWhileOpen}
 use Rattle.book_tables.specs.Kept.{Kept}
 use Rattle.book_tables.specs.Layout.{IsLayout}
-use Rattle.book_tables.specs.Limits.{NoMore}
+use Rattle.book_tables.specs.Limits.{Counts}
 use Rattle.book_tables.specs.Recorded.{IsHouse}
 use Rattle.book_tables.specs.Rises.{Rises}
 
@@ -53,13 +53,13 @@ pub record IsAskFault (fault : Fault) (old new : State) (refused more : ℕ) : T
   pub device : fault ≡ Device → ⊥
 
 -- What queries leave, any number of them and whatever they tell: the tables as they were, a refused call counted and no other,
--- and no more calls left than before.
+-- and as many fewer calls left as were made.
 pub record Went {S T : Type 0} (store : Ghosts S) (old new : Kept S) (result : Result T Fault) : Type 0 where
   pub left : IsAsked (state store old.conn) (state store new.conn)
   pub fault : IfErr result (λ f. IsAskFault f (state store old.conn) (state store new.conn) old.refused new.refused)
   pub counts : old.refused ≤ new.refused
   pub uncounted : OnOk result (new.refused ≡ old.refused)
-  pub limit : NoMore old.limit new.limit
+  pub limit : Counts old new
 
 -- The same of at least one: there was a call left where it answers Ok.
 pub record Asked {S T : Type 0} (store : Ghosts S) (old new : Kept S) (result : Result T Fault) : Type 0 where
@@ -67,5 +67,5 @@ pub record Asked {S T : Type 0} (store : Ghosts S) (old new : Kept S) (result : 
   pub fault : IfErr result (λ f. IsAskFault f (state store old.conn) (state store new.conn) old.refused new.refused)
   pub counts : old.refused ≤ new.refused
   pub uncounted : OnOk result (new.refused ≡ old.refused)
-  pub limit : NoMore old.limit new.limit
+  pub limit : Counts old new
   pub allowed : OnOk result (old.limit ≢ Some 0)

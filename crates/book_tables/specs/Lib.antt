@@ -8,6 +8,7 @@ pub mod Held
 pub mod Standing
 pub mod Leading
 pub mod Rises
+pub mod Faults
 pub mod Limits
 pub mod Writing
 pub mod Appending

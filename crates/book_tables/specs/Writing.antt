@@ -5,7 +5,7 @@ use Rattle.sqlite.specs.State.{State, HasCleanDisk, Survives, KeepsCommit, Execu
 use Rattle.store.specs.declared.fault.Fault.{Fault}
 use Rattle.store.specs.declared.fault.Fault.TheVariants.{OutOfMemory, Store}
 use Rattle.book_tables.specs.declared.calls.Calls.{Calls}
-use Rattle.book_tables.specs.Limits.{NoMore}
+use Rattle.book_tables.specs.Limits.{Spends}
 use Rattle.book_tables.specs.Rises.{Rises}
 use Rattle.book_tables.specs.Steps.{GoesOn}
 
@@ -19,7 +19,7 @@ pub record Wrote {T : Type 0} (Done : Type 0) (old new : State) (before after : 
   -- an Ok leaves the count of refused calls, and an Err raises it
   pub ok : OnOk result (after.refused ≡ before.refused)
   pub counted : OnErr result (Rises before.refused after.refused)
-  pub limit : NoMore before.limit after.limit
+  pub limit : Spends before.made after.made before.limit after.limit
   pub named : IfErr result (λ f. (f ≡ OutOfMemory) ⊎ (f ≡ Store))
 
 -- the same of what answered Ok so far

@@ -6,7 +6,7 @@ ghost use Rattle.sqlite.specs.Order.{Row as Cells};
 ghost use Rattle.sqlite.specs.State.{HasCleanDisk};
 ghost use Rattle.book_tables.specs.Asking.{Finds, IsAskedOf, house_text};
 ghost use Rattle.book_tables.specs.Carrying.{LiesAs, StandsOpenAs};
-ghost use Rattle.book_tables.specs.Limits.{NoMore};
+ghost use Rattle.book_tables.specs.Limits.{Counts};
 ghost use Rattle.book_tables.specs.Recorded.{IsHouse};
 ghost use Rattle.book_tables.specs.Rises.{Rises};
 
@@ -20,7 +20,7 @@ use store::Fault;
 impl<S: Alter + Drop> Tables<S> {
     /// The version and the warehouse of the book. 43 where `book` hasn't one row, or that row has no version that is read or no
     /// warehouse.
-    #[tactic(auto, using(crate::proofs::Limited::no_more_trans, crate::proofs::Limited::no_more_same))]
+    #[tactic(auto, using(crate::proofs::Limited::spends_both, crate::proofs::Limited::spends_same))]
     pub(crate) fn house(&mut self) -> Result<(Rules, Warehouse), Fault>
         ensures house { HasCleanDisk (state S.Store self.new.conn)
             → IfOk result (λ h. (rows : List Cells) × Finds house_text [] (state S.Store self.old.conn).now rows
@@ -44,7 +44,7 @@ impl<S: Alter + Drop> Tables<S> {
         ensures counted { IfErr result (λ f. f ≢ Fault.NotThisBook → Rises self.old.refused self.new.refused) }
         ensures uncounted { OnOk result (self.new.refused ≡ self.old.refused) }
         ensures uncounted_none { IsErrOf result Fault.NotThisBook → self.new.refused ≡ self.old.refused }
-        ensures limit { NoMore self.old.limit self.new.limit }
+        ensures limit { Counts self.old self.new }
         ensures allowed { OnOk result (self.old.limit ≢ Some 0) }
     {
         let rows = self.ask_any("SELECT version, qualifier, id FROM book", &[])?;
@@ -55,7 +55,7 @@ impl<S: Alter + Drop> Tables<S> {
     }
 
     /// How many entries there are.
-    #[tactic(auto, using(crate::proofs::Limited::no_more_trans, crate::proofs::Limited::no_more_same))]
+    #[tactic(auto, using(crate::proofs::Limited::spends_both, crate::proofs::Limited::spends_same))]
     pub(crate) fn count(&mut self) -> Result<u64, Fault>
         ensures few { IfOk result (λ n. n < 2 ^ 63) }
         ensures count { HasCleanDisk (state S.Store self.new.conn)
@@ -66,7 +66,7 @@ impl<S: Alter + Drop> Tables<S> {
         ensures named { IfErr result (λ f. (f ≡ Fault.OutOfMemory) ⊎ (f ≡ Fault.Store)) }
         ensures counted { OnErr result (Rises self.old.refused self.new.refused) }
         ensures uncounted { OnOk result (self.new.refused ≡ self.old.refused) }
-        ensures limit { NoMore self.old.limit self.new.limit }
+        ensures limit { Counts self.old self.new }
         ensures allowed { OnOk result (self.old.limit ≢ Some 0) }
     {
         let rows = self.ask_any("SELECT seq FROM entry", &[])?;
@@ -74,7 +74,7 @@ impl<S: Alter + Drop> Tables<S> {
     }
 
     /// The version and the warehouse of the book, and how many entries there are.
-    #[tactic(auto, using(crate::proofs::Limited::no_more_trans, crate::proofs::Limited::no_more_same))]
+    #[tactic(auto, using(crate::proofs::Limited::spends_both, crate::proofs::Limited::spends_same))]
     pub fn found(&mut self) -> Result<((Rules, Warehouse), u64), Fault>
         ensures few { IfOk result (λ found. found.1 < 2 ^ 63) }
         ensures house { HasCleanDisk (state S.Store self.new.conn)
@@ -100,7 +100,7 @@ impl<S: Alter + Drop> Tables<S> {
         ensures counted { IfErr result (λ f. f ≢ Fault.NotThisBook → Rises self.old.refused self.new.refused) }
         ensures uncounted { OnOk result (self.new.refused ≡ self.old.refused) }
         ensures uncounted_none { IsErrOf result Fault.NotThisBook → self.new.refused ≡ self.old.refused }
-        ensures limit { NoMore self.old.limit self.new.limit }
+        ensures limit { Counts self.old self.new }
         ensures allowed { OnOk result (self.old.limit ≢ Some 0) }
     {
         let house = self.house()?;

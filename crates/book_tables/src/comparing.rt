@@ -11,6 +11,7 @@ ghost use Rattle.book_tables.specs.Comparing as comparing;
 ghost use Rattle.book_tables.specs.Comparing.{AreTables, Compares, IsLaid, ShowBoth, number_of};
 ghost use Rattle.book_tables.specs.Exits.{StandsWhileOpen};
 ghost use Rattle.book_tables.specs.Layout.{Others, beside};
+ghost use Rattle.book_tables.specs.Limits.{Counts};
 ghost use Rattle.book_tables.specs.Standing.{Stands};
 
 use crate::connected::Tables;
@@ -134,6 +135,7 @@ fn are_same_rows(rows: &[Row], others: &[Row]) -> bool
 impl<S: Alter + Drop> Tables<S> {
     // Whether a text that only reads the book's tables answers the same rows there. A fault of the other tables is 40, and no
     // call of these is counted for it.
+    #[tactic(auto, using(crate::proofs::Limited::spends_same))]
     fn shows_the_same<T: Alter + Drop>(
         &mut self,
         other: &mut Tables<T>,
@@ -144,6 +146,7 @@ impl<S: Alter + Drop> Tables<S> {
             → IfOk result (ShowBoth sql.now (state S.Store self.old.conn) (state T.Store other.old.conn)) }
         ensures asked { Asked S.Store self.old self.new result }
         ensures other { IsAsked (state T.Store other.old.conn) (state T.Store other.new.conn) }
+        ensures other_limit { Counts other.old other.new }
     {
         let rows = self.ask(sql, &[])?;
         match other.ask(sql, &[]) {
@@ -160,6 +163,7 @@ impl<S: Alter + Drop> Tables<S> {
             → IfOk result (λ same. Compares same (state S.Store self.old.conn) (state T.Store other.old.conn)) }
         ensures asked { Asked S.Store self.old self.new result }
         ensures other { IsAsked (state T.Store other.old.conn) (state T.Store other.new.conn) }
+        ensures other_limit { Counts other.old other.new }
     {
         for number in 0..11usize {
             if !self.shows_the_same(other, whole_text(table_at(number)))? {
@@ -186,6 +190,7 @@ impl<S: Alter + Drop> Tables<S> {
             → IsLaid (state T.Store other.old.conn) → OnOk result (IsTrue (state S.Store self.old.conn).is_open) }
         ensures asked { Asked S.Store self.old self.new result }
         ensures other { IsAsked (state T.Store other.old.conn) (state T.Store other.new.conn) }
+        ensures other_limit { Counts other.old other.new }
     {
         self.settle();
         other.settle();

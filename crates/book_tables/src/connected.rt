@@ -11,7 +11,7 @@ ghost use Rattle.sqlite.specs.Values.{bound};
 ghost use Rattle.book_tables.specs.Asking.{Finds, IsAsked, IsAskedOf};
 ghost use Rattle.book_tables.specs.Carrying.{CarriesOver, StandsOpenAs};
 ghost use Rattle.book_tables.specs.Exits.{IsAppended, HasGrown, Extends, IsAsBefore, LeavesIt};
-ghost use Rattle.book_tables.specs.Limits.{NoMore};
+ghost use Rattle.book_tables.specs.Limits.{Counts, Spent};
 ghost use Rattle.book_tables.specs.Layout.{Others, beside, no_layout};
 ghost use Rattle.book_tables.specs.Making.{Makes};
 ghost use Rattle.book_tables.specs.Rises.{Rises};
@@ -28,7 +28,7 @@ use sqlite_schema::schema::Schema;
 use std::marker::Model;
 use store::Fault;
 
-/// A connection to the tables of a book, with the count of its calls that were refused.
+/// A connection to the tables of a book, with the counts of its calls that were refused and of those that were made.
 #[derive(Drop)]
 pub struct Tables<S: Alter + Drop> {
     conn: Connection<S>,
@@ -43,7 +43,7 @@ impl<S: Alter + Drop> Model for Tables<S> {
 
     ghost coded = { kept_code S.code };
 
-    ghost view = { λ t. record { conn = t.conn; refused = t.calls.refused; limit = t.calls.limit } };
+    ghost view = { λ t. record { conn = t.conn; refused = t.calls.refused; made = t.calls.made; limit = t.calls.limit } };
 
     ghost invariant = { λ t. t.conn.in_transaction ≡ false };
 }
@@ -54,6 +54,7 @@ impl<S: Alter + Drop> Tables<S> {
         requires { conn.in_transaction ≡ false }
         ensures conn { result.conn ≡ conn }
         ensures refused { result.refused ≡ 0 }
+        ensures made { result.made ≡ 0 }
         ensures limit { result.limit ≡ None }
     {
         Tables {
@@ -69,10 +70,18 @@ impl<S: Alter + Drop> Tables<S> {
         self.calls.refused
     }
 
+    /// How many calls of the store were made. At its greatest number the count stays.
+    pub fn made(&self) -> u64
+        ensures { result ≡ self.now.made }
+    {
+        self.calls.made
+    }
+
     /// After that many more calls each, but the giving up of a transaction, is refused unmade and counted; None lifts that.
     pub fn limit_calls(&mut self, limit: Option<u64>)
         ensures conn { self.new.conn ≡ self.old.conn }
         ensures refused { self.new.refused ≡ self.old.refused }
+        ensures made { self.new.made ≡ self.old.made }
         ensures limit { self.new.limit ≡ limit }
     {
         self.calls.limit = limit;
@@ -108,6 +117,7 @@ impl<S: Alter + Drop> Tables<S> {
     pub fn use_up(&mut self) -> Fault
         ensures told { result ≡ Fault.Store }
         ensures conn { self.new.conn ≡ self.old.conn }
+        ensures made { self.new.made ≡ self.old.made }
         ensures limit { self.new.limit ≡ self.old.limit }
         ensures counted { Rises self.old.refused self.new.refused }
     {
@@ -116,7 +126,7 @@ impl<S: Alter + Drop> Tables<S> {
 
     /// The rows that a text answers; where it only reads under the schema that is there, the tables are as they were. A refused
     /// call is 40 or 41, and counts.
-    #[tactic(auto, using(crate::proofs::Limited::no_more_trans, crate::proofs::Limited::no_more_same))]
+    #[tactic(auto, using(crate::proofs::Limited::spends_both, crate::proofs::Limited::spends_same))]
     pub(crate) fn ask_any(&mut self, sql: &str, params: &[ValueRef<'_>]) -> Result<Vec<Row>, Fault>
         ensures finds { HasCleanDisk (state S.Store self.new.conn)
             → IfOk result (λ rows. IsTrue (state S.Store self.old.conn).is_open
@@ -128,7 +138,8 @@ impl<S: Alter + Drop> Tables<S> {
         ensures named { IfErr result (λ f. (f ≡ Fault.OutOfMemory) ⊎ (f ≡ Fault.Store)) }
         ensures counted { OnErr result (Rises self.old.refused self.new.refused) }
         ensures uncounted { OnOk result (self.new.refused ≡ self.old.refused) }
-        ensures limit { NoMore self.old.limit self.new.limit }
+        ensures limit { Counts self.old self.new }
+        ensures twice { OnOk result (Spent 2 self.old.made self.new.made self.old.limit self.new.limit) }
         ensures allowed { OnOk result (self.old.limit ≢ Some 0) }
     {
         // For the prover alone: in no transaction, what is there is the last commit; and while the store is open, it is a database.
@@ -148,7 +159,7 @@ impl<S: Alter + Drop> Tables<S> {
     }
 
     /// The rows that a text answers which only reads the tables of a book of version 2.
-    #[tactic(auto, using(crate::proofs::Limited::no_more_trans, crate::proofs::Limited::no_more_same))]
+    #[tactic(auto, using(crate::proofs::Limited::spends_both, crate::proofs::Limited::spends_same))]
     pub(crate) fn ask(&mut self, sql: &str, params: &[ValueRef<'_>]) -> Result<Vec<Row>, Fault>
         requires { (others : Others) → IsPlain (understood (beside others) sql.now) }
         ensures finds { HasCleanDisk (state S.Store self.new.conn)
@@ -160,14 +171,15 @@ impl<S: Alter + Drop> Tables<S> {
         ensures named { IfErr result (λ f. (f ≡ Fault.OutOfMemory) ⊎ (f ≡ Fault.Store)) }
         ensures counted { OnErr result (Rises self.old.refused self.new.refused) }
         ensures uncounted { OnOk result (self.new.refused ≡ self.old.refused) }
-        ensures limit { NoMore self.old.limit self.new.limit }
+        ensures limit { Counts self.old self.new }
+        ensures twice { OnOk result (Spent 2 self.old.made self.new.made self.old.limit self.new.limit) }
         ensures allowed { OnOk result (self.old.limit ≢ Some 0) }
     {
         self.ask_any(sql, params)
     }
 
     /// Appends an entry under the next number, with what its command changes and what goes out for it, in one transaction.
-    #[tactic(auto, using(crate::proofs::Limited::no_more_trans, crate::proofs::Limited::no_more_same))]
+    #[tactic(auto, using(crate::proofs::Limited::spends_both, crate::proofs::Limited::spends_same))]
     pub fn append<'a>(
         &mut self,
         seq: u64,
@@ -190,7 +202,7 @@ impl<S: Alter + Drop> Tables<S> {
         ensures named { IfErr result (λ f. (f ≡ Fault.OutOfMemory) ⊎ (f ≡ Fault.Store)) }
         ensures counted { OnErr result (Rises self.old.refused self.new.refused) }
         ensures uncounted { OnOk result (self.new.refused ≡ self.old.refused) }
-        ensures limit { NoMore self.old.limit self.new.limit }
+        ensures limit { Counts self.old self.new }
         ensures allowed { OnOk result (self.old.limit ≢ Some 0) }
     {
         // For the prover alone, as in `ask_any`.
@@ -207,7 +219,7 @@ impl<S: Alter + Drop> Tables<S> {
     }
 
     /// Makes the tables of an empty register of the warehouse, of a book of version 2, in one transaction.
-    #[tactic(auto, using(crate::proofs::Limited::no_more_trans, crate::proofs::Limited::no_more_same))]
+    #[tactic(auto, using(crate::proofs::Limited::spends_both, crate::proofs::Limited::spends_same))]
     pub fn make(&mut self, warehouse: &Warehouse) -> Result<(), Fault>
         ensures ok { HasCleanDisk (state S.Store self.new.conn)
             → OnOk result (Makes (state S.Store self.old.conn) (state S.Store self.new.conn) warehouse.now) }
@@ -221,7 +233,7 @@ impl<S: Alter + Drop> Tables<S> {
         ensures named { IfErr result (λ f. (f ≡ Fault.OutOfMemory) ⊎ (f ≡ Fault.Store)) }
         ensures counted { OnErr result (Rises self.old.refused self.new.refused) }
         ensures uncounted { OnOk result (self.new.refused ≡ self.old.refused) }
-        ensures limit { NoMore self.old.limit self.new.limit }
+        ensures limit { Counts self.old self.new }
         ensures allowed { OnOk result (self.old.limit ≢ Some 0) }
     {
         // For the prover alone, as in `ask_any`.
@@ -237,7 +249,7 @@ impl<S: Alter + Drop> Tables<S> {
     }
 
     /// Carries a book of version 1, which has so many entries, over to version 2, in one transaction.
-    #[tactic(auto, using(crate::proofs::Limited::no_more_trans, crate::proofs::Limited::no_more_same))]
+    #[tactic(auto, using(crate::proofs::Limited::spends_both, crate::proofs::Limited::spends_same))]
     pub fn carry_over(&mut self, entries: u64) -> Result<(), Fault>
         requires { entries < 2 ^ 63 }
         ensures ok { HasCleanDisk (state S.Store self.new.conn)
@@ -252,7 +264,7 @@ impl<S: Alter + Drop> Tables<S> {
         ensures named { IfErr result (λ f. (f ≡ Fault.OutOfMemory) ⊎ (f ≡ Fault.Store)) }
         ensures counted { OnErr result (Rises self.old.refused self.new.refused) }
         ensures uncounted { OnOk result (self.new.refused ≡ self.old.refused) }
-        ensures limit { NoMore self.old.limit self.new.limit }
+        ensures limit { Counts self.old self.new }
         ensures allowed { OnOk result (self.old.limit ≢ Some 0) }
     {
         // For the prover alone, as in `ask_any`.

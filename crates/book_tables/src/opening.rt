@@ -24,7 +24,7 @@ impl<S: Alter + Drop> Tables<S> {
             → (state S.Store t.conn).now.trees ≡ (S.Store.view store).trees) }
         ensures clean { IfOk result (λ t. doubt (S.Store.view store).is_clean
             ≤ doubt (state S.Store t.conn).is_clean) }
-        ensures fresh { IfOk result (λ t. (t.refused ≡ 0) × (t.limit ≡ None)) }
+        ensures fresh { IfOk result (λ t. (t.refused ≡ 0) × (t.made ≡ 0) × (t.limit ≡ None)) }
         ensures unharmed { IfErr result (λ e. IsQuiet S.Store.view S.Store.faults S.Store.recovers S.Store.is_shielded store e.1) }
         ensures told { IfErr result (λ e. Relays (S.Store.blamed e.1) e.0) }
         ensures err { IfErr result (λ e. IsClean (S.Store.view e.1) → FailsToOpen (S.Store.view store).trees
@@ -47,7 +47,7 @@ impl<S: Alter + Drop> Tables<S> {
             → (state S.Store t.conn).now.trees ≡ (state S.Store self.conn).committed.trees) }
         ensures clean { IfOk result (λ t. doubt (state S.Store self.conn).is_clean
             ≤ doubt (state S.Store t.conn).is_clean) }
-        ensures fresh { IfOk result (λ t. (t.refused ≡ 0) × (t.limit ≡ None)) }
+        ensures fresh { IfOk result (λ t. (t.refused ≡ 0) × (t.made ≡ 0) × (t.limit ≡ None)) }
     {
         let store = self.into_inner().into_store();
         if store.is_broken() {

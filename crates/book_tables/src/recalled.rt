@@ -1,4 +1,4 @@
-ghost use Rattle.std.specs.Prelude.{◌≡◌, ◌++◌, ◌∷◌, ℕ, List, Some, IfOk, find, option_map, if◌then◌else◌};
+ghost use Rattle.std.specs.Prelude.{◌≡◌, ◌++◌, ◌∷◌, ℕ, List, Some, IfOk, option_map, if◌then◌else◌};
 ghost use Rattle.profile.specs.Decision.{recalled};
 ghost use Rattle.profile.specs.Header.{Who as Partner};
 ghost use Rattle.profile.specs.Register as register;
@@ -6,7 +6,7 @@ ghost use Rattle.profile.specs.Reply.{out};
 ghost use Rattle.rules.specs.Decided.{IsRecalled};
 ghost use Rattle.sqlite.specs.Held.{state};
 ghost use Rattle.sqlite.specs.State.{HasCleanDisk};
-ghost use Rattle.store.specs.Replayed.{all_written, is_under};
+ghost use Rattle.store.specs.Known.{first_under};
 ghost use Rattle.book_tables.specs.Asking.{Asked};
 ghost use Rattle.book_tables.specs.Contents.{IsContent};
 ghost use Rattle.book_tables.specs.Exits.{StandsWhileOpen};
@@ -37,7 +37,7 @@ impl<S: Alter + Drop> Tables<S> {
     fn entry_under(&mut self, alloc: Global, who: Who, key: &[u8]) -> Result<Option<Entry>, Fault>
         ensures entry { HasCleanDisk (state S.Store self.new.conn) → (W : Partner) (L : List register.Entry)
             → StandsWhileOpen (state S.Store self.old.conn) W L
-            → IfOk result (λ entry. entry ≡ find (is_under who key.now) (all_written L)) }
+            → IfOk result (λ entry. entry ≡ first_under who key.now L) }
         ensures asked { Asked S.Store self.old self.new result }
     {
         let rows = self.under_text(
@@ -77,11 +77,14 @@ impl<S: Alter + Drop> Tables<S> {
         }
     }
 
-    /// A depositor's entry under a key, with the text that went out for it; None where there is none.
+    /// A depositor's entry under a key, with its number and the text that went out for it; None where there is none.
     pub fn known_of(&mut self, alloc: Global, who: Who, key: &[u8]) -> Result<Option<Known>, Fault>
         ensures known { HasCleanDisk (state S.Store self.new.conn) → (W : Partner) (L : List register.Entry)
             → StandsWhileOpen (state S.Store self.old.conn) W L
             → IfOk result (λ known. IsRecalled known (recalled W key.now (register.own L who))) }
+        ensures recorded { HasCleanDisk (state S.Store self.new.conn) → (W : Partner) (L : List register.Entry)
+            → StandsWhileOpen (state S.Store self.old.conn) W L
+            → IfOk result (λ known. option_map (λ k. k.entry) known ≡ first_under who key.now L) }
         ensures asked { Asked S.Store self.old self.new result }
     {
         let Some(entry) = self.entry_under(alloc, who, key)? else {

@@ -4,3 +4,4 @@ pub mod Stopped
 pub mod Verified
 pub mod Carrying
 pub mod Days
+pub mod Faults

@@ -12,6 +12,7 @@ ghost use Rattle.sqlite.specs.Held.{state};
 ghost use Rattle.sqlite.specs.Tree.{Trees};
 ghost use Rattle.sqlite.specs.Order.{Row as Cells};
 ghost use Rattle.store.specs.Held.{IsHeld};
+ghost use Rattle.store.specs.Known.{first_under};
 ghost use Rattle.store.specs.Sent.{text_of};
 ghost use Rattle.store.specs.Standing.{IsUsable, IsUnchanged, IsQueryFault, IsNext, IsFault, IsCommitFault, LeavesEither, GoesOn};
 ghost use Rattle.book_tables.specs.Asking.{Finds, house_text};
@@ -21,7 +22,7 @@ ghost use Rattle.book_tables.specs.Comparing.{AreTables, IsLaid};
 ghost use Rattle.books.specs.Carrying.{AllStandAs, BringsUp, OpensAs};
 ghost use Rattle.books.specs.Keeping.{IsKept};
 ghost use Rattle.books.specs.Verified.{StandsForMany};
-ghost use Rattle.book_tables.specs.Limits.{NoMore};
+ghost use Rattle.book_tables.specs.Limits.{Counts};
 ghost use Rattle.book_tables.specs.Needed.{needed_part};
 ghost use Rattle.book_tables.specs.Layout.{no_layout};
 ghost use Rattle.books.specs.Opened.{standing_of};
@@ -63,7 +64,7 @@ impl<S: Alter + Drop> Model for Book<S> {
 }
 
 // Carries tables of version 1, which have so many entries, over to version 2; those of version 2 stay.
-#[tactic(auto, using(book_tables::proofs::Limited::no_more_trans, book_tables::proofs::Limited::no_more_same))]
+#[tactic(auto, using(book_tables::proofs::Limited::spends_both, book_tables::proofs::Limited::spends_same))]
 fn bring_up<S: Alter + Drop>(
     tables: &mut Tables<S>,
     version: Rules,
@@ -74,7 +75,7 @@ fn bring_up<S: Alter + Drop>(
     ensures named { IfErr result (λ f. (f ≡ Fault.OutOfMemory) ⊎ (f ≡ Fault.Store)) }
     ensures counted { OnErr result (Rises tables.old.refused tables.new.refused) }
     ensures uncounted { OnOk result (tables.new.refused ≡ tables.old.refused) }
-    ensures limit { NoMore tables.old.limit tables.new.limit }
+    ensures limit { Counts tables.old tables.new }
 {
     match version {
         Rules::One => tables.carry_over(entries),
@@ -85,7 +86,7 @@ fn bring_up<S: Alter + Drop>(
 impl<S: Alter + Drop> Book<S> {
     /// Makes the tables of an empty register of the warehouse. A fault hands the tables back: 43 where the store has a table with
     /// the name of a table of the book already, which leaves it as it is, and 40 or 41 where a call was refused.
-    #[tactic(auto, using(book_tables::proofs::Limited::no_more_trans, book_tables::proofs::Limited::no_more_same))]
+    #[tactic(auto, using(book_tables::proofs::Limited::spends_both, book_tables::proofs::Limited::spends_same))]
     pub fn create(
         alloc: Global,
         mut tables: Tables<S>,
@@ -107,8 +108,8 @@ impl<S: Alter + Drop> Book<S> {
         ensures named { IfErr result (λ e. (e.0 ≡ Fault.NotThisBook) ⊎ ((e.0 ≡ Fault.OutOfMemory)
             ⊎ (e.0 ≡ Fault.Store))) }
         ensures uncounted_ok { IfOk result (λ b. b.tables.refused ≡ tables.refused) }
-        ensures limit { IfOk result (λ b. NoMore tables.limit b.tables.limit) }
-        ensures limit_back { IfErr result (λ e. NoMore tables.limit e.1.limit) }
+        ensures limit { IfOk result (λ b. Counts tables b.tables) }
+        ensures limit_back { IfErr result (λ e. Counts tables e.1) }
         ensures allowed { OnOk result (tables.limit ≢ Some 0) }
     {
         if tables.are_taken() {
@@ -129,7 +130,7 @@ impl<S: Alter + Drop> Book<S> {
     /// Opens the book that tables hold. One of version 1 is carried over to version 2 first, in one transaction, which keeps every
     /// entry under the rules that it was judged by. A fault hands the tables back, which stand for the same register: 40 or 41
     /// where a call was refused, 43 where `book` hasn't one row, or that row has another version than 1 and 2 or no warehouse.
-    #[tactic(auto, using(book_tables::proofs::Limited::no_more_trans, book_tables::proofs::Limited::no_more_same))]
+    #[tactic(auto, using(book_tables::proofs::Limited::spends_both, book_tables::proofs::Limited::spends_same))]
     pub fn open_from(alloc: Global, mut tables: Tables<S>) -> Result<Book<S>, (Fault, Tables<S>)>
         ensures usable { IfOk result (λ b. HasCleanDisk (state S.Store b.tables.conn)
             → (q : Rules) (W : Partner) (L : List register.Entry) → StandsOpenAs q (state S.Store tables.conn) W L
@@ -158,8 +159,8 @@ impl<S: Alter + Drop> Book<S> {
         ensures named { IfErr result (λ e. (e.0 ≡ Fault.NotThisBook) ⊎ ((e.0 ≡ Fault.OutOfMemory)
             ⊎ (e.0 ≡ Fault.Store))) }
         ensures uncounted_ok { IfOk result (λ b. b.tables.refused ≡ tables.refused) }
-        ensures limit { IfOk result (λ b. NoMore tables.limit b.tables.limit) }
-        ensures limit_back { IfErr result (λ e. NoMore tables.limit e.1.limit) }
+        ensures limit { IfOk result (λ b. Counts tables b.tables) }
+        ensures limit_back { IfErr result (λ e. Counts tables e.1) }
         ensures allowed { OnOk result (tables.limit ≢ Some 0) }
     {
         tables.settle();
@@ -183,7 +184,7 @@ impl<S: Alter + Drop> Book<S> {
     /// How many entries the register has, where every table is what comes of giving their commands again, one after another, to an
     /// empty book in memory; 43 where one of them isn't. Nothing is written. 40 and 41 are those of a query, 42 that of a book
     /// that has to be opened again. It holds a second book in memory for as long as it runs.
-    #[tactic(auto, using(book_tables::proofs::Limited::no_more_trans, book_tables::proofs::Limited::no_more_same))]
+    #[tactic(auto, using(book_tables::proofs::Limited::spends_both, book_tables::proofs::Limited::spends_same))]
     pub fn verify(&mut self) -> Result<u64, Fault>
         ensures stands { (standing_of S.Store self.new).doubt ≡ 0 → IsLaid (state S.Store self.old.tables.conn)
             → AreTables (state S.Store self.old.tables.conn).now.trees
@@ -194,12 +195,13 @@ impl<S: Alter + Drop> Book<S> {
         ensures fault { IfErr result (λ fault. IsQueryFault fault (standing_of S.Store self.old)
             (standing_of S.Store self.new)) }
         ensures shut { self.old.shut ≡ true → IsErrOf result Fault.Reopen }
+        ensures limit { Counts self.old.tables self.new.tables }
     {
         self.verify_telling(|_, _| {})
     }
 
     /// The same as `verify`; and `told` is handed, after each entry, how many were given again and how many there are.
-    #[tactic(auto, using(book_tables::proofs::Limited::no_more_trans, book_tables::proofs::Limited::no_more_same))]
+    #[tactic(auto, using(book_tables::proofs::Limited::spends_both, book_tables::proofs::Limited::spends_same))]
     pub fn verify_telling<T: FnMut(u64, u64)>(&mut self, told: T) -> Result<u64, Fault>
         requires told { T.IsAlwaysCallable told }
         ensures stands { (standing_of S.Store self.new).doubt ≡ 0 → IsLaid (state S.Store self.old.tables.conn)
@@ -211,6 +213,7 @@ impl<S: Alter + Drop> Book<S> {
         ensures fault { IfErr result (λ fault. IsQueryFault fault (standing_of S.Store self.old)
             (standing_of S.Store self.new)) }
         ensures shut { self.old.shut ≡ true → IsErrOf result Fault.Reopen }
+        ensures limit { Counts self.old.tables self.new.tables }
     {
         if self.shut {
             return Err(Fault::Reopen);
@@ -257,7 +260,7 @@ impl<S: Alter + Drop> Keeper for Book<S> {
     }
 
     /// Just the part that is needed of a depositor's page, from the running rows; None for a stranger.
-    #[tactic(auto, using(book_tables::proofs::Limited::no_more_trans, book_tables::proofs::Limited::no_more_same))]
+    #[tactic(auto, using(book_tables::proofs::Limited::spends_both, book_tables::proofs::Limited::spends_same))]
     fn load(&mut self, who: Who, need: &Need) -> Result<Option<Page>, Fault>
         ensures page { (standing_of S.Store self.new).doubt ≡ 0 → (L : List register.Entry)
             → (standing_of S.Store self.old).keeps L → IsLegal Two (standing_of S.Store self.old).warehouse L
@@ -270,7 +273,7 @@ impl<S: Alter + Drop> Keeper for Book<S> {
             (standing_of S.Store self.new)) }
         ensures shut { (standing_of S.Store self.old).shut ≡ true → IsErrOf result Fault.Reopen }
         ensures uncounted { OnOk result (self.new.tables.refused ≡ self.old.tables.refused) }
-        ensures limit { NoMore self.old.tables.limit self.new.tables.limit }
+        ensures limit { Counts self.old.tables self.new.tables }
         ensures allowed { OnOk result (self.old.tables.limit ≢ Some 0) }
     {
         if self.shut {
@@ -279,18 +282,21 @@ impl<S: Alter + Drop> Keeper for Book<S> {
         self.tables.page_for(self.alloc, who, need)
     }
 
-    #[tactic(auto, using(book_tables::proofs::Limited::no_more_trans, book_tables::proofs::Limited::no_more_same))]
+    #[tactic(auto, using(book_tables::proofs::Limited::spends_both, book_tables::proofs::Limited::spends_same))]
     fn known(&mut self, who: Who, key: &Key<'_>) -> Result<Option<Known>, Fault>
         ensures entry { (standing_of S.Store self.new).doubt ≡ 0 → (L : List register.Entry)
             → (standing_of S.Store self.old).keeps L → IsLegal Two (standing_of S.Store self.old).warehouse L
             → IfOk result (λ known. IsRecalled known (decided.recalled (standing_of S.Store self.old).warehouse
             (mark_of key.now) (register.own L who))) }
+        ensures recorded { (standing_of S.Store self.new).doubt ≡ 0 → (L : List register.Entry)
+            → (standing_of S.Store self.old).keeps L
+            → IfOk result (λ known. option_map (λ k. k.entry) known ≡ first_under who (mark_of key.now) L) }
         ensures same { IsUnchanged (standing_of S.Store self.old) (standing_of S.Store self.new) }
         ensures fault { IfErr result (λ fault. IsQueryFault fault (standing_of S.Store self.old)
             (standing_of S.Store self.new)) }
         ensures shut { (standing_of S.Store self.old).shut ≡ true → IsErrOf result Fault.Reopen }
         ensures uncounted { OnOk result (self.new.tables.refused ≡ self.old.tables.refused) }
-        ensures limit { NoMore self.old.tables.limit self.new.tables.limit }
+        ensures limit { Counts self.old.tables self.new.tables }
         ensures allowed { OnOk result (self.old.tables.limit ≢ Some 0) }
     {
         if self.shut {
@@ -302,7 +308,7 @@ impl<S: Alter + Drop> Keeper for Book<S> {
 
     /// Appends an entry, with the rows that it changes and the text that goes out for it, in one transaction. After a fault of
     /// the store the book has to be opened again, and answers 42 until then. 41 where the numbers that SQLite has for entries are used up.
-    #[tactic(auto, using(book_tables::proofs::Limited::no_more_trans, book_tables::proofs::Limited::no_more_same))]
+    #[tactic(auto, using(book_tables::proofs::Limited::spends_both, book_tables::proofs::Limited::spends_same))]
     fn commit(&mut self, entry: &Entry, changes: &[Change], outgoing: &[u8]) -> Result<(), Fault>
         ensures ok { (standing_of S.Store self.new).doubt ≡ 0 → (L : List register.Entry) (e : register.Entry)
             → IsUsable (standing_of S.Store self.old) L
@@ -326,7 +332,7 @@ impl<S: Alter + Drop> Keeper for Book<S> {
             × IsUnchanged (standing_of S.Store self.old) (standing_of S.Store self.new) }
         ensures goes { GoesOn (standing_of S.Store self.old) (standing_of S.Store self.new) }
         ensures uncounted { OnOk result (self.new.tables.refused ≡ self.old.tables.refused) }
-        ensures limit { NoMore self.old.tables.limit self.new.tables.limit }
+        ensures limit { Counts self.old.tables self.new.tables }
         ensures allowed { OnOk result (self.old.tables.limit ≢ Some 0) }
     {
         if self.shut {
@@ -350,7 +356,7 @@ impl<S: Alter + Drop> Keeper for Book<S> {
         }
     }
 
-    #[tactic(auto, using(book_tables::proofs::Limited::no_more_trans, book_tables::proofs::Limited::no_more_same))]
+    #[tactic(auto, using(book_tables::proofs::Limited::spends_both, book_tables::proofs::Limited::spends_same))]
     fn stock_rows(&mut self, who: Who) -> Result<Option<Vec<StockRow>>, Fault>
         ensures rows { (standing_of S.Store self.new).doubt ≡ 0 → (L : List register.Entry)
             → (standing_of S.Store self.old).keeps L → IsLegal Two (standing_of S.Store self.old).warehouse L
@@ -360,7 +366,7 @@ impl<S: Alter + Drop> Keeper for Book<S> {
             (standing_of S.Store self.new)) }
         ensures shut { (standing_of S.Store self.old).shut ≡ true → IsErrOf result Fault.Reopen }
         ensures uncounted { OnOk result (self.new.tables.refused ≡ self.old.tables.refused) }
-        ensures limit { NoMore self.old.tables.limit self.new.tables.limit }
+        ensures limit { Counts self.old.tables self.new.tables }
         ensures allowed { OnOk result (self.old.tables.limit ≢ Some 0) }
     {
         if self.shut {
@@ -369,7 +375,7 @@ impl<S: Alter + Drop> Keeper for Book<S> {
         self.tables.stock_of(self.alloc, who)
     }
 
-    #[tactic(auto, using(book_tables::proofs::Limited::no_more_trans, book_tables::proofs::Limited::no_more_same))]
+    #[tactic(auto, using(book_tables::proofs::Limited::spends_both, book_tables::proofs::Limited::spends_same))]
     fn outbox(&mut self, who: Who) -> Result<Option<Vec<OutRow>>, Fault>
         ensures rows { (standing_of S.Store self.new).doubt ≡ 0 → (L : List register.Entry)
             → (standing_of S.Store self.old).keeps L → IsLegal Two (standing_of S.Store self.old).warehouse L
@@ -380,7 +386,7 @@ impl<S: Alter + Drop> Keeper for Book<S> {
             (standing_of S.Store self.new)) }
         ensures shut { (standing_of S.Store self.old).shut ≡ true → IsErrOf result Fault.Reopen }
         ensures uncounted { OnOk result (self.new.tables.refused ≡ self.old.tables.refused) }
-        ensures limit { NoMore self.old.tables.limit self.new.tables.limit }
+        ensures limit { Counts self.old.tables self.new.tables }
         ensures allowed { OnOk result (self.old.tables.limit ≢ Some 0) }
     {
         if self.shut {
@@ -389,7 +395,7 @@ impl<S: Alter + Drop> Keeper for Book<S> {
         self.tables.outbox_of(self.alloc, who)
     }
 
-    #[tactic(auto, using(book_tables::proofs::Limited::no_more_trans, book_tables::proofs::Limited::no_more_same))]
+    #[tactic(auto, using(book_tables::proofs::Limited::spends_both, book_tables::proofs::Limited::spends_same))]
     fn text(&mut self, who: Who, n: u32) -> Result<Option<Option<Vec<u8>>>, Fault>
         ensures text { (standing_of S.Store self.new).doubt ≡ 0 → (L : List register.Entry)
             → (standing_of S.Store self.old).keeps L → IsLegal Two (standing_of S.Store self.old).warehouse L
@@ -400,7 +406,7 @@ impl<S: Alter + Drop> Keeper for Book<S> {
             (standing_of S.Store self.new)) }
         ensures shut { (standing_of S.Store self.old).shut ≡ true → IsErrOf result Fault.Reopen }
         ensures uncounted { OnOk result (self.new.tables.refused ≡ self.old.tables.refused) }
-        ensures limit { NoMore self.old.tables.limit self.new.tables.limit }
+        ensures limit { Counts self.old.tables self.new.tables }
         ensures allowed { OnOk result (self.old.tables.limit ≢ Some 0) }
     {
         if self.shut {

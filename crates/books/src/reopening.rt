@@ -1,4 +1,4 @@
-ghost use Rattle.std.specs.Prelude.{◌≡◌, ◌≢◌, ◌⊎◌, ◌≤◌, true, IfErr, IfOk, IsTrue, List};
+ghost use Rattle.std.specs.Prelude.{◌≡◌, ◌≢◌, ◌⊎◌, ◌≤◌, false, true, IfErr, IfOk, IsTrue, List, None};
 ghost use Rattle.profile.specs.Header.{Who as Partner};
 ghost use Rattle.profile.specs.Register.{Entry};
 ghost use Rattle.sqlite.specs.Held.{state};
@@ -6,6 +6,7 @@ ghost use Rattle.sqlite_trees.specs.Tree.{Trees};
 ghost use Rattle.sqlite_trees.specs.View.{IsClean, doubt};
 ghost use Rattle.book_tables.specs.Standing.{StandsIn};
 ghost use Rattle.books.specs.Days.{AllCarried, IsOpenedOf, IsStill};
+ghost use Rattle.books.specs.Faults.{fault_of_opening, fault_of_stop};
 ghost use Rattle.books.specs.Opened.{standing_of};
 ghost use Rattle.books.specs.Stopped.{IsReopened};
 
@@ -19,7 +20,8 @@ use store::Fault;
 
 // What a failure of the store is told as.
 fn store_fault(error: StoreError) -> Fault
-    ensures { (result ≡ Fault.OutOfMemory) ⊎ (result ≡ Fault.Store) }
+    ensures told { result ≡ fault_of_stop error }
+    ensures named { (result ≡ Fault.OutOfMemory) ⊎ (result ≡ Fault.Store) }
 {
     match error {
         StoreError::OutOfMemory => Fault::OutOfMemory,
@@ -29,6 +31,7 @@ fn store_fault(error: StoreError) -> Fault
 
 // What a failure to open a store is told as: 43 where its trees are no database.
 fn open_fault(error: Error) -> Fault
+    ensures told { result ≡ fault_of_opening error }
     ensures not_this { result ≡ Fault.NotThisBook → error ≡ Error.SqliteFailure ErrorCode.NotADatabase }
     ensures named { (result ≡ Fault.NotThisBook) ⊎ ((result ≡ Fault.OutOfMemory) ⊎ (result ≡ Fault.Store)) }
 {
@@ -50,6 +53,7 @@ pub(crate) fn opened_after<S: Alter + Reopen + Drop>(
     ensures opened { IfOk result (λ b. (standing_of S.Store b).doubt ≡ 0
         → (W : Partner) (all : AllCarried (S.Store.recovers store) W)
         → IsOpenedOf (S.Store.recovers store) W all (standing_of S.Store b)) }
+    ensures anew { IfOk result (λ b. (b.shut ≡ false) × (b.tables.refused ≡ 0) × (b.tables.limit ≡ None)) }
     ensures still { IfErr result (λ e. IsClean (S.Store.view e.1)
         → (W : Partner) (all : AllCarried (S.Store.recovers store) W)
         → (db : Trees) → S.Store.recovers e.1 db → IsStill (S.Store.recovers store) W all db) }
@@ -98,6 +102,7 @@ pub fn reopened<S: Alter + Reopen + Drop>(
     ensures left { IfOk result (λ b. (standing_of S.Store b).doubt ≡ 0
         → (standing_of S.Store book).all_stand
         → IsReopened (standing_of S.Store book) (standing_of S.Store b)) }
+    ensures anew { IfOk result (λ b. (b.shut ≡ false) × (b.tables.refused ≡ 0) × (b.tables.limit ≡ None)) }
     ensures doubt { IfOk result (λ b. (standing_of S.Store book).doubt ≤ (standing_of S.Store b).doubt) }
     ensures named { IfErr result (λ e. (e.0 ≡ Fault.NotThisBook) ⊎ ((e.0 ≡ Fault.OutOfMemory)
         ⊎ (e.0 ≡ Fault.Store))) }

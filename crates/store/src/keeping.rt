@@ -7,6 +7,7 @@ ghost use Rattle.profile.specs.Rows.{stock_of, outbox_of};
 ghost use Rattle.rules.specs.Asked.{mark_of};
 ghost use Rattle.rules.specs.Decided.{IsHeldAtRest, IsRecalled};
 ghost use Rattle.store.specs.Held.{IsHeld};
+ghost use Rattle.store.specs.Known.{first_under};
 ghost use Rattle.store.specs.Sent.{text_of};
 ghost use Rattle.store.specs.Standing.{Standing, IsUsable, IsNext, IsUnchanged, GoesOn, LeavesEither, IsFault, IsQueryFault, IsCommitFault};
 
@@ -35,12 +36,15 @@ pub trait Keeper {
         ensures fault { IfErr result (λ fault. IsQueryFault fault (standing self.old) (standing self.new)) }
         ensures shut { (standing self.old).shut ≡ true → IsErrOf result Fault.Reopen };
 
-    /// A depositor's entry under a key, with the text that went out for it; None where there is none.
+    /// A depositor's entry under a key, with its number and the text that went out for it; None where there is none.
     fn known(&mut self, who: Who, key: &Key<'_>) -> Result<Option<Known>, Fault>
         ensures entry { (standing self.new).doubt ≡ 0 → (L : List register.Entry)
             → (standing self.old).keeps L → IsLegal Two (standing self.old).warehouse L
             → IfOk result (λ known. IsRecalled known (decided.recalled (standing self.old).warehouse
             (mark_of key.now) (register.own L who))) }
+        ensures recorded { (standing self.new).doubt ≡ 0 → (L : List register.Entry)
+            → (standing self.old).keeps L
+            → IfOk result (λ known. option_map (λ k. k.entry) known ≡ first_under who (mark_of key.now) L) }
         ensures same { IsUnchanged (standing self.old) (standing self.new) }
         ensures fault { IfErr result (λ fault. IsQueryFault fault (standing self.old) (standing self.new)) }
         ensures shut { (standing self.old).shut ≡ true → IsErrOf result Fault.Reopen };

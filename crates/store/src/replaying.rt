@@ -154,8 +154,10 @@ fn recalled(
     who: &Who,
     key: &[u8],
 ) -> Result<Option<Known>, AllocError>
-    ensures { (L : List register.Entry) → entries.now ≡ all_written L → IsLegal Two warehouse.now L
+    ensures known { (L : List register.Entry) → entries.now ≡ all_written L → IsLegal Two warehouse.now L
         → IfOk result (λ known. IsRecalled known (recalled warehouse.now key.now (register.own L who.now))) }
+    ensures recorded { IfOk result (λ known. option_map
+        (λ k. k.entry) known ≡ find (is_under who.now key.now) entries.now) }
 {
     let Some(i) = place_of(entries, who, key) else {
         return Ok(None);

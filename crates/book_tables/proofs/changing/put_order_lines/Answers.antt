@@ -5,7 +5,7 @@ use Rattle.profile.specs.Page.{PageLine, PageOrder}
 use Rattle.sqlite.specs.Held.{state}
 use Rattle.store.specs.declared.fault.Fault.{Fault}
 use Rattle.book_tables.specs.Leading.{Leads}
-use Rattle.book_tables.proofs.Limited.{no_more_same}
+use Rattle.book_tables.proofs.Limited.{spends_same}
 use Rattle.book_tables.proofs.LeadingLemmas.{left_on, left_none}
 use Rattle.book_tables.proofs.Lines.{order_line_change, order_lines_are}
 use Rattle.book_tables.proofs.Writes.{wrote_as, wrote_nothing, wrote_on, wrote_refused, wrote_failed}
@@ -33,7 +33,7 @@ loop-line-preserved g c =
 
 pub returns-in_default-clause-wrote : goal.returns-in_default-clause-wrote
 returns-in_default-clause-wrote g c =
-    wrote_on _ _ _ _ _ _ _ _ c.loop-line.invariant.wrote (wrote_refused (state g.S.Store c.loop-line.tx.conn.now) _ _ _ c.refuse.ensures.told c.refuse.ensures.counted (no_more_same _ _ c.refuse.ensures.limit)) (λ led none. none)
+    wrote_on _ _ _ _ _ _ _ _ c.loop-line.invariant.wrote (wrote_refused (state g.S.Store c.loop-line.tx.conn.now) _ _ _ c.refuse.ensures.told c.refuse.ensures.counted (spends_same _ _ _ _ c.refuse.ensures.made c.refuse.ensures.limit)) (λ led none. none)
 
 pub returns-in_err-put_order_line-clause-wrote : goal.returns-in_err-put_order_line-clause-wrote
 returns-in_err-put_order_line-clause-wrote g c =

@@ -1,7 +1,7 @@
 use Rattle.std.proofs.Common.{Ok, subst}
 use Rattle.sqlite.specs.Held.{state}
 use Rattle.sqlite.specs.State.{Executes}
-use Rattle.book_tables.proofs.Limited.{no_more_same}
+use Rattle.book_tables.proofs.Limited.{spends_same}
 use Rattle.book_tables.proofs.Writes.{wrote_as, wrote_refused}
 use Rattle.book_tables.proofs.WritingTexts.{put_stock_text}
 use Rattle.book_tables.proofs.Led.{stock_led}
@@ -16,4 +16,4 @@ returns-clause-wrote g c =
 
 pub returns-in_default-clause-wrote : goal.returns-in_default-clause-wrote
 returns-in_default-clause-wrote g c =
-    wrote_refused (state g.S.Store c.args.tx.now.conn.now) _ _ _ c.refuse.ensures.told c.refuse.ensures.counted (no_more_same _ _ c.refuse.ensures.limit)
+    wrote_refused (state g.S.Store c.args.tx.now.conn.now) _ _ _ c.refuse.ensures.told c.refuse.ensures.counted (spends_same _ _ _ _ c.refuse.ensures.made c.refuse.ensures.limit)

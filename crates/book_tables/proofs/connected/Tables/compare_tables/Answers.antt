@@ -4,7 +4,7 @@ use Rattle.sqlite.specs.Given.{IsPlain}
 use Rattle.sqlite.specs.Listing.{understood}
 use Rattle.store.specs.declared.fault.Fault.{Fault}
 use Rattle.book_tables.specs.Layout.{Others, beside}
-use Rattle.book_tables.proofs.ComparedSoFar.{none_so_far, fails_after, other_after, one_more, one_differs, all_same, all_asked}
+use Rattle.book_tables.proofs.ComparedSoFar.{none_so_far, fails_after, other_after, limit_after, one_more, one_differs, all_same, all_asked}
 use Rattle.book_tables.proofs.Queries.{asked_fails}
 use Rattle.book_tables.proofs.WholeTexts.{whole_plain}
 use Rattle.book_tables.proofs.connected.Tables.compare_tables.Goals as goal
@@ -26,11 +26,16 @@ returns-in_err-shows_the_same-clause-other g c =
     other_after g.S.Store g.T.Store c.args.self.now c.loop-number.self c.shows_the_same.new.self c.args.other.now c.loop-number.other c.shows_the_same.new.other c.loop-number.number c.loop-number.invariant
     c.shows_the_same.ensures.other
 
+pub returns-in_err-shows_the_same-clause-other_limit : goal.returns-in_err-shows_the_same-clause-other_limit
+returns-in_err-shows_the_same-clause-other_limit g c =
+    limit_after g.S.Store g.T.Store c.args.self.now c.loop-number.self c.shows_the_same.new.self c.args.other.now c.loop-number.other c.shows_the_same.new.other c.loop-number.number c.loop-number.invariant
+    c.shows_the_same.ensures.other_limit
+
 pub returns-then-not-branch-clause-compares : goal.returns-then-not-branch-clause-compares
 returns-then-not-branch-clause-compares g c =
     one_differs g.S.Store g.T.Store c.args.self.now c.loop-number.self c.shows_the_same.new.self c.args.other.now c.loop-number.other c.shows_the_same.new.other c.loop-number.number c.loop-number.invariant
     c.table_at.result (c.table_at.ensures c.loop-number-test.true) c.whole_text.result.now c.whole_text.ensures c.in_ok-shows_the_same.field-0
-    c.in_ok-shows_the_same.ensures.asked c.shows_the_same.ensures.other c.in_ok-shows_the_same.ensures.same c.if-not-branch.true
+    c.in_ok-shows_the_same.ensures.asked c.shows_the_same.ensures.other c.shows_the_same.ensures.other_limit c.in_ok-shows_the_same.ensures.same c.if-not-branch.true
 
 pub returns-then-not-branch-clause-asked : goal.returns-then-not-branch-clause-asked
 returns-then-not-branch-clause-asked g c =
@@ -42,11 +47,16 @@ returns-then-not-branch-clause-other g c =
     other_after g.S.Store g.T.Store c.args.self.now c.loop-number.self c.shows_the_same.new.self c.args.other.now c.loop-number.other c.shows_the_same.new.other c.loop-number.number c.loop-number.invariant
     c.shows_the_same.ensures.other
 
+pub returns-then-not-branch-clause-other_limit : goal.returns-then-not-branch-clause-other_limit
+returns-then-not-branch-clause-other_limit g c =
+    limit_after g.S.Store g.T.Store c.args.self.now c.loop-number.self c.shows_the_same.new.self c.args.other.now c.loop-number.other c.shows_the_same.new.other c.loop-number.number c.loop-number.invariant
+    c.shows_the_same.ensures.other_limit
+
 pub loop-number-preserved : goal.loop-number-preserved
 loop-number-preserved g c =
     one_more g.S.Store g.T.Store c.args.self.now c.loop-number.self c.shows_the_same.new.self c.args.other.now c.loop-number.other c.shows_the_same.new.other c.loop-number.number c.loop-number.invariant
     c.table_at.result (c.table_at.ensures c.loop-number-test.true) c.whole_text.result.now c.whole_text.ensures c.in_ok-shows_the_same.field-0
-    c.in_ok-shows_the_same.ensures.asked c.shows_the_same.ensures.other c.in_ok-shows_the_same.ensures.same c.if-not-branch.false
+    c.in_ok-shows_the_same.ensures.asked c.shows_the_same.ensures.other c.shows_the_same.ensures.other_limit c.in_ok-shows_the_same.ensures.same c.if-not-branch.false
 
 pub returns-clause-compares : goal.returns-clause-compares
 returns-clause-compares g c =
@@ -60,3 +70,6 @@ returns-clause-asked g c =
 
 pub returns-clause-other : goal.returns-clause-other
 returns-clause-other g c = c.loop-number.invariant.other
+
+pub returns-clause-other_limit : goal.returns-clause-other_limit
+returns-clause-other_limit g c = c.loop-number.invariant.other_limit

@@ -9,7 +9,7 @@ use Rattle.book_tables.specs.Carrying.{LiesAs}
 use Rattle.book_tables.proofs.Asked.{asked_both}
 use Rattle.book_tables.proofs.AskedLater.{err_as}
 use Rattle.book_tables.proofs.Carried.{stands_open_later}
-use Rattle.book_tables.proofs.Limited.{no_more_trans}
+use Rattle.book_tables.proofs.Limited.{counts_both}
 use Rattle.book_tables.proofs.connected.Tables.found.Goals as goal
 
 pub returns-in_err-house-clause-this : goal.returns-in_err-house-clause-this
@@ -34,7 +34,7 @@ returns-in_err-entries-clause-asked g c = λ q.
     asked_both (LiesAs q) (state g.S.Store c.args.self.now.conn) (state g.S.Store c.house.new.self.conn) (state g.S.Store c.count.new.self.conn) (c.house.ensures.asked q) (c.count.ensures.asked q)
 
 pub returns-clause-limit : goal.returns-clause-limit
-returns-clause-limit g c = no_more_trans c.args.self.now.limit c.house.new.self.limit c.count.new.self.limit c.house.ensures.limit c.count.ensures.limit
+returns-clause-limit g c = counts_both c.args.self.now c.house.new.self c.count.new.self c.house.ensures.limit c.count.ensures.limit
 
 pub returns-clause-was_open : goal.returns-clause-was_open
 returns-clause-was_open g c = λ clean. c.in_ok-house.ensures.was_open (omega (arith, (c.count.ensures.asked One).crash.clean, clean))

@@ -27,3 +27,12 @@ pub returns-in-Err-clause-asked : goal.returns-in-Err-clause-asked
 returns-in-Err-clause-asked g c =
     asked_on g.S.Store c.args.self.now c.entry_under.new.self c.content_under.new.self c.in_ok-entry.field-0 _ c.in_ok-entry.ensures.asked
     (asked_fails g.S.Store c.entry_under.new.self c.content_under.new.self c.in-Err.fault _ refl c.in-Err.ensures.asked)
+
+pub returns-in_default-clause-recorded : goal.returns-in_default-clause-recorded
+returns-in_default-clause-recorded g c = λ clean W L stands. sym c.in_default.is ∙ c.in_ok-entry.ensures.entry clean W L stands
+
+pub returns-in-Ok-clause-recorded : goal.returns-in-Ok-clause-recorded
+returns-in-Ok-clause-recorded g c = λ clean W L stands.
+    let mid = state g.S.Store c.entry_under.new.self.conn in
+    let new = state g.S.Store c.content_under.new.self.conn in
+    sym c.in-Some.is ∙ c.in_ok-entry.ensures.entry (clean_before mid new c.content_under.ensures.asked.left clean) W L stands
