@@ -1,4 +1,7 @@
 //! What a fault or a refusal is about, for people. It is told where it is asked for, after the fault or the refusal, and changes nothing.
+ghost use Rattle.std.specs.Prelude.{◌≡◌, Some};
+ghost use Rattle.commands.specs.Stops.{fault_in, IsDeviceFault};
+
 use crate::bad_sheets::first_bad;
 use crate::files::{MOST_SHEET, read_within};
 use crate::told::CommandError;
@@ -11,7 +14,9 @@ use std::rt::Files;
 use store::{Fault, Ident, Refusal, Who};
 
 // A fault with its cause; without memory for the text it is the fault alone.
-fn caused(fault: Fault, cause: Result<String, AllocError>) -> CommandError {
+fn caused(fault: Fault, cause: Result<String, AllocError>) -> CommandError
+    ensures { fault_in result ≡ Some fault }
+{
     match cause {
         Ok(cause) => CommandError::Caused(fault, cause),
         Err(_) => CommandError::Fault(fault),
@@ -30,7 +35,9 @@ fn reason_of(kind: io::ErrorKind) -> &'static str {
 }
 
 /// The fault of a file that can't be read, with its name: Device (44), or want of memory.
-pub fn about_file(alloc: Global, file: &str, error: &io::Error) -> CommandError {
+pub fn about_file(alloc: Global, file: &str, error: &io::Error) -> CommandError
+    ensures { IsDeviceFault result }
+{
     let kind = error.kind();
     if kind == io::ErrorKind::OutOfMemory {
         return CommandError::Fault(Fault::OutOfMemory);
@@ -40,7 +47,9 @@ pub fn about_file(alloc: Global, file: &str, error: &io::Error) -> CommandError 
 }
 
 /// The fault of a book that isn't there, with the command that makes one.
-pub fn about_missing(alloc: Global, book: &str, error: &io::Error) -> CommandError {
+pub fn about_missing(alloc: Global, book: &str, error: &io::Error) -> CommandError
+    ensures { IsDeviceFault result }
+{
     if error.kind() != io::ErrorKind::NotFound {
         return about_file(alloc, book, error);
     }
@@ -51,7 +60,9 @@ pub fn about_missing(alloc: Global, book: &str, error: &io::Error) -> CommandErr
 }
 
 /// The fault of a book that is in use after it was waited for.
-pub fn about_use(alloc: Global, book: &str) -> CommandError {
+pub fn about_use(alloc: Global, book: &str) -> CommandError
+    ensures { fault_in result ≡ Some Fault.Device }
+{
     caused(
         Fault::Device,
         format!(in alloc;
@@ -61,7 +72,9 @@ pub fn about_use(alloc: Global, book: &str) -> CommandError {
 }
 
 /// The fault of a file that can't be opened as a database.
-pub fn about_opening(alloc: Global, book: &str, fault: Fault) -> CommandError {
+pub fn about_opening(alloc: Global, book: &str, fault: Fault) -> CommandError
+    ensures { fault_in result ≡ Some fault }
+{
     if fault != Fault::Device {
         return CommandError::Fault(fault);
     }
@@ -74,7 +87,9 @@ pub fn about_opening(alloc: Global, book: &str, fault: Fault) -> CommandError {
 }
 
 /// What happened to a book in a file at a fault, as far as its number says it.
-pub fn about_book(alloc: Global, book: &str, is_made: bool, stop: CommandError) -> CommandError {
+pub fn about_book(alloc: Global, book: &str, is_made: bool, stop: CommandError) -> CommandError
+    ensures { fault_in result ≡ fault_in stop.entry }
+{
     let CommandError::Fault(fault) = stop else {
         return stop;
     };
@@ -100,7 +115,9 @@ pub fn about_book(alloc: Global, book: &str, is_made: bool, stop: CommandError) 
 }
 
 /// The fault of an address at which nobody can listen.
-pub fn about_address(alloc: Global, address: &SocketAddr, error: io::Error) -> CommandError {
+pub fn about_address(alloc: Global, address: &SocketAddr, error: io::Error) -> CommandError
+    ensures { IsDeviceFault result }
+{
     let CommandError::Fault(fault) = CommandError::from(error) else {
         return CommandError::Fault(Fault::Device);
     };
@@ -111,7 +128,9 @@ pub fn about_address(alloc: Global, address: &SocketAddr, error: io::Error) -> C
 }
 
 /// The fault of a folder whose files can't all be taken.
-pub fn about_folder(alloc: Global, dir: &str, stop: CommandError) -> CommandError {
+pub fn about_folder(alloc: Global, dir: &str, stop: CommandError) -> CommandError
+    ensures { fault_in result ≡ fault_in stop.entry }
+{
     match stop {
         CommandError::Fault(Fault::Device) => caused(
             Fault::Device,

@@ -4,6 +4,7 @@ ghost use Rattle.std.specs.Prelude.{◌≡◌, ◌≤◌, List, false, length, I
 ghost use Rattle.profile.specs.Register.{Entry};
 ghost use Rattle.store.specs.Standing.{IsUnchanged};
 ghost use Rattle.books.specs.Opened.{standing_of};
+ghost use Rattle.commands.specs.Stops.{fault_in};
 ghost use Rattle.commands.specs.Working.{IsChecked, IsJobDone, IsJobFor, IsWork};
 
 use crate::acts::{Ready, perform, ready_at};
@@ -235,7 +236,9 @@ fn over<W: io::Write, E: io::Write>(
 }
 
 // What stopped a job over the book in a file, with what it is about.
-fn about_job(alloc: Global, file: &str, job: &Job<'_>, stop: CommandError) -> CommandError {
+fn about_job(alloc: Global, file: &str, job: &Job<'_>, stop: CommandError) -> CommandError
+    ensures { fault_in result ≡ fault_in stop.entry }
+{
     match job {
         Job::Make(_) => about_book(alloc, file, true, stop),
         Job::Change(Ready::Take(dir), _) => {
