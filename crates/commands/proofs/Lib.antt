@@ -5,4 +5,3 @@ pub mod TellingLaws
 pub mod ShownLaws
 pub mod ActLaws
 pub mod EnrolLaws
-pub mod PlayLaws

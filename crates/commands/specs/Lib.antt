@@ -11,7 +11,6 @@ pub mod Clerks
 pub mod Acting
 pub mod Readying
 pub mod Looking
-pub mod Playing
 pub mod Working
 pub mod Takes
 pub mod Enrolling

@@ -4,10 +4,9 @@ use Rattle.std.specs.Io.KnownBytes.{Appends}
 use Rattle.profile.specs.Header.{who_of}
 use Rattle.profile.specs.Moments.{Moment}
 use Rattle.profile.specs.Register.{Entry}
-use Rattle.store.specs.Standing.{Standing, IsUnchanged}
+use Rattle.store.specs.Standing.{Standing, IsUnchanged, GoesOn}
 use Rattle.commands.specs.Acting.{Ending, IsPerformed}
 use Rattle.commands.specs.Looking.{IsAskedFor, IsLook}
-use Rattle.commands.specs.Playing.{ArePlayed}
 use Rattle.commands.specs.Readying.{IsMadeReady}
 use Rattle.commands.specs.declared.over_file.Job.{Job}
 use Rattle.commands.specs.declared.over_file.Job.TheVariants as job
@@ -33,7 +32,7 @@ IsJobFor t j = ⊥
 abbrev pub IsWork : Standing → Standing → Job → Option (List ℕ) → Option (List ℕ) → Ending → Type 0
 IsWork old new (job.Change ready moment) before behind ending = IsPerformed old new ready moment before behind ending
 IsWork old new (job.Look asked) before behind ending = IsLook old new asked before behind ending
-IsWork old new (job.Play text) before behind ending = ArePlayed old new before behind
+IsWork old new (job.Play text) before behind ending = GoesOn old new
 IsWork old new other before behind ending = Unit {0}
 
 -- what is printed of a book whose tables are what its register gives: how many entries it has

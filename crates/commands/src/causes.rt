@@ -88,7 +88,7 @@ pub fn about_opening(alloc: Global, book: &str, fault: Fault) -> CommandError
 
 /// What happened to a book in a file at a fault, as far as its number says it.
 pub fn about_book(alloc: Global, book: &str, is_made: bool, stop: CommandError) -> CommandError
-    ensures { fault_in result ≡ fault_in stop.entry }
+    ensures { fault_in result ≡ fault_in stop }
 {
     let CommandError::Fault(fault) = stop else {
         return stop;
@@ -129,7 +129,7 @@ pub fn about_address(alloc: Global, address: &SocketAddr, error: io::Error) -> C
 
 /// The fault of a folder whose files can't all be taken.
 pub fn about_folder(alloc: Global, dir: &str, stop: CommandError) -> CommandError
-    ensures { fault_in result ≡ fault_in stop.entry }
+    ensures { fault_in result ≡ fault_in stop }
 {
     match stop {
         CommandError::Fault(Fault::Device) => caused(

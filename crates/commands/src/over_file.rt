@@ -237,7 +237,7 @@ fn over<W: io::Write, E: io::Write>(
 
 // What stopped a job over the book in a file, with what it is about.
 fn about_job(alloc: Global, file: &str, job: &Job<'_>, stop: CommandError) -> CommandError
-    ensures { fault_in result ≡ fault_in stop.entry }
+    ensures { fault_in result ≡ fault_in stop }
 {
     match job {
         Job::Make(_) => about_book(alloc, file, true, stop),

@@ -1,5 +1,5 @@
+ghost use Rattle.store.specs.Standing.{GoesOn};
 ghost use Rattle.commands.specs.Looking.{IsLineDone, IsView};
-ghost use Rattle.commands.specs.Playing.{ArePlayed};
 ghost use Rattle.commands.specs.Readying.{IsChange};
 
 use crate::acts::{perform, ready_at};
@@ -22,6 +22,7 @@ fn change<R: Files + Clock + AllocGlobal + Clone + Drop, K: Keeper, W: io::Write
 ) -> Result<ExitStatus, CommandError>
     ensures changed { IsChange (K.standing book.old) (K.standing book.new) act.now at
         (W.contents out.old) (W.contents out.new) result }
+    ensures goes { GoesOn (K.standing book.old) (K.standing book.new) }
 {
     match ready_at(rt, act, at)? {
         Ok(made) => perform(rt, book, &made.0, made.1, out, err),
@@ -39,6 +40,7 @@ fn look<K: Keeper, W: io::Write, E: io::Write>(
 ) -> Result<ExitStatus, CommandError>
     ensures viewed { IsView (K.standing book.old) (K.standing book.new) what.now
         (W.contents out.old) (W.contents out.new) result }
+    ensures goes { GoesOn (K.standing book.old) (K.standing book.new) }
 {
     match ask(what) {
         Ok(asked) => show(rt.alloc(), book, &asked, out, err),
@@ -56,6 +58,7 @@ fn answer<R: Files + Clock + AllocGlobal + Clone + Drop, K: Keeper, W: io::Write
 ) -> Result<ExitStatus, CommandError>
     ensures answered { IsLineDone (K.standing book.old) (K.standing book.new) words.now
         (W.contents out.old) (W.contents out.new) result }
+    ensures goes { GoesOn (K.standing book.old) (K.standing book.new) }
 {
     match words {
         Words::Over {
@@ -78,7 +81,7 @@ fn answer_row<R: Files + Clock + AllocGlobal + Clone + Drop, K: Keeper, W: io::W
     out: &mut W,
     err: &mut E,
 ) -> Result<ExitStatus, CommandError>
-    ensures played { ArePlayed (K.standing book.old) (K.standing book.new) (W.contents out.old) (W.contents out.new) }
+    ensures goes { GoesOn (K.standing book.old) (K.standing book.new) }
 {
     let words: Vec<&str> = row.split(' ').collect(rt.alloc())?;
     let asked = line(rt.alloc(), Place::Script, &words)?;
@@ -98,7 +101,7 @@ pub fn play_over<
     W: io::Write,
     E: io::Write,
 >(rt: &R, book: &mut K, text: &str, out: &mut W, err: &mut E) -> Result<ExitStatus, CommandError>
-    ensures played { ArePlayed (K.standing book.old) (K.standing book.new) (W.contents out.old) (W.contents out.new) }
+    ensures goes { GoesOn (K.standing book.old) (K.standing book.new) }
 {
     let mut status = ExitStatus::Done;
     for (i, row) in text.split('\n').enumerate() {
