@@ -1,7 +1,7 @@
 use Rattle.store.specs.Standing.{GoesOn}
 use Rattle.commands.proofs.script.play_over.Given as goal
 
-abbrev pub invariant-loop : goal.invariant-loop
-invariant-loop g l = record {
+abbrev pub invariant-loop-i : goal.invariant-loop-i
+invariant-loop-i g l = record {
   goes : GoesOn (g.K.Keeper.standing l.fn.book) (g.K.Keeper.standing l.book);
 }
