@@ -12,11 +12,13 @@ program=$crates/whx12/out/whx12
 
 # The crate that is being proved, and how many are. A library that is proved has a stamp, and one that is begun a folder for it.
 progress() {
-    proved=$(find "$crates" -path '*/out/rlib/stamp' | wc -l)
+    proved=0
     all=$(grep -c '^[a-z_0-9]*:' ../../crates.txt)
     now=whx12
     for folder in "$crates"/*/out/rlib; do
-        if [ -d "$folder" ] && [ ! -e "$folder/stamp" ]; then
+        if [ -e "$folder/stamp" ]; then
+            proved=$((proved + 1))
+        elif [ -d "$folder" ]; then
             now=$(basename "${folder%/out/rlib}")
         fi
     done
