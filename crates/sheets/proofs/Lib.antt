@@ -1,4 +1,5 @@
 pub mod PairLaws
+pub mod Ascending
 mod OrderLaws
 mod RefusalLaws
 mod SheetLaws

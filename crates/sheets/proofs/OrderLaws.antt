@@ -1,9 +1,10 @@
 -- Lines that were sorted are the sheet's lines.
-use Rattle.std.proofs.Common.{◌≡◌, ℕ, suc, ◌+◌, ◌≤◌, Bool, true, false, cond, ◌&&◌, ◌||◌, List, [], ◌∷◌, map, refl, ap, sym, ◌∙◌, subst, arith, bytes_eq, sum_by, get_or, is_lt}
+use Rattle.std.proofs.Common.{◌≡◌, ℕ, suc, ◌+◌, ◌≤◌, Bool, true, false, not, cond, ◌&&◌, ◌||◌, List, [], ◌∷◌, map, refl, ap, sym, ◌∙◌, subst, arith, bytes_eq, sum_by, get_or, is_lt, IsPermutation}
 use Rattle.std.specs.List.{list_any}
 use Rattle.std.specs.List.Sorted.{IsSorted}
 use Rattle.std.specs.Cmp.Derive.{both_true}
 use Rattle.std.proofs.lemmas.Bool.{both_ways}
+use Rattle.std.proofs.lemmas.List.Sorted.{IsPermutation-map, sum_by-IsPermutation}
 use Rattle.std.proofs.lemmas.List.Sums.{sum_by-cons}
 use Rattle.profile.specs.Lists.{has_repeats}
 use Rattle.profile.specs.Means.{Line}
@@ -151,3 +152,56 @@ ascending_same (k ∷ ks) (l ∷ ls) h g e =
     let rest : ks ≡ ls = ascending_same ks ls (rest_ascends k ks h) (rest_ascends l ls g)
     (λ f. omega (arith, e f, sum_by-cons f k ks, sum_by-cons f l ls, ap f first)) in
     λ i. first i ∷ rest i
+
+-- Lines ascend just where no pair stands twice, however they stood before they were sorted.
+
+once_of : (item lot : List ℕ) (t : Bool) (l : Line) → of_pair item lot l ≡ t → one_of item lot l ≡ cond {A = ℕ} t 1 0
+once_of item lot t l e = ap (λ (b : Bool). cond {A = ℕ} b 1 0) e
+
+pub ascending_once : (ls : List Line) → is_ascending ls ≡ true → (item lot : List ℕ) → told item lot ls ≤ 1
+ascending_once [] h item lot = omega arith
+ascending_once (k ∷ ks) h item lot = by_test (of_pair item lot k) refl (ascending_once ks (rest_ascends k ks h) item lot)
+  where
+    by_test : (t : Bool) → of_pair item lot k ≡ t → told item lot ks ≤ 1 → told item lot (k ∷ ks) ≤ 1
+    by_test false e rest = omega (arith, sum_by-cons (one_of item lot) k ks, once_of item lot false k e, rest)
+    by_test true e rest =
+        let q = both_parts (bytes_eq item k.item) (bytes_eq lot k.lot) e in
+        let other : (z : Line) → pair_before k z ≡ true → one_of item lot z ≡ 0 =
+        λ z g. (λ i. one_of (text_is item k.item q.0 i) (text_is lot k.lot q.1 i) z) ∙ once_of k.item k.lot false z (apart k z g) in
+        omega (arith, sum_by-cons (one_of item lot) k ks, once_of item lot true k e, none_after (one_of item lot) k ks other h)
+
+none_same : (x : RawLine) (ls : List RawLine) → told x.item x.lot (map line_of ls) ≡ 0 → list_any (same_raw_pair x) ls ≡ false
+none_same x [] h = refl
+none_same x (l ∷ ls) h =
+    let rest : told x.item x.lot (map line_of ls) ≡ 0 = omega (arith, h, sum_by-cons (one_of x.item x.lot) (line_of l) (map line_of ls)) in
+    by_test (same_raw_pair x l) refl (none_same x ls rest)
+  where
+    by_test : (t : Bool) → same_raw_pair x l ≡ t → list_any (same_raw_pair x) ls ≡ false → list_any (same_raw_pair x) (l ∷ ls) ≡ false
+    by_test true e rest = absurd (omega (arith, h, sum_by-cons (one_of x.item x.lot) (line_of l) (map line_of ls), once_of x.item x.lot true (line_of l) e))
+    by_test false e rest = rw e rest
+
+once_apart : (ls : List RawLine) → ((item lot : List ℕ) → told item lot (map line_of ls) ≤ 1) → has_repeats same_raw_pair ls ≡ false
+once_apart [] once = refl
+once_apart (l ∷ ls) once =
+    let after : told l.item l.lot (map line_of ls) ≡ 0 = omega (arith, once l.item l.lot, told_itself (line_of l), sum_by-cons (one_of l.item l.lot) (line_of l) (map line_of ls)) in
+    let rest : has_repeats same_raw_pair ls ≡ false =
+    once_apart ls (λ item lot. omega (arith, once item lot, sum_by-cons (one_of item lot) (line_of l) (map line_of ls))) in
+    rw (none_same l ls after) rest
+
+pub repeats_fall : (raw sorted : List RawLine) → IsPermutation raw sorted → IsSorted pair_cmp sorted → (t : Bool) → is_ascending (map line_of sorted) ≡ t → has_repeats same_raw_pair raw ≡ not t
+repeats_fall raw sorted moved up t h = by_tests (has_repeats same_raw_pair raw) refl t h
+  where
+    counted : (f : Line → ℕ) → sum_by f (map line_of sorted) ≡ sum_by f (map line_of raw)
+    counted f = sum_by-IsPermutation f (map line_of raw) (map line_of sorted) (IsPermutation-map line_of raw sorted moved)
+
+    by_tests : (a : Bool) → has_repeats same_raw_pair raw ≡ a → (t : Bool) → is_ascending (map line_of sorted) ≡ t → has_repeats same_raw_pair raw ≡ not t
+    by_tests false e true g = e
+    by_tests true e false g = e
+    by_tests false e false g =
+        let once : (item lot : List ℕ) → told item lot (map line_of sorted) ≤ 1 =
+        λ item lot. omega (arith, told_once raw e item lot, counted (one_of item lot)) in
+        absurd (both_ways (is_ascending (map line_of sorted)) g (sorted_ascends sorted up once))
+    by_tests true e true g =
+        let once : (item lot : List ℕ) → told item lot (map line_of raw) ≤ 1 =
+        λ item lot. omega (arith, ascending_once (map line_of sorted) g item lot, counted (one_of item lot)) in
+        absurd (both_ways (has_repeats same_raw_pair raw) (once_apart raw once) e)

@@ -1,5 +1,5 @@
 -- A sheet that is made is the one of the definition.
-use Rattle.std.proofs.Common.{◌≡◌, ℕ, ◌≤◌, true, ◌&&◌, List, [], ◌∷◌, map, length, refl, ap, sym, ◌∙◌, arith, None, Ok, IsPermutation, All, sum_by}
+use Rattle.std.proofs.Common.{◌≡◌, ◌≤◌, Bool, true, false, cond, ◌&&◌, List, [], ◌∷◌, map, length, refl, ap, sym, ◌∙◌, arith, None, Result, Ok, Err, IsPermutation, All}
 use Rattle.std.specs.Prelude.{nat_le}
 use Rattle.std.specs.List.{list_all}
 use Rattle.std.specs.List.Sorted.{IsSorted}
@@ -14,29 +14,32 @@ use Rattle.profile.specs.Limits.{most_lines, most_item, most_lot, most_quantity,
 use Rattle.profile.specs.Lists.{in_order}
 use Rattle.profile.specs.Means.{Line}
 use Rattle.profile.specs.Events.{pair_before}
+use Rattle.profile.specs.Refusals.{Refusal, RepeatedLine}
 use Rattle.profile.specs.Clerk.{RawLine, SheetKind, CountSheet, PickSheet, RecountSheet, line_of, sheet_of, is_sheet, is_sheet_line, is_ascending, least_quantity, quantity_limit}
 use Rattle.profile.proofs.SheetLaws.{sheet_of-is, is_sheet-later}
 use Rattle.profile.proofs.TextLaws.{both_parts}
 use Rattle.sheets.specs.Pairs.{pair_cmp}
-use Rattle.sheets.specs.Refused.{refused}
-use Rattle.sheets.proofs.OrderLaws.{one_of, told, told_once, sorted_ascends, ascending_same}
-use Rattle.sheets.proofs.RefusalLaws.{accepted_is}
+use Rattle.sheets.specs.Misfits.{misfit_of}
+use Rattle.sheets.proofs.OrderLaws.{ascending_same, repeats_fall}
+use Rattle.sheets.proofs.RefusalLaws.{fitting}
 
--- lines that aren't refused are, sorted, the sheet
-pub made : (r : Rules) (kind : SheetKind) (raw sorted : List RawLine) → refused r kind raw ≡ None → IsPermutation raw sorted → IsSorted pair_cmp sorted
-    → sheet_of r kind raw ≡ Ok (map line_of sorted)
-made r kind raw sorted h moved up =
-    let accepted = accepted_is r kind raw h in
+-- lines that fit and ascend once they are sorted are, sorted, the sheet
+pub made : (r : Rules) (kind : SheetKind) (raw sorted : List RawLine) → misfit_of r kind raw ≡ None → IsPermutation raw sorted → IsSorted pair_cmp sorted
+    → is_ascending (map line_of sorted) ≡ true → sheet_of r kind raw ≡ Ok (map line_of sorted)
+made r kind raw sorted h moved up ascends =
     let lines = in_order pair_before (map line_of raw) in
-    let sheet = sheet_of-is r kind raw lines accepted.1 in
+    let accepted : sheet_of r kind raw ≡ Ok lines = fitting r kind raw h ∙ ap (λ (t : Bool). cond {A = Result (List Line) Refusal} t (Err RepeatedLine) (Ok lines)) (repeats_fall raw sorted moved up true ascends) in
+    let sheet = sheet_of-is r kind raw lines accepted in
     let sizes = both_parts (nat_le (length lines) (most_lines r) && list_all (is_sheet_line r kind) lines) (is_ascending lines) sheet.0 in
-    let counted : (f : Line → ℕ) → sum_by f (map line_of sorted) ≡ sum_by f (map line_of raw) =
-    λ f. sum_by-IsPermutation f (map line_of raw) (map line_of sorted) (IsPermutation-map line_of raw sorted moved) in
-    let once : (item lot : List ℕ) → told item lot (map line_of sorted) ≤ 1 =
-    λ item lot. omega (arith, told_once raw accepted.0 item lot, counted (one_of item lot)) in
-    let same : lines ≡ map line_of sorted = ascending_same lines (map line_of sorted) sizes.1 (sorted_ascends sorted up once)
-    (λ f. counted f ∙ sym (sum_by-IsPermutation f (map line_of raw) lines sheet.1)) in
-    accepted.1 ∙ ap Ok same
+    let same : lines ≡ map line_of sorted = ascending_same lines (map line_of sorted) sizes.1 ascends
+    (λ f. sum_by-IsPermutation f (map line_of raw) (map line_of sorted) (IsPermutation-map line_of raw sorted moved) ∙ sym (sum_by-IsPermutation f (map line_of raw) lines sheet.1)) in
+    accepted ∙ ap Ok same
+
+-- lines that fit and don't ascend have a pair twice
+pub twice : (r : Rules) (kind : SheetKind) (raw sorted : List RawLine) → misfit_of r kind raw ≡ None → IsPermutation raw sorted → IsSorted pair_cmp sorted
+    → is_ascending (map line_of sorted) ≡ false → sheet_of r kind raw ≡ Err RepeatedLine
+twice r kind raw sorted h moved up falls =
+    fitting r kind raw h ∙ ap (λ (t : Bool). cond {A = Result (List Line) Refusal} t (Err RepeatedLine) (Ok (in_order pair_before (map line_of raw)))) (repeats_fall raw sorted moved up false falls)
 
 pub made_of_kind : (r : Rules) (kind : SheetKind) (raw : List RawLine) (ls : List Line) → sheet_of r kind raw ≡ Ok ls → is_sheet r kind ls ≡ true
 made_of_kind r kind raw ls h = (sheet_of-is r kind raw ls h).0

@@ -1,3 +1,3 @@
 pub mod Kinds
 pub mod Pairs
-pub mod Refused
+pub mod Misfits

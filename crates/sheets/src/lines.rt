@@ -101,13 +101,6 @@ impl Line {
         self.quantity.len() > SHEET_DIGITS || self.amount() > kind.most(rules)
     }
 
-    // Whether both are of one item and one lot.
-    pub(crate) fn is_pair_of(&self, other: &Line) -> bool
-        ensures { result ≡ clerk.same_raw_pair self.now other.now }
-    {
-        self.item == other.item && self.lot == other.lot
-    }
-
     // By item and then lot, each by its bytes.
     pub(crate) fn compare_pair(&self, other: &Line) -> Ordering
         ensures { result ≡ pair_cmp self.now other.now }

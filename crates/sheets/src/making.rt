@@ -4,13 +4,12 @@ ghost use Rattle.std.specs.List.Sorted.{IsSorted};
 ghost use Rattle.profile.specs.declared.rules.Rules.TheVariants.{Two};
 ghost use Rattle.profile.specs.Clerk as clerk;
 ghost use Rattle.profile.specs.Limits as limits;
-ghost use Rattle.profile.specs.Lists as lists;
 ghost use Rattle.profile.specs.Means as meant;
 ghost use Rattle.profile.specs.Register.{line_text};
 ghost use Rattle.profile.specs.Refusals.{Refusal, refusal_number};
 ghost use Rattle.sheets.specs.Kinds.{kind_of};
 ghost use Rattle.sheets.specs.Pairs.{pair_cmp};
-ghost use Rattle.sheets.specs.Refused.{refused};
+ghost use Rattle.sheets.specs.Misfits.{misfit_of};
 
 use crate::kinds::SheetKind;
 use crate::lines::Line;
@@ -43,25 +42,6 @@ impl Model for Sheet {
     ghost invariant = { λ s. clerk.is_sheet Two clerk.RecountSheet (map clerk.line_of s.lines.items) ≡ true };
 }
 
-// Whether one of the others is of the line's pair.
-fn is_among(line: &Line, others: &[Line]) -> bool
-    ensures { result ≡ list_any (clerk.same_raw_pair line.now) others.now }
-{
-    others.iter().any(|other| line.is_pair_of(other))
-}
-
-// Whether two of the lines are of one pair.
-fn has_repeats(lines: &[Line]) -> bool
-    ensures { result ≡ lists.has_repeats clerk.same_raw_pair lines.now }
-{
-    for (index, line) in lines.iter().enumerate() {
-        if is_among(line, &lines[index + 1..]) {
-            return true;
-        }
-    }
-    false
-}
-
 fn has_bad_line(kind: SheetKind, lines: &[Line]) -> bool
     ensures { result ≡ list_any (clerk.is_bad_line (kind_of kind)) lines.now }
 {
@@ -84,9 +64,9 @@ fn most_lines(rules: Rules) -> u16
     }
 }
 
-// The number of the first refusal, each over all lines.
-fn refusal(kind: SheetKind, lines: &[Line], rules: Rules) -> Option<u8>
-    ensures { result ≡ refused rules (kind_of kind) lines.now }
+// The number of the first refusal but for a repeated pair, each over all lines.
+fn misfit(kind: SheetKind, lines: &[Line], rules: Rules) -> Option<u8>
+    ensures { result ≡ misfit_of rules (kind_of kind) lines.now }
 {
     if lines.len() > usize::from(most_lines(rules)) {
         return Some(TOO_MANY_LINES);
@@ -96,9 +76,6 @@ fn refusal(kind: SheetKind, lines: &[Line], rules: Rules) -> Option<u8>
     }
     if has_too_much(kind, lines, rules) {
         return Some(TOO_MUCH);
-    }
-    if has_repeats(lines) {
-        return Some(REPEATED_LINE);
     }
     None
 }
@@ -112,6 +89,13 @@ fn in_order(mut lines: Vec<Line>) -> Vec<Line>
     lines
 }
 
+// Whether each line stands before the next, so that no pair stands twice.
+fn ascends(lines: &[Line]) -> bool
+    ensures { result ≡ clerk.is_ascending (map clerk.line_of lines.now) }
+{
+    lines.is_sorted_by(|line, next| line.compare_pair(next).is_lt())
+}
+
 impl Sheet {
     /// The sheet of these lines under the rules, in order. It takes no memory. The error is the number of the first
     /// refusal that holds: 33 more lines than the rules allow, 99 or 999; 32 an item, a lot or a quantity that can't be
@@ -121,12 +105,14 @@ impl Sheet {
         ensures kind { IfOk result (λ sheet. clerk.is_sheet rules (kind_of kind) sheet ≡ true) }
         ensures err { IfErr result (λ n. (r : Refusal) × (clerk.sheet_of rules (kind_of kind) lines.items ≡ Err r) × (refusal_number r ≡ n)) }
     {
-        match refusal(kind, &lines, rules) {
-            Some(number) => Err(number),
-            None => Ok(Sheet {
-                lines: in_order(lines),
-            }),
+        if let Some(number) = misfit(kind, &lines, rules) {
+            return Err(number);
         }
+        let lines = in_order(lines);
+        if !ascends(&lines) {
+            return Err(REPEATED_LINE);
+        }
+        Ok(Sheet { lines })
     }
 
     /// How many lines it has.

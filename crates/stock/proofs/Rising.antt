@@ -1,7 +1,6 @@
 -- Lines that were sorted and ascend by their pairs are the lines put in order.
-use Rattle.std.proofs.Common.{◌≡◌, ℕ, zero, suc, ◌+◌, ◌<◌, Bool, true, false, ◌&&◌, List, [], ◌∷◌, inl, inr, refl, ap, sym, ◌∙◌, subst, arith, length, get_or, IsPermutation, All}
-use Rattle.std.specs.List.{AllAdjacentBelow, IsAllAdjacentAnswer}
-use Rattle.std.specs.Cmp.Derive.{both_true}
+use Rattle.std.proofs.Common.{◌≡◌, Bool, true, false, List, [], ◌∷◌, inl, inr, refl, ap, sym, ◌∙◌, subst, IsPermutation, All, map-id}
+use Rattle.std.specs.List.{IsAllAdjacentAnswer}
 use Rattle.std.proofs.lemmas.Bool.{both_ways, and_parts}
 use Rattle.std.proofs.lemmas.List.Elements.{All-nil, All-cons, All-head, All-tail, All-weaker}
 use Rattle.std.proofs.lemmas.List.Sorted.{IsPermutation-sym, All-permutation}
@@ -9,6 +8,7 @@ use Rattle.profile.specs.Clerk.{is_ascending}
 use Rattle.profile.specs.Events.{pair_before}
 use Rattle.profile.specs.Lists.{in_order}
 use Rattle.profile.specs.Means.{Line}
+use Rattle.sheets.proofs.Ascending.{ascending_answer as answer_of}
 use Rattle.stock.proofs.Orders.{Has, IsOrder, AreTotal, Rises, in_order_rises, has_in_order, in_order_has, rising_same}
 use Rattle.stock.proofs.Pairs.{before_lot, pair_through, ascending_tail, ascending_skip}
 use Rattle.stock.proofs.Texts.{texts_never}
@@ -61,28 +61,5 @@ rising_in_order ks ls moved h =
 
 -- What a look at each line and the next tells.
 
-all_ascend : (ls : List Line) → AllAdjacentBelow (λ k l. true ≡ pair_before k l) ls (length ls) → is_ascending ls ≡ true
-all_ascend [] h = refl
-all_ascend (k ∷ []) h = refl
-all_ascend (k ∷ l ∷ ls) h =
-    both_true (sym (h 0 k (omega arith)))
-    (all_ascend (l ∷ ls) (λ i d b.
-    let next : suc i + 1 ≡ suc (i + 1) = omega arith in
-    subst (λ n. true ≡ pair_before (get_or (l ∷ ls) i d) (get_or (k ∷ l ∷ ls) n d)) next (h (suc i) d (omega (arith, b)))))
-
-one_falls : (ls : List Line) (i : ℕ) → i + 1 < length ls → ((d : Line) → false ≡ pair_before (get_or ls i d) (get_or ls (i + 1) d)) → is_ascending ls ≡ false
-one_falls [] i b h = absurd (omega arith)
-one_falls (k ∷ []) i b h = absurd (omega arith)
-one_falls (k ∷ l ∷ ls) zero b h = ap (λ t. t && is_ascending (l ∷ ls)) (sym (h k))
-one_falls (k ∷ l ∷ ls) (suc i) b h =
-    let next : suc i + 1 ≡ suc (i + 1) = omega arith in
-    let rest : is_ascending (l ∷ ls) ≡ false = one_falls (l ∷ ls) i (omega (arith, b)) (λ d. subst (λ n. false ≡ pair_before (get_or (l ∷ ls) i d) (get_or (k ∷ l ∷ ls) n d)) next (h d)) in
-    ap (λ t. pair_before k l && t) rest ∙ never (pair_before k l)
-  where
-    never : (t : Bool) → (t && false) ≡ false
-    never true = refl
-    never false = refl
-
 pub ascending_answer : (ls : List Line) (r : Bool) → IsAllAdjacentAnswer (λ k l b. b ≡ pair_before k l) ls r → r ≡ is_ascending ls
-ascending_answer ls true h = sym (all_ascend ls h)
-ascending_answer ls false h = sym (one_falls ls h.0 h.1 h.2)
+ascending_answer ls r h = answer_of (λ l. l) pair_before (λ a b. refl) ls r h ∙ ap is_ascending (map-id ls)
