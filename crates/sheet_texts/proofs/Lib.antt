@@ -1,0 +1,2 @@
+mod RecordLaws
+mod LineLaws

@@ -1,0 +1,50 @@
+-- The line of a record, and what records come to.
+use Rattle.std.proofs.Common.{◌≡◌, ℕ, ◌+◌, ◌≤◌, ◌<◌, Bool, true, false, List, [], ◌∷◌, length, take, Some, Err, refl, ap, sym, ◌∙◌, arith}
+use Rattle.std.specs.Prelude.{nat_lt, is_none}
+use Rattle.std.specs.List.{filter_map, list_any}
+use Rattle.std.proofs.Common.{lt-ltb, ltb-true}
+use Rattle.std.proofs.lemmas.List.{length-take, take_all}
+use Rattle.profile.specs.declared.rules.Rules.{Rules}
+use Rattle.profile.specs.Limits.{most_lines}
+use Rattle.profile.specs.Clerk.{SheetKind, raw_line, sheet_of, sheet_of_records}
+use Rattle.profile.specs.Refusals.{TooManyLines, BadText}
+use Rattle.csv.specs.Records.{field_at}
+use Rattle.sheet_texts.specs.Texts.{field_of}
+
+pub three_fields : (fs : List (List ℕ)) → length fs ≡ 3 → raw_line fs ≡ Some (record { item = field_of fs 0; lot = field_of fs 1; quantity = field_of fs 2 })
+unfolding field_at
+three_fields [] h = absurd (omega (arith, h))
+three_fields (a ∷ []) h = absurd (omega (arith, h))
+three_fields (a ∷ b ∷ []) h = absurd (omega (arith, h))
+three_fields (a ∷ b ∷ c ∷ []) h = refl
+three_fields (a ∷ b ∷ c ∷ d ∷ fs) h = absurd (omega (arith, h))
+
+pub too_many : (r : Rules) (kind : SheetKind) (rows : List (List (List ℕ))) → most_lines r < length (take (most_lines r + 1) rows) → sheet_of_records r kind rows ≡ Err TooManyLines
+too_many r kind rows h =
+    let many : nat_lt (most_lines r) (length rows) ≡ true = lt-ltb (most_lines r) (length rows) (omega (arith, h, length-take (most_lines r + 1) rows)) in
+    rw many refl
+
+-- records of which no more than a sheet may have were read are all
+all_of : (n : ℕ) (rows rs : List (List (List ℕ))) → rs ≡ take (n + 1) rows → length rs ≤ n → rows ≡ rs
+all_of n rows rs h few =
+    let short : length rows ≤ n + 1 = omega (arith, few, ap (λ (zs : List (List (List ℕ))). length zs) h, length-take (n + 1) rows) in
+    sym (h ∙ take_all (n + 1) rows short)
+
+-- whether one of the records hasn't three fields
+abbrev pub is_uneven : List (List (List ℕ)) → Bool
+is_uneven rows = list_any (λ fields. is_none (raw_line fields)) rows
+
+not_many : (n m : ℕ) → m ≤ n → nat_lt n m ≡ false
+not_many n m h = by_test (nat_lt n m) refl
+  where
+    by_test : (t : Bool) → nat_lt n m ≡ t → nat_lt n m ≡ false
+    by_test true e = absurd (omega (arith, h, ltb-true n m e))
+    by_test false e = e
+
+pub uneven : (r : Rules) (kind : SheetKind) (rows rs : List (List (List ℕ))) → rs ≡ take (most_lines r + 1) rows → length rs ≤ most_lines r → is_uneven rs ≡ true → sheet_of_records r kind rows ≡ Err BadText
+uneven r kind rows rs h few bad =
+    ap (sheet_of_records r kind) (all_of (most_lines r) rows rs h few) ∙ rw (not_many (most_lines r) (length rs) few, bad) refl
+
+pub even : (r : Rules) (kind : SheetKind) (rows rs : List (List (List ℕ))) → rs ≡ take (most_lines r + 1) rows → length rs ≤ most_lines r → is_uneven rs ≡ false → sheet_of_records r kind rows ≡ sheet_of r kind (filter_map raw_line rs)
+even r kind rows rs h few good =
+    ap (sheet_of_records r kind) (all_of (most_lines r) rows rs h few) ∙ rw (not_many (most_lines r) (length rs) few, good) refl

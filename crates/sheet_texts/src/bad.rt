@@ -1,0 +1,123 @@
+//! Why a text makes no sheet, and at which line, for people.
+use crate::records::first_records;
+use crate::texts::field;
+use csv::ByteRecord;
+use profile::{MOST_ITEM, MOST_LINES_TWO, MOST_LOT, MOST_QUANTITY_TWO, SHEET_DIGITS};
+use segments::{Ident, all_digits, value_up_to};
+use sheets::SheetKind;
+use std::alloc::{AllocError, Global};
+
+// The numbers of the refusals that a line is the reason of.
+const TOO_MUCH: u8 = 30;
+
+const REPEATED_LINE: u8 = 31;
+
+const BAD_TEXT: u8 = 32;
+
+const TOO_MANY_LINES: u8 = 33;
+
+/// What a sheet is refused for, and at which line of its text.
+#[derive(Clone, Copy)]
+pub struct BadLine {
+    /// The line, from 1.
+    pub line: u64,
+    /// What is wrong there, or what should stand there.
+    pub why: &'static str,
+}
+
+// What of a record can't be read, if something can't.
+fn unread_in(kind: SheetKind, row: &ByteRecord) -> Option<&'static str> {
+    let quantity = field(row, 2);
+    if row.len() != 3 {
+        Some("a line has three fields: item, lot and quantity")
+    } else if Ident::new(field(row, 0), MOST_ITEM).is_none() {
+        Some("an item has 1 to 20 characters of A to Z, 0 to 9, - and .")
+    } else if Ident::new(field(row, 1), MOST_LOT).is_none() {
+        Some("a lot has 1 to 12 characters of A to Z, 0 to 9, - and .")
+    } else if quantity.is_empty() || !all_digits(quantity) {
+        Some("a quantity is digits alone")
+    } else if matches!(kind, SheetKind::Pick) && value_up_to(quantity, 1) == 0 {
+        Some("a picked quantity is 1 at least")
+    } else {
+        None
+    }
+}
+
+// Why a record's quantity is over the limit, if it is.
+fn too_much_in(kind: SheetKind, row: &ByteRecord) -> Option<&'static str> {
+    let text = field(row, 2);
+    let most = u64::from(MOST_QUANTITY_TWO);
+    let is_long = text.len() > SHEET_DIGITS;
+    match kind {
+        SheetKind::Recount if is_long => Some("a quantity is at most 999,999,999"),
+        SheetKind::Recount => None,
+        _ if is_long || value_up_to(text, most + 1) > most => Some("a quantity is at most 999,999"),
+        _ => None,
+    }
+}
+
+// Whether the pair of a record stands in one of those before it.
+fn repeated_in(before: &[ByteRecord], row: &ByteRecord) -> Option<&'static str> {
+    let stands = before.iter().any(|other| field(other, 0) == field(row, 0)
+        && field(other, 1) == field(row, 1));
+    if stands {
+        Some("its item and lot stand in a line before it")
+    } else {
+        None
+    }
+}
+
+// The line of a record. The reader tells where it began to read it, which is before the empty lines that it passes over.
+fn line_of(text: &[u8], row: &ByteRecord) -> u64 {
+    let Some(position) = row.position() else {
+        return 1;
+    };
+    let mut line = position.line();
+    let before = usize::try_from(position.byte()).unwrap_or(0);
+    for b in text.iter().skip(before) {
+        match *b {
+            b'\n' => line = line.saturating_add(1),
+            b'\r' => {}
+            _ => break,
+        }
+    }
+    line
+}
+
+// Why a record is the reason of this refusal, if it is; those before it are known.
+fn bad_in(
+    kind: SheetKind,
+    row: &ByteRecord,
+    before: &[ByteRecord],
+    number: u8,
+) -> Option<&'static str> {
+    match number {
+        BAD_TEXT => unread_in(kind, row),
+        TOO_MUCH => too_much_in(kind, row),
+        REPEATED_LINE => repeated_in(before, row),
+        TOO_MANY_LINES if before.len() == usize::from(MOST_LINES_TWO) => {
+            Some("a sheet has at most 999 lines")
+        }
+        _ => None,
+    }
+}
+
+/// The first line of a sheet's text for which it is refused by this number (30 to 33); None where there is none. The one error is
+/// want of memory.
+pub fn first_bad(
+    alloc: Global,
+    kind: SheetKind,
+    text: &[u8],
+    number: u8,
+) -> Result<Option<BadLine>, AllocError> {
+    let rows = first_records(alloc, text)?;
+    for (at, row) in rows.iter().enumerate() {
+        if let Some(why) = bad_in(kind, row, &rows[..at], number) {
+            return Ok(Some(BadLine {
+                line: line_of(text, row),
+                why,
+            }));
+        }
+    }
+    Ok(None)
+}

@@ -1,0 +1,9 @@
+//! Sheets as texts of CSV: their records, the sheet that these make, and where a text that makes none is wrong.
+#![tactic(auto)]
+
+mod bad;
+mod records;
+mod texts;
+
+pub use bad::{BadLine, first_bad};
+pub use texts::sheet;
