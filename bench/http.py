@@ -11,11 +11,13 @@ other: the stock report of a depositor, and an interchange that was accepted bef
 the report's bytes in the same way. Printed are requests a second, and the median and the 99th percentile of the time from the
 connection to its end. Then a peer is reset in the middle of its request, which is told as fault 44, and the server goes on; peers that send a body
 which nobody reads get their refusal all the same; and among 200 good peers 50 say nothing and 50 send a byte now and then: each of these is told as
-fault 44 after the patience of a second, and every good one is answered. The status is 1 where something differs.
+fault 44 after the patience of a second, and every good one is answered. A server whose book is removed, moved away or replaced by another file ends with
+fault 44 at the next connection, which it doesn't answer. The status is 1 where something differs.
 """
 import os
 import random
 import re
+import shutil
 import socket
 import struct
 import subprocess
@@ -213,6 +215,49 @@ def is_told_why(program, book):
     return good
 
 
+def unanswered(host, port):
+    """What a peer gets that hands in an interchange: nothing, where it isn't admitted."""
+    with socket.create_connection((host, port), 5) as peer:
+        body = advice(7).encode()
+        try:
+            peer.sendall(b"POST /x12 HTTP/1.1\r\nContent-Length: %d\r\n\r\n" % len(body) + body)
+            return peer.recv(4096)
+        except ConnectionResetError:
+            return b""
+
+
+def ends_when_replaced(program, book):
+    """Whether a server whose book is removed, moved away or replaced by a backup ends with 44 and answers nothing more."""
+    good = True
+    for name, change in {
+        "removed": lambda file, other: os.remove(file),
+        "moved away": lambda file, other: os.rename(file, file + ".aside"),
+        "replaced": lambda file, other: os.replace(other, file),
+        "its folder renamed": lambda file, other: os.rename(os.path.dirname(file), os.path.dirname(file) + ".aside"),
+    }.items():
+        with tempfile.TemporaryDirectory() as top:
+            folder = os.path.join(top, "house")
+            os.mkdir(folder)
+            file, other = os.path.join(folder, "book"), os.path.join(top, "backup")
+            for to in (file, other):
+                shutil.copyfile(book[1], to)
+            address = f"127.0.0.1:{free_port()}"
+            host, port = address.split(":")
+            words = [program, "serve", "--book", file, "--listen", address, "--count", "9", "--explain"]
+            with subprocess.Popen(words, stdout=subprocess.PIPE, stderr=subprocess.PIPE, text=True) as server:
+                wait_for(address)
+                change(file, other)
+                got = unanswered(host, int(port))
+                out, err = server.communicate(timeout=20)
+            wanted = f"fault 44 Device\n{file} was removed or replaced while it was served: look for what was answered since, then serve it again\n"
+            if (got, out, server.returncode) != (b"", "400\n", 3) or not err.endswith(wanted):
+                print(f"a book that is {name}: {got!r} {out!r} {err!r} {server.returncode}")
+                good = False
+    if good:
+        print("a server whose book is removed, moved or replaced ends with 44, and answers nothing more")
+    return good
+
+
 def silent(host, port):
     """A peer that says nothing until the server ends the connection."""
     with socket.create_connection((host, port), 600) as stream:
@@ -304,6 +349,7 @@ def main():
         good = tells_a_reset(program, book) and good
         good = is_told_why(program, book) and good
         good = outlasts_the_idle(program, book) and good
+        good = ends_when_replaced(program, book) and good
         sys.exit(0 if good else 1)
 
 

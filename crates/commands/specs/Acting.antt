@@ -32,6 +32,6 @@ abbrev pub IsPerformed : Standing → Standing → Ready → Moment → Option (
 IsPerformed old new (ready.Enrol who) t before behind ending = IsAnswered old new (Enrol who) t before behind ending
 IsPerformed old new (ready.Roster partners) t before behind ending = IsEnrolling old new partners.items t before behind ending
 IsPerformed old new (ready.Send bytes) t before behind ending = IsAnswered old new (Interchange bytes.items) t before behind ending
-IsPerformed old new (ready.Take dir) t before behind ending = IsTaking old new t ending
+IsPerformed old new (ready.Take dir) t before behind ending = IsTaking old new t before behind ending
 IsPerformed old new (ready.Clerk slip) t before behind ending =
     IsAnswered old new (command_of slip.who slip.told slip.sheet) t before behind ending

@@ -1,5 +1,7 @@
 -- What a clerk did, as the words of a line and a sheet tell it.
-use Rattle.std.specs.Prelude.{◌≡◌, ℕ, Bool, true, List}
+use Rattle.std.specs.Prelude.{◌≡◌, ◌==◌, ◌∷◌, [], ℕ, Bool, true, List}
+use Rattle.profile.specs.Lists.{first_of}
+use Rattle.profile.specs.Refusals.{Refusal, TooMuch, RepeatedLine, BadText, TooManyLines}
 use Rattle.profile.specs.Bytes.{is_identifier}
 use Rattle.profile.specs.Limits.{most_ticket, most_number}
 use Rattle.profile.specs.Clerk.{SheetKind, CountSheet, PickSheet, RecountSheet}
@@ -20,6 +22,14 @@ abbrev pub kind_of : Deed → SheetKind
 kind_of deed.Count = CountSheet
 kind_of deed.Pick = PickSheet
 kind_of deed.Recount = RecountSheet
+
+-- the refusal of a sheet that has this number
+abbrev pub sheet_refusal : ℕ → Refusal
+sheet_refusal n = first_of BadText
+    ((n == 30, TooMuch)
+    ∷ (n == 31, RepeatedLine)
+    ∷ (n == 33, TooManyLines)
+    ∷ [])
 
 abbrev pub command_of : Who → ClerkWords → List Line → Command
 command_of who t sheet = Clerk who t.ticket.now (act_of t.deed t.number.now sheet)

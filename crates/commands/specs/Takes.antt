@@ -1,8 +1,11 @@
--- The status of a folder that was taken.
-use Rattle.std.specs.Prelude.{◌≡◌, ◌⊎◌, ℕ, Bool, true, false, List, Result, Ok, Err, if◌then◌else◌}
+-- What is printed of a folder that was taken, and the status that it gives.
+use Rattle.std.specs.Prelude.{◌≡◌, ◌⊎◌, ℕ, Bool, true, false, List, Option, Result, Ok, Err, if◌then◌else◌, map, flat_map, string_bytes}
+use Rattle.std.specs.Io.KnownBytes.{Appends}
 use Rattle.std.specs.List.{list_any}
 use Rattle.profile.specs.Moments.{Moment}
-use Rattle.folders.specs.Folders.{Became, WasRefused, AreTaken, IsStopped}
+use Rattle.folders.specs.Folders.{Became, WasRefused, AreTaken, IsStopped, became_of}
+use Rattle.folders.specs.Lines.{taken_line}
+use Rattle.folders.specs.declared.folder.Taken.{Taken}
 use Rattle.store.specs.Standing.{Standing}
 use Rattle.commands.specs.declared.told.CommandError.{CommandError}
 use Rattle.commands.specs.declared.told.ExitStatus.{ExitStatus}
@@ -17,12 +20,19 @@ was_refused other = false
 abbrev pub status_of : List Became → ExitStatus
 status_of told = if list_any was_refused told then Refused else Done
 
--- the interchanges of these texts were taken, and this is the status
-pub record IsTaken (old new : Standing) (t : Moment) (status : ExitStatus) : Type 0 where
+abbrev pub became_in : Taken → Became
+became_in file = became_of file.outcome
+
+abbrev pub line_in : Taken → List ℕ
+line_in file = taken_line (string_bytes file.name) (became_in file)
+
+-- the interchanges of these texts were taken: what became of each is printed, and this is the status
+pub record IsTaken (old new : Standing) (t : Moment) (before behind : Option (List ℕ)) (status : ExitStatus) : Type 0 where
   pub texts : List (List ℕ)
-  pub told : List Became
-  pub taken : AreTaken old new t texts told
-  pub says : status ≡ status_of told
+  pub files : List Taken
+  pub taken : AreTaken old new t texts (map became_in files)
+  pub printed : Appends before behind (flat_map line_in files)
+  pub says : status ≡ status_of (map became_in files)
 
 -- they were taken, and couldn't be told
 pub record IsUntold (old new : Standing) (t : Moment) (stop : CommandError) : Type 0 where
@@ -36,6 +46,6 @@ abbrev pub IsHalted : Standing → Standing → Moment → CommandError → Type
 IsHalted old new t stop = IsFaultThat stop (λ fault. IsStopped fault old new t) ⊎ IsUntold old new t stop
 
 -- how taking a folder ended
-abbrev pub IsTaking : Standing → Standing → Moment → Result ExitStatus CommandError → Type 0
-IsTaking old new t (Ok status) = IsTaken old new t status
-IsTaking old new t (Err stop) = IsHalted old new t stop
+abbrev pub IsTaking : Standing → Standing → Moment → Option (List ℕ) → Option (List ℕ) → Result ExitStatus CommandError → Type 0
+IsTaking old new t before behind (Ok status) = IsTaken old new t before behind status
+IsTaking old new t before behind (Err stop) = IsHalted old new t stop

@@ -24,7 +24,7 @@ IsJobFor (task.Act a at) (job.Change ready moment) = IsMadeReady a ready × IfSo
 IsJobFor (task.Show s) (job.Look asked) = IsAskedFor s asked
 IsJobFor (task.Batch file) (job.Play text) = Unit {0}
 IsJobFor task.Verify job.Check = Unit {0}
-IsJobFor (task.Serve s at) (job.Listen service first has_clock) =
+IsJobFor (task.Serve s at) (job.Listen service first has_clock file) =
     (service ≡ s) × IfSome at (λ t. first ≡ t) × (has_clock ≡ says_none at)
 IsJobFor t j = ⊥
 

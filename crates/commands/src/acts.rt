@@ -16,6 +16,7 @@ use crate::rosters::{enrol_all, read_roster};
 use crate::slips::{Slip, clerk, slip_of};
 use crate::takes::take;
 use crate::told::{CommandError, ExitStatus, tell_refusal, tell_text};
+use crate::verbosity::Verbosity;
 use crate::words::BookAct;
 use intake::read_interchange;
 use std::alloc::Global;
@@ -177,12 +178,14 @@ fn tell_slip<K: Keeper, W: io::Write, E: io::Write>(
     hand_in(alloc, book, &clerk(slip), moment, out, err)
 }
 
-/// Does to a book what was made ready, prints what comes of it, and tells a refusal on standard error.
+/// Does to a book what was made ready, prints what comes of it, and tells a refusal on standard error, and as much more as is asked
+/// for.
 pub fn perform<R: Files + AllocGlobal + Clone + Drop, K: Keeper, W: io::Write, E: io::Write>(
     rt: &R,
     book: &mut K,
     ready: &Ready<'_>,
     moment: Moment,
+    verbosity: Verbosity,
     out: &mut W,
     err: &mut E,
 ) -> Result<ExitStatus, CommandError>
@@ -195,7 +198,7 @@ pub fn perform<R: Files + AllocGlobal + Clone + Drop, K: Keeper, W: io::Write, E
         Ready::Enrol(who) => enrol(alloc, book, *who, moment, out, err),
         Ready::Roster(partners) => enrol_all(alloc, book, partners, moment, out),
         Ready::Send(bytes) => send(alloc, book, bytes, moment, out, err),
-        Ready::Take(dir) => take(rt, book, *dir, moment, out),
+        Ready::Take(dir) => take(rt, book, *dir, moment, verbosity, out, err),
         Ready::Clerk(slip) => tell_slip(alloc, book, slip, moment, out, err),
     }
 }

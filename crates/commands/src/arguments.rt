@@ -35,12 +35,7 @@ pub(crate) fn option<'a>(alloc: Global, id: &'a str, name: &'a str, help: &'a st
 pub(crate) fn wanted<'a>(alloc: Global, id: &'a str, name: &'a str, help: &'a str) -> Arg<'a>
     ensures { IsRule (meant.wanted_rule id.now) result }
 {
-    Arg::new(alloc, id)
-        .long(id)
-        .value_name(name)
-        .help(help)
-        .required(true)
-        .action(ArgAction::Set)
+    option(alloc, id, name, help).required(true)
 }
 
 /// An option without a value.

@@ -2,16 +2,24 @@
 ghost use Rattle.std.specs.Prelude.{◌≡◌, Some};
 ghost use Rattle.commands.specs.Stops.{fault_in, IsDeviceFault};
 
-use crate::bad_sheets::first_bad;
 use crate::files::{MOST_SHEET, read_within};
+use crate::slips::sheet_kind;
 use crate::told::CommandError;
 use crate::words::{BookAct, ClerkWords, Deed, Show, Task};
+use intake::FolderStop;
+use itoa::Buffer;
 use profile::{MOST_NUMBER, MOST_TICKET};
+use sheet_texts::first_bad;
 use std::alloc::{AllocError, Global};
 use std::io;
 use std::net::SocketAddr;
 use std::rt::Files;
 use store::{Fault, Ident, Refusal, Who};
+
+// A name, and what is said of it.
+fn named(alloc: Global, name: &str, said: &str) -> Result<String, AllocError> {
+    [name, said].concat(alloc)
+}
 
 // A fault with its cause; without memory for the text it is the fault alone.
 fn caused(fault: Fault, cause: Result<String, AllocError>) -> CommandError
@@ -23,14 +31,21 @@ fn caused(fault: Fault, cause: Result<String, AllocError>) -> CommandError
     }
 }
 
-// What is wrong with a name where something was looked for.
+// A fault with what is said of the thing with this name.
+fn caused_of(alloc: Global, fault: Fault, name: &str, said: &str) -> CommandError
+    ensures { fault_in result ≡ Some fault }
+{
+    caused(fault, named(alloc, name, said))
+}
+
+// What is wrong with a name where something was looked for, to stand after the name.
 fn reason_of(kind: io::ErrorKind) -> &'static str {
     match kind {
-        io::ErrorKind::NotFound => "no such file",
-        io::ErrorKind::PermissionDenied => "no right to it",
-        io::ErrorKind::IsADirectory => "it is a folder",
-        io::ErrorKind::NotADirectory => "a part of its path is no folder",
-        _ => "it can't be read",
+        io::ErrorKind::NotFound => ": no such file",
+        io::ErrorKind::PermissionDenied => ": no right to it",
+        io::ErrorKind::IsADirectory => ": it is a folder",
+        io::ErrorKind::NotADirectory => ": a part of its path is no folder",
+        _ => ": it can't be read",
     }
 }
 
@@ -42,8 +57,7 @@ pub fn about_file(alloc: Global, file: &str, error: &io::Error) -> CommandError
     if kind == io::ErrorKind::OutOfMemory {
         return CommandError::Fault(Fault::OutOfMemory);
     }
-    let reason = reason_of(kind);
-    caused(Fault::Device, format!(in alloc; "{file}: {reason}"))
+    caused_of(alloc, Fault::Device, file, reason_of(kind))
 }
 
 /// The fault of a book that isn't there, with the command that makes one.
@@ -55,7 +69,13 @@ pub fn about_missing(alloc: Global, book: &str, error: &io::Error) -> CommandErr
     }
     caused(
         Fault::Device,
-        format!(in alloc; "{book}: no such file; `whx12 init WHO --book {book}` makes a book"),
+        [
+            book,
+            ": no such file; `whx12 init WHO --book ",
+            book,
+            "` makes a book",
+        ]
+        .concat(alloc),
     )
 }
 
@@ -63,11 +83,23 @@ pub fn about_missing(alloc: Global, book: &str, error: &io::Error) -> CommandErr
 pub fn about_use(alloc: Global, book: &str) -> CommandError
     ensures { fault_in result ≡ Some Fault.Device }
 {
-    caused(
+    caused_of(
+        alloc,
         Fault::Device,
-        format!(in alloc;
-            "{book} is in use: is a server running? Stop it first, or wait longer by --wait SECONDS"
-        ),
+        book,
+        " is in use: is a server running? Stop it first, or wait longer by --wait SECONDS",
+    )
+}
+
+/// The fault of a book that was replaced while it was served.
+pub fn about_replaced(alloc: Global, book: &str) -> CommandError
+    ensures { fault_in result ≡ Some Fault.Device }
+{
+    caused_of(
+        alloc,
+        Fault::Device,
+        book,
+        " was removed or replaced while it was served: look for what was answered since, then serve it again",
     )
 }
 
@@ -78,12 +110,26 @@ pub fn about_opening(alloc: Global, book: &str, fault: Fault) -> CommandError
     if fault != Fault::Device {
         return CommandError::Fault(fault);
     }
-    caused(
+    caused_of(
+        alloc,
         fault,
-        format!(in alloc;
-            "{book} can't be opened: look at its rights, those of its folder, and whether it has a second name (a hard link)"
-        ),
+        book,
+        " can't be opened: look at its rights, those of its folder, and whether it has a second name (a hard link)",
     )
+}
+
+// What a fault says of a book, after its name, if it says something.
+fn said_of_book(fault: Fault, is_made: bool) -> Option<&'static str> {
+    match fault {
+        Fault::NotThisBook if is_made => Some(" has a book already"),
+        Fault::NotThisBook => {
+            Some(" is no book of this program, or is damaged: see docs/OPERATIONS.md on backups")
+        }
+        Fault::Store => {
+            Some(": the database refused a statement; is it a book, and its disk full or failing?")
+        }
+        _ => None,
+    }
 }
 
 /// What happened to a book in a file at a fault, as far as its number says it.
@@ -93,24 +139,9 @@ pub fn about_book(alloc: Global, book: &str, is_made: bool, stop: CommandError) 
     let CommandError::Fault(fault) = stop else {
         return stop;
     };
-    match fault {
-        Fault::NotThisBook if is_made => caused(
-            fault,
-            format!(in alloc; "{book} has a book already"),
-        ),
-        Fault::NotThisBook => caused(
-            fault,
-            format!(in alloc;
-                "{book} is no book of this program, or is damaged: see docs/OPERATIONS.md on backups"
-            ),
-        ),
-        Fault::Store => caused(
-            fault,
-            format!(in alloc;
-                "{book}: the database refused a statement; is it a book, and its disk full or failing?"
-            ),
-        ),
-        _ => CommandError::Fault(fault),
+    match said_of_book(fault, is_made) {
+        Some(said) => caused_of(alloc, fault, book, said),
+        None => CommandError::Fault(fault),
     }
 }
 
@@ -121,34 +152,69 @@ pub fn about_address(alloc: Global, address: &SocketAddr, error: io::Error) -> C
     let CommandError::Fault(fault) = CommandError::from(error) else {
         return CommandError::Fault(Fault::Device);
     };
-    caused(
-        fault,
-        format!(in alloc; "{address} can't be listened at: is a server running there?"),
-    )
-}
-
-/// The fault of a folder whose files can't all be taken.
-pub fn about_folder(alloc: Global, dir: &str, stop: CommandError) -> CommandError
-    ensures { fault_in result ≡ fault_in stop }
-{
-    match stop {
-        CommandError::Fault(Fault::Device) => caused(
-            Fault::Device,
-            format!(in alloc;
-                "{dir}: it, a file in it or an answer can't be read or written; taking it again goes on where this stopped"
-            ),
+    match address.to_string(alloc) {
+        Ok(address) => caused_of(
+            alloc,
+            fault,
+            &address,
+            " can't be listened at: is a server running there?",
         ),
-        other => other,
+        Err(_) => CommandError::Fault(fault),
     }
 }
 
-// What a name, a ticket and a number may be.
+// What is said of the file at which the taking of a folder stopped, before the count of the files that were taken before it.
+fn said_of_file(fault: Fault) -> &'static str {
+    match fault {
+        Fault::Device =>
+            ": it can't be read, or its answer can't be written; files taken before it: ",
+        _ => ": the taking stopped here; files taken before it: ",
+    }
+}
+
+// What is said of a thing, and a count after it.
+fn counted(alloc: Global, name: &str, said: &str, count: u64) -> Result<String, AllocError> {
+    let mut number = Buffer::new();
+    [name, said, number.format(count)].concat(alloc)
+}
+
+// What is said of a file in a folder, and the count of the files before it.
+fn at_file(
+    alloc: Global,
+    dir: &str,
+    name: &str,
+    said: &str,
+    taken: u64,
+) -> Result<String, AllocError> {
+    let path = [dir, "/", name].concat(alloc)?;
+    counted(alloc, &path, said, taken)
+}
+
+/// The fault at which the taking of a folder stopped, with the file and how many were taken before it; of a folder that can't be
+/// read, with its name.
+pub fn about_stop(alloc: Global, dir: &str, stop: &FolderStop) -> CommandError
+    ensures { fault_in result ≡ Some stop.now.fault }
+{
+    let fault = stop.fault;
+    match &stop.at {
+        Some(name) => {
+            let said = said_of_file(fault);
+            caused(fault, at_file(alloc, dir, name, said, stop.taken))
+        }
+        None if fault == Fault::Device => {
+            caused_of(alloc, fault, dir, ": it is no folder that can be read")
+        }
+        None => CommandError::Fault(fault),
+    }
+}
+
+// What a name, a ticket and a number may be, to stand after one that isn't.
 const PARTNER: &str =
-    "a name is a qualifier of two characters, a hyphen and an id of 2 to 15, as ZZ-ACME, of A to Z, 0 to 9, - and .";
+    ": a name is a qualifier of two characters, a hyphen and an id of 2 to 15, as ZZ-ACME, of A to Z, 0 to 9, - and .";
 
-const TICKET: &str = "a ticket has 1 to 20 characters of A to Z, 0 to 9, - and .";
+const TICKET: &str = ": a ticket has 1 to 20 characters of A to Z, 0 to 9, - and .";
 
-const NUMBER: &str = "a number has 1 to 22 characters of A to Z, 0 to 9, - and .";
+const NUMBER: &str = ": a number has 1 to 22 characters of A to Z, 0 to 9, - and .";
 
 // A word that can't be read, and what it may be.
 #[derive(Clone, Copy)]
@@ -208,6 +274,12 @@ fn bad_word<'a>(task: &Task<'a>) -> Option<BadWord<'a>> {
     }
 }
 
+// What is wrong at a line of a file.
+fn at_line(alloc: Global, file: &str, line: u64, why: &str) -> Result<String, AllocError> {
+    let mut number = Buffer::new();
+    [file, " line ", number.format(line), ": ", why].concat(alloc)
+}
+
 // Why the sheet in a file is refused.
 fn about_sheet<R: Files + AllocGlobal>(
     rt: &R,
@@ -216,13 +288,10 @@ fn about_sheet<R: Files + AllocGlobal>(
 ) -> Result<Option<String>, CommandError> {
     let (alloc, file) = (rt.alloc(), told.sheet);
     let Some(text) = read_within(rt, file, MOST_SHEET)? else {
-        return Ok(Some(format!(in alloc; "{file} has more than 1,048,576 bytes")?));
+        return Ok(Some(named(alloc, file, " has more than 1,048,576 bytes")?));
     };
-    match first_bad(alloc, told.deed, &text, refusal)? {
-        Some(bad) => {
-            let (line, why) = (bad.line, bad.why);
-            Ok(Some(format!(in alloc; "{file} line {line}: {why}")?))
-        }
+    match first_bad(alloc, sheet_kind(told.deed), &text, refusal.number())? {
+        Some(bad) => Ok(Some(at_line(alloc, file, bad.line, bad.why)?)),
         None => Ok(None),
     }
 }
@@ -234,8 +303,7 @@ pub fn about_line<R: Files + AllocGlobal>(
     refusal: Refusal,
 ) -> Result<Option<String>, CommandError> {
     if let Some(bad) = bad_word(task) {
-        let (word, wanted) = (bad.word, bad.wanted);
-        return Ok(Some(format!(in rt.alloc(); "{word}: {wanted}")?));
+        return Ok(Some(named(rt.alloc(), bad.word, bad.wanted)?));
     }
     match task {
         Task::Act {
@@ -245,8 +313,10 @@ pub fn about_line<R: Files + AllocGlobal>(
         Task::Act {
             act: BookAct::Roster { file },
             ..
-        } => Ok(Some(format!(in rt.alloc();
-            "{file}: a list is TOML with the key `depositors`, an array of names as \"ZZ-ACME\""
+        } => Ok(Some(named(
+            rt.alloc(),
+            *file,
+            ": a list is TOML with the key `depositors`, an array of names as \"ZZ-ACME\"",
         )?)),
         _ => Ok(None),
     }

@@ -1,12 +1,12 @@
 //! Moments as the words of a line write them, and the clock's.
-ghost use Rattle.std.specs.Prelude.{◌≡◌, Ok, IfSome};
+ghost use Rattle.std.specs.Prelude.{◌≡◌, ◌≤◌, ◌+◌, Ok, IfSome, length, true};
+ghost use Rattle.profile.specs.Bytes.{value};
 ghost use Rattle.commands.specs.Written as written;
 
-use crate::numbers::pair;
 use crate::told::{CommandError, usage};
 use jiff::Timestamp;
 use jiff::tz::Offset;
-use segments::all_digits;
+use segments::{all_digits, number};
 use std::rt::Clock;
 use std::time::SystemTime;
 use store::Moment;
@@ -28,6 +28,15 @@ fn is_form(text: &[u8]) -> bool
         && all_digits(&text[14..16])
 }
 
+// The value of the two digits that begin at a place.
+fn pair_at(text: &[u8], at: usize) -> u8
+    requires within { at + 2 ≤ length text.now }
+    requires digits { written.has_pair at text.now ≡ true }
+    ensures { result ≡ value (written.pair_at at text.now) }
+{
+    number(&text[at..at + 2]) as u8
+}
+
 /// The moment that is written as 2025-03-04T09:15; None where the text is another.
 pub fn moment_of(text: &[u8]) -> Option<Moment>
     ensures { result ≡ written.moment_of text.now }
@@ -35,13 +44,13 @@ pub fn moment_of(text: &[u8]) -> Option<Moment>
     if !is_form(text) {
         return None;
     }
-    let year = u16::from(pair(&text[0..2])) * 100 + u16::from(pair(&text[2..4]));
+    let year = u16::from(pair_at(text, 0)) * 100 + u16::from(pair_at(text, 2));
     Moment::new(
         year,
-        pair(&text[5..7]),
-        pair(&text[8..10]),
-        pair(&text[11..13]),
-        pair(&text[14..16]),
+        pair_at(text, 5),
+        pair_at(text, 8),
+        pair_at(text, 11),
+        pair_at(text, 14),
     )
 }
 

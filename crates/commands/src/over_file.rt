@@ -9,21 +9,20 @@ ghost use Rattle.commands.specs.Working.{IsChecked, IsJobDone, IsJobFor, IsWork}
 
 use crate::acts::{Ready, perform, ready_at};
 use crate::book_files::{close, disconnect, fault, is_in_use, make, open, open_anew};
-use crate::causes::{
-    about_book, about_folder, about_line, about_missing, about_opening, about_use,
-};
+use crate::causes::{about_book, about_line, about_missing, about_opening, about_use};
 use crate::clock::moment_for;
 use crate::reasons::tell_reason;
 use crate::script::{play_over, read_lines};
+use crate::served_files::ServedFile;
 use crate::serving::serve;
 use crate::shows::{Asked, ask, show};
 use crate::told::{CommandError, ExitStatus, tell_refusal};
+use crate::verbosity::Verbosity;
 use crate::words::{Service, Task};
 use books::Book;
 use sqlite::{Alter, Connection, FileStore};
 use sqlite_disk::Disk;
 use std::alloc::Global;
-use std::io::IsTerminal;
 use std::rt::{Clock, Files};
 use std::time::Duration;
 use std::{fs, io, thread};
@@ -40,8 +39,8 @@ enum Job<'a> {
     Look(Asked<'a>),
     // do what the lines of a text ask for
     Play(String),
-    // serve it over HTTP, from a first moment on, and by the clock or not
-    Listen(Service, Moment, bool),
+    // serve it over HTTP, from a first moment on, and by the clock or not, while its name leads to this file
+    Listen(Service, Moment, bool, ServedFile<'a>),
     // compare every table with what the register gives
     Check,
 }
@@ -51,7 +50,7 @@ fn work<K: Keeper, W: io::Write, E: io::Write>(
     rt: &HostRuntime,
     book: &mut K,
     job: &Job<'_>,
-    explains: bool,
+    verbosity: Verbosity,
     out: &mut W,
     err: &mut E,
 ) -> Result<ExitStatus, CommandError>
@@ -60,11 +59,11 @@ fn work<K: Keeper, W: io::Write, E: io::Write>(
 {
     match job {
         Job::Make(_) | Job::Check => Ok(ExitStatus::Done),
-        Job::Change(ready, moment) => perform(rt, book, ready, *moment, out, err),
+        Job::Change(ready, moment) => perform(rt, book, ready, *moment, verbosity, out, err),
         Job::Look(asked) => show(rt.alloc(), book, asked, out, err),
         Job::Play(text) => play_over(rt, book, text, out, err),
-        Job::Listen(service, first, has_clock) => serve(
-            rt, book, service, *first, *has_clock, explains, out, err,
+        Job::Listen(service, first, has_clock, file) => serve(
+            rt, book, file, service, *first, *has_clock, verbosity, out, err,
         ),
     }
 }
@@ -84,50 +83,39 @@ fn begin<S: Alter + Drop>(
     }
 }
 
-// After how many entries somebody who watches a check is told how far it is.
-const STRIDE: u64 = 1_000;
-
-// Says how far a check is, over what was said before. What can't be said is left out: it is no part of the answer.
-fn watch<E: io::Write>(err: &mut E, done: u64, all: u64) {
-    if done == all {
-        let _ = write!(err, "\r{done} of {all} entries\n");
-    } else if done % STRIDE == 0 {
-        let _ = write!(err, "\r{done} of {all} entries");
-    }
-}
-
-// Checks a book whole, and says on a terminal how far it is until then.
+// Checks a book whole, and says to somebody who watches how far it is until then.
 fn watched<S: Alter + Drop, E: io::Write>(
-    rt: &HostRuntime,
     book: &mut Book<S>,
+    verbosity: Verbosity,
     err: &mut E,
 ) -> Result<u64, Fault>
     ensures whole { (standing_of S.Store book.new).doubt ≡ 0 → (L : List Entry)
         → (standing_of S.Store book.old).keeps L → IfOk result (λ n. n ≡ length L) }
     ensures same { IsUnchanged (standing_of S.Store book.old) (standing_of S.Store book.new) }
 {
-    if !rt.stderr().is_terminal() {
+    if !verbosity.watches {
         return book.verify();
     }
-    let found = book.verify_telling(|done, all| watch(err, done, all));
+    let found = book.verify_telling(|done, all| {
+        verbosity.tell_progress(err, done, all, "entries");
+    });
     if found.is_err() {
-        // A fault is told on a line of its own.
-        let _ = write!(err, "\n");
+        verbosity.end_progress(err);
     }
     found
 }
 
 // Says how many entries a book has whose tables are what its register gives.
 fn check<S: Alter + Drop, W: io::Write, E: io::Write>(
-    rt: &HostRuntime,
     book: &mut Book<S>,
+    verbosity: Verbosity,
     out: &mut W,
     err: &mut E,
 ) -> Result<ExitStatus, CommandError>
     ensures checked { IsChecked (standing_of S.Store book.old) (standing_of S.Store book.new)
         (W.contents out.old) (W.contents out.new) result }
 {
-    let entries = watched(rt, book, err)?;
+    let entries = watched(book, verbosity, err)?;
     write!(out, "ok {entries}\n")?;
     Ok(ExitStatus::Done)
 }
@@ -137,7 +125,7 @@ fn done<S: Alter + Drop, W: io::Write, E: io::Write>(
     rt: &HostRuntime,
     book: &mut Book<S>,
     job: &Job<'_>,
-    explains: bool,
+    verbosity: Verbosity,
     out: &mut W,
     err: &mut E,
 ) -> Result<ExitStatus, CommandError>
@@ -145,8 +133,8 @@ fn done<S: Alter + Drop, W: io::Write, E: io::Write>(
         (W.contents out.old) (W.contents out.new) result }
 {
     match job {
-        Job::Check => check(rt, book, out, err),
-        _ => work(rt, book, job, explains, out, err),
+        Job::Check => check(book, verbosity, out, err),
+        _ => work(rt, book, job, verbosity, out, err),
     }
 }
 
@@ -163,15 +151,15 @@ fn work_over<S: Alter + Drop, W: io::Write, E: io::Write>(
     rt: &HostRuntime,
     database: Connection<S>,
     job: &Job<'_>,
-    explains: bool,
+    verbosity: Verbosity,
     out: &mut W,
     err: &mut E,
 ) -> Result<(ExitStatus, Connection<S>), CommandError>
     requires { database.in_transaction ≡ false }
 {
     let mut book = begin(rt.alloc(), database, job)?;
-    let status = done(rt, &mut book, job, explains, out, err)?;
-    if explains && status == ExitStatus::Refused {
+    let status = done(rt, &mut book, job, verbosity, out, err)?;
+    if verbosity.explains && status == ExitStatus::Refused {
         explain(rt.alloc(), &mut book, job, err);
     }
     Ok((status, close(book)))
@@ -182,13 +170,13 @@ fn over_disk<D: Disk + Drop, W: io::Write, E: io::Write>(
     rt: &HostRuntime,
     database: Connection<FileStore<D>>,
     job: &Job<'_>,
-    explains: bool,
+    verbosity: Verbosity,
     out: &mut W,
     err: &mut E,
 ) -> Result<ExitStatus, CommandError>
     requires { database.in_transaction ≡ false }
 {
-    let (status, database) = work_over(rt, database, job, explains, out, err)?;
+    let (status, database) = work_over(rt, database, job, verbosity, out, err)?;
     disconnect(database)?;
     Ok(status)
 }
@@ -216,7 +204,7 @@ fn over<W: io::Write, E: io::Write>(
     file: &str,
     looks: u32,
     job: &Job<'_>,
-    explains: bool,
+    verbosity: Verbosity,
     out: &mut W,
     err: &mut E,
 ) -> Result<ExitStatus, CommandError> {
@@ -225,7 +213,7 @@ fn over<W: io::Write, E: io::Write>(
             thread::sleep(rt, Duration::from_millis(1_000 / u64::from(LOOKS_A_SECOND)));
         }
         match Connection::open(rt, file) {
-            Ok(database) => return over_disk(rt, database, job, explains, out, err),
+            Ok(database) => return over_disk(rt, database, job, verbosity, out, err),
             Err(error) if !is_in_use(&error) => {
                 return Err(about_opening(rt.alloc(), file, fault(&error)));
             }
@@ -241,9 +229,6 @@ fn about_job(alloc: Global, file: &str, job: &Job<'_>, stop: CommandError) -> Co
 {
     match job {
         Job::Make(_) => about_book(alloc, file, true, stop),
-        Job::Change(Ready::Take(dir), _) => {
-            about_book(alloc, file, false, about_folder(alloc, *dir, stop))
-        }
         _ => about_book(alloc, file, false, stop),
     }
 }
@@ -255,7 +240,7 @@ fn over_found<W: io::Write, E: io::Write>(
     file: &str,
     wait: Option<u16>,
     job: &Job<'_>,
-    explains: bool,
+    verbosity: Verbosity,
     out: &mut W,
     err: &mut E,
 ) -> Result<ExitStatus, CommandError> {
@@ -265,15 +250,27 @@ fn over_found<W: io::Write, E: io::Write>(
             return Err(about_missing(rt.alloc(), file, &error));
         }
     }
-    match over(rt, file, looks_of(wait), job, explains, out, err) {
+    match over(rt, file, looks_of(wait), job, verbosity, out, err) {
         Ok(status) => Ok(status),
         Err(stop) => Err(about_job(rt.alloc(), file, job, stop)),
+    }
+}
+
+// The file that is to be served. It is looked at before it is opened: so one that is replaced in between is noticed too.
+fn found<'a, R: Files + AllocGlobal>(
+    rt: &R,
+    file: &'a str,
+) -> Result<ServedFile<'a>, CommandError> {
+    match ServedFile::look(rt, file) {
+        Ok(served) => Ok(served),
+        Err(error) => Err(about_missing(rt.alloc(), file, &error)),
     }
 }
 
 // What a line says is to be done over the book in a file, its words tested and its files read.
 fn job_of<'a, R: Files + Clock + AllocGlobal>(
     rt: &R,
+    file: &'a str,
     task: &Task<'a>,
 ) -> Result<Result<Job<'a>, Refusal>, CommandError>
     ensures { IfOk result (λ made. IfOk made (IsJobFor task.now)) }
@@ -295,7 +292,8 @@ fn job_of<'a, R: Files + Clock + AllocGlobal>(
         Task::Verify => Ok(Ok(Job::Check)),
         Task::Serve { service, at } => {
             let first = moment_for(rt, *at)?;
-            Ok(Ok(Job::Listen(*service, first, at.is_none())))
+            let served = found(rt, file)?;
+            Ok(Ok(Job::Listen(*service, first, at.is_none(), served)))
         }
     }
 }
@@ -305,11 +303,11 @@ fn tell_unready<R: Files + AllocGlobal, E: io::Write>(
     rt: &R,
     task: &Task<'_>,
     refusal: Refusal,
-    explains: bool,
+    verbosity: Verbosity,
     err: &mut E,
 ) -> Result<ExitStatus, CommandError> {
     let status = tell_refusal(rt.alloc(), err, refusal)?;
-    if explains {
+    if verbosity.explains {
         if let Some(cause) = about_line(rt, task, refusal)? {
             err.write_all(cause.as_bytes())?;
             err.write_all(b"\n")?;
@@ -320,17 +318,17 @@ fn tell_unready<R: Files + AllocGlobal, E: io::Write>(
 
 /// Does over the book in a file what a line says; a book that is in use is waited for, 5 seconds where the line doesn't say how long. A
 /// clock that can't be used is told before the book is opened.
-pub fn run_over_file<W: io::Write, E: io::Write>(
+pub fn run_over_file<'a, W: io::Write, E: io::Write>(
     rt: &HostRuntime,
-    file: &str,
+    file: &'a str,
     wait: Option<u16>,
-    task: &Task<'_>,
-    explains: bool,
+    task: &Task<'a>,
+    verbosity: Verbosity,
     out: &mut W,
     err: &mut E,
 ) -> Result<ExitStatus, CommandError> {
-    match job_of(rt, task)? {
-        Ok(job) => over_found(rt, file, wait, &job, explains, out, err),
-        Err(refusal) => tell_unready(rt, task, refusal, explains, err),
+    match job_of(rt, file, task)? {
+        Ok(job) => over_found(rt, file, wait, &job, verbosity, out, err),
+        Err(refusal) => tell_unready(rt, task, refusal, verbosity, err),
     }
 }

@@ -2,6 +2,7 @@
 use crate::slips::{Slip, clerk};
 use crate::told::CommandError;
 use crate::words::Deed;
+use itoa::Buffer;
 use rules::need;
 use sets_in::Goods;
 use std::alloc::{AllocError, Global};
@@ -21,8 +22,20 @@ fn compared(
     deed: &str,
     reserved: u64,
 ) -> Result<Option<String>, AllocError> {
-    let (item, lot, quantity) = (text_of(&line.item), text_of(&line.lot), line.quantity);
-    Ok(Some(format!(in alloc; "{item} {lot}: {quantity} {deed}, and {reserved} reserved")?))
+    let (mut told, mut kept) = (Buffer::new(), Buffer::new());
+    let why = [
+        text_of(&line.item),
+        " ",
+        text_of(&line.lot),
+        ": ",
+        told.format(line.quantity),
+        " ",
+        deed,
+        ", and ",
+        kept.format(reserved),
+        " reserved",
+    ];
+    Ok(Some(why.concat(alloc)?))
 }
 
 // How much of a line's pair an order has reserved.
@@ -54,7 +67,6 @@ fn not_reserved(
 
 // What is wrong with a line of a recount, if something is.
 fn unfit(alloc: Global, page: &Page, line: &Goods) -> Result<Option<String>, AllocError> {
-    let (item, lot) = (text_of(&line.item), text_of(&line.lot));
     for row in page.rows() {
         if row.is_of(&line.item, &line.lot) && row.since > 0 {
             if u64::from(line.quantity) < row.reserved {
@@ -63,7 +75,8 @@ fn unfit(alloc: Global, page: &Page, line: &Goods) -> Result<Option<String>, All
             return Ok(None);
         }
     }
-    Ok(Some(format!(in alloc; "{item} {lot}: no count has named it")?))
+    let (item, lot) = (text_of(&line.item), text_of(&line.lot));
+    Ok(Some([item, " ", lot, ": no count has named it"].concat(alloc)?))
 }
 
 // The first line of a recount that its page refuses.

@@ -1,7 +1,9 @@
 use crate::over_file::run_over_file;
+use crate::reading::line;
 use crate::script::run_script;
 use crate::told::{CommandError, ExitStatus, tell_stop, usage};
-use crate::words::{LineFault, Place, Words, line};
+use crate::verbosity::Verbosity;
+use crate::words::{LineFault, Place, Words};
 use std::io::{self, IsTerminal};
 
 // The program's version, which is that of the rules by which it judges.
@@ -11,7 +13,7 @@ const VERSION: &str = "whx12 2.0\n";
 fn run_words<W: io::Write, E: io::Write>(
     rt: &HostRuntime,
     words: &Words<'_>,
-    explains: bool,
+    verbosity: Verbosity,
     out: &mut W,
     err: &mut E,
 ) -> Result<ExitStatus, CommandError> {
@@ -21,7 +23,7 @@ fn run_words<W: io::Write, E: io::Write>(
             book: Some(file),
             wait,
             task,
-        } => run_over_file(rt, file, *wait, task, explains, out, err),
+        } => run_over_file(rt, file, *wait, task, verbosity, out, err),
         Words::Over { book: None, .. } => Err(usage(rt.alloc(), "--book is missing\n")),
     }
 }
@@ -30,12 +32,12 @@ fn run_words<W: io::Write, E: io::Write>(
 fn run_line<W: io::Write, E: io::Write>(
     rt: &HostRuntime,
     words: &[&str],
-    explains: bool,
+    verbosity: Verbosity,
     out: &mut W,
     err: &mut E,
 ) -> Result<ExitStatus, CommandError> {
     match line(rt.alloc(), Place::Program, words) {
-        Ok(asked) => run_words(rt, &asked, explains, out, err),
+        Ok(asked) => run_words(rt, &asked, verbosity, out, err),
         Err(LineFault::Help(text)) => show(out, &text),
         Err(fault) => Err(CommandError::from(fault)),
     }
@@ -51,15 +53,15 @@ fn show<W: io::Write>(out: &mut W, text: &str) -> Result<ExitStatus, CommandErro
 fn run_any<W: io::Write, E: io::Write>(
     rt: &HostRuntime,
     words: &[&str],
-    explains: bool,
+    verbosity: Verbosity,
     out: &mut W,
     err: &mut E,
 ) -> Result<ExitStatus, CommandError> {
     match words {
-        [word] if *word == "help" => run_line(rt, &["--help"], explains, out, err),
+        [word] if *word == "help" => run_line(rt, &["--help"], verbosity, out, err),
         [word] if *word == "--version" => show(out, VERSION),
-        [word, name] if *word == "help" => run_line(rt, &[*name, "--help"], explains, out, err),
-        _ => run_line(rt, words, explains, out, err),
+        [word, name] if *word == "help" => run_line(rt, &[*name, "--help"], verbosity, out, err),
+        _ => run_line(rt, words, verbosity, out, err),
     }
 }
 
@@ -81,8 +83,9 @@ pub fn command<W: io::Write, E: io::Write>(
     err: &mut E,
 ) -> u8 {
     let (is_asked, words) = asks_why(words);
-    let explains = is_asked || rt.stderr().is_terminal();
-    match run_any(rt, words, explains, out, err) {
+    let watches = rt.stderr().is_terminal();
+    let explains = is_asked || watches;
+    match run_any(rt, words, Verbosity { explains, watches }, out, err) {
         Ok(status) => status.code(),
         Err(stop) => tell_stop(err, &stop, explains).code(),
     }

@@ -4,9 +4,11 @@ ghost use Rattle.commands.specs.Readying.{IsChange};
 
 use crate::acts::{perform, ready_at};
 use crate::files::{MOST_SCRIPT, read_within};
+use crate::reading::line;
 use crate::shows::{ask, show};
 use crate::told::{CommandError, ExitStatus, tell_refusal, usage};
-use crate::words::{BookAct, Place, Show, Task, Words, line};
+use crate::verbosity::Verbosity;
+use crate::words::{BookAct, Place, Show, Task, Words};
 use std::io;
 use std::rt::{Clock, Files};
 use store::{Keeper, Moment, Refusal, ReplayBook, Warehouse, Who};
@@ -25,7 +27,7 @@ fn change<R: Files + Clock + AllocGlobal + Clone + Drop, K: Keeper, W: io::Write
     ensures goes { GoesOn (K.standing book.old) (K.standing book.new) }
 {
     match ready_at(rt, act, at)? {
-        Ok(made) => perform(rt, book, &made.0, made.1, out, err),
+        Ok(made) => perform(rt, book, &made.0, made.1, Verbosity::QUIET, out, err),
         Err(refusal) => tell_refusal(rt.alloc(), err, refusal),
     }
 }

@@ -1,11 +1,13 @@
 //! A book served over HTTP.
 
-use crate::causes::about_address;
+use crate::causes::{about_address, about_replaced};
 use crate::clock::now;
+use crate::served_files::ServedFile;
 use crate::told::{CommandError, ExitStatus};
+use crate::verbosity::Verbosity;
 use crate::words::Service;
 use http::StatusCode;
-use intake::{Patience, serve_within};
+use intake::{Connection, Patience, RequestLine, serve_within};
 use std::io;
 use std::net::TcpListener;
 use std::time::Duration;
@@ -41,6 +43,51 @@ fn tell_outcome<W: io::Write>(out: &mut W, outcome: &Result<StatusCode, Fault>) 
     out.flush()
 }
 
+// Says when a connection came, and from where.
+fn tell_peer<E: io::Write>(err: &mut E, connection: &Connection) -> io::Result<()> {
+    let at = connection.moment;
+    let (year, month, day) = (at.year(), at.month(), at.day());
+    let (hour, minute) = (at.hour(), at.minute());
+    write!(err, "{year}-{month:02}-{day:02}T{hour:02}:{minute:02} ")?;
+    match &connection.peer {
+        Some(peer) => write!(err, "{peer} "),
+        None => err.write_all(b"- "),
+    }
+}
+
+// Says what was asked for on a connection: the method and the path of its head.
+fn tell_asked<E: io::Write>(err: &mut E, line: &Option<RequestLine>) -> io::Result<()> {
+    let Some(line) = line else {
+        return err.write_all(b"- - ");
+    };
+    // A terminal could obey what stands in a path beyond ASCII.
+    let path = line.path.as_bytes().escape_ascii();
+    err.write_all(line.method.as_bytes())?;
+    write!(err, " {path} ")
+}
+
+// Says what a connection came to: the status or the number of the fault, the bytes of the response, and the milliseconds.
+fn tell_end<E: io::Write>(err: &mut E, connection: &Connection) -> io::Result<()> {
+    let number = match &connection.served.outcome {
+        Ok(status) => status.as_u16(),
+        Err(fault) => u16::from(fault.number()),
+    };
+    let bytes = connection.served.bytes;
+    write!(err, "{number} {bytes} bytes")?;
+    match connection.millis {
+        Some(millis) => write!(err, " {millis} ms\n"),
+        None => err.write_all(b"\n"),
+    }
+}
+
+// Tells of a connection on a line of its own: moment, peer, method, path, status or fault, bytes and milliseconds, with `-` for what isn't
+// known.
+fn tell_connection<E: io::Write>(err: &mut E, connection: &Connection) -> io::Result<()> {
+    tell_peer(err, connection)?;
+    tell_asked(err, &connection.served.line)?;
+    tell_end(err, connection)
+}
+
 // The clock's moment; the one before where the clock can't be used now.
 fn moment_behind(rt: &HostRuntime, last: Moment) -> Moment {
     match now(rt) {
@@ -51,16 +98,23 @@ fn moment_behind(rt: &HostRuntime, last: Moment) -> Moment {
 
 /// Serves so many connections of a listener as the service says, and prints what became of each. The moment of each is `first`,
 /// or the clock's if `has_clock`; where the clock can't be used, the last good one. Device (44) where an outcome couldn't be
-/// printed, which is told at the end; Reopen (42) where the book has to be opened again.
-pub fn serve_on<K: Keeper, W: io::Write>(
+/// printed, which is told at the end; Reopen (42) where the book has to be opened again. Where it is asked for, a line on standard error
+/// tells of each connection; what can't be told there is left out. Device ends it at once where `admits`, which is asked before anything of a
+/// connection is read, says no.
+pub fn serve_on<K: Keeper, A: FnMut() -> bool, W: io::Write, E: io::Write>(
     rt: &HostRuntime,
     listener: &TcpListener,
     service: &Service,
     book: &mut K,
     first: Moment,
     has_clock: bool,
+    admits: A,
+    verbosity: Verbosity,
     out: &mut W,
-) -> Result<ExitStatus, CommandError> {
+    err: &mut E,
+) -> Result<ExitStatus, CommandError>
+    requires admits { A.IsAlwaysCallable admits }
+{
     let mut last = first;
     let mut is_told = true;
     serve_within(
@@ -74,11 +128,15 @@ pub fn serve_on<K: Keeper, W: io::Write>(
             }
             last
         },
-        |outcome: Result<StatusCode, Fault>| {
-            if tell_outcome(out, &outcome).is_err() {
+        |connection: Connection| {
+            if tell_outcome(out, &connection.served.outcome).is_err() {
                 is_told = false;
             }
+            if verbosity.explains {
+                let _ = tell_connection(err, &connection);
+            }
         },
+        admits,
         &patience_of(rt, service),
     )?;
     if is_told {
@@ -96,15 +154,16 @@ fn tell_address<E: io::Write>(err: &mut E, listener: &TcpListener) {
     }
 }
 
-/// Serves a book at an address, and where `explains` says where it listens. Beyond the faults of `serve_on` it is Device (44) where nobody can
-/// listen there.
+/// Serves the book of a file at an address, and where it is asked for says where it listens. Beyond the faults of `serve_on` it is Device (44)
+/// where nobody can listen there, and where the file's name leads to another file, or to none, when a connection comes.
 pub fn serve<K: Keeper, W: io::Write, E: io::Write>(
     rt: &HostRuntime,
     book: &mut K,
+    file: &ServedFile<'_>,
     service: &Service,
     first: Moment,
     has_clock: bool,
-    explains: bool,
+    verbosity: Verbosity,
     out: &mut W,
     err: &mut E,
 ) -> Result<ExitStatus, CommandError> {
@@ -112,8 +171,16 @@ pub fn serve<K: Keeper, W: io::Write, E: io::Write>(
         Ok(listener) => listener,
         Err(error) => return Err(about_address(rt.alloc(), &service.address, error)),
     };
-    if explains {
+    if verbosity.explains {
         tell_address(err, &listener);
     }
-    serve_on(rt, &listener, service, book, first, has_clock, out)
+    let is_there = || file.is_there(rt);
+    match serve_on(
+        rt, &listener, service, book, first, has_clock, is_there, verbosity, out, err,
+    ) {
+        Err(CommandError::Fault(Fault::Device)) if !file.is_there(rt) => {
+            Err(about_replaced(rt.alloc(), file.name()))
+        }
+        ended => ended,
+    }
 }

@@ -1,17 +1,23 @@
 //! What clerks did, with their sheets.
-ghost use Rattle.std.specs.Prelude.{◌≡◌, true, IsTrue, IfOk, IfSome};
+ghost use Rattle.std.specs.Prelude.{◌≡◌, true, IsTrue, Ok, Err, IfOk, IfErr, IfSome};
 ghost use Rattle.profile.specs.declared.rules.Rules.TheVariants.{Two};
 ghost use Rattle.profile.specs.Accepted.{is_command};
+ghost use Rattle.profile.specs.Clerk.{is_sheet};
+ghost use Rattle.sheets.specs.Kinds.{kind_of};
+ghost use Rattle.sheet_texts.specs.Texts.{sheet_of_text};
 ghost use Rattle.rules.specs.Asked.{asked, act_of as asked_act};
+ghost use Rattle.rules.specs.Told.{refusal_of as named_refusal};
+ghost use Rattle.commands.specs.Clerks as meant;
 ghost use Rattle.commands.specs.Clerks.{IsDepositor, act_of, command_of};
 
 use crate::files::{MOST_SHEET, read_within};
-use crate::sheet_files::sheet;
 use crate::told::CommandError;
 use crate::words::{ClerkWords, Deed};
 use profile::{MOST_NUMBER, MOST_TICKET};
+use sheet_texts::sheet;
+use std::alloc::{AllocError, Global};
 use std::rt::Files;
-use store::{Act, Command, Ident, Refusal, Sheet, Who};
+use store::{Act, Command, Ident, Refusal, Sheet, SheetKind, Who};
 
 /// What a clerk did, with its sheet: its command can be given.
 #[derive(Drop)]
@@ -34,6 +40,41 @@ fn depositor(told: &ClerkWords<'_>) -> Option<Who>
     Some(who)
 }
 
+/// The kind of the sheet of a deed.
+pub(crate) fn sheet_kind(deed: Deed) -> SheetKind
+    ensures { kind_of result ≡ meant.kind_of deed }
+{
+    match deed {
+        Deed::Count => SheetKind::Count,
+        Deed::Pick => SheetKind::Pick,
+        Deed::Recount => SheetKind::Recount,
+    }
+}
+
+// The refusal of a sheet by its number.
+fn refusal_of(number: u8) -> Refusal
+    ensures { named_refusal result ≡ meant.sheet_refusal number }
+{
+    match number {
+        30 => Refusal::TooMuch,
+        31 => Refusal::RepeatedLine,
+        33 => Refusal::TooManyLines,
+        _ => Refusal::BadText,
+    }
+}
+
+// The sheet of a deed in a text, or why it makes none.
+fn sheet_in(alloc: Global, deed: Deed, text: &[u8]) -> Result<Result<Sheet, Refusal>, AllocError>
+    ensures ok { IfOk result (λ made. IfOk made (λ sheet. sheet_of_text Two (meant.kind_of deed) text.now ≡ Ok sheet)) }
+    ensures kind { IfOk result (λ made. IfOk made (λ sheet. is_sheet Two (meant.kind_of deed) sheet ≡ true)) }
+    ensures err { IfOk result (λ made. IfErr made (λ refusal. sheet_of_text Two (meant.kind_of deed) text.now ≡ Err (named_refusal refusal))) }
+{
+    match sheet(alloc, sheet_kind(deed), text)? {
+        Ok(sheet) => Ok(Ok(sheet)),
+        Err(number) => Ok(Err(refusal_of(number))),
+    }
+}
+
 /// What a clerk's words and the file with its sheet come to. Refused are 32, a word that can't be read or a sheet that is too
 /// long, and what keeps a sheet from being one (30 to 33); a file that can't be read is Device (44).
 pub fn slip_of<'a, R: Files + AllocGlobal>(
@@ -48,7 +89,7 @@ pub fn slip_of<'a, R: Files + AllocGlobal>(
     let Some(text) = read_within(rt, told.sheet, MOST_SHEET)? else {
         return Ok(Err(Refusal::BadText));
     };
-    match sheet(rt.alloc(), told.deed, &text)? {
+    match sheet_in(rt.alloc(), told.deed, &text)? {
         Ok(sheet) => Ok(Ok(Slip {
             who,
             told: *told,

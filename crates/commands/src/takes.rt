@@ -1,11 +1,14 @@
-ghost use Rattle.std.specs.Prelude.{◌≡◌, ◌∷◌, [], map, IfOk, IfErr};
+ghost use Rattle.std.specs.Prelude.{◌≡◌, ◌∷◌, [], map, flat_map, IfOk, IfErr, OnOk};
+ghost use Rattle.std.specs.Io.KnownBytes.{Appends};
 ghost use Rattle.folders.specs.Folders.{became_of};
 ghost use Rattle.store.specs.Standing.{GoesOn};
 ghost use Rattle.commands.specs.Stops.{IsDeviceStop};
 ghost use Rattle.commands.specs.Takes as meant;
 
+use crate::causes::about_stop;
 use crate::told::{CommandError, ExitStatus};
-use intake::{FileOutcome, Taken, take_folder};
+use crate::verbosity::Verbosity;
+use intake::{FileOutcome, PassedOver, Taken, take_folder_telling};
 use std::io;
 use std::rt::Files;
 use store::{Keeper, Moment};
@@ -22,30 +25,66 @@ fn status_of(outcome: FileOutcome) -> ExitStatus
 
 // Prints what became of files.
 fn tell_taken<W: io::Write>(out: &mut W, files: &[Taken]) -> Result<ExitStatus, CommandError>
-    ensures status { IfOk result (λ status. status ≡ meant.status_of (map (λ file. became_of file.outcome) files.now)) }
+    ensures status { IfOk result (λ status. status ≡ meant.status_of (map meant.became_in files.now)) }
+    ensures printed { OnOk result (Appends (W.contents out.old) (W.contents out.new) (flat_map meant.line_in files.now)) }
     ensures halted { IfErr result IsDeviceStop }
 {
     let mut status = ExitStatus::Done;
     for file in files {
-        write!(out, "{file}\n")?;
+        file.write_line(out)?;
         status = status.and(status_of(file.outcome));
     }
     Ok(status)
 }
 
+// Tells what was passed over, and why.
+fn tell_passed<E: io::Write>(err: &mut E, passed: &[PassedOver]) -> io::Result<()> {
+    for entry in passed {
+        match &entry.name {
+            Some(name) => err.write_all(name.as_bytes())?,
+            None => err.write_all(b"an entry")?,
+        }
+        err.write_all(b" passed over: ")?;
+        err.write_all(entry.why.text().as_bytes())?;
+        err.write_all(b"\n")?;
+    }
+    Ok(())
+}
+
 /// Submits each interchange of a folder, whose answers are written beside them, and prints what became of each: `a.x12 accepted`,
-/// `a.x12 stored`, `a.x12 refused 025` or `a.x12 unreadable`. At a fault nothing is printed.
-pub fn take<R: Files + AllocGlobal + Clone + Drop, K: Keeper, W: io::Write>(
+/// `a.x12 stored`, `a.x12 refused 025` or `a.x12 unreadable`. At a fault nothing is printed, and the fault is told with the file at
+/// which it stopped. Where it is asked for, what is passed over is told on standard error, and how far the taking is.
+pub fn take<R: Files + AllocGlobal + Clone + Drop, K: Keeper, W: io::Write, E: io::Write>(
     rt: &R,
     book: &mut K,
     dir: &str,
     moment: Moment,
+    verbosity: Verbosity,
     out: &mut W,
+    err: &mut E,
 ) -> Result<ExitStatus, CommandError>
-    ensures taken { IfOk result (λ status. meant.IsTaken (K.standing book.old) (K.standing book.new) moment status) }
-    ensures halted { IfErr result (λ stop. meant.IsHalted (K.standing book.old) (K.standing book.new) moment stop) }
+    ensures taken { IfOk result (meant.IsTaken (K.standing book.old) (K.standing book.new) moment
+        (W.contents out.old) (W.contents out.new)) }
+    ensures halted { IfErr result (meant.IsHalted (K.standing book.old) (K.standing book.new) moment) }
     ensures goes { GoesOn (K.standing book.old) (K.standing book.new) }
 {
-    let files = take_folder(rt, dir, book, moment)?;
-    tell_taken(out, &files)
+    let taken = take_folder_telling(rt, dir, book, moment, |done, all| {
+        verbosity.tell_progress(err, done, all, "files");
+    });
+    match taken {
+        Ok(folder) => {
+            let status = tell_taken(out, &folder.files)?;
+            if verbosity.explains {
+                // What can't be told is left out: what became of the files is told.
+                let _ = tell_passed(err, &folder.passed);
+            }
+            Ok(status)
+        }
+        Err(stop) => {
+            if stop.taken > 0 {
+                verbosity.end_progress(err);
+            }
+            Err(about_stop(rt.alloc(), dir, &stop))
+        }
+    }
 }

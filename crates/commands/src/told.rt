@@ -1,7 +1,7 @@
 ghost use Rattle.std.specs.Prelude.{◌≡◌, IfOk, OnOk};
 ghost use Rattle.std.specs.Io.KnownBytes.{Appends};
 ghost use Rattle.commands.specs.Statuses as meant;
-ghost use Rattle.commands.specs.Telling.{line_of};
+ghost use Rattle.commands.specs.Telling.{fault_line, line_of, refusal_line, stop_text};
 
 use crate::words::LineFault;
 use std::alloc::{AllocError, Global};
@@ -126,7 +126,9 @@ pub fn tell_refusal<E: io::Write>(
     err: &mut E,
     refusal: Refusal,
 ) -> Result<ExitStatus, CommandError>
-    ensures { IfOk result (λ status. status ≡ ExitStatus.Refused) }
+    ensures says { IfOk result (λ status. status ≡ ExitStatus.Refused) }
+    ensures printed { OnOk result (Appends (E.contents err.old) (E.contents err.new)
+        (refusal_line refusal)) }
 {
     let number = refusal.number();
     let name = refusal.name(alloc)?;
@@ -137,13 +139,18 @@ pub fn tell_refusal<E: io::Write>(
 }
 
 // Tells a fault, as `fault 44 Device`.
-fn tell_fault<E: io::Write>(err: &mut E, fault: Fault) -> io::Result<()> {
+fn tell_fault<E: io::Write>(err: &mut E, fault: Fault) -> io::Result<()>
+    ensures { OnOk result (Appends (E.contents err.old) (E.contents err.new) (fault_line fault)) }
+{
     let (number, name) = (fault.number(), fault.name());
     write!(err, "fault {number} {name}\n")
 }
 
 // What of a stop can be told.
-fn told<E: io::Write>(err: &mut E, stop: &CommandError, explains: bool) -> io::Result<()> {
+fn told<E: io::Write>(err: &mut E, stop: &CommandError, explains: bool) -> io::Result<()>
+    ensures { OnOk result (Appends (E.contents err.old) (E.contents err.new)
+        (stop_text explains stop.now)) }
+{
     match stop {
         CommandError::Usage(text) => err.write_all(text.as_bytes()),
         CommandError::Fault(fault) => tell_fault(err, *fault),

@@ -1,7 +1,7 @@
 -- Files that are taken one after the other.
-use Rattle.std.proofs.Common.{◌≡◌, ◌∙◌, sym, refl, ap, subst, ℕ, true, false, List, [], ◌∷◌, ◌++◌, map, ◌⊎◌, inl, inr, Result, Ok, Err, IfErr}
+use Rattle.std.proofs.Common.{◌≡◌, ◌∙◌, sym, refl, ap, subst, ℕ, true, false, List, [], ◌∷◌, ◌++◌, length, map, ◌⊎◌, inl, inr, Result, Ok, Err, IfErr}
 use Rattle.std.specs.Result.{IsErr, IsErrAnd}
-use Rattle.std.proofs.lemmas.List.{map-append}
+use Rattle.std.proofs.lemmas.List.{length-append, map-append}
 use Rattle.profile.specs.declared.rules.Rules.TheVariants.{Two}
 use Rattle.profile.specs.Header.{Who}
 use Rattle.profile.specs.Moments.{Moment}
@@ -11,9 +11,11 @@ use Rattle.profile.specs.Accepted.{accepted_on, replies_on, after, reply_to}
 use Rattle.store.specs.Standing.{Standing, IsUsable, IsFault, GoesOn, LeavesEither}
 use Rattle.store.specs.declared.fault.Fault.{Fault}
 use Rattle.store.specs.declared.fault.Fault.TheVariants.{OutOfMemory, Store, Reopen, NotThisBook, Device}
-use Rattle.store.proofs.Changes.{clean_before, leaves_first, refused_after, usable_stays}
+use Rattle.store.proofs.Changes.{clean_before, leaves_first, refused_after, unchanged_refl, usable_stays}
 use Rattle.store.proofs.Replies.{accepted_on-more, replies_on-more}
 use Rattle.folders.specs.Folders.{Became, became, handed, IsDeviceFault, AreTaken, IsFolderFault, IsStopped, IsUntaken, became_of}
+use Rattle.folders.specs.Stops.{IsUnread, IsFolderStop}
+use Rattle.folders.specs.declared.folder.FolderStop.{FolderStop}
 use Rattle.folders.specs.declared.folder.Taken.{Taken}
 
 handed_more : (t : Moment) (texts : List (List ℕ)) (text : List ℕ) → handed t (texts ++ text ∷ []) ≡ handed t texts ++ (Interchange text, t) ∷ []
@@ -127,6 +129,23 @@ stopped_between a b fault t texts told p same before why = record {
   why = device_fault fault a b (sym same) why;
 }
 
+-- so many were taken before the file at which the folder stops
+pub counted_behind : (stop : FolderStop) (a b c : Standing) (t : Moment) (texts : List (List ℕ)) (told : List Became) → GoesOn a b → a.shut ≡ b.shut → GoesOn b c
+    → AreTaken a b t texts told → IsUntaken stop.fault b c t → stop.taken ≡ length texts → IsFolderStop stop a c t
+unfolding stopped_behind
+counted_behind stop a b c t texts told p same q before file counted = record {
+  stopped = stopped_behind a b c stop.fault t texts told p same q before file;
+  counted = counted;
+}
+
+-- none was taken of a folder that can't be read
+pub none_counted : (stop : FolderStop) (a : Standing) (t : Moment) → IsUnread stop → IsFolderStop stop a a t
+unfolding stopped_between
+none_counted stop a t is = record {
+  stopped = stopped_between a a stop.fault t [] [] (unchanged_refl a).goes refl (none_taken a t) is.why;
+  counted = is.none_taken;
+}
+
 -- What one file comes to.
 
 -- a reply to the text of a file
@@ -171,7 +190,7 @@ unanswered a b fault t text goes same why = record {
 }
 
 -- a fault that is handed on
-pub handed_on : {T : Type 0} (r : Result T Fault) (P Q : Fault → Type 0) → IsErr r × IsErrAnd r Q → ((fault : Fault) → Q fault → P fault) → IfErr r P
+pub handed_on : {T E : Type 0} (r : Result T E) (P Q : E → Type 0) → IsErr r × IsErrAnd r Q → ((fault : E) → Q fault → P fault) → IfErr r P
 handed_on (Ok x) P Q h k = tt
 handed_on (Err e) P Q h k = k e h.1
 
@@ -180,3 +199,9 @@ pub taken_kept : (xs ys zs : List Taken) (file : Taken) → ys ≡ xs → zs ≡
     → map (λ (k : Taken). became_of k.outcome) xs ++ became_of file.outcome ∷ [] ≡ map (λ (k : Taken). became_of k.outcome) zs
 taken_kept xs ys zs file kept grown =
     sym (ap (map (λ (k : Taken). became_of k.outcome)) (grown ∙ ap (λ (ts : List Taken). ts ++ file ∷ []) kept) ∙ map-append (λ (k : Taken). became_of k.outcome) xs (file ∷ []))
+
+-- so many files as texts, and one more
+pub one_more : (xs ys zs : List Taken) (file : Taken) (texts : List (List ℕ)) (text : List ℕ) → ys ≡ xs → zs ≡ ys ++ file ∷ [] → length xs ≡ length texts
+    → length zs ≡ length (texts ++ text ∷ [])
+one_more xs ys zs file texts text kept grown counted =
+    ap length (grown ∙ ap (λ (ts : List Taken). ts ++ file ∷ []) kept) ∙ simp length-append (rw counted refl)

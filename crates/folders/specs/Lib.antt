@@ -1,1 +1,4 @@
 pub mod Folders
+pub mod Lines
+pub mod Passing
+pub mod Stops

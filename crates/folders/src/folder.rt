@@ -1,14 +1,16 @@
-ghost use Rattle.std.specs.Prelude.{◌≡◌, ◌∷◌, [], ℕ, List, false, map, IfOk, IfErr, OnOk};
-ghost use Rattle.folders.specs.Folders.{became, became_of, IsDeviceFault, AreTaken, IsStopped, IsUntaken};
+ghost use Rattle.std.specs.Prelude.{◌≡◌, ◌<◌, ◌∷◌, [], ℕ, List, false, map, IfOk, IfErr, IfNone, OnOk, vec_len, vec_capacity};
+ghost use Rattle.folders.specs.Folders.{became, became_of, IsDeviceFault, AreTaken, IsUntaken, IsStopped};
+ghost use Rattle.folders.specs.Stops.{IsUnread, IsFolderStop};
 ghost use Rattle.store.specs.Runs.{told};
-ghost use Rattle.store.specs.Standing.{GoesOn};
+ghost use Rattle.store.specs.Standing.{GoesOn, IsUnchanged};
 
 use crate::answers::write_answer;
 use crate::files::read_interchange;
-use crate::names::interchanges_in;
+use crate::names::{Listing, listed};
+use crate::passing::PassedOver;
 use std::alloc::AllocError;
+use std::io;
 use std::rt::Files;
-use std::{fmt, io};
 use store::{Command, Fault, Keeper, Moment, Refusal, Reply, submit};
 
 /// What became of the interchange in a file.
@@ -31,23 +33,24 @@ pub struct Taken {
     pub outcome: FileOutcome,
 }
 
-/// As `a.x12 accepted`, `a.x12 stored`, `a.x12 refused 025`, with the three digits of a note's code or the number of another
-/// refusal, or `a.x12 unreadable`.
-impl fmt::Display for Taken {
-    fn fmt<W: fmt::Write>(&self, f: &mut fmt::Formatter<W>) -> fmt::Result {
-        let name = self.name.as_str();
-        match self.outcome {
-            FileOutcome::Accepted => write!(f, "{name} accepted"),
-            FileOutcome::Stored => write!(f, "{name} stored"),
-            FileOutcome::Refused(Refusal::Unreadable) => write!(f, "{name} unreadable"),
-            FileOutcome::Refused(Refusal::Note(code)) => write!(f, "{name} refused {code:03}"),
-            FileOutcome::Refused(Refusal::Duplicate) => write!(f, "{name} refused 025"),
-            FileOutcome::Refused(refusal) => {
-                let number = refusal.number();
-                write!(f, "{name} refused {number}")
-            }
-        }
-    }
+/// A folder that was taken.
+#[derive(Drop)]
+pub struct TakenFolder {
+    /// Its interchanges, in the order in which they were handed in: that of their names' bytes.
+    pub files: Vec<Taken>,
+    /// What may be meant as an interchange and was passed over, in the same order; first what has no name.
+    pub passed: Vec<PassedOver>,
+}
+
+/// Where the taking of a folder stopped.
+#[derive(Drop)]
+pub struct FolderStop {
+    /// The fault that stopped it.
+    pub fault: Fault,
+    /// The name of the file at which it stopped; None where the folder couldn't be read.
+    pub at: Option<String>,
+    /// How many files before it were taken.
+    pub taken: u64,
 }
 
 // The fault that an error of a file or a folder is.
@@ -114,13 +117,20 @@ fn take_file<R: Files + AllocGlobal, K: Keeper>(
     Ok(outcome)
 }
 
-// The names of the interchanges in a folder, in the order of their bytes.
-fn in_order<R: Files + AllocGlobal + Clone + Drop>(rt: &R, dir: &str) -> Result<Vec<String>, Fault>
-    ensures { IfErr result IsDeviceFault }
+// What is in a folder.
+fn listing_of<R: Files + AllocGlobal + Clone + Drop>(
+    rt: &R,
+    dir: &str,
+) -> Result<Listing, FolderStop>
+    ensures { IfErr result IsUnread }
 {
-    match interchanges_in(rt, dir) {
-        Ok(names) => Ok(names),
-        Err(error) => Err(fault_of(&error)),
+    match listed(rt, dir) {
+        Ok(listing) => Ok(listing),
+        Err(error) => Err(FolderStop {
+            fault: fault_of(&error),
+            at: None,
+            taken: 0,
+        }),
     }
 }
 
@@ -129,12 +139,71 @@ fn path_in<R: AllocGlobal>(rt: &R, dir: &str, name: &str) -> Result<String, Allo
     format!(in rt.alloc(); "{dir}/{name}")
 }
 
+// Takes the file of this name once there is room to tell what became of it, so that nothing can fail after it is taken.
+fn take_named<R: Files + AllocGlobal, K: Keeper>(
+    rt: &R,
+    dir: &str,
+    name: &str,
+    files: &mut Vec<Taken>,
+    keeper: &mut K,
+    moment: Moment,
+) -> Result<FileOutcome, Fault>
+    ensures taken { IfOk result (λ outcome. (text : List ℕ) × AreTaken (K.standing keeper.old) (K.standing keeper.new) moment (text ∷ []) (became_of outcome ∷ [])) }
+    ensures stopped { IfErr result (λ fault. IsUntaken fault (K.standing keeper.old) (K.standing keeper.new) moment) }
+    ensures opened { OnOk result ((K.standing keeper.old).shut ≡ (K.standing keeper.new).shut) }
+    ensures goes { GoesOn (K.standing keeper.old) (K.standing keeper.new) }
+    ensures kept { files.new.items ≡ files.old.items }
+    ensures room { OnOk result (vec_len files.new < vec_capacity files.new) }
+{
+    files.reserve(1)?;
+    let path = path_in(rt, dir, name)?;
+    take_file(rt, &path, keeper, moment)
+}
+
 /// Submits each interchange of a folder, the regular files whose names end `.x12` and links to such files, in the order of their
 /// names' bytes, and writes a nonempty answer to the name with `.ans` added, as a file of its own that replaces what stands there.
 /// A file whose answer is there already is submitted again, and its answer written anew: so taking the folder again mends a stop
-/// at any place. Passed over are entries of other kinds, names that aren't UTF-8, and names of more than 251 bytes. Faults are
-/// those of `submit`, want of memory, and Device (44) where the folder can't be read, a file can't be read or an answer can't be
-/// written. After a fault the files before it are taken, and nothing is said of them.
+/// at any place. After each file `told` is handed how many were taken of how many.
+///
+/// Passed over, and told, is what may be meant as an interchange: an entry of another kind whose name ends `.x12`, a file with such
+/// a name of more than 251 bytes, and each entry whose name isn't UTF-8. Other entries are no interchanges.
+///
+/// Faults are those of `submit`, want of memory, and Device (44) where the folder can't be read, a file can't be read or an answer
+/// can't be written. After a fault the files before it are taken; what became of each isn't told.
+pub fn take_folder_telling<R: Files + AllocGlobal + Clone + Drop, K: Keeper, T: FnMut(u64, u64)>(
+    rt: &R,
+    dir: &str,
+    keeper: &mut K,
+    moment: Moment,
+    mut told: T,
+) -> Result<TakenFolder, FolderStop>
+    requires told { T.IsAlwaysCallable told }
+    ensures taken { IfOk result (λ folder. (texts : List (List ℕ)) × AreTaken (K.standing keeper.old) (K.standing keeper.new) moment texts (map (λ file. became_of file.outcome) folder.files.items)) }
+    ensures stopped { IfErr result (λ stop. IsFolderStop stop (K.standing keeper.old) (K.standing keeper.new) moment) }
+    ensures unread { IfErr result (λ stop. IfNone stop.at (IsUnchanged (K.standing keeper.old) (K.standing keeper.new))) }
+    ensures opened { OnOk result ((K.standing keeper.old).shut ≡ (K.standing keeper.new).shut) }
+    ensures goes { GoesOn (K.standing keeper.old) (K.standing keeper.new) }
+{
+    let Listing { names, passed } = listing_of(rt, dir)?;
+    let count = names.len() as u64;
+    let mut files = Vec::new(rt.alloc());
+    for name in names {
+        match take_named(rt, dir, &name, &mut files, keeper, moment) {
+            Ok(outcome) => files.push(Taken { name, outcome }).unwrap(),
+            Err(fault) => {
+                return Err(FolderStop {
+                    fault,
+                    at: Some(name),
+                    taken: files.len() as u64,
+                });
+            }
+        }
+        told(files.len() as u64, count);
+    }
+    Ok(TakenFolder { files, passed })
+}
+
+/// The same, where nobody is told more than what became of the files: not what was passed over, nor where it stopped.
 pub fn take_folder<R: Files + AllocGlobal + Clone + Drop, K: Keeper>(
     rt: &R,
     dir: &str,
@@ -146,12 +215,8 @@ pub fn take_folder<R: Files + AllocGlobal + Clone + Drop, K: Keeper>(
     ensures opened { OnOk result ((K.standing keeper.old).shut ≡ (K.standing keeper.new).shut) }
     ensures goes { GoesOn (K.standing keeper.old) (K.standing keeper.new) }
 {
-    let mut taken = Vec::new(rt.alloc());
-    for name in in_order(rt, dir)? {
-        taken.reserve(1)?;
-        let path = path_in(rt, dir, &name)?;
-        let outcome = take_file(rt, &path, keeper, moment)?;
-        taken.push(Taken { name, outcome }).unwrap();
+    match take_folder_telling(rt, dir, keeper, moment, |_, _| {}) {
+        Ok(folder) => Ok(folder.files),
+        Err(stop) => Err(stop.fault),
     }
-    Ok(taken)
 }

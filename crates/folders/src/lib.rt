@@ -4,7 +4,10 @@
 mod answers;
 mod files;
 mod folder;
+mod lines;
 mod names;
+mod passing;
 
 pub use files::{read_first, read_interchange};
-pub use folder::{FileOutcome, Taken, take_folder};
+pub use folder::{FileOutcome, FolderStop, Taken, TakenFolder, take_folder, take_folder_telling};
+pub use passing::{PassedOver, WhyPassed};

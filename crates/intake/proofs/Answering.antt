@@ -1,5 +1,5 @@
 -- the response by each of the tests
-use Rattle.std.proofs.Common.{◌≡◌, ℕ, ◌<◌, ◌≤◌, List, [], ◌++◌, take, drop, Option, Some, None, Result, Err, Ok, sym, length, ◌∙◌, refl, true, false, unwrap_or, nat_lt, arith, ap, subst, inl}
+use Rattle.std.proofs.Common.{◌≡◌, ℕ, ◌<◌, ◌≤◌, List, [], ◌++◌, take, drop, Option, Some, None, IfSome, Result, Err, Ok, sym, length, ◌∙◌, refl, true, false, unwrap_or, nat_lt, arith, ap, subst, inl}
 use Rattle.std.proofs.lemmas.Bool.Decides.{nat_tests}
 use Rattle.std.specs.Io.KnownBytes.{Consumes}
 use Rattle.httparse.specs.Grammar.{RequestHead}
@@ -14,11 +14,13 @@ use Rattle.store.specs.Standing.{Standing}
 use Rattle.store.specs.declared.fault.Fault.TheVariants.{OutOfMemory}
 use Rattle.store.proofs.Changes.{unchanged_refl}
 use Rattle.intake.specs.Fields.{head_of}
+use Rattle.intake.specs.Lines.{IsLineAt, TellsOf, HasLine}
+use Rattle.intake.specs.declared.served.RequestLine.{RequestLine}
 use Rattle.intake.specs.Requests.{IsInput, HasNoHead}
 use Rattle.intake.specs.Serving.{handed_in, IsAnswered, IsExchange, IsExchangeBehind}
 use Rattle.intake.proofs.Heads.{head_within}
 use Rattle.intake.proofs.Filling.{own_input, had_input, more_input}
-use Rattle.intake.proofs.Served.{no_memory}
+use Rattle.intake.proofs.Answered.{no_memory}
 
 -- what is asked for, by each of the tests
 module _ (h : Head) (rest : List ℕ) where
@@ -102,26 +104,48 @@ at_head old new t h m to body r e f is =
     subst (λ (k : Method). IsAnswered old new t (handed_in k h.route body) (λ L. resp Two old.warehouse L k h.route body t) r) (sym e)
     (subst (λ (k : Route). IsAnswered old new t (handed_in m k body) (λ L. resp Two old.warehouse L m k body t) r) (sym f) is)
 
+-- what the spans cover are the method and the path of the head
+told_of : (line : Option RequestLine) (got : List ℕ) (fields : List HeaderSpan) (spans : RequestSpans) (h : RequestHead)
+    → IsRequestAt got fields spans h → IfSome line (IsLineAt got spans) → TellsOf line (Some h)
+told_of None got fields spans h at copied = tt
+told_of (Some line) got fields spans h at copied = (h, refl, (copied.0 ∙ at.method, copied.1 ∙ at.path))
+
+-- what a reader began with has that line, where it then failed
+pub line_read : (line : Option RequestLine) (known mid : Option (List ℕ)) (got : List ℕ) (fields : List HeaderSpan) (spans : RequestSpans) (h : RequestHead)
+    → length got ≤ 8192 → length fields ≤ 32 → IsRequestWithin got fields spans → IsRequestAt got fields spans h → Consumes known mid got → IfSome line (IsLineAt got spans)
+    → IfSome line (HasLine known)
+line_read None known mid got fields spans h room many within at bytes copied = tt
+line_read (Some line) known mid got fields spans h room many within at bytes copied = record {
+  input = got ++ unwrap_or mid [];
+  is_input = had_input known mid got bytes;
+  head = h;
+  rest = drop spans.len got ++ unwrap_or mid [];
+  begins = head_within got (unwrap_or mid []) fields spans h room many within at;
+  told = (copied.0 ∙ at.method, copied.1 ∙ at.path);
+}
+
 -- the answer to a head is the answer to the input that begins with it
-pub whole_answer : (old new : Standing) (t : Moment) (known mid : Option (List ℕ)) (got : List ℕ) (fields : List HeaderSpan) (spans : RequestSpans) (h : RequestHead) (r : Response)
-    → length got ≤ 8192 → length fields ≤ 32 → IsRequestWithin got fields spans → IsRequestAt got fields spans h → Consumes known mid got
-    → IsExchangeBehind old new mid t (head_of h) (drop spans.len got) r → IsExchange old new known t r
-whole_answer old new t known mid got fields spans h r room many within at bytes answer = record {
+pub whole_answer : (old new : Standing) (t : Moment) (known mid : Option (List ℕ)) (got : List ℕ) (fields : List HeaderSpan) (spans : RequestSpans) (h : RequestHead) (r : Response) (line : Option RequestLine)
+    → length got ≤ 8192 → length fields ≤ 32 → IsRequestWithin got fields spans → IsRequestAt got fields spans h → Consumes known mid got → IfSome line (IsLineAt got spans)
+    → IsExchangeBehind old new mid t (head_of h) (drop spans.len got) r → IsExchange old new known t r line
+whole_answer old new t known mid got fields spans h r line room many within at bytes copied answer = record {
   input = got ++ answer.input;
   is_input = more_input known mid got answer.input bytes answer.is_input;
   head = Some h;
   rest = drop spans.len got ++ answer.input;
   begins = head_within got answer.input fields spans h room many within at;
+  told = told_of line got fields spans h at copied;
   answered = answer.answered;
 }
 
 pub headless_answer : (s : Standing) (t : Moment) (known mid : Option (List ℕ)) (got : List ℕ) (r : Response)
-    → Consumes known mid got → HasNoHead (got ++ unwrap_or mid []) → r ≡ bare 400 → IsExchange s s known t r
+    → Consumes known mid got → HasNoHead (got ++ unwrap_or mid []) → r ≡ bare 400 → IsExchange s s known t r None
 headless_answer s t known mid got r bytes none is = record {
   input = got ++ unwrap_or mid [];
   is_input = had_input known mid got bytes;
   head = None;
   rest = [];
   begins = none;
+  told = tt;
   answered = at_error s t r 400 is;
 }

@@ -1,11 +1,11 @@
 -- a buffer filled from two sources
-use Rattle.std.proofs.Common.{◌≡◌, ℕ, ◌+◌, ◌<◌, ◌≤◌, List, [], ◌∷◌, ◌++◌, take, Option, Some, None, sym, subst, length, ◌∙◌, ap, refl, arith, length-append, append-nil, append_assoc, unwrap_or, min, true, false, nat_le}
+use Rattle.std.proofs.Common.{◌≡◌, ℕ, ◌+◌, ◌<◌, ◌≤◌, List, [], ◌∷◌, ◌++◌, take, Option, Some, None, sym, subst, length, ◌∙◌, ap, refl, arith, length-append, append-nil, append_assoc, unwrap_or, min, true, false, nat_le, inl, inr}
 use Rattle.std.proofs.lemmas.List.{take-append-le, take_all, length-take-le}
 use Rattle.std.proofs.Math.Seq.{take-append_seam}
 use Rattle.std.proofs.lemmas.Bool.Decides.{nat_tests}
+use Rattle.std.proofs.lemmas.Bool.{cases_lt}
 use Rattle.std.specs.Io.KnownBytes.{Consumes, IsAtEnd}
 use Rattle.intake.specs.Requests.{IsInput, IsFilled}
-use Rattle.intake.proofs.Lengths.{by_order}
 
 pub own_input : (known : Option (List ℕ)) → IsInput known (unwrap_or known [])
 own_input None = tt
@@ -30,6 +30,9 @@ left_none (Some y) e = e
 no_bytes : (l : List ℕ) → length l ≤ 0 → l ≡ []
 no_bytes [] h = refl
 no_bytes (x ∷ l) h = absurd (omega arith)
+
+by_order : {P : Type 0} (a b : ℕ) → (a ≤ b → P) → (b < a → P) → P
+by_order {P} a b small large = elim (cases_lt b a) [ inl lt ↦ large lt | inr le ↦ small le ]
 
 full : (start back left : List ℕ) (had size : ℕ) → had ≡ min (length start) size → length back + had ≡ size
     → (size ≤ length (start ++ (back ++ left))) × (take had start ++ back ≡ take size (start ++ (back ++ left)))

@@ -4,11 +4,11 @@ pub mod Seeking
 pub mod Slashes
 pub mod Paths
 pub mod Heads
-pub mod Lengths
 pub mod Filling
 pub mod Replied
 pub mod Found
 pub mod Posted
-pub mod Served
+pub mod Answered
 pub mod Answering
 pub mod Beginnings
+pub mod Told

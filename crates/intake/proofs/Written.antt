@@ -1,5 +1,5 @@
 -- a response is its parts
-use Rattle.std.proofs.Common.{◌≡◌, List, ℕ, Option, Some, None, decimal, length, append_assoc, append-nil, refl, ap, sym, ◌∙◌, ◌++◌, [], codes}
+use Rattle.std.proofs.Common.{◌≡◌, ◌≤◌, ◌<◌, ◌^◌, lit≤, List, ℕ, Option, Some, None, decimal, length, length-append, append_assoc, append-nil, refl, ap, sym, ◌∙◌, ◌++◌, [], codes, arith}
 use Rattle.std.specs.Option.{option_map, option_to_list}
 use Rattle.std.specs.List.{flat_map}
 use Rattle.profile.specs.Response.{status_text, response_bytes, body_headers, header, phrase}
@@ -50,6 +50,47 @@ by_parts s k a b =
 
 pub bytes_are : (r : Response) → Holds r
 bytes_are r = by_parts r.status r.kind r.allow r.body
+
+-- all but the body is short
+phrase_short : (s : Status) → length (phrase (number s)) ≤ 40
+phrase_short Okay = lit≤ tt
+phrase_short NoContent = lit≤ tt
+phrase_short BadRequest = lit≤ tt
+phrase_short NotFound = lit≤ tt
+phrase_short MethodNotAllowed = lit≤ tt
+phrase_short Conflict = lit≤ tt
+phrase_short LengthRequired = lit≤ tt
+phrase_short PayloadTooLarge = lit≤ tt
+phrase_short UnprocessableEntity = lit≤ tt
+phrase_short NotImplemented = lit≤ tt
+phrase_short ServiceUnavailable = lit≤ tt
+
+type_short : (k : Option MediaType) → length (type_text k) ≤ 60
+type_short None = lit≤ tt
+type_short (Some Plain) = lit≤ tt
+type_short (Some Interchange) = lit≤ tt
+
+length_short : (k : Option MediaType) (digits : List ℕ) → length digits ≤ 40 → length (length_text k digits) ≤ 40
+length_short None digits h = lit≤ tt
+length_short (Some k) digits h = h
+
+end_short : (k : Option MediaType) → length (type_end k) ≤ 2
+end_short None = lit≤ tt
+end_short (Some k) = lit≤ tt
+
+allow_short : (a : Option Allow) → length (allow_text a) ≤ 20
+allow_short None = lit≤ tt
+allow_short (Some Get) = lit≤ tt
+allow_short (Some Post) = lit≤ tt
+
+pub parts_short : (r : Response) (code digits : List ℕ) → length code ≤ 40 → length digits ≤ 40 → length (body_bytes r.body) < 2 ^ 63 → length (parts r code digits) < 2 ^ 64
+parts_short r code digits few less least =
+    let p = phrase_short r.status in
+    let t = type_short r.kind in
+    let l = length_short r.kind digits less in
+    let e = end_short r.kind in
+    let a = allow_short r.allow in
+    simp length-append (omega arith)
 
 pub texts_are : (s : Status) → fixed_text s ≡ status_text (number s)
 unfolding digits

@@ -3,6 +3,7 @@ pub mod Answers
 pub mod Routes
 pub mod Requests
 pub mod Fields
+pub mod Lines
 pub mod Told
 pub mod Serving
 pub mod Connections

@@ -1,5 +1,5 @@
 -- What a request is answered, and what it leaves of the book.
-use Rattle.std.specs.Prelude.{◌≡◌, ◌⊎◌, ℕ, false, List, ◌++◌, if◌then◌else◌, Option, Some, None, option_map}
+use Rattle.std.specs.Prelude.{◌≡◌, ◌⊎◌, ℕ, false, List, ◌++◌, if◌then◌else◌, Option, Some, None, IfSome, option_map, length}
 use Rattle.httparse.specs.Grammar.{RequestHead}
 use Rattle.profile.specs.declared.rules.Rules.TheVariants.{Two}
 use Rattle.profile.specs.Moments.{Moment}
@@ -13,6 +13,8 @@ use Rattle.std.specs.Io.KnownBytes.{Appends}
 use Rattle.intake.specs.Gauges.{Grew, AppendsBeginning}
 use Rattle.intake.specs.Requests.{HasHead, HasNoHead, IsInput}
 use Rattle.intake.specs.Fields.{head_of}
+use Rattle.intake.specs.Lines.{TellsOf, HasLine}
+use Rattle.intake.specs.declared.served.RequestLine.{RequestLine}
 
 -- the interchange that a request hands in, if it does
 abbrev pub handed_in : Method → Route → List ℕ → Option (List ℕ)
@@ -47,13 +49,14 @@ abbrev pub BeginsWith : List ℕ → Option RequestHead → List ℕ → Type 0
 BeginsWith input None rest = HasNoHead input
 BeginsWith input (Some h) rest = HasHead input h rest
 
--- the response to what a reader has, with what became of the book
-pub record IsExchange (old new : Standing) (known : Option (List ℕ)) (t : Moment) (r : Response) : Type 0 where
+-- the response to what a reader has, with what became of the book, and what is told of the head
+pub record IsExchange (old new : Standing) (known : Option (List ℕ)) (t : Moment) (r : Response) (line : Option RequestLine) : Type 0 where
   pub input : List ℕ
   pub is_input : IsInput known input
   pub head : Option RequestHead
   pub rest : List ℕ
   pub begins : BeginsWith input head rest
+  pub told : TellsOf line head
   pub answered : IsAnswered old new t (submitted (option_map head_of head) rest) (λ L. response_to Two old.warehouse L (option_map head_of head) rest t) r
 
 -- the same of a request whose head was read, with the first bytes of what is after it
@@ -62,22 +65,26 @@ pub record IsExchangeBehind (old new : Standing) (known : Option (List ℕ)) (t 
   pub is_input : IsInput known input
   pub answered : IsAnswered old new t (submitted (Some h) (start ++ input)) (λ L. response_to Two old.warehouse L (Some h) (start ++ input) t) r
 
--- A response was written: it was that to what the reader had.
-pub record IsWritten (old new : Standing) (known : Option (List ℕ)) (t : Moment) (before behind : Option (List ℕ)) (status : ℕ) : Type 0 where
+-- A response was written: it was that to what the reader had. What is told is its status, the line of the request, and how many
+-- bytes it has.
+pub record IsWritten (old new : Standing) (known : Option (List ℕ)) (t : Moment) (before behind : Option (List ℕ)) (status : ℕ) (line : Option RequestLine) (bytes : ℕ) : Type 0 where
   pub response : Response
-  pub exchange : IsExchange old new known t response
+  pub exchange : IsExchange old new known t response line
   pub status_of : status ≡ response.status
   pub whole : Appends before behind (response_bytes response)
+  pub counted : bytes ≡ length (response_bytes response)
 
--- The reader failed: nothing was written, and the book is as it was.
-pub record IsUnread (old new : Standing) (before behind : Option (List ℕ)) (errors more : ℕ) : Type 0 where
+-- The reader failed: nothing was written, and the book is as it was. The line is told where the head was read.
+pub record IsUnread (old new : Standing) (known before behind : Option (List ℕ)) (errors more : ℕ) (line : Option RequestLine) (bytes : ℕ) : Type 0 where
   pub book : IsUnchanged old new
   pub nothing : behind ≡ before
   pub grew : Grew errors more
+  pub told : IfSome line (HasLine known)
+  pub counted : bytes ≡ 0
 
--- The writer failed: a beginning of the response was written, and the book is as the request left it.
-pub record IsUnwritten (old new : Standing) (known : Option (List ℕ)) (t : Moment) (before behind : Option (List ℕ)) (errors more : ℕ) : Type 0 where
+-- The writer failed: a beginning of the response was written, of so many bytes, and the book is as the request left it.
+pub record IsUnwritten (old new : Standing) (known : Option (List ℕ)) (t : Moment) (before behind : Option (List ℕ)) (errors more : ℕ) (line : Option RequestLine) (bytes : ℕ) : Type 0 where
   pub response : Response
-  pub exchange : IsExchange old new known t response
-  pub beginning : AppendsBeginning before behind (response_bytes response)
+  pub exchange : IsExchange old new known t response line
+  pub beginning : AppendsBeginning before behind (response_bytes response) bytes
   pub grew : Grew errors more

@@ -1,4 +1,4 @@
-ghost use Rattle.std.specs.Prelude.{◌≡◌, ℕ, List, [], ◌∷◌, ◌+◌, ◌-◌, ◌*◌, ◌<◌, ◌≤◌, length, map, All, MatchResult, Ok, Err};
+ghost use Rattle.std.specs.Prelude.{◌≡◌, ℕ, List, [], ◌∷◌, length, map, All, MatchResult, Ok, Err};
 ghost use Rattle.httparse.specs.Spans.{IsHeaderWithin, header_bytes};
 ghost use Rattle.profile.specs.Response.{stated_length};
 ghost use Rattle.intake.specs.Answers.{number};
@@ -7,6 +7,7 @@ ghost use Rattle.intake.specs.Fields.{is_named, has_field, values, IsValues, see
 use crate::response::Status;
 use httparse::spans::HeaderSpan;
 use profile::MOST_BYTES;
+use segments::{all_digits, value_up_to};
 
 /// The methods that routes tell apart.
 #[derive(Clone, Copy, Debug)]
@@ -84,40 +85,19 @@ pub(crate) fn values_of<'b>(buf: &'b [u8], fields: &[HeaderSpan], name: &[u8]) -
     }
 }
 
-// One more digit, where the number is not too large already.
-fn with_digit(total: usize, digit: u8) -> usize
-    requires total { total ≤ 10485769 }
-    requires low { 48 ≤ digit }
-    requires high { digit ≤ 57 }
-    ensures small { total ≤ 1048576 → result ≡ total * 10 + (digit - 48) }
-    ensures large { 1048576 < total → result ≡ total }
-    ensures bound { result ≤ 10485769 }
-{
-    if total <= MOST_BYTES {
-        total * 10 + (digit - b'0') as usize
-    } else {
-        total
-    }
-}
-
 // The length that digits state, or the status that refuses it.
 fn length_value(text: &[u8]) -> Result<usize, Status>
     ensures { MatchResult result (λ n. stated_length (text.now ∷ []) ≡ Ok n) (λ status. stated_length (text.now ∷ []) ≡ Err (number status)) }
 {
-    if text.is_empty() {
+    if text.is_empty() || !all_digits(text) {
         return Err(Status::BadRequest);
     }
-    let mut total = 0usize;
-    for byte in text {
-        if *byte < b'0' || b'9' < *byte {
-            return Err(Status::BadRequest);
-        }
-        total = with_digit(total, *byte);
-    }
-    if MOST_BYTES < total {
+    let most = MOST_BYTES as u64;
+    let size = value_up_to(text, most + 1);
+    if most < size {
         return Err(Status::PayloadTooLarge);
     }
-    Ok(total)
+    Ok(size as usize)
 }
 
 /// The length of a body that these values of Content-Length state, or the status that refuses them: 411 for none, 400 for more

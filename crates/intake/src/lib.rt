@@ -13,13 +13,18 @@ mod responding;
 mod response;
 mod routes;
 mod sending;
+mod served;
 mod serving;
 mod texts;
 
-pub use folders::{FileOutcome, Taken, read_first, read_interchange, take_folder};
+pub use folders::{
+    FileOutcome, FolderStop, PassedOver, Taken, TakenFolder, WhyPassed, read_first,
+    read_interchange, take_folder, take_folder_telling,
+};
 pub use gauge::Gauge;
 pub use listening::{serve_count, serve_within};
 pub use patience::Patience;
 pub use responding::respond;
 pub use response::{Allow, Body, MediaType, Response, Status};
-pub use serving::serve_one;
+pub use served::{Connection, RequestLine, Served};
+pub use serving::{serve_one, serve_telling};

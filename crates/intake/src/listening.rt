@@ -1,16 +1,16 @@
-ghost use Rattle.std.specs.Prelude.{◌≡◌, ◌≤◌, ℕ, true, false, OnOk, OnErr, IfErr};
+ghost use Rattle.std.specs.Prelude.{◌≡◌, ◌⊎◌, ◌≤◌, ℕ, Some, None, true, false, OnOk, OnErr, IfErr, IsErrOf};
 ghost use Rattle.store.specs.Standing.{GoesOn};
-ghost use Rattle.intake.specs.Connections.{HasTold};
+ghost use Rattle.intake.specs.Connections.{HasTold, IsOutcome};
 
 use crate::gauge::Gauge;
 use crate::patience::{Patience, Patient, Standing};
-use crate::serving::serve_one;
-use http::StatusCode;
+use crate::served::{Connection, Served};
+use crate::serving::serve_telling;
 use std::alloc::Global;
 use std::io::Read;
-use std::net::{Shutdown, TcpListener, TcpStream};
+use std::net::{Shutdown, SocketAddr, TcpListener, TcpStream};
 use std::rt::Clock;
-use std::time::Duration;
+use std::time::{Duration, Instant};
 use store::{Fault, Keeper, Moment};
 
 // How many seconds a peer is waited for in a call, where nobody says otherwise.
@@ -36,54 +36,110 @@ fn read_the_rest<Q: Clock>(stream: &TcpStream, timer: &Q) {
     }
 }
 
-// Serves the request of a connection.
+// The milliseconds since then, if the timer can be read.
+fn millis_since<Q: Clock>(timer: &Q, begun: Option<Instant>) -> Option<u64> {
+    let took = begun?.elapsed(timer).ok()?;
+    Some(u64::try_from(took.as_millis()).unwrap_or(u64::MAX))
+}
+
+// Serves the request of a connection. What its peer still sends after the response is no part of the
+// time that it took.
 fn serve_on<K: Keeper, Q: Clock>(
     alloc: Global,
     stream: &TcpStream,
+    peer: SocketAddr,
     keeper: &mut K,
     moment: Moment,
     patience: &Patience<'_, Q>,
-) -> Result<StatusCode, Fault>
+) -> Connection
+    ensures moment { result.moment ≡ moment }
+    ensures peer { result.peer ≡ Some peer }
+    ensures outcome { IsOutcome result }
     ensures goes { GoesOn (K.standing keeper.old) (K.standing keeper.new) }
-    ensures fault { IfErr result (λ fault. fault ≡ Fault.Device) }
 {
+    let begun = Instant::now(patience.timer).ok();
     let mut reader = Gauge::new(Patient::new(stream, patience.timer, patience.limit));
     let mut writer = Gauge::new(Patient::new(stream, patience.timer, patience.limit));
-    let outcome = serve_one(alloc, &mut reader, &mut writer, keeper, moment);
-    if outcome.is_ok() {
+    let served = serve_telling(alloc, &mut reader, &mut writer, keeper, moment);
+    let millis = millis_since(patience.timer, begun);
+    if served.outcome.is_ok() {
         read_the_rest(stream, patience.timer);
     }
-    outcome
+    Connection {
+        moment,
+        peer: Some(peer),
+        served,
+        millis,
+    }
 }
 
-/// Serves that many connections, one after the other, each at the moment that `clock` gives once it is accepted, and hands each
-/// outcome to `told`: the status that was answered, or Device (44). A request or a response that takes longer than the patience
-/// is Device too. An accept that fails is such an outcome, and counts as a connection. The one fault is Reopen (42), and comes
-/// where the book has to be opened again; no more connections are served then. Else `told` is handed exactly that many outcomes.
-pub fn serve_within<K: Keeper, C: FnMut() -> Moment, T: FnMut(Result<StatusCode, Fault>), Q: Clock>(
+// A connection that couldn't be accepted.
+fn not_accepted(moment: Moment) -> Connection
+    ensures moment { result.moment ≡ moment }
+    ensures peer { result.peer ≡ None }
+    ensures outcome { IsOutcome result }
+{
+    Connection {
+        moment,
+        peer: None,
+        served: Served {
+            outcome: Err(Fault::Device),
+            line: None,
+            bytes: 0,
+        },
+        millis: None,
+    }
+}
+
+/// Serves that many connections, one after the other, each at the moment that `clock` gives once it is
+/// accepted, and hands each to `told` with what became of its request: the status that was answered,
+/// or Device (44). A request or a response that takes longer than the patience is Device too. An
+/// accept that fails is Device at the moment that `clock` gives then, and counts as a connection.
+///
+/// A fault ends it, and no more connections are served then. It is Device (44) where `admits`, which is
+/// asked before anything of a connection is read, says no; that connection is closed without an
+/// answer, and isn't told. It is Reopen (42) where the book has to be opened again. Else `told` is
+/// handed exactly that many.
+pub fn serve_within<
+    K: Keeper,
+    C: FnMut() -> Moment,
+    T: FnMut(Connection),
+    A: FnMut() -> bool,
+    Q: Clock,
+>(
     alloc: Global,
     listener: &TcpListener,
     count: u16,
     keeper: &mut K,
     mut clock: C,
     mut told: T,
+    mut admits: A,
     patience: &Patience<'_, Q>,
 ) -> Result<(), Fault>
     requires clock { C.IsAlwaysCallable clock }
     requires told { T.IsAlwaysCallable told }
+    requires admits { A.IsAlwaysCallable admits }
     ensures goes { GoesOn (K.standing keeper.old) (K.standing keeper.new) }
-    ensures fault { IfErr result (λ fault. fault ≡ Fault.Reopen) }
+    ensures fault { IfErr result (λ fault. (fault ≡ Fault.Reopen) ⊎ (fault ≡ Fault.Device)) }
+    ensures device { IsErrOf result Fault.Device → (x : A) × (y : A) × A.step x false y }
     ensures opened { OnOk result ((K.standing keeper.new).shut ≡ false) }
-    ensures shut { OnErr result ((K.standing keeper.new).shut ≡ true) }
-    ensures served { OnOk result ((last : T) × HasTold (λ p x q. T.step p x tt q) told last count) }
-    ensures ended { OnErr result ((n : ℕ) × (n ≤ count) × ((last : T) × HasTold (λ p x q. T.step p x tt q) told last n)) }
+    ensures shut { IsErrOf result Fault.Reopen → (K.standing keeper.new).shut ≡ true }
+    ensures served { OnOk result ((after : C) × (last : T)
+        × HasTold C.step (λ p x q. T.step p x tt q) clock after told last count) }
+    ensures ended { OnErr result ((n : ℕ) × (n ≤ count) × ((after : C) × (last : T)
+        × HasTold C.step (λ p x q. T.step p x tt q) clock after told last n)) }
 {
     for _ in 0..count {
-        let outcome = match listener.accept() {
-            Ok((stream, _)) => serve_on(alloc, &stream, keeper, clock(), patience),
-            Err(_) => Err(Fault::Device),
+        let accepted = listener.accept();
+        if !admits() {
+            return Err(Fault::Device);
+        }
+        let moment = clock();
+        let connection = match accepted {
+            Ok((stream, peer)) => serve_on(alloc, &stream, peer, keeper, moment, patience),
+            Err(_) => not_accepted(moment),
         };
-        told(outcome);
+        told(connection);
         if keeper.must_reopen() {
             break;
         }
@@ -94,8 +150,9 @@ pub fn serve_within<K: Keeper, C: FnMut() -> Moment, T: FnMut(Result<StatusCode,
     Ok(())
 }
 
-/// The same, where nobody measures the time of a whole request: each read and each write of a connection waits 30 seconds.
-pub fn serve_count<K: Keeper, C: FnMut() -> Moment, T: FnMut(Result<StatusCode, Fault>)>(
+/// The same, where each connection is admitted, and nobody measures its time: each of its reads and writes waits 30
+/// seconds, and 0 milliseconds are told.
+pub fn serve_count<K: Keeper, C: FnMut() -> Moment, T: FnMut(Connection)>(
     alloc: Global,
     listener: &TcpListener,
     count: u16,
@@ -109,12 +166,23 @@ pub fn serve_count<K: Keeper, C: FnMut() -> Moment, T: FnMut(Result<StatusCode, 
     ensures fault { IfErr result (λ fault. fault ≡ Fault.Reopen) }
     ensures opened { OnOk result ((K.standing keeper.new).shut ≡ false) }
     ensures shut { OnErr result ((K.standing keeper.new).shut ≡ true) }
-    ensures served { OnOk result ((last : T) × HasTold (λ p x q. T.step p x tt q) told last count) }
-    ensures ended { OnErr result ((n : ℕ) × (n ≤ count) × ((last : T) × HasTold (λ p x q. T.step p x tt q) told last n)) }
+    ensures served { OnOk result ((after : C) × (last : T)
+        × HasTold C.step (λ p x q. T.step p x tt q) clock after told last count) }
+    ensures ended { OnErr result ((n : ℕ) × (n ≤ count) × ((after : C) × (last : T)
+        × HasTold C.step (λ p x q. T.step p x tt q) clock after told last n)) }
 {
     let patience = Patience {
         timer: &Standing,
         limit: Duration::from_secs(CALL_SECONDS),
     };
-    serve_within(alloc, listener, count, keeper, clock, told, &patience)
+    serve_within(
+        alloc,
+        listener,
+        count,
+        keeper,
+        clock,
+        told,
+        || true,
+        &patience,
+    )
 }

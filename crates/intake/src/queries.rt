@@ -1,4 +1,4 @@
-ghost use Rattle.std.specs.Prelude.{◌≡◌, ◌≤◌, ◌+◌, ◌-◌, ◌*◌, ◌==◌, ℕ, List, Some, None, IfOk, IfErr, if◌then◌else◌, find, option_map, unwrap_or};
+ghost use Rattle.std.specs.Prelude.{◌≡◌, ◌==◌, ℕ, List, Some, None, IfOk, IfErr, if◌then◌else◌, find, option_map, unwrap_or};
 ghost use Rattle.profile.specs.declared.rules.Rules.TheVariants.{Two};
 ghost use Rattle.profile.specs.Accepted.{IsLegal};
 ghost use Rattle.profile.specs.Bytes.{value};
@@ -16,6 +16,7 @@ use crate::replies::with_text;
 use crate::response::{Allow, MediaType, Response, Status, bare_response, not_allowed_response};
 use crate::routes::Route;
 use reports::{outbox_list, stock_report};
+use segments::{all_digits, number};
 use std::alloc::Global;
 use store::{Fault, Keeper, Who};
 
@@ -55,31 +56,14 @@ fn outbox_at<K: Keeper>(alloc: Global, keeper: &mut K, who: &str) -> Result<Resp
     }
 }
 
-// One more digit of a number.
-fn with_digit(number: u32, digit: u8) -> u32
-    requires few { number ≤ 99999 }
-    requires low { 48 ≤ digit }
-    requires high { digit ≤ 57 }
-    ensures { result ≡ number * 10 + (digit - 48) }
-{
-    number * 10 + u32::from(digit - b'0')
-}
-
 // The number that is written so: 1 to 6 digits without a leading zero.
 fn plain_number(text: &[u8]) -> Option<u32>
     ensures { result ≡ (if is_plain_number text.now then Some (value text.now) else None) }
 {
-    if text.is_empty() || text.len() > 6 || text[0] == b'0' {
+    if text.is_empty() || text.len() > 6 || text[0] == b'0' || !all_digits(text) {
         return None;
     }
-    let mut number = 0;
-    for byte in text {
-        if *byte < b'0' || b'9' < *byte {
-            return None;
-        }
-        number = with_digit(number, *byte);
-    }
-    Some(number)
+    Some(number(text))
 }
 
 // The text that went out, or 404 where none did, or to a stranger.

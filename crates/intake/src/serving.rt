@@ -1,10 +1,11 @@
-ghost use Rattle.std.specs.Prelude.{◌≡◌, ◌⊎◌, length, drop, OnErr, IfOk, IfErr};
+ghost use Rattle.std.specs.Prelude.{◌≡◌, ◌⊎◌, ℕ, Option, length, drop, OnErr, IfOk, IfErr, IfSome, string_bytes};
 ghost use Rattle.httparse.specs.Grammar.{RequestHead};
 ghost use Rattle.httparse.specs.Spans.{IsRequestWithin, IsRequestAt};
 ghost use Rattle.store.specs.Standing.{IsUnchanged, GoesOn};
 ghost use Rattle.intake.specs.Answers.{seen};
 ghost use Rattle.intake.specs.Fields.{head_of};
 ghost use Rattle.intake.specs.Gauges.{Grew};
+ghost use Rattle.intake.specs.Lines.{IsLineAt, HasLine};
 ghost use Rattle.intake.specs.Serving.{IsExchange, IsExchangeBehind, IsWritten, IsUnread, IsUnwritten};
 
 use crate::gauge::Gauge;
@@ -14,6 +15,7 @@ use crate::replies::of_fault;
 use crate::responding::respond_at;
 use crate::response::{Response, Status, bare_response};
 use crate::routes::{find_route, is_handed_in};
+use crate::served::{RequestLine, Served};
 use crate::texts::write_response;
 use http::StatusCode;
 use httparse::spans::{EMPTY_HEADER_SPAN, HeaderSpan, RequestSpans};
@@ -67,43 +69,130 @@ fn answer<R: Read, K: Keeper>(
     }
 }
 
-// Reads one request, and answers it.
+// A copy of these bytes, if they are text and there is memory for it.
+fn copied(alloc: Global, bytes: &[u8]) -> Option<String>
+    ensures { IfSome result (λ copy. string_bytes copy ≡ bytes.now) }
+{
+    let text = str::from_utf8(bytes).ok()?;
+    String::from_str(alloc, text).ok()
+}
+
+// A copy of the method and the path of a head, if there is memory for it.
+fn copied_line(
+    alloc: Global,
+    got: &[u8],
+    fields: &[HeaderSpan],
+    spans: &RequestSpans,
+) -> Option<RequestLine>
+    requires { IsRequestWithin got.now fields.now spans.now }
+    ensures { IfSome result (IsLineAt got.now spans.now) }
+{
+    let method = copied(alloc, spans.method.of(got))?;
+    let path = copied(alloc, spans.path.of(got))?;
+    Some(RequestLine { method, path })
+}
+
+// What was received.
+#[derive(Drop)]
+struct Received {
+    // The response to it.
+    response: Result<Response, Unread>,
+    // Its method and its path, where a head was read and there was memory for a copy.
+    line: Option<RequestLine>,
+}
+
+// Reads one request, and answers it. The copy of its line is made last, so that it takes no memory
+// that the answer needs.
 fn receive<R: Read, K: Keeper>(
     alloc: Global,
     reader: &mut Gauge<R>,
     keeper: &mut K,
     moment: Moment,
-) -> Result<Response, Unread>
-    ensures answered { IfOk result (λ response. IsExchange (K.standing keeper.old) (K.standing keeper.new) (R.remaining reader.old.inner) moment (seen response)) }
-    ensures same { OnErr result (IsUnchanged (K.standing keeper.old) (K.standing keeper.new)) }
-    ensures count { OnErr result (Grew reader.old.errors reader.new.errors) }
+) -> Received
+    ensures answered { IfOk result.response (λ response.
+        IsExchange (K.standing keeper.old) (K.standing keeper.new) (R.remaining reader.old.inner) moment
+        (seen response) result.line) }
+    ensures line { OnErr result.response (IfSome result.line (HasLine (R.remaining reader.old.inner))) }
+    ensures same { OnErr result.response (IsUnchanged (K.standing keeper.old) (K.standing keeper.new)) }
+    ensures count { OnErr result.response (Grew reader.old.errors reader.new.errors) }
     ensures goes { GoesOn (K.standing keeper.old) (K.standing keeper.new) }
 {
     let mut buf = [0u8; 8192];
     let mut fields = [EMPTY_HEADER_SPAN; 32];
-    let begun = read_head(reader, &mut buf, &mut fields)?;
-    match &begun.head {
-        Some(spans) => answer(
-            alloc,
-            reader,
-            keeper,
-            &buf[..begun.filled],
-            &fields,
-            spans,
-            moment,
-        ),
-        None => Ok(bare_response(Status::BadRequest)),
+    let begun = match read_head(reader, &mut buf, &mut fields) {
+        Ok(begun) => begun,
+        Err(unread) => return Received {
+            response: Err(unread),
+            line: None,
+        },
+    };
+    let spans = match &begun.head {
+        Some(spans) => spans,
+        None => return Received {
+            response: Ok(bare_response(Status::BadRequest)),
+            line: None,
+        },
+    };
+    let got = &buf[..begun.filled];
+    let response = answer(alloc, reader, keeper, got, &fields, spans, moment);
+    let line = copied_line(alloc, got, &fields, spans);
+    Received { response, line }
+}
+
+/// Reads one request, writes its response, and tells what became of them. The tests of a request come
+/// in this order: a head that is refused, cut off or too large, over 8,192 bytes or 32 fields, is 400;
+/// a Transfer-Encoding field 501; no route 404; another method 405; for an interchange no
+/// Content-Length 411, more than one, an empty one or not all digits 400, above 1,048,576 413, and a
+/// body that is cut off 400. A growth that is refused gives the 503 of 40; where only the copy of the
+/// method and the path is, these aren't told, and the answer is the same.
+///
+/// The one fault is Device (44): the reader or the writer gave an error, or took 0 bytes. Where the
+/// reader did, nothing was written and the book is as it was; where the writer did, a beginning of the
+/// response was, and the book is as the request left it. No call is made again, an interrupted one
+/// neither.
+pub fn serve_telling<R: Read, W: Write, K: Keeper>(
+    alloc: Global,
+    reader: &mut Gauge<R>,
+    writer: &mut Gauge<W>,
+    keeper: &mut K,
+    moment: Moment,
+) -> Served
+    ensures written { IfOk result.outcome (λ status.
+        IsWritten (K.standing keeper.old) (K.standing keeper.new) (R.remaining reader.old.inner) moment
+        (W.contents writer.old.inner) (W.contents writer.new.inner) status result.line result.bytes) }
+    ensures stopped { OnErr result.outcome (
+        IsUnread (K.standing keeper.old) (K.standing keeper.new) (R.remaining reader.old.inner)
+        (W.contents writer.old.inner) (W.contents writer.new.inner)
+        reader.old.errors reader.new.errors result.line result.bytes
+        ⊎ IsUnwritten (K.standing keeper.old) (K.standing keeper.new) (R.remaining reader.old.inner) moment
+        (W.contents writer.old.inner) (W.contents writer.new.inner)
+        writer.old.errors writer.new.errors result.line result.bytes) }
+    ensures fault { IfErr result.outcome (λ fault. fault ≡ Fault.Device) }
+    ensures goes { GoesOn (K.standing keeper.old) (K.standing keeper.new) }
+{
+    let Received { response, line } = receive(alloc, reader, keeper, moment);
+    let Ok(response) = response else {
+        return Served {
+            outcome: Err(Fault::Device),
+            line,
+            bytes: 0,
+        };
+    };
+    match write_response(writer, &response) {
+        Ok(bytes) => Served {
+            outcome: Ok(response.status.code()),
+            line,
+            bytes,
+        },
+        Err(stop) => Served {
+            outcome: Err(Fault::Device),
+            line,
+            bytes: stop.sent,
+        },
     }
 }
 
-/// Reads one request and writes its response; the result is the response's status. The tests of a request come in this order: a
-/// head that is refused, cut off or too large, over 8,192 bytes or 32 fields, is 400; a Transfer-Encoding field 501; no route 404;
-/// another method 405; for an interchange no Content-Length 411, more than one, an empty one or not all digits 400, above
-/// 1,048,576 413, and a body that is cut off 400. A growth that is refused gives the 503 of 40.
-///
-/// The one fault is Device (44): the reader or the writer gave an error, or took 0 bytes. Where the reader did, nothing was
-/// written and the book is as it was; where the writer did, a beginning of the response was, and the book is as the request left
-/// it. No call is made again, an interrupted one neither.
+/// The same, where no more is told than the response's status, or Device (44).
 pub fn serve_one<R: Read, W: Write, K: Keeper>(
     alloc: Global,
     reader: &mut Gauge<R>,
@@ -111,19 +200,18 @@ pub fn serve_one<R: Read, W: Write, K: Keeper>(
     keeper: &mut K,
     moment: Moment,
 ) -> Result<StatusCode, Fault>
-    ensures written { IfOk result (λ status. IsWritten (K.standing keeper.old) (K.standing keeper.new) (R.remaining reader.old.inner) moment
-        (W.contents writer.old.inner) (W.contents writer.new.inner) status) }
-    ensures stopped { OnErr result (
-        IsUnread (K.standing keeper.old) (K.standing keeper.new) (W.contents writer.old.inner) (W.contents writer.new.inner) reader.old.errors reader.new.errors
-        ⊎ IsUnwritten (K.standing keeper.old) (K.standing keeper.new) (R.remaining reader.old.inner) moment (W.contents writer.old.inner) (W.contents writer.new.inner) writer.old.errors writer.new.errors) }
+    ensures written { IfOk result (λ status. (line : Option RequestLine) × (bytes : ℕ)
+        × IsWritten (K.standing keeper.old) (K.standing keeper.new) (R.remaining reader.old.inner) moment
+        (W.contents writer.old.inner) (W.contents writer.new.inner) status line bytes) }
+    ensures stopped { OnErr result ((line : Option RequestLine) × (bytes : ℕ) × (
+        IsUnread (K.standing keeper.old) (K.standing keeper.new) (R.remaining reader.old.inner)
+        (W.contents writer.old.inner) (W.contents writer.new.inner)
+        reader.old.errors reader.new.errors line bytes
+        ⊎ IsUnwritten (K.standing keeper.old) (K.standing keeper.new) (R.remaining reader.old.inner) moment
+        (W.contents writer.old.inner) (W.contents writer.new.inner)
+        writer.old.errors writer.new.errors line bytes)) }
     ensures fault { IfErr result (λ fault. fault ≡ Fault.Device) }
     ensures goes { GoesOn (K.standing keeper.old) (K.standing keeper.new) }
 {
-    let Ok(response) = receive(alloc, reader, keeper, moment) else {
-        return Err(Fault::Device);
-    };
-    match write_response(writer, &response) {
-        Ok(()) => Ok(response.status.code()),
-        Err(_) => Err(Fault::Device),
-    }
+    serve_telling(alloc, reader, writer, keeper, moment).outcome
 }

@@ -1,4 +1,4 @@
-ghost use Rattle.std.specs.Prelude.{◌≡◌, OnOk, OnErr};
+ghost use Rattle.std.specs.Prelude.{◌≡◌, length, OnOk, OnErr, IfOk, IfErr};
 ghost use Rattle.std.specs.Io.KnownBytes.{Appends};
 ghost use Rattle.profile.specs.Response.{response_bytes};
 ghost use Rattle.intake.specs.Gauges.{Grew, AppendsBeginning, joined};
@@ -81,13 +81,17 @@ fn pieces<'a>(response: &'a Response, code: &'a [u8], digits: &'a [u8]) -> [&'a 
     ]
 }
 
-/// Writes a response, or a beginning of it where the writer fails. It takes no memory.
+/// Writes a response, or a beginning of it where the writer fails. The result is how many bytes were
+/// written. It takes no memory.
 pub(crate) fn write_response<W: Write>(
     writer: &mut Gauge<W>,
     response: &Response,
-) -> Result<(), Unwritten>
+) -> Result<u64, Unwritten>
     ensures whole { OnOk result (Appends (W.contents writer.old.inner) (W.contents writer.new.inner) (response_bytes (seen response.now))) }
-    ensures beginning { OnErr result (AppendsBeginning (W.contents writer.old.inner) (W.contents writer.new.inner) (response_bytes (seen response.now))) }
+    ensures counted { IfOk result (λ sent. sent ≡ length (response_bytes (seen response.now))) }
+    ensures beginning { IfErr result (λ stop.
+        AppendsBeginning (W.contents writer.old.inner) (W.contents writer.new.inner)
+        (response_bytes (seen response.now)) stop.sent) }
     ensures count { OnErr result (Grew writer.old.errors writer.new.errors) }
     ensures quiet { OnOk result (writer.new.errors ≡ writer.old.errors) }
 {

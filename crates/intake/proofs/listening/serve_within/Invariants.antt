@@ -7,5 +7,6 @@ invariant-loop g l = record {
   goes : GoesOn (g.K.Keeper.standing l.fn.keeper) (g.K.Keeper.standing l.keeper);
   clock : goal.C-IsAlwaysCallable g l.clock;
   told : goal.T-IsAlwaysCallable g l.told;
-  so_far : HasTold (λ p x q. goal.T-step g p x tt q) l.fn.told l.told l.counter;
+  admits : goal.A-IsAlwaysCallable g l.admits;
+  so_far : HasTold (λ p t q. goal.C-step g p t q) (λ p x q. goal.T-step g p x tt q) l.fn.clock l.clock l.fn.told l.told l.counter;
 }

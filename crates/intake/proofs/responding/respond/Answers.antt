@@ -6,7 +6,7 @@ use Rattle.intake.specs.Answers.{seen}
 use Rattle.intake.specs.Fields.{seen_method, method_of}
 use Rattle.intake.specs.Routes.{route_of}
 use Rattle.intake.specs.Serving.{handed_in, IsAnswered}
-use Rattle.intake.proofs.Served.{no_memory}
+use Rattle.intake.proofs.Answered.{no_memory}
 use Rattle.intake.proofs.responding.respond.Goals as goal
 
 pub returns-in-Ok-clause-answered : goal.returns-in-Ok-clause-answered

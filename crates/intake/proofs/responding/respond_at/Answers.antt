@@ -1,4 +1,4 @@
-use Rattle.intake.proofs.Served.{served, faulted}
+use Rattle.intake.proofs.Answered.{served, faulted}
 use Rattle.intake.proofs.responding.respond_at.Goals as goal
 
 pub returns-in-Ok-clause-answered : goal.returns-in-Ok-clause-answered

@@ -1,21 +1,32 @@
 use Rattle.std.proofs.Common.{arith, ◌≤◌, length, take}
 use Rattle.std.proofs.lemmas.Grind.{common_steps}
 use Rattle.std.proofs.lemmas.Result.{IfOk-weaker}
-use Rattle.intake.proofs.Answering.{whole_answer, headless_answer}
+use Rattle.intake.proofs.Sends.{on_err}
+use Rattle.intake.proofs.Answering.{whole_answer, headless_answer, line_read}
 use Rattle.intake.proofs.serving.receive.Goals as goal
 
-pub returns-in-Some-clause-answered : goal.returns-in-Some-clause-answered
-returns-in-Some-clause-answered g c =
-    let e = c.in_ok-begun.ensures in
+pub returns-clause-answered : goal.returns-clause-answered
+returns-clause-answered g c =
+    let e = c.in-Ok.ensures in
     let found = rw c.in-Some.is at e.head in
     let within = rw c.in-Some.is at e.spans in
-    let room : length (take c.in_ok-begun.begun.filled c.read_head.new.buf) ≤ 8192 = grind (arith, common_steps) in
+    let room : length (take c.in-Ok.begun.filled c.read_head.new.buf) ≤ 8192 = grind (arith, common_steps) in
     let many : length c.read_head.new.fields ≤ 32 = grind (arith, common_steps) in
-    IfOk-weaker c.answer.result _ _
-    (λ response answered. whole_answer _ _ _ _ _ _ _ _ found.0 _ room many within found.1 e.bytes (answered found.0 found.1)) c.answer.ensures.answered
+    IfOk-weaker c.answer-response.result _ _
+    (λ response answered. whole_answer _ _ _ _ _ _ _ _ found.0 _ _ room many within found.1 e.bytes c.copied_line-line.ensures (answered found.0 found.1))
+    c.answer-response.ensures.answered
+
+pub returns-clause-line : goal.returns-clause-line
+returns-clause-line g c =
+    let e = c.in-Ok.ensures in
+    let found = rw c.in-Some.is at e.head in
+    let within = rw c.in-Some.is at e.spans in
+    let room : length (take c.in-Ok.begun.filled c.read_head.new.buf) ≤ 8192 = grind (arith, common_steps) in
+    let many : length c.read_head.new.fields ≤ 32 = grind (arith, common_steps) in
+    on_err c.answer-response.result (line_read _ _ _ _ _ _ found.0 room many within found.1 e.bytes c.copied_line-line.ensures)
 
 pub returns-in-None-clause-answered : goal.returns-in-None-clause-answered
 returns-in-None-clause-answered g c =
-    let e = c.in_ok-begun.ensures in
+    let e = c.in-Ok.ensures in
     let none = rw c.in-None.is at e.none in
     headless_answer _ _ _ _ _ _ e.bytes none c.bare_response.ensures

@@ -96,6 +96,13 @@ const UNWRITTEN: Wanted<'static> = Wanted {
     status: 3,
 };
 
+// The same where it is asked what it is about: the file, and how many were taken before it.
+const EXPLAINED: Wanted<'static> = Wanted {
+    printed: "",
+    told: "fault 44 Device\ninbox/a.x12: it can't be read, or its answer can't be written; files taken before it: 0\n",
+    status: 3,
+};
+
 const MENDED: Wanted<'static> = Wanted {
     printed: "a.x12 stored\nb.x12 refused 025\nc.x12 unreadable\n",
     told: "",
@@ -110,11 +117,25 @@ fn an_answer_that_cannot_be_written(rt: HostRuntime) -> Result<(), Fail> {
     fs::create_dir(&rt, "inbox/a.x12.ans")?;
     remove_book(&rt, "case.book", "case.book-wal")?;
     run_lines(&rt, "case.book", SCRIPT)?.compare("unwritten", &UNWRITTEN)?;
+    run_lines(&rt, "case.book", AGAIN)?.compare("explained", &EXPLAINED)?;
     fs::remove_dir_all(&rt, "inbox/a.x12.ans")?;
     run_lines(&rt, "case.book", "take inbox --at 2025-03-05T10:00")?.compare("mended", &MENDED)?;
     assert!(rt; are_answered(&rt)?);
     Ok(())
 }
+
+const AGAIN: &str = "take inbox --at 2025-03-05T10:00 --explain";
+
+// What is passed over where it is asked for: what is no file, by the names' bytes.
+const PASSED: Wanted<'static> = Wanted {
+    printed: "a.x12 stored\nb.x12 refused 025\nc.x12 unreadable\n",
+    told: "\
+e.x12 passed over: no regular file
+f.x12 passed over: no regular file
+g.x12 passed over: no regular file
+",
+    status: 1,
+};
 
 // Fills the folder, with links at the names of answers, what an earlier stop left, and entries that are no files.
 fn fill_oddly(rt: &HostRuntime) -> Result<(), Fail> {
@@ -139,6 +160,7 @@ fn links_are_replaced(rt: HostRuntime) -> Result<(), Fail> {
     remove_book(&rt, "case.book", "case.book-wal")?;
     run_lines(&rt, "case.book", SCRIPT)?.compare("links", &WANTED)?;
     assert!(rt; are_answered(&rt)? && holds(&rt, "kept.txt", "kept")?);
+    run_lines(&rt, "case.book", AGAIN)?.compare("passed over", &PASSED)?;
     assert!(rt; fs::symlink_metadata(&rt, "inbox/a.x12.ans")?.is_file());
     assert!(rt; !fs::exists(&rt, "inbox/a.x12.new")? && !fs::exists(&rt, "inbox/b.x12.new")?);
     Ok(())

@@ -1,6 +1,6 @@
 //! A book that is served.
 use super::*;
-use commands::{Service, serve_on};
+use commands::{Service, Verbosity, serve_on};
 use std::io::{Read, Write};
 use std::net::{TcpListener, TcpStream};
 use store::{Command, Keeper, Moment, ReplayBook, Warehouse, Who, submit};
@@ -40,22 +40,48 @@ fn enrolled(rt: &HostRuntime, moment: Moment) -> Result<ReplayBook, Fail> {
     Ok(book)
 }
 
-// Serves two connections. The result is what was printed of them.
+// What was printed of two connections, and what was told of them on standard error.
+#[derive(Drop)]
+struct Told {
+    out: Vec<u8>,
+    err: String,
+}
+
+// Serves two connections, and has each of them told.
 fn served(
     rt: &HostRuntime,
     listener: &TcpListener,
     book: &mut ReplayBook,
     moment: Moment,
     has_clock: bool,
-) -> Result<Vec<u8>, Fail> {
-    let mut out = Vec::new(rt.alloc());
+) -> Result<Told, Fail> {
+    let (mut out, mut err) = (Vec::new(rt.alloc()), Vec::new(rt.alloc()));
+    let loud = Verbosity {
+        explains: true,
+        watches: false,
+    };
     let service = Service {
         address: listener.local_addr()?,
         count: 2,
         patience: None,
     };
-    match serve_on(rt, listener, &service, book, moment, has_clock, &mut out) {
-        Ok(_) => Ok(out),
+    let status = serve_on(
+        rt,
+        listener,
+        &service,
+        book,
+        moment,
+        has_clock,
+        || true,
+        loud,
+        &mut out,
+        &mut err,
+    );
+    match status {
+        Ok(_) => Ok(Told {
+            out,
+            err: String::from_utf8(err)?,
+        }),
         Err(_) => Err("a fault".into()),
     }
 }
@@ -74,6 +100,16 @@ fn heard(rt: &HostRuntime, client: &mut TcpStream) -> Result<Vec<u8>, Fail> {
     Ok(whole)
 }
 
+// Whether a line tells of a connection of this machine at the moment, and of what it asked for and was answered.
+fn tells(line: Option<&str>, what: &str) -> bool {
+    match line {
+        Some(line) => line.starts_with("2025-03-04T09:15 127.0.0.1:") && line.contains(what),
+        None => false,
+    }
+}
+
+const NOT_ACCEPTED: &str = "2025-03-04T09:15 - - - 44 0 bytes\n2025-03-04T09:15 - - - 44 0 bytes\n";
+
 // Clients that wrote before they are served, one after the other: two by the clock, and two at one
 // moment. Where no client waits an accept fails, which is told as 44 and counts as a connection.
 #[test]
@@ -83,19 +119,24 @@ fn each_connection_is_told(rt: HostRuntime) -> Result<(), Fail> {
     let listener = TcpListener::bind(&rt, "127.0.0.1:0")?;
     let _first = asked(&rt, &listener, b"GET /stock/ZZ-NONE HTTP/1.1\r\n\r\n")?;
     let _second = asked(&rt, &listener, b"POST /x12 HTTP/1.1\r\n\r\n")?;
-    let out = served(&rt, &listener, &mut book, moment, true)?;
-    assert!(rt; out.as_slice() == b"404\n411\n".as_slice());
+    let told = served(&rt, &listener, &mut book, moment, true)?;
+    assert!(rt; told.out.as_slice() == b"404\n411\n".as_slice());
+    assert!(rt; told.err.contains(" GET /stock/ZZ-NONE 404 "));
     let (first, changed) = (posted(&rt, ADVICE)?, posted(&rt, CHANGED)?);
     let response = format!(in rt.alloc(); "{HEAD}{}", ANSWER.trim_end())?;
     let mut third = asked(&rt, &listener, first.as_bytes())?;
     let mut fourth = asked(&rt, &listener, changed.as_bytes())?;
-    let out = served(&rt, &listener, &mut book, moment, false)?;
-    assert!(rt; out.as_slice() == b"200\n409\n".as_slice());
+    let told = served(&rt, &listener, &mut book, moment, false)?;
+    assert!(rt; told.out.as_slice() == b"200\n409\n".as_slice());
+    let mut lines = told.err.lines();
+    assert!(rt; tells(lines.next(), " POST /x12 200 359 bytes "));
+    assert!(rt; tells(lines.next(), " POST /x12 409 254 bytes ") && lines.next().is_none());
     assert!(rt; heard(&rt, &mut third)?.as_slice() == response.as_bytes());
     assert!(rt; heard(&rt, &mut fourth)?.as_slice() == CONFLICT);
     listener.set_nonblocking(true)?;
-    let out = served(&rt, &listener, &mut book, moment, false)?;
-    assert!(rt; out.as_slice() == b"fault 44 Device\nfault 44 Device\n".as_slice());
+    let told = served(&rt, &listener, &mut book, moment, false)?;
+    assert!(rt; told.out.as_slice() == b"fault 44 Device\nfault 44 Device\n".as_slice());
+    assert!(rt; told.err.as_str() == NOT_ACCEPTED);
     Ok(())
 }
 

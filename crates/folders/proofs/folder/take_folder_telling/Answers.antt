@@ -1,0 +1,54 @@
+use Rattle.std.proofs.Common.{rules, of_calls, ◌≡◌, ◌∙◌, ◌∷◌, ◌++◌, [], refl, sym, subst, ap, map, length, List}
+use Rattle.store.proofs.Changes.{goes_trans, unchanged_refl}
+use Rattle.folders.specs.Folders.{Became, became_of, AreTaken}
+use Rattle.folders.specs.Stops.{IsFolderStop}
+use Rattle.folders.proofs.Taking.{none_taken, taken_more, counted_behind, none_counted, handed_on, taken_kept, one_more}
+use Rattle.folders.specs.declared.folder.FolderStop.{FolderStop}
+use Rattle.folders.proofs.folder.take_folder_telling.Goals as goal
+
+pub returns-in_err-names-clause-stopped : goal.returns-in_err-names-clause-stopped
+returns-in_err-names-clause-stopped g c =
+    let at = g.K.Keeper.standing c.args.keeper.now in
+    handed_on c.from_residual.result _ _ c.from_residual.ensures
+    (λ stop is. subst (λ (s : FolderStop). IsFolderStop s at at c.args.moment) (sym is) (none_counted _ at c.args.moment c.in_err-names.ensures))
+
+pub loop-name-init : goal.loop-name-init
+loop-name-init g c =
+    let at = g.K.Keeper.standing c.args.keeper.now in
+    record {
+      goes = (unchanged_refl at).goes;
+      shut = refl;
+      texts = [];
+      taken = subst (λ items. AreTaken at at c.args.moment [] (map (λ file. became_of file.outcome) items)) (sym c.new-files.ensures.items) (none_taken at c.args.moment);
+      counted = ap length c.new-files.ensures.items;
+      told = c.requires.told;
+    }
+
+pub returns-in-Err-clause-stopped : goal.returns-in-Err-clause-stopped
+returns-in-Err-clause-stopped g c =
+    let i = c.loop-name.invariant in
+    let old = g.K.Keeper.standing c.args.keeper.now in
+    let now = g.K.Keeper.standing c.loop-name.keeper in
+    let new = g.K.Keeper.standing c.take_named.new.keeper in
+    let told : c.len.result ≡ length c.take_named.new.files.items = search rules in
+    counted_behind _ old now new c.args.moment i.texts _ i.goes i.shut c.take_named.ensures.goes i.taken c.in-Err.ensures.stopped
+    (told ∙ ap length c.take_named.ensures.kept ∙ i.counted)
+
+pub loop-name-preserved : goal.loop-name-preserved
+loop-name-preserved g c =
+    let i = c.loop-name.invariant in
+    let old = g.K.Keeper.standing c.args.keeper.now in
+    let now = g.K.Keeper.standing c.loop-name.keeper in
+    let new = g.K.Keeper.standing c.take_named.new.keeper in
+    let file = c.in-Ok.ensures.taken in
+    let grown = rw c.unwrap.ensures at c.push.ensures.items in
+    record {
+      goes = goes_trans old now new i.goes c.take_named.ensures.goes;
+      shut = i.shut ∙ c.in-Ok.ensures.opened;
+      texts = i.texts ++ file.0 ∷ [];
+      taken = subst (λ (told : List Became). AreTaken old new c.args.moment (i.texts ++ file.0 ∷ []) told)
+          (taken_kept c.loop-name.files.items c.take_named.new.files.items c.push.new.self.items _ c.take_named.ensures.kept grown)
+          (taken_more old now new c.args.moment i.texts file.0 _ _ i.goes c.take_named.ensures.goes i.taken file.1);
+      counted = one_more c.loop-name.files.items c.take_named.new.files.items c.push.new.self.items _ i.texts file.0 c.take_named.ensures.kept grown i.counted;
+      told = search (rules, of_calls);
+    }

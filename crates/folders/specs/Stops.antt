@@ -1,0 +1,17 @@
+-- Where the taking of a folder stopped.
+use Rattle.std.specs.Prelude.{◌≡◌, length, None}
+use Rattle.profile.specs.Moments.{Moment}
+use Rattle.store.specs.Standing.{Standing}
+use Rattle.folders.specs.Folders.{IsDeviceFault, IsStopped}
+use Rattle.folders.specs.declared.folder.FolderStop.{FolderStop}
+
+-- The folder couldn't be read, and nothing of it was handed in.
+pub record IsUnread (stop : FolderStop) : Type 0 where
+  pub why : IsDeviceFault stop.fault
+  pub nowhere : stop.at ≡ None
+  pub none_taken : stop.taken ≡ 0
+
+-- The folder wasn't taken to its end, and so many of its texts were taken before.
+pub record IsFolderStop (stop : FolderStop) (old new : Standing) (t : Moment) : Type 0 where
+  pub stopped : IsStopped stop.fault old new t
+  pub counted : stop.taken ≡ length stopped.texts

@@ -1,0 +1,74 @@
+//! The line that tells what became of a file.
+ghost use Rattle.std.specs.Prelude.{◌≡◌, OnOk, string_bytes};
+ghost use Rattle.std.specs.Io.KnownBytes.{Appends};
+ghost use Rattle.profile.specs.Bytes.{zero_filled};
+ghost use Rattle.profile.specs.Refusals.{Note};
+ghost use Rattle.rules.specs.Told.{refusal_of};
+ghost use Rattle.folders.specs.Folders.{became_of};
+ghost use Rattle.folders.specs.Lines.{became_text, refused_text, taken_line};
+
+use crate::folder::{FileOutcome, Taken};
+use itoa::Buffer;
+use profile::NOTE_DIGITS;
+use std::io;
+use store::Refusal;
+
+// A note's code in three digits.
+fn note_digits(code: u8) -> [u8; NOTE_DIGITS]
+    ensures { result ≡ zero_filled NOTE_DIGITS code }
+{
+    [
+        b'0' + code / 10 / 10 % 10,
+        b'0' + code / 10 % 10,
+        b'0' + code % 10,
+    ]
+}
+
+// Writes what a note is told as.
+fn write_note<W: io::Write>(out: &mut W, code: u8) -> io::Result<()>
+    ensures { OnOk result (Appends (W.contents out.old) (W.contents out.new) (refused_text (Note code))) }
+{
+    out.write_all(b"refused ")?;
+    out.write_all(&note_digits(code))
+}
+
+// Writes what a refusal is told as.
+fn write_refused<W: io::Write>(out: &mut W, refusal: Refusal) -> io::Result<()>
+    ensures { OnOk result (Appends (W.contents out.old) (W.contents out.new) (refused_text (refusal_of refusal))) }
+{
+    match refusal {
+        Refusal::Unreadable => out.write_all(b"unreadable"),
+        Refusal::Duplicate => out.write_all(b"refused 025"),
+        Refusal::Note(code) => write_note(out, code),
+        other => {
+            let mut number = Buffer::new();
+            out.write_all(b"refused ")?;
+            out.write_all(number.format(other.number()).as_bytes())
+        }
+    }
+}
+
+// Writes what became of a file.
+fn write_outcome<W: io::Write>(out: &mut W, outcome: FileOutcome) -> io::Result<()>
+    ensures { OnOk result (Appends (W.contents out.old) (W.contents out.new) (became_text (became_of outcome))) }
+{
+    match outcome {
+        FileOutcome::Accepted => out.write_all(b"accepted"),
+        FileOutcome::Stored => out.write_all(b"stored"),
+        FileOutcome::Refused(refusal) => write_refused(out, refusal),
+    }
+}
+
+impl Taken {
+    /// Writes the line that tells of it, as `a.x12 accepted`, `a.x12 stored`, `a.x12 refused 025`, with the three digits of a
+    /// note's code or the number of another refusal, or `a.x12 unreadable`, with LF at its end. The one error is the writer's.
+    pub fn write_line<W: io::Write>(&self, out: &mut W) -> io::Result<()>
+        ensures { OnOk result (Appends (W.contents out.old) (W.contents out.new)
+            (taken_line (string_bytes self.now.name) (became_of self.now.outcome))) }
+    {
+        out.write_all(self.name.as_bytes())?;
+        out.write_all(b" ")?;
+        write_outcome(out, self.outcome)?;
+        out.write_all(b"\n")
+    }
+}
