@@ -246,12 +246,13 @@ def ends_when_replaced(program, book):
             words = [program, "serve", "--book", file, "--listen", address, "--count", "9", "--explain"]
             with subprocess.Popen(words, stdout=subprocess.PIPE, stderr=subprocess.PIPE, text=True) as server:
                 wait_for(address)
+                before = once(host, int(port), b"GET /stock/ZZ-ACME HTTP/1.1\r\nHost: localhost\r\n\r\n")[1][9:12]
                 change(file, other)
                 got = unanswered(host, int(port))
                 out, err = server.communicate(timeout=20)
             wanted = f"fault 44 Device\n{file} was removed or replaced while it was served: look for what was answered since, then serve it again\n"
-            if (got, out, server.returncode) != (b"", "400\n", 3) or not err.endswith(wanted):
-                print(f"a book that is {name}: {got!r} {out!r} {err!r} {server.returncode}")
+            if (before, got, out[-4:], server.returncode) != (b"200", b"", "200\n", 3) or not err.endswith(wanted):
+                print(f"a book that is {name}: {before!r} {got!r} {out!r} {err!r} {server.returncode}")
                 good = False
     if good:
         print("a server whose book is removed, moved or replaced ends with 44, and answers nothing more")
