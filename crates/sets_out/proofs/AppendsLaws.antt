@@ -1,15 +1,30 @@
 -- Appends one after the other.
-use Rattle.std.proofs.Common.{◌≡◌, ℕ, ◌+◌, List, [], ◌∷◌, ◌++◌, refl, sym, subst, ◌∙◌, append_assoc, arith, length-append}
-use Rattle.std.proofs.lemmas.List.{append-nil}
+use Rattle.std.proofs.Common.{◌≡◌, ℕ, ◌+◌, ◌<◌, ◌≤◌, List, [], ◌∷◌, ◌++◌, length, take, get_or, map, refl, sym, subst, ◌∙◌, append_assoc, arith, length-append, false, Bor}
+use Rattle.std.proofs.lemmas.List.{append-nil, length-map, take_all, take_more, map_more}
 use Rattle.std.proofs.lemmas.Grind.{flat_map-append}
 use Rattle.profile.specs.Bytes.{Delims}
 use Rattle.profile.specs.Cut.{Segment, spelled}
-use Rattle.std.specs.Prelude.{codes, decimal}
+use Rattle.std.specs.Prelude.{codes, decimal, flat_map, ◌==◌}
 use Rattle.profile.specs.Bytes.{zero_filled}
 use Rattle.profile.specs.Header.{Who}
 use Rattle.profile.specs.Moments.{Moment, date8, time4}
-use Rattle.profile.specs.Texts.{Receiver, set_of_segments, sets_of_segments, group_of_sets, isa_segment, interchange}
+use Rattle.profile.specs.Texts.{Receiver, Told, body_997, set_of_segments, sets_of_segments, group_of_sets, isa_segment, interchange}
+use Rattle.segments.specs.Extends.{Extends}
+use Rattle.segments.proofs.ExtendsLemmas.{extends_append}
 use Rattle.sets_out.specs.Appends.{Appends}
+use Rattle.sets_out.specs.Interchanges.{answers_group}
+
+-- what is appended stands after what stood before
+pub extends_by : (a b s : List ℕ) → b ≡ a ++ s → Extends a b
+extends_by a b s e = rw e (extends_append a s)
+
+-- one element more after a separator
+pub elements_more : (s : ℕ) (es : List (Bor (List ℕ))) (i : ℕ) (e : Bor (List ℕ)) (old a b c : List ℕ) → i < length es
+    → a ≡ old ++ flat_map (λ x. s ∷ x.now) (take i es) → b ≡ a ++ s ∷ [] → c ≡ b ++ (get_or es i e).now
+    → c ≡ old ++ flat_map (λ x. s ∷ x.now) (take (i + 1) es)
+elements_more s es i e old a b c h ha hb hc =
+    let g : Bor (List ℕ) → List ℕ = λ x. s ∷ x.now in
+    hc ∙ rw (hb, ha, take_more es i e h, flat_map-append g (take i es) (get_or es i e ∷ [])) (simp (append_assoc, append-nil) refl)
 
 pub appends_none : (d : Delims) (a : List ℕ) → Appends d a a [] 0
 appends_none d a = record { text = sym (append-nil a); count = refl; room = omega arith }
@@ -27,6 +42,32 @@ appends_then d a b c ss ts m n h k = record {
   count = rw (h.count, k.count, length-append) refl;
   room = omega (arith, h.room, k.room);
 }
+
+-- the segments of one element more, after those of the elements before it
+pub appends_more : {X : Type 0} (d : Delims) (f : X → List Segment) (xs : List X) (i : ℕ) (x : X) (a b c : List ℕ) (m n : ℕ)
+    → i < length xs → x ≡ get_or xs i x
+    → Appends d a b (flat_map f (take i xs)) m → Appends d b c (f x) n → Appends d a c (flat_map f (take (i + 1) xs)) (m + n)
+appends_more d f xs i x a b c m n h e told one =
+    let more : flat_map f (take (i + 1) xs) ≡ flat_map f (take i xs) ++ f x =
+    rw (take_more xs i x h, ← e, flat_map-append f (take i xs) (x ∷ []), append-nil (f x)) refl in
+    let P : List Segment → Type 0 = λ s. Appends d a c s (m + n) in
+    subst P (sym more) (appends_then d a b c _ _ m n told one)
+
+-- and where each element has one segment
+pub appends_more_one : {X : Type 0} (d : Delims) (f : X → Segment) (xs : List X) (i : ℕ) (x : X) (a b c : List ℕ) (m n : ℕ)
+    → i < length xs → x ≡ get_or xs i x
+    → Appends d a b (map f (take i xs)) m → Appends d b c (f x ∷ []) n → Appends d a c (map f (take (i + 1) xs)) (m + n)
+appends_more_one d f xs i x a b c m n h e told one =
+    let more : map f (take (i + 1) xs) ≡ map f (take i xs) ++ f x ∷ [] = rw (map_more f xs i x h, ← e) refl in
+    let P : List Segment → Type 0 = λ s. Appends d a c s (m + n) in
+    subst P (sym more) (appends_then d a b c _ _ m n told one)
+
+-- the elements before the last place are all
+pub appends_all : {X : Type 0} (d : Delims) (f : X → List Segment) (xs : List X) (i : ℕ) (a b : List ℕ) (m : ℕ)
+    → length xs ≤ i → Appends d a b (flat_map f (take i xs)) m → Appends d a b (flat_map f xs) m
+appends_all {X} d f xs i a b m h told =
+    let P : List X → Type 0 = λ ys. Appends d a b (flat_map f ys) m in
+    subst P (take_all i xs h) told
 
 -- ST, a body and SE make a set
 pub appends_set : (d : Delims) (a b c e number : List ℕ) (place : ℕ) (body : List Segment) (m n k : ℕ)
@@ -62,3 +103,15 @@ appends_group d a b c e W w t n function number body k m p gs h ge =
     let sets : Appends d b c (sets_of_segments number (body ∷ [])) m = subst P (sym (append-nil (set_of_segments number 1 body))) h in
     appends_then d a c e ((codes "GS" ∷ function ∷ W.id ∷ w.id ∷ date8 t ∷ time4 t ∷ decimal n ∷ codes "X" ∷ codes "004010" ∷ []) ∷ sets_of_segments number (body ∷ [])) _ (k + m) p
     (appends_then d a b c _ (sets_of_segments number (body ∷ [])) k m gs sets) ge
+
+-- GS, a 997 for each group that is told something, and GE
+pub appends_answers : (d : Delims) (a b c e : List ℕ) (W w : Who) (t : Moment) (n : ℕ) (ts : List Told) (k m p : ℕ) → (length ts == 0) ≡ false
+    → Appends d a b ((codes "GS" ∷ codes "FA" ∷ W.id ∷ w.id ∷ date8 t ∷ time4 t ∷ decimal n ∷ codes "X" ∷ codes "004010" ∷ []) ∷ []) k
+    → Appends d b c (sets_of_segments (codes "997") (map body_997 ts)) m
+    → Appends d c e ((codes "GE" ∷ decimal (length ts) ∷ decimal n ∷ []) ∷ []) p
+    → Appends d a e (answers_group W w t n ts) (k + m + p)
+appends_answers d a b c e W w t n ts k m p some gs sets ge =
+    let P : ℕ → Type 0 = λ x. Appends d c e ((codes "GE" ∷ decimal x ∷ decimal n ∷ []) ∷ []) p in
+    let last : P (length (map body_997 ts)) = rw length-map ge in
+    rw some (appends_then d a c e ((codes "GS" ∷ codes "FA" ∷ W.id ∷ w.id ∷ date8 t ∷ time4 t ∷ decimal n ∷ codes "X" ∷ codes "004010" ∷ []) ∷ sets_of_segments (codes "997") (map body_997 ts)) _ (k + m) p
+    (appends_then d a b c _ _ k m gs sets) last)

@@ -1,10 +1,9 @@
-ghost use Rattle.std.specs.Prelude.{◌≡◌, ◌≤◌, ◌+◌, ◌++◌, ◌∷◌, [], codes, decimal, length, take, flat_map, IfOk, OnOk, OnErr};
-ghost use Rattle.profile.specs.Texts.{difference, goods, own_delims, set_of_segments, text_of};
+ghost use Rattle.std.specs.Prelude.{◌≡◌, ◌≤◌, ◌+◌, ◌++◌, ◌∷◌, [], codes, decimal, length, take, flat_map, IfOk};
+ghost use Rattle.profile.specs.Texts.{difference, goods};
 ghost use Rattle.segments.specs.Extends.{Extends};
 ghost use Rattle.sets_out.specs.Appends.{Appends};
 ghost use Rattle.sets_out.specs.Documents.{changed_line, adjustment_body};
 
-use crate::envelopes::{append_se, append_st};
 use crate::numbers::date;
 use crate::sheets::AdjustedLine;
 use crate::writing::append_segment;
@@ -108,7 +107,7 @@ fn append_lines(
 }
 
 // W15 to the last N9, or a beginning of them.
-fn append_body(
+pub(crate) fn append_body(
     out: &mut Vec<u8>,
     delims: Delims,
     moment: &Moment,
@@ -124,42 +123,4 @@ fn append_body(
     let first = append_segment(out, delims, &[b"W15", &date, number])?;
     let others = append_lines(out, delims, lines)?;
     Ok(first + others)
-}
-
-// The 947, or a beginning of it.
-pub(crate) fn append_947(
-    out: &mut Vec<u8>,
-    delims: Delims,
-    moment: &Moment,
-    number: u32,
-    lines: &[AdjustedLine<'_>],
-) -> Result<usize, AllocError>
-    ensures ok { IfOk result (λ n. Appends delims out.old.items out.new.items (set_of_segments (codes "947") 1 (adjustment_body moment.now number lines.now)) n) }
-    ensures kept { Extends out.old.items out.new.items }
-{
-    append_st(out, delims, b"947", 1)?;
-    let body = append_body(out, delims, moment, number, lines)?;
-    append_se(out, delims, body + 2, 1)?;
-    Ok(body + 2)
-}
-
-/// Appends 947 Warehouse Inventory Adjustment Advice, from ST to SE, under its entry's moment and number: each of the
-/// lines that differs, as they stand. After an error, AllocError, the vector holds what it held.
-pub fn write_947(
-    out: &mut Vec<u8>,
-    moment: &Moment,
-    number: u32,
-    lines: &[AdjustedLine<'_>],
-) -> Result<(), AllocError>
-    ensures ok { OnOk result (out.new.items ≡ out.old.items ++ text_of own_delims (set_of_segments (codes "947") 1 (adjustment_body moment.now number lines.now))) }
-    ensures err { OnErr result (out.new.items ≡ out.old.items) }
-{
-    let start = out.len();
-    match append_947(out, Delims::of_documents(), moment, number, lines) {
-        Ok(_) => Ok(()),
-        Err(e) => {
-            out.truncate(start);
-            Err(e)
-        }
-    }
 }

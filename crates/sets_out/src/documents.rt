@@ -1,15 +1,15 @@
-ghost use Rattle.std.specs.Prelude.{◌≡◌, ◌++◌, ◌∷◌, [], IfOk, OnOk};
-ghost use Rattle.profile.specs.Texts.{document_text, group_of_sets, set_of_segments};
+ghost use Rattle.std.specs.Prelude.{◌≡◌, ◌++◌, ◌∷◌, [], IfOk, OnOk, OnErr};
+ghost use Rattle.profile.specs.Texts.{document_text, group_of_sets, own_delims, set_of_segments, text_of};
 ghost use Rattle.segments.specs.Extends.{Extends};
 ghost use Rattle.sets_out.specs.Appends.{Appends};
 ghost use Rattle.sets_out.specs.Handed.{function_of, number_of, body_of};
 
-use crate::adjustments::append_947;
-use crate::envelopes::{Envelope, append_ge, append_gs, append_iea, append_isa, filled};
-use crate::receipts::append_944;
+use crate::envelopes::{
+    Envelope, append_ge, append_gs, append_iea, append_isa, append_se, append_st, filled,
+};
 use crate::sheets::Document;
-use crate::shipments::append_945;
-use segments::Delims;
+use crate::{adjustments, receipts, shipments};
+use segments::{Delims, Moment};
 use std::alloc::AllocError;
 
 // The functional identifier of a document's group.
@@ -23,22 +23,74 @@ fn function(document: &Document<'_>) -> &'static [u8]
     }
 }
 
-// Appends the set of a document, or a beginning of it.
-fn append_set(
+// The number of a document's set.
+fn set_number(document: &Document<'_>) -> &'static [u8]
+    ensures { result.now ≡ number_of document.now }
+{
+    match document {
+        Document::Received(_) => b"944",
+        Document::Shipped(_) => b"945",
+        Document::Adjusted(_) => b"947",
+    }
+}
+
+// Appends what a document has between ST and SE, or a beginning of that.
+fn append_body(
     out: &mut Vec<u8>,
     delims: Delims,
-    envelope: &Envelope,
+    moment: &Moment,
+    number: u32,
     document: &Document<'_>,
 ) -> Result<usize, AllocError>
     ensures ok { IfOk result (λ n. Appends delims out.old.items out.new.items
-        (set_of_segments (number_of document.now) 1 (body_of envelope.now.moment envelope.now.number document.now)) n) }
+        (body_of moment.now number document.now) n) }
     ensures kept { Extends out.old.items out.new.items }
 {
-    let (moment, number) = (&envelope.moment, envelope.number);
     match *document {
-        Document::Received(receipt) => append_944(out, delims, moment, number, receipt),
-        Document::Shipped(shipment) => append_945(out, delims, moment, number, shipment),
-        Document::Adjusted(lines) => append_947(out, delims, moment, number, lines),
+        Document::Received(receipt) => receipts::append_body(out, delims, moment, number, receipt),
+        Document::Shipped(sent) => shipments::append_body(out, delims, moment, number, sent),
+        Document::Adjusted(lines) => adjustments::append_body(out, delims, moment, number, lines),
+    }
+}
+
+// Appends the set of a document, from ST to SE, or a beginning of it.
+fn append_set(
+    out: &mut Vec<u8>,
+    delims: Delims,
+    moment: &Moment,
+    number: u32,
+    document: &Document<'_>,
+) -> Result<usize, AllocError>
+    ensures ok { IfOk result (λ n. Appends delims out.old.items out.new.items
+        (set_of_segments (number_of document.now) 1 (body_of moment.now number document.now)) n) }
+    ensures kept { Extends out.old.items out.new.items }
+{
+    append_st(out, delims, set_number(document), 1)?;
+    let body = append_body(out, delims, moment, number, document)?;
+    append_se(out, delims, body + 2, 1)?;
+    Ok(body + 2)
+}
+
+/// Appends the set of a document, from ST to SE, under its entry's moment and number: 944 Warehouse Stock Transfer
+/// Receipt Advice, 945 Warehouse Shipping Advice, or 947 Warehouse Inventory Adjustment Advice, which has each of its
+/// lines that differs, as they stand. After an error, AllocError, the vector holds what it held.
+pub fn write_document(
+    out: &mut Vec<u8>,
+    moment: &Moment,
+    number: u32,
+    document: &Document<'_>,
+) -> Result<(), AllocError>
+    ensures ok { OnOk result (out.new.items ≡ out.old.items ++ text_of own_delims
+        (set_of_segments (number_of document.now) 1 (body_of moment.now number document.now))) }
+    ensures err { OnErr result (out.new.items ≡ out.old.items) }
+{
+    let start = out.len();
+    match append_set(out, Delims::of_documents(), moment, number, document) {
+        Ok(_) => Ok(()),
+        Err(e) => {
+            out.truncate(start);
+            Err(e)
+        }
     }
 }
 
@@ -55,7 +107,7 @@ fn append_group(
     ensures kept { Extends out.old.items out.new.items }
 {
     let first = append_gs(out, delims, envelope, function(document))?;
-    let set = append_set(out, delims, envelope, document)?;
+    let set = append_set(out, delims, &envelope.moment, envelope.number, document)?;
     let last = append_ge(out, delims, 1, envelope.number)?;
     Ok(first + set + last)
 }

@@ -16,11 +16,9 @@ mod told;
 mod writing;
 
 pub use acknowledgment::write_997;
-pub use adjustments::write_947;
+pub use documents::write_document;
 pub use envelopes::Envelope;
 pub use headings::{Heading, write_ta1};
 pub use interchanges::{Answer, NoteAnswer, Outgoing, write_interchange};
-pub use receipts::write_944;
 pub use sheets::{AdjustedLine, CountedLine, Document, PickedLot, Receipt, Shipment, ShippedLine};
-pub use shipments::write_945;
 pub use told::{ElementFault, Rejection, SegmentFault, ToldGroup, ToldSet};

@@ -1,12 +1,10 @@
-ghost use Rattle.std.specs.Prelude.{◌≡◌, ◌++◌, ◌∷◌, [], codes, decimal, flat_map, IfOk, OnOk, OnErr};
+ghost use Rattle.std.specs.Prelude.{◌∷◌, [], codes, decimal, flat_map, IfOk};
 ghost use Rattle.profile.specs.Moments.{date8};
-ghost use Rattle.profile.specs.Texts.{own_delims, set_of_segments, text_of};
 ghost use Rattle.segments.specs.Extends.{Extends};
 ghost use Rattle.sets_out.specs.Appends.{Appends};
 ghost use Rattle.sets_out.specs.Documents.{received_line, receipt_body};
 ghost use Rattle.sets_out.specs.Handed.{receipt_of};
 
-use crate::envelopes::{append_se, append_st};
 use crate::numbers::date;
 use crate::sheets::{CountedLine, Receipt};
 use crate::writing::append_segment;
@@ -90,7 +88,7 @@ fn append_sums(
 }
 
 // W17 to W14, or a beginning of them.
-fn append_body(
+pub(crate) fn append_body(
     out: &mut Vec<u8>,
     delims: Delims,
     moment: &Moment,
@@ -104,42 +102,4 @@ fn append_body(
     let lines = append_lines(out, delims, receipt.lines)?;
     let sums = append_sums(out, delims, receipt)?;
     Ok(first + lines + sums)
-}
-
-// The 944, or a beginning of it.
-pub(crate) fn append_944(
-    out: &mut Vec<u8>,
-    delims: Delims,
-    moment: &Moment,
-    number: u32,
-    receipt: &Receipt<'_>,
-) -> Result<usize, AllocError>
-    ensures ok { IfOk result (λ n. Appends delims out.old.items out.new.items (set_of_segments (codes "944") 1 (receipt_body moment.now number (receipt_of receipt.now))) n) }
-    ensures kept { Extends out.old.items out.new.items }
-{
-    append_st(out, delims, b"944", 1)?;
-    let body = append_body(out, delims, moment, number, receipt)?;
-    append_se(out, delims, body + 2, 1)?;
-    Ok(body + 2)
-}
-
-/// Appends 944 Warehouse Stock Transfer Receipt Advice, from ST to SE, under its entry's moment and number. After an
-/// error, AllocError, the vector holds what it held.
-pub fn write_944(
-    out: &mut Vec<u8>,
-    moment: &Moment,
-    number: u32,
-    receipt: &Receipt<'_>,
-) -> Result<(), AllocError>
-    ensures ok { OnOk result (out.new.items ≡ out.old.items ++ text_of own_delims (set_of_segments (codes "944") 1 (receipt_body moment.now number (receipt_of receipt.now)))) }
-    ensures err { OnErr result (out.new.items ≡ out.old.items) }
-{
-    let start = out.len();
-    match append_944(out, Delims::of_documents(), moment, number, receipt) {
-        Ok(_) => Ok(()),
-        Err(e) => {
-            out.truncate(start);
-            Err(e)
-        }
-    }
 }

@@ -1,13 +1,12 @@
-ghost use Rattle.std.specs.Prelude.{◌≡◌, ◌-◌, ◌==◌, ◌++◌, ◌∷◌, [], if◌then◌else◌, codes, decimal, flat_map, map, IfOk, OnOk, OnErr};
+ghost use Rattle.std.specs.Prelude.{◌≡◌, ◌-◌, ◌==◌, ◌∷◌, [], if◌then◌else◌, codes, decimal, flat_map, map, IfOk};
 ghost use Rattle.std.specs.List.{enumerate_from};
 ghost use Rattle.profile.specs.Moments.{date8};
-ghost use Rattle.profile.specs.Texts.{goods, own_delims, set_of_segments, text_of};
+ghost use Rattle.profile.specs.Texts.{goods};
 ghost use Rattle.segments.specs.Extends.{Extends};
 ghost use Rattle.sets_out.specs.Appends.{Appends};
 ghost use Rattle.sets_out.specs.Documents.{shipped_lot, shipped_line, shipment_body};
 ghost use Rattle.sets_out.specs.Handed.{shipment_of};
 
-use crate::envelopes::{append_se, append_st};
 use crate::numbers::date;
 use crate::sheets::{PickedLot, Shipment, ShippedLine};
 use crate::writing::append_segment;
@@ -164,7 +163,7 @@ fn append_sum(out: &mut Vec<u8>, delims: Delims, shipped: u64) -> Result<usize, 
 }
 
 // W06 to W03, or a beginning of them.
-fn append_body(
+pub(crate) fn append_body(
     out: &mut Vec<u8>,
     delims: Delims,
     moment: &Moment,
@@ -178,42 +177,4 @@ fn append_body(
     let lines = append_lines(out, delims, shipment.lines)?;
     let sum = append_sum(out, delims, shipment.shipped)?;
     Ok(first + lines + sum)
-}
-
-// The 945, or a beginning of it.
-pub(crate) fn append_945(
-    out: &mut Vec<u8>,
-    delims: Delims,
-    moment: &Moment,
-    number: u32,
-    shipment: &Shipment<'_>,
-) -> Result<usize, AllocError>
-    ensures ok { IfOk result (λ n. Appends delims out.old.items out.new.items (set_of_segments (codes "945") 1 (shipment_body moment.now number (shipment_of shipment.now))) n) }
-    ensures kept { Extends out.old.items out.new.items }
-{
-    append_st(out, delims, b"945", 1)?;
-    let body = append_body(out, delims, moment, number, shipment)?;
-    append_se(out, delims, body + 2, 1)?;
-    Ok(body + 2)
-}
-
-/// Appends 945 Warehouse Shipping Advice, from ST to SE, under its entry's moment and number. After an error,
-/// AllocError, the vector holds what it held.
-pub fn write_945(
-    out: &mut Vec<u8>,
-    moment: &Moment,
-    number: u32,
-    shipment: &Shipment<'_>,
-) -> Result<(), AllocError>
-    ensures ok { OnOk result (out.new.items ≡ out.old.items ++ text_of own_delims (set_of_segments (codes "945") 1 (shipment_body moment.now number (shipment_of shipment.now)))) }
-    ensures err { OnErr result (out.new.items ≡ out.old.items) }
-{
-    let start = out.len();
-    match append_945(out, Delims::of_documents(), moment, number, shipment) {
-        Ok(_) => Ok(()),
-        Err(e) => {
-            out.truncate(start);
-            Err(e)
-        }
-    }
 }

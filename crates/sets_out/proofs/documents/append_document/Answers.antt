@@ -1,5 +1,6 @@
 use Rattle.std.proofs.Common.{[], ◌∷◌}
 use Rattle.profile.specs.Texts.{own_delims, group_of_sets, receiver_of}
+use Rattle.segments.proofs.ExtendsLemmas.{extends_trans}
 use Rattle.sets_out.specs.Handed.{function_of, number_of, body_of}
 use Rattle.sets_out.proofs.AppendsLaws.{appends_interchange}
 use Rattle.sets_out.proofs.documents.append_document.Goals as goal
@@ -13,3 +14,12 @@ returns-clause-ok c =
     (rw (c.of_documents-delims.ensures, c.filled.ensures) at c.in_ok-append_isa.ensures.ok)
     (rw c.of_documents-delims.ensures at c.in_ok-append_group.ensures.ok)
     (rw c.of_documents-delims.ensures at c.in_ok-append_iea.ensures.ok)
+
+pub returns-in_err-append_group-clause-kept : goal.returns-in_err-append_group-clause-kept
+returns-in_err-append_group-clause-kept c = extends_trans _ _ _ c.in_ok-append_isa.ensures.kept c.in_err-append_group.ensures.kept
+
+pub returns-in_err-append_iea-clause-kept : goal.returns-in_err-append_iea-clause-kept
+returns-in_err-append_iea-clause-kept c = extends_trans _ _ _ (extends_trans _ _ _ c.in_ok-append_isa.ensures.kept c.in_ok-append_group.ensures.kept) c.in_err-append_iea.ensures.kept
+
+pub returns-clause-kept : goal.returns-clause-kept
+returns-clause-kept c = extends_trans _ _ _ (extends_trans _ _ _ c.in_ok-append_isa.ensures.kept c.in_ok-append_group.ensures.kept) c.in_ok-append_iea.ensures.kept

@@ -1,10 +1,16 @@
+use Rattle.segments.proofs.ExtendsLemmas.{extends_trans}
+use Rattle.sets_out.proofs.AppendsLaws.{appends_set}
 use Rattle.sets_out.proofs.documents.append_set.Goals as goal
 
-pub returns-in-Received-clause-ok : goal.returns-in-Received-clause-ok
-returns-in-Received-clause-ok c = rw c.in-Received.is c.append_944.ensures.ok
+pub returns-clause-ok : goal.returns-clause-ok
+returns-clause-ok c =
+    appends_set c.args.delims _ _ _ _ _ 1 _ _ _ _ (rw c.set_number.ensures at c.in_ok-append_st.ensures.ok) c.in_ok-body.ensures.ok c.in_ok-append_se.ensures.ok
 
-pub returns-in-Shipped-clause-ok : goal.returns-in-Shipped-clause-ok
-returns-in-Shipped-clause-ok c = rw c.in-Shipped.is c.append_945.ensures.ok
+pub returns-in_err-body-clause-kept : goal.returns-in_err-body-clause-kept
+returns-in_err-body-clause-kept c = extends_trans _ _ _ c.in_ok-append_st.ensures.kept c.in_err-body.ensures.kept
 
-pub returns-in-Adjusted-clause-ok : goal.returns-in-Adjusted-clause-ok
-returns-in-Adjusted-clause-ok c = rw c.in-Adjusted.is c.append_947.ensures.ok
+pub returns-in_err-append_se-clause-kept : goal.returns-in_err-append_se-clause-kept
+returns-in_err-append_se-clause-kept c = extends_trans _ _ _ (extends_trans _ _ _ c.in_ok-append_st.ensures.kept c.in_ok-body.ensures.kept) c.in_err-append_se.ensures.kept
+
+pub returns-clause-kept : goal.returns-clause-kept
+returns-clause-kept c = extends_trans _ _ _ (extends_trans _ _ _ c.in_ok-append_st.ensures.kept c.in_ok-body.ensures.kept) c.in_ok-append_se.ensures.kept
