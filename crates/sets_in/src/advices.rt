@@ -9,7 +9,7 @@ ghost use Rattle.sets_in.specs.Amounts.{IsAmount, IsCounted, HaveAmounts};
 ghost use Rattle.sets_in.specs.Said.{SaysAdvice};
 
 use crate::lines::{AdviceLine, Goods};
-use crate::reading::{copied, element_at, element_with, number, place_with};
+use crate::reading::{copied, element_at, element_with, has_id_at, number, place_with};
 use crate::sets::Advice;
 use segments::Segment;
 use std::alloc::{AllocError, Global};
@@ -34,11 +34,11 @@ fn expiry_at(
 ) -> Result<Option<Vec<u8>>, AllocError>
     ensures { IfOk result (λ e. option_map (λ v. v.items) e ≡ meant.expiry_of (meant.segment_at (segments_of segments.now) position)) }
 {
-    match segments.get(position.saturating_sub(1)) {
-        Some(segment) if segment.has_id(b"N9") && !segment.element(4).is_empty() => {
-            Ok(Some(copied(alloc, segment.element(4))?))
-        }
-        _ => Ok(None),
+    let expiry = element_at(segments, position, 4);
+    if has_id_at(segments, position, b"N9") && !expiry.is_empty() {
+        Ok(Some(copied(alloc, expiry)?))
+    } else {
+        Ok(None)
     }
 }
 

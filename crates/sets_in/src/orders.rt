@@ -9,7 +9,7 @@ ghost use Rattle.sets_in.specs.Amounts.{IsAmount, IsCounted, HaveAmounts};
 ghost use Rattle.sets_in.specs.SaidOrder.{SaysOrder};
 
 use crate::addresses::ship_to;
-use crate::reading::{copied, element_at, element_with, number, place_with};
+use crate::reading::{copied, element_at, element_with, has_id_at, number, place_with};
 use crate::shipping::{Order, OrderLine};
 use segments::Segment;
 use std::alloc::{AllocError, Global};
@@ -34,9 +34,10 @@ fn pin_at(
 ) -> Result<Option<Vec<u8>>, AllocError>
     ensures { IfOk result (λ p. option_map (λ v. v.items) p ≡ meant.pin_of (meant.segment_at (segments_of segments.now) position)) }
 {
-    match segments.get(position.saturating_sub(1)) {
-        Some(segment) if segment.has_id(b"N9") => Ok(Some(copied(alloc, segment.element(2))?)),
-        _ => Ok(None),
+    if has_id_at(segments, position, b"N9") {
+        Ok(Some(copied(alloc, element_at(segments, position, 2))?))
+    } else {
+        Ok(None)
     }
 }
 

@@ -1,7 +1,7 @@
 //! Looking segments and elements up, and reading numbers.
 ghost use Rattle.std.specs.Prelude.{◌≡◌, ◌<◌, ◌^◌, ◌-◌, IfOk, length};
 ghost use Rattle.profile.specs.Bytes.{value};
-ghost use Rattle.profile.specs.Cut.{segments_of, segment_with, element};
+ghost use Rattle.profile.specs.Cut.{segments_of, segment_with, element, has_id};
 ghost use Rattle.profile.specs.Means.{segment_at, place_of};
 ghost use Rattle.sets_in.specs.Amounts.{IsAmount};
 
@@ -45,6 +45,13 @@ pub(crate) fn element_at<'a>(segments: &[Segment<'a>], position: usize, n: usize
         Some(segment) => segment.element(n),
         None => &[],
     }
+}
+
+/// Whether the segment at a position, from 1, has the id.
+pub(crate) fn has_id_at(segments: &[Segment<'_>], position: usize, id: &[u8]) -> bool
+    ensures { result ≡ has_id id.now (segment_at (segments_of segments.now) position) }
+{
+    element_at(segments, position, 0) == id
 }
 
 /// The position of the first segment with the id, from 1; 0 where there is none.
