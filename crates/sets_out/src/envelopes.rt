@@ -64,7 +64,6 @@ pub(crate) fn filled(who: &Who) -> Party<'_>
 }
 
 // Appends each element after a separator, or a beginning of that.
-#[tactic(auto, using(segments::proofs::ExtendsLemmas::extends_trans, segments::proofs::ExtendsLemmas::extends_append))]
 fn append_elements(out: &mut Vec<u8>, separator: u8, elements: &[&[u8]]) -> Result<(), AllocError>
     ensures ok { OnOk result (out.new.items ≡ out.old.items ++ flat_map (λ e. separator ∷ e.now) elements.now) }
     ensures kept { Extends out.old.items out.new.items }
@@ -77,7 +76,6 @@ fn append_elements(out: &mut Vec<u8>, separator: u8, elements: &[&[u8]]) -> Resu
 }
 
 // Appends the two elements of a side, or a beginning of them.
-#[tactic(auto, using(segments::proofs::ExtendsLemmas::extends_trans, segments::proofs::ExtendsLemmas::extends_append))]
 fn append_party(out: &mut Vec<u8>, separator: u8, party: &Party<'_>) -> Result<(), AllocError>
     ensures ok { OnOk result (out.new.items ≡ out.old.items ++ flat_map
         (λ e. separator ∷ e) (party.now.qualifier ∷ party.now.id ∷ [])) }
@@ -89,7 +87,6 @@ fn append_party(out: &mut Vec<u8>, separator: u8, party: &Party<'_>) -> Result<(
 }
 
 // Appends ISA and its elements before the sides, or a beginning of that.
-#[tactic(auto, using(segments::proofs::ExtendsLemmas::extends_trans, segments::proofs::ExtendsLemmas::extends_append))]
 fn append_opening(out: &mut Vec<u8>, separator: u8) -> Result<(), AllocError>
     ensures ok { OnOk result (out.new.items ≡ out.old.items ++ joined separator (codes "ISA" ∷ codes "00" ∷
         padded 10 [] ∷ codes "00" ∷ padded 10 [] ∷ [])) }
@@ -102,7 +99,6 @@ fn append_opening(out: &mut Vec<u8>, separator: u8) -> Result<(), AllocError>
 }
 
 // Appends the last elements of a segment and its terminator, or a beginning of that.
-#[tactic(auto, using(segments::proofs::ExtendsLemmas::extends_trans, segments::proofs::ExtendsLemmas::extends_append))]
 fn append_tail(out: &mut Vec<u8>, delims: Delims, elements: &[&[u8]]) -> Result<(), AllocError>
     ensures ok { OnOk result (out.new.items ≡ out.old.items ++ (flat_map
         (λ e. delims.separator ∷ e.now) elements.now ++ delims.terminator ∷ [])) }
@@ -147,7 +143,6 @@ fn append_closing(
 }
 
 // Appends ISA, or a beginning of it.
-#[tactic(auto, using(segments::proofs::ExtendsLemmas::extends_trans, segments::proofs::ExtendsLemmas::extends_append))]
 pub(crate) fn append_isa(
     out: &mut Vec<u8>,
     delims: Delims,

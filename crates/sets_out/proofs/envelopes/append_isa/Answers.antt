@@ -2,6 +2,7 @@ use Rattle.std.proofs.Common.{[], ◌∷◌}
 use Rattle.std.specs.Prelude.{codes}
 use Rattle.profile.specs.Bytes.{padded, zero_filled}
 use Rattle.profile.specs.Moments.{date6, time4}
+use Rattle.segments.proofs.ExtendsLemmas.{extends_trans}
 use Rattle.sets_out.proofs.AppendsLaws.{appends_one}
 use Rattle.sets_out.proofs.IsaLaws.{isa_whole}
 use Rattle.sets_out.proofs.envelopes.append_isa.Goals as goal
@@ -19,3 +20,15 @@ returns-clause-ok c =
     (rw (c.separator-2.ensures, c.filled.ensures) at c.in_ok-append_party.ensures.ok)
     (rw c.separator-3.ensures at c.in_ok-append_party-2.ensures.ok)
     c.in_ok-append_closing.ensures.ok)
+
+pub returns-in_err-append_party-clause-kept : goal.returns-in_err-append_party-clause-kept
+returns-in_err-append_party-clause-kept c = extends_trans _ _ _ c.in_ok-append_opening.ensures.kept c.in_err-append_party.ensures.kept
+
+pub returns-in_err-append_party-2-clause-kept : goal.returns-in_err-append_party-2-clause-kept
+returns-in_err-append_party-2-clause-kept c = extends_trans _ _ _ (extends_trans _ _ _ c.in_ok-append_opening.ensures.kept c.in_ok-append_party.ensures.kept) c.in_err-append_party-2.ensures.kept
+
+pub returns-in_err-append_closing-clause-kept : goal.returns-in_err-append_closing-clause-kept
+returns-in_err-append_closing-clause-kept c = extends_trans _ _ _ (extends_trans _ _ _ (extends_trans _ _ _ c.in_ok-append_opening.ensures.kept c.in_ok-append_party.ensures.kept) c.in_ok-append_party-2.ensures.kept) c.in_err-append_closing.ensures.kept
+
+pub returns-clause-kept : goal.returns-clause-kept
+returns-clause-kept c = extends_trans _ _ _ (extends_trans _ _ _ (extends_trans _ _ _ c.in_ok-append_opening.ensures.kept c.in_ok-append_party.ensures.kept) c.in_ok-append_party-2.ensures.kept) c.in_ok-append_closing.ensures.kept

@@ -17,3 +17,6 @@ loop-index-preserved c =
       told = subst P (sym more) (appends_then c.args.delims _ _ _ _ _ _ _ c.loop-index.invariant.told c.in_ok-count.ensures.ok);
       kept = extends_trans _ _ _ c.loop-index.invariant.kept c.in_ok-count.ensures.kept;
     }
+
+pub returns-in_err-count-clause-kept : goal.returns-in_err-count-clause-kept
+returns-in_err-count-clause-kept c = extends_trans _ _ _ c.loop-index.invariant.kept c.in_err-count.ensures.kept

@@ -25,3 +25,6 @@ returns-clause-ok c =
     let all : take c.loop-index.index c.args.lines.now ≡ c.args.lines.now = take_all c.loop-index.index c.args.lines.now c.loop-index-test.false in
     let P : List ShippedLine → Type 0 = λ x. Appends c.args.delims c.args.out.now.items c.loop-index.out.items (flat_map (λ p. shipped_line p.0 p.1) (enumerate_from 1 x)) c.loop-index.count in
     subst P all c.loop-index.invariant.told
+
+pub returns-in_err-count-clause-kept : goal.returns-in_err-count-clause-kept
+returns-in_err-count-clause-kept c = extends_trans _ _ _ c.loop-index.invariant.kept c.in_err-count.ensures.kept
