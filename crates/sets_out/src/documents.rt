@@ -1,13 +1,14 @@
-ghost use Rattle.std.specs.Prelude.{◌≡◌, ◌++◌, ◌∷◌, [], IfOk, OnOk, OnErr};
+ghost use Rattle.std.specs.Prelude.{◌≡◌, ◌++◌, ◌∷◌, [], codes, IfOk, OnOk, OnErr};
 ghost use Rattle.profile.specs.Texts.{document_text, group_of_sets, own_delims, set_of_segments, text_of};
 ghost use Rattle.segments.specs.Extends.{Extends};
 ghost use Rattle.sets_out.specs.Appends.{Appends};
-ghost use Rattle.sets_out.specs.Handed.{function_of, number_of, body_of};
+ghost use Rattle.sets_out.specs.Documents.{receipt_body, shipment_body, adjustment_body};
+ghost use Rattle.sets_out.specs.Handed.{function_of, number_of, body_of, receipt_of, shipment_of};
 
 use crate::envelopes::{
     Envelope, append_ge, append_gs, append_iea, append_isa, append_se, append_st, filled,
 };
-use crate::sheets::Document;
+use crate::sheets::{AdjustedLine, Document, Receipt, Shipment};
 use crate::{adjustments, receipts, shipments};
 use segments::{Delims, Moment};
 use std::alloc::AllocError;
@@ -71,10 +72,8 @@ fn append_set(
     Ok(body + 2)
 }
 
-/// Appends the set of a document, from ST to SE, under its entry's moment and number: 944 Warehouse Stock Transfer
-/// Receipt Advice, 945 Warehouse Shipping Advice, or 947 Warehouse Inventory Adjustment Advice, which has each of its
-/// lines that differs, as they stand. After an error, AllocError, the vector holds what it held.
-pub fn write_document(
+// Appends the set of a document, from ST to SE, or nothing.
+fn write_set(
     out: &mut Vec<u8>,
     moment: &Moment,
     number: u32,
@@ -92,6 +91,51 @@ pub fn write_document(
             Err(e)
         }
     }
+}
+
+/// Appends 944 Warehouse Stock Transfer Receipt Advice, from ST to SE, under its entry's moment and number. After an
+/// error, AllocError, the vector holds what it held.
+pub fn write_944(
+    out: &mut Vec<u8>,
+    moment: &Moment,
+    number: u32,
+    receipt: &Receipt<'_>,
+) -> Result<(), AllocError>
+    ensures ok { OnOk result (out.new.items ≡ out.old.items ++ text_of own_delims
+        (set_of_segments (codes "944") 1 (receipt_body moment.now number (receipt_of receipt.now)))) }
+    ensures err { OnErr result (out.new.items ≡ out.old.items) }
+{
+    write_set(out, moment, number, &Document::Received(receipt))
+}
+
+/// Appends 945 Warehouse Shipping Advice, from ST to SE, under its entry's moment and number. After an error,
+/// AllocError, the vector holds what it held.
+pub fn write_945(
+    out: &mut Vec<u8>,
+    moment: &Moment,
+    number: u32,
+    shipment: &Shipment<'_>,
+) -> Result<(), AllocError>
+    ensures ok { OnOk result (out.new.items ≡ out.old.items ++ text_of own_delims
+        (set_of_segments (codes "945") 1 (shipment_body moment.now number (shipment_of shipment.now)))) }
+    ensures err { OnErr result (out.new.items ≡ out.old.items) }
+{
+    write_set(out, moment, number, &Document::Shipped(shipment))
+}
+
+/// Appends 947 Warehouse Inventory Adjustment Advice, from ST to SE, under its entry's moment and number: each of the
+/// lines that differs, as they stand. After an error, AllocError, the vector holds what it held.
+pub fn write_947(
+    out: &mut Vec<u8>,
+    moment: &Moment,
+    number: u32,
+    lines: &[AdjustedLine<'_>],
+) -> Result<(), AllocError>
+    ensures ok { OnOk result (out.new.items ≡ out.old.items ++ text_of own_delims
+        (set_of_segments (codes "947") 1 (adjustment_body moment.now number lines.now))) }
+    ensures err { OnErr result (out.new.items ≡ out.old.items) }
+{
+    write_set(out, moment, number, &Document::Adjusted(lines))
 }
 
 // Appends the group of a document, or a beginning of it.

@@ -16,7 +16,7 @@ mod told;
 mod writing;
 
 pub use acknowledgment::write_997;
-pub use documents::write_document;
+pub use documents::{write_944, write_945, write_947};
 pub use envelopes::Envelope;
 pub use headings::{Heading, write_ta1};
 pub use interchanges::{Answer, NoteAnswer, Outgoing, write_interchange};
