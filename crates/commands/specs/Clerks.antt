@@ -8,9 +8,9 @@ use Rattle.profile.specs.Clerk.{SheetKind, CountSheet, PickSheet, RecountSheet}
 use Rattle.profile.specs.Header.{Who, is_partner}
 use Rattle.profile.specs.Means.{Line}
 use Rattle.profile.specs.Register.{Act, Count, Pick, Recount, Command, Clerk}
-use Rattle.commands.specs.declared.words.ClerkWords.{ClerkWords}
-use Rattle.commands.specs.declared.words.Deed.{Deed}
-use Rattle.commands.specs.declared.words.Deed.TheVariants as deed
+use Rattle.command_line.specs.declared.words.ClerkWords.{ClerkWords}
+use Rattle.command_line.specs.declared.words.Deed.{Deed}
+use Rattle.command_line.specs.declared.words.Deed.TheVariants as deed
 
 -- the number is that of the advice or the order
 abbrev pub act_of : Deed → List ℕ → List Line → Act

@@ -9,12 +9,12 @@ use Rattle.commands.specs.Acting.{Ending}
 use Rattle.commands.specs.Readying.{IsChange, IsLeft}
 use Rattle.commands.specs.Shown.{IsShown, shown_of}
 use Rattle.commands.specs.declared.shows.Asked.{Asked}
-use Rattle.commands.specs.declared.words.Show.{Show}
-use Rattle.commands.specs.declared.words.Show.TheVariants as show
-use Rattle.commands.specs.declared.words.Task.{Task}
-use Rattle.commands.specs.declared.words.Task.TheVariants as task
-use Rattle.commands.specs.declared.words.Words.{Words}
-use Rattle.commands.specs.declared.words.Words.TheVariants as words
+use Rattle.command_line.specs.declared.words.Show.{Show}
+use Rattle.command_line.specs.declared.words.Show.TheVariants as show
+use Rattle.command_line.specs.declared.words.Task.{Task}
+use Rattle.command_line.specs.declared.words.Task.TheVariants as task
+use Rattle.command_line.specs.declared.words.Words.{Words}
+use Rattle.command_line.specs.declared.words.Words.TheVariants as words
 
 -- the word that names the depositor
 abbrev pub name_in : Show → List ℕ

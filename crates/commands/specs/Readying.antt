@@ -9,8 +9,8 @@ use Rattle.commands.specs.Rosters.{IsRead}
 use Rattle.commands.specs.declared.acts.Ready.{Ready}
 use Rattle.commands.specs.declared.acts.Ready.TheVariants as ready
 use Rattle.commands.specs.declared.told.ExitStatus.TheVariants.{Refused}
-use Rattle.commands.specs.declared.words.BookAct.{BookAct}
-use Rattle.commands.specs.declared.words.BookAct.TheVariants as act
+use Rattle.command_line.specs.declared.words.BookAct.{BookAct}
+use Rattle.command_line.specs.declared.words.BookAct.TheVariants as act
 
 -- it is what these words ask for; the bytes of a file may be any
 abbrev pub IsMadeReady : BookAct → Ready → Type 0

@@ -14,8 +14,8 @@ use Rattle.commands.specs.Telling.{line_of}
 use Rattle.commands.specs.declared.told.ExitStatus.{ExitStatus}
 use Rattle.commands.specs.declared.told.ExitStatus.TheVariants.{Done, Refused}
 use Rattle.commands.specs.declared.shows.Asked.{Asked}
-use Rattle.commands.specs.declared.words.Show.{Show}
-use Rattle.commands.specs.declared.words.Show.TheVariants as show
+use Rattle.command_line.specs.declared.words.Show.{Show}
+use Rattle.command_line.specs.declared.words.Show.TheVariants as show
 
 -- what is printed, and the status
 abbrev pub Shown : Type 0

@@ -10,8 +10,8 @@ use Rattle.commands.specs.Looking.{IsAskedFor, IsLook}
 use Rattle.commands.specs.Readying.{IsMadeReady}
 use Rattle.commands.specs.declared.over_file.Job.{Job}
 use Rattle.commands.specs.declared.over_file.Job.TheVariants as job
-use Rattle.commands.specs.declared.words.Task.{Task}
-use Rattle.commands.specs.declared.words.Task.TheVariants as task
+use Rattle.command_line.specs.declared.words.Task.{Task}
+use Rattle.command_line.specs.declared.words.Task.TheVariants as task
 
 abbrev pub says_none : Option Moment → Bool
 says_none None = true

@@ -17,7 +17,7 @@ use crate::slips::{Slip, clerk, slip_of};
 use crate::takes::take;
 use crate::told::{CommandError, ExitStatus, tell_refusal, tell_text};
 use crate::verbosity::Verbosity;
-use crate::words::BookAct;
+use command_line::BookAct;
 use intake::read_interchange;
 use std::alloc::Global;
 use std::io;

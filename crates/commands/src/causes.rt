@@ -5,7 +5,7 @@ ghost use Rattle.commands.specs.Stops.{fault_in, IsDeviceFault};
 use crate::files::{MOST_SHEET, read_within};
 use crate::slips::sheet_kind;
 use crate::told::CommandError;
-use crate::words::{BookAct, ClerkWords, Deed, Show, Task};
+use command_line::{BookAct, ClerkWords, Deed, Show, Task};
 use intake::FolderStop;
 use itoa::Buffer;
 use profile::{MOST_NUMBER, MOST_TICKET};

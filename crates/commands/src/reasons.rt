@@ -1,7 +1,7 @@
 //! Why the book refuses what a clerk did, for people: the line of the sheet, and what the book has of its pair.
 use crate::slips::{Slip, clerk};
 use crate::told::CommandError;
-use crate::words::Deed;
+use command_line::Deed;
 use itoa::Buffer;
 use rules::need;
 use sets_in::Goods;

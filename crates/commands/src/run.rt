@@ -1,9 +1,8 @@
 use crate::over_file::run_over_file;
-use crate::reading::line;
 use crate::script::run_script;
 use crate::told::{CommandError, ExitStatus, tell_stop, usage};
 use crate::verbosity::Verbosity;
-use crate::words::{LineFault, Place, Words};
+use command_line::{LineFault, Place, Words, line};
 use std::io::{self, IsTerminal};
 
 // The program's version, which is that of the rules by which it judges.

@@ -4,11 +4,10 @@ ghost use Rattle.commands.specs.Readying.{IsChange};
 
 use crate::acts::{perform, ready_at};
 use crate::files::{MOST_SCRIPT, read_within};
-use crate::reading::line;
 use crate::shows::{ask, show};
 use crate::told::{CommandError, ExitStatus, tell_refusal, usage};
 use crate::verbosity::Verbosity;
-use crate::words::{BookAct, Place, Show, Task, Words};
+use command_line::{BookAct, Place, Show, Task, Words, line};
 use std::io;
 use std::rt::{Clock, Files};
 use store::{Keeper, Moment, Refusal, ReplayBook, Warehouse, Who};

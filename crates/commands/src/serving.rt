@@ -5,7 +5,7 @@ use crate::clock::now;
 use crate::served_files::ServedFile;
 use crate::told::{CommandError, ExitStatus};
 use crate::verbosity::Verbosity;
-use crate::words::Service;
+use command_line::Service;
 use http::StatusCode;
 use intake::{Connection, Patience, RequestLine, serve_within};
 use std::io;

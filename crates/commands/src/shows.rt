@@ -12,7 +12,7 @@ ghost use Rattle.commands.specs.Looking.{IsAskedFor};
 ghost use Rattle.commands.specs.Shown.{IsShown, shown_stock, shown_list, shown_text, shown_order, shown_of};
 
 use crate::told::{CommandError, ExitStatus, tell_refusal, tell_text};
-use crate::words::Show;
+use command_line::Show;
 use profile::MOST_NUMBER;
 use reports::{NoSheet, outbox_list, pick_list, stock_csv, stock_report};
 use std::alloc::{AllocError, Global};

@@ -12,7 +12,7 @@ ghost use Rattle.commands.specs.Clerks.{IsDepositor, act_of, command_of};
 
 use crate::files::{MOST_SHEET, read_within};
 use crate::told::CommandError;
-use crate::words::{ClerkWords, Deed};
+use command_line::{ClerkWords, Deed};
 use profile::{MOST_NUMBER, MOST_TICKET};
 use sheet_texts::sheet;
 use std::alloc::{AllocError, Global};

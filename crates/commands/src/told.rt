@@ -3,7 +3,7 @@ ghost use Rattle.std.specs.Io.KnownBytes.{Appends};
 ghost use Rattle.commands.specs.Statuses as meant;
 ghost use Rattle.commands.specs.Telling.{fault_line, line_of, refusal_line, stop_text};
 
-use crate::words::LineFault;
+use command_line::LineFault;
 use std::alloc::{AllocError, Global};
 use std::io;
 use store::{Fault, Refusal};

@@ -1,0 +1,3 @@
+pub mod Written
+pub mod Lines
+pub mod Parsers

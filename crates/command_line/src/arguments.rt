@@ -1,0 +1,187 @@
+//! The arguments of subcommands, and how a subcommand is put together of them and joined to the others.
+ghost use Rattle.std.specs.Prelude.{◌≡◌, ◌∷◌, IfOk, true, []};
+ghost use Rattle.clap.specs.Simple.{App, Shape, app_of, with_subcommand};
+ghost use Rattle.clap.specs.Walk.{Rule};
+ghost use Rattle.command_line.specs.Lines as meant;
+ghost use Rattle.command_line.specs.Parsers.{IsRule, IsCommand};
+
+use crate::words::Place;
+use clap::{Arg, ArgAction, Command};
+use std::alloc::{AllocError, Global};
+
+/// A value that must be there.
+pub(crate) fn value<'a>(alloc: Global, id: &'a str, name: &'a str, help: &'a str) -> Arg<'a>
+    ensures { IsRule (meant.value_rule id.now) result }
+{
+    Arg::new(alloc, id)
+        .value_name(name)
+        .help(help)
+        .required(true)
+        .action(ArgAction::Set)
+}
+
+/// An option with a value.
+pub(crate) fn option<'a>(alloc: Global, id: &'a str, name: &'a str, help: &'a str) -> Arg<'a>
+    ensures { IsRule (meant.option_rule id.now) result }
+{
+    Arg::new(alloc, id)
+        .long(id)
+        .value_name(name)
+        .help(help)
+        .action(ArgAction::Set)
+}
+
+/// An option with a value that must be there.
+pub(crate) fn wanted<'a>(alloc: Global, id: &'a str, name: &'a str, help: &'a str) -> Arg<'a>
+    ensures { IsRule (meant.wanted_rule id.now) result }
+{
+    option(alloc, id, name, help).required(true)
+}
+
+/// An option without a value.
+pub(crate) fn flag<'a>(alloc: Global, id: &'a str, help: &'a str) -> Arg<'a>
+    ensures { IsRule (meant.flag_rule id.now) result }
+{
+    Arg::new(alloc, id)
+        .long(id)
+        .help(help)
+        .action(ArgAction::SetTrue)
+}
+
+/// The depositor of a command.
+pub(crate) fn depositor<'a>(alloc: Global) -> Arg<'a>
+    ensures { IsRule meant.who_rule result }
+{
+    value(
+        alloc,
+        "who",
+        "WHO",
+        "The depositor: its qualifier, a hyphen and its id, as its ISA has them",
+    )
+}
+
+/// The number of an order.
+pub(crate) fn order<'a>(alloc: Global) -> Arg<'a>
+    ensures { IsRule meant.number_rule result }
+{
+    value(alloc, "number", "ORDER", "The number of the order")
+}
+
+/// The ticket of a clerk's act.
+pub(crate) fn ticket<'a>(alloc: Global) -> Arg<'a>
+    ensures { IsRule meant.ticket_rule result }
+{
+    value(
+        alloc,
+        "ticket",
+        "TICKET",
+        "The number of the slip, by which the act is known when it is told again",
+    )
+}
+
+/// The sheet of a clerk's act.
+pub(crate) fn sheet<'a>(alloc: Global) -> Arg<'a>
+    ensures { IsRule meant.sheet_rule result }
+{
+    value(
+        alloc,
+        "sheet",
+        "SHEET",
+        "The file with the sheet: CSV without a header, a line for each item, lot and quantity",
+    )
+}
+
+/// The moment of a command, which may stand in each line.
+pub(crate) fn at<'a>(alloc: Global) -> Arg<'a>
+    ensures { IsRule meant.at_rule result }
+{
+    option(
+        alloc,
+        "at",
+        "YYYY-MM-DDTHH:MM",
+        "The moment of the command in UTC, in place of the clock's",
+    )
+}
+
+/// A command of this name with its first argument. The functions after it take a command or the error of the step before, which they
+/// hand on. So what puts commands together has no branch: at each of them every command that is alive would be let go, which is dear to prove.
+pub(crate) fn subcommand<'a>(
+    alloc: Global,
+    name: &'a str,
+    about: &'a str,
+    usage: &'a str,
+    help: &'a str,
+    first: Arg<'a>,
+) -> Result<Command<'a>, AllocError>
+    ensures { (r : Rule) → IsRule r first.entry → IfOk result (IsCommand (meant.subcommand name.now (r ∷ []))) }
+{
+    Command::new(alloc, name)
+        .about(about)
+        .override_usage(usage)
+        .after_help(help)
+        .arg(first)
+}
+
+/// With an argument more.
+pub(crate) fn with<'a>(
+    command: Result<Command<'a>, AllocError>,
+    arg: Arg<'a>,
+) -> Result<Command<'a>, AllocError>
+    ensures { (s : Shape) (r : Rule) → IfOk command.entry (IsCommand s) → IsRule r arg.entry
+        → IfOk result (IsCommand (meant.and_rule s r)) }
+{
+    // A match in place of `?`, since the proof names what it finds.
+    match command {
+        Ok(command) => command.arg(arg),
+        Err(error) => Err(error),
+    }
+}
+
+/// With a subcommand more.
+pub(crate) fn join<'a>(
+    parser: Result<Command<'a>, AllocError>,
+    command: Result<Command<'a>, AllocError>,
+) -> Result<Command<'a>, AllocError>
+    ensures { (a : App) (s : Shape) → IfOk parser.entry (λ c. app_of c ≡ a) → IfOk command.entry (IsCommand s)
+        → IfOk result (λ c. app_of c ≡ with_subcommand a s) }
+{
+    parser?.subcommand(command?)
+}
+
+// With the file of the book, and how long it is waited for.
+fn with_book<'a>(
+    alloc: Global,
+    command: Result<Command<'a>, AllocError>,
+) -> Result<Command<'a>, AllocError>
+    ensures { (s : Shape) → IfOk command.entry (IsCommand s) → IfOk result (IsCommand (meant.over_book s)) }
+{
+    let command = with(
+        command,
+        wanted(alloc, "book", "BOOK", "The file with the book"),
+    );
+    with(
+        command,
+        option(
+            alloc,
+            "wait",
+            "SECONDS",
+            "How long a book that is in use is waited for [default: 5]",
+        ),
+    )
+}
+
+/// With a subcommand more, as it stands at the place: the program's are over the book in a file.
+pub(crate) fn join_at<'a>(
+    alloc: Global,
+    place: Place,
+    parser: Result<Command<'a>, AllocError>,
+    command: Result<Command<'a>, AllocError>,
+) -> Result<Command<'a>, AllocError>
+    ensures { (a : App) (s : Shape) → IfOk parser.entry (λ c. app_of c ≡ a) → IfOk command.entry (IsCommand s)
+        → IfOk result (λ c. app_of c ≡ meant.with_all place a (s ∷ [])) }
+{
+    match place {
+        Place::Program => join(parser, with_book(alloc, command)),
+        Place::Script => join(parser, command),
+    }
+}

@@ -1,0 +1,51 @@
+//! Numbers as the words of a line write them.
+ghost use Rattle.std.specs.Prelude.{◌≡◌};
+ghost use Rattle.command_line.specs.Written as written;
+
+use profile::MOST_ENTRIES;
+use segments::{all_digits, value_up_to};
+
+/// How far digits are read: no entry's number, no quantity and no count of connections reaches it.
+pub(crate) const MILLION: u64 = 1_000_000;
+
+// The most connections that a server may be told to serve, and the most seconds that something may be told to wait.
+const MOST_CONNECTIONS: u64 = 65_535;
+
+/// How many connections the text writes: digits alone, with zeros in front or without; None where it is another text, 0, or
+/// over 65535.
+pub fn count_of(text: &[u8]) -> Option<u16>
+    ensures { result ≡ written.count_of text.now }
+{
+    let number = value_up_to(text, MILLION);
+    if all_digits(text) && number >= 1 && number <= MOST_CONNECTIONS {
+        Some(number as u16)
+    } else {
+        None
+    }
+}
+
+/// For how many seconds a book that is in use is waited for: digits alone, with zeros in front or without, to 65535; None where it is
+/// another text.
+pub fn wait_of(text: &[u8]) -> Option<u16>
+    ensures { result ≡ written.wait_of text.now }
+{
+    let number = value_up_to(text, MILLION);
+    if !text.is_empty() && all_digits(text) && number <= MOST_CONNECTIONS {
+        Some(number as u16)
+    } else {
+        None
+    }
+}
+
+/// The number of an entry that the text writes: digits alone, with zeros in front or without; None where it is another text,
+/// or a number that no entry has.
+pub fn number_of(text: &[u8]) -> Option<u32>
+    ensures { result ≡ written.number_of text.now }
+{
+    let number = value_up_to(text, MILLION);
+    if all_digits(text) && number >= 1 && number <= u64::from(MOST_ENTRIES) {
+        Some(number as u32)
+    } else {
+        None
+    }
+}

@@ -1,0 +1,376 @@
+//! What may stand in a line of words: the subcommands, and the help that each shows.
+ghost use Rattle.std.specs.Prelude.{◌≡◌, IfOk, true};
+ghost use Rattle.clap.specs.Simple.{App, app_of};
+ghost use Rattle.command_line.specs.Lines as meant;
+ghost use Rattle.command_line.specs.Parsers.{IsCommand};
+
+use crate::arguments::{
+    at, depositor, flag, join, join_at, option, order, sheet, subcommand, ticket, value, wanted,
+    with,
+};
+use crate::words::Place;
+use clap::Command;
+use std::alloc::{AllocError, Global};
+
+fn script<'a>(alloc: Global) -> Result<Command<'a>, AllocError>
+    ensures { IfOk result (IsCommand meant.script_shape) }
+{
+    subcommand(
+        alloc,
+        "script",
+        "Runs the commands of a file, line by line, over a new book in memory",
+        "whx12 script FILE",
+        "Example: whx12 script morning.txt\n\nThe first line makes the book, as: init ZZ-WHSE1. Each other line is one of\n  enrol   roster   send   take   count   pick   recount   stock   orders   outbox\nwithout `whx12` and `--book`, and with single spaces between its words; empty lines are passed over. A line that is a name and --help stops the script and\nshows what that command wants. A refused command is told on standard error, and the script goes on; words that can't be\nread and faults stop it.",
+        value(alloc, "file", "FILE", "The file with the commands"),
+    )
+}
+
+fn batch<'a>(alloc: Global) -> Result<Command<'a>, AllocError>
+    ensures { IfOk result (IsCommand meant.batch_shape) }
+{
+    subcommand(
+        alloc,
+        "batch",
+        "Runs the commands of a file, line by line, over the book, which is opened once",
+        "whx12 batch FILE --book BOOK",
+        "Example: whx12 batch morning.txt --book harbor.book\n\nThe lines are those of a script, without `init`. Each command is in the book before the next one begins. A refused command is\ntold on standard error, and the next one follows; words that can't be read and faults stop the batch, and the number of their\nline is told. What was done before them stays done, and the file can be given again: what is known gets its first answer.",
+        value(alloc, "file", "FILE", "The file with the commands"),
+    )
+}
+
+fn init<'a>(alloc: Global) -> Result<Command<'a>, AllocError>
+    ensures { IfOk result (IsCommand meant.init_shape) }
+{
+    let command = subcommand(
+        alloc,
+        "init",
+        "Makes the book of a warehouse; the first line of a script, and no other",
+        "whx12 init WHO --book BOOK [--at MOMENT]",
+        "Example: whx12 init ZZ-WHSE1 --book harbor.book",
+        value(
+            alloc,
+            "who",
+            "WHO",
+            "The warehouse: its qualifier, a hyphen and its id, as its ISA has them",
+        ),
+    );
+    with(command, at(alloc))
+}
+
+fn enrol<'a>(alloc: Global) -> Result<Command<'a>, AllocError>
+    ensures { IfOk result (IsCommand meant.enrol_shape) }
+{
+    let command = subcommand(
+        alloc,
+        "enrol",
+        "Enrols a depositor, whose interchanges are taken from then on",
+        "whx12 enrol WHO --book BOOK [--at MOMENT]",
+        "Example: whx12 enrol ZZ-ACME --book harbor.book",
+        depositor(alloc),
+    );
+    with(command, at(alloc))
+}
+
+fn roster<'a>(alloc: Global) -> Result<Command<'a>, AllocError>
+    ensures { IfOk result (IsCommand meant.roster_shape) }
+{
+    let command = subcommand(
+        alloc,
+        "roster",
+        "Enrols the depositors of a list, and prints what became of each",
+        "whx12 roster FILE --book BOOK [--at MOMENT]",
+        "Example: whx12 roster depositors.toml --book harbor.book\n\nThe file is TOML with the line\n  depositors = [\"ZZ-ACME\", \"ZZ-BOLTCO\"]\nA name in it that can't be read refuses the whole list, and nobody is enrolled.",
+        value(alloc, "file", "FILE", "The file with the list"),
+    );
+    with(command, at(alloc))
+}
+
+fn send<'a>(alloc: Global) -> Result<Command<'a>, AllocError>
+    ensures { IfOk result (IsCommand meant.send_shape) }
+{
+    let command = subcommand(
+        alloc,
+        "send",
+        "Hands in an interchange as it came, and prints the answer to send back",
+        "whx12 send FILE --book BOOK [--at MOMENT]",
+        "Example: whx12 send advice.x12 --book harbor.book\n\nThe same bytes sent again get the same answer, and nothing is taken twice.",
+        value(alloc, "file", "FILE", "The file with the interchange"),
+    );
+    with(command, at(alloc))
+}
+
+fn take<'a>(alloc: Global) -> Result<Command<'a>, AllocError>
+    ensures { IfOk result (IsCommand meant.take_shape) }
+{
+    let command = subcommand(
+        alloc,
+        "take",
+        "Hands in each file of a folder whose name ends .x12, and writes the answers beside them",
+        "whx12 take DIR --book BOOK [--at MOMENT]",
+        "Example: whx12 take inbox --book harbor.book\n\nThe answer to inbox/a.x12 is written to inbox/a.x12.ans. What became of each file is printed. Taking the folder again\nis safe: the same bytes get the same answer, and nothing is taken twice.",
+        value(alloc, "dir", "DIR", "The folder with the interchanges"),
+    );
+    with(command, at(alloc))
+}
+
+fn count<'a>(alloc: Global) -> Result<Command<'a>, AllocError>
+    ensures { IfOk result (IsCommand meant.count_shape) }
+{
+    let command = subcommand(
+        alloc,
+        "count",
+        "Tells what came in for an advice, closes it, and prints its receipt (944)",
+        "whx12 count WHO TICKET SHIPMENT SHEET --book BOOK [--at MOMENT]",
+        "Example: whx12 count ZZ-ACME CNT-0412 SHP1 count.csv --book harbor.book\n\nwhere count.csv is\n  BOLT,LOT-7,90\n  NUT,LOT-2,0\nWhat was announced and isn't in the sheet is missing: an empty sheet closes the advice with nothing on hand.",
+        depositor(alloc),
+    );
+    let command = with(command, ticket(alloc));
+    let command = with(
+        command,
+        value(
+            alloc,
+            "number",
+            "SHIPMENT",
+            "The shipment number of the advice",
+        ),
+    );
+    let command = with(command, sheet(alloc));
+    with(command, at(alloc))
+}
+
+fn pick<'a>(alloc: Global) -> Result<Command<'a>, AllocError>
+    ensures { IfOk result (IsCommand meant.pick_shape) }
+{
+    let command = subcommand(
+        alloc,
+        "pick",
+        "Tells what was picked for an order, closes it, and prints its shipping advice (945)",
+        "whx12 pick WHO TICKET ORDER SHEET --book BOOK [--at MOMENT]",
+        "Example: whx12 pick ZZ-ACME PCK-0231 ORD1 pick.csv --book harbor.book\n\nwhere pick.csv is\n  BOLT,LOT-7,60\nNo more of a lot can be picked than the order has reserved. An empty file says that nothing was picked.",
+        depositor(alloc),
+    );
+    let command = with(command, ticket(alloc));
+    let command = with(command, order(alloc));
+    let command = with(command, sheet(alloc));
+    with(command, at(alloc))
+}
+
+fn recount<'a>(alloc: Global) -> Result<Command<'a>, AllocError>
+    ensures { IfOk result (IsCommand meant.recount_shape) }
+{
+    let command = subcommand(
+        alloc,
+        "recount",
+        "Sets what is on hand of each lot of the sheet, and prints the adjustment (947)",
+        "whx12 recount WHO TICKET SHEET --book BOOK [--at MOMENT]",
+        "Example: whx12 recount ZZ-ACME REC-0009 recount.csv --book harbor.book\n\nwhere recount.csv is\n  BOLT,LOT-7,28\nAt least one line has to differ from what is on hand.",
+        depositor(alloc),
+    );
+    let command = with(command, ticket(alloc));
+    let command = with(command, sheet(alloc));
+    with(command, at(alloc))
+}
+
+fn stock<'a>(alloc: Global) -> Result<Command<'a>, AllocError>
+    ensures { IfOk result (IsCommand meant.stock_shape) }
+{
+    let command = subcommand(
+        alloc,
+        "stock",
+        "Prints what a depositor has, a line for each item and lot",
+        "whx12 stock WHO [--csv] --book BOOK",
+        "Example: whx12 stock ZZ-ACME --book harbor.book\nExample: whx12 stock ZZ-ACME --csv --book harbor.book",
+        depositor(alloc),
+    );
+    let command = with(
+        command,
+        flag(alloc, "csv", "Prints it as CSV, for a spreadsheet"),
+    );
+    with(command, at(alloc))
+}
+
+fn orders<'a>(alloc: Global) -> Result<Command<'a>, AllocError>
+    ensures { IfOk result (IsCommand meant.orders_shape) }
+{
+    let command = subcommand(
+        alloc,
+        "orders",
+        "Prints the picking sheet of an open order",
+        "whx12 orders WHO ORDER --book BOOK",
+        "Example: whx12 orders ZZ-ACME ORD1 --book harbor.book",
+        depositor(alloc),
+    );
+    let command = with(command, order(alloc));
+    with(command, at(alloc))
+}
+
+fn outbox<'a>(alloc: Global) -> Result<Command<'a>, AllocError>
+    ensures { IfOk result (IsCommand meant.outbox_shape) }
+{
+    let command = subcommand(
+        alloc,
+        "outbox",
+        "Lists what went out to a depositor, or prints one of those texts again",
+        "whx12 outbox WHO [--number N] --book BOOK",
+        "Example: whx12 outbox ZZ-ACME --book harbor.book\nExample: whx12 outbox ZZ-ACME --number 4 --book harbor.book\n\nIn the list ANS is an answer; of a document it says whether the depositor took it: open, accepted or refused.",
+        depositor(alloc),
+    );
+    let command = with(
+        command,
+        option(
+            alloc,
+            "number",
+            "N",
+            "The number of one text, from 1 to 999999",
+        ),
+    );
+    with(command, at(alloc))
+}
+
+fn serve<'a>(alloc: Global) -> Result<Command<'a>, AllocError>
+    ensures { IfOk result (IsCommand meant.serve_shape) }
+{
+    let command = subcommand(
+        alloc,
+        "serve",
+        "Serves the book over HTTP, one connection after the other",
+        "whx12 serve --listen ADDR --count N [--patience SECONDS] [--anyone] --book BOOK [--at MOMENT]",
+        "Example: whx12 serve --book harbor.book --listen 127.0.0.1:8080 --count 1000\n\nA depositor posts its interchanges to /x12. GET /stock/ZZ-ACME shows stock, /outbox/ZZ-ACME what went out. Printed is the\nstatus of each response, or: fault 44 Device. While it serves, no other command can open the book.",
+        wanted(
+            alloc,
+            "listen",
+            "ADDR",
+            "The IP address and port to listen at, as 127.0.0.1:8080",
+        ),
+    );
+    let command = with(
+        command,
+        wanted(
+            alloc,
+            "count",
+            "N",
+            "How many connections are served, from 1 to 65535",
+        ),
+    );
+    let command = with(
+        command,
+        option(
+            alloc,
+            "patience",
+            "SECONDS",
+            "How long a request is waited for, and its response [default: 30]",
+        ),
+    );
+    let command = with(
+        command,
+        flag(
+            alloc,
+            "anyone",
+            "Listens at an address that other machines reach: whoever reaches it may post",
+        ),
+    );
+    with(command, at(alloc))
+}
+
+fn verify<'a>(alloc: Global) -> Result<Command<'a>, AllocError>
+    ensures { IfOk result (IsCommand meant.verify_shape) }
+{
+    subcommand(
+        alloc,
+        "verify",
+        "Says whether every table of the book is what its register gives",
+        "whx12 verify --book BOOK",
+        "Example: whx12 verify --book harbor.book\n\nThe command of each entry is given again to an empty book in memory, and every table is compared with that book's. Printed\nis: ok and the number of entries; a difference is: fault 43 NotThisBook. Nothing is written. Run it after a restore, before a\nyear is closed, and after a fault of the disk.",
+        at(alloc),
+    )
+}
+
+// With the subcommands that change the book.
+fn with_acts<'a>(
+    alloc: Global,
+    place: Place,
+    parser: Result<Command<'a>, AllocError>,
+) -> Result<Command<'a>, AllocError>
+    ensures { (a : App) → IfOk parser.entry (λ c. app_of c ≡ a)
+        → IfOk result (λ c. app_of c ≡ meant.with_all place a meant.act_subcommands) }
+{
+    let parser = join_at(alloc, place, parser, enrol(alloc));
+    let parser = join_at(alloc, place, parser, roster(alloc));
+    let parser = join_at(alloc, place, parser, send(alloc));
+    let parser = join_at(alloc, place, parser, take(alloc));
+    let parser = join_at(alloc, place, parser, count(alloc));
+    let parser = join_at(alloc, place, parser, pick(alloc));
+    join_at(alloc, place, parser, recount(alloc))
+}
+
+// With the subcommands that show something of the book.
+fn with_shows<'a>(
+    alloc: Global,
+    place: Place,
+    parser: Result<Command<'a>, AllocError>,
+) -> Result<Command<'a>, AllocError>
+    ensures { (a : App) → IfOk parser.entry (λ c. app_of c ≡ a)
+        → IfOk result (λ c. app_of c ≡ meant.with_all place a meant.show_subcommands) }
+{
+    let parser = join_at(alloc, place, parser, stock(alloc));
+    let parser = join_at(alloc, place, parser, orders(alloc));
+    join_at(alloc, place, parser, outbox(alloc))
+}
+
+// With the subcommands that may stand in a script, as they stand at the place.
+fn with_lines<'a>(
+    alloc: Global,
+    place: Place,
+    parser: Result<Command<'a>, AllocError>,
+) -> Result<Command<'a>, AllocError>
+    ensures { (a : App) → IfOk parser.entry (λ c. app_of c ≡ a)
+        → IfOk result (λ c. app_of c ≡ meant.with_all place a meant.script_subcommands) }
+{
+    let parser = join_at(alloc, place, parser, init(alloc));
+    let parser = with_acts(alloc, place, parser);
+    with_shows(alloc, place, parser)
+}
+
+// The program, without its subcommands.
+fn top<'a>(alloc: Global) -> Command<'a>
+    ensures { IsCommand (record meant.top_shape { is_leaf = true }) result }
+{
+    Command::new(alloc, "whx12")
+        .about("The book of a third-party warehouse that takes its orders as X12 interchanges")
+        .override_usage("whx12 COMMAND ..")
+        .after_help(
+            "The book:      init, enrol, roster, verify\nInterchanges:  send, take, serve\nClerks:        orders, count, pick, recount\nLooking:       stock, outbox\nMany at once:  batch\nTrying out:    script\n\nExample: whx12 init ZZ-WHSE1 --book harbor.book\nExample: whx12 enrol ZZ-ACME --book harbor.book\nExample: whx12 send advice.x12 --book harbor.book\nExample: whx12 script morning.txt\n\n`whx12 help COMMAND` says what a command wants. The exit status is 0 where all was done, 1 where something was refused, 2 where words can't be read, 3 at a fault.",
+        )
+        .no_binary_name(true)
+        .subcommand_required(true)
+        .disable_help_subcommand(true)
+        .disable_version_flag(true)
+}
+
+// The words that may stand after the program's name.
+fn of_programs<'a>(alloc: Global) -> Result<Command<'a>, AllocError>
+    ensures { IfOk result (λ c. app_of c ≡ record { top = meant.top_shape; subs = meant.program_subcommands }) }
+{
+    let parser = join(Ok(top(alloc)), script(alloc));
+    let parser = with_lines(alloc, Place::Program, parser);
+    let parser = join_at(alloc, Place::Program, parser, batch(alloc));
+    let parser = join_at(alloc, Place::Program, parser, serve(alloc));
+    join_at(alloc, Place::Program, parser, verify(alloc))
+}
+
+// The words that may stand in a script.
+fn of_scripts<'a>(alloc: Global) -> Result<Command<'a>, AllocError>
+    ensures { IfOk result (λ c. app_of c ≡ record { top = meant.top_shape; subs = meant.script_subcommands }) }
+{
+    with_lines(alloc, Place::Script, Ok(top(alloc)))
+}
+
+/// What may stand at the place. The one error is want of memory.
+pub fn parser<'a>(alloc: Global, place: Place) -> Result<Command<'a>, AllocError>
+    ensures { IfOk result (λ c. app_of c ≡ meant.app_at place) }
+{
+    match place {
+        Place::Program => of_programs(alloc),
+        Place::Script => of_scripts(alloc),
+    }
+}

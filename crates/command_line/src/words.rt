@@ -1,0 +1,172 @@
+//! What a line of words asks for.
+use segments::Moment;
+use std::alloc::AllocError;
+use std::net::SocketAddr;
+
+/// Where a line of words stands.
+#[derive(Clone, Copy, Debug, PartialEq, Eq)]
+pub enum Place {
+    /// On the command line, after the program's name.
+    Program,
+    /// In a script.
+    Script,
+}
+
+/// What a line of words asks for.
+#[derive(Clone, Copy)]
+pub enum Words<'a> {
+    /// Run the script in a file.
+    Script {
+        /// The file's name.
+        file: &'a str,
+    },
+    /// Do something over a book.
+    Over {
+        /// The file with the book; None in a script, which has a book of its own.
+        book: Option<&'a str>,
+        /// For how many seconds a book that is in use is waited for, 0 to 65535, if the line says it.
+        wait: Option<u16>,
+        /// What is done.
+        task: Task<'a>,
+    },
+}
+
+/// What is done over a book.
+#[derive(Clone, Copy)]
+pub enum Task<'a> {
+    /// Make the book of a warehouse.
+    Init {
+        /// The warehouse, as `QQ-ID`.
+        who: &'a str,
+    },
+    /// Change the book.
+    Act {
+        /// What is done.
+        act: BookAct<'a>,
+        /// The moment, if the line says one.
+        at: Option<Moment>,
+    },
+    /// Show something of the book.
+    Show(Show<'a>),
+    /// Do what the lines of a file ask for, one after the other.
+    Batch {
+        /// The file's name.
+        file: &'a str,
+    },
+    /// Serve the book over HTTP.
+    Serve {
+        /// Where, and for how long.
+        service: Service,
+        /// The moment of each request, if the line says one.
+        at: Option<Moment>,
+    },
+    /// Compare every table of the book with what its register gives.
+    Verify,
+}
+
+/// Where a book is served, and for how long.
+#[derive(Clone, Copy)]
+pub struct Service {
+    /// The IP address and port to listen at.
+    pub address: SocketAddr,
+    /// How many connections are served, 1 to 65535.
+    pub count: u16,
+    /// How many seconds a request is waited for, and again its response, 1 to 65535, if the line says it.
+    pub patience: Option<u16>,
+}
+
+/// What changes a book.
+#[derive(Clone, Copy)]
+pub enum BookAct<'a> {
+    /// Enrol a depositor.
+    Enrol {
+        /// The depositor, as `QQ-ID`.
+        who: &'a str,
+    },
+    /// Enrol the depositors of a list.
+    Roster {
+        /// The file with the list.
+        file: &'a str,
+    },
+    /// Submit an interchange.
+    Send {
+        /// The file that holds its bytes.
+        file: &'a str,
+    },
+    /// Submit each interchange of a folder.
+    Take {
+        /// The folder's name.
+        dir: &'a str,
+    },
+    /// Tell what a clerk did.
+    Clerk(ClerkWords<'a>),
+}
+
+/// What a clerk did, as the words tell it.
+#[derive(Clone, Copy)]
+pub struct ClerkWords<'a> {
+    /// What was done.
+    pub deed: Deed,
+    /// The depositor, as `QQ-ID`.
+    pub who: &'a str,
+    /// The ticket.
+    pub ticket: &'a str,
+    /// The number of the advice or the order; nothing of a recount.
+    pub number: &'a str,
+    /// The file with the sheet.
+    pub sheet: &'a str,
+}
+
+/// What a clerk did.
+#[derive(Clone, Copy, Debug, PartialEq, Eq)]
+pub enum Deed {
+    /// Goods of an advice were counted.
+    Count,
+    /// An order was picked.
+    Pick,
+    /// Goods on hand were counted again.
+    Recount,
+}
+
+/// What can be shown of a depositor.
+#[derive(Clone, Copy)]
+pub enum Show<'a> {
+    /// What is on hand.
+    Stock {
+        /// The depositor, as `QQ-ID`.
+        who: &'a str,
+        /// Whether it is shown as CSV.
+        is_csv: bool,
+    },
+    /// The picking sheet of an order.
+    Order {
+        /// The depositor, as `QQ-ID`.
+        who: &'a str,
+        /// The order's number.
+        number: &'a str,
+    },
+    /// What went out.
+    Outbox {
+        /// The depositor, as `QQ-ID`.
+        who: &'a str,
+        /// The number of the one text that is asked for, 1 to 999,999; None for the list.
+        number: Option<u32>,
+    },
+}
+
+/// Why a line of words asks for nothing.
+#[derive(Drop)]
+pub enum LineFault {
+    /// It can't be read; the text says why.
+    Usage(String),
+    /// It asks for help, which is this text.
+    Help(String),
+    /// A growth was refused.
+    OutOfMemory,
+}
+
+impl From<AllocError> for LineFault {
+    fn from(_error: AllocError) -> LineFault {
+        LineFault::OutOfMemory
+    }
+}

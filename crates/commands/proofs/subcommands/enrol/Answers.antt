@@ -1,6 +1,0 @@
-use Rattle.commands.proofs.subcommands.enrol.Goals as goal
-
-pub returns : goal.returns
-returns c =
-    let one = c.subcommand-command.ensures _ c.depositor.ensures in
-    c.with.ensures _ _ one c.at.ensures

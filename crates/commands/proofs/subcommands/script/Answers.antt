@@ -1,4 +1,0 @@
-use Rattle.commands.proofs.subcommands.script.Goals as goal
-
-pub returns : goal.returns
-returns c = c.subcommand.ensures _ c.value.ensures

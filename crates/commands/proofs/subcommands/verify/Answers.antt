@@ -1,4 +1,0 @@
-use Rattle.commands.proofs.subcommands.verify.Goals as goal
-
-pub returns : goal.returns
-returns c = c.subcommand.ensures _ c.at.ensures
