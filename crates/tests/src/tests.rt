@@ -1,5 +1,4 @@
 mod calls;
 mod program;
-mod stories;
 mod texts;
 mod version1;

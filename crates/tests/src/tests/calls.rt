@@ -3,7 +3,6 @@
 mod beside;
 mod breaking;
 mod carried;
-mod cut;
 mod day;
 mod exchanges;
 mod in_tables;

@@ -1,37 +1,33 @@
-//! What the program prints and tells. A case is a script with its files, and is played thrice: over
-//! a book in memory, line by line over a book in a file, which each line opens and closes, and as a batch over
-//! such a book, which is opened once.
+//! What the program prints and tells. A case is a script with its files, and is played over a book in memory, and as a batch
+//! over a book in a file, which is opened once; most are also played line by line over such a book, which each line opens
+//! and closes.
 //!
-//! Cases stand in texts. A text is made of sections, each of which begins with `@`, a word and what
+//! Cases stand in texts (crate `cases`). A text is made of sections, each of which begins with `@`, a word and what
 //! belongs to it in the rest of the line, and ends where the next one begins:
 //!
 //! - `file NAME` writes a file, of all that stands below the line. It stays for the cases after it.
-//! - `many COUNT NAME` writes a file of the next line COUNT times, with 0, 1, .. in place of its `#`,
-//!   and then of what stands below it.
 //! - `case NAME` begins a case.
+//! - `note TEXT` says more of it, and is read by nobody else than you.
 //! - `script` has the lines of its script.
 //! - `printed` has what is printed; with no such section it is nothing.
 //! - `ends STATUS` has what is told on standard error, which may be nothing. With that the case is
 //!   played.
-mod acknowledged;
-mod addresses;
+//!
+//! In a file and in what is printed a part may stand in braces, after a number and a colon: it stands there that often, with
+//! 0, 1, .. in place of each `#` in it, and 0001, 0002, .. in place of each `%`.
 mod carried;
 mod changes;
-mod day;
-mod envelopes;
-mod goods;
 mod inboxes;
-mod lists;
-mod lots;
 mod on_disk;
-mod picks;
-mod refused_sheets;
 mod served;
-mod sets;
-mod sheet_limits;
-mod shown;
 mod usage;
 
+use super::texts::spread;
+use cases::scripts::{
+    acknowledged, addresses, day, envelopes, goods, lists, lots, picks, refused_sheets,
+    sheet_limits, shown,
+};
+use cases::stories;
 use commands::command;
 use std::fs;
 use std::test::Fail;
@@ -163,11 +159,15 @@ fn play_batch(rt: &HostRuntime, name: &str, script: &str, wanted: &Wanted<'_>) -
     run(rt, &["batch", "case.batch", "--book", "case.book"])?.compare(name, wanted)
 }
 
-// Plays a script over a book in memory, over a new one in a file, and as a batch over another, and
-// compares what comes of each.
-fn play(rt: &HostRuntime, name: &str, script: &str, wanted: &Wanted<'_>) -> Result<(), Fail> {
+// Plays a script over a book in memory, and as a batch over a new one in a file.
+fn play_whole(rt: &HostRuntime, name: &str, script: &str, wanted: &Wanted<'_>) -> Result<(), Fail> {
     run_text(rt, script)?.compare(name, wanted)?;
-    play_batch(rt, name, script, wanted)?;
+    play_batch(rt, name, script, wanted)
+}
+
+// Plays a script so, and line by line over another book in a file.
+fn play(rt: &HostRuntime, name: &str, script: &str, wanted: &Wanted<'_>) -> Result<(), Fail> {
+    play_whole(rt, name, script, wanted)?;
     remove_book(rt, "case.book", "case.book-wal")?;
     run_lines(rt, "case.book", script)?.compare(name, wanted)
 }
@@ -184,57 +184,96 @@ fn section_of<'a>(case: &'a str, word: &str) -> (&'a str, &'a str) {
     ("", "")
 }
 
-// A line so many times, with 0, 1, .. in place of its `#`, and then these lines.
-fn many(rt: &HostRuntime, count: u32, line: &str, rest: &str) -> Result<String, Fail> {
-    let (front, behind) = line.split_once('#').ok_or("a #")?;
-    let mut text = String::new(rt.alloc());
-    for n in 0..count {
-        let one = format!(in rt.alloc(); "{front}{n}{behind}\n")?;
-        text.push_str(&one)?;
-    }
-    text.push_str(rest)?;
-    Ok(text)
-}
-
-// Writes the file that a section of many lines tells of.
-fn write_many(rt: &HostRuntime, section: &str) -> Result<(), Fail> {
-    let (head, body) = section.split_once('\n').ok_or("lines")?;
-    let (count, name) = head.split_once(' ').ok_or("a name")?;
-    let (line, rest) = body.split_once('\n').ok_or("a line")?;
-    let text = many(rt, count.parse()?, line, rest)?;
-    Ok(fs::write(rt, name, text.as_str())?)
-}
-
 // Writes the files of a case.
 fn write_files(rt: &HostRuntime, case: &str) -> Result<(), Fail> {
     for section in case.split('@') {
         if let Some(file) = section.strip_prefix("file ") {
             let (name, body) = file.split_once('\n').unwrap_or((file, ""));
-            fs::write(rt, name, body)?;
-        }
-        if let Some(file) = section.strip_prefix("many ") {
-            write_many(rt, file)?;
+            let text = spread(rt.alloc(), body)?;
+            fs::write(rt, name, text.as_str())?;
         }
     }
     Ok(())
 }
 
+// Which ways a case is played.
+#[derive(Clone, Copy)]
+enum Ways {
+    // In memory, and as a batch.
+    Whole,
+    // So, and line by line.
+    Each,
+}
+
+// Plays a case.
+fn play_case(rt: &HostRuntime, case: &str, ways: Ways) -> Result<(), Fail> {
+    let (name, sections) = case.split_once('\n').ok_or("sections")?;
+    write_files(rt, sections)?;
+    let (status, told) = section_of(sections, "ends");
+    let printed = spread(rt.alloc(), section_of(sections, "printed").1)?;
+    let wanted = Wanted {
+        printed: printed.as_str(),
+        told,
+        status: status.parse()?,
+    };
+    let script = section_of(sections, "script").1;
+    match ways {
+        Ways::Whole => play_whole(rt, name, script, &wanted),
+        Ways::Each => play(rt, name, script, &wanted),
+    }
+}
+
 // Plays each case of a text, after the files that they have in common.
-fn play_all(rt: &HostRuntime, text: &str) -> Result<(), Fail> {
+fn play_cases(rt: &HostRuntime, text: &str, ways: Ways) -> Result<(), Fail> {
     let (before, cases) = text.split_once("@case ").ok_or("a case")?;
     write_files(rt, before)?;
     for case in cases.split("@case ") {
-        write_files(rt, case)?;
-        let (name, _) = case.split_once('\n').unwrap_or((case, ""));
-        let (status, told) = section_of(case, "ends");
-        let wanted = Wanted {
-            printed: section_of(case, "printed").1,
-            told,
-            status: status.parse()?,
-        };
-        play(rt, name, section_of(case, "script").1, &wanted)?;
+        play_case(rt, case, ways)?;
     }
     Ok(())
+}
+
+fn play_all(rt: &HostRuntime, text: &str) -> Result<(), Fail> {
+    play_cases(rt, text, Ways::Each)
+}
+
+// Plays stories, which look at what a depositor has after each command.
+fn tell(rt: &HostRuntime, text: &str) -> Result<(), Fail> {
+    play_cases(rt, text, Ways::Whole)
+}
+
+#[test]
+fn stories_of_goods(rt: HostRuntime) -> Result<(), Fail> {
+    tell(&rt, stories::goods::CASES)?;
+    tell(&rt, stories::acknowledgments::CASES)?;
+    tell(&rt, stories::parties::CASES)
+}
+
+#[test]
+fn stories_of_counts(rt: HostRuntime) -> Result<(), Fail> {
+    tell(&rt, stories::counts::CASES)?;
+    tell(&rt, stories::recounts::CASES)
+}
+
+#[test]
+fn stories_of_lots(rt: HostRuntime) -> Result<(), Fail> {
+    tell(&rt, stories::lots::CASES)?;
+    tell(&rt, stories::picked_lots::CASES)?;
+    tell(&rt, stories::expiries::CASES)?;
+    tell(&rt, stories::orders::CASES)
+}
+
+#[test]
+fn stories_of_interchanges(rt: HostRuntime) -> Result<(), Fail> {
+    tell(&rt, stories::envelopes::CASES)?;
+    tell(&rt, stories::numbers::CASES)?;
+    tell(&rt, stories::sets::CASES)?;
+    tell(&rt, stories::faults::CASES)
+}
+
+#[test]
+fn stories_of_sizes(rt: HostRuntime) -> Result<(), Fail> {
+    tell(&rt, stories::sizes::CASES)
 }
 
 #[test]
@@ -270,6 +309,6 @@ fn sheets_and_lists_are_read(rt: HostRuntime) -> Result<(), Fail> {
 
 #[test]
 fn faults_stop_a_script(rt: HostRuntime) -> Result<(), Fail> {
-    play_all(&rt, usage::CASES)?;
-    play_all(&rt, inboxes::CASES)
+    play_all(&rt, cases::scripts::usage::CASES)?;
+    play_all(&rt, cases::scripts::inboxes::CASES)
 }

@@ -1,31 +1,50 @@
 //! Texts that are judged: sets with one fault each, each beginning of an interchange, and the
 //! widest rows of reports.
-mod cases;
-
 use super::calls::worked::{ADVICE, acme, empty, enrols, morning, takes};
-use cases::{ACKNOWLEDGMENTS, ADVICES, LATER_ADVICES, LATER_ORDERS, ORDERS};
+use cases::sets::{ACKNOWLEDGMENTS, ADVICES, LATER_ADVICES, LATER_ORDERS, ORDERS};
 use profile::Rules;
 use reports::{outbox_list, stock_csv, stock_report};
 use segments::{Delims, Segment, cut};
 use std::alloc::{AllocError, Global};
+use std::fmt::Write;
 use std::test::Fail;
 use store::{Command, DocumentState, Keeper, Moment, OutKind, OutRow, Reply, StockRow, submit};
 use tables::{SetFault, SetKind, is_closed, judge};
 
-// A text in which a part may stand in braces, after a number and a colon: it stands there that
-// often.
-fn spread(alloc: Global, text: &str) -> Result<Vec<u8>, Fail> {
-    let Some((front, rest)) = text.split_once('{') else {
-        return Ok(text.as_bytes().to_vec(alloc)?);
-    };
-    let (times, rest) = rest.split_once(':').ok_or("a part")?;
-    let (part, end) = rest.split_once('}').ok_or("its end")?;
-    let times: usize = times.parse()?;
-    let mut spread = front.as_bytes().to_vec(alloc)?;
-    for _ in 0..times {
-        spread.extend_from_slice(part.as_bytes())?;
+// Appends a part, with a number in place of each `#`, and the next one in four digits in place of each `%`.
+fn push_numbered(text: &mut String, part: &str, n: u32) -> Result<(), Fail> {
+    for c in part.chars() {
+        match c {
+            '#' => write!(text, "{n}")?,
+            '%' => write!(text, "{:04}", n.saturating_add(1))?,
+            c => text.push(c)?,
+        }
     }
-    spread.extend_from_slice(end.as_bytes())?;
+    Ok(())
+}
+
+// Appends a part so many times as the number before it says.
+fn push_part(text: &mut String, part: &str) -> Result<(), Fail> {
+    let (times, part) = part.split_once(':').ok_or("a part")?;
+    let times: u32 = times.parse()?;
+    for n in 0..times {
+        push_numbered(text, part, n)?;
+    }
+    Ok(())
+}
+
+// The text with each part in braces as often as it says.
+pub(crate) fn spread(alloc: Global, text: &str) -> Result<String, Fail> {
+    let mut spread = String::new(alloc);
+    for piece in text.split('{') {
+        match piece.split_once('}') {
+            Some((part, rest)) => {
+                push_part(&mut spread, part)?;
+                spread.push_str(rest)?;
+            }
+            None => spread.push_str(piece)?,
+        }
+    }
     Ok(spread)
 }
 
@@ -51,7 +70,7 @@ fn told(alloc: Global, fault: &SetFault<'_>) -> Result<String, Fail> {
 // What the judge finds in a set, as the cases write it.
 fn found(alloc: Global, kind: SetKind, rules: Rules, set: &str) -> Result<String, Fail> {
     let text = spread(alloc, set)?;
-    let segments = segments_of(alloc, &text)?;
+    let segments = segments_of(alloc, text.as_bytes())?;
     if !is_closed(&segments) || segments.len() > 100_000 {
         return Err("an open set".into());
     }

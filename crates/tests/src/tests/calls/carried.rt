@@ -1,11 +1,12 @@
 //! Books of version 1, which are carried over as they are opened, and whose store refuses a call of
 //! that and all later ones, for each call in turn.
-use super::super::stories::shown;
-use super::super::version1::{COUNTED, DATED, ORDERED, TABLES, hundred_lines, lay, with_lines};
+use super::super::version1::{hundred_lines, lay, with_lines};
 use super::day::commands;
 use super::stopped::{Stop, are_answers_again, is_whole};
 use super::worked::{acme, morning, ninety};
 use books::{Book, Tables};
+use cases::version1::{COUNTED, DATED, ORDERED, TABLES};
+use reports::{outbox_list, stock_csv};
 use sqlite::{Alter, Connection};
 use sqlite_trees::memory::MemStore;
 use sqlite_trees::store::Reopen;
@@ -23,6 +24,9 @@ const CALLS: u64 = 8;
 // How many commands of the day a book of version 1 had answered after the order: those of its four
 // entries, a resend and a refused one.
 const ANSWERED: usize = 6;
+
+// What went out by the order of 120 BOLT, or by the one that was refused.
+const SENT: &str = "     1 ANS -\n     2 944 open\n     3 ANS -\n";
 
 // A book of version 1 with these rows.
 fn laid(alloc: Global, rows: &str) -> Result<Tables<MemStore>, Fail> {
@@ -83,22 +87,31 @@ fn opened_again<S: Alter + Reopen + Drop>(
 }
 
 // Whether a book has so many entries, is what its register gives, and shows these rows of stock and
-// of the outbox.
+// of the outbox, as the reports have them.
 fn is_kept<S: Alter + Drop>(
     alloc: Global,
     book: &mut Book<S>,
     entries: u64,
-    want: &str,
+    want: (&str, &str),
 ) -> Result<bool, Fail> {
-    let stocked = stock(book, acme()?)?;
-    let sent = outbox(book, acme()?)?;
-    let got = shown(alloc, &stocked, &sent)?;
-    Ok(got.as_slice() == want.as_bytes() && book.verify()? == entries)
+    let stocked = stock(book, acme()?)?.ok_or("a depositor")?;
+    let sent = outbox(book, acme()?)?.ok_or("a depositor")?;
+    let stocked = stock_csv(alloc, &stocked)?;
+    let sent = outbox_list(alloc, &sent)?;
+    let (rows, texts) = want;
+    let is_shown = stocked.as_slice() == rows.as_bytes() && sent.as_slice() == texts.as_bytes();
+    Ok(is_shown && book.verify()? == entries)
 }
 
 // Whether a book of version 1, of so many entries, shows these rows after a stop at each call of its
 // opening, up to the first number of calls that is enough.
-fn each_call(alloc: Global, rows: &str, entries: u64, want: &str, stop: Stop) -> Result<(), Fail> {
+fn each_call(
+    alloc: Global,
+    rows: &str,
+    entries: u64,
+    want: (&str, &str),
+    stop: Stop,
+) -> Result<(), Fail> {
     for calls in 0..MOST {
         match opened_again(alloc, laid(alloc, rows)?, calls, stop)? {
             Some(mut book) => {
@@ -120,13 +133,14 @@ fn each_call(alloc: Global, rows: &str, entries: u64, want: &str, stop: Stop) ->
 // order of 100 lines was.
 fn each_book(alloc: Global, stop: Stop) -> Result<(), Fail> {
     let rows = format!(in alloc; "{COUNTED}{ORDERED}")?;
-    let want = "BOLT L1 0 90 90 0\n1 ANS -\n2 944 open\n3 ANS -\n";
-    each_call(alloc, &rows, 4, want, stop)?;
-    each_call(alloc, DATED, 2, "1 ANS -\n", stop)?;
+    let reserved = "item,lot,expiry,expected,on_hand,reserved,shipped\nBOLT,L1,,0,90,90,0\n";
+    each_call(alloc, &rows, 4, (reserved, SENT), stop)?;
+    let nothing = "item,lot,expiry,expected,on_hand,reserved,shipped\n";
+    each_call(alloc, DATED, 2, (nothing, "     1 ANS -\n"), stop)?;
     let order = hundred_lines(alloc)?;
     let rows = with_lines(alloc, &order)?;
-    let want = "BOLT L1 0 90 0 0\n1 ANS -\n2 944 open\n3 ANS -\n";
-    each_call(alloc, &rows, 4, want, stop)
+    let free = "item,lot,expiry,expected,on_hand,reserved,shipped\nBOLT,L1,,0,90,0,0\n";
+    each_call(alloc, &rows, 4, (free, SENT), stop)
 }
 
 #[test]

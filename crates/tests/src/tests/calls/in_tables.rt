@@ -1,4 +1,5 @@
 //! A book in SQLite tables, as SQL shows it.
+use super::day::{Want, answers, commands, is_sent, is_shipped, is_wanted};
 use super::worked::{acme, announces, counts, house, morning, ninety};
 use books::{Book, Tables};
 use sqlite::types::ValueRef;
@@ -6,7 +7,7 @@ use sqlite::{Alter, Connection};
 use sqlite_trees::memory::MemStore;
 use std::alloc::Global;
 use std::test::Fail;
-use store::{Moment, SheetKind, Who};
+use store::{Command, Keeper, Moment, SheetKind, Who, outbox, stock, submit};
 
 // The tables of a new book in which ZZ ACME announced goods.
 pub(crate) fn announced(alloc: Global, who: Who, moment: Moment) -> Result<Tables<MemStore>, Fail> {
@@ -63,5 +64,53 @@ fn a_count_is_in_the_tables(rt: HostRuntime) -> Result<(), Fail> {
     for (sql, want) in QUERIES {
         assert_eq!(rt; shown(&mut conn, sql), Some(*want), "{sql}");
     }
+    Ok(())
+}
+
+// Opens a book, gives it a command, and closes it. None of its calls of the store was refused.
+fn opened_for<S: Alter + Drop>(
+    alloc: Global,
+    tables: Tables<S>,
+    given: &(Command<'_>, Moment),
+    wanted: &(&[u8], Want),
+) -> Result<Tables<S>, Fail> {
+    let Ok(mut book) = Book::open_from(alloc, tables) else {
+        return Err("a book".into());
+    };
+    let (text, want) = wanted;
+    let is_answered = match submit(alloc, &mut book, &given.0, given.1) {
+        Ok(reply) => is_wanted(&reply, *want, text),
+        Err(_) => false,
+    };
+    let tables = book.close();
+    if is_answered && tables.refused() == 0 {
+        Ok(tables)
+    } else {
+        Err("another answer".into())
+    }
+}
+
+#[test]
+fn a_day_over_a_book_that_is_opened_for_each_command(rt: HostRuntime) -> Result<(), Fail> {
+    let alloc = rt.alloc();
+    let counted = ninety(alloc, SheetKind::Count)?;
+    let goods = ninety(alloc, SheetKind::Pick)?;
+    let day = commands(acme()?, &counted, &goods, morning()?);
+    let Ok(book) = Book::create(
+        alloc,
+        Tables::new(Connection::open_in_memory(alloc)?),
+        house()?,
+    ) else {
+        return Err("a new book".into());
+    };
+    let mut tables = book.close();
+    for (given, wanted) in day.iter().zip(answers().iter()) {
+        tables = opened_for(alloc, tables, given, wanted)?;
+    }
+    let Ok(mut book) = Book::open_from(alloc, tables) else {
+        return Err("a book".into());
+    };
+    assert!(rt; is_sent(&outbox(&mut book, acme()?)?.ok_or("a depositor")?));
+    assert!(rt; is_shipped(&stock(&mut book, acme()?)?.ok_or("a depositor")?));
     Ok(())
 }

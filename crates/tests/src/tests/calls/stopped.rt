@@ -9,7 +9,8 @@ use sqlite_trees::store::Reopen;
 use std::alloc::Global;
 use std::test::Fail;
 use store::{
-    Command, Fault, Keeper, Moment, Outcome, Reply, SheetKind, Warehouse, outbox, run, stock,
+    Command, Fault, Keeper, Key, Moment, Need, Outcome, Reply, SheetKind, StockRow, Warehouse, Who,
+    outbox, run, stock, submit,
 };
 
 // More calls than the day makes of its store.
@@ -72,6 +73,66 @@ fn entries(answered: usize) -> u64 {
     }
 }
 
+// Whether an answer is this fault.
+fn is_fault<T>(answer: &Result<T, Fault>, want: Fault) -> bool {
+    match answer {
+        Ok(_) => false,
+        Err(fault) => *fault == want,
+    }
+}
+
+// Whether a command and every query end with this fault.
+fn ends_with<K: Keeper>(
+    alloc: Global,
+    book: &mut K,
+    given: &(Command<'_>, Moment),
+    who: Who,
+    fault: Fault,
+) -> bool {
+    is_fault(&submit(alloc, book, &given.0, given.1), fault)
+        && is_fault(&book.load(who, &Need::nothing(alloc)), fault)
+        && is_fault(&book.known(who, &Key::Ticket(b"T1")), fault)
+        && is_fault(&book.stock_rows(who), fault)
+        && is_fault(&book.outbox(who), fault)
+        && is_fault(&book.text(who, 1), fault)
+}
+
+// Whether a book of which one call was refused fails from then on: where a commit was cut it has to
+// be opened again, and else each query is refused.
+fn is_broken<K: Keeper>(
+    alloc: Global,
+    book: &mut K,
+    day: &[(Command<'_>, Moment)],
+) -> Result<bool, Fail> {
+    let given = day.first().ok_or("a command")?;
+    let fault = if book.must_reopen() {
+        Fault::Reopen
+    } else {
+        Fault::Store
+    };
+    Ok(book.refused() > 0 && ends_with(alloc, book, given, acme()?, fault))
+}
+
+// Whether the goods are where the first answers of the day leave them.
+fn are_goods(rows: &[StockRow], answered: usize) -> bool {
+    let (expected, on_hand, reserved, shipped) = match answered {
+        0 | 1 => return rows.is_empty(),
+        2..=4 => (100, 0, 0, 0),
+        5 => (0, 90, 0, 0),
+        6 => (0, 90, 90, 0),
+        _ => (0, 0, 0, 90),
+    };
+    match rows {
+        [lot] => {
+            lot.expected == expected
+                && lot.on_hand == on_hand
+                && lot.reserved == reserved
+                && lot.shipped == shipped
+        }
+        _ => false,
+    }
+}
+
 // Whether a book is as the day leaves it without a stop.
 pub(super) fn is_whole<S: Alter + Drop>(book: &mut Book<S>) -> Result<bool, Fail> {
     let sent = outbox(book, acme()?)?.ok_or("a depositor")?;
@@ -88,6 +149,13 @@ fn is_kept<S: Alter + Drop>(
     let Stopped { before, mut book } = stopped;
     let answered = before.replies.len();
     if !are_answers(&before.replies) || book.verify()? != entries(answered) {
+        return Ok(false);
+    }
+    let is_stocked = match stock(&mut book, acme()?)? {
+        Some(rows) => are_goods(&rows, answered),
+        None => answered == 0,
+    };
+    if !is_stocked {
         return Ok(false);
     }
     let again = run(alloc, &mut book, day);
@@ -108,6 +176,9 @@ fn after_stop<S: Alter + Reopen + Drop>(
         },
         Stop::Closing => {
             let before = run(alloc, &mut book, day);
+            if before.fault.is_some() && !is_broken(alloc, &mut book, day)? {
+                return Err("a book that goes on after a fault".into());
+            }
             let mut tables = book.close();
             tables.limit_calls(None);
             match Book::open_from(alloc, tables) {
@@ -129,7 +200,7 @@ fn made<S: Alter + Drop>(
     tables.limit_calls(Some(calls));
     let mut tables = match Book::create(alloc, tables, warehouse) {
         Ok(book) => return Ok((book, true)),
-        Err((Fault::Store, tables)) => tables,
+        Err((Fault::Store, tables)) if tables.refused() == 1 => tables,
         Err(_) => return Err("another fault".into()),
     };
     tables.limit_calls(None);

@@ -1,5 +1,6 @@
 //! Folders of interchanges.
 use super::*;
+use cases::scripts::inboxes::{PRINTED, SCRIPT};
 use std::os::unix::fs::symlink;
 
 // The advice under the same control number, with another quantity.
@@ -9,25 +10,6 @@ const OTHER: &str =
 // The beginning of the advice, which can't be read.
 const CUT_OFF: &str =
     "ISA*00*          *00*          *ZZ*ACME           *ZZ*WHSE1          *250304*0915*U*00401*000000001*1*P*>";
-
-const SCRIPT: &str = "\
-init ZZ-WHSE1
-enrol ZZ-ACME --at 2025-03-04T09:15
-take inbox --at 2025-03-04T09:15
-stock ZZ-ACME --csv
-take inbox --at 2025-03-05T10:00
-";
-
-const PRINTED: &str = "\
-a.x12 accepted
-b.x12 refused 025
-c.x12 unreadable
-item,lot,expiry,expected,on_hand,reserved,shipped
-BOLT,L1,,100,0,0,0
-a.x12 stored
-b.x12 refused 025
-c.x12 unreadable
-";
 
 // What OTHER is answered the last time: the note of a duplicate, which isn't kept.
 const DUPLICATE: &str =
@@ -79,16 +61,6 @@ fn a_folder_is_taken_and_taken_again(rt: HostRuntime) -> Result<(), Fail> {
     assert!(rt; are_answered(&rt)?);
     Ok(())
 }
-
-pub(crate) const CASES: &str = "\
-@case a folder that isn't there is a fault, which stops a script
-@script
-init ZZ-WHSE1
-take no-such-folder --at 2025-03-04T09:15
-enrol ZZ-ACME
-@ends 3
-fault 44 Device
-";
 
 const UNWRITTEN: Wanted<'static> = Wanted {
     printed: "",

@@ -1,0 +1,235 @@
+//! Interchanges that take a number or none, that come again, or have other delimiters.
+
+/// The cases.
+pub const CASES: &str = "\
+@case no number for a refusal
+@note Control number 7 comes again after a refusal, and is the first entry.
+@file advice-1.x12
+ISA*00*          *00*          *ZZ*ACME           *ZZ*WHSE1          *250304*0915*U*00401*000000007*1*P*>~GS*AR*ACME*WHSE1*20250304*0915*1*X*004010~ST*943*0001~W06*F*PO77*20250303*SHP1~W04*100*EA**SK*BOLT~N9*LT*L1~W03*100~SE*6*0001~GE*1*1~IEA*1*000000009~\
+@file advice-2.x12
+ISA*00*          *00*          *ZZ*ACME           *ZZ*WHSE1          *250304*0915*U*00401*000000007*1*P*>~GS*AR*ACME*WHSE1*20250304*0915*1*X*004010~ST*943*0001~W06*F*PO77*20250303*SHP1~W04*100*EA**SK*BOLT~N9*LT*L1~W03*100~SE*6*0001~GE*1*1~IEA*1*000000007~\
+@script
+init ZZ-WHSE1
+enrol ZZ-ACME --at 2025-03-04T09:15
+stock ZZ-ACME --csv
+outbox ZZ-ACME
+send advice-1.x12 --at 2025-03-04T09:15
+stock ZZ-ACME --csv
+outbox ZZ-ACME
+send advice-2.x12 --at 2025-03-04T09:15
+stock ZZ-ACME --csv
+outbox ZZ-ACME
+outbox ZZ-ACME --number 1
+@printed
+item,lot,expiry,expected,on_hand,reserved,shipped
+ISA*00*          *00*          *ZZ*WHSE1          *ZZ*ACME           *250304*0915*U*00401*000000000*0*P*>~TA1*000000007*250304*0915*R*001~IEA*0*000000000~
+item,lot,expiry,expected,on_hand,reserved,shipped
+ISA*00*          *00*          *ZZ*WHSE1          *ZZ*ACME           *250304*0915*U*00401*000000001*0*P*>~TA1*000000007*250304*0915*A*000~GS*FA*WHSE1*ACME*20250304*0915*1*X*004010~ST*997*0001~AK1*AR*1~AK2*943*0001~AK5*A~AK9*A*1*1*1~SE*6*0001~GE*1*1~IEA*1*000000001~
+item,lot,expiry,expected,on_hand,reserved,shipped
+BOLT,L1,,100,0,0,0
+     1 ANS -
+ISA*00*          *00*          *ZZ*WHSE1          *ZZ*ACME           *250304*0915*U*00401*000000001*0*P*>~TA1*000000007*250304*0915*A*000~GS*FA*WHSE1*ACME*20250304*0915*1*X*004010~ST*997*0001~AK1*AR*1~AK2*943*0001~AK5*A~AK9*A*1*1*1~SE*6*0001~GE*1*1~IEA*1*000000001~
+@ends 1
+refused 2 Note(001)
+@case a number without an answer
+@note An interchange that is answered by nothing takes a number.
+@file interchange-1.x12
+ISA*00*          *00*          *ZZ*ACME           *ZZ*WHSE1          *250304*0915*U*00401*000000001*0*P*>~IEA*0*000000001~\
+@file advice-2.x12
+ISA*00*          *00*          *ZZ*ACME           *ZZ*WHSE1          *250304*0915*U*00401*000000002*1*P*>~GS*AR*ACME*WHSE1*20250304*0915*1*X*004010~ST*943*0001~W06*F*PO77*20250303*SHP1~W04*100*EA**SK*BOLT~N9*LT*L1~W03*100~SE*6*0001~GE*1*1~IEA*1*000000002~\
+@script
+init ZZ-WHSE1
+enrol ZZ-ACME --at 2025-03-04T09:15
+stock ZZ-ACME --csv
+outbox ZZ-ACME
+send interchange-1.x12 --at 2025-03-04T09:15
+stock ZZ-ACME --csv
+outbox ZZ-ACME
+send interchange-1.x12 --at 2025-03-04T09:15
+stock ZZ-ACME --csv
+outbox ZZ-ACME
+send advice-2.x12 --at 2025-03-04T09:15
+stock ZZ-ACME --csv
+outbox ZZ-ACME
+outbox ZZ-ACME --number 2
+@printed
+item,lot,expiry,expected,on_hand,reserved,shipped
+item,lot,expiry,expected,on_hand,reserved,shipped
+item,lot,expiry,expected,on_hand,reserved,shipped
+ISA*00*          *00*          *ZZ*WHSE1          *ZZ*ACME           *250304*0915*U*00401*000000002*0*P*>~TA1*000000002*250304*0915*A*000~GS*FA*WHSE1*ACME*20250304*0915*2*X*004010~ST*997*0001~AK1*AR*1~AK2*943*0001~AK5*A~AK9*A*1*1*1~SE*6*0001~GE*1*2~IEA*1*000000002~
+item,lot,expiry,expected,on_hand,reserved,shipped
+BOLT,L1,,100,0,0,0
+     2 ANS -
+ISA*00*          *00*          *ZZ*WHSE1          *ZZ*ACME           *250304*0915*U*00401*000000002*0*P*>~TA1*000000002*250304*0915*A*000~GS*FA*WHSE1*ACME*20250304*0915*2*X*004010~ST*997*0001~AK1*AR*1~AK2*943*0001~AK5*A~AK9*A*1*1*1~SE*6*0001~GE*1*2~IEA*1*000000002~
+@ends 0
+@case a known number
+@file advice-1.x12
+ISA*00*          *00*          *ZZ*ACME           *ZZ*WHSE1          *250304*0915*U*00401*000000001*1*P*>~GS*AR*ACME*WHSE1*20250304*0915*1*X*004010~ST*943*0001~W06*F*PO77*20250303*SHP1~W04*100*EA**SK*BOLT~N9*LT*L1~W03*100~SE*6*0001~GE*1*1~IEA*1*000000001~\
+@file advice-2.x12
+ISA*00*          *00*          *ZZ*ACME           *ZZ*WHSE1          *250304*0915*U*00401*000000001*1*P*>~\r
+GS*AR*ACME*WHSE1*20250304*0915*1*X*004010~\r
+ST*943*0001~\r
+W06*F*PO77*20250303*SHP1~\r
+W04*100*EA**SK*BOLT~\r
+N9*LT*L1~\r
+W03*100~\r
+SE*6*0001~\r
+GE*1*1~\r
+IEA*1*000000001~\r
+@file advice-3.x12
+ISA|00|          |00|          |ZZ|ACME           |ZZ|WHSE1          |250304|0915|U|00401|000000001|1|P|>
+GS|AR|ACME|WHSE1|20250304|0915|1|X|004010
+ST|943|0001
+W06|F|PO77|20250303|SHP1
+W04|100|EA||SK|BOLT
+N9|LT|L1
+W03|100
+SE|6|0001
+GE|1|1
+IEA|1|000000001
+@file advice-4.x12
+ISA*00*          *00*          *ZZ*ACME           *ZZ*WHSE2          *250304*0915*U*00401*000000001*1*P*>~GS*AR*ACME*WHSE1*20250304*0915*1*X*004010~ST*943*0001~W06*F*PO77*20250303*SHP1~W04*100*EA**SK*BOLT~N9*LT*L1~W03*100~SE*6*0001~GE*1*1~IEA*1*000000001~\
+@script
+init ZZ-WHSE1
+enrol ZZ-ACME --at 2025-03-04T09:15
+stock ZZ-ACME --csv
+outbox ZZ-ACME
+send advice-1.x12 --at 2025-03-04T09:15
+stock ZZ-ACME --csv
+outbox ZZ-ACME
+send advice-2.x12 --at 2025-03-04T09:15
+stock ZZ-ACME --csv
+outbox ZZ-ACME
+send advice-3.x12 --at 2025-03-04T09:15
+stock ZZ-ACME --csv
+outbox ZZ-ACME
+send advice-4.x12 --at 2025-03-04T09:15
+stock ZZ-ACME --csv
+outbox ZZ-ACME
+outbox ZZ-ACME --number 1
+@printed
+item,lot,expiry,expected,on_hand,reserved,shipped
+ISA*00*          *00*          *ZZ*WHSE1          *ZZ*ACME           *250304*0915*U*00401*000000001*0*P*>~TA1*000000001*250304*0915*A*000~GS*FA*WHSE1*ACME*20250304*0915*1*X*004010~ST*997*0001~AK1*AR*1~AK2*943*0001~AK5*A~AK9*A*1*1*1~SE*6*0001~GE*1*1~IEA*1*000000001~
+item,lot,expiry,expected,on_hand,reserved,shipped
+BOLT,L1,,100,0,0,0
+     1 ANS -
+ISA*00*          *00*          *ZZ*WHSE1          *ZZ*ACME           *250304*0915*U*00401*000000000*0*P*>~TA1*000000001*250304*0915*R*025~IEA*0*000000000~
+item,lot,expiry,expected,on_hand,reserved,shipped
+BOLT,L1,,100,0,0,0
+     1 ANS -
+ISA|00|          |00|          |ZZ|WHSE1          |ZZ|ACME           |250304|0915|U|00401|000000000|0|P|>
+TA1|000000001|250304|0915|R|025
+IEA|0|000000000
+
+item,lot,expiry,expected,on_hand,reserved,shipped
+BOLT,L1,,100,0,0,0
+     1 ANS -
+ISA*00*          *00*          *ZZ*WHSE1          *ZZ*ACME           *250304*0915*U*00401*000000000*0*P*>~TA1*000000001*250304*0915*R*025~IEA*0*000000000~
+item,lot,expiry,expected,on_hand,reserved,shipped
+BOLT,L1,,100,0,0,0
+     1 ANS -
+ISA*00*          *00*          *ZZ*WHSE1          *ZZ*ACME           *250304*0915*U*00401*000000001*0*P*>~TA1*000000001*250304*0915*A*000~GS*FA*WHSE1*ACME*20250304*0915*1*X*004010~ST*997*0001~AK1*AR*1~AK2*943*0001~AK5*A~AK9*A*1*1*1~SE*6*0001~GE*1*1~IEA*1*000000001~
+@ends 1
+refused 3 Duplicate
+refused 3 Duplicate
+refused 3 Duplicate
+@case no group
+@file interchange-1.x12
+ISA*00*          *00*          *ZZ*ACME           *ZZ*WHSE1          *250304*0915*U*00401*000000001*1*P*>~IEA*0*000000001~\
+@script
+init ZZ-WHSE1
+enrol ZZ-ACME --at 2025-03-04T09:15
+stock ZZ-ACME --csv
+outbox ZZ-ACME
+send interchange-1.x12 --at 2025-03-04T09:15
+stock ZZ-ACME --csv
+outbox ZZ-ACME
+outbox ZZ-ACME --number 1
+@printed
+item,lot,expiry,expected,on_hand,reserved,shipped
+ISA*00*          *00*          *ZZ*WHSE1          *ZZ*ACME           *250304*0915*U*00401*000000001*0*P*>~TA1*000000001*250304*0915*A*000~IEA*0*000000001~
+item,lot,expiry,expected,on_hand,reserved,shipped
+     1 ANS -
+ISA*00*          *00*          *ZZ*WHSE1          *ZZ*ACME           *250304*0915*U*00401*000000001*0*P*>~TA1*000000001*250304*0915*A*000~IEA*0*000000001~
+@ends 0
+@case bars and line feeds
+@file advice-1.x12
+ISA|00|          |00|          |ZZ|ACME           |ZZ|WHSE1          |250304|0915|U|00401|000000001|1|P|>
+GS|AR|ACME|WHSE1|20250304|0915|1|X|004010
+ST|943|0001
+W06|F|PO77|20250303|SHP1
+W04|100|EA||SK|BOLT
+N9|LT|L1
+W03|100
+SE|6|0001
+GE|1|1
+IEA|1|000000001
+@script
+init ZZ-WHSE1
+enrol ZZ-ACME --at 2025-03-04T09:15
+stock ZZ-ACME --csv
+outbox ZZ-ACME
+send advice-1.x12 --at 2025-03-04T09:15
+stock ZZ-ACME --csv
+outbox ZZ-ACME
+outbox ZZ-ACME --number 1
+@printed
+item,lot,expiry,expected,on_hand,reserved,shipped
+ISA|00|          |00|          |ZZ|WHSE1          |ZZ|ACME           |250304|0915|U|00401|000000001|0|P|>
+TA1|000000001|250304|0915|A|000
+GS|FA|WHSE1|ACME|20250304|0915|1|X|004010
+ST|997|0001
+AK1|AR|1
+AK2|943|0001
+AK5|A
+AK9|A|1|1|1
+SE|6|0001
+GE|1|1
+IEA|1|000000001
+
+item,lot,expiry,expected,on_hand,reserved,shipped
+BOLT,L1,,100,0,0,0
+     1 ANS -
+ISA|00|          |00|          |ZZ|WHSE1          |ZZ|ACME           |250304|0915|U|00401|000000001|0|P|>
+TA1|000000001|250304|0915|A|000
+GS|FA|WHSE1|ACME|20250304|0915|1|X|004010
+ST|997|0001
+AK1|AR|1
+AK2|943|0001
+AK5|A
+AK9|A|1|1|1
+SE|6|0001
+GE|1|1
+IEA|1|000000001
+
+@ends 0
+@case line ends
+@file advice-1.x12
+ISA*00*          *00*          *ZZ*ACME           *ZZ*WHSE1          *250304*0915*U*00401*000000001*1*P*>~\r
+GS*AR*ACME*WHSE1*20250304*0915*1*X*004010~\r
+ST*943*0001~\r
+W06*F*PO77*20250303*SHP1~\r
+W04*100*EA**SK*BOLT~\r
+N9*LT*L1~\r
+W03*100~\r
+SE*6*0001~\r
+GE*1*1~\r
+IEA*1*000000001~\r
+@script
+init ZZ-WHSE1
+enrol ZZ-ACME --at 2025-03-04T09:15
+stock ZZ-ACME --csv
+outbox ZZ-ACME
+send advice-1.x12 --at 2025-03-04T09:15
+stock ZZ-ACME --csv
+outbox ZZ-ACME
+outbox ZZ-ACME --number 1
+@printed
+item,lot,expiry,expected,on_hand,reserved,shipped
+ISA*00*          *00*          *ZZ*WHSE1          *ZZ*ACME           *250304*0915*U*00401*000000001*0*P*>~TA1*000000001*250304*0915*A*000~GS*FA*WHSE1*ACME*20250304*0915*1*X*004010~ST*997*0001~AK1*AR*1~AK2*943*0001~AK5*A~AK9*A*1*1*1~SE*6*0001~GE*1*1~IEA*1*000000001~
+item,lot,expiry,expected,on_hand,reserved,shipped
+BOLT,L1,,100,0,0,0
+     1 ANS -
+ISA*00*          *00*          *ZZ*WHSE1          *ZZ*ACME           *250304*0915*U*00401*000000001*0*P*>~TA1*000000001*250304*0915*A*000~GS*FA*WHSE1*ACME*20250304*0915*1*X*004010~ST*997*0001~AK1*AR*1~AK2*943*0001~AK5*A~AK9*A*1*1*1~SE*6*0001~GE*1*1~IEA*1*000000001~
+@ends 0
+";
