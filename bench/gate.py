@@ -1,9 +1,9 @@
 #!/usr/bin/env python3
 """Runs `rt ci` in a fresh clone on given processors, and tells where its time goes. Not part of the gate itself.
 
-Usage: bench/gate.py [--cpus 0,1] [--keep FOLDER]     (default: processors 0 and 1, in a folder of its own, which is removed)
+Usage: bench/gate.py [--cpus 0,1] [--keep FOLDER] [--anew]     (default: processors 0 and 1, in a folder of its own, which is removed)
 
-The clone is of the last commit. Twice a second the processes of the run are looked at: each belongs to a crate, and to its proof,
+The clone is of the last commit. With --anew nothing is taken that earlier runs on this machine kept, which is what a machine does that has seen none. Twice a second the processes of the run are looked at: each belongs to a crate, and to its proof,
 its tests, its must-fail edits or its builds. Printed are the run's own last lines, its wall time, its processor time, and a table
 of processor seconds crate by crate. The status is that of `rt ci`.
 """
@@ -85,7 +85,8 @@ def main():
         log = f"{clone}.log"
         start = time.time()
         with open(log, "w", encoding="utf-8") as out:
-            run = subprocess.Popen(["taskset", "-c", cpus, "rt", "ci"], cwd=clone, stdout=out, stderr=subprocess.STDOUT)
+            given = ["taskset", "-c", cpus, "rt", "ci", *(["--anew"] if "--anew" in words else [])]
+            run = subprocess.Popen(given, cwd=clone, stdout=out, stderr=subprocess.STDOUT)
             sums = watch(run)
         wall, used = time.time() - start, resource.getrusage(resource.RUSAGE_CHILDREN)
         with open(log, encoding="utf-8", errors="replace") as file:

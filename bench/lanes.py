@@ -4,8 +4,9 @@
 Usage: bench/lanes.py [--processors N] [--memory GIGABYTES] [--tasks] [NAME=PROOF,TESTS,BODIES,NEED ..]
        (default: 2 processors and 18.7 GB, which is 0.85 of what a machine of 24 GB has free)
 
-`rt ci` runs a crate's proof once those below it are proved, its tests beside that, and its wrong bodies after both: first the tasks with the
-longest chain of others after them, one a processor, and each only beside others whose memory it takes to be free. This plays the same
+`rt ci` runs a crate's proof once those below it are proved, and its tests beside that: first the tasks with the longest chain of others after
+them, one a processor, and each only beside others whose memory it takes to be free. What proofs leave free goes to wrong bodies: first the
+check that a crate's begin with, a whole proof again, and after the crate's own proof and tests each wrong body by itself. This plays the same
 order over the table of docs/PLAN.md ("The gate's time": processor seconds of one job) and the sources' sizes. NAME=.. tries other
 numbers of a crate, the last in GB; one that is left out stays. `--tasks` lists when each task begins and ends. Where two jobs share a
 proof it guesses.
@@ -18,9 +19,11 @@ import sys
 HERE = os.path.dirname(os.path.abspath(__file__))
 TOP = os.path.dirname(HERE)
 KIT = "/opt/rattle/rlibs"
+# what a wrong body takes of a proof's memory
+OVER = 0.7
 # what N jobs make of the seconds of one
 SHARED = {1: 1, 2: 1.6, 3: 2.0, 4: 2.3}
-Crate = collections.namedtuple("Crate", "below proof tests edits need lines")
+Crate = collections.namedtuple("Crate", "below proof tests edits need bodies lines")
 
 
 def crates_of():
@@ -54,7 +57,7 @@ def seconds_of():
         for line in file:
             cells = [cell.strip() for cell in line.split("|")]
             if len(cells) == 8 and (name := re.fullmatch(r"`(\w+)`", cells[1])):
-                found[name[1]] = [int(re.sub(r"\D", "", cell) or 0) for cell in cells[3:6]]
+                found[name[1]] = [int(re.sub(r"\D", "", cell) or 0) for cell in cells[3:7]]
     return found
 
 
@@ -81,11 +84,11 @@ def read(changes):
         kit = {dep for it in {name, *under} for dep in deps[it] if dep not in deps} - {"std", "core", "io", "libc", "os"}
         loaded = sum(os.path.getsize(file) for dep in kit if os.path.isfile(file := f"{KIT}/{dep}.rlib/toolchain/checked.a"))
         need = 1 + sizes[name][0] / 1e3 + sizes[name][1] / 5e3 + sum(sizes[it][0] for it in under) * 8e-5 + min(5 * loaded / 1e9, 2.5)
-        proof, tests, edits = seconds.get(name, [30, 0, 0])
+        proof, tests, edits, bodies = seconds.get(name, [30, 0, 0, 0])
         own = [proof, tests, edits, need]
         for at, value in enumerate(changes.get(name, [])):
             own[at] = float(value) if value else own[at]
-        found[name] = Crate(under, *own, sizes[name][0])
+        found[name] = Crate(under, *own, bodies, sizes[name][0])
     return found
 
 
@@ -96,24 +99,37 @@ def play(crates, lanes, memory):
         waits = [(below, "proof") for below in crate.below]
         tasks[name, "proof"] = waits, crate.lines, crate.need, crate.proof
         tasks[name, "tests"] = waits, crate.lines if crate.tests else 0, crate.need, crate.tests
-        tasks[name, "edits"] = [(name, "proof"), (name, "tests")], crate.lines if crate.edits else 0, crate.need, crate.edits
+        begun = min(crate.proof, crate.edits) if crate.bodies else 0
+        if crate.bodies:
+            tasks[name, "seed"] = waits, 0, crate.need, begun
+        for number in range(crate.bodies):
+            after_all = [(name, "proof"), (name, "tests"), (name, "seed")]
+            tasks[name, f"body {number + 1}"] = after_all, crate.lines, OVER * crate.need, (crate.edits - begun) / crate.bodies
     after = dict.fromkeys(tasks, 0)
     for key in reversed(list(tasks)):
         after[key] += tasks[key][1]
         for it in tasks[key][0]:
             after[it] = max(after[it], after[key])
-    left, running, done, now, ran = sorted(tasks, key=lambda it: -after[it]), {}, set(), 0.0, []
+    # wrong bodies fill what the proofs leave free
+    fills = lambda it: it[1] not in ("proof", "tests")
+    left, running, done, now, ran = sorted(tasks, key=lambda it: (fills(it), -after[it])), {}, set(), 0.0, []
     while left or running:
         ready = [it for it in left if all(below in done for below in tasks[it][0])]
+        proofs, lacks = [it for it in ready if not fills(it)], False
         for at, key in enumerate(ready):
+            if lacks and fills(key):
+                break
             _, _, need, seconds = tasks[key]
             room = memory - sum(it[1] for it in running.values())
             idle = lanes - sum(it[2] for it in running.values())
             if idle > 0 and (not running or need <= room):
                 left.remove(key)
-                spare = 1 if key[1] == "edits" else min(4, idle // (len(ready) - at), 1 + int((room / need - 1) / 0.6))
+                others = len(proofs) - proofs.index(key) if key in proofs else 1
+                spare = 1 if fills(key) else min(4, idle // others, 1 + int((room / need - 1) / 0.6))
                 jobs = max(1, spare)
                 running[key] = now + seconds / SHARED[jobs], need * (1 + 0.6 * (jobs - 1)), jobs, now
+            else:
+                lacks = lacks or idle > 0 and key in proofs
         key = min(running, key=lambda it: running[it][0])
         now, _, jobs, began = running.pop(key)
         done.add(key)

@@ -20,7 +20,7 @@ use sqlite_value::order::is_same;
 use store::Fault;
 
 /// One of the tables of a book.
-#[derive(Clone, Copy, Debug)]
+#[derive(Clone, Copy)]
 pub(crate) enum TableName {
     Book,
     Entry,
@@ -192,6 +192,7 @@ impl<S: Alter + Drop> Tables<S> {
         ensures other { IsAsked (state T.Store other.old.conn) (state T.Store other.new.conn) }
         ensures other_limit { Counts other.old other.new }
     {
+        // For the prover alone: what both show is what was committed last.
         self.settle();
         other.settle();
         self.compare_tables(other)

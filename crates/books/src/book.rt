@@ -1,7 +1,6 @@
 ghost use Rattle.std.specs.Prelude.{length, ◌≡◌, ◌≢◌, ◌⊎◌, ◌≤◌, ◌<◌, ◌^◌, ◌-◌, ◌++◌, ◌∷◌, [], List, true, false, IfErr, IfOk, OnOk, OnErr, IsErrOf, IsErrAnd, Some, option_map};
 ghost use Rattle.profile.specs.declared.rules.Rules.TheVariants.{One, Two};
 ghost use Rattle.profile.specs.Header.{Who as Partner};
-ghost use Rattle.profile.specs.Accepted.{IsLegal};
 ghost use Rattle.profile.specs.Decision as decided;
 ghost use Rattle.profile.specs.Register as register;
 ghost use Rattle.profile.specs.Rows.{stock_of, outbox_of};
@@ -14,7 +13,7 @@ ghost use Rattle.sqlite.specs.Order.{Row as Cells};
 ghost use Rattle.store.specs.Held.{IsHeld};
 ghost use Rattle.store.specs.Known.{first_under};
 ghost use Rattle.store.specs.Sent.{text_of};
-ghost use Rattle.store.specs.Standing.{IsUsable, IsUnchanged, IsQueryFault, IsNext, IsFault, IsCommitFault, LeavesEither, GoesOn};
+ghost use Rattle.store.specs.Standing.{IsUsable, IsUnchanged, IsQueryFault, IsNext, IsFault, IsCommitFault, LeavesEither, GoesOn, OfKept};
 ghost use Rattle.book_tables.specs.Asking.{Finds, house_text};
 ghost use Rattle.book_tables.specs.Carrying.{LeavesCarried, StandsOpenAs};
 ghost use Rattle.book_tables.specs.Exits.{IsAsBefore};
@@ -163,6 +162,7 @@ impl<S: Alter + Drop> Book<S> {
         ensures limit_back { IfErr result (λ e. Counts tables e.1) }
         ensures allowed { OnOk result (tables.limit ≢ Some 0) }
     {
+        // For the prover alone: what the tables show is what was committed last.
         tables.settle();
         let (house, entries) = match tables.found() {
             Ok(found) => found,
@@ -262,9 +262,8 @@ impl<S: Alter + Drop> Keeper for Book<S> {
     /// Just the part that is needed of a depositor's page, from the running rows; None for a stranger.
     #[tactic(auto, using(book_tables::proofs::Limited::spends_both, book_tables::proofs::Limited::spends_same))]
     fn load(&mut self, who: Who, need: &Need) -> Result<Option<Page>, Fault>
-        ensures page { (standing_of S.Store self.new).doubt ≡ 0 → (L : List register.Entry)
-            → (standing_of S.Store self.old).keeps L → IsLegal Two (standing_of S.Store self.old).warehouse L
-            → IfOk result (λ page. IsHeld need.now page (decided.standing (register.own L who))) }
+        ensures page { OfKept (standing_of S.Store self.old) (standing_of S.Store self.new)
+            (λ L. IfOk result (λ page. IsHeld need.now page (decided.standing (register.own L who)))) }
         ensures part { (standing_of S.Store self.new).doubt ≡ 0 → (L : List register.Entry)
             → (standing_of S.Store self.old).keeps L → IfOk result (λ page. page ≡ needed_part need.now L who) }
         ensures rest { IfOk result IsHeldAtRest }
@@ -284,10 +283,9 @@ impl<S: Alter + Drop> Keeper for Book<S> {
 
     #[tactic(auto, using(book_tables::proofs::Limited::spends_both, book_tables::proofs::Limited::spends_same))]
     fn known(&mut self, who: Who, key: &Key<'_>) -> Result<Option<Known>, Fault>
-        ensures entry { (standing_of S.Store self.new).doubt ≡ 0 → (L : List register.Entry)
-            → (standing_of S.Store self.old).keeps L → IsLegal Two (standing_of S.Store self.old).warehouse L
-            → IfOk result (λ known. IsRecalled known (decided.recalled (standing_of S.Store self.old).warehouse
-            (mark_of key.now) (register.own L who))) }
+        ensures entry { OfKept (standing_of S.Store self.old) (standing_of S.Store self.new)
+            (λ L. IfOk result (λ known. IsRecalled known (decided.recalled
+            (standing_of S.Store self.old).warehouse (mark_of key.now) (register.own L who)))) }
         ensures recorded { (standing_of S.Store self.new).doubt ≡ 0 → (L : List register.Entry)
             → (standing_of S.Store self.old).keeps L
             → IfOk result (λ known. option_map (λ k. k.entry) known ≡ first_under who (mark_of key.now) L) }
@@ -358,9 +356,8 @@ impl<S: Alter + Drop> Keeper for Book<S> {
 
     #[tactic(auto, using(book_tables::proofs::Limited::spends_both, book_tables::proofs::Limited::spends_same))]
     fn stock_rows(&mut self, who: Who) -> Result<Option<Vec<StockRow>>, Fault>
-        ensures rows { (standing_of S.Store self.new).doubt ≡ 0 → (L : List register.Entry)
-            → (standing_of S.Store self.old).keeps L → IsLegal Two (standing_of S.Store self.old).warehouse L
-            → IfOk result (λ rows. option_map (λ v. v.items) rows ≡ stock_of L who) }
+        ensures rows { OfKept (standing_of S.Store self.old) (standing_of S.Store self.new)
+            (λ L. IfOk result (λ rows. option_map (λ v. v.items) rows ≡ stock_of L who)) }
         ensures same { IsUnchanged (standing_of S.Store self.old) (standing_of S.Store self.new) }
         ensures fault { IfErr result (λ fault. IsQueryFault fault (standing_of S.Store self.old)
             (standing_of S.Store self.new)) }
@@ -377,10 +374,9 @@ impl<S: Alter + Drop> Keeper for Book<S> {
 
     #[tactic(auto, using(book_tables::proofs::Limited::spends_both, book_tables::proofs::Limited::spends_same))]
     fn outbox(&mut self, who: Who) -> Result<Option<Vec<OutRow>>, Fault>
-        ensures rows { (standing_of S.Store self.new).doubt ≡ 0 → (L : List register.Entry)
-            → (standing_of S.Store self.old).keeps L → IsLegal Two (standing_of S.Store self.old).warehouse L
-            → IfOk result (λ rows. option_map (λ v. v.items) rows ≡ outbox_of
-            (standing_of S.Store self.old).warehouse L who) }
+        ensures rows { OfKept (standing_of S.Store self.old) (standing_of S.Store self.new)
+            (λ L. IfOk result (λ rows. option_map (λ v. v.items) rows ≡ outbox_of
+            (standing_of S.Store self.old).warehouse L who)) }
         ensures same { IsUnchanged (standing_of S.Store self.old) (standing_of S.Store self.new) }
         ensures fault { IfErr result (λ fault. IsQueryFault fault (standing_of S.Store self.old)
             (standing_of S.Store self.new)) }
@@ -397,10 +393,9 @@ impl<S: Alter + Drop> Keeper for Book<S> {
 
     #[tactic(auto, using(book_tables::proofs::Limited::spends_both, book_tables::proofs::Limited::spends_same))]
     fn text(&mut self, who: Who, n: u32) -> Result<Option<Option<Vec<u8>>>, Fault>
-        ensures text { (standing_of S.Store self.new).doubt ≡ 0 → (L : List register.Entry)
-            → (standing_of S.Store self.old).keeps L → IsLegal Two (standing_of S.Store self.old).warehouse L
-            → IfOk result (λ text. option_map (option_map (λ v. v.items)) text ≡ text_of
-            (standing_of S.Store self.old).warehouse L who n) }
+        ensures text { OfKept (standing_of S.Store self.old) (standing_of S.Store self.new)
+            (λ L. IfOk result (λ text. option_map (option_map (λ v. v.items)) text ≡ text_of
+            (standing_of S.Store self.old).warehouse L who n)) }
         ensures same { IsUnchanged (standing_of S.Store self.old) (standing_of S.Store self.new) }
         ensures fault { IfErr result (λ fault. IsQueryFault fault (standing_of S.Store self.old)
             (standing_of S.Store self.new)) }

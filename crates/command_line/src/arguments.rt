@@ -1,6 +1,6 @@
 //! The arguments of subcommands, and how a subcommand is put together of them and joined to the others.
 ghost use Rattle.std.specs.Prelude.{◌≡◌, ◌∷◌, IfOk, true, []};
-ghost use Rattle.clap.specs.Simple.{App, Shape, app_of, with_subcommand};
+ghost use Rattle.clap.specs.Simple.{App, Shape, app_of, new_shape, with_subcommand};
 ghost use Rattle.clap.specs.Walk.{Rule};
 ghost use Rattle.command_line.specs.Lines as meant;
 ghost use Rattle.command_line.specs.Parsers.{IsRule, IsCommand};
@@ -48,8 +48,8 @@ pub(crate) fn flag<'a>(alloc: Global, id: &'a str, help: &'a str) -> Arg<'a>
         .action(ArgAction::SetTrue)
 }
 
-/// The depositor of a command.
-pub(crate) fn depositor<'a>(alloc: Global) -> Arg<'a>
+// The depositor of a command.
+fn depositor<'a>(alloc: Global) -> Arg<'a>
     ensures { IsRule meant.who_rule result }
 {
     value(
@@ -67,8 +67,8 @@ pub(crate) fn order<'a>(alloc: Global) -> Arg<'a>
     value(alloc, "number", "ORDER", "The number of the order")
 }
 
-/// The ticket of a clerk's act.
-pub(crate) fn ticket<'a>(alloc: Global) -> Arg<'a>
+// The ticket of a clerk's act.
+fn ticket<'a>(alloc: Global) -> Arg<'a>
     ensures { IsRule meant.ticket_rule result }
 {
     value(
@@ -79,8 +79,8 @@ pub(crate) fn ticket<'a>(alloc: Global) -> Arg<'a>
     )
 }
 
-/// The sheet of a clerk's act.
-pub(crate) fn sheet<'a>(alloc: Global) -> Arg<'a>
+// The sheet of a clerk's act.
+fn sheet<'a>(alloc: Global) -> Arg<'a>
     ensures { IsRule meant.sheet_rule result }
 {
     value(
@@ -103,6 +103,22 @@ pub(crate) fn at<'a>(alloc: Global) -> Arg<'a>
     )
 }
 
+/// A command of this name with its texts: what it does, how it is used, and what its help ends with.
+pub(crate) fn described<'a>(
+    alloc: Global,
+    name: &'a str,
+    about: &'a str,
+    usage: &'a str,
+    help: &'a str,
+) -> Command<'a>
+    ensures { IsCommand (new_shape name.now) result }
+{
+    Command::new(alloc, name)
+        .about(about)
+        .override_usage(usage)
+        .after_help(help)
+}
+
 /// A command of this name with its first argument. The functions after it take a command or the error of the step before, which they
 /// hand on. So what puts commands together has no branch: at each of them every command that is alive would be let go, which is dear to prove.
 pub(crate) fn subcommand<'a>(
@@ -115,11 +131,7 @@ pub(crate) fn subcommand<'a>(
 ) -> Result<Command<'a>, AllocError>
     ensures { (r : Rule) → IsRule r first.entry → IfOk result (IsCommand (meant.subcommand name.now (r ∷ []))) }
 {
-    Command::new(alloc, name)
-        .about(about)
-        .override_usage(usage)
-        .after_help(help)
-        .arg(first)
+    described(alloc, name, about, usage, help).arg(first)
 }
 
 /// With an argument more.
@@ -135,6 +147,55 @@ pub(crate) fn with<'a>(
         Ok(command) => command.arg(arg),
         Err(error) => Err(error),
     }
+}
+
+/// With the moment of the command, which may stand in each line.
+pub(crate) fn with_at<'a>(
+    alloc: Global,
+    command: Result<Command<'a>, AllocError>,
+) -> Result<Command<'a>, AllocError>
+    ensures { (s : Shape) → IfOk command.entry (IsCommand s) → IfOk result (IsCommand (meant.and_rule s meant.at_rule)) }
+{
+    with(command, at(alloc))
+}
+
+/// With the sheet of a clerk's act, and its moment.
+pub(crate) fn with_sheet<'a>(
+    alloc: Global,
+    command: Result<Command<'a>, AllocError>,
+) -> Result<Command<'a>, AllocError>
+    ensures { (s : Shape) → IfOk command.entry (IsCommand s)
+        → IfOk result (IsCommand (meant.and_rule (meant.and_rule s meant.sheet_rule) meant.at_rule)) }
+{
+    let command = with(command, sheet(alloc));
+    with_at(alloc, command)
+}
+
+/// A command of this name whose first argument is the depositor.
+pub(crate) fn of_depositor<'a>(
+    alloc: Global,
+    name: &'a str,
+    about: &'a str,
+    usage: &'a str,
+    help: &'a str,
+) -> Result<Command<'a>, AllocError>
+    ensures { IfOk result (IsCommand (meant.subcommand name.now (meant.who_rule ∷ []))) }
+{
+    subcommand(alloc, name, about, usage, help, depositor(alloc))
+}
+
+/// A command of this name whose first arguments are the depositor and the ticket, as a clerk's are.
+pub(crate) fn of_clerk<'a>(
+    alloc: Global,
+    name: &'a str,
+    about: &'a str,
+    usage: &'a str,
+    help: &'a str,
+) -> Result<Command<'a>, AllocError>
+    ensures { IfOk result (IsCommand (meant.subcommand name.now (meant.who_rule ∷ meant.ticket_rule ∷ []))) }
+{
+    let command = of_depositor(alloc, name, about, usage, help);
+    with(command, ticket(alloc))
 }
 
 /// With a subcommand more.

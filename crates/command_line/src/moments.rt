@@ -5,21 +5,37 @@ ghost use Rattle.command_line.specs.Written as written;
 
 use segments::{Moment, all_digits, number};
 
+// Whether two digits stand at a place.
+fn has_pair(text: &[u8], at: usize) -> bool
+    requires { at + 2 ≤ length text.now }
+    ensures { result ≡ written.has_pair at text.now }
+{
+    all_digits(&text[at..at + 2])
+}
+
+// Whether a mark stands at a place.
+fn has_mark(text: &[u8], at: usize, mark: &[u8]) -> bool
+    requires { at + 1 ≤ length text.now }
+    ensures { result ≡ written.has_mark at mark.now text.now }
+{
+    &text[at..at + 1] == mark
+}
+
 // Whether the text has the form YYYY-MM-DDTHH:MM.
 fn is_form(text: &[u8]) -> bool
     ensures { result ≡ written.is_form text.now }
 {
     text.len() == 16
-        && all_digits(&text[0..2])
-        && all_digits(&text[2..4])
-        && &text[4..5] == b"-".as_slice()
-        && all_digits(&text[5..7])
-        && &text[7..8] == b"-".as_slice()
-        && all_digits(&text[8..10])
-        && &text[10..11] == b"T".as_slice()
-        && all_digits(&text[11..13])
-        && &text[13..14] == b":".as_slice()
-        && all_digits(&text[14..16])
+        && has_pair(text, 0)
+        && has_pair(text, 2)
+        && has_mark(text, 4, b"-")
+        && has_pair(text, 5)
+        && has_mark(text, 7, b"-")
+        && has_pair(text, 8)
+        && has_mark(text, 10, b"T")
+        && has_pair(text, 11)
+        && has_mark(text, 13, b":")
+        && has_pair(text, 14)
 }
 
 // The value of the two digits that begin at a place.

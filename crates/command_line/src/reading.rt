@@ -153,6 +153,16 @@ fn has_flag(values: &ArgMatches<'_>, id: &str) -> bool
     }
 }
 
+// The number of the advice or the order that a line says, which a recount doesn't have.
+fn number_told<'a>(alloc: Global, deed: Deed, values: &ArgMatches<'a>) -> Result<&'a str, LineFault>
+    ensures { IfOk result (λ number. meant.SaysNumberOf deed (rows_of (found_of values.now)) number.now) }
+{
+    Ok(match deed {
+        Deed::Recount => "",
+        _ => given(alloc, values, "number")?,
+    })
+}
+
 // What a clerk did, with the values of its line.
 fn told_of<'a>(
     alloc: Global,
@@ -162,10 +172,7 @@ fn told_of<'a>(
     ensures told { IfOk result (meant.SaysTold (rows_of (found_of values.now))) }
     ensures deed { IfOk result (λ t. t.deed ≡ deed) }
 {
-    let number = match deed {
-        Deed::Recount => "",
-        _ => given(alloc, values, "number")?,
-    };
+    let number = number_told(alloc, deed, values)?;
     Ok(ClerkWords {
         deed,
         who: given(alloc, values, "who")?,
@@ -173,6 +180,23 @@ fn told_of<'a>(
         number,
         sheet: given(alloc, values, "sheet")?,
     })
+}
+
+// What a clerk's subcommand does to the book with its values; None where it is no clerk's.
+fn clerk_act_of<'a>(
+    alloc: Global,
+    name: &str,
+    values: &ArgMatches<'a>,
+) -> Result<Option<BookAct<'a>>, LineFault>
+    ensures { IfOk result (λ act. IfSome act (meant.SaysAct (name.now, rows_of (found_of values.now)))) }
+{
+    let act = match name {
+        "count" => BookAct::Clerk(told_of(alloc, Deed::Count, values)?),
+        "pick" => BookAct::Clerk(told_of(alloc, Deed::Pick, values)?),
+        "recount" => BookAct::Clerk(told_of(alloc, Deed::Recount, values)?),
+        _ => return Ok(None),
+    };
+    Ok(Some(act))
 }
 
 // What a subcommand does to the book with its values; None where it does nothing to it.
@@ -196,10 +220,7 @@ fn act_of<'a>(
         "take" => BookAct::Take {
             dir: given(alloc, values, "dir")?,
         },
-        "count" => BookAct::Clerk(told_of(alloc, Deed::Count, values)?),
-        "pick" => BookAct::Clerk(told_of(alloc, Deed::Pick, values)?),
-        "recount" => BookAct::Clerk(told_of(alloc, Deed::Recount, values)?),
-        _ => return Ok(None),
+        _ => return clerk_act_of(alloc, name, values),
     };
     Ok(Some(act))
 }
@@ -230,26 +251,16 @@ fn show_of<'a>(
     Ok(Some(show))
 }
 
-// What a subcommand does over a book with its values.
-fn task_of<'a>(alloc: Global, name: &str, values: &ArgMatches<'a>) -> Result<Task<'a>, LineFault>
+// What a subcommand changes of a book or shows of it with its values, at the moment that its line says.
+fn part_task_of<'a>(
+    alloc: Global,
+    name: &str,
+    values: &ArgMatches<'a>,
+    at: Option<Moment>,
+) -> Result<Task<'a>, LineFault>
+    requires { meant.SaysMoment (rows_of (found_of values.now)) at }
     ensures { IfOk result (meant.SaysTask (name.now, rows_of (found_of values.now))) }
 {
-    let at = moment(alloc, values)?;
-    if name == "init" {
-        let who = given(alloc, values, "who")?;
-        return Ok(Task::Init { who });
-    }
-    if name == "serve" {
-        let service = service_of(alloc, values)?;
-        return Ok(Task::Serve { service, at });
-    }
-    if name == "verify" {
-        return Ok(Task::Verify);
-    }
-    if name == "batch" {
-        let file = given(alloc, values, "file")?;
-        return Ok(Task::Batch { file });
-    }
     if let Some(act) = act_of(alloc, name, values)? {
         return Ok(Task::Act { act, at });
     }
@@ -257,6 +268,41 @@ fn task_of<'a>(alloc: Global, name: &str, values: &ArgMatches<'a>) -> Result<Tas
         Some(show) => Ok(Task::Show(show)),
         None => Err(usage(alloc, "there is no such command\n")),
     }
+}
+
+// What a subcommand does over a book with its values, at the moment that its line says.
+fn task_at<'a>(
+    alloc: Global,
+    name: &str,
+    values: &ArgMatches<'a>,
+    at: Option<Moment>,
+) -> Result<Task<'a>, LineFault>
+    requires { meant.SaysMoment (rows_of (found_of values.now)) at }
+    ensures { IfOk result (meant.SaysTask (name.now, rows_of (found_of values.now))) }
+{
+    let task = match name {
+        "init" => Task::Init {
+            who: given(alloc, values, "who")?,
+        },
+        "serve" => Task::Serve {
+            service: service_of(alloc, values)?,
+            at,
+        },
+        "verify" => Task::Verify,
+        "batch" => Task::Batch {
+            file: given(alloc, values, "file")?,
+        },
+        _ => return part_task_of(alloc, name, values, at),
+    };
+    Ok(task)
+}
+
+// What a subcommand does over a book with its values.
+fn task_of<'a>(alloc: Global, name: &str, values: &ArgMatches<'a>) -> Result<Task<'a>, LineFault>
+    ensures { IfOk result (meant.SaysTask (name.now, rows_of (found_of values.now))) }
+{
+    let at = moment(alloc, values)?;
+    task_at(alloc, name, values, at)
 }
 
 // The file with a book that a line names, if it names one.
@@ -279,19 +325,26 @@ fn wait(alloc: Global, values: &ArgMatches<'_>) -> Result<Option<u16>, LineFault
     }
 }
 
-// What a subcommand asks for with its values.
-fn asked<'a>(alloc: Global, name: &str, values: &ArgMatches<'a>) -> Result<Words<'a>, LineFault>
+// What a subcommand over a book asks for with its values.
+fn over<'a>(alloc: Global, name: &str, values: &ArgMatches<'a>) -> Result<Words<'a>, LineFault>
     ensures { IfOk result (meant.Says (name.now, rows_of (found_of values.now))) }
 {
-    if name == "script" {
-        let file = given(alloc, values, "file")?;
-        return Ok(Words::Script { file });
-    }
     Ok(Words::Over {
         book: book_of(values),
         wait: wait(alloc, values)?,
         task: task_of(alloc, name, values)?,
     })
+}
+
+// What a subcommand asks for with its values.
+fn asked<'a>(alloc: Global, name: &str, values: &ArgMatches<'a>) -> Result<Words<'a>, LineFault>
+    ensures { IfOk result (meant.Says (name.now, rows_of (found_of values.now))) }
+{
+    if name != "script" {
+        return over(alloc, name, values);
+    }
+    let file = given(alloc, values, "file")?;
+    Ok(Words::Script { file })
 }
 
 // Whether a word stands first.

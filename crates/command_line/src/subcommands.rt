@@ -1,12 +1,12 @@
 //! What may stand in a line of words: the subcommands, and the help that each shows.
-ghost use Rattle.std.specs.Prelude.{◌≡◌, IfOk, true};
+ghost use Rattle.std.specs.Prelude.{◌≡◌, ◌∷◌, IfOk, true, [], codes};
 ghost use Rattle.clap.specs.Simple.{App, app_of};
 ghost use Rattle.command_line.specs.Lines as meant;
 ghost use Rattle.command_line.specs.Parsers.{IsCommand};
 
 use crate::arguments::{
-    at, depositor, flag, join, join_at, option, order, sheet, subcommand, ticket, value, wanted,
-    with,
+    at, described, flag, join, join_at, of_clerk, of_depositor, option, order, subcommand, value,
+    wanted, with, with_at, with_sheet,
 };
 use crate::words::Place;
 use clap::Command;
@@ -54,21 +54,20 @@ fn init<'a>(alloc: Global) -> Result<Command<'a>, AllocError>
             "The warehouse: its qualifier, a hyphen and its id, as its ISA has them",
         ),
     );
-    with(command, at(alloc))
+    with_at(alloc, command)
 }
 
 fn enrol<'a>(alloc: Global) -> Result<Command<'a>, AllocError>
     ensures { IfOk result (IsCommand meant.enrol_shape) }
 {
-    let command = subcommand(
+    let command = of_depositor(
         alloc,
         "enrol",
         "Enrols a depositor, whose interchanges are taken from then on",
         "whx12 enrol WHO --book BOOK [--at MOMENT]",
         "Example: whx12 enrol ZZ-ACME --book harbor.book",
-        depositor(alloc),
     );
-    with(command, at(alloc))
+    with_at(alloc, command)
 }
 
 fn roster<'a>(alloc: Global) -> Result<Command<'a>, AllocError>
@@ -82,7 +81,7 @@ fn roster<'a>(alloc: Global) -> Result<Command<'a>, AllocError>
         "Example: whx12 roster depositors.toml --book harbor.book\n\nThe file is TOML with the line\n  depositors = [\"ZZ-ACME\", \"ZZ-BOLTCO\"]\nA name in it that can't be read refuses the whole list, and nobody is enrolled.",
         value(alloc, "file", "FILE", "The file with the list"),
     );
-    with(command, at(alloc))
+    with_at(alloc, command)
 }
 
 fn send<'a>(alloc: Global) -> Result<Command<'a>, AllocError>
@@ -96,7 +95,7 @@ fn send<'a>(alloc: Global) -> Result<Command<'a>, AllocError>
         "Example: whx12 send advice.x12 --book harbor.book\n\nThe same bytes sent again get the same answer, and nothing is taken twice.",
         value(alloc, "file", "FILE", "The file with the interchange"),
     );
-    with(command, at(alloc))
+    with_at(alloc, command)
 }
 
 fn take<'a>(alloc: Global) -> Result<Command<'a>, AllocError>
@@ -110,21 +109,19 @@ fn take<'a>(alloc: Global) -> Result<Command<'a>, AllocError>
         "Example: whx12 take inbox --book harbor.book\n\nThe answer to inbox/a.x12 is written to inbox/a.x12.ans. What became of each file is printed. Taking the folder again\nis safe: the same bytes get the same answer, and nothing is taken twice.",
         value(alloc, "dir", "DIR", "The folder with the interchanges"),
     );
-    with(command, at(alloc))
+    with_at(alloc, command)
 }
 
 fn count<'a>(alloc: Global) -> Result<Command<'a>, AllocError>
     ensures { IfOk result (IsCommand meant.count_shape) }
 {
-    let command = subcommand(
+    let command = of_clerk(
         alloc,
         "count",
         "Tells what came in for an advice, closes it, and prints its receipt (944)",
         "whx12 count WHO TICKET SHIPMENT SHEET --book BOOK [--at MOMENT]",
         "Example: whx12 count ZZ-ACME CNT-0412 SHP1 count.csv --book harbor.book\n\nwhere count.csv is\n  BOLT,LOT-7,90\n  NUT,LOT-2,0\nWhat was announced and isn't in the sheet is missing: an empty sheet closes the advice with nothing on hand.",
-        depositor(alloc),
     );
-    let command = with(command, ticket(alloc));
     let command = with(
         command,
         value(
@@ -134,86 +131,76 @@ fn count<'a>(alloc: Global) -> Result<Command<'a>, AllocError>
             "The shipment number of the advice",
         ),
     );
-    let command = with(command, sheet(alloc));
-    with(command, at(alloc))
+    with_sheet(alloc, command)
 }
 
 fn pick<'a>(alloc: Global) -> Result<Command<'a>, AllocError>
     ensures { IfOk result (IsCommand meant.pick_shape) }
 {
-    let command = subcommand(
+    let command = of_clerk(
         alloc,
         "pick",
         "Tells what was picked for an order, closes it, and prints its shipping advice (945)",
         "whx12 pick WHO TICKET ORDER SHEET --book BOOK [--at MOMENT]",
         "Example: whx12 pick ZZ-ACME PCK-0231 ORD1 pick.csv --book harbor.book\n\nwhere pick.csv is\n  BOLT,LOT-7,60\nNo more of a lot can be picked than the order has reserved. An empty file says that nothing was picked.",
-        depositor(alloc),
     );
-    let command = with(command, ticket(alloc));
     let command = with(command, order(alloc));
-    let command = with(command, sheet(alloc));
-    with(command, at(alloc))
+    with_sheet(alloc, command)
 }
 
 fn recount<'a>(alloc: Global) -> Result<Command<'a>, AllocError>
     ensures { IfOk result (IsCommand meant.recount_shape) }
 {
-    let command = subcommand(
+    let command = of_clerk(
         alloc,
         "recount",
         "Sets what is on hand of each lot of the sheet, and prints the adjustment (947)",
         "whx12 recount WHO TICKET SHEET --book BOOK [--at MOMENT]",
         "Example: whx12 recount ZZ-ACME REC-0009 recount.csv --book harbor.book\n\nwhere recount.csv is\n  BOLT,LOT-7,28\nAt least one line has to differ from what is on hand.",
-        depositor(alloc),
     );
-    let command = with(command, ticket(alloc));
-    let command = with(command, sheet(alloc));
-    with(command, at(alloc))
+    with_sheet(alloc, command)
 }
 
 fn stock<'a>(alloc: Global) -> Result<Command<'a>, AllocError>
     ensures { IfOk result (IsCommand meant.stock_shape) }
 {
-    let command = subcommand(
+    let command = of_depositor(
         alloc,
         "stock",
         "Prints what a depositor has, a line for each item and lot",
         "whx12 stock WHO [--csv] --book BOOK",
         "Example: whx12 stock ZZ-ACME --book harbor.book\nExample: whx12 stock ZZ-ACME --csv --book harbor.book",
-        depositor(alloc),
     );
     let command = with(
         command,
         flag(alloc, "csv", "Prints it as CSV, for a spreadsheet"),
     );
-    with(command, at(alloc))
+    with_at(alloc, command)
 }
 
 fn orders<'a>(alloc: Global) -> Result<Command<'a>, AllocError>
     ensures { IfOk result (IsCommand meant.orders_shape) }
 {
-    let command = subcommand(
+    let command = of_depositor(
         alloc,
         "orders",
         "Prints the picking sheet of an open order",
         "whx12 orders WHO ORDER --book BOOK",
         "Example: whx12 orders ZZ-ACME ORD1 --book harbor.book",
-        depositor(alloc),
     );
     let command = with(command, order(alloc));
-    with(command, at(alloc))
+    with_at(alloc, command)
 }
 
 fn outbox<'a>(alloc: Global) -> Result<Command<'a>, AllocError>
     ensures { IfOk result (IsCommand meant.outbox_shape) }
 {
-    let command = subcommand(
+    let command = of_depositor(
         alloc,
         "outbox",
         "Lists what went out to a depositor, or prints one of those texts again",
         "whx12 outbox WHO [--number N] --book BOOK",
         "Example: whx12 outbox ZZ-ACME --book harbor.book\nExample: whx12 outbox ZZ-ACME --number 4 --book harbor.book\n\nIn the list ANS is an answer; of a document it says whether the depositor took it: open, accepted or refused.",
-        depositor(alloc),
     );
     let command = with(
         command,
@@ -224,11 +211,13 @@ fn outbox<'a>(alloc: Global) -> Result<Command<'a>, AllocError>
             "The number of one text, from 1 to 999999",
         ),
     );
-    with(command, at(alloc))
+    with_at(alloc, command)
 }
 
-fn serve<'a>(alloc: Global) -> Result<Command<'a>, AllocError>
-    ensures { IfOk result (IsCommand meant.serve_shape) }
+// The subcommand `serve` as far as its words must be there.
+fn serve_wanted<'a>(alloc: Global) -> Result<Command<'a>, AllocError>
+    ensures { IfOk result (IsCommand (meant.subcommand (codes "serve")
+        (meant.wanted_rule (codes "listen") ∷ meant.wanted_rule (codes "count") ∷ []))) }
 {
     let command = subcommand(
         alloc,
@@ -243,7 +232,7 @@ fn serve<'a>(alloc: Global) -> Result<Command<'a>, AllocError>
             "The IP address and port to listen at, as 127.0.0.1:8080",
         ),
     );
-    let command = with(
+    with(
         command,
         wanted(
             alloc,
@@ -251,7 +240,13 @@ fn serve<'a>(alloc: Global) -> Result<Command<'a>, AllocError>
             "N",
             "How many connections are served, from 1 to 65535",
         ),
-    );
+    )
+}
+
+fn serve<'a>(alloc: Global) -> Result<Command<'a>, AllocError>
+    ensures { IfOk result (IsCommand meant.serve_shape) }
+{
+    let command = serve_wanted(alloc);
     let command = with(
         command,
         option(
@@ -269,7 +264,7 @@ fn serve<'a>(alloc: Global) -> Result<Command<'a>, AllocError>
             "Listens at an address that other machines reach: whoever reaches it may post",
         ),
     );
-    with(command, at(alloc))
+    with_at(alloc, command)
 }
 
 fn verify<'a>(alloc: Global) -> Result<Command<'a>, AllocError>
@@ -335,16 +330,17 @@ fn with_lines<'a>(
 fn top<'a>(alloc: Global) -> Command<'a>
     ensures { IsCommand (record meant.top_shape { is_leaf = true }) result }
 {
-    Command::new(alloc, "whx12")
-        .about("The book of a third-party warehouse that takes its orders as X12 interchanges")
-        .override_usage("whx12 COMMAND ..")
-        .after_help(
-            "The book:      init, enrol, roster, verify\nInterchanges:  send, take, serve\nClerks:        orders, count, pick, recount\nLooking:       stock, outbox\nMany at once:  batch\nTrying out:    script\n\nExample: whx12 init ZZ-WHSE1 --book harbor.book\nExample: whx12 enrol ZZ-ACME --book harbor.book\nExample: whx12 send advice.x12 --book harbor.book\nExample: whx12 script morning.txt\n\n`whx12 help COMMAND` says what a command wants. The exit status is 0 where all was done, 1 where something was refused, 2 where words can't be read, 3 at a fault.",
-        )
-        .no_binary_name(true)
-        .subcommand_required(true)
-        .disable_help_subcommand(true)
-        .disable_version_flag(true)
+    described(
+        alloc,
+        "whx12",
+        "The book of a third-party warehouse that takes its orders as X12 interchanges",
+        "whx12 COMMAND ..",
+        "The book:      init, enrol, roster, verify\nInterchanges:  send, take, serve\nClerks:        orders, count, pick, recount\nLooking:       stock, outbox\nMany at once:  batch\nTrying out:    script\n\nExample: whx12 init ZZ-WHSE1 --book harbor.book\nExample: whx12 enrol ZZ-ACME --book harbor.book\nExample: whx12 send advice.x12 --book harbor.book\nExample: whx12 script morning.txt\n\n`whx12 help COMMAND` says what a command wants. The exit status is 0 where all was done, 1 where something was refused, 2 where words can't be read, 3 at a fault.",
+    )
+    .no_binary_name(true)
+    .subcommand_required(true)
+    .disable_help_subcommand(true)
+    .disable_version_flag(true)
 }
 
 // The words that may stand after the program's name.

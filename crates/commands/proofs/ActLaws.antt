@@ -1,20 +1,31 @@
 -- What a stop leaves after a command, and the status of several.
-use Rattle.std.proofs.Common.{◌≡◌, ◌∙◌, sym, refl, ap, Bool, true, false, List, ◌∷◌, ◌++◌, [], inr}
+use Rattle.std.proofs.Common.{◌≡◌, ◌∙◌, sym, refl, ap, Bool, true, false, List, ◌∷◌, ◌++◌, [], inr, Result, Ok, Err, IfErr}
 use Rattle.std.specs.Prelude.{if◌then◌else◌, ◌||◌}
 use Rattle.std.specs.List.{list_any}
 use Rattle.std.proofs.lemmas.List.Folds.{list_any-append}
-use Rattle.profile.specs.Register.{Entry}
+use Rattle.profile.specs.declared.rules.Rules.TheVariants.{Two}
+use Rattle.profile.specs.Accepted.{after}
+use Rattle.profile.specs.Moments.{Moment}
+use Rattle.profile.specs.Register.{Entry, Command}
 use Rattle.profile.specs.Reply as replies
 use Rattle.store.specs.Standing.{Standing, IsUsable, LeavesEither}
 use Rattle.commands.specs.Enrolling as listed
 use Rattle.commands.specs.Statuses.{and_then}
+use Rattle.commands.specs.Stops.{IsDeviceStop, IsStopped}
 use Rattle.commands.specs.Telling as told
+use Rattle.commands.specs.declared.told.CommandError.{CommandError}
 use Rattle.commands.specs.declared.told.ExitStatus.{ExitStatus}
 use Rattle.commands.specs.declared.told.ExitStatus.TheVariants.{Done, Refused}
 
 -- of a book that serves, the second
 pub leaves_second : (s : Standing) (L next : List Entry) → IsUsable s next → LeavesEither s L next
 leaves_second s L next u = record { stand = u.stand; each = λ M h. inr (u.only M h) }
+
+-- of a command that was answered: what couldn't be told
+pub untold : {T : Type 0} (old new : Standing) (c : Command) (t : Moment) (r : Result T CommandError) → new.shut ≡ false
+    → (new.doubt ≡ 0 → (L : List Entry) → IsUsable old L → IsUsable new (after Two old.warehouse L (c, t))) → IfErr r IsDeviceStop → IfErr r (IsStopped old new c t)
+untold old new c t (Ok x) opened done why = tt
+untold old new c t (Err e) opened done why = inr (record { opened = opened; done = done; why = why })
 
 -- One more, which is refused or not.
 

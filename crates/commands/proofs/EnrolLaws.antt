@@ -1,24 +1,25 @@
 -- Depositors who are enrolled one after another.
-use Rattle.std.proofs.Common.{◌≡◌, ◌∙◌, sym, refl, ap, subst, ℕ, ◌<◌, ◌+◌, true, List, [], ◌∷◌, ◌++◌, length, take, drop, get_or, Option, append-nil, append_assoc}
+use Rattle.std.proofs.Common.{◌≡◌, ◌∙◌, sym, refl, ap, subst, ℕ, ◌<◌, ◌+◌, true, List, [], ◌∷◌, ◌++◌, length, take, get_or, Option, append-nil, append_assoc, inl, inr}
 use Rattle.std.proofs.KnownBytes.{Appends-trans}
 use Rattle.std.specs.Io.KnownBytes.{Appends}
-use Rattle.std.specs.List.{list_all}
-use Rattle.std.proofs.lemmas.List.{map-append, take_more, take-append-drop}
-use Rattle.std.proofs.lemmas.List.Folds.{list_all-append}
-use Rattle.profile.proofs.TextLaws.{both_parts}
+use Rattle.std.proofs.lemmas.List.{map-append, take_more}
 use Rattle.profile.specs.declared.rules.Rules.TheVariants.{Two}
 use Rattle.profile.specs.Accepted.{IsLegal, accepted_on, replies_on, after, reply_to}
-use Rattle.profile.specs.Header.{Who, is_partner}
+use Rattle.profile.specs.Header.{Who}
 use Rattle.profile.specs.Moments.{Moment}
 use Rattle.profile.specs.Register.{Entry, Enrol}
-use Rattle.store.proofs.Changes.{clean_before}
+use Rattle.store.proofs.Changes.{clean_before, refused_after}
 use Rattle.store.proofs.Replies.{accepted_on-more, replies_on-more}
-use Rattle.store.specs.Standing.{Standing, IsUsable, GoesOn, LeavesEither}
+use Rattle.store.specs.Standing.{Standing, IsUsable, GoesOn, LeavesEither, IsFault, IsRunFault}
+use Rattle.store.specs.declared.fault.Fault.{Fault}
 use Rattle.commands.proofs.ActLaws.{reply_more}
 use Rattle.commands.proofs.TellingLaws.{appends_nothing}
-use Rattle.commands.specs.Enrolling.{enrolments, status_of, line_of, lines_of, AreEnrolled, AreEnrolledUntil}
+use Rattle.commands.specs.Enrolling.{enrolments, status_of, line_of, lines_of, AreEnrolled, AreEnrolledUntil, IsListStopped}
 use Rattle.commands.specs.Statuses.{and_then}
+use Rattle.commands.specs.Stops.{IsFaultThat, IsStopped}
 use Rattle.commands.specs.Telling as told
+use Rattle.commands.specs.declared.told.CommandError.{CommandError}
+use Rattle.commands.specs.declared.told.CommandError.TheVariants as stops
 use Rattle.commands.specs.declared.told.ExitStatus.{ExitStatus}
 use Rattle.commands.specs.declared.told.ExitStatus.TheVariants.{Done}
 
@@ -28,9 +29,9 @@ no_lines W L t = refl
 
 pub none_enrolled : (a : Standing) (t : Moment) (before : Option (List ℕ)) → AreEnrolled a a [] t before before Done
 none_enrolled a t before = record {
-  usable = λ clean L u all. u;
-  says = λ clean L u all. refl;
-  printed = λ clean L u all. rw (no_lines a.warehouse L t) (appends_nothing before);
+  usable = λ clean L u. u;
+  says = λ clean L u. refl;
+  printed = λ clean L u. rw (no_lines a.warehouse L t) (appends_nothing before);
 }
 
 lines_more : (W : Who) (L : List Entry) (t : Moment) (xs : List Who) (who : Who)
@@ -43,12 +44,6 @@ lines_more W L t (x ∷ xs) who =
 enrolments_more : (t : Moment) (xs : List Who) (who : Who) → enrolments t (xs ++ who ∷ []) ≡ enrolments t xs ++ (Enrol who, t) ∷ []
 enrolments_more t xs who = map-append (λ (w : Who). (Enrol w, t)) xs (who ∷ [])
 
--- those before are partners, and so is the one more
-each : (xs : List Who) (who : Who) → list_all is_partner (xs ++ who ∷ []) ≡ true → (list_all is_partner xs ≡ true) × (is_partner who ≡ true)
-each xs who all =
-    let both = both_parts (list_all is_partner xs) (list_all is_partner (who ∷ [])) (sym (list_all-append is_partner xs (who ∷ [])) ∙ all) in
-    (both.0, (both_parts (is_partner who) true both.1).0)
-
 -- the register after one more, where another call names the house
 grown : (V W : Who) (L : List Entry) (xs : List Who) (who : Who) (t : Moment) → V ≡ W
     → after Two V (accepted_on Two W L (enrolments t xs)) (Enrol who, t) ≡ accepted_on Two W L (enrolments t (xs ++ who ∷ []))
@@ -59,28 +54,28 @@ grown V W L xs who t house =
 enrolled_more : (a b c : Standing) (xs : List Who) (who : Who) (t : Moment) (out mid behind : Option (List ℕ)) (status one : ExitStatus) → GoesOn a b → GoesOn b c → AreEnrolled a b xs t out mid status
     → (c.doubt ≡ 0 → (L : List Entry) → b.keeps L → IsLegal Two b.warehouse L → one ≡ told.status_of (reply_to Two b.warehouse L (Enrol who) t))
     → (c.doubt ≡ 0 → (L : List Entry) → b.keeps L → IsLegal Two b.warehouse L → Appends mid behind (line_of who (reply_to Two b.warehouse L (Enrol who) t)))
-    → (c.doubt ≡ 0 → (L : List Entry) → IsUsable b L → is_partner who ≡ true → IsUsable c (after Two b.warehouse L (Enrol who, t)))
+    → (c.doubt ≡ 0 → (L : List Entry) → IsUsable b L → IsUsable c (after Two b.warehouse L (Enrol who, t)))
     → AreEnrolled a c (xs ++ who ∷ []) t out behind (and_then status one)
 enrolled_more a b c xs who t out mid behind status one p q before said prints goes = record {
-  usable = λ clean L u all.
-      let mid = before.usable (clean_before b c q clean) L u (each xs who all).0 in
-      subst (IsUsable c) (grown b.warehouse a.warehouse L xs who t p.warehouse) (goes clean _ mid (each xs who all).1);
-  says = λ clean L u all.
+  usable = λ clean L u.
+      let mid = before.usable (clean_before b c q clean) L u in
+      subst (IsUsable c) (grown b.warehouse a.warehouse L xs who t p.warehouse) (goes clean _ mid);
+  says = λ clean L u.
       let early = clean_before b c q clean in
-      let mid = before.usable early L u (each xs who all).0 in
+      let mid = before.usable early L u in
       let W = a.warehouse in
-      ap (λ s. and_then s one) (before.says early L u (each xs who all).0)
+      ap (λ s. and_then s one) (before.says early L u)
       ∙ ap (and_then (status_of (replies_on Two W L (enrolments t xs)))) (said clean _ mid.keeps mid.legal)
       ∙ reply_more (replies_on Two W L (enrolments t xs)) (reply_to Two b.warehouse (accepted_on Two W L (enrolments t xs)) (Enrol who) t)
       ∙ ap (λ U. status_of (replies_on Two W L (enrolments t xs) ++ reply_to Two U (accepted_on Two W L (enrolments t xs)) (Enrol who) t ∷ [])) p.warehouse
       ∙ sym (ap status_of (ap (replies_on Two W L) (enrolments_more t xs who) ∙ replies_on-more Two W L (enrolments t xs) (Enrol who, t)));
-  printed = λ clean L u all.
+  printed = λ clean L u.
       let early = clean_before b c q clean in
-      let now = before.usable early L u (each xs who all).0 in
+      let now = before.usable early L u in
       let W = a.warehouse in
       let line = subst (λ (U : Who). Appends mid behind (line_of who (reply_to Two U (accepted_on Two W L (enrolments t xs)) (Enrol who) t))) p.warehouse
       (prints clean _ now.keeps now.legal) in
-      subst (Appends out behind) (sym (lines_more W L t xs who)) (Appends-trans out mid behind _ _ (before.printed early L u (each xs who all).0) line);
+      subst (Appends out behind) (sym (lines_more W L t xs who)) (Appends-trans out mid behind _ _ (before.printed early L u) line);
 }
 
 one_more : (whos : List Who) (i : ℕ) (who : Who) → i < length whos → who ≡ get_or whos i who → take (i + 1) whos ≡ take i whos ++ who ∷ []
@@ -91,29 +86,55 @@ pub enrolled_next : (a b c : Standing) (whos : List Who) (i : ℕ) (who : Who) (
     → i < length whos → who ≡ get_or whos i who → GoesOn a b → GoesOn b c → AreEnrolled a b (take i whos) t out mid status
     → (c.doubt ≡ 0 → (L : List Entry) → b.keeps L → IsLegal Two b.warehouse L → one ≡ told.status_of (reply_to Two b.warehouse L (Enrol who) t))
     → (c.doubt ≡ 0 → (L : List Entry) → b.keeps L → IsLegal Two b.warehouse L → Appends mid behind (line_of who (reply_to Two b.warehouse L (Enrol who) t)))
-    → (c.doubt ≡ 0 → (L : List Entry) → IsUsable b L → is_partner who ≡ true → IsUsable c (after Two b.warehouse L (Enrol who, t)))
+    → (c.doubt ≡ 0 → (L : List Entry) → IsUsable b L → IsUsable c (after Two b.warehouse L (Enrol who, t)))
     → AreEnrolled a c (take (i + 1) whos) t out behind last
 enrolled_next a b c whos i who t out mid behind status one last ends lt is p q before said prints goes =
     subst (λ (s : ExitStatus). AreEnrolled a c (take (i + 1) whos) t out behind s) (sym ends)
     (subst (λ (ws : List Who). AreEnrolled a c ws t out behind (and_then status one)) (sym (one_more whos i who lt is))
     (enrolled_more a b c (take i whos) who t out mid behind status one p q before said prints goes))
 
+-- the fault of one is that of a run of them
+fault_of_run : (a b c : Standing) (ws : List Who) (t : Moment) (out mid : Option (List ℕ)) (status : ExitStatus) → GoesOn a b → GoesOn b c → a.shut ≡ b.shut
+    → AreEnrolled a b ws t out mid status → (fault : Fault) → IsFault fault b c → IsRunFault fault true a c
+fault_of_run a b c ws t out mid status p q same before fault f = record {
+  grew = λ was is. refused_after a b c p (f.broken (sym same ∙ was) is);
+  store = λ h. refused_after a b c p (f.why.store h);
+  reopen = λ h. same ∙ f.why.reopen h;
+  not_this = λ h given clean L u. f.why.not_this h clean _ (before.usable (clean_before b c q clean) L u).keeps;
+  device = f.why.device;
+}
+
+-- what is so of the fault of a stop
+fault_in_run : (stop : CommandError) (P Q : Fault → Type 0) → ((fault : Fault) → P fault → Q fault) → IsFaultThat stop P → IsFaultThat stop Q
+fault_in_run (stops.Usage text) P Q then' h = absurd h
+fault_in_run (stops.Fault fault) P Q then' h = then' fault h
+fault_in_run (stops.Caused fault cause) P Q then' h = then' fault h
+
+-- what stopped one stopped the list
+list_stopped : (a b c : Standing) (xs : List Who) (who : Who) (t : Moment) (out mid : Option (List ℕ)) (status : ExitStatus) (stop : CommandError) → GoesOn a b → GoesOn b c
+    → a.shut ≡ b.shut → AreEnrolled a b xs t out mid status → IsStopped b c (Enrol who) t stop → IsListStopped a c (xs ++ who ∷ []) t stop
+list_stopped a b c xs who t out mid status stop p q same before (inl f) =
+    inl (fault_in_run stop (λ fault. IsFault fault b c) (λ fault. IsRunFault fault true a c) (fault_of_run a b c xs t out mid status p q same before) f)
+list_stopped a b c xs who t out mid status stop p q same before (inr h) = inr (record {
+  opened = h.opened;
+  done = λ clean L u. subst (IsUsable c) (grown b.warehouse a.warehouse L xs who t p.warehouse) (h.done clean _ (before.usable (clean_before b c q clean) L u));
+  why = h.why;
+})
+
 -- the list stops at one, after those that were handed in
-pub stopped_at : (a b c : Standing) (whos : List Who) (i : ℕ) (who : Who) (t : Moment) (out mid : Option (List ℕ)) (status : ExitStatus) → GoesOn a b → GoesOn b c
-    → i < length whos → who ≡ get_or whos i who → AreEnrolled a b (take i whos) t out mid status
-    → (c.doubt ≡ 0 → (L : List Entry) → IsUsable b L → is_partner who ≡ true → LeavesEither c L (after Two b.warehouse L (Enrol who, t)))
-    → AreEnrolledUntil a c whos t
-stopped_at a b c whos i who t out mid status p q lt is before left =
+pub stopped_at : (a b c : Standing) (whos : List Who) (i : ℕ) (who : Who) (t : Moment) (out mid : Option (List ℕ)) (status : ExitStatus) (stop : CommandError) → GoesOn a b → GoesOn b c
+    → a.shut ≡ b.shut → i < length whos → who ≡ get_or whos i who → AreEnrolled a b (take i whos) t out mid status
+    → (c.doubt ≡ 0 → (L : List Entry) → IsUsable b L → LeavesEither c L (after Two b.warehouse L (Enrol who, t)))
+    → IsStopped b c (Enrol who) t stop → AreEnrolledUntil a c whos t stop
+stopped_at a b c whos i who t out mid status stop p q same lt is before left why =
     let next = one_more whos i who lt is in
     record {
       count = i;
       within = lt;
-      left = λ clean L u all.
-          let split = sym (list_all-append is_partner (take (i + 1) whos) (drop (i + 1) whos)) ∙ ap (list_all is_partner) (take-append-drop (i + 1) whos) ∙ all in
-          let first = (both_parts (list_all is_partner (take (i + 1) whos)) (list_all is_partner (drop (i + 1) whos)) split).0 in
-          let parts = each (take i whos) who (sym (ap (list_all is_partner) next) ∙ first) in
-          let mid = before.usable (clean_before b c q clean) L u parts.0 in
+      left = λ clean L u.
+          let mid = before.usable (clean_before b c q clean) L u in
           subst (LeavesEither c (accepted_on Two a.warehouse L (enrolments t (take i whos))))
           (grown b.warehouse a.warehouse L (take i whos) who t p.warehouse ∙ sym (ap (λ ws. accepted_on Two a.warehouse L (enrolments t ws)) next))
-          (left clean _ mid parts.1);
+          (left clean _ mid);
+      stopped = subst (λ (ws : List Who). IsListStopped a c ws t stop) (sym next) (list_stopped a b c (take i whos) who t out mid status stop p q same before why);
     }

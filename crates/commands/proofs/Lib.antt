@@ -1,5 +1,5 @@
-pub mod RosterLaws
 pub mod TellingLaws
 pub mod ShownLaws
 pub mod ActLaws
 pub mod EnrolLaws
+pub mod ClockLaws

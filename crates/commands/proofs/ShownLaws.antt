@@ -1,11 +1,13 @@
 -- What is shown of stock and of an order.
-use Rattle.std.proofs.Common.{◌≡◌, ◌≢◌, ◌∙◌, ℕ, Bool, List, Option, Some, None, option_map, Ok, Result, refl, sym, ap, subst}
-use Rattle.std.specs.Prelude.{if◌then◌else◌}
+use Rattle.std.proofs.Common.{◌≡◌, ◌≢◌, ◌∙◌, ℕ, Bool, List, [], Option, Some, None, option_map, Ok, Err, IfErr, Result, refl, sym, ap, subst, inl, inr}
+use Rattle.std.specs.Prelude.{if◌then◌else◌, IsErrOf}
 use Rattle.std.specs.Io.KnownBytes.{Appends}
 use Rattle.profile.specs.declared.rules.Rules.TheVariants.{Two}
+use Rattle.profile.specs.Accepted.{IsLegal}
 use Rattle.profile.specs.History.{History}
 use Rattle.profile.specs.Need.{Need, need_of_number}
 use Rattle.profile.specs.Refusals.{Refusal}
+use Rattle.profile.specs.Register.{Entry}
 use Rattle.profile.specs.Reports.{pick_list, stock_csv, stock_report}
 use Rattle.profile.specs.Rows.{StockRow}
 use Rattle.rules.specs.Decided.{IsHeldPart}
@@ -13,7 +15,12 @@ use Rattle.reports.specs.Picking.{Explains}
 use Rattle.reports.specs.declared.picking.NoSheet.{NoSheet}
 use Rattle.reports.specs.declared.picking.NoSheet.TheVariants.{UnknownOrder, OrderClosed, OutOfMemory}
 use Rattle.store.specs.Held.{IsHeld}
-use Rattle.commands.specs.Shown.{IsShown, shown_stock, shown_order, shown_sheet}
+use Rattle.store.specs.Standing.{Standing, IsQueryFault}
+use Rattle.store.specs.declared.fault.Fault.TheVariants as faults
+use Rattle.commands.specs.Stops.{IsDeviceStop}
+use Rattle.commands.specs.Shown.{Shown, IsShown, IsShowStopped, shown_stock, shown_order, shown_sheet}
+use Rattle.commands.specs.declared.told.CommandError.{CommandError}
+use Rattle.commands.specs.declared.told.CommandError.TheVariants as stops
 use Rattle.commands.specs.declared.told.ExitStatus.{ExitStatus}
 use Rattle.commands.specs.declared.told.ExitStatus.TheVariants.{Done, Refused}
 use Rattle.commands.proofs.TellingLaws.{appends_nothing}
@@ -29,6 +36,21 @@ stock_shown rows_of o v is_csv found rows text written before behind is e r t w 
     w ∙ t ∙ ap (λ k. if is_csv then stock_csv Two k else stock_report Two k) r in
     subst (λ k. IsShown (shown_stock is_csv k) before behind Done) given
     (record { printed = subst (Appends before behind) report told; says = refl })
+
+-- want of memory has no cause here
+pub starved : (old new : Standing) → IsQueryFault faults.OutOfMemory old new
+starved old new = record {
+  store = λ h. absurd (cc);
+  reopen = λ h. absurd (cc);
+  not_this = λ h. absurd (cc);
+  device = λ h. absurd (cc);
+}
+
+-- what was read, and couldn't be told
+pub unshown : {T : Type 0} (old new : Standing) (shown : List Entry → Shown) (what : Shown) (r : Result T CommandError)
+    → (new.doubt ≡ 0 → (L : List Entry) → old.keeps L → IsLegal Two old.warehouse L → what ≡ shown L) → IfErr r IsDeviceStop → IfErr r (IsShowStopped old new shown)
+unshown old new shown what (Ok x) read why = tt
+unshown old new shown what (Err e) read why = inr (record { what = what; read = read; why = why })
 
 -- the sheet of the order that a page holds
 order_of : (number : List ℕ) (o : Option History) (p : _) (text : List ℕ) (before behind : Option (List ℕ)) → IsHeld (need_of_number number) (Some p) o
@@ -68,3 +90,52 @@ no_order_shown number first second need o q p why before status f s n is held li
     let known = subst (λ k. IsHeld k (Some p) o) (n ∙ ap need_of_number f) (subst (λ k. IsHeld need k o) is held) in
     no_order number o p why before status known
     (subst (λ k. (h : History) → IsHeldPart (need_of_number k) p h → Explains (pick_list h.events k) why) s listed) r not
+
+-- the same of what is shown, whether it was told or not
+
+sheet_of : (number : List ℕ) (o : Option History) (p : _) (text : List ℕ) → IsHeld (need_of_number number) (Some p) o
+    → ((h : History) → IsHeldPart (need_of_number number) p h → pick_list h.events number ≡ Ok text) → shown_sheet (Ok text) ≡ shown_order number o
+sheet_of number None p text held listed = absurd held
+sheet_of number (Some h) p text held listed = ap shown_sheet (sym (listed h held))
+
+pub order_read : (number first second : List ℕ) (need : Need) (o : Option History) (q : _) (p : _) (text : List ℕ)
+    → first ≡ number → second ≡ number → need ≡ need_of_number first → q ≡ Some p → IsHeld need q o
+    → ((h : History) → IsHeldPart (need_of_number second) p h → pick_list h.events second ≡ Ok text) → shown_sheet (Ok text) ≡ shown_order number o
+order_read number first second need o q p text f s n is held listed =
+    let known = subst (λ k. IsHeld k (Some p) o) (n ∙ ap need_of_number f) (subst (λ k. IsHeld need k o) is held) in
+    sheet_of number o p text known (subst (λ k. (h : History) → IsHeldPart (need_of_number k) p h → pick_list h.events k ≡ Ok text) s listed)
+
+-- a stranger's
+pub stranger_read : (number : List ℕ) (need : Need) (o : Option History) (q : _) → q ≡ None → IsHeld need q o → shown_order number None ≡ shown_order number o
+stranger_read number need o q is held = of_none number need o (subst (λ k. IsHeld need k o) is held)
+  where
+    of_none : (number : List ℕ) (need : Need) (o : Option History) → IsHeld need None o → shown_order number None ≡ shown_order number o
+    of_none number need None held = refl
+    of_none number need (Some h) held = absurd held
+
+-- one that there is none of
+nothing : (answer : Result (List ℕ) Refusal) (why : NoSheet) → Explains answer why → why ≢ OutOfMemory → ([], Refused) ≡ shown_sheet answer
+nothing answer UnknownOrder e not = rw e refl
+nothing answer OrderClosed e not = rw e refl
+nothing answer OutOfMemory e not = absurd (not refl)
+
+none_of : (number : List ℕ) (o : Option History) (p : _) (why : NoSheet) → IsHeld (need_of_number number) (Some p) o
+    → ((h : History) → IsHeldPart (need_of_number number) p h → Explains (pick_list h.events number) why) → why ≢ OutOfMemory → ([], Refused) ≡ shown_order number o
+none_of number None p why held listed not = absurd held
+none_of number (Some h) p why held listed not = nothing (pick_list h.events number) why (listed h held) not
+
+pub no_order_read : (number first second : List ℕ) (need : Need) (o : Option History) (q : _) (p : _) (why : NoSheet)
+    → first ≡ number → second ≡ number → need ≡ need_of_number first → q ≡ Some p → IsHeld need q o
+    → ((h : History) → IsHeldPart (need_of_number second) p h → Explains (pick_list h.events second) why) → why ≢ OutOfMemory → ([], Refused) ≡ shown_order number o
+no_order_read number first second need o q p why f s n is held listed not =
+    let known = subst (λ k. IsHeld k (Some p) o) (n ∙ ap need_of_number f) (subst (λ k. IsHeld need k o) is held) in
+    none_of number o p why known (subst (λ k. (h : History) → IsHeldPart (need_of_number k) p h → Explains (pick_list h.events k) why) s listed) not
+
+-- why there is none, which couldn't be told; want of memory is another fault
+pub untold_order : (old new : Standing) (shown : List Entry → Shown) (why : NoSheet) (r : Result ExitStatus CommandError)
+    → (why ≢ OutOfMemory → new.doubt ≡ 0 → (L : List Entry) → old.keeps L → IsLegal Two old.warehouse L → ([], Refused) ≡ shown L)
+    → IfErr r IsDeviceStop → (why ≡ OutOfMemory → IsErrOf r (stops.Fault faults.OutOfMemory)) → IfErr r (IsShowStopped old new shown)
+untold_order old new shown UnknownOrder r read halted memory = unshown old new shown ([], Refused) r (read (λ e. absurd (cc))) halted
+untold_order old new shown OrderClosed r read halted memory = unshown old new shown ([], Refused) r (read (λ e. absurd (cc))) halted
+untold_order old new shown OutOfMemory r read halted memory =
+    subst (λ (k : Result ExitStatus CommandError). IfErr k (IsShowStopped old new shown)) (sym (memory refl)) (inl (starved old new))

@@ -1,12 +1,13 @@
 -- What a command that was made ready does to a book, and what is printed of it.
-use Rattle.std.specs.Prelude.{◌≡◌, ℕ, List, true, Option, Result, IfOk, OnOk, OnErr}
+use Rattle.std.specs.Prelude.{◌≡◌, ℕ, List, Option, Result, IfOk, IfErr, OnOk, OnErr}
 use Rattle.profile.specs.declared.rules.Rules.TheVariants.{Two}
-use Rattle.profile.specs.Accepted.{IsLegal, is_command, reply_to, after}
+use Rattle.profile.specs.Accepted.{IsLegal, reply_to, after}
 use Rattle.profile.specs.Moments.{Moment}
 use Rattle.profile.specs.Register.{Entry, Command, Enrol, Interchange}
 use Rattle.store.specs.Standing.{Standing, IsUsable, LeavesEither}
 use Rattle.commands.specs.Clerks.{command_of}
 use Rattle.commands.specs.Enrolling.{IsEnrolling}
+use Rattle.commands.specs.Stops.{IsStopped}
 use Rattle.commands.specs.Takes.{IsTaking}
 use Rattle.commands.specs.Telling.{IsPrinted}
 use Rattle.commands.specs.declared.acts.Ready.{Ready}
@@ -18,14 +19,16 @@ use Rattle.commands.specs.declared.told.ExitStatus.{ExitStatus}
 abbrev pub Ending : Type 0
 Ending = Result ExitStatus CommandError
 
--- One command was handed in: its reply is printed, the register is the one after it, and a stop leaves the one before it or that one.
+-- One command was handed in: its reply is printed, the register is the one after it, and a stop, of which it is said
+-- what it was, leaves the one before it or that one.
 pub record IsAnswered (old new : Standing) (c : Command) (t : Moment) (before behind : Option (List ℕ)) (ending : Ending) : Type 0 where
   pub printed : new.doubt ≡ 0 → (L : List Entry) → old.keeps L → IsLegal Two old.warehouse L
       → IfOk ending (IsPrinted (reply_to Two old.warehouse L c t) before behind)
-  pub done : new.doubt ≡ 0 → (L : List Entry) → IsUsable old L → is_command Two c ≡ true
+  pub done : new.doubt ≡ 0 → (L : List Entry) → IsUsable old L
       → OnOk ending (IsUsable new (after Two old.warehouse L (c, t)))
-  pub left : new.doubt ≡ 0 → (L : List Entry) → IsUsable old L → is_command Two c ≡ true
+  pub left : new.doubt ≡ 0 → (L : List Entry) → IsUsable old L
       → OnErr ending (LeavesEither new L (after Two old.warehouse L (c, t)))
+  pub stopped : IfErr ending (IsStopped old new c t)
 
 -- what was made ready was done; a list of depositors and a folder are many commands
 abbrev pub IsPerformed : Standing → Standing → Ready → Moment → Option (List ℕ) → Option (List ℕ) → Ending → Type 0

@@ -1,15 +1,16 @@
 -- What comes of the depositors of a list, who are enrolled one after another.
-use Rattle.std.specs.Prelude.{◌≡◌, ◌<◌, ◌+◌, ◌++◌, ◌∷◌, [], ℕ, Bool, true, false, List, Option, Result, Ok, Err, codes, decimal, length, map, take, if◌then◌else◌}
+use Rattle.std.specs.Prelude.{◌≡◌, ◌⊎◌, ◌<◌, ◌+◌, ◌++◌, ◌∷◌, [], ℕ, Bool, true, false, List, Option, Result, Ok, Err, codes, decimal, length, map, take, if◌then◌else◌}
 use Rattle.std.specs.Io.KnownBytes.{Appends}
-use Rattle.std.specs.List.{list_any, list_all}
+use Rattle.std.specs.List.{list_any}
 use Rattle.profile.specs.declared.rules.Rules.TheVariants.{Two}
 use Rattle.profile.specs.Accepted.{accepted_on, replies_on, after, reply_to}
-use Rattle.profile.specs.Header.{Who, is_partner, who_text}
+use Rattle.profile.specs.Header.{Who, who_text}
 use Rattle.profile.specs.Moments.{Moment}
 use Rattle.profile.specs.Refusals.{refusal_number}
 use Rattle.profile.specs.Register.{Entry, Command, Enrol}
 use Rattle.profile.specs.Reply as replies
-use Rattle.store.specs.Standing.{Standing, IsUsable, LeavesEither}
+use Rattle.store.specs.Standing.{Standing, IsUsable, LeavesEither, IsRunFault}
+use Rattle.commands.specs.Stops.{IsDeviceStop, IsFaultThat}
 use Rattle.commands.specs.declared.told.CommandError.{CommandError}
 use Rattle.commands.specs.declared.told.ExitStatus.{ExitStatus}
 use Rattle.commands.specs.declared.told.ExitStatus.TheVariants.{Done, Refused}
@@ -38,22 +39,36 @@ lines_of W L t (who ∷ whos) = line_of who (reply_to Two W L (Enrol who) t) ++ 
 
 -- each of them was handed in: the register is the one after all, this is the status, and a line is printed of each
 pub record AreEnrolled (old new : Standing) (whos : List Who) (t : Moment) (before behind : Option (List ℕ)) (status : ExitStatus) : Type 0 where
-  pub usable : new.doubt ≡ 0 → (L : List Entry) → IsUsable old L → list_all is_partner whos ≡ true
+  pub usable : new.doubt ≡ 0 → (L : List Entry) → IsUsable old L
       → IsUsable new (accepted_on Two old.warehouse L (enrolments t whos))
-  pub says : new.doubt ≡ 0 → (L : List Entry) → IsUsable old L → list_all is_partner whos ≡ true
+  pub says : new.doubt ≡ 0 → (L : List Entry) → IsUsable old L
       → status ≡ status_of (replies_on Two old.warehouse L (enrolments t whos))
-  pub printed : new.doubt ≡ 0 → (L : List Entry) → IsUsable old L → list_all is_partner whos ≡ true
+  pub printed : new.doubt ≡ 0 → (L : List Entry) → IsUsable old L
       → Appends before behind (lines_of old.warehouse L t whos)
 
+-- these were handed in, and the line of the last couldn't be printed
+pub record IsUnlisted (old new : Standing) (whos : List Who) (t : Moment) (stop : CommandError) : Type 0 where
+  pub opened : new.shut ≡ false
+  pub done : new.doubt ≡ 0 → (L : List Entry) → IsUsable old L
+      → IsUsable new (accepted_on Two old.warehouse L (enrolments t whos))
+  pub why : IsDeviceStop stop
+
+-- what stopped a list at the last of these: a fault of the book by which it wasn't answered, or one of a device after
+-- that
+abbrev pub IsListStopped : Standing → Standing → List Who → Moment → CommandError → Type 0
+IsListStopped old new whos t stop =
+    IsFaultThat stop (λ fault. IsRunFault fault true old new) ⊎ IsUnlisted old new whos t stop
+
 -- so many were handed in, and one more perhaps: a crash leaves the register after those, or after that one too
-pub record AreEnrolledUntil (old new : Standing) (whos : List Who) (t : Moment) : Type 0 where
+pub record AreEnrolledUntil (old new : Standing) (whos : List Who) (t : Moment) (stop : CommandError) : Type 0 where
   pub count : ℕ
   pub within : count < length whos
-  pub left : new.doubt ≡ 0 → (L : List Entry) → IsUsable old L → list_all is_partner whos ≡ true
+  pub left : new.doubt ≡ 0 → (L : List Entry) → IsUsable old L
       → LeavesEither new (accepted_on Two old.warehouse L (enrolments t (take count whos)))
       (accepted_on Two old.warehouse L (enrolments t (take (count + 1) whos)))
+  pub stopped : IsListStopped old new (take (count + 1) whos) t stop
 
 -- how a list ended
 abbrev pub IsEnrolling : Standing → Standing → List Who → Moment → Option (List ℕ) → Option (List ℕ) → Result ExitStatus CommandError → Type 0
 IsEnrolling old new whos t before behind (Ok status) = AreEnrolled old new whos t before behind status
-IsEnrolling old new whos t before behind (Err stop) = AreEnrolledUntil old new whos t
+IsEnrolling old new whos t before behind (Err stop) = AreEnrolledUntil old new whos t stop

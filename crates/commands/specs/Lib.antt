@@ -1,13 +1,11 @@
 pub mod Statuses
-pub mod Rosters
 pub mod Telling
 pub mod Shown
-pub mod Faults
 pub mod Stops
 pub mod Clerks
 pub mod Acting
 pub mod Readying
 pub mod Looking
-pub mod Working
 pub mod Takes
 pub mod Enrolling
+pub mod Clock

@@ -5,7 +5,8 @@ use Rattle.profile.specs.Header.{who_of}
 use Rattle.profile.specs.Moments.{Moment}
 use Rattle.store.specs.Standing.{Standing, IsUnchanged}
 use Rattle.commands.specs.Acting.{Ending, IsPerformed}
-use Rattle.commands.specs.Rosters.{IsRead}
+use Rattle.commands.specs.Clerks.{IsSlipOf}
+use Rattle.rosters.specs.Rosters.{IsRead}
 use Rattle.commands.specs.declared.acts.Ready.{Ready}
 use Rattle.commands.specs.declared.acts.Ready.TheVariants as ready
 use Rattle.commands.specs.declared.told.ExitStatus.TheVariants.{Refused}
@@ -18,7 +19,7 @@ IsMadeReady (act.Enrol who) (ready.Enrol w) = who_of who.now ≡ Some w
 IsMadeReady (act.Roster file) (ready.Roster partners) = (text : List ℕ) × IsRead text (Some partners.items)
 IsMadeReady (act.Send file) (ready.Send bytes) = Unit {0}
 IsMadeReady (act.Take dir) (ready.Take folder) = folder ≡ dir
-IsMadeReady (act.Clerk told) (ready.Clerk slip) = slip.told ≡ told
+IsMadeReady (act.Clerk told) (ready.Clerk slip) = IsSlipOf told slip.who slip.told slip.sheet
 IsMadeReady a r = ⊥
 
 -- the words or their files were refused, or a fault came first: the book is as before, and nothing is printed

@@ -1,7 +1,8 @@
 -- What is shown of a register, and the status that it gives.
-use Rattle.std.specs.Prelude.{◌≡◌, ℕ, Bool, List, [], if◌then◌else◌, Option, Some, None, Result, Ok, Err}
+use Rattle.std.specs.Prelude.{◌≡◌, ◌⊎◌, ℕ, Bool, List, [], if◌then◌else◌, Option, Some, None, Result, Ok, Err}
 use Rattle.std.specs.Io.KnownBytes.{Appends}
 use Rattle.profile.specs.declared.rules.Rules.TheVariants.{Two}
+use Rattle.profile.specs.Accepted.{IsLegal}
 use Rattle.profile.specs.Decision.{standing}
 use Rattle.profile.specs.Header.{Who}
 use Rattle.profile.specs.History.{History}
@@ -10,7 +11,10 @@ use Rattle.profile.specs.Register.{Entry, own}
 use Rattle.profile.specs.Reports.{stock_csv, stock_report, outbox_list, pick_list}
 use Rattle.profile.specs.Rows.{StockRow, OutRow, stock_of, outbox_of}
 use Rattle.store.specs.Sent.{text_of}
+use Rattle.store.specs.Standing.{Standing, IsQueryFault}
+use Rattle.commands.specs.Stops.{IsDeviceStop, IsFaultThat}
 use Rattle.commands.specs.Telling.{line_of}
+use Rattle.commands.specs.declared.told.CommandError.{CommandError}
 use Rattle.commands.specs.declared.told.ExitStatus.{ExitStatus}
 use Rattle.commands.specs.declared.told.ExitStatus.TheVariants.{Done, Refused}
 use Rattle.commands.specs.declared.shows.Asked.{Asked}
@@ -58,3 +62,14 @@ shown_of W L asked = shown_to W L asked.who asked.show
 pub record IsShown (shown : Shown) (before behind : Option (List ℕ)) (status : ExitStatus) : Type 0 where
   pub printed : Appends before behind shown.0
   pub says : status ≡ shown.1
+
+-- what is to be shown of the register was read, and couldn't be told
+pub record IsUnshown (old new : Standing) (shown : List Entry → Shown) (stop : CommandError) : Type 0 where
+  pub what : Shown
+  pub read : new.doubt ≡ 0 → (L : List Entry) → old.keeps L → IsLegal Two old.warehouse L → what ≡ shown L
+  pub why : IsDeviceStop stop
+
+-- what kept it from being shown: a fault of the book by which it wasn't read, or one of a device after that
+abbrev pub IsShowStopped : Standing → Standing → (List Entry → Shown) → CommandError → Type 0
+IsShowStopped old new shown stop =
+    IsFaultThat stop (λ fault. IsQueryFault fault old new) ⊎ IsUnshown old new shown stop

@@ -1,5 +1,10 @@
 -- What stops a command: a fault of the book, or one of a device.
-use Rattle.std.specs.Prelude.{◌≡◌, ◌⊎◌, Option, Some, None}
+use Rattle.std.specs.Prelude.{◌≡◌, ◌⊎◌, false, List, Option, Some, None}
+use Rattle.profile.specs.declared.rules.Rules.TheVariants.{Two}
+use Rattle.profile.specs.Accepted.{after}
+use Rattle.profile.specs.Moments.{Moment}
+use Rattle.profile.specs.Register.{Entry, Command}
+use Rattle.store.specs.Standing.{Standing, IsUsable, IsFault}
 use Rattle.store.specs.declared.fault.Fault.{Fault}
 use Rattle.store.specs.declared.fault.Fault.TheVariants as faults
 use Rattle.commands.specs.declared.told.CommandError.{CommandError}
@@ -24,3 +29,14 @@ abbrev pub IsFaultThat : CommandError → (Fault → Type 0) → Type 0
 IsFaultThat (stops.Usage text) P = ⊥
 IsFaultThat (stops.Fault fault) P = P fault
 IsFaultThat (stops.Caused fault cause) P = P fault
+
+-- a command was answered, and its reply couldn't be told
+pub record IsUntold (old new : Standing) (c : Command) (t : Moment) (stop : CommandError) : Type 0 where
+  pub opened : new.shut ≡ false
+  pub done : new.doubt ≡ 0 → (L : List Entry) → IsUsable old L
+      → IsUsable new (after Two old.warehouse L (c, t))
+  pub why : IsDeviceStop stop
+
+-- what stopped a command: a fault of the book by which it wasn't answered, or one of a device after that
+abbrev pub IsStopped : Standing → Standing → Command → Moment → CommandError → Type 0
+IsStopped old new c t stop = IsFaultThat stop (λ fault. IsFault fault old new) ⊎ IsUntold old new c t stop

@@ -1,18 +1,19 @@
-ghost use Rattle.std.specs.Prelude.{◌≡◌, List, true, IfOk, IfSome, OnOk, OnErr};
+ghost use Rattle.std.specs.Prelude.{◌≡◌, List, true, IfOk, IfErr, IfSome, OnOk, OnErr};
 ghost use Rattle.profile.specs.declared.rules.Rules.TheVariants.{Two};
 ghost use Rattle.profile.specs.Accepted.{IsLegal, is_command, reply_to, after};
 ghost use Rattle.profile.specs.Register.{Entry, Enrol as Enrolment, Interchange as Received};
 ghost use Rattle.rules.specs.Asked.{asked};
 ghost use Rattle.store.specs.Runs.{told};
-ghost use Rattle.store.specs.Standing.{IsUsable, GoesOn, LeavesEither};
+ghost use Rattle.store.specs.Standing.{IsUsable, GoesOn, LeavesEither, OfKept};
 ghost use Rattle.commands.specs.Acting.{IsAnswered, IsPerformed};
 ghost use Rattle.commands.specs.Clerks.{command_of};
 ghost use Rattle.commands.specs.Readying.{IsMadeReady};
+ghost use Rattle.commands.specs.Stops.{IsDeviceStop, IsStopped};
 ghost use Rattle.commands.specs.Telling.{IsPrinted};
 
 use crate::causes::about_file;
 use crate::clock::moment_for;
-use crate::rosters::{enrol_all, read_roster};
+use crate::enrolments::{enrol_all, read_roster};
 use crate::slips::{Slip, clerk, slip_of};
 use crate::takes::take;
 use crate::told::{CommandError, ExitStatus, tell_refusal, tell_text};
@@ -95,7 +96,9 @@ fn tell_reply<W: io::Write, E: io::Write>(
     out: &mut W,
     err: &mut E,
 ) -> Result<ExitStatus, CommandError>
-    ensures { IfOk result (λ status. IsPrinted (told reply.now) (W.contents out.old) (W.contents out.new) status) }
+    ensures printed { IfOk result
+        (λ status. IsPrinted (told reply.now) (W.contents out.old) (W.contents out.new) status) }
+    ensures halted { IfErr result IsDeviceStop }
 {
     match reply {
         Reply::Accepted(text) => tell_text(out, text)?,
@@ -117,12 +120,16 @@ fn hand_in<K: Keeper, W: io::Write, E: io::Write>(
     out: &mut W,
     err: &mut E,
 ) -> Result<ExitStatus, CommandError>
-    ensures printed { (K.standing book.new).doubt ≡ 0 → (L : List Entry) → (K.standing book.old).keeps L → IsLegal Two (K.standing book.old).warehouse L
-        → IfOk result (λ status. IsPrinted (reply_to Two (K.standing book.old).warehouse L (asked command.now) moment) (W.contents out.old) (W.contents out.new) status) }
-    ensures done { (K.standing book.new).doubt ≡ 0 → (L : List Entry) → IsUsable (K.standing book.old) L → is_command Two (asked command.now) ≡ true
+    requires { is_command Two (asked command.now) ≡ true }
+    ensures printed { OfKept (K.standing book.old) (K.standing book.new)
+        (λ L. IfOk result (λ status. IsPrinted (reply_to Two (K.standing book.old).warehouse L
+        (asked command.now) moment) (W.contents out.old) (W.contents out.new) status)) }
+    ensures done { (K.standing book.new).doubt ≡ 0 → (L : List Entry) → IsUsable (K.standing book.old) L
         → OnOk result (IsUsable (K.standing book.new) (after Two (K.standing book.old).warehouse L (asked command.now, moment))) }
-    ensures left { (K.standing book.new).doubt ≡ 0 → (L : List Entry) → IsUsable (K.standing book.old) L → is_command Two (asked command.now) ≡ true
+    ensures left { (K.standing book.new).doubt ≡ 0 → (L : List Entry) → IsUsable (K.standing book.old) L
         → OnErr result (LeavesEither (K.standing book.new) L (after Two (K.standing book.old).warehouse L (asked command.now, moment))) }
+    ensures stopped { IfErr result
+        (IsStopped (K.standing book.old) (K.standing book.new) (asked command.now) moment) }
     ensures goes { GoesOn (K.standing book.old) (K.standing book.new) }
 {
     let reply = submit(alloc, book, command, moment)?;

@@ -121,7 +121,7 @@ pub fn about_opening(alloc: Global, book: &str, fault: Fault) -> CommandError
 // What a fault says of a book, after its name, if it says something.
 fn said_of_book(fault: Fault, is_made: bool) -> Option<&'static str> {
     match fault {
-        Fault::NotThisBook if is_made => Some(" has a book already"),
+        Fault::NotThisBook if is_made => Some(" has a book already, or other tables"),
         Fault::NotThisBook => {
             Some(" is no book of this program, or is damaged: see docs/OPERATIONS.md on backups")
         }

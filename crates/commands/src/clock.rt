@@ -1,5 +1,6 @@
 //! The moment of a command: the one of its line, or the clock's.
 ghost use Rattle.std.specs.Prelude.{◌≡◌, Ok, IfSome};
+ghost use Rattle.commands.specs.Clock.{IsCivil};
 
 use crate::told::{CommandError, usage};
 use jiff::Timestamp;
@@ -27,13 +28,22 @@ pub fn moment_for<R: Clock + AllocGlobal>(
 /// The clock's moment in UTC; None where the clock can't be read, or isn't in the years 2000 to 2099.
 pub fn now(rt: &impl Clock) -> Option<Moment> {
     let time = SystemTime::now(rt).ok()?;
-    let timestamp = Timestamp::try_from(time).ok()?;
-    let civil = Offset::UTC.to_datetime(timestamp);
+    civil(Timestamp::try_from(time).ok()?)
+}
+
+// The minute in which an instant lies, in UTC; None where it isn't in the years 2000 to 2099.
+fn civil(timestamp: Timestamp) -> Option<Moment>
+    ensures { IsCivil timestamp result }
+{
+    let shown = Offset::UTC.to_datetime(timestamp);
+    if shown.year() < 0 {
+        return None;
+    }
     Moment::new(
-        u16::try_from(civil.year()).ok()?,
-        u8::try_from(civil.month()).ok()?,
-        u8::try_from(civil.day()).ok()?,
-        u8::try_from(civil.hour()).ok()?,
-        u8::try_from(civil.minute()).ok()?,
+        shown.year().unsigned_abs(),
+        shown.month().unsigned_abs(),
+        shown.day().unsigned_abs(),
+        shown.hour().unsigned_abs(),
+        shown.minute().unsigned_abs(),
     )
 }

@@ -1,28 +1,31 @@
-//! The program's commands: what a line of words asks for is done, and told. The program calls `program`, which hands its words to `command`, and has nothing else.
+//! The program's commands, done over a book of any kind: what a line of words asks for is made ready, done and told. The book in its
+//! file, and the program's own line, are the crate's above this one.
 #![tactic(auto)]
 
 mod acts;
-mod book_files;
 mod causes;
 mod clock;
+mod enrolments;
 mod files;
-mod over_file;
 mod reasons;
-mod rosters;
-mod run;
 mod script;
 mod served_files;
 mod serving;
 mod shows;
 mod slips;
-mod starting;
 mod takes;
 mod told;
 mod verbosity;
 
+pub use acts::{Ready, perform, ready_at};
+pub use causes::{about_book, about_line, about_missing, about_opening, about_use};
+pub use clock::moment_for;
 pub use command_line::Service;
-pub use run::command;
-pub use serving::serve_on;
-pub use starting::program;
-pub use told::{CommandError, ExitStatus};
+pub use reasons::tell_reason;
+pub use script::{play_over, read_lines, run_script};
+pub use served_files::ServedFile;
+pub use serving::{serve, serve_on};
+pub use shows::{Asked, ask, show};
+pub use slips::Slip;
+pub use told::{CommandError, ExitStatus, tell_refusal, tell_stop, usage};
 pub use verbosity::Verbosity;

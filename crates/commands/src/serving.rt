@@ -1,4 +1,5 @@
 //! A book served over HTTP.
+ghost use Rattle.std.specs.Prelude.{◌≡◌, unwrap_or};
 
 use crate::causes::{about_address, about_replaced};
 use crate::clock::now;
@@ -88,12 +89,19 @@ fn tell_connection<E: io::Write>(err: &mut E, connection: &Connection) -> io::Re
     tell_end(err, connection)
 }
 
-// The clock's moment; the one before where the clock can't be used now.
-fn moment_behind(rt: &HostRuntime, last: Moment) -> Moment {
-    match now(rt) {
+// The moment that was found; the last good one where none was.
+fn moment_after(found: Option<Moment>, last: Moment) -> Moment
+    ensures { result ≡ unwrap_or found last }
+{
+    match found {
         Some(moment) => moment,
         None => last,
     }
+}
+
+// The clock's moment; the last good one where the clock can't be used now.
+fn moment_behind(rt: &HostRuntime, last: Moment) -> Moment {
+    moment_after(now(rt), last)
 }
 
 /// Serves so many connections of a listener as the service says, and prints what became of each. The moment of each is `first`,

@@ -1,5 +1,5 @@
 //! What is shown of a book, which stays as it is.
-ghost use Rattle.std.specs.Prelude.{◌≡◌, ◌≢◌, List, Some, IfOk, if◌then◌else◌, option_map};
+ghost use Rattle.std.specs.Prelude.{◌≡◌, ◌≢◌, false, List, Some, IfErr, IfOk, IsErrOf, if◌then◌else◌, option_map};
 ghost use Rattle.profile.specs.declared.rules.Rules.TheVariants.{Two};
 ghost use Rattle.profile.specs.Reports as meant;
 ghost use Rattle.profile.specs.Accepted.{IsLegal};
@@ -7,9 +7,10 @@ ghost use Rattle.profile.specs.Decision.{standing as standing_of};
 ghost use Rattle.profile.specs.Register.{Entry, own};
 ghost use Rattle.profile.specs.Rows.{stock_of, outbox_of};
 ghost use Rattle.store.specs.Sent.{text_of};
-ghost use Rattle.store.specs.Standing.{IsUnchanged};
-ghost use Rattle.commands.specs.Looking.{IsAskedFor};
-ghost use Rattle.commands.specs.Shown.{IsShown, shown_stock, shown_list, shown_text, shown_order, shown_of};
+ghost use Rattle.store.specs.Standing.{IsUnchanged, OfKept};
+ghost use Rattle.commands.specs.Looking.{IsAskedFor, is_readable};
+ghost use Rattle.commands.specs.Stops.{IsDeviceStop};
+ghost use Rattle.commands.specs.Shown.{IsShown, IsShowStopped, shown_stock, shown_list, shown_text, shown_order, shown_of};
 
 use crate::told::{CommandError, ExitStatus, tell_refusal, tell_text};
 use command_line::Show;
@@ -28,7 +29,8 @@ pub struct Asked<'a> {
 
 /// What a line asks to be shown. Refused is 32, a word that can't be read.
 pub fn ask<'a>(show: &Show<'a>) -> Result<Asked<'a>, Refusal>
-    ensures { IfOk result (IsAskedFor show.now) }
+    ensures asked { IfOk result (IsAskedFor show.now) }
+    ensures refused { IfErr result (λ refusal. (refusal ≡ Refusal.BadText) × (is_readable show.now ≡ false)) }
 {
     let (who, number) = match show {
         Show::Order { who, number } => (*who, Some(*number)),
@@ -62,11 +64,12 @@ fn stock<K: Keeper, W: io::Write, E: io::Write>(
     out: &mut W,
     err: &mut E,
 ) -> Result<ExitStatus, CommandError>
-    ensures shown { (K.standing book.new).doubt ≡ 0 → (L : List Entry)
-        → (K.standing book.old).keeps L → IsLegal Two (K.standing book.old).warehouse L
-        → IfOk result (λ status. IsShown (shown_stock is_csv (stock_of L who))
-        (W.contents out.old) (W.contents out.new) status) }
+    ensures shown { OfKept (K.standing book.old) (K.standing book.new)
+        (λ L. IfOk result (λ status. IsShown (shown_stock is_csv (stock_of L who)) (W.contents out.old)
+        (W.contents out.new) status)) }
     ensures same { IsUnchanged (K.standing book.old) (K.standing book.new) }
+    ensures stopped { IfErr result (IsShowStopped (K.standing book.old) (K.standing book.new)
+        (λ L. shown_stock is_csv (stock_of L who))) }
 {
     match store::stock(book, who)? {
         Some(rows) => {
@@ -83,8 +86,10 @@ fn tell_no_sheet<E: io::Write>(
     err: &mut E,
     why: NoSheet,
 ) -> Result<ExitStatus, CommandError>
-    ensures { IfOk result
+    ensures refused { IfOk result
         (λ status. (status ≡ ExitStatus.Refused) × (why ≢ NoSheet.OutOfMemory)) }
+    ensures halted { IfErr result IsDeviceStop }
+    ensures starved { why ≡ NoSheet.OutOfMemory → IsErrOf result (CommandError.Fault Fault.OutOfMemory) }
 {
     match why {
         NoSheet::UnknownOrder => tell_refusal(alloc, err, Refusal::UnknownOrder),
@@ -103,11 +108,12 @@ fn order<K: Keeper, W: io::Write, E: io::Write>(
     out: &mut W,
     err: &mut E,
 ) -> Result<ExitStatus, CommandError>
-    ensures shown { (K.standing book.new).doubt ≡ 0 → (L : List Entry)
-        → (K.standing book.old).keeps L → IsLegal Two (K.standing book.old).warehouse L
-        → IfOk result (λ status. IsShown (shown_order number.now (standing_of (own L who)))
-        (W.contents out.old) (W.contents out.new) status) }
+    ensures shown { OfKept (K.standing book.old) (K.standing book.new)
+        (λ L. IfOk result (λ status. IsShown (shown_order number.now (standing_of (own L who)))
+        (W.contents out.old) (W.contents out.new) status)) }
     ensures same { IsUnchanged (K.standing book.old) (K.standing book.new) }
+    ensures stopped { IfErr result (IsShowStopped (K.standing book.old) (K.standing book.new)
+        (λ L. shown_order number.now (standing_of (own L who)))) }
 {
     let need = Need::order(alloc, number.as_bytes())?;
     let Some(page) = book.load(who, &need)? else {
@@ -130,11 +136,12 @@ fn outbox<K: Keeper, W: io::Write, E: io::Write>(
     out: &mut W,
     err: &mut E,
 ) -> Result<ExitStatus, CommandError>
-    ensures shown { (K.standing book.new).doubt ≡ 0 → (L : List Entry)
-        → (K.standing book.old).keeps L → IsLegal Two (K.standing book.old).warehouse L
-        → IfOk result (λ status. IsShown (shown_list (outbox_of (K.standing book.old).warehouse L who))
-        (W.contents out.old) (W.contents out.new) status) }
+    ensures shown { OfKept (K.standing book.old) (K.standing book.new)
+        (λ L. IfOk result (λ status. IsShown (shown_list (outbox_of (K.standing book.old).warehouse L who))
+        (W.contents out.old) (W.contents out.new) status)) }
     ensures same { IsUnchanged (K.standing book.old) (K.standing book.new) }
+    ensures stopped { IfErr result (IsShowStopped (K.standing book.old) (K.standing book.new)
+        (λ L. shown_list (outbox_of (K.standing book.old).warehouse L who))) }
 {
     match store::outbox(book, who)? {
         Some(rows) => {
@@ -150,8 +157,9 @@ fn tell_content<W: io::Write>(
     text: Option<Vec<u8>>,
     out: &mut W,
 ) -> Result<ExitStatus, CommandError>
-    ensures { IfOk result (λ status. IsShown (shown_text (Some (option_map (λ t. t.items) text)))
+    ensures shown { IfOk result (λ status. IsShown (shown_text (Some (option_map (λ t. t.items) text)))
         (W.contents out.old) (W.contents out.new) status) }
+    ensures halted { IfErr result IsDeviceStop }
 {
     match text {
         Some(text) => {
@@ -172,11 +180,12 @@ fn content<K: Keeper, W: io::Write, E: io::Write>(
     out: &mut W,
     err: &mut E,
 ) -> Result<ExitStatus, CommandError>
-    ensures shown { (K.standing book.new).doubt ≡ 0 → (L : List Entry)
-        → (K.standing book.old).keeps L → IsLegal Two (K.standing book.old).warehouse L
-        → IfOk result (λ status. IsShown (shown_text (text_of (K.standing book.old).warehouse L who number))
-        (W.contents out.old) (W.contents out.new) status) }
+    ensures shown { OfKept (K.standing book.old) (K.standing book.new)
+        (λ L. IfOk result (λ status. IsShown (shown_text (text_of
+        (K.standing book.old).warehouse L who number)) (W.contents out.old) (W.contents out.new) status)) }
     ensures same { IsUnchanged (K.standing book.old) (K.standing book.new) }
+    ensures stopped { IfErr result (IsShowStopped (K.standing book.old) (K.standing book.new)
+        (λ L. shown_text (text_of (K.standing book.old).warehouse L who number))) }
 {
     match store::text(book, who, number)? {
         Some(text) => tell_content(text, out),
@@ -193,11 +202,12 @@ pub fn show<K: Keeper, W: io::Write, E: io::Write>(
     out: &mut W,
     err: &mut E,
 ) -> Result<ExitStatus, CommandError>
-    ensures shown { (K.standing book.new).doubt ≡ 0 → (L : List Entry)
-        → (K.standing book.old).keeps L → IsLegal Two (K.standing book.old).warehouse L
-        → IfOk result (λ status. IsShown (shown_of (K.standing book.old).warehouse L asked.now)
-        (W.contents out.old) (W.contents out.new) status) }
+    ensures shown { OfKept (K.standing book.old) (K.standing book.new)
+        (λ L. IfOk result (λ status. IsShown (shown_of (K.standing book.old).warehouse L asked.now)
+        (W.contents out.old) (W.contents out.new) status)) }
     ensures same { IsUnchanged (K.standing book.old) (K.standing book.new) }
+    ensures stopped { IfErr result (IsShowStopped (K.standing book.old) (K.standing book.new)
+        (λ L. shown_of (K.standing book.old).warehouse L asked.now)) }
 {
     let who = asked.who;
     match asked.show {

@@ -1,5 +1,5 @@
 //! What clerks did, with their sheets.
-ghost use Rattle.std.specs.Prelude.{◌≡◌, true, IsTrue, Ok, Err, IfOk, IfErr, IfSome};
+ghost use Rattle.std.specs.Prelude.{◌≡◌, true, IsTrue, Ok, Err, IfOk, IfErr};
 ghost use Rattle.profile.specs.declared.rules.Rules.TheVariants.{Two};
 ghost use Rattle.profile.specs.Accepted.{is_command};
 ghost use Rattle.profile.specs.Clerk.{is_sheet};
@@ -8,7 +8,7 @@ ghost use Rattle.sheet_texts.specs.Texts.{sheet_of_text};
 ghost use Rattle.rules.specs.Asked.{asked, act_of as asked_act};
 ghost use Rattle.rules.specs.Told.{refusal_of as named_refusal};
 ghost use Rattle.commands.specs.Clerks as meant;
-ghost use Rattle.commands.specs.Clerks.{IsDepositor, act_of, command_of};
+ghost use Rattle.commands.specs.Clerks.{IsSlipOf, act_of, command_of, depositor_of};
 
 use crate::files::{MOST_SHEET, read_within};
 use crate::told::CommandError;
@@ -28,9 +28,9 @@ pub struct Slip<'a> {
     pub ghost given: { IsTrue (is_command Two (command_of who told sheet)) },
 }
 
-// The depositor of a clerk's words; None where a word can't be read.
+// The depositor that a clerk's words name; None where a word can't be read.
 fn depositor(told: &ClerkWords<'_>) -> Option<Who>
-    ensures { IfSome result (IsDepositor told.now) }
+    ensures { result ≡ depositor_of told.now }
 {
     let who = Who::new(told.who.as_bytes())?;
     Ident::new(told.ticket.as_bytes(), MOST_TICKET)?;
@@ -81,7 +81,7 @@ pub fn slip_of<'a, R: Files + AllocGlobal>(
     rt: &R,
     told: &ClerkWords<'a>,
 ) -> Result<Result<Slip<'a>, Refusal>, CommandError>
-    ensures { IfOk result (λ made. IfOk made (λ slip. slip.told ≡ told.now)) }
+    ensures { IfOk result (λ made. IfOk made (λ slip. IsSlipOf told.now slip.who slip.told slip.sheet)) }
 {
     let Some(who) = depositor(told) else {
         return Ok(Err(Refusal::BadText));

@@ -1,6 +1,7 @@
-ghost use Rattle.std.specs.Prelude.{◌≡◌, IfOk, OnOk};
+ghost use Rattle.std.specs.Prelude.{◌≡◌, IfErr, IfOk, OnOk};
 ghost use Rattle.std.specs.Io.KnownBytes.{Appends};
 ghost use Rattle.commands.specs.Statuses as meant;
+ghost use Rattle.commands.specs.Stops.{IsDeviceStop};
 ghost use Rattle.commands.specs.Telling.{fault_line, line_of, refusal_line, stop_text};
 
 use command_line::LineFault;
@@ -111,7 +112,8 @@ pub fn usage(alloc: Global, text: &str) -> CommandError {
 
 /// Writes a text that goes out and LF, where there is one.
 pub fn tell_text<W: io::Write>(out: &mut W, text: &[u8]) -> Result<(), CommandError>
-    ensures { OnOk result (Appends (W.contents out.old) (W.contents out.new) (line_of text.now)) }
+    ensures printed { OnOk result (Appends (W.contents out.old) (W.contents out.new) (line_of text.now)) }
+    ensures halted { IfErr result IsDeviceStop }
 {
     if !text.is_empty() {
         out.write_all(text)?;
@@ -129,6 +131,7 @@ pub fn tell_refusal<E: io::Write>(
     ensures says { IfOk result (λ status. status ≡ ExitStatus.Refused) }
     ensures printed { OnOk result (Appends (E.contents err.old) (E.contents err.new)
         (refusal_line refusal)) }
+    ensures halted { IfErr result IsDeviceStop }
 {
     let number = refusal.number();
     let name = refusal.name(alloc)?;

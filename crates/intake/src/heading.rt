@@ -10,7 +10,7 @@ use profile::MOST_BYTES;
 use segments::{all_digits, value_up_to};
 
 /// The methods that routes tell apart.
-#[derive(Clone, Copy, Debug)]
+#[derive(Clone, Copy)]
 pub(crate) enum MethodKind {
     /// GET
     Get,
@@ -55,7 +55,7 @@ pub(crate) fn is_among(buf: &[u8], fields: &[HeaderSpan], name: &[u8]) -> bool
 }
 
 /// The values of the fields of a name.
-#[derive(Clone, Copy, Debug)]
+#[derive(Clone, Copy)]
 pub(crate) enum Values<'b> {
     /// There is no such field.
     Absent,

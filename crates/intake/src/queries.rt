@@ -1,6 +1,5 @@
 ghost use Rattle.std.specs.Prelude.{◌≡◌, ◌==◌, ℕ, List, Some, None, IfOk, IfErr, if◌then◌else◌, find, option_map, unwrap_or};
 ghost use Rattle.profile.specs.declared.rules.Rules.TheVariants.{Two};
-ghost use Rattle.profile.specs.Accepted.{IsLegal};
 ghost use Rattle.profile.specs.Bytes.{value};
 ghost use Rattle.profile.specs.Header.{Who as Partner};
 ghost use Rattle.profile.specs.Moments.{Moment as Minute};
@@ -8,7 +7,7 @@ ghost use Rattle.profile.specs.Register.{Entry};
 ghost use Rattle.profile.specs.Reports as reports;
 ghost use Rattle.profile.specs.Response.{Get, OtherMethod, is_plain_number, content_response, found_for, resp, with_body, plain_type, x12_type, bare};
 ghost use Rattle.profile.specs.Rows.{stock_of, outbox_of};
-ghost use Rattle.store.specs.Standing.{IsUnchanged, IsQueryFault};
+ghost use Rattle.store.specs.Standing.{IsUnchanged, IsQueryFault, OfKept};
 ghost use Rattle.intake.specs.Answers.{seen, told_text};
 ghost use Rattle.intake.specs.Routes.{seen_route};
 
@@ -22,10 +21,9 @@ use store::{Fault, Keeper, Who};
 
 // The stock report of the depositor that a part of a path names.
 fn stock_at<K: Keeper>(alloc: Global, keeper: &mut K, who: &str) -> Result<Response, Fault>
-    ensures response { (K.standing keeper.new).doubt ≡ 0 → (L : List Entry)
-        → (K.standing keeper.old).keeps L → IsLegal Two (K.standing keeper.old).warehouse L
-        → IfOk result (λ r. seen r ≡ found_for who.now (stock_of L)
-        (λ rows. with_body 200 plain_type (reports.stock_report Two rows))) }
+    ensures response { OfKept (K.standing keeper.old) (K.standing keeper.new)
+        (λ L. IfOk result (λ r. seen r ≡ found_for who.now (stock_of L) (λ rows. with_body 200 plain_type
+        (reports.stock_report Two rows)))) }
     ensures same { IsUnchanged (K.standing keeper.old) (K.standing keeper.new) }
     ensures fault { IfErr result (λ fault. IsQueryFault fault (K.standing keeper.old) (K.standing keeper.new)) }
 {
@@ -40,10 +38,9 @@ fn stock_at<K: Keeper>(alloc: Global, keeper: &mut K, who: &str) -> Result<Respo
 
 // The list of what went out to the depositor that a part of a path names.
 fn outbox_at<K: Keeper>(alloc: Global, keeper: &mut K, who: &str) -> Result<Response, Fault>
-    ensures response { (K.standing keeper.new).doubt ≡ 0 → (L : List Entry)
-        → (K.standing keeper.old).keeps L → IsLegal Two (K.standing keeper.old).warehouse L
-        → IfOk result (λ r. seen r ≡ found_for who.now (outbox_of (K.standing keeper.old).warehouse L)
-        (λ rows. with_body 200 plain_type (reports.outbox_list rows))) }
+    ensures response { OfKept (K.standing keeper.old) (K.standing keeper.new)
+        (λ L. IfOk result (λ r. seen r ≡ found_for who.now (outbox_of (K.standing keeper.old).warehouse L)
+        (λ rows. with_body 200 plain_type (reports.outbox_list rows)))) }
     ensures same { IsUnchanged (K.standing keeper.old) (K.standing keeper.new) }
     ensures fault { IfErr result (λ fault. IsQueryFault fault (K.standing keeper.old) (K.standing keeper.new)) }
 {
@@ -78,10 +75,9 @@ fn content_of(text: Option<Option<Vec<u8>>>) -> Response
 
 // The text that went out under the number that a part of a path names, to the depositor that another names.
 fn content_at<K: Keeper>(keeper: &mut K, who: &str, n: &str) -> Result<Response, Fault>
-    ensures response { (K.standing keeper.new).doubt ≡ 0 → (L : List Entry)
-        → (K.standing keeper.old).keeps L → IsLegal Two (K.standing keeper.old).warehouse L
-        → IfOk result (λ r. seen r ≡ found_for who.now (outbox_of (K.standing keeper.old).warehouse L)
-        (content_response n.now)) }
+    ensures response { OfKept (K.standing keeper.old) (K.standing keeper.new)
+        (λ L. IfOk result (λ r. seen r ≡ found_for who.now (outbox_of (K.standing keeper.old).warehouse L)
+        (content_response n.now))) }
     ensures same { IsUnchanged (K.standing keeper.old) (K.standing keeper.new) }
     ensures fault { IfErr result (λ fault. IsQueryFault fault (K.standing keeper.old) (K.standing keeper.new)) }
 {
@@ -100,11 +96,9 @@ pub(crate) fn got<K: Keeper>(
     keeper: &mut K,
     route: &Route<'_>,
 ) -> Result<Response, Fault>
-    ensures response { (K.standing keeper.new).doubt ≡ 0 → (L : List Entry)
-        → (K.standing keeper.old).keeps L → IsLegal Two (K.standing keeper.old).warehouse L
-        → (body : List ℕ) (t : Minute)
-        → IfOk result (λ r. seen r ≡ resp Two (K.standing keeper.old).warehouse L Get (seen_route route.now)
-        body t) }
+    ensures response { OfKept (K.standing keeper.old) (K.standing keeper.new)
+        (λ L. (body : List ℕ) (t : Minute) → IfOk result (λ r. seen r ≡ resp Two
+        (K.standing keeper.old).warehouse L Get (seen_route route.now) body t)) }
     ensures same { IsUnchanged (K.standing keeper.old) (K.standing keeper.new) }
     ensures fault { IfErr result (λ fault. IsQueryFault fault (K.standing keeper.old) (K.standing keeper.new)) }
 {

@@ -1,9 +1,9 @@
 ghost use Rattle.std.specs.Prelude.{◌≡◌, ◌⊎◌, ℕ, List, true, false, IfOk, IfErr, OnOk, OnErr};
 ghost use Rattle.profile.specs.declared.rules.Rules.TheVariants.{Two};
-ghost use Rattle.profile.specs.Accepted.{IsLegal, is_accepted, reply_to, after};
+ghost use Rattle.profile.specs.Accepted.{is_accepted, reply_to, after};
 ghost use Rattle.profile.specs.Register.{Entry, Interchange};
 ghost use Rattle.profile.specs.Response.{Post, is_exchange, reply_response, resp};
-ghost use Rattle.store.specs.Standing.{IsUsable, IsUnchanged, GoesOn, IsFault, LeavesEither};
+ghost use Rattle.store.specs.Standing.{IsUsable, IsUnchanged, GoesOn, IsFault, LeavesEither, OfKept};
 ghost use Rattle.intake.specs.Answers.{seen};
 ghost use Rattle.intake.specs.Fields.{seen_method, method_of};
 ghost use Rattle.intake.specs.Routes.{seen_route, route_of};
@@ -25,14 +25,12 @@ fn hand_in<K: Keeper>(
     body: &[u8],
     moment: Moment,
 ) -> Result<Response, Fault>
-    ensures response { (K.standing keeper.new).doubt ≡ 0 → (L : List Entry)
-        → (K.standing keeper.old).keeps L → IsLegal Two (K.standing keeper.old).warehouse L
-        → IfOk result (λ r. seen r ≡ reply_response (reply_to Two (K.standing keeper.old).warehouse L
-        (Interchange body.now) moment)) }
-    ensures repeated { (K.standing keeper.new).doubt ≡ 0 → (L : List Entry)
-        → (K.standing keeper.old).keeps L → IsLegal Two (K.standing keeper.old).warehouse L
-        → is_accepted (reply_to Two (K.standing keeper.old).warehouse L (Interchange body.now) moment) ≡ false
-        → OnOk result (IsUnchanged (K.standing keeper.old) (K.standing keeper.new)) }
+    ensures response { OfKept (K.standing keeper.old) (K.standing keeper.new)
+        (λ L. IfOk result (λ r. seen r ≡ reply_response (reply_to Two (K.standing keeper.old).warehouse L
+        (Interchange body.now) moment))) }
+    ensures repeated { OfKept (K.standing keeper.old) (K.standing keeper.new)
+        (λ L. is_accepted (reply_to Two (K.standing keeper.old).warehouse L (Interchange body.now) moment)
+        ≡ false → OnOk result (IsUnchanged (K.standing keeper.old) (K.standing keeper.new))) }
     ensures taken { (K.standing keeper.new).doubt ≡ 0 → (L : List Entry) → IsUsable (K.standing keeper.old) L
         → OnOk result (IsUsable (K.standing keeper.new) (after Two (K.standing keeper.old).warehouse L
         (Interchange body.now, moment))) }
@@ -55,16 +53,15 @@ fn posted<K: Keeper>(
     body: &[u8],
     moment: Moment,
 ) -> Result<Response, Fault>
-    ensures response { (K.standing keeper.new).doubt ≡ 0 → (L : List Entry)
-        → (K.standing keeper.old).keeps L → IsLegal Two (K.standing keeper.old).warehouse L
-        → IfOk result (λ r. seen r ≡ resp Two (K.standing keeper.old).warehouse L Post (seen_route route.now)
-        body.now moment) }
+    ensures response { OfKept (K.standing keeper.old) (K.standing keeper.new)
+        (λ L. IfOk result (λ r. seen r ≡ resp Two (K.standing keeper.old).warehouse L Post
+        (seen_route route.now) body.now moment)) }
     ensures kept { is_exchange Post (seen_route route.now) ≡ false
         → IsUnchanged (K.standing keeper.old) (K.standing keeper.new) }
-    ensures repeated { is_exchange Post (seen_route route.now) ≡ true → (K.standing keeper.new).doubt ≡ 0
-        → (L : List Entry) → (K.standing keeper.old).keeps L → IsLegal Two (K.standing keeper.old).warehouse L
-        → is_accepted (reply_to Two (K.standing keeper.old).warehouse L (Interchange body.now) moment) ≡ false
-        → OnOk result (IsUnchanged (K.standing keeper.old) (K.standing keeper.new)) }
+    ensures repeated { is_exchange Post (seen_route route.now) ≡ true → OfKept (K.standing keeper.old)
+        (K.standing keeper.new)
+        (λ L. is_accepted (reply_to Two (K.standing keeper.old).warehouse L (Interchange body.now) moment)
+        ≡ false → OnOk result (IsUnchanged (K.standing keeper.old) (K.standing keeper.new))) }
     ensures taken { is_exchange Post (seen_route route.now) ≡ true → (K.standing keeper.new).doubt ≡ 0
         → (L : List Entry) → IsUsable (K.standing keeper.old) L
         → OnOk result (IsUsable (K.standing keeper.new) (after Two (K.standing keeper.old).warehouse L
@@ -93,17 +90,15 @@ fn answered<K: Keeper>(
     body: &[u8],
     moment: Moment,
 ) -> Result<Response, Fault>
-    ensures response { (K.standing keeper.new).doubt ≡ 0 → (L : List Entry)
-        → (K.standing keeper.old).keeps L → IsLegal Two (K.standing keeper.old).warehouse L
-        → IfOk result (λ r. seen r ≡ resp Two (K.standing keeper.old).warehouse L (seen_method method)
-        (seen_route route.now) body.now moment) }
+    ensures response { OfKept (K.standing keeper.old) (K.standing keeper.new)
+        (λ L. IfOk result (λ r. seen r ≡ resp Two (K.standing keeper.old).warehouse L (seen_method method)
+        (seen_route route.now) body.now moment)) }
     ensures kept { is_exchange (seen_method method) (seen_route route.now) ≡ false
         → IsUnchanged (K.standing keeper.old) (K.standing keeper.new) }
     ensures repeated { is_exchange (seen_method method) (seen_route route.now) ≡ true
-        → (K.standing keeper.new).doubt ≡ 0 → (L : List Entry) → (K.standing keeper.old).keeps L
-        → IsLegal Two (K.standing keeper.old).warehouse L
-        → is_accepted (reply_to Two (K.standing keeper.old).warehouse L (Interchange body.now) moment) ≡ false
-        → OnOk result (IsUnchanged (K.standing keeper.old) (K.standing keeper.new)) }
+        → OfKept (K.standing keeper.old) (K.standing keeper.new)
+        (λ L. is_accepted (reply_to Two (K.standing keeper.old).warehouse L (Interchange body.now) moment) ≡ false
+        → OnOk result (IsUnchanged (K.standing keeper.old) (K.standing keeper.new))) }
     ensures taken { is_exchange (seen_method method) (seen_route route.now) ≡ true
         → (K.standing keeper.new).doubt ≡ 0 → (L : List Entry) → IsUsable (K.standing keeper.old) L
         → OnOk result (IsUsable (K.standing keeper.new) (after Two (K.standing keeper.old).warehouse L

@@ -10,7 +10,7 @@ use matchit::{InsertError, Params, Router};
 use std::alloc::{AllocError, Global};
 
 /// What is found at a path.
-#[derive(Clone, Copy, Debug)]
+#[derive(Clone, Copy)]
 pub(crate) enum RouteKind {
     /// Where interchanges are handed in.
     Exchange,
@@ -23,7 +23,7 @@ pub(crate) enum RouteKind {
 }
 
 /// Where a path leads, with the parts of it that stand for a depositor and a number.
-#[derive(Clone, Copy, Debug)]
+#[derive(Clone, Copy)]
 pub(crate) enum Route<'p> {
     /// `/x12`
     Exchange,

@@ -93,7 +93,7 @@ standing_is M h is = by_test (length M == 0) is
     by_test true g = absurd (cc (g))
     by_test false g = cc (g)
 
-some_standing : (k : Entry) (M : List Entry) → (length (k ∷ M) == 0) ≡ false
+pub some_standing : (k : Entry) (M : List Entry) → (length (k ∷ M) == 0) ≡ false
 some_standing k M = by_test (length (k ∷ M) == 0) refl
   where
     by_test : (b : Bool) → (length (k ∷ M) == 0) ≡ b → b ≡ false

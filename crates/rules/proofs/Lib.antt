@@ -47,3 +47,4 @@ pub mod Columns
 pub mod GivenAgain
 pub mod GivenRead
 pub mod ItemLines
+pub mod Covered

@@ -173,8 +173,8 @@ fn fresh(
     }
 }
 
-// What an act comes to under a known ticket: the stored text where it is the same act.
-fn again(alloc: Global, known: &Known, act: &Act<'_>) -> Result<Decision, AllocError>
+/// What an act comes to under a known ticket: the stored text where it is the same act.
+pub(crate) fn again(alloc: Global, known: &Known, act: &Act<'_>) -> Result<Decision, AllocError>
     ensures comes { IfOk result (IsNoEntry) }
     ensures reply { IfOk result
         (λ d. (r : Rules) (n : ℕ) (k : recalled.Recalled) (who : Who) (ticket : List ℕ) (t : Moment)

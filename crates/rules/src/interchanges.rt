@@ -47,9 +47,9 @@ fn noted(
     Ok(Decision::Refused(Refusal::Note(code), answer))
 }
 
-// What an interchange comes to whose control number is known: the stored text where its bytes are the same, whatever else
-// is said of them; else it is refused as a duplicate.
-fn again(
+/// What an interchange comes to whose control number is known: the stored text where its bytes are the same, whatever else
+/// is said of them; else it is refused as a duplicate.
+pub(crate) fn again(
     alloc: Global,
     warehouse: &Warehouse,
     known: &Known,

@@ -6,7 +6,7 @@ ghost use Rattle.profile.specs.Header.{Who, isa};
 ghost use Rattle.profile.specs.Moments.{Moment};
 ghost use Rattle.profile.specs.Register.{Act, Clerk, Command, Entry, Interchange, Known, Performed, Received, interchange_mark, known, next_number, own, ticket_mark};
 ghost use Rattle.profile.specs.History.{History, events, history};
-ghost use Rattle.profile.specs.Movements.{IsExpectedWithin, most_expected};
+ghost use Rattle.profile.specs.Movements.{Column, IsCovered, IsExpectedWithin, balance, most_expected};
 ghost use Rattle.profile.specs.declared.widths.TheConstants.{AMOUNT_COLUMN};
 ghost use Rattle.profile.specs.Page.{page_of};
 ghost use Rattle.profile.specs.Reply.{Stored, stored};
@@ -153,4 +153,13 @@ pub fn what_is_expected_is_bounded()
 pub fn an_order_fits_the_picking_sheet()
     ensures { (M : List Entry) (number : List ℕ) (o : Reserved) → order_under number (events M) ≡ Some o
         → has_columns o ≡ true }
+{}
+
+/// Of each depositor of a legal register no balance is below 0, no more of a pair is reserved than is on hand, and each balance fits 64
+/// bits.
+pub fn goods_of_a_legal_register_are_covered()
+    ensures covered { (r : Rules) (W : Who) (L : List Entry) (w : Who) → IsLegal r W L
+        → IsCovered (events (own L w)) }
+    ensures fits { (r : Rules) (W : Who) (L : List Entry) (w : Who) → IsLegal r W L
+        → (c : Column) (item lot : List ℕ) → balance (events (own L w)) c item lot < 2 ^ 64 }
 {}

@@ -18,6 +18,7 @@ mod names;
 mod needs;
 mod readings;
 mod refusals;
+mod repeats;
 mod replays;
 mod taking;
 
@@ -31,6 +32,7 @@ pub use names::{Name, Need};
 pub use needs::need;
 pub use profile::Rules;
 pub use refusals::Refusal;
+pub use repeats::decide_again;
 pub use replays::{Replayed, replay};
 pub use segments::{Ident, Moment, Who};
 pub use stock::{Change, Line, Page, Row, Sheet, SheetKind};

@@ -22,7 +22,7 @@ use Rattle.profile.specs.Decision as meant
 use Rattle.profile.specs.Decision.{recalled, standing, reply_by}
 use Rattle.profile.proofs.DecisionLaws.{reply-by}
 use Rattle.stock.specs.Pages.{PageFacts}
-use Rattle.rules.specs.Decided.{StandsFor, IsRecalled, IsGiven, IsReply, entries_of}
+use Rattle.rules.specs.Decided.{StandsFor, IsEntry, IsRecalled, IsUnder, IsGiven, IsReply, entries_of}
 use Rattle.rules.specs.Written.{Recalled}
 use Rattle.rules.specs.declared.decisions.Decision.{Decision}
 use Rattle.profile.specs.History.{History}
@@ -40,7 +40,7 @@ use Rattle.profile.proofs.HistoryLaws.{history-numbered}
 use Rattle.profile.specs.Changes.{LeadOn}
 use Rattle.stock.specs.declared.steps.Change.{Change}
 use Rattle.rules.specs.Tabled.{table_changes}
-use Rattle.rules.specs.Decided.{number_behind, IsUnder}
+use Rattle.rules.specs.Decided.{number_behind}
 use Rattle.rules.specs.Written.{Written, written, written_as}
 
 -- Whose entries a command looks at.
@@ -269,6 +269,39 @@ decided r W L c t d b k page there decides =
     let replied = decides (standing M) (recalled W (command_mark c) M) given in
     subst (λ n. IsReply r n c t (reply_to r W L c t) d) (numbered_is c b M stands)
     (subst (λ a. IsReply r (entries_of b) c t a d) (sym (reply-by r W M c t)) replied)
+
+-- what is recalled under a key is an entry of somebody who stands
+standing_of_known : (W : Who) (key : List ℕ) (M : List Entry) (k : meant.Recalled) → recalled W key M ≡ Some k → standing M ≡ Some (history M)
+standing_of_known W key [] k is = absurd (cc (is))
+standing_of_known W key (e ∷ M) k is = ap (λ (b : Bool). if b then None else Some (history (e ∷ M))) (by (length (e ∷ M) == 0) refl)
+  where
+    by : (b : Bool) → (length (e ∷ M) == 0) ≡ b → b ≡ false
+    by true same = absurd (omega (arith, eqb-true (length (e ∷ M)) 0 same))
+    by false same = refl
+
+-- a decision on what is known, that looks at no page
+pub decided_again : (r : Rules) (W : Who) (L : List Entry) (c : Command) (t : Moment) (d : Decision) (known : Recalled)
+    → IsRecalled (Some known) (recalled W (command_mark c) (own_of L c))
+    → ((n : ℕ) (h : History) (k : meant.Recalled) → IsEntry known k → mark k.entry ≡ command_mark c
+    → IsReply r n c t (reply_by r W (Some h) (Some k) c t) d)
+    → IsDecided r W L c t d
+decided_again r W L c t d known there decides =
+    by (recalled W (command_mark c) (own_of L c)) refl there (recalled_under W (command_mark c) (own_of L c))
+  where
+    by : (o : Option meant.Recalled) → recalled W (command_mark c) (own_of L c) ≡ o → IsRecalled (Some known) o
+        → IsUnder (command_mark c) o → IsDecided r W L c t d
+    by None is none under = absurd none
+    by (Some k) is entry under =
+        let M = own_of L c in
+        let replied = decides ((history M).numbered) (history M) k entry under in
+        let stands = standing_of_known W (command_mark c) M k is in
+        subst (λ a. IsReply r ((history M).numbered) c t a d)
+        (sym (ap (λ h. reply_by r W h (Some k) c t) stands) ∙ sym (ap (λ o. reply_by r W (standing M) o c t) is) ∙ sym (reply-by r W M c t)) replied
+
+-- nothing is known where nothing is recalled
+pub recalled_none : (o : Option meant.Recalled) → IsRecalled None o → o ≡ None
+recalled_none None h = refl
+recalled_none (Some k) h = absurd h
 
 -- what is recalled of the same entries, under the same key, in the same house
 pub recalled_at : {V W : Who} {k key : List ℕ} {M N : List Entry} (found : Option Recalled) → V ≡ W → key ≡ k → N ≡ M

@@ -37,6 +37,10 @@ pub record IsUsable (s : Standing) (L : List Entry) : Type 0 where
   pub stand : s.all_stand
   pub only : (M : List Entry) → s.left M → M ≡ L
 
+-- of the legal register that the book keeps, if the disk is in no doubt after the call
+abbrev pub OfKept : Standing → Standing → (List Entry → Type 0) → Type 0
+OfKept old new P = new.doubt ≡ 0 → (L : List Entry) → old.keeps L → IsLegal Two old.warehouse L → P L
+
 -- no count falls, and the warehouse is the same
 pub record GoesOn (old new : Standing) : Type 0 where
   pub warehouse : new.warehouse ≡ old.warehouse

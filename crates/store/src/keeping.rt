@@ -1,7 +1,5 @@
 ghost use Rattle.std.specs.Prelude.{◌<◌, ◌≡◌, ◌++◌, ◌∷◌, [], List, Bool, true, false, IfOk, OnOk, OnErr, IfErr, IsErrOf, option_map};
-ghost use Rattle.profile.specs.declared.rules.Rules.TheVariants.{Two};
 ghost use Rattle.profile.specs.Register as register;
-ghost use Rattle.profile.specs.Accepted.{IsLegal};
 ghost use Rattle.profile.specs.Decision as decided;
 ghost use Rattle.profile.specs.Rows.{stock_of, outbox_of};
 ghost use Rattle.rules.specs.Asked.{mark_of};
@@ -9,7 +7,7 @@ ghost use Rattle.rules.specs.Decided.{IsHeldAtRest, IsRecalled};
 ghost use Rattle.store.specs.Held.{IsHeld};
 ghost use Rattle.store.specs.Known.{first_under};
 ghost use Rattle.store.specs.Sent.{text_of};
-ghost use Rattle.store.specs.Standing.{Standing, IsUsable, IsNext, IsUnchanged, GoesOn, LeavesEither, IsFault, IsQueryFault, IsCommitFault};
+ghost use Rattle.store.specs.Standing.{Standing, IsUsable, IsNext, IsUnchanged, GoesOn, LeavesEither, IsFault, IsQueryFault, IsCommitFault, OfKept};
 
 use crate::fault::Fault;
 use crate::rows::{OutRow, StockRow};
@@ -28,9 +26,8 @@ pub trait Keeper {
 
     /// The part that is needed of a depositor's page, or more of it, with no event since its last entry; None for a stranger.
     fn load(&mut self, who: Who, need: &Need) -> Result<Option<Page>, Fault>
-        ensures page { (standing self.new).doubt ≡ 0 → (L : List register.Entry)
-            → (standing self.old).keeps L → IsLegal Two (standing self.old).warehouse L
-            → IfOk result (λ page. IsHeld need.now page (decided.standing (register.own L who))) }
+        ensures page { OfKept (standing self.old) (standing self.new)
+            (λ L. IfOk result (λ page. IsHeld need.now page (decided.standing (register.own L who)))) }
         ensures rest { IfOk result IsHeldAtRest }
         ensures same { IsUnchanged (standing self.old) (standing self.new) }
         ensures fault { IfErr result (λ fault. IsQueryFault fault (standing self.old) (standing self.new)) }
@@ -38,10 +35,9 @@ pub trait Keeper {
 
     /// A depositor's entry under a key, with its number and the text that went out for it; None where there is none.
     fn known(&mut self, who: Who, key: &Key<'_>) -> Result<Option<Known>, Fault>
-        ensures entry { (standing self.new).doubt ≡ 0 → (L : List register.Entry)
-            → (standing self.old).keeps L → IsLegal Two (standing self.old).warehouse L
-            → IfOk result (λ known. IsRecalled known (decided.recalled (standing self.old).warehouse
-            (mark_of key.now) (register.own L who))) }
+        ensures entry { OfKept (standing self.old) (standing self.new)
+            (λ L. IfOk result (λ known. IsRecalled known (decided.recalled (standing self.old).warehouse
+            (mark_of key.now) (register.own L who)))) }
         ensures recorded { (standing self.new).doubt ≡ 0 → (L : List register.Entry)
             → (standing self.old).keeps L
             → IfOk result (λ known. option_map (λ k. k.entry) known ≡ first_under who (mark_of key.now) L) }
@@ -71,29 +67,26 @@ pub trait Keeper {
 
     /// The stock rows of a depositor, by item and lot; None for a stranger.
     fn stock_rows(&mut self, who: Who) -> Result<Option<Vec<StockRow>>, Fault>
-        ensures rows { (standing self.new).doubt ≡ 0 → (L : List register.Entry)
-            → (standing self.old).keeps L → IsLegal Two (standing self.old).warehouse L
-            → IfOk result (λ rows. option_map (λ v. v.items) rows ≡ stock_of L who) }
+        ensures rows { OfKept (standing self.old) (standing self.new)
+            (λ L. IfOk result (λ rows. option_map (λ v. v.items) rows ≡ stock_of L who)) }
         ensures same { IsUnchanged (standing self.old) (standing self.new) }
         ensures fault { IfErr result (λ fault. IsQueryFault fault (standing self.old) (standing self.new)) }
         ensures shut { (standing self.old).shut ≡ true → IsErrOf result Fault.Reopen };
 
     /// The texts that went out to a depositor, by number; None for a stranger.
     fn outbox(&mut self, who: Who) -> Result<Option<Vec<OutRow>>, Fault>
-        ensures rows { (standing self.new).doubt ≡ 0 → (L : List register.Entry)
-            → (standing self.old).keeps L → IsLegal Two (standing self.old).warehouse L
-            → IfOk result (λ rows. option_map
-            (λ v. v.items) rows ≡ outbox_of (standing self.old).warehouse L who) }
+        ensures rows { OfKept (standing self.old) (standing self.new)
+            (λ L. IfOk result (λ rows. option_map (λ v. v.items) rows ≡ outbox_of
+            (standing self.old).warehouse L who)) }
         ensures same { IsUnchanged (standing self.old) (standing self.new) }
         ensures fault { IfErr result (λ fault. IsQueryFault fault (standing self.old) (standing self.new)) }
         ensures shut { (standing self.old).shut ≡ true → IsErrOf result Fault.Reopen };
 
     /// The text that went out to a depositor under a number; None for a stranger, and Some(None) where nothing went out under it.
     fn text(&mut self, who: Who, n: u32) -> Result<Option<Option<Vec<u8>>>, Fault>
-        ensures text { (standing self.new).doubt ≡ 0 → (L : List register.Entry)
-            → (standing self.old).keeps L → IsLegal Two (standing self.old).warehouse L
-            → IfOk result (λ text. option_map (option_map
-            (λ v. v.items)) text ≡ text_of (standing self.old).warehouse L who n) }
+        ensures text { OfKept (standing self.old) (standing self.new)
+            (λ L. IfOk result (λ text. option_map (option_map (λ v. v.items)) text ≡ text_of
+            (standing self.old).warehouse L who n)) }
         ensures same { IsUnchanged (standing self.old) (standing self.new) }
         ensures fault { IfErr result (λ fault. IsQueryFault fault (standing self.old) (standing self.new)) }
         ensures shut { (standing self.old).shut ≡ true → IsErrOf result Fault.Reopen };

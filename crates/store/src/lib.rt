@@ -4,16 +4,18 @@
 mod fault;
 mod keeping;
 pub mod laws;
+mod leaving;
 mod replaying;
 mod rows;
 mod serving;
 
 pub use fault::Fault;
 pub use keeping::Keeper;
+pub use leaving::what_is_kept_is_left;
 pub use replaying::ReplayBook;
 pub use rows::{DocumentState, OutRow, StockRow};
 pub use rules::{
     Act, Change, Command, Decision, Entry, Ident, Key, Known, Line, Moment, Need, OutKind, Page,
-    Refusal, Row, Sheet, SheetKind, Warehouse, Who, decide, need, subject,
+    Refusal, Row, Sheet, SheetKind, Warehouse, Who, decide, decide_again, need, subject,
 };
 pub use serving::{Outcome, Reply, outbox, run, stock, submit, submit_under, text};

@@ -1,4 +1,4 @@
-ghost use Rattle.std.specs.Prelude.{◌≡◌, ◌++◌, ◌∷◌, [], List, Bool, true, false, IfOk, OnOk, OnErr, IsErrOf, IfErr, IfSome, IsSome, IsNone, option_map, length, ◌<◌, ◌≤◌, ◌+◌};
+ghost use Rattle.std.specs.Prelude.{◌≡◌, ◌++◌, ◌∷◌, [], List, None, Bool, true, false, IfOk, OnOk, OnErr, IsErrOf, IfErr, IfSome, IsSome, IsNone, option_map, length, ◌<◌, ◌≤◌, ◌+◌};
 ghost use Rattle.std.specs.Prelude.{take, map, IsTrue};
 ghost use Rattle.std.specs.List.{list_all};
 ghost use Rattle.profile.specs.declared.rules.Rules.TheVariants.{Two};
@@ -7,19 +7,17 @@ ghost use Rattle.profile.specs.Accepted.{IsLegal, is_command, own_of, reply_to, 
 ghost use Rattle.profile.specs.Decision.{standing as standing_of, recalled};
 ghost use Rattle.profile.specs.Rows.{stock_of, outbox_of};
 ghost use Rattle.rules.specs.Asked.{asked};
-ghost use Rattle.rules.specs.Decided.{IsHeldAtRest, IsRecalled};
 ghost use Rattle.rules.specs.Tabled.{LeadsInTables};
-ghost use Rattle.store.specs.Held.{IsHeld, IsDecided};
-ghost use Rattle.profile.specs.Need.{need_of};
+ghost use Rattle.store.specs.Held.{IsDecided};
 ghost use Rattle.store.specs.Sent.{text_of};
 ghost use Rattle.store.specs.Runs.{told, all_asked, can_be_given, UnlessAccepted};
-ghost use Rattle.store.specs.Standing.{Standing, IsUsable, IsUnchanged, GoesOn, IsFault, IsQueryFault, IsRunFault, LeavesEither};
+ghost use Rattle.store.specs.Standing.{Standing, IsUsable, IsUnchanged, GoesOn, IsFault, IsQueryFault, IsRunFault, LeavesEither, OfKept};
 
 use crate::fault::Fault;
 use crate::keeping::Keeper;
 use crate::rows::{OutRow, StockRow};
 use profile::Rules;
-use rules::{Command, Decision, Known, Moment, Page, Refusal, Who, decide, need, subject};
+use rules::{Command, Decision, Moment, Refusal, Who, decide, decide_again, need, subject};
 use std::alloc::Global;
 
 /// What is answered to a command.
@@ -38,35 +36,42 @@ pub enum Reply {
     },
 }
 
-// What a command needs of the page of the depositor that it names, and what is known under the command's key. The book is as before.
-#[tactic(auto, using(crate::proofs::Changes::unchanged_trans, crate::proofs::Changes::unchanged_refl))]
-fn recall<K: Keeper>(
+// What a command of this depositor comes to under these rules, where nothing is known under its key: it needs a part of the depositor's page. The book is as before.
+fn judge_new<K: Keeper>(
     alloc: Global,
     keeper: &mut K,
+    who: Who,
     command: &Command<'_>,
-) -> Result<(Option<Page>, Option<Known>), Fault>
-    ensures page { (K.standing keeper.new).doubt ≡ 0 → (L : List register.Entry)
-        → (K.standing keeper.old).keeps L → IsLegal Two (K.standing keeper.old).warehouse L
-        → IfOk result (λ found. IsHeld (need_of (asked command.now)) found.0 (standing_of (own_of L (asked
-        command.now)))) }
-    ensures known { (K.standing keeper.new).doubt ≡ 0 → (L : List register.Entry)
-        → (K.standing keeper.old).keeps L → IsLegal Two (K.standing keeper.old).warehouse L
-        → IfOk result (λ found. IsRecalled found.1 (recalled (K.standing keeper.old).warehouse
-        (register.command_mark (asked command.now)) (own_of L (asked command.now)))) }
-    ensures rest { IfOk result (λ found. IsHeldAtRest found.0) }
+    moment: Moment,
+    rules: Rules,
+) -> Result<Decision, Fault>
+    requires whose { (L : List register.Entry) → own_of L (asked command.now) ≡ register.own L who }
+    ensures decision { OfKept (K.standing keeper.old) (K.standing keeper.new)
+        (λ L. recalled (K.standing keeper.old).warehouse (register.command_mark (asked command.now))
+        (own_of L (asked command.now)) ≡ None → IfOk result (IsDecided rules
+        (K.standing keeper.old).warehouse L (asked command.now) moment)) }
+    ensures tables { OfKept (K.standing keeper.old) (K.standing keeper.new)
+        (λ L. IfOk result (LeadsInTables rules (K.standing keeper.old).warehouse L
+        (asked command.now) moment)) }
     ensures same { IsUnchanged (K.standing keeper.old) (K.standing keeper.new) }
     ensures fault { IfErr result (λ fault. IsQueryFault fault (K.standing keeper.old) (K.standing keeper.new)) }
 {
-    let Some(named) = subject(command) else {
-        return Ok((None, None));
-    };
+    let warehouse = keeper.warehouse();
     let need = need(alloc, command)?;
-    let page = keeper.load(named.0, &need)?;
-    let known = keeper.known(named.0, &named.1)?;
-    Ok((page, known))
+    let page = keeper.load(who, &need)?;
+    Ok(decide(
+        alloc,
+        &warehouse,
+        page.as_ref(),
+        None,
+        command,
+        moment,
+        rules,
+    )?)
 }
 
-// What a command under these rules comes to. The book is as before.
+// What a command comes to under these rules. What is known under its key is asked first, since that needs no page. The book is as before.
+#[tactic(auto, using(crate::proofs::Changes::unchanged_trans, crate::proofs::Changes::unchanged_refl))]
 fn judge<K: Keeper>(
     alloc: Global,
     keeper: &mut K,
@@ -74,26 +79,22 @@ fn judge<K: Keeper>(
     moment: Moment,
     rules: Rules,
 ) -> Result<Decision, Fault>
-    ensures decision { (K.standing keeper.new).doubt ≡ 0 → (L : List register.Entry)
-        → (K.standing keeper.old).keeps L → IsLegal Two (K.standing keeper.old).warehouse L
-        → IfOk result (IsDecided rules (K.standing keeper.old).warehouse L (asked command.now) moment) }
-    ensures tables { (K.standing keeper.new).doubt ≡ 0 → (L : List register.Entry)
-        → (K.standing keeper.old).keeps L → IsLegal Two (K.standing keeper.old).warehouse L
-        → IfOk result (LeadsInTables rules (K.standing keeper.old).warehouse L (asked command.now) moment) }
+    ensures decision { OfKept (K.standing keeper.old) (K.standing keeper.new)
+        (λ L. IfOk result (IsDecided rules (K.standing keeper.old).warehouse L (asked command.now) moment)) }
+    ensures tables { OfKept (K.standing keeper.old) (K.standing keeper.new)
+        (λ L. IfOk result (LeadsInTables rules (K.standing keeper.old).warehouse L
+        (asked command.now) moment)) }
     ensures same { IsUnchanged (K.standing keeper.old) (K.standing keeper.new) }
     ensures fault { IfErr result (λ fault. IsQueryFault fault (K.standing keeper.old) (K.standing keeper.new)) }
 {
     let warehouse = keeper.warehouse();
-    let (page, known) = recall(alloc, keeper, command)?;
-    Ok(decide(
-        alloc,
-        &warehouse,
-        page.as_ref(),
-        known.as_ref(),
-        command,
-        moment,
-        rules,
-    )?)
+    let Some(named) = subject(command) else {
+        return Ok(decide(alloc, &warehouse, None, None, command, moment, rules)?);
+    };
+    match keeper.known(named.0, &named.1)? {
+        Some(known) => Ok(decide_again(alloc, &warehouse, &known, command, moment)?),
+        None => judge_new(alloc, keeper, named.0, command, moment, rules),
+    }
 }
 
 /// Answers one command under these rules, which an accepted one's entry has: those of the day, or, where a register is given again,
@@ -107,10 +108,9 @@ pub fn submit_under<K: Keeper>(
     moment: Moment,
     rules: Rules,
 ) -> Result<Reply, Fault>
-    ensures reply { (K.standing keeper.new).doubt ≡ 0 → (L : List register.Entry)
-        → (K.standing keeper.old).keeps L → IsLegal Two (K.standing keeper.old).warehouse L
-        → IfOk result (λ reply. told reply ≡ reply_to rules (K.standing keeper.old).warehouse L (asked
-        command.now) moment) }
+    ensures reply { OfKept (K.standing keeper.old) (K.standing keeper.new)
+        (λ L. IfOk result (λ reply. told reply ≡ reply_to rules (K.standing keeper.old).warehouse L
+        (asked command.now) moment)) }
     ensures ok { (K.standing keeper.new).doubt ≡ 0 → (L : List register.Entry)
         → IsUsable (K.standing keeper.old) L
         → IsLegal Two (K.standing keeper.old).warehouse (after rules (K.standing keeper.old).warehouse L (
@@ -166,10 +166,9 @@ pub fn submit<K: Keeper>(
     command: &Command<'_>,
     moment: Moment,
 ) -> Result<Reply, Fault>
-    ensures reply { (K.standing keeper.new).doubt ≡ 0 → (L : List register.Entry)
-        → (K.standing keeper.old).keeps L → IsLegal Two (K.standing keeper.old).warehouse L
-        → IfOk result (λ reply. told reply ≡ reply_to Two (K.standing keeper.old).warehouse L (asked
-        command.now) moment) }
+    ensures reply { OfKept (K.standing keeper.old) (K.standing keeper.new)
+        (λ L. IfOk result (λ reply. told reply ≡ reply_to Two (K.standing keeper.old).warehouse L
+        (asked command.now) moment)) }
     ensures ok { (K.standing keeper.new).doubt ≡ 0 → (L : List register.Entry)
         → IsUsable (K.standing keeper.old) L → is_command Two (asked command.now) ≡ true
         → OnOk result (IsUsable (K.standing keeper.new) (after Two (K.standing keeper.old).warehouse L (
@@ -194,9 +193,8 @@ pub fn submit<K: Keeper>(
 
 /// What a depositor has, by item and lot; None for a stranger. The book is as before.
 pub fn stock<K: Keeper>(keeper: &mut K, who: Who) -> Result<Option<Vec<StockRow>>, Fault>
-    ensures rows { (K.standing keeper.new).doubt ≡ 0 → (L : List register.Entry)
-        → (K.standing keeper.old).keeps L → IsLegal Two (K.standing keeper.old).warehouse L
-        → IfOk result (λ rows. option_map (λ v. v.items) rows ≡ stock_of L who) }
+    ensures rows { OfKept (K.standing keeper.old) (K.standing keeper.new)
+        (λ L. IfOk result (λ rows. option_map (λ v. v.items) rows ≡ stock_of L who)) }
     ensures same { IsUnchanged (K.standing keeper.old) (K.standing keeper.new) }
     ensures fault { IfErr result (λ fault. IsQueryFault fault (K.standing keeper.old) (K.standing keeper.new)) }
     ensures shut { (K.standing keeper.old).shut ≡ true → IsErrOf result Fault.Reopen }
@@ -206,10 +204,9 @@ pub fn stock<K: Keeper>(keeper: &mut K, who: Who) -> Result<Option<Vec<StockRow>
 
 /// The texts that went out to a depositor, by number; None for a stranger. The book is as before.
 pub fn outbox<K: Keeper>(keeper: &mut K, who: Who) -> Result<Option<Vec<OutRow>>, Fault>
-    ensures rows { (K.standing keeper.new).doubt ≡ 0 → (L : List register.Entry)
-        → (K.standing keeper.old).keeps L → IsLegal Two (K.standing keeper.old).warehouse L
-        → IfOk result (λ rows. option_map
-        (λ v. v.items) rows ≡ outbox_of (K.standing keeper.old).warehouse L who) }
+    ensures rows { OfKept (K.standing keeper.old) (K.standing keeper.new)
+        (λ L. IfOk result (λ rows. option_map (λ v. v.items) rows ≡ outbox_of
+        (K.standing keeper.old).warehouse L who)) }
     ensures same { IsUnchanged (K.standing keeper.old) (K.standing keeper.new) }
     ensures fault { IfErr result (λ fault. IsQueryFault fault (K.standing keeper.old) (K.standing keeper.new)) }
     ensures shut { (K.standing keeper.old).shut ≡ true → IsErrOf result Fault.Reopen }
@@ -220,10 +217,9 @@ pub fn outbox<K: Keeper>(keeper: &mut K, who: Who) -> Result<Option<Vec<OutRow>>
 /// The text that went out to a depositor under a number; None for a stranger, and Some(None) where nothing went out under it. The
 /// book is as before.
 pub fn text<K: Keeper>(keeper: &mut K, who: Who, n: u32) -> Result<Option<Option<Vec<u8>>>, Fault>
-    ensures text { (K.standing keeper.new).doubt ≡ 0 → (L : List register.Entry)
-        → (K.standing keeper.old).keeps L → IsLegal Two (K.standing keeper.old).warehouse L
-        → IfOk result (λ text. option_map (option_map
-        (λ v. v.items)) text ≡ text_of (K.standing keeper.old).warehouse L who n) }
+    ensures text { OfKept (K.standing keeper.old) (K.standing keeper.new)
+        (λ L. IfOk result (λ text. option_map (option_map (λ v. v.items)) text ≡ text_of
+        (K.standing keeper.old).warehouse L who n)) }
     ensures same { IsUnchanged (K.standing keeper.old) (K.standing keeper.new) }
     ensures fault { IfErr result (λ fault. IsQueryFault fault (K.standing keeper.old) (K.standing keeper.new)) }
     ensures shut { (K.standing keeper.old).shut ≡ true → IsErrOf result Fault.Reopen }
@@ -248,10 +244,9 @@ fn answer_next<K: Keeper>(
     moment: Moment,
     replies: &mut Vec<Reply>,
 ) -> Result<(), Fault>
-    ensures reply { (K.standing keeper.new).doubt ≡ 0 → (L : List register.Entry)
-        → (K.standing keeper.old).keeps L → IsLegal Two (K.standing keeper.old).warehouse L
-        → OnOk result (map told replies.new.items ≡ map told replies.old.items ++ reply_to Two (K.standing
-        keeper.old).warehouse L (asked command.now) moment ∷ []) }
+    ensures reply { OfKept (K.standing keeper.old) (K.standing keeper.new)
+        (λ L. OnOk result (map told replies.new.items ≡ map told replies.old.items ++ reply_to Two
+        (K.standing keeper.old).warehouse L (asked command.now) moment ∷ [])) }
     ensures ok { (K.standing keeper.new).doubt ≡ 0 → (L : List register.Entry)
         → IsUsable (K.standing keeper.old) L → is_command Two (asked command.now) ≡ true
         → OnOk result (IsUsable (K.standing keeper.new) (after Two (K.standing keeper.old).warehouse L (

@@ -1,7 +1,7 @@
 //! The program: one line of words, over a book in a file or as a script.
 #![tactic(auto)]
 
-use commands::program;
+use running::program;
 use std::process::ExitCode;
 
 fn main(rt: HostRuntime) -> ExitCode {

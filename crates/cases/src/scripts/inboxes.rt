@@ -14,11 +14,15 @@ pub const PRINTED: &str = "\
 a.x12 accepted
 b.x12 refused 025
 c.x12 unreadable
+c1.x12 refused 006
+c2.x12 accepted
 item,lot,expiry,expected,on_hand,reserved,shipped
-BOLT,L1,,100,0,0,0
+BOLT,L1,,200,0,0,0
 a.x12 stored
 b.x12 refused 025
 c.x12 unreadable
+c1.x12 refused 006
+c2.x12 stored
 ";
 
 /// A folder that isn't there.

@@ -12,6 +12,17 @@ roster list.toml --at 2025-03-04T09:15
 ZZ-ACME enrolled
 ZZ-ACME refused 35
 @ends 1
+@case the one that is refused is not the last
+@file list.toml
+depositors = [\"ZZ-ACME\", \"ZZ-ACME\", \"ZZ-BETA\"]\
+@script
+init ZZ-WHSE1
+roster list.toml --at 2025-03-04T09:15
+@printed
+ZZ-ACME enrolled
+ZZ-ACME refused 35
+ZZ-BETA enrolled
+@ends 1
 @case other keys of a list say nothing
 @file list.toml
 season = 3

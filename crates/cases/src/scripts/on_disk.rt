@@ -45,6 +45,13 @@ send advice.x12 --at 2025-03-05T10:00
 count ZZ-ACME T1 SHP1 count.csv --at 2025-03-04T09:15
 ";
 
+/// Statements that make a row of the book one that can't be read, each with a line that reads it.
+pub const UNREADABLE: &str = "\
+UPDATE advice_line SET quantity = 9000000000|count ZZ-ACME T-2 SHP1 count.csv
+UPDATE outgoing SET state = 'lost' WHERE n = 2|outbox ZZ-ACME
+UPDATE outgoing SET state = 'open', kind = '999' WHERE n = 2|outbox ZZ-ACME
+";
+
 /// Lines over books that can't be opened: the book, the line over it, its exit status, and what is
 /// told, its lines too with `|` between them. In `/proc` nobody can make a file.
 pub const UNOPENED: &str = "\
@@ -60,6 +67,7 @@ held.book|init ZZ-WHSE1 --wait 0|3|fault 44 Device
 text.book|stock ZZ-ACME|3|fault 43 NotThisBook
 text.book|init ZZ-WHSE1|3|fault 43 NotThisBook
 other.book|stock ZZ-ACME|3|fault 41 Store
+other.book|init ZZ-WHSE1|3|fault 43 NotThisBook
 text.book|init WHSE1|1|refused 32 BadText
 text.book|outbox acme|1|refused 32 BadText
 text.book|send no.x12|3|fault 44 Device
@@ -68,6 +76,7 @@ nowhere.book|stock ZZ-ACME --explain|3|fault 44 Device|nowhere.book: no such fil
 held.book|stock ZZ-ACME --wait 0 --explain|3|fault 44 Device|held.book is in use: is a server running? Stop it first, or wait longer by --wait SECONDS
 /proc/house.book|init ZZ-WHSE1 --explain|3|fault 44 Device|/proc/house.book can't be opened: look at its rights, those of its folder, and whether it has a second name (a hard link)
 other.book|stock ZZ-ACME --explain|3|fault 41 Store|other.book: the database refused a statement; is it a book, and its disk full or failing?
+other.book|init ZZ-WHSE1 --explain|3|fault 43 NotThisBook|other.book has a book already, or other tables
 text.book|stock ZZ-ACME --explain|3|fault 43 NotThisBook|text.book is no book of this program, or is damaged: see docs/OPERATIONS.md on backups
 text.book|send no.x12 --explain|3|fault 44 Device|no.x12: no such file
 text.book|send . --explain|3|fault 44 Device|.: it is a folder

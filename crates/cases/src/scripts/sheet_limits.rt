@@ -88,6 +88,33 @@ refused 32 BadText
 refused 30 TooMuch
 refused 27 UnknownLot
 refused 30 TooMuch
+@case words as long as they may be, and longer by one
+@file word.csv
+BOLT,L1,1
+@script
+init ZZ-WHSE1
+enrol ZZ-ACME --at 2025-03-04T09:15
+count ZZ-ACME ABCDEFGHIJKLMNOPQRST SHP1 word.csv --at 2025-03-04T09:15
+count ZZ-ACME ABCDEFGHIJKLMNOPQRSTU SHP1 word.csv --at 2025-03-04T09:15
+count ZZ-ACME C-1 ABCDEFGHIJKLMNOPQRSTUV word.csv --at 2025-03-04T09:15
+count ZZ-ACME C-1 ABCDEFGHIJKLMNOPQRSTUVW word.csv --at 2025-03-04T09:15
+pick ZZ-ACME ABCDEFGHIJKLMNOPQRST ABCDEFGHIJKLMNOPQRSTUV word.csv --at 2025-03-04T09:15
+pick ZZ-ACME P-1 ABCDEFGHIJKLMNOPQRSTUVW word.csv --at 2025-03-04T09:15
+recount ZZ-ACME ABCDEFGHIJKLMNOPQRST word.csv --at 2025-03-04T09:15
+recount ZZ-ACME ABCDEFGHIJKLMNOPQRSTU word.csv --at 2025-03-04T09:15
+orders ZZ-ACME ABCDEFGHIJKLMNOPQRSTUV
+orders ZZ-ACME ABCDEFGHIJKLMNOPQRSTUVW
+@ends 1
+refused 22 UnknownAdvice
+refused 32 BadText
+refused 22 UnknownAdvice
+refused 32 BadText
+refused 24 UnknownOrder
+refused 32 BadText
+refused 27 UnknownLot
+refused 32 BadText
+refused 24 UnknownOrder
+refused 32 BadText
 @case a quantity of six digits, and a hundred lines
 @file first.x12
 ISA*00*          *00*          *ZZ*ACME           *ZZ*WHSE1          *250304*0915*U*00401*000000001*0*P*>~GS*AR*ACME*WHSE1*20250304*0915*1*X*004010~ST*943*0001~W06*F*PO77*20250303*SHP1~W04*100*EA**SK*BOLT~N9*LT*L1~W03*100~SE*6*0001~GE*1*1~IEA*1*000000001~\

@@ -28,7 +28,7 @@ use cases::scripts::{
     sheet_limits, shown,
 };
 use cases::stories;
-use commands::command;
+use running::command;
 use std::fs;
 use std::test::Fail;
 
@@ -243,20 +243,20 @@ fn tell(rt: &HostRuntime, text: &str) -> Result<(), Fail> {
 }
 
 #[test]
-fn stories_of_goods(rt: HostRuntime) -> Result<(), Fail> {
+fn stories_of_goods_are_told(rt: HostRuntime) -> Result<(), Fail> {
     tell(&rt, stories::goods::CASES)?;
     tell(&rt, stories::acknowledgments::CASES)?;
     tell(&rt, stories::parties::CASES)
 }
 
 #[test]
-fn stories_of_counts(rt: HostRuntime) -> Result<(), Fail> {
+fn stories_of_counts_are_told(rt: HostRuntime) -> Result<(), Fail> {
     tell(&rt, stories::counts::CASES)?;
     tell(&rt, stories::recounts::CASES)
 }
 
 #[test]
-fn stories_of_lots(rt: HostRuntime) -> Result<(), Fail> {
+fn stories_of_lots_are_told(rt: HostRuntime) -> Result<(), Fail> {
     tell(&rt, stories::lots::CASES)?;
     tell(&rt, stories::picked_lots::CASES)?;
     tell(&rt, stories::expiries::CASES)?;
@@ -264,7 +264,7 @@ fn stories_of_lots(rt: HostRuntime) -> Result<(), Fail> {
 }
 
 #[test]
-fn stories_of_interchanges(rt: HostRuntime) -> Result<(), Fail> {
+fn stories_of_interchanges_are_told(rt: HostRuntime) -> Result<(), Fail> {
     tell(&rt, stories::envelopes::CASES)?;
     tell(&rt, stories::numbers::CASES)?;
     tell(&rt, stories::sets::CASES)?;
@@ -272,7 +272,7 @@ fn stories_of_interchanges(rt: HostRuntime) -> Result<(), Fail> {
 }
 
 #[test]
-fn stories_of_sizes(rt: HostRuntime) -> Result<(), Fail> {
+fn stories_of_sizes_are_told(rt: HostRuntime) -> Result<(), Fail> {
     tell(&rt, stories::sizes::CASES)
 }
 
@@ -289,7 +289,7 @@ fn goods_are_picked_and_acknowledged(rt: HostRuntime) -> Result<(), Fail> {
 }
 
 #[test]
-fn what_a_book_shows(rt: HostRuntime) -> Result<(), Fail> {
+fn a_book_shows_what_it_has(rt: HostRuntime) -> Result<(), Fail> {
     play_all(&rt, shown::CASES)?;
     play_all(&rt, addresses::CASES)?;
     play_all(&rt, day::CASES)

@@ -1,8 +1,4 @@
 use Rattle.command_line.proofs.subcommands.recount.Goals as goal
 
 pub returns : goal.returns
-returns c =
-    let one = c.subcommand-command.ensures _ c.depositor.ensures in
-    let two = c.with-command.ensures _ _ one c.ticket.ensures in
-    let three = c.with-command-2.ensures _ _ two c.sheet.ensures in
-    c.with.ensures _ _ three c.at.ensures
+returns c = c.with_sheet.ensures _ c.of_clerk-command.ensures

@@ -1,6 +1,4 @@
 use Rattle.command_line.proofs.subcommands.take.Goals as goal
 
 pub returns : goal.returns
-returns c =
-    let one = c.subcommand-command.ensures _ c.value.ensures in
-    c.with.ensures _ _ one c.at.ensures
+returns c = c.with_at.ensures _ (c.subcommand-command.ensures _ c.value.ensures)

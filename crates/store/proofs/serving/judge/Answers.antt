@@ -1,28 +1,67 @@
-use Rattle.std.proofs.Common.{sym, subst}
-use Rattle.profile.specs.Accepted.{own_of}
+use Rattle.std.proofs.Common.{◌≡◌, None, Some, IfOk, refl, sym, subst}
+use Rattle.std.proofs.lemmas.Result.{IfErr-weaker}
+use Rattle.profile.specs.declared.rules.Rules.TheVariants.{Two}
+use Rattle.profile.specs.Accepted.{IsLegal, own_of}
 use Rattle.profile.specs.Decision.{standing, recalled, reply_by}
+use Rattle.profile.specs.Need.{need_of}
 use Rattle.profile.specs.Register.{command_mark}
 use Rattle.rules.specs.Asked.{asked}
-use Rattle.rules.specs.Decided.{IsRecalled, IsReply, entries_of}
-use Rattle.profile.specs.Need.{need_of}
-use Rattle.store.specs.Held.{IsHeld}
-use Rattle.store.proofs.Replies.{decided, stands_from}
+use Rattle.rules.specs.Decided.{IsRecalled, IsReply}
+use Rattle.store.specs.Held.{IsDecided, IsHeld}
+use Rattle.store.proofs.Changes.{clean_before, query_after}
+use Rattle.store.proofs.Replies.{decided, decided_again, named_key, owner_none, owner_some, recalled_at, recalled_none, stands_from}
 use Rattle.store.proofs.serving.judge.Goals as goal
 
-pub returns-clause-decision : goal.returns-clause-decision
-returns-clause-decision g c = λ clean L keeps legal.
+pub returns-in_default-clause-decision : goal.returns-in_default-clause-decision
+returns-in_default-clause-decision g c = λ clean L keeps legal.
     let old = g.K.Keeper.standing c.args.keeper.now in
     let asking = asked c.args.command.now in
-    let page = c.in_ok-page.ensures.page clean L keeps legal in
-    let there = c.in_ok-page.ensures.known clean L keeps legal in
-    decided c.args.rules old.warehouse L asking c.args.moment c.in_ok-decide.field-0 _ _
-    (subst (λ p. IsHeld (need_of asking) p (standing (own_of L asking))) (sym c.as_ref.ensures.value) page)
-    (subst (λ r. IsRecalled r (recalled old.warehouse (command_mark asking) (own_of L asking))) (sym c.as_ref-2.ensures.value) there)
-    (λ h k given. subst (λ W. IsReply c.args.rules (entries_of c.as_ref.result) asking c.args.moment (reply_by c.args.rules W h k asking c.args.moment) c.in_ok-decide.field-0) c.warehouse-warehouse.ensures (c.in_ok-decide.ensures.reply h k given))
+    let none = sym (owner_none L asking c.in_default.ensures) in
+    decided c.args.rules old.warehouse L asking c.args.moment c.in_ok-decide.field-0 None None
+    (subst (λ M. IsHeld (need_of asking) None (standing M)) none tt)
+    (subst (λ M. IsRecalled None (recalled old.warehouse (command_mark asking) M)) none tt)
+    (λ h k given. subst (λ W. IsReply c.args.rules 0 asking c.args.moment (reply_by c.args.rules W h k asking c.args.moment) c.in_ok-decide.field-0) c.warehouse-warehouse.ensures (c.in_ok-decide.ensures.reply h k given))
 
-pub returns-clause-tables : goal.returns-clause-tables
-returns-clause-tables g c = λ clean L keeps legal.
+pub returns-in_default-clause-tables : goal.returns-in_default-clause-tables
+returns-in_default-clause-tables g c = λ clean L keeps legal.
     let old = g.K.Keeper.standing c.args.keeper.now in
     let asking = asked c.args.command.now in
     c.in_ok-decide.ensures.tables old.warehouse L
-    (stands_from asking _ (standing (own_of L asking)) (subst (λ p. IsHeld (need_of asking) p (standing (own_of L asking))) (sym c.as_ref.ensures.value) (c.in_ok-page.ensures.page clean L keeps legal)))
+    (stands_from asking None (standing (own_of L asking))
+    (subst (λ M. IsHeld (need_of asking) None (standing M)) (sym (owner_none L asking c.in_default.ensures)) tt))
+
+pub judge_new-requires : goal.judge_new-requires
+judge_new-requires g c = record { whose = λ L. owner_some L (asked c.args.command.now) _ _ c.in-Some.ensures }
+
+pub returns-in_ok-decide_again-in-Some-2-clause-decision : goal.returns-in_ok-decide_again-in-Some-2-clause-decision
+returns-in_ok-decide_again-in-Some-2-clause-decision g c = λ clean L keeps legal.
+    let old = g.K.Keeper.standing c.args.keeper.now in
+    let asking = asked c.args.command.now in
+    let names = c.in-Some.ensures in
+    let there = recalled_at c.in_ok-known.field-0 refl (named_key asking _ _ names) (owner_some L asking _ _ names)
+    (c.in_ok-known.ensures.entry clean L keeps legal) in
+    decided_again c.args.rules old.warehouse L asking c.args.moment c.in_ok-decide_again-in-Some-2.field-0 c.in-Some-2.known
+    (subst (λ o. IsRecalled o (recalled old.warehouse (command_mark asking) (own_of L asking))) c.in-Some-2.is there)
+    (λ n h k entry under. subst (λ W. IsReply c.args.rules n asking c.args.moment (reply_by c.args.rules W (Some h) (Some k) asking c.args.moment) c.in_ok-decide_again-in-Some-2.field-0)
+    c.warehouse-warehouse.ensures (c.in_ok-decide_again-in-Some-2.ensures.reply c.args.rules n h k entry under))
+
+pub returns-in-None-clause-decision : goal.returns-in-None-clause-decision
+returns-in-None-clause-decision g c = λ clean L keeps legal.
+    let old = g.K.Keeper.standing c.args.keeper.now in
+    let mid = g.K.Keeper.standing c.known.new.self in
+    let new = g.K.Keeper.standing c.judge_new.new.keeper in
+    let asking = asked c.args.command.now in
+    let names = c.in-Some.ensures in
+    let same = c.in_ok-known.ensures.same in
+    let early = clean_before mid new c.judge_new.ensures.same.goes clean in
+    let there = recalled_at c.in_ok-known.field-0 (sym same.goes.warehouse) (named_key asking _ _ names) (owner_some L asking _ _ names)
+    (c.in_ok-known.ensures.entry early L keeps legal) in
+    let unknown = recalled_none (recalled mid.warehouse (command_mark asking) (own_of L asking))
+    (subst (λ o. IsRecalled o (recalled mid.warehouse (command_mark asking) (own_of L asking))) c.in-None.is there) in
+    subst (λ W. IfOk c.judge_new.result (IsDecided c.args.rules W L asking c.args.moment)) same.goes.warehouse
+    (c.judge_new.ensures.decision clean L (same.keeps early L keeps) (subst (λ W. IsLegal Two W L) (sym same.goes.warehouse) legal) unknown)
+
+pub returns-in-None-clause-fault : goal.returns-in-None-clause-fault
+returns-in-None-clause-fault g c = IfErr-weaker c.judge_new.result _ _
+    (query_after (g.K.Keeper.standing c.args.keeper.now) (g.K.Keeper.standing c.known.new.self) (g.K.Keeper.standing c.judge_new.new.keeper)
+    c.in_ok-known.ensures.same c.judge_new.ensures.same.goes) c.judge_new.ensures.fault

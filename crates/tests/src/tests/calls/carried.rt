@@ -149,7 +149,7 @@ fn a_carrying_over_is_cut_at_each_call(rt: HostRuntime) -> Result<(), Fail> {
 }
 
 #[test]
-fn a_crash_at_each_call_of_a_carrying_over(rt: HostRuntime) -> Result<(), Fail> {
+fn a_carrying_over_crashes_at_each_call(rt: HostRuntime) -> Result<(), Fail> {
     each_book(rt.alloc(), Stop::Crash)
 }
 

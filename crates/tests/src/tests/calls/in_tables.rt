@@ -91,7 +91,7 @@ fn opened_for<S: Alter + Drop>(
 }
 
 #[test]
-fn a_day_over_a_book_that_is_opened_for_each_command(rt: HostRuntime) -> Result<(), Fail> {
+fn a_book_may_be_opened_for_each_command(rt: HostRuntime) -> Result<(), Fail> {
     let alloc = rt.alloc();
     let counted = ninety(alloc, SheetKind::Count)?;
     let goods = ninety(alloc, SheetKind::Pick)?;

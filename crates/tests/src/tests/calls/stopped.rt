@@ -247,12 +247,12 @@ fn each_call(rt: &HostRuntime, stop: Stop) -> Result<(), Fail> {
 }
 
 #[test]
-fn a_call_refused_and_the_book_opened_again(rt: HostRuntime) -> Result<(), Fail> {
+fn a_refused_call_loses_nothing(rt: HostRuntime) -> Result<(), Fail> {
     each_call(&rt, Stop::Closing)
 }
 
 #[test]
-fn a_call_refused_and_a_crash(rt: HostRuntime) -> Result<(), Fail> {
+fn a_crash_after_a_refused_call_loses_nothing(rt: HostRuntime) -> Result<(), Fail> {
     each_call(&rt, Stop::Crash)
 }
 

@@ -11,6 +11,18 @@ const OTHER: &str =
 const CUT_OFF: &str =
     "ISA*00*          *00*          *ZZ*ACME           *ZZ*WHSE1          *250304*0915*U*00401*000000001*1*P*>";
 
+// The advice as a stranger would send it.
+const STRANGE: &str =
+    "ISA*00*          *00*          *ZZ*ACM2           *ZZ*WHSE1          *250304*0915*U*00401*000000001*1*P*>~GS*AR*ACM2*WHSE1*20250304*0915*1*X*004010~ST*943*0001~W06*F*PO77*20250303*SHP1~W04*100*EA**SK*BOLT~N9*LT*L1~W03*100~SE*6*0001~GE*1*1~IEA*1*000000001~";
+
+// Another advice, of as many.
+const SECOND: &str =
+    "ISA*00*          *00*          *ZZ*ACME           *ZZ*WHSE1          *250304*0915*U*00401*000000002*1*P*>~GS*AR*ACME*WHSE1*20250304*0915*2*X*004010~ST*943*0001~W06*F*PO78*20250303*SHP2~W04*100*EA**SK*BOLT~N9*LT*L1~W03*100~SE*6*0001~GE*1*2~IEA*1*000000002~";
+
+// What STRANGE is answered the last time.
+const UNKNOWN: &str =
+    "ISA*00*          *00*          *ZZ*WHSE1          *ZZ*ACM2           *250305*1000*U*00401*000000000*0*P*>~TA1*000000001*250304*0915*R*006~IEA*0*000000000~";
+
 // What OTHER is answered the last time: the note of a duplicate, which isn't kept.
 const DUPLICATE: &str =
     "ISA*00*          *00*          *ZZ*WHSE1          *ZZ*ACME           *250305*1000*U*00401*000000000*0*P*>~TA1*000000001*250304*0915*R*025~IEA*0*000000000~";
@@ -21,6 +33,8 @@ fn fill(rt: &HostRuntime) -> Result<(), Fail> {
         fs::remove_dir_all(rt, "inbox")?;
     }
     fs::create_dir(rt, "inbox")?;
+    fs::write(rt, "inbox/c2.x12", SECOND)?;
+    fs::write(rt, "inbox/c1.x12", STRANGE)?;
     fs::write(rt, "inbox/c.x12", CUT_OFF)?;
     fs::write(rt, "inbox/b.x12", OTHER)?;
     fs::write(rt, "inbox/a.x12", ADVICE)?;
@@ -40,7 +54,8 @@ fn are_answered(rt: &HostRuntime) -> Result<bool, Fail> {
     Ok(
         is_none
             && holds(rt, "inbox/a.x12.ans", &ANSWER[..265])?
-            && holds(rt, "inbox/b.x12.ans", DUPLICATE)?,
+            && holds(rt, "inbox/b.x12.ans", DUPLICATE)?
+            && holds(rt, "inbox/c1.x12.ans", UNKNOWN)?,
     )
 }
 
@@ -76,7 +91,7 @@ const EXPLAINED: Wanted<'static> = Wanted {
 };
 
 const MENDED: Wanted<'static> = Wanted {
-    printed: "a.x12 stored\nb.x12 refused 025\nc.x12 unreadable\n",
+    printed: "a.x12 stored\nb.x12 refused 025\nc.x12 unreadable\nc1.x12 refused 006\nc2.x12 accepted\n",
     told: "",
     status: 1,
 };
@@ -84,7 +99,7 @@ const MENDED: Wanted<'static> = Wanted {
 // An answer that can't be written is a fault, and the interchange before it is taken. Once the
 // folder is mended it is taken again, and the answers are there.
 #[test]
-fn an_answer_that_cannot_be_written(rt: HostRuntime) -> Result<(), Fail> {
+fn an_answer_that_cannot_be_written_is_a_fault(rt: HostRuntime) -> Result<(), Fail> {
     fill(&rt)?;
     fs::create_dir(&rt, "inbox/a.x12.ans")?;
     remove_book(&rt, "case.book", "case.book-wal")?;
@@ -100,7 +115,7 @@ const AGAIN: &str = "take inbox --at 2025-03-05T10:00 --explain";
 
 // What is passed over where it is asked for: what is no file, by the names' bytes.
 const PASSED: Wanted<'static> = Wanted {
-    printed: "a.x12 stored\nb.x12 refused 025\nc.x12 unreadable\n",
+    printed: "a.x12 stored\nb.x12 refused 025\nc.x12 unreadable\nc1.x12 refused 006\nc2.x12 stored\n",
     told: "\
 e.x12 passed over: no regular file
 f.x12 passed over: no regular file

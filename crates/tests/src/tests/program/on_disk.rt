@@ -1,7 +1,7 @@
 //! Books in files: each line is a command of its own, which opens the book and closes it.
 use super::super::version1::lay;
 use super::*;
-use cases::scripts::on_disk::{CASES, COUNTED, UNOPENED};
+use cases::scripts::on_disk::{CASES, COUNTED, UNOPENED, UNREADABLE};
 use sqlite::{Alter, Connection, FileStore};
 use sqlite_disk::Disk;
 
@@ -14,7 +14,7 @@ const LEFT: Wanted<'static> = Wanted {
 
 // A book isn't made over another, which stays as it is: its rows are those of its six entries.
 #[test]
-fn a_day_over_a_file(rt: HostRuntime) -> Result<(), Fail> {
+fn a_day_is_kept_in_a_file(rt: HostRuntime) -> Result<(), Fail> {
     play_all(&rt, CASES)?;
     let mut out = Vec::new(rt.alloc());
     let mut err = Vec::new(rt.alloc());
@@ -87,6 +87,21 @@ fn stock_is_read_from_its_rows(rt: HostRuntime) -> Result<(), Fail> {
     run_lines(&rt, "case.book", "verify")?.compare("verify", &NOT_THIS)
 }
 
+// A row that can't be read is a fault, and never the end of a list.
+#[test]
+fn a_row_that_cannot_be_read_is_a_fault(rt: HostRuntime) -> Result<(), Fail> {
+    fs::write(&rt, "advice.x12", ADVICE)?;
+    fs::write(&rt, "count.csv", "BOLT,L1,90\n")?;
+    remove_book(&rt, "case.book", "case.book-wal")?;
+    run_lines(&rt, "case.book", COUNTED)?;
+    for row in UNREADABLE.lines() {
+        let (sql, line) = row.split_once('|').ok_or("a line")?;
+        over_database(&rt, "case.book", sql, "")?;
+        run_lines(&rt, "case.book", line)?.compare(sql, &NOT_THIS)?;
+    }
+    Ok(())
+}
+
 // Sheets that are refused, each with its name before it.
 const BAD_SHEETS: [(&str, &str); 4] = [
     ("item.csv", "BOLT,L1,1\nbolt,L1,2\n"),
@@ -118,7 +133,7 @@ fn play_unopened(rt: &HostRuntime, rows: &str) -> Result<(), Fail> {
 // What can't be opened is a fault, and nothing is made or changed of it; words and files come
 // before the book.
 #[test]
-fn files_that_are_no_book(rt: HostRuntime) -> Result<(), Fail> {
+fn files_that_are_no_book_stay_as_they_are(rt: HostRuntime) -> Result<(), Fail> {
     remove_book(&rt, "other.book", "other.book-wal")?;
     remove_book(&rt, "held.book", "held.book-wal")?;
     fs::write(&rt, "text.book", "no database")?;
@@ -127,7 +142,9 @@ fn files_that_are_no_book(rt: HostRuntime) -> Result<(), Fail> {
     }
     let note = "CREATE TABLE note (id INTEGER PRIMARY KEY) STRICT";
     over_database(&rt, "other.book", note, "")?;
+    let other = fs::read(&rt, "other.book")?;
     over_database(&rt, "held.book", "", UNOPENED)?;
+    assert!(rt; fs::read(&rt, "other.book")? == other);
     assert!(rt; !fs::exists(&rt, "nowhere.book")? && !fs::exists(&rt, "nowhere.book-wal")?);
     assert!(rt; !fs::exists(&rt, "/proc/house.book")? && !fs::exists(&rt, "/proc/house.book-wal")?);
     assert!(rt; fs::read(&rt, "text.book")?.as_slice() == b"no database".as_slice());

@@ -148,7 +148,7 @@ const IN_USE: Wanted<'static> = Wanted {
 
 // Nobody can listen where somebody listens.
 #[test]
-fn an_address_in_use(rt: HostRuntime) -> Result<(), Fail> {
+fn an_address_in_use_is_a_fault(rt: HostRuntime) -> Result<(), Fail> {
     let listener = TcpListener::bind(&rt, "127.0.0.1:0")?;
     let at = listener.local_addr()?;
     let line = format!(in rt.alloc(); "serve --listen {at} --count 1")?;

@@ -1,0 +1,120 @@
+//! Depositors of a list, enrolled one after the other.
+ghost use Rattle.std.specs.Io.KnownBytes.{Appends};
+ghost use Rattle.std.specs.Prelude.{◌≡◌, ◌++◌, ℕ, List, Some, IfErr, IfOk, IfSome, OnOk, OnErr, option_map, codes, map};
+ghost use Rattle.profile.specs.declared.rules.Rules.TheVariants.{Two};
+ghost use Rattle.profile.specs.Accepted.{IsLegal, reply_to, after};
+ghost use Rattle.profile.specs.Header.{who_text};
+ghost use Rattle.profile.specs.Register.{Entry, Enrol};
+ghost use Rattle.store.specs.Runs.{told};
+ghost use Rattle.store.specs.Standing.{IsUsable, GoesOn, LeavesEither, OfKept};
+ghost use Rattle.commands.specs.Enrolling.{AreEnrolled, AreEnrolledUntil, line_of};
+ghost use Rattle.commands.specs.Stops.{IsDeviceStop, IsStopped};
+ghost use Rattle.commands.specs.Telling.{status_of};
+ghost use Rattle.rosters.specs.Rosters as meant;
+
+use crate::files::{MOST_ROSTER, read_within};
+use crate::told::{CommandError, ExitStatus};
+use rosters::depositors;
+use std::alloc::Global;
+use std::io;
+use std::rt::Files;
+use store::{Command, Keeper, Moment, Reply, Who, submit};
+
+// Prints a partner as `ZZ-ACME`, and a space.
+fn tell_partner<W: io::Write>(out: &mut W, who: &Who) -> Result<(), CommandError>
+    ensures printed { OnOk result
+        (Appends (W.contents out.old) (W.contents out.new) (who_text who.now ++ codes " ")) }
+    ensures halted { IfErr result IsDeviceStop }
+{
+    out.write_all(who.qualifier())?;
+    out.write_all(b"-")?;
+    out.write_all(who.id())?;
+    out.write_all(b" ")?;
+    Ok(())
+}
+
+// Prints what became of a depositor.
+fn tell_enrolment<W: io::Write>(
+    out: &mut W,
+    who: &Who,
+    reply: &Reply,
+) -> Result<ExitStatus, CommandError>
+    ensures says { IfOk result (λ status. status ≡ status_of (told reply.now)) }
+    ensures printed { OnOk result (Appends (W.contents out.old) (W.contents out.new) (line_of who.now (told reply.now))) }
+    ensures halted { IfErr result IsDeviceStop }
+{
+    tell_partner(out, who)?;
+    match reply {
+        Reply::Refused { refusal, .. } => {
+            let number = refusal.number();
+            write!(out, "refused {number}\n")?;
+            Ok(ExitStatus::Refused)
+        }
+        _ => {
+            out.write_all(b"enrolled\n")?;
+            Ok(ExitStatus::Done)
+        }
+    }
+}
+
+// Enrols a depositor and prints what became of it.
+fn enrol_one<K: Keeper, W: io::Write>(
+    alloc: Global,
+    book: &mut K,
+    who: Who,
+    moment: Moment,
+    out: &mut W,
+) -> Result<ExitStatus, CommandError>
+    ensures says { OfKept (K.standing book.old) (K.standing book.new)
+        (λ L. IfOk result (λ status. status ≡ status_of (reply_to Two (K.standing book.old).warehouse L
+        (Enrol who) moment))) }
+    ensures printed { OfKept (K.standing book.old) (K.standing book.new)
+        (λ L. OnOk result (Appends (W.contents out.old) (W.contents out.new) (line_of who (reply_to Two
+        (K.standing book.old).warehouse L (Enrol who) moment)))) }
+    ensures done { (K.standing book.new).doubt ≡ 0 → (L : List Entry) → IsUsable (K.standing book.old) L
+        → OnOk result (IsUsable (K.standing book.new) (after Two (K.standing book.old).warehouse L (Enrol who, moment))) }
+    ensures opened { OnOk result ((K.standing book.old).shut ≡ (K.standing book.new).shut) }
+    ensures left { (K.standing book.new).doubt ≡ 0 → (L : List Entry) → IsUsable (K.standing book.old) L
+        → OnErr result (LeavesEither (K.standing book.new) L (after Two (K.standing book.old).warehouse L (Enrol who, moment))) }
+    ensures stopped { IfErr result
+        (IsStopped (K.standing book.old) (K.standing book.new) (Enrol who) moment) }
+    ensures goes { GoesOn (K.standing book.old) (K.standing book.new) }
+{
+    let reply = submit(alloc, book, &Command::Enrol(who), moment)?;
+    tell_enrolment(out, &who, &reply)
+}
+
+/// Enrols depositors in order, and prints a line for each. The status is 1 where one of them was refused.
+pub fn enrol_all<K: Keeper, W: io::Write>(
+    alloc: Global,
+    book: &mut K,
+    partners: &[Who],
+    moment: Moment,
+    out: &mut W,
+) -> Result<ExitStatus, CommandError>
+    ensures enrolled { IfOk result (AreEnrolled (K.standing book.old) (K.standing book.new) partners.now moment
+        (W.contents out.old) (W.contents out.new)) }
+    ensures stopped { IfErr result
+        (AreEnrolledUntil (K.standing book.old) (K.standing book.new) partners.now moment) }
+    ensures goes { GoesOn (K.standing book.old) (K.standing book.new) }
+{
+    let mut status = ExitStatus::Done;
+    for who in partners {
+        status = status.and(enrol_one(alloc, book, *who, moment, out)?);
+    }
+    Ok(status)
+}
+
+/// The depositors of the list in a file; None where it is no such list, or has more than 1,048,576 bytes. A file that can't be
+/// read is Device (44).
+pub fn read_roster<R: Files + AllocGlobal>(
+    rt: &R,
+    file: &str,
+) -> Result<Option<Vec<Who>>, CommandError>
+    ensures { IfOk result (λ found. IfSome found (λ whos. (text : List ℕ) × meant.IsRead text (Some whos.items))) }
+{
+    match read_within(rt, file, MOST_ROSTER)? {
+        Some(text) => Ok(depositors(rt.alloc(), &text)?),
+        None => Ok(None),
+    }
+}

@@ -1,0 +1,50 @@
+-- Which job over a book in a file a line asks for, and what the job comes to.
+use Rattle.std.specs.Prelude.{◌≡◌, ℕ, Bool, true, false, List, [], ◌∷◌, ◌++◌, Option, Some, None, IfSome, OnOk, codes, decimal, length}
+use Rattle.std.specs.Io.KnownBytes.{Appends}
+use Rattle.profile.specs.Header.{who_of}
+use Rattle.profile.specs.Moments.{Moment}
+use Rattle.profile.specs.Register.{Entry}
+use Rattle.store.specs.Standing.{Standing, IsUnchanged, GoesOn}
+use Rattle.commands.specs.Acting.{Ending, IsPerformed}
+use Rattle.commands.specs.Looking.{IsAskedFor, IsLook}
+use Rattle.commands.specs.Readying.{IsMadeReady}
+use Rattle.running.specs.declared.over_file.Job.{Job}
+use Rattle.running.specs.declared.over_file.Job.TheVariants as job
+use Rattle.command_line.specs.declared.words.Task.{Task}
+use Rattle.command_line.specs.declared.words.Task.TheVariants as task
+
+abbrev pub says_none : Option Moment → Bool
+says_none None = true
+says_none (Some t) = false
+
+-- it is what the line asks for, at the moment that the line says, if it says one; a server goes by the clock where the line says none
+abbrev pub IsJobFor : Task → Job → Type 0
+IsJobFor (task.Init who) (job.Make warehouse) = who_of who.now ≡ Some warehouse
+IsJobFor (task.Act a at) (job.Change ready moment) = IsMadeReady a ready × IfSome at (λ t. moment ≡ t)
+IsJobFor (task.Show s) (job.Look asked) = IsAskedFor s asked
+IsJobFor (task.Batch file) (job.Play text) = Unit {0}
+IsJobFor task.Verify job.Check = Unit {0}
+IsJobFor (task.Serve s at) (job.Listen service first has_clock file) =
+    (service ≡ s) × IfSome at (λ t. first ≡ t) × (has_clock ≡ says_none at)
+IsJobFor t j = ⊥
+
+-- what was made ready was done at its moment, and what was asked for was shown
+abbrev pub IsWork : Standing → Standing → Job → Option (List ℕ) → Option (List ℕ) → Ending → Type 0
+IsWork old new (job.Change ready moment) before behind ending = IsPerformed old new ready moment before behind ending
+IsWork old new (job.Look asked) before behind ending = IsLook old new asked before behind ending
+IsWork old new (job.Play text) before behind ending = GoesOn old new
+IsWork old new other before behind ending = Unit {0}
+
+-- what is printed of a book whose tables are what its register gives: how many entries it has
+abbrev pub told_whole : ℕ → List ℕ
+told_whole n = codes "ok " ++ decimal n ++ 10 ∷ []
+
+-- a book was checked whole, and is as before
+pub record IsChecked (old new : Standing) (before behind : Option (List ℕ)) (ending : Ending) : Type 0 where
+  pub told : new.doubt ≡ 0 → (L : List Entry) → old.keeps L → OnOk ending (Appends before behind (told_whole (length L)))
+  pub same : IsUnchanged old new
+
+-- what comes of a job over a book in tables
+abbrev pub IsJobDone : Standing → Standing → Job → Option (List ℕ) → Option (List ℕ) → Ending → Type 0
+IsJobDone old new job.Check before behind ending = IsChecked old new before behind ending
+IsJobDone old new other before behind ending = IsWork old new other before behind ending

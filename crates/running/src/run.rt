@@ -1,0 +1,89 @@
+use crate::over_file::run_over_file;
+use command_line::{LineFault, Place, Words, line};
+use commands::{CommandError, ExitStatus, Verbosity, run_script, tell_stop, usage};
+use std::io::{self, IsTerminal};
+
+// The program's version, which is that of the rules by which it judges.
+const VERSION: &str = "whx12 2.0\n";
+
+// Does what one line of words asks for.
+fn run_words<W: io::Write, E: io::Write>(
+    rt: &HostRuntime,
+    words: &Words<'_>,
+    verbosity: Verbosity,
+    out: &mut W,
+    err: &mut E,
+) -> Result<ExitStatus, CommandError> {
+    match words {
+        Words::Script { file } => run_script(rt, file, out, err),
+        Words::Over {
+            book: Some(file),
+            wait,
+            task,
+        } => run_over_file(rt, file, *wait, task, verbosity, out, err),
+        Words::Over { book: None, .. } => Err(usage(rt.alloc(), "--book is missing\n")),
+    }
+}
+
+// Runs one line of words, or shows the help that it asks for.
+fn run_line<W: io::Write, E: io::Write>(
+    rt: &HostRuntime,
+    words: &[&str],
+    verbosity: Verbosity,
+    out: &mut W,
+    err: &mut E,
+) -> Result<ExitStatus, CommandError> {
+    match line(rt.alloc(), Place::Program, words) {
+        Ok(asked) => run_words(rt, &asked, verbosity, out, err),
+        Err(LineFault::Help(text)) => show(out, &text),
+        Err(fault) => Err(CommandError::from(fault)),
+    }
+}
+
+// Shows a text that is asked for.
+fn show<W: io::Write>(out: &mut W, text: &str) -> Result<ExitStatus, CommandError> {
+    out.write_all(text.as_bytes())?;
+    Ok(ExitStatus::Done)
+}
+
+// Runs one line of words: `help` is `--help`, `help count` is `count --help`, and `--version` shows the version.
+fn run_any<W: io::Write, E: io::Write>(
+    rt: &HostRuntime,
+    words: &[&str],
+    verbosity: Verbosity,
+    out: &mut W,
+    err: &mut E,
+) -> Result<ExitStatus, CommandError> {
+    match words {
+        [word] if *word == "help" => run_line(rt, &["--help"], verbosity, out, err),
+        [word] if *word == "--version" => show(out, VERSION),
+        [word, name] if *word == "help" => run_line(rt, &[*name, "--help"], verbosity, out, err),
+        _ => run_line(rt, words, verbosity, out, err),
+    }
+}
+
+// Whether the last word asks that a refusal and a fault are explained, and the words before it.
+fn asks_why<'w, 'a>(words: &'w [&'a str]) -> (bool, &'w [&'a str]) {
+    match words.split_last() {
+        Some((last, words)) if *last == "--explain" => (true, words),
+        _ => (false, words),
+    }
+}
+
+/// Runs one line of words, without the program's name: its output goes to `out`, its refusals and faults to `err`. Where the last word
+/// is `--explain`, and on a terminal, what a fault or a refused sheet is about is told after it. The exit status is 0 where all was
+/// done or help was shown, 1 where something was refused, 2 where the words can't be read, 3 at a fault.
+pub fn command<W: io::Write, E: io::Write>(
+    rt: &HostRuntime,
+    words: &[&str],
+    out: &mut W,
+    err: &mut E,
+) -> u8 {
+    let (is_asked, words) = asks_why(words);
+    let watches = rt.stderr().is_terminal();
+    let explains = is_asked || watches;
+    match run_any(rt, words, Verbosity { explains, watches }, out, err) {
+        Ok(status) => status.code(),
+        Err(stop) => tell_stop(err, &stop, explains).code(),
+    }
+}

@@ -1,0 +1,14 @@
+ghost use Rattle.std.specs.Prelude.{List};
+ghost use Rattle.profile.specs.Register as register;
+ghost use Rattle.store.specs.Standing.{IsUsable};
+
+use crate::keeping::Keeper;
+use crate::replaying::ReplayBook;
+
+/// A law, of which nothing runs: of a book in memory that serves, what a crash leaves is the register that it keeps, and not nothing.
+pub fn what_is_kept_is_left(book: &ReplayBook)
+    ensures { (L : List register.Entry) → IsUsable (⟦<ReplayBook as Keeper>⟧.standing book.now) L
+        → (⟦<ReplayBook as Keeper>⟧.standing book.now).left L }
+{
+    let _ = book;
+}
