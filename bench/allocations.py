@@ -2,7 +2,7 @@
 """Fails each allocation of each test of a crate in turn. Not part of the gate.
 
 Usage: bench/allocations.py CRATE [TEST] [--most N]
-       (CRATE is one whose tests `rt test` built, as tests: crates/tests/out/tests_tests; `tests want_of_memory` is a day whose commands are given again)
+       (CRATE is one whose tests `rt test` built, as tests: crates/test_calls/out/test_calls_tests; `test_calls want_of_memory` is a day whose commands are given again)
 
 A library put before the C library's lets the Nth call of malloc or realloc answer that there is no memory, for N = 1, 2, .. up
 to as many as the test makes (or N evenly chosen ones under --most), a run each. Want of memory is a result that code and test

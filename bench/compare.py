@@ -2,11 +2,12 @@
 """Plays random days through the program and through the second reading of the rules (bench/model.py), and compares what is printed,
 what is told on standard error and the exit status, byte for byte. Not part of the gate.
 
-Usage: bench/compare.py [--days N] [--seed N] [--rules 1|2] [--batch] [PROGRAM]
+Usage: bench/compare.py [--days N] [--seed N] [--rules 1|2] [--batch | --server] [PROGRAM]
        (default: crates/whx12/out/whx12, which `rt run` in that folder leaves; the second version of the rules)
 
 A day is played by `script`, over a book in memory; with --batch by `init` and then `batch`, over a book in a file, and `verify` must say ok
-after it.
+after it. With --server each command that a server takes is asked of one (`serve --clerks`), at one moment for the whole day; the others are given over
+the book once the server is killed, and `verify` must say ok in the end.
 
 A day is a script of up to 40 commands of two depositors and strangers: interchanges with advices, orders and acknowledgments, good
 ones and such as were changed in a byte, an element, a segment or a group; resends; counts, picks and recounts with good and bad
@@ -33,9 +34,28 @@ IDS = [b"ST", b"SE", b"GS", b"GE", b"IEA", b"TA1", b"ISA", b"W03", b"W04", b"W05
        b"AK1", b"AK2", b"AK3", b"AK4", b"AK5", b"AK9", b"ZZZ", b"Z", b"abc", b"QQQQ"]
 
 
+# what is asked of a server, and the moment of days that are
+TAKEN = {"send", "count", "pick", "recount", "stock", "orders", "outbox"}
+MOMENT = "2025-03-04T09:15"
+
+
+class Server:
+    """A server of the day's book, which runs while it is asked."""
+
+    def __init__(self, program, folder):
+        words = ["serve", "--book", "day.book", "--listen", "127.0.0.1:0", "--count", "65535", "--clerks", "--at", MOMENT, "--explain"]
+        self.run = subprocess.Popen([program, *words], cwd=folder, stdout=subprocess.DEVNULL, stderr=subprocess.PIPE)
+        self.address = self.run.stderr.readline().decode().split()[-1]
+
+    def stop(self):
+        self.run.kill()
+        self.run.stderr.close()
+        self.run.wait()
+
+
 class Day:
-    def __init__(self, seed, folder, rules=2):
-        self.r, self.folder = random.Random(seed), folder
+    def __init__(self, seed, folder, rules=2, is_served=False):
+        self.r, self.folder, self.is_served = random.Random(seed), folder, is_served
         self.script, self.expected, self.errors, self.status = [], b"", "", 0
         self.book = model.Book(b"ZZ-WHSE1", rules)
         self.often_dated = 0.4 if rules == 2 else 0.02
@@ -208,7 +228,7 @@ class Day:
         self.status = max(self.status, status)
 
     def moment(self):
-        return f"2025-03-{self.r.randint(1, 28):02d}T{self.r.randint(0, 23):02d}:{self.r.randint(0, 59):02d}"
+        return MOMENT if self.is_served else f"2025-03-{self.r.randint(1, 28):02d}T{self.r.randint(0, 23):02d}:{self.r.randint(0, 59):02d}"
 
     def word(self, good):
         return self.r.choice(good) if self.r.random() < 0.96 else self.r.choice([b"zz-acme", b"NONE", b"ZZ-NONE", b"ZZACME", b"x" * 25, b"ZZ-A"])
@@ -255,6 +275,26 @@ class Day:
         checked = self.run(program, "verify", *over)
         return ran if checked.stdout.startswith(b"ok ") else checked
 
+    def ask(self, program):
+        """Plays the lines one by one, those that a server takes through one."""
+        server, out, told, status = None, b"", b"", 0
+        for line in self.script:
+            first, *rest = line.split(" ")
+            if first in TAKEN:
+                server = server or Server(program, self.folder)
+                over = ["--server", server.address]
+                rest = [word for word in rest if word not in ("--at", MOMENT)]
+            else:
+                if server:
+                    server.stop()
+                server, over = None, ["--book", "day.book"]
+            ran = self.run(program, first, *rest, *over)
+            out, told, status = out + ran.stdout, told + ran.stderr, max(status, ran.returncode)
+        if server:
+            server.stop()
+        checked = self.run(program, "verify", "--book", "day.book")
+        return subprocess.CompletedProcess([], status, out, told) if checked.stdout.startswith(b"ok ") else checked
+
     def play(self, program, is_batch=False):
         self.script.append("init ZZ-WHSE1")
         for who in (b"ZZ-ACME", b"ZZ-BETA"):
@@ -268,7 +308,10 @@ class Day:
                 self.take(f"orders {who.decode()} {number.decode()}", self.book.orders(who, number))
         with open(os.path.join(self.folder, "script.txt"), "w", encoding="ascii") as file:
             file.write("\n".join(self.script) + "\n")
-        ran = self.batch(program) if is_batch else self.run(program, "script", "script.txt")
+        if self.is_served:
+            ran = self.ask(program)
+        else:
+            ran = self.batch(program) if is_batch else self.run(program, "script", "script.txt")
         return (ran.stdout, ran.stderr.decode(), ran.returncode) == (self.expected, self.errors, self.status), ran
 
 
@@ -280,7 +323,7 @@ def main(words):
     commands = 0
     for day in range(seed, seed + days):
         folder = tempfile.mkdtemp(prefix="day")
-        one = Day(day, folder, option("--rules", 2))
+        one = Day(day, folder, option("--rules", 2), "--server" in words)
         same, ran = one.play(program, "--batch" in words)
         commands += len(one.script)
         if not same:

@@ -1,11 +1,14 @@
 #!/usr/bin/env python3
 """Plays the cases of the program's tests by processes of the program, one for each line of a script, over a book in a file. Not part of the gate.
 
-Usage: bench/stories.py [PROGRAM]     (default: crates/whx12/out/whx12, which `rt run` in that folder leaves)
+Usage: bench/stories.py [--server] [PROGRAM]     (default: crates/whx12/out/whx12, which `rt run` in that folder leaves)
 
-The cases are those of crates/cases (stories/ and scripts/), read from their texts; their form is told in crates/tests/src/tests/program.rt. Each
+The cases are those of crates/cases (stories/ and scripts/), read from their texts; their form is told in crates/test_program/src/tests/program.rt. Each
 line of a script is a process that opens the book and closes it. What is printed and told and the exit status are compared; the status is 1
 where one differs.
+
+With --server each line that a server takes (send, count, pick, recount, stock, orders, outbox) is asked of a server of the book, which is
+started for it at the line's moment and then killed: the same texts, the same status.
 """
 import glob
 import os
@@ -56,7 +59,29 @@ def write_files(text, folder):
                 file.write(spread(body).encode())
 
 
-def play(program, name, text, before):
+TAKEN = {"send", "count", "pick", "recount", "stock", "orders", "outbox"}
+
+
+def over_book(program, folder, first, rest):
+    """Runs a line over the book in its file."""
+    return subprocess.run([program, first, "--book", "case.book", *rest], cwd=folder, capture_output=True, check=False)
+
+
+def over_server(program, folder, first, rest):
+    """Asks a server of the book for a line, which is started for it and then killed."""
+    at = [rest[n : n + 2] for n, word in enumerate(rest) if word == "--at"][:1]
+    words = ["serve", "--book", "case.book", "--listen", "127.0.0.1:0", "--count", "65535", "--clerks", *sum(at, []), "--explain"]
+    with subprocess.Popen([program, *words], cwd=folder, stdout=subprocess.DEVNULL, stderr=subprocess.PIPE) as server:
+        told = server.stderr.readline().decode()
+        if not told.startswith("listening at "):
+            sys.exit(f"{words}: {told}")
+        asked = [word for n, word in enumerate(rest) if word != "--at" and (n == 0 or rest[n - 1] != "--at")]
+        ran = subprocess.run([program, first, "--server", told.split()[-1], *asked], cwd=folder, capture_output=True, check=False)
+        server.kill()
+    return ran
+
+
+def play(program, name, text, before, by_server):
     """Plays a case: how many processes it took."""
     with tempfile.TemporaryDirectory(prefix="whx12-case-") as folder:
         write_files(before, folder)
@@ -66,7 +91,8 @@ def play(program, name, text, before):
         for line in found["script"][1].split("\n"):
             if line and status < 2:
                 first, *rest = line.split(" ")
-                ran = subprocess.run([program, first, "--book", "case.book", *rest], cwd=folder, capture_output=True, check=False)
+                run = over_server if by_server and first in TAKEN else over_book
+                ran = run(program, folder, first, rest)
                 printed, told, status = printed + ran.stdout.decode(), told + ran.stderr.decode(), max(status, ran.returncode)
                 runs += 1
         ends = found["ends"]
@@ -75,6 +101,8 @@ def play(program, name, text, before):
 
 
 def main(words):
+    by_server = "--server" in words
+    words = [word for word in words if word != "--server"]
     program = os.path.abspath(words[0] if words else os.path.join(HERE, "..", "crates", "whx12", "out", "whx12"))
     cases, runs, paths = 0, 0, sorted(glob.glob(f"{CASES}/stories/*.rt") + glob.glob(f"{CASES}/scripts/*.rt"))
     for path in paths:
@@ -84,7 +112,7 @@ def main(words):
             before, *texts = read(literal).split("@case ")
             for text in texts:
                 name = f"{os.path.basename(os.path.dirname(path))}/{os.path.basename(path)}, {text.partition(chr(10))[0]}"
-                runs += play(program, name, "case " + text, before)
+                runs += play(program, name, "case " + text, before, by_server)
                 cases += 1
     print(f"{cases} cases of {len(paths)} files: {runs} processes, all as told")
 

@@ -1,6 +1,6 @@
 -- Two runs with a stop between them.
-use Rattle.std.proofs.Common.{◌≡◌, ◌≤◌, ◌⊎◌, inl, inr, ℕ, ◌+◌, true, false, List, length, map, take, refl, subst, ◌∙◌, arith}
-use Rattle.std.specs.Prelude.{IsSome}
+use Rattle.std.proofs.Common.{◌≡◌, ◌≤◌, ◌⊎◌, inl, inr, ℕ, ◌+◌, Bool, true, false, List, length, map, take, refl, subst, ◌∙◌, arith}
+use Rattle.std.specs.Prelude.{IsSome, IfSome, Option, Some, None}
 use Rattle.std.proofs.lemmas.Bool.{cases_Bool}
 use Rattle.profile.specs.declared.rules.Rules.TheVariants.{Two}
 use Rattle.profile.specs.Header.{Who}
@@ -8,16 +8,28 @@ use Rattle.profile.specs.Moments.{Moment}
 use Rattle.profile.specs.Register.{Command, Entry}
 use Rattle.profile.specs.Accepted.{accepted_on, replies_on}
 use Rattle.store.specs.Runs.{told}
-use Rattle.store.specs.Standing.{Standing, IsUsable, LeavesEither, GoesOn}
+use Rattle.store.specs.Standing.{Standing, IsUsable, LeavesEither, GoesOn, IsRunFault}
+use Rattle.store.specs.declared.fault.Fault.{Fault}
+use Rattle.store.specs.declared.fault.Fault.TheVariants.{OutOfMemory, Store, Reopen, NotThisBook, Device}
 use Rattle.store.specs.declared.serving.Outcome.{Outcome}
-use Rattle.books.specs.Stopped.{IsReopened, Crosses}
+use Rattle.books.specs.Stopped.{IsReopened, Crosses, MayBeThere}
+
+-- a fault that shut a book which was usable, in a run of commands that can be given
+pub may_be_there : (old new : Standing) (L : List Entry) (given : Bool) (fault : Option Fault) → new.doubt ≡ 0 → IsUsable old L → given ≡ true
+    → IfSome fault (λ f. IsRunFault f given old new) → IsSome fault → MayBeThere fault
+may_be_there old new L given None clean u g why some = absurd (cc)
+may_be_there old new L given (Some OutOfMemory) clean u g why some = inl refl
+may_be_there old new L given (Some Store) clean u g why some = inr refl
+may_be_there old new L given (Some Reopen) clean u g why some = let was : old.shut ≡ true = why.reopen refl in let is = u.opened in absurd (cc)
+may_be_there old new L given (Some NotThisBook) clean u g why some = absurd (why.not_this refl g clean L u)
+may_be_there old new L given (Some Device) clean u g why some = absurd (why.device refl)
 
 -- what a run says of a register that the book was usable for
 pub record Runs (old new : Standing) (L : List Entry) (cs : List (Command × Moment)) (o : Outcome) : Type 0 where
   pub goes : GoesOn old new
   pub answered : new.doubt ≡ 0 → map told o.replies.items ≡ replies_on Two old.warehouse L (take (length o.replies.items) cs)
   pub opened : new.doubt ≡ 0 → new.shut ≡ false → IsUsable new (accepted_on Two old.warehouse L (take (length o.replies.items) cs))
-  pub broken : new.doubt ≡ 0 → new.shut ≡ true → IsSome o.fault × LeavesEither new (accepted_on Two old.warehouse L (take (length o.replies.items) cs))
+  pub broken : new.doubt ≡ 0 → new.shut ≡ true → MayBeThere o.fault × LeavesEither new (accepted_on Two old.warehouse L (take (length o.replies.items) cs))
       (accepted_on Two old.warehouse L (take (length o.replies.items + 1) cs))
 
 module _ (s0 s1 s2 s3 : Standing) (L : List Entry) (first second : List (Command × Moment)) (before later : Outcome) where
@@ -29,7 +41,7 @@ module _ (s0 s1 s2 s3 : Standing) (L : List Entry) (first second : List (Command
 
   -- how many count
   Counts : Type 0
-  Counts = (k : ℕ) × ((k ≡ length before.replies.items) ⊎ (IsSome before.fault × (k ≡ length before.replies.items + 1))) × IsUsable s2 (on k)
+  Counts = (k : ℕ) × ((k ≡ length before.replies.items) ⊎ (MayBeThere before.fault × (k ≡ length before.replies.items + 1))) × IsUsable s2 (on k)
 
   counts : s1.doubt ≡ 0 → (s1.all_stand → IsReopened s1 s2) → Runs s0 s1 L first before → Counts
   unfolding Counts
@@ -67,6 +79,6 @@ module _ (s0 s1 s2 s3 : Standing) (L : List Entry) (first second : List (Command
         warehouse = goes.warehouse ∙ same;
         replies = subst (λ (V : Who). map told later.replies.items ≡ replies_on Two V (on k.0) (take (length later.replies.items) second)) same (then.answered clean);
         opened = λ open'. subst (λ (V : Who). IsUsable s3 (accepted_on Two V (on k.0) (take (length later.replies.items) second))) same (then.opened clean open');
-        broken = λ shut. subst (λ (V : Who). IsSome later.fault × LeavesEither s3 (accepted_on Two V (on k.0) (take (length later.replies.items) second))
+        broken = λ shut. subst (λ (V : Who). MayBeThere later.fault × LeavesEither s3 (accepted_on Two V (on k.0) (take (length later.replies.items) second))
             (accepted_on Two V (on k.0) (take (length later.replies.items + 1) second))) same (then.broken clean shut);
       }

@@ -1,5 +1,5 @@
 -- Days of a book. Each opens what the stop before it left, in version 1 or in version 2, answers commands, and ends in a stop.
-use Rattle.std.specs.Prelude.{◌≡◌, ◌≢◌, ◌⊎◌, ℕ, ◌+◌, false, List, [], ◌∷◌, Result, Ok, Err, Some, IsSome, length, map, take, slice_get}
+use Rattle.std.specs.Prelude.{◌≡◌, ◌≢◌, ◌⊎◌, ℕ, ◌+◌, false, List, [], ◌∷◌, Result, Ok, Err, Some, length, map, take, slice_get}
 use Rattle.sqlite.specs.Tree.{Trees}
 use Rattle.profile.specs.declared.rules.Rules.TheVariants.{Two}
 use Rattle.profile.specs.Header.{Who}
@@ -14,6 +14,7 @@ use Rattle.store.specs.declared.fault.Fault.{Fault}
 use Rattle.store.specs.declared.fault.Fault.TheVariants.{NotThisBook}
 use Rattle.store.specs.declared.serving.Outcome.{Outcome}
 use Rattle.book_tables.specs.Carrying.{LeavesCarried}
+use Rattle.books.specs.Stopped.{MayBeThere}
 
 -- whatever was left stands for a register of the warehouse, in one version or the other
 abbrev pub AllCarried : (Trees → Type 0) → Who → Type 0
@@ -34,11 +35,11 @@ module _ (left : Trees → Type 0) (W : Who) (all : AllCarried left W) where
     pub stands : LeavesCarried W (all found was).0 db
 
 -- A day was answered on the register L and left the register M. So many of its commands count: those that were answered, and only
--- where there was a fault perhaps the next.
+-- where the fault was 40 or 41 perhaps the next.
 pub record IsAnswered (W : Who) (L : List Entry) (given : List (Command × Moment)) (day : Outcome) (M : List Entry) : Type 0 where
   pub replies : map told day.replies.items ≡ replies_on Two W L (take (length day.replies.items) given)
   pub kept : ℕ
-  pub which : (kept ≡ length day.replies.items) ⊎ (IsSome day.fault × (kept ≡ length day.replies.items + 1))
+  pub which : (kept ≡ length day.replies.items) ⊎ (MayBeThere day.fault × (kept ≡ length day.replies.items + 1))
   pub left : M ≡ accepted_on Two W L (take kept given)
 
 -- on a day on which the book wasn't opened nothing changed, and what was there was a book

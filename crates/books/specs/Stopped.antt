@@ -1,5 +1,5 @@
 -- What is opened where a process stopped, and what two runs come to on both sides of a stop.
-use Rattle.std.specs.Prelude.{◌≡◌, ◌⊎◌, ℕ, ◌+◌, true, false, List, length, map, take, slice_get, Some, IsSome, ◌<◌}
+use Rattle.std.specs.Prelude.{◌≡◌, ◌⊎◌, ℕ, ◌+◌, true, false, List, length, map, take, slice_get, Option, Some, ◌<◌}
 use Rattle.profile.specs.declared.rules.Rules.TheVariants.{Two}
 use Rattle.profile.specs.Moments.{Moment}
 use Rattle.profile.specs.Register.{Command, Entry}
@@ -8,6 +8,8 @@ use Rattle.profile.specs.Reply.{Accepted, Stored}
 use Rattle.store.specs.Again.{is_enrolment}
 use Rattle.store.specs.Runs.{told}
 use Rattle.store.specs.Standing.{Standing, IsUsable, LeavesEither}
+use Rattle.store.specs.declared.fault.Fault.{Fault}
+use Rattle.store.specs.declared.fault.Fault.TheVariants.{OutOfMemory, Store}
 use Rattle.store.specs.declared.serving.Outcome.{Outcome}
 
 -- the book is of the same warehouse, and usable for a register that a crash might leave
@@ -17,17 +19,21 @@ pub record IsReopened (old new : Standing) : Type 0 where
   pub left : old.left register
   pub usable : IsUsable new register
 
+-- the fault is one with which a commit can end that is there all the same: 40 of a statement, or 41
+abbrev pub MayBeThere : Option Fault → Type 0
+MayBeThere fault = (fault ≡ Some OutOfMemory) ⊎ (fault ≡ Some Store)
+
 -- The first commands were answered on the register L, up to a fault. So many of them count: those that were answered, and only
--- where there was a fault perhaps the next. The second ones are answered on the register of those.
+-- where the fault was 40 or 41 perhaps the next. The second ones are answered on the register of those.
 pub record Crosses (old new : Standing) (L : List Entry) (first second : List (Command × Moment)) (before later : Outcome) : Type 0 where
   pub answered : map told before.replies.items ≡ replies_on Two old.warehouse L (take (length before.replies.items) first)
   pub kept : ℕ
-  pub which : (kept ≡ length before.replies.items) ⊎ (IsSome before.fault × (kept ≡ length before.replies.items + 1))
+  pub which : (kept ≡ length before.replies.items) ⊎ (MayBeThere before.fault × (kept ≡ length before.replies.items + 1))
   pub warehouse : new.warehouse ≡ old.warehouse
   pub replies : map told later.replies.items ≡ replies_on Two old.warehouse (accepted_on Two old.warehouse L (take kept first)) (take (length later.replies.items) second)
   pub opened : new.shut ≡ false
       → IsUsable new (accepted_on Two old.warehouse (accepted_on Two old.warehouse L (take kept first)) (take (length later.replies.items) second))
-  pub broken : new.shut ≡ true → IsSome later.fault × LeavesEither new
+  pub broken : new.shut ≡ true → MayBeThere later.fault × LeavesEither new
       (accepted_on Two old.warehouse (accepted_on Two old.warehouse L (take kept first)) (take (length later.replies.items) second))
       (accepted_on Two old.warehouse (accepted_on Two old.warehouse L (take kept first)) (take (length later.replies.items + 1) second))
 

@@ -11,6 +11,6 @@ mod verifying;
 pub use book::Book;
 pub use book_tables::Tables;
 pub use crossing::across;
-pub use leaving::something_is_left;
+pub use leaving::{a_usable_book_is_reopened_whole, something_is_left};
 pub use passing::days;
 pub use reopening::reopened;

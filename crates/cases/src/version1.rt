@@ -4,6 +4,8 @@
 //! Each statement stands after `@` in a line. What stands below that line, if anything does, are the bytes that it has in
 //! place of its `?1`.
 
+use std::alloc::{AllocError, Global};
+
 /// The nine tables.
 pub const TABLES: &str = "\
 @CREATE TABLE book (version INTEGER NOT NULL, qualifier TEXT NOT NULL, id TEXT NOT NULL) STRICT
@@ -57,3 +59,36 @@ ISA*00*          *00*          *ZZ*ACME           *ZZ*WHSE1          *250304*091
 @INSERT INTO outgoing VALUES ('ZZ-ACME', 1, 'ANS', ?1, '-')
 ISA*00*          *00*          *ZZ*WHSE1          *ZZ*ACME           *250304*0915*U*00401*000000001*0*P*>~TA1*000000001*250304*0915*A*000~GS*FA*WHSE1*ACME*20250304*0915*1*X*004010~ST*997*0001~AK1*AR*1~AK2*943*0001~AK3*N9*4**8~AK4*4**3~AK5*R*5~AK9*R*1*1*0~SE*8*0001~GE*1*1~IEA*1*000000001~\
 ";
+
+// An order of 100 lines, of which the last is of goods that are there: what stands before its other
+// lines, and after them. A line break after a segment is no part of it.
+const ORDER_HEAD: &str = "\
+ISA*00*          *00*          *ZZ*ACME           *ZZ*WHSE1          *250304*0915*U*00401*000000002*0*P*>~GS*OW*ACME*WHSE1*20250304*0915*2*X*004010~ST*940*0001~W05*N*ORD1~";
+
+const ORDER_TAIL: &str = "\
+LX*1~W01*1*EA**SK*BOLT~W76*100~SE*204*0001~GE*1*2~IEA*1*000000002~";
+
+// How version 1 refused it, as a row: the hundredth LX is the 201st segment of the set.
+const ORDER_REFUSED: &str = "\
+@INSERT INTO outgoing VALUES ('ZZ-ACME', 3, 'ANS', ?1, '-')
+ISA*00*          *00*          *ZZ*WHSE1          *ZZ*ACME           *250304*0915*U*00401*000000003*0*P*>~GS*FA*WHSE1*ACME*20250304*0915*3*X*004010~ST*997*0001~AK1*OW*2~AK2*940*0001~AK3*LX*201**2~AK5*R*5~AK9*R*1*1*0~SE*7*0001~GE*1*3~IEA*1*000000003~\
+";
+
+/// An order of 100 lines, of which the last is of goods that are there. The error is want of memory.
+pub fn hundred_lines(alloc: Global) -> Result<String, AllocError> {
+    let mut text = String::new(alloc);
+    text.push_str(ORDER_HEAD)?;
+    for n in 0..99 {
+        let line = format!(in alloc; "LX*1~W01*1*EA**SK*ITEM-{n}~\n")?;
+        text.push_str(&line)?;
+    }
+    text.push_str(ORDER_TAIL)?;
+    Ok(text)
+}
+
+/// The rows of the book of three entries after that order, which was refused. The error is want of memory.
+pub fn with_lines(alloc: Global, order: &str) -> Result<String, AllocError> {
+    format!(in alloc;
+        "{COUNTED}@INSERT INTO entry VALUES (4, 'ZZ-ACME', 'X000000002', 3, '202503040915', ?1)\n{order}{ORDER_REFUSED}"
+    )
+}

@@ -1,8 +1,9 @@
 -- What may stand in a line of words, as `clap` reads commands, and what each line asks for.
-use Rattle.std.specs.Prelude.{◌≡◌, ℕ, Bool, true, false, List, [], ◌∷◌, ◌++◌, Option, Some, option_map, map, codes, bytes_eq}
+use Rattle.std.specs.Prelude.{◌≡◌, ℕ, Bool, true, false, ◌||◌, List, [], ◌∷◌, ◌++◌, Option, Some, None, is_some, option_map, codes, bytes_eq}
 use Rattle.std.specs.Borrow.{Bor}
 use Rattle.std.specs.Net.Grammar.{IsSocketText}
 use Rattle.std.specs.Option.{option_map_or}
+use Rattle.std.specs.declared.net.socket_addr.SocketAddr.{SocketAddr}
 use Rattle.clap.specs.Walk.{Row, Rule, Text, first_of}
 use Rattle.clap.specs.Simple.{App, Shape, new_rule, new_shape, with_subcommand, subcommand_of}
 use Rattle.clap.specs.declared.builder.action.ArgAction.TheVariants.{Set, SetTrue}
@@ -103,7 +104,7 @@ outbox_shape = subcommand (codes "outbox") (who_rule ∷ option_rule (codes "num
 
 abbrev pub serve_shape : Shape
 serve_shape = subcommand (codes "serve") (wanted_rule (codes "listen") ∷ wanted_rule (codes "count")
-    ∷ option_rule (codes "patience") ∷ flag_rule (codes "anyone") ∷ at_rule ∷ [])
+    ∷ option_rule (codes "patience") ∷ flag_rule (codes "anyone") ∷ flag_rule (codes "clerks") ∷ at_rule ∷ [])
 
 abbrev pub verify_shape : Shape
 verify_shape = subcommand (codes "verify") (at_rule ∷ [])
@@ -112,9 +113,27 @@ verify_shape = subcommand (codes "verify") (at_rule ∷ [])
 abbrev pub and_rule : Shape → Rule → Shape
 and_rule s r = record s { rules = s.rules ++ r ∷ [] }
 
--- a subcommand over the book in a file, which may be told how long to wait for one that is in use
+-- a subcommand over a book, which may be told how long to wait for one that is in use
+abbrev pub may_wait : Shape → Shape
+may_wait s = and_rule s (option_rule (codes "wait"))
+
+-- a subcommand over the book in a file
 abbrev pub over_book : Shape → Shape
-over_book s = and_rule (and_rule s (wanted_rule (codes "book"))) (option_rule (codes "wait"))
+over_book s = may_wait (and_rule s (wanted_rule (codes "book")))
+
+-- a subcommand over the book in a file, or over that of a running server
+abbrev pub over_either : Shape → Shape
+over_either s = and_rule (may_wait (and_rule s (option_rule (codes "book")))) (option_rule (codes "server"))
+
+-- a subcommand over the book in a file, as it stands at a place: a script has a book of its own
+abbrev pub over_at : Place → Shape → Shape
+over_at place.Program s = over_book s
+over_at place.Script s = s
+
+-- one that a running server may be asked for too
+abbrev pub either_at : Place → Shape → Shape
+either_at place.Program s = over_either s
+either_at place.Script s = s
 
 abbrev pub top_shape : Shape
 top_shape = record (new_shape (codes "whx12")) {
@@ -126,29 +145,29 @@ top_shape = record (new_shape (codes "whx12")) {
 }
 
 -- those that change a book, and those that show something of it
-abbrev pub act_subcommands : List Shape
-act_subcommands = enrol_shape ∷ roster_shape ∷ send_shape ∷ take_shape ∷ count_shape ∷ pick_shape ∷ recount_shape ∷ []
+abbrev pub act_subcommands : Place → List Shape
+act_subcommands p = over_at p enrol_shape ∷ over_at p roster_shape ∷ either_at p send_shape ∷ over_at p take_shape
+    ∷ either_at p count_shape ∷ either_at p pick_shape ∷ either_at p recount_shape ∷ []
 
-abbrev pub show_subcommands : List Shape
-show_subcommands = stock_shape ∷ orders_shape ∷ outbox_shape ∷ []
+abbrev pub show_subcommands : Place → List Shape
+show_subcommands p = either_at p stock_shape ∷ either_at p orders_shape ∷ either_at p outbox_shape ∷ []
+
+-- those that may stand in a script, as they stand at a place
+abbrev pub line_subcommands : Place → List Shape
+line_subcommands p = over_at p init_shape ∷ act_subcommands p ++ show_subcommands p
+
+-- with further subcommands
+abbrev pub with_all : App → List Shape → App
+with_all a [] = a
+with_all a (s ∷ ss) = with_all (with_subcommand a s) ss
 
 abbrev pub script_subcommands : List Shape
-script_subcommands = init_shape ∷ act_subcommands ++ show_subcommands
+script_subcommands = line_subcommands place.Script
 
--- the program has those of a script over the book in a file, and four of its own
+-- the program has those of a script, over the book in a file or a server's, and four of its own
 abbrev pub program_subcommands : List Shape
-program_subcommands = script_shape ∷ map over_book script_subcommands
+program_subcommands = script_shape ∷ line_subcommands place.Program
     ++ over_book batch_shape ∷ over_book serve_shape ∷ over_book verify_shape ∷ []
-
--- a subcommand as it stands at a place
-abbrev pub placed : Place → Shape → Shape
-placed place.Program s = over_book s
-placed place.Script s = s
-
--- with further subcommands, as they stand at a place
-abbrev pub with_all : Place → App → List Shape → App
-with_all p a [] = a
-with_all p a (s ∷ ss) = with_all p (with_subcommand a (placed p s)) ss
 
 -- the subcommands that may stand at a place
 abbrev pub subcommands_at : Place → List Shape
@@ -175,6 +194,14 @@ stands_first name (w ∷ ws) = bytes_eq w name
 -- the value under this name
 abbrev pub Has : List Row → Text → Text → Type 0
 Has rows id value = first_of id rows ≡ Some value
+
+-- no value is under this name
+abbrev pub Lacks : List Row → Text → Type 0
+Lacks rows id = first_of id rows ≡ None
+
+-- whether the line has this option without a value
+abbrev pub has_flag : List Row → Text → Bool
+has_flag rows id = option_map_or (λ text. bytes_eq text (codes "true")) (first_of id rows) false
 
 -- the moment that the line says is this one, or it says none
 abbrev pub SaysMoment : List Row → Option Moment → Type 0
@@ -211,15 +238,21 @@ SaysAct f (act.Clerk t) = (f.0 ≡ deed_name t.deed) × SaysTold f.1 t
 
 abbrev pub SaysShow : Found → Show → Type 0
 SaysShow f (show.Stock who is_csv) = (f.0 ≡ codes "stock") × Has f.1 (codes "who") who.now
-    × (is_csv ≡ option_map_or (λ text. bytes_eq text (codes "true")) (first_of (codes "csv") f.1) false)
+    × (is_csv ≡ has_flag f.1 (codes "csv"))
 SaysShow f (show.Order who number) = (f.0 ≡ codes "orders") × Has f.1 (codes "who") who.now × Has f.1 (codes "number") number.now
 SaysShow f (show.Outbox who number) = (f.0 ≡ codes "outbox") × Has f.1 (codes "who") who.now × SaysNumber f.1 number
 
 -- an address is written as std's grammar has it: an IP address, a colon and a port
+abbrev pub SaysAddress : List Row → Text → SocketAddr → Type 0
+SaysAddress rows id address = (text : Text) × Has rows id text × IsSocketText text address
+
+-- how many connections the line says
+abbrev pub SaysCount : List Row → ℕ → Type 0
+SaysCount rows count = (text : Text) × Has rows (codes "count") text × (count_of text ≡ Some count)
+
 abbrev pub SaysService : List Row → Service → Type 0
-SaysService rows s = ((text : Text) × Has rows (codes "listen") text × IsSocketText text s.address)
-    × ((text : Text) × Has rows (codes "count") text × (count_of text ≡ Some s.count))
-    × SaysPatience rows s.patience
+SaysService rows s = SaysAddress rows (codes "listen") s.address
+    × SaysCount rows s.count × SaysPatience rows s.patience × (s.clerks ≡ has_flag rows (codes "clerks"))
 
 abbrev pub SaysTask : Found → Task → Type 0
 SaysTask f (task.Init who) = (f.0 ≡ codes "init") × Has f.1 (codes "who") who.now
@@ -237,7 +270,30 @@ SaysBook rows book = first_of (codes "book") rows ≡ option_map (λ b. b.now) b
 abbrev pub SaysWait : List Row → Option ℕ → Type 0
 SaysWait rows seconds = option_map wait_of (first_of (codes "wait") rows) ≡ option_map Some seconds
 
--- the line asks for this
-abbrev pub Says : Found → Words → Type 0
-Says f (words.Script file) = (f.0 ≡ codes "script") × Has f.1 (codes "file") file.now
-Says f (words.Over book wait t) = SaysBook f.1 book × SaysWait f.1 wait × SaysTask f t
+-- a line of the program names a book, where it asks no server; a script has its own
+abbrev pub has_book : Place → Option (Bor Text) → Bool
+has_book place.Program book = is_some book
+has_book place.Script book = true
+
+-- the line names the server at this address, or none
+abbrev pub SaysServer : List Row → Option SocketAddr → Type 0
+SaysServer rows (Some address) = SaysAddress rows (codes "server") address
+SaysServer rows None = Lacks rows (codes "server")
+
+-- the book is the server's, and so are the moment and how long a book is waited for
+abbrev pub LeavesToServer : List Row → Type 0
+LeavesToServer rows = Lacks rows (codes "book") × Lacks rows (codes "at") × Lacks rows (codes "wait")
+
+-- the subcommands that a running server may be asked for
+abbrev pub takes_server : Text → Bool
+takes_server name = bytes_eq name (codes "send") || (bytes_eq name (codes "count") || (bytes_eq name (codes "pick")
+    || (bytes_eq name (codes "recount") || (bytes_eq name (codes "stock") || (bytes_eq name (codes "orders")
+    || bytes_eq name (codes "outbox"))))))
+
+-- the line, at this place, asks for this
+abbrev pub Says : Place → Found → Words → Type 0
+Says p f (words.Script file) = (f.0 ≡ codes "script") × Has f.1 (codes "file") file.now
+Says p f (words.Over book wait t) = SaysBook f.1 book × (has_book p book ≡ true) × SaysServer f.1 None
+    × SaysWait f.1 wait × SaysTask f t
+Says p f (words.Remote server t) = SaysServer f.1 (Some server) × LeavesToServer f.1
+    × (takes_server f.0 ≡ true) × SaysTask f t

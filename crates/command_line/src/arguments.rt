@@ -209,17 +209,16 @@ pub(crate) fn join<'a>(
     parser?.subcommand(command?)
 }
 
-// With the file of the book, and how long it is waited for.
-fn with_book<'a>(
+// What the help says of the file of a book.
+const BOOK_HELP: &str = "The file with the book";
+
+// With how long a book that is in use is waited for.
+fn with_wait<'a>(
     alloc: Global,
     command: Result<Command<'a>, AllocError>,
 ) -> Result<Command<'a>, AllocError>
-    ensures { (s : Shape) → IfOk command.entry (IsCommand s) → IfOk result (IsCommand (meant.over_book s)) }
+    ensures { (s : Shape) → IfOk command.entry (IsCommand s) → IfOk result (IsCommand (meant.may_wait s)) }
 {
-    let command = with(
-        command,
-        wanted(alloc, "book", "BOOK", "The file with the book"),
-    );
     with(
         command,
         option(
@@ -231,7 +230,38 @@ fn with_book<'a>(
     )
 }
 
-/// With a subcommand more, as it stands at the place: the program's are over the book in a file.
+// With the file of the book, and how long it is waited for.
+fn with_book<'a>(
+    alloc: Global,
+    command: Result<Command<'a>, AllocError>,
+) -> Result<Command<'a>, AllocError>
+    ensures { (s : Shape) → IfOk command.entry (IsCommand s) → IfOk result (IsCommand (meant.over_book s)) }
+{
+    let command = with(command, wanted(alloc, "book", "BOOK", BOOK_HELP));
+    with_wait(alloc, command)
+}
+
+// With the file of the book and how long it is waited for, or the address of a server that has the book.
+fn with_either<'a>(
+    alloc: Global,
+    command: Result<Command<'a>, AllocError>,
+) -> Result<Command<'a>, AllocError>
+    ensures { (s : Shape) → IfOk command.entry (IsCommand s) → IfOk result (IsCommand (meant.over_either s)) }
+{
+    let command = with(command, option(alloc, "book", "BOOK", BOOK_HELP));
+    let command = with_wait(alloc, command);
+    with(
+        command,
+        option(
+            alloc,
+            "server",
+            "ADDR",
+            "The address of a server that has the book, as 127.0.0.1:8080",
+        ),
+    )
+}
+
+/// With a subcommand more, as it stands at the place: the program's is over the book in a file.
 pub(crate) fn join_at<'a>(
     alloc: Global,
     place: Place,
@@ -239,10 +269,26 @@ pub(crate) fn join_at<'a>(
     command: Result<Command<'a>, AllocError>,
 ) -> Result<Command<'a>, AllocError>
     ensures { (a : App) (s : Shape) → IfOk parser.entry (λ c. app_of c ≡ a) → IfOk command.entry (IsCommand s)
-        → IfOk result (λ c. app_of c ≡ meant.with_all place a (s ∷ [])) }
+        → IfOk result (λ c. app_of c ≡ with_subcommand a (meant.over_at place s)) }
 {
     match place {
         Place::Program => join(parser, with_book(alloc, command)),
+        Place::Script => join(parser, command),
+    }
+}
+
+/// With a subcommand more, as it stands at the place: a running server may be asked for the program's too.
+pub(crate) fn join_either_at<'a>(
+    alloc: Global,
+    place: Place,
+    parser: Result<Command<'a>, AllocError>,
+    command: Result<Command<'a>, AllocError>,
+) -> Result<Command<'a>, AllocError>
+    ensures { (a : App) (s : Shape) → IfOk parser.entry (λ c. app_of c ≡ a) → IfOk command.entry (IsCommand s)
+        → IfOk result (λ c. app_of c ≡ with_subcommand a (meant.either_at place s)) }
+{
+    match place {
+        Place::Program => join(parser, with_either(alloc, command)),
         Place::Script => join(parser, command),
     }
 }

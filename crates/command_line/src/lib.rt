@@ -7,6 +7,7 @@ mod moments;
 mod numbers;
 mod reading;
 mod subcommands;
+mod values;
 mod words;
 
 pub use reading::line;

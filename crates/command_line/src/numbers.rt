@@ -1,5 +1,5 @@
 //! Numbers as the words of a line write them.
-ghost use Rattle.std.specs.Prelude.{◌≡◌};
+ghost use Rattle.std.specs.Prelude.{◌≡◌, ◌<◌, ◌≤◌, IfSome};
 ghost use Rattle.command_line.specs.Written as written;
 
 use profile::MOST_ENTRIES;
@@ -9,18 +9,31 @@ use segments::{all_digits, value_up_to};
 pub(crate) const MILLION: u64 = 1_000_000;
 
 // The most connections that a server may be told to serve, and the most seconds that something may be told to wait.
-const MOST_CONNECTIONS: u64 = 65_535;
+const MOST_CONNECTIONS: u32 = 65_535;
+
+// The number from 1 to a limit that the text writes: digits alone, with zeros in front or without;
+// None where it is another text.
+fn number_to(most: u32, text: &[u8]) -> Option<u32>
+    requires { most < 1000000 }
+    ensures number { result ≡ written.number_to most text.now }
+    ensures within { IfSome result (λ number. number ≤ most) }
+{
+    let number = value_up_to(text, MILLION);
+    if all_digits(text) && number >= 1 && number <= u64::from(most) {
+        Some(number as u32)
+    } else {
+        None
+    }
+}
 
 /// How many connections the text writes: digits alone, with zeros in front or without; None where it is another text, 0, or
 /// over 65535.
 pub fn count_of(text: &[u8]) -> Option<u16>
     ensures { result ≡ written.count_of text.now }
 {
-    let number = value_up_to(text, MILLION);
-    if all_digits(text) && number >= 1 && number <= MOST_CONNECTIONS {
-        Some(number as u16)
-    } else {
-        None
+    match number_to(MOST_CONNECTIONS, text) {
+        Some(number) => Some(number as u16),
+        None => None,
     }
 }
 
@@ -30,7 +43,7 @@ pub fn wait_of(text: &[u8]) -> Option<u16>
     ensures { result ≡ written.wait_of text.now }
 {
     let number = value_up_to(text, MILLION);
-    if !text.is_empty() && all_digits(text) && number <= MOST_CONNECTIONS {
+    if !text.is_empty() && all_digits(text) && number <= u64::from(MOST_CONNECTIONS) {
         Some(number as u16)
     } else {
         None
@@ -42,10 +55,5 @@ pub fn wait_of(text: &[u8]) -> Option<u16>
 pub fn number_of(text: &[u8]) -> Option<u32>
     ensures { result ≡ written.number_of text.now }
 {
-    let number = value_up_to(text, MILLION);
-    if all_digits(text) && number >= 1 && number <= u64::from(MOST_ENTRIES) {
-        Some(number as u32)
-    } else {
-        None
-    }
+    number_to(MOST_ENTRIES, text)
 }

@@ -5,8 +5,8 @@ ghost use Rattle.command_line.specs.Lines as meant;
 ghost use Rattle.command_line.specs.Parsers.{IsCommand};
 
 use crate::arguments::{
-    at, described, flag, join, join_at, of_clerk, of_depositor, option, order, subcommand, value,
-    wanted, with, with_at, with_sheet,
+    at, described, flag, join, join_at, join_either_at, of_clerk, of_depositor, option, order,
+    subcommand, value, wanted, with, with_at, with_sheet,
 };
 use crate::words::Place;
 use clap::Command;
@@ -91,8 +91,8 @@ fn send<'a>(alloc: Global) -> Result<Command<'a>, AllocError>
         alloc,
         "send",
         "Hands in an interchange as it came, and prints the answer to send back",
-        "whx12 send FILE --book BOOK [--at MOMENT]",
-        "Example: whx12 send advice.x12 --book harbor.book\n\nThe same bytes sent again get the same answer, and nothing is taken twice.",
+        "whx12 send FILE (--book BOOK [--at MOMENT] | --server ADDR)",
+        "Example: whx12 send advice.x12 --book harbor.book\nExample: whx12 send advice.x12 --server 127.0.0.1:8080\n\nThe same bytes sent again get the same answer, and nothing is taken twice.",
         value(alloc, "file", "FILE", "The file with the interchange"),
     );
     with_at(alloc, command)
@@ -119,8 +119,8 @@ fn count<'a>(alloc: Global) -> Result<Command<'a>, AllocError>
         alloc,
         "count",
         "Tells what came in for an advice, closes it, and prints its receipt (944)",
-        "whx12 count WHO TICKET SHIPMENT SHEET --book BOOK [--at MOMENT]",
-        "Example: whx12 count ZZ-ACME CNT-0412 SHP1 count.csv --book harbor.book\n\nwhere count.csv is\n  BOLT,LOT-7,90\n  NUT,LOT-2,0\nWhat was announced and isn't in the sheet is missing: an empty sheet closes the advice with nothing on hand.",
+        "whx12 count WHO TICKET SHIPMENT SHEET (--book BOOK [--at MOMENT] | --server ADDR)",
+        "Example: whx12 count ZZ-ACME CNT-0412 SHP1 count.csv --book harbor.book\nExample: whx12 count ZZ-ACME CNT-0412 SHP1 count.csv --server 127.0.0.1:8080\n\nwhere count.csv is\n  BOLT,LOT-7,90\n  NUT,LOT-2,0\nWhat was announced and isn't in the sheet is missing: an empty sheet closes the advice with nothing on hand.",
     );
     let command = with(
         command,
@@ -141,8 +141,8 @@ fn pick<'a>(alloc: Global) -> Result<Command<'a>, AllocError>
         alloc,
         "pick",
         "Tells what was picked for an order, closes it, and prints its shipping advice (945)",
-        "whx12 pick WHO TICKET ORDER SHEET --book BOOK [--at MOMENT]",
-        "Example: whx12 pick ZZ-ACME PCK-0231 ORD1 pick.csv --book harbor.book\n\nwhere pick.csv is\n  BOLT,LOT-7,60\nNo more of a lot can be picked than the order has reserved. An empty file says that nothing was picked.",
+        "whx12 pick WHO TICKET ORDER SHEET (--book BOOK [--at MOMENT] | --server ADDR)",
+        "Example: whx12 pick ZZ-ACME PCK-0231 ORD1 pick.csv --book harbor.book\nExample: whx12 pick ZZ-ACME PCK-0231 ORD1 pick.csv --server 127.0.0.1:8080\n\nwhere pick.csv is\n  BOLT,LOT-7,60\nNo more of a lot can be picked than the order has reserved. An empty file says that nothing was picked.",
     );
     let command = with(command, order(alloc));
     with_sheet(alloc, command)
@@ -155,8 +155,8 @@ fn recount<'a>(alloc: Global) -> Result<Command<'a>, AllocError>
         alloc,
         "recount",
         "Sets what is on hand of each lot of the sheet, and prints the adjustment (947)",
-        "whx12 recount WHO TICKET SHEET --book BOOK [--at MOMENT]",
-        "Example: whx12 recount ZZ-ACME REC-0009 recount.csv --book harbor.book\n\nwhere recount.csv is\n  BOLT,LOT-7,28\nAt least one line has to differ from what is on hand.",
+        "whx12 recount WHO TICKET SHEET (--book BOOK [--at MOMENT] | --server ADDR)",
+        "Example: whx12 recount ZZ-ACME REC-0009 recount.csv --book harbor.book\nExample: whx12 recount ZZ-ACME REC-0009 recount.csv --server 127.0.0.1:8080\n\nwhere recount.csv is\n  BOLT,LOT-7,28\nAt least one line has to differ from what is on hand.",
     );
     with_sheet(alloc, command)
 }
@@ -168,8 +168,8 @@ fn stock<'a>(alloc: Global) -> Result<Command<'a>, AllocError>
         alloc,
         "stock",
         "Prints what a depositor has, a line for each item and lot",
-        "whx12 stock WHO [--csv] --book BOOK",
-        "Example: whx12 stock ZZ-ACME --book harbor.book\nExample: whx12 stock ZZ-ACME --csv --book harbor.book",
+        "whx12 stock WHO [--csv] (--book BOOK | --server ADDR)",
+        "Example: whx12 stock ZZ-ACME --book harbor.book\nExample: whx12 stock ZZ-ACME --csv --book harbor.book\nExample: whx12 stock ZZ-ACME --server 127.0.0.1:8080",
     );
     let command = with(
         command,
@@ -185,8 +185,8 @@ fn orders<'a>(alloc: Global) -> Result<Command<'a>, AllocError>
         alloc,
         "orders",
         "Prints the picking sheet of an open order",
-        "whx12 orders WHO ORDER --book BOOK",
-        "Example: whx12 orders ZZ-ACME ORD1 --book harbor.book",
+        "whx12 orders WHO ORDER (--book BOOK | --server ADDR)",
+        "Example: whx12 orders ZZ-ACME ORD1 --book harbor.book\nExample: whx12 orders ZZ-ACME ORD1 --server 127.0.0.1:8080",
     );
     let command = with(command, order(alloc));
     with_at(alloc, command)
@@ -199,8 +199,8 @@ fn outbox<'a>(alloc: Global) -> Result<Command<'a>, AllocError>
         alloc,
         "outbox",
         "Lists what went out to a depositor, or prints one of those texts again",
-        "whx12 outbox WHO [--number N] --book BOOK",
-        "Example: whx12 outbox ZZ-ACME --book harbor.book\nExample: whx12 outbox ZZ-ACME --number 4 --book harbor.book\n\nIn the list ANS is an answer; of a document it says whether the depositor took it: open, accepted or refused.",
+        "whx12 outbox WHO [--number N] (--book BOOK | --server ADDR)",
+        "Example: whx12 outbox ZZ-ACME --book harbor.book\nExample: whx12 outbox ZZ-ACME --number 4 --book harbor.book\nExample: whx12 outbox ZZ-ACME --server 127.0.0.1:8080\n\nIn the list ANS is an answer; of a document it says whether the depositor took it: open, accepted or refused.",
     );
     let command = with(
         command,
@@ -223,8 +223,8 @@ fn serve_wanted<'a>(alloc: Global) -> Result<Command<'a>, AllocError>
         alloc,
         "serve",
         "Serves the book over HTTP, one connection after the other",
-        "whx12 serve --listen ADDR --count N [--patience SECONDS] [--anyone] --book BOOK [--at MOMENT]",
-        "Example: whx12 serve --book harbor.book --listen 127.0.0.1:8080 --count 1000\n\nA depositor posts its interchanges to /x12. GET /stock/ZZ-ACME shows stock, /outbox/ZZ-ACME what went out. Printed is the\nstatus of each response, or: fault 44 Device. While it serves, no other command can open the book.",
+        "whx12 serve --listen ADDR --count N [--patience SECONDS] [--anyone] [--clerks] --book BOOK [--at MOMENT]",
+        "Example: whx12 serve --book harbor.book --listen 127.0.0.1:8080 --count 1000\n\nA depositor posts its interchanges to /x12. GET /stock/ZZ-ACME shows stock, /outbox/ZZ-ACME what went out. Printed is the\nstatus of each response, or: fault 44 Device. While it serves, no other command can open the book; where it\nhas --clerks, those with --server ask it instead.",
         wanted(
             alloc,
             "listen",
@@ -264,6 +264,14 @@ fn serve<'a>(alloc: Global) -> Result<Command<'a>, AllocError>
             "Listens at an address that other machines reach: whoever reaches it may post",
         ),
     );
+    let command = with(
+        command,
+        flag(
+            alloc,
+            "clerks",
+            "Takes counts, picks, recounts and picking sheets too, for commands with --server",
+        ),
+    );
     with_at(alloc, command)
 }
 
@@ -287,15 +295,15 @@ fn with_acts<'a>(
     parser: Result<Command<'a>, AllocError>,
 ) -> Result<Command<'a>, AllocError>
     ensures { (a : App) → IfOk parser.entry (λ c. app_of c ≡ a)
-        → IfOk result (λ c. app_of c ≡ meant.with_all place a meant.act_subcommands) }
+        → IfOk result (λ c. app_of c ≡ meant.with_all a (meant.act_subcommands place)) }
 {
     let parser = join_at(alloc, place, parser, enrol(alloc));
     let parser = join_at(alloc, place, parser, roster(alloc));
-    let parser = join_at(alloc, place, parser, send(alloc));
+    let parser = join_either_at(alloc, place, parser, send(alloc));
     let parser = join_at(alloc, place, parser, take(alloc));
-    let parser = join_at(alloc, place, parser, count(alloc));
-    let parser = join_at(alloc, place, parser, pick(alloc));
-    join_at(alloc, place, parser, recount(alloc))
+    let parser = join_either_at(alloc, place, parser, count(alloc));
+    let parser = join_either_at(alloc, place, parser, pick(alloc));
+    join_either_at(alloc, place, parser, recount(alloc))
 }
 
 // With the subcommands that show something of the book.
@@ -305,11 +313,11 @@ fn with_shows<'a>(
     parser: Result<Command<'a>, AllocError>,
 ) -> Result<Command<'a>, AllocError>
     ensures { (a : App) → IfOk parser.entry (λ c. app_of c ≡ a)
-        → IfOk result (λ c. app_of c ≡ meant.with_all place a meant.show_subcommands) }
+        → IfOk result (λ c. app_of c ≡ meant.with_all a (meant.show_subcommands place)) }
 {
-    let parser = join_at(alloc, place, parser, stock(alloc));
-    let parser = join_at(alloc, place, parser, orders(alloc));
-    join_at(alloc, place, parser, outbox(alloc))
+    let parser = join_either_at(alloc, place, parser, stock(alloc));
+    let parser = join_either_at(alloc, place, parser, orders(alloc));
+    join_either_at(alloc, place, parser, outbox(alloc))
 }
 
 // With the subcommands that may stand in a script, as they stand at the place.
@@ -319,7 +327,7 @@ fn with_lines<'a>(
     parser: Result<Command<'a>, AllocError>,
 ) -> Result<Command<'a>, AllocError>
     ensures { (a : App) → IfOk parser.entry (λ c. app_of c ≡ a)
-        → IfOk result (λ c. app_of c ≡ meant.with_all place a meant.script_subcommands) }
+        → IfOk result (λ c. app_of c ≡ meant.with_all a (meant.line_subcommands place)) }
 {
     let parser = join_at(alloc, place, parser, init(alloc));
     let parser = with_acts(alloc, place, parser);

@@ -29,6 +29,14 @@ pub enum Words<'a> {
         /// What is done.
         task: Task<'a>,
     },
+    /// Ask a running server for something.
+    Remote {
+        /// The IP address and port that it listens at.
+        server: SocketAddr,
+        /// What is done, at no moment that the line says: `send`, `count`, `pick`, `recount`, `stock`,
+        /// `orders` or `outbox`.
+        task: Task<'a>,
+    },
 }
 
 /// What is done over a book.
@@ -73,6 +81,8 @@ pub struct Service {
     pub count: u16,
     /// How many seconds a request is waited for, and again its response, 1 to 65535, if the line says it.
     pub patience: Option<u16>,
+    /// Whether clerks' requests are taken too.
+    pub clerks: bool,
 }
 
 /// What changes a book.

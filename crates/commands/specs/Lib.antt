@@ -9,3 +9,4 @@ pub mod Looking
 pub mod Takes
 pub mod Enrolling
 pub mod Clock
+pub mod Serving

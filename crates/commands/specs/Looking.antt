@@ -69,3 +69,4 @@ IsTaskDone old new other before behind ending = IsLeft old new before behind end
 abbrev pub IsLineDone : Standing → Standing → Words → Option (List ℕ) → Option (List ℕ) → Ending → Type 0
 IsLineDone old new (words.Over book wait t) before behind ending = IsTaskDone old new t before behind ending
 IsLineDone old new (words.Script file) before behind ending = IsLeft old new before behind ending
+IsLineDone old new (words.Remote server t) before behind ending = IsLeft old new before behind ending

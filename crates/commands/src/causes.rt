@@ -87,7 +87,7 @@ pub fn about_use(alloc: Global, book: &str) -> CommandError
         alloc,
         Fault::Device,
         book,
-        " is in use: is a server running? Stop it first, or wait longer by --wait SECONDS",
+        " is in use: is a server running? Ask it by --server ADDR, or wait longer by --wait SECONDS",
     )
 }
 
@@ -159,6 +159,21 @@ pub fn about_address(alloc: Global, address: &SocketAddr, error: io::Error) -> C
             &address,
             " can't be listened at: is a server running there?",
         ),
+        Err(_) => CommandError::Fault(fault),
+    }
+}
+
+/// The fault of a server that doesn't serve what it is asked for, with its address and what is said of it.
+pub fn about_server(
+    alloc: Global,
+    server: &SocketAddr,
+    fault: Fault,
+    said: &'static str,
+) -> CommandError
+    ensures { fault_in result ≡ Some fault }
+{
+    match server.to_string(alloc) {
+        Ok(server) => caused_of(alloc, fault, &server, said),
         Err(_) => CommandError::Fault(fault),
     }
 }

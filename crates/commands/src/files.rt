@@ -6,7 +6,7 @@ use crate::told::CommandError;
 use intake::read_first;
 use std::rt::Files;
 
-/// The most bytes of a sheet: its 99 lines need fewer than 8,192.
+/// The most bytes of a sheet: its 999 lines need fewer than 65,536.
 pub const MOST_SHEET: u32 = 1_048_576;
 
 /// The most bytes of a list of depositors.

@@ -18,7 +18,9 @@ mod told;
 mod verbosity;
 
 pub use acts::{Ready, perform, ready_at};
-pub use causes::{about_book, about_line, about_missing, about_opening, about_use};
+pub use causes::{
+    about_book, about_file, about_line, about_missing, about_opening, about_server, about_use,
+};
 pub use clock::moment_for;
 pub use command_line::Service;
 pub use reasons::tell_reason;
@@ -26,6 +28,6 @@ pub use script::{play_over, read_lines, run_script};
 pub use served_files::ServedFile;
 pub use serving::{serve, serve_on};
 pub use shows::{Asked, ask, show};
-pub use slips::Slip;
-pub use told::{CommandError, ExitStatus, tell_refusal, tell_stop, usage};
+pub use slips::{Slip, sheet_text_of};
+pub use told::{CommandError, ExitStatus, tell_refusal, tell_stop, tell_text, usage};
 pub use verbosity::Verbosity;

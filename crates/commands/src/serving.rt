@@ -1,5 +1,6 @@
 //! A book served over HTTP.
 ghost use Rattle.std.specs.Prelude.{◌≡◌, unwrap_or};
+ghost use Rattle.commands.specs.Serving as meant;
 
 use crate::causes::{about_address, about_replaced};
 use crate::clock::now;
@@ -8,7 +9,7 @@ use crate::told::{CommandError, ExitStatus};
 use crate::verbosity::Verbosity;
 use command_line::Service;
 use http::StatusCode;
-use intake::{Connection, Patience, RequestLine, serve_within};
+use intake::{Audience, Connection, Patience, RequestLine, serve_within};
 use std::io;
 use std::net::TcpListener;
 use std::time::Duration;
@@ -26,6 +27,17 @@ fn patience_of<'a>(rt: &'a HostRuntime, service: &Service) -> Patience<'a, HostR
     Patience {
         timer: rt,
         limit: Duration::from_secs(u64::from(seconds)),
+    }
+}
+
+// Whose requests a service takes.
+fn audience_of(service: &Service) -> Audience
+    ensures { result ≡ meant.audience_of service.now.clerks }
+{
+    if service.clerks {
+        Audience::Clerks
+    } else {
+        Audience::Partners
     }
 }
 
@@ -130,6 +142,7 @@ pub fn serve_on<K: Keeper, A: FnMut() -> bool, W: io::Write, E: io::Write>(
         listener,
         service.count,
         book,
+        audience_of(service),
         || {
             if has_clock {
                 last = moment_behind(rt, last);

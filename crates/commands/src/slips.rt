@@ -1,23 +1,22 @@
 //! What clerks did, with their sheets.
-ghost use Rattle.std.specs.Prelude.{◌≡◌, true, IsTrue, Ok, Err, IfOk, IfErr};
+ghost use Rattle.std.specs.Prelude.{◌≡◌, List, true, IsTrue, Some, Ok, IfOk, IfSome};
 ghost use Rattle.profile.specs.declared.rules.Rules.TheVariants.{Two};
 ghost use Rattle.profile.specs.Accepted.{is_command};
-ghost use Rattle.profile.specs.Clerk.{is_sheet};
+ghost use Rattle.profile.specs.Header.{Who as Partner};
+ghost use Rattle.profile.specs.Means.{Line};
 ghost use Rattle.sheets.specs.Kinds.{kind_of};
 ghost use Rattle.sheet_texts.specs.Texts.{sheet_of_text};
-ghost use Rattle.rules.specs.Asked.{asked, act_of as asked_act};
-ghost use Rattle.rules.specs.Told.{refusal_of as named_refusal};
+ghost use Rattle.rules.specs.Asked.{asked};
 ghost use Rattle.commands.specs.Clerks as meant;
-ghost use Rattle.commands.specs.Clerks.{IsSlipOf, act_of, command_of, depositor_of};
+ghost use Rattle.commands.specs.Clerks.{IsSlipOf, command_of, depositor_of};
 
 use crate::files::{MOST_SHEET, read_within};
 use crate::told::CommandError;
 use command_line::{ClerkWords, Deed};
+use intake::{act_of, sheet_in};
 use profile::{MOST_NUMBER, MOST_TICKET};
-use sheet_texts::sheet;
-use std::alloc::{AllocError, Global};
 use std::rt::Files;
-use store::{Act, Command, Ident, Refusal, Sheet, SheetKind, Who};
+use store::{Command, Ident, Refusal, Sheet, SheetKind, Who};
 
 /// What a clerk did, with its sheet: its command can be given.
 #[derive(Drop)]
@@ -51,27 +50,27 @@ pub(crate) fn sheet_kind(deed: Deed) -> SheetKind
     }
 }
 
-// The refusal of a sheet by its number.
-fn refusal_of(number: u8) -> Refusal
-    ensures { named_refusal result ≡ meant.sheet_refusal number }
-{
-    match number {
-        30 => Refusal::TooMuch,
-        31 => Refusal::RepeatedLine,
-        33 => Refusal::TooManyLines,
-        _ => Refusal::BadText,
-    }
+// A depositor that a clerk's words name, and the text of their sheet.
+#[derive(Drop)]
+struct Read {
+    who: Who,
+    text: Vec<u8>,
 }
 
-// The sheet of a deed in a text, or why it makes none.
-fn sheet_in(alloc: Global, deed: Deed, text: &[u8]) -> Result<Result<Sheet, Refusal>, AllocError>
-    ensures ok { IfOk result (λ made. IfOk made (λ sheet. sheet_of_text Two (meant.kind_of deed) text.now ≡ Ok sheet)) }
-    ensures kind { IfOk result (λ made. IfOk made (λ sheet. is_sheet Two (meant.kind_of deed) sheet ≡ true)) }
-    ensures err { IfOk result (λ made. IfErr made (λ refusal. sheet_of_text Two (meant.kind_of deed) text.now ≡ Err (named_refusal refusal))) }
+// Tests a clerk's words, and reads the file with their sheet. Refused is 32, a word that can't be read or a sheet that is too long; a
+// file that can't be read is Device (44).
+fn read_slip<R: Files + AllocGlobal>(
+    rt: &R,
+    told: &ClerkWords<'_>,
+) -> Result<Option<Read>, CommandError>
+    ensures { IfOk result (λ found. IfSome found (λ read. depositor_of told.now ≡ Some read.who)) }
 {
-    match sheet(alloc, sheet_kind(deed), text)? {
-        Ok(sheet) => Ok(Ok(sheet)),
-        Err(number) => Ok(Err(refusal_of(number))),
+    let Some(who) = depositor(told) else {
+        return Ok(None);
+    };
+    match read_within(rt, told.sheet, MOST_SHEET)? {
+        Some(text) => Ok(Some(Read { who, text })),
+        None => Ok(None),
     }
 }
 
@@ -83,13 +82,10 @@ pub fn slip_of<'a, R: Files + AllocGlobal>(
 ) -> Result<Result<Slip<'a>, Refusal>, CommandError>
     ensures { IfOk result (λ made. IfOk made (λ slip. IsSlipOf told.now slip.who slip.told slip.sheet)) }
 {
-    let Some(who) = depositor(told) else {
+    let Some(Read { who, text }) = read_slip(rt, told)? else {
         return Ok(Err(Refusal::BadText));
     };
-    let Some(text) = read_within(rt, told.sheet, MOST_SHEET)? else {
-        return Ok(Err(Refusal::BadText));
-    };
-    match sheet_in(rt.alloc(), told.deed, &text)? {
+    match sheet_in(rt.alloc(), sheet_kind(told.deed), &text)? {
         Ok(sheet) => Ok(Ok(Slip {
             who,
             told: *told,
@@ -99,20 +95,21 @@ pub fn slip_of<'a, R: Files + AllocGlobal>(
     }
 }
 
-// The act, with its sheet.
-fn act<'a>(deed: Deed, number: &'a [u8], sheet: &'a Sheet) -> Act<'a>
-    ensures { asked_act result ≡ act_of deed number.now sheet.now }
+/// The text of a clerk's sheet, tested as `slip_of` tests it, for a server that reads it again.
+pub fn sheet_text_of<R: Files + AllocGlobal>(
+    rt: &R,
+    told: &ClerkWords<'_>,
+) -> Result<Result<Vec<u8>, Refusal>, CommandError>
+    ensures { IfOk result (λ made. IfOk made (λ text. (who : Partner) × (sheet : List Line)
+        × (depositor_of told.now ≡ Some who)
+        × (sheet_of_text Two (meant.kind_of told.now.deed) text.items ≡ Ok sheet))) }
 {
-    match deed {
-        Deed::Count => Act::Count {
-            shipment: number,
-            sheet,
-        },
-        Deed::Pick => Act::Pick {
-            order: number,
-            sheet,
-        },
-        Deed::Recount => Act::Recount { sheet },
+    let Some(Read { text, .. }) = read_slip(rt, told)? else {
+        return Ok(Err(Refusal::BadText));
+    };
+    match sheet_in(rt.alloc(), sheet_kind(told.deed), &text)? {
+        Ok(_) => Ok(Ok(text)),
+        Err(refusal) => Ok(Err(refusal)),
     }
 }
 
@@ -125,6 +122,6 @@ pub fn clerk<'a>(slip: &'a Slip<'_>) -> Command<'a>
     Command::Clerk {
         who: slip.who,
         ticket: told.ticket.as_bytes(),
-        act: act(told.deed, told.number.as_bytes(), &slip.sheet),
+        act: act_of(sheet_kind(told.deed), told.number.as_bytes(), &slip.sheet),
     }
 }

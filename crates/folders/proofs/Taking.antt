@@ -1,7 +1,9 @@
 -- Files that are taken one after the other.
-use Rattle.std.proofs.Common.{◌≡◌, ◌∙◌, sym, refl, ap, subst, ℕ, true, false, List, [], ◌∷◌, ◌++◌, length, map, ◌⊎◌, inl, inr, Result, Ok, Err, IfErr}
+use Rattle.std.proofs.Common.{◌≡◌, ◌∙◌, sym, refl, ap, subst, ℕ, true, false, List, [], ◌∷◌, ◌++◌, String, Global, length, map, ◌⊎◌, inl, inr, Result, Ok, Err, IfErr}
 use Rattle.std.specs.Result.{IsErr, IsErrAnd}
-use Rattle.std.proofs.lemmas.List.{length-append, map-append}
+use Rattle.std.proofs.lemmas.List.{length-append, map-append, append-nil}
+use Rattle.std.specs.Prelude.{IsSorted}
+use Rattle.std.specs.String.{string_cmp}
 use Rattle.profile.specs.declared.rules.Rules.TheVariants.{Two}
 use Rattle.profile.specs.Header.{Who}
 use Rattle.profile.specs.Moments.{Moment}
@@ -205,3 +207,21 @@ pub one_more : (xs ys zs : List Taken) (file : Taken) (texts : List (List ℕ)) 
     → length zs ≡ length (texts ++ text ∷ [])
 one_more xs ys zs file texts text kept grown counted =
     ap length (grown ∙ ap (λ (ts : List Taken). ts ++ file ∷ []) kept) ∙ simp length-append (rw counted refl)
+
+-- one name goes over from those that are to come to those that were taken
+names_on : (files : List Taken) (file : Taken) (more : List (String Global)) → map (λ f. f.name) (files ++ file ∷ []) ++ more ≡ map (λ f. f.name) files ++ file.name ∷ more
+names_on [] file more = refl
+names_on (f ∷ files) file more = ap (λ (ns : List (String Global)). f.name ∷ ns) (names_on files file more)
+
+pub still_rising : (files kept grown : List Taken) (file : Taken) (rest more : List (String Global)) → kept ≡ files → grown ≡ kept ++ file ∷ [] → rest ≡ file.name ∷ more
+    → IsSorted string_cmp (map (λ f. f.name) files ++ rest) → IsSorted string_cmp (map (λ f. f.name) grown ++ more)
+still_rising files kept grown file rest more same is next sorted =
+    let all : map (λ f. f.name) grown ++ more ≡ map (λ f. f.name) files ++ rest =
+    ap (λ (fs : List Taken). map (λ f. f.name) fs ++ more) (is ∙ ap (λ (fs : List Taken). fs ++ file ∷ []) same) ∙ names_on files file more
+    ∙ ap (λ (ns : List (String Global)). map (λ f. f.name) files ++ ns) (sym next) in
+    subst (IsSorted string_cmp) (sym all) sorted
+
+-- of none are there none
+pub none_left : (files : List Taken) (rest : List (String Global)) → length rest ≡ 0 → IsSorted string_cmp (map (λ f. f.name) files ++ rest) → IsSorted string_cmp (map (λ f. f.name) files)
+none_left files [] e sorted = subst (IsSorted string_cmp) (append-nil (map (λ f. f.name) files)) sorted
+none_left files (n ∷ rest) e sorted = absurd (cc)

@@ -1,4 +1,4 @@
-ghost use Rattle.std.specs.Prelude.{◌≡◌, ◌<◌, ◌∷◌, [], ℕ, List, false, map, IfOk, IfErr, IfNone, OnOk, vec_len, vec_capacity};
+ghost use Rattle.std.specs.Prelude.{◌≡◌, ◌<◌, ◌∷◌, ◌++◌, [], ℕ, List, false, map, IfOk, IfErr, IfNone, OnOk, IsSorted, codes, string_bytes, vec_len, vec_capacity};
 ghost use Rattle.folders.specs.Folders.{became, became_of, IsDeviceFault, AreTaken, IsUntaken, IsStopped};
 ghost use Rattle.folders.specs.Stops.{IsUnread, IsFolderStop};
 ghost use Rattle.store.specs.Runs.{told};
@@ -122,7 +122,8 @@ fn listing_of<R: Files + AllocGlobal + Clone + Drop>(
     rt: &R,
     dir: &str,
 ) -> Result<Listing, FolderStop>
-    ensures { IfErr result IsUnread }
+    ensures sorted { IfOk result (λ listing. IsSorted ⟦<String as Ord>⟧.cmp listing.names.items) }
+    ensures unread { IfErr result IsUnread }
 {
     match listed(rt, dir) {
         Ok(listing) => Ok(listing),
@@ -135,8 +136,10 @@ fn listing_of<R: Files + AllocGlobal + Clone + Drop>(
 }
 
 // The path of a file in a folder.
-fn path_in<R: AllocGlobal>(rt: &R, dir: &str, name: &str) -> Result<String, AllocError> {
-    format!(in rt.alloc(); "{dir}/{name}")
+fn path_in<'a, R: AllocGlobal>(rt: &R, dir: &'a str, name: &'a str) -> Result<String, AllocError>
+    ensures { IfOk result (λ path. string_bytes path ≡ dir.now ++ codes "/" ++ name.now) }
+{
+    [dir, "/", name].concat(rt.alloc())
 }
 
 // Takes the file of this name once there is room to tell what became of it, so that nothing can fail after it is taken.
@@ -179,6 +182,7 @@ pub fn take_folder_telling<R: Files + AllocGlobal + Clone + Drop, K: Keeper, T: 
 ) -> Result<TakenFolder, FolderStop>
     requires told { T.IsAlwaysCallable told }
     ensures taken { IfOk result (λ folder. (texts : List (List ℕ)) × AreTaken (K.standing keeper.old) (K.standing keeper.new) moment texts (map (λ file. became_of file.outcome) folder.files.items)) }
+    ensures rising { IfOk result (λ folder. IsSorted ⟦<String as Ord>⟧.cmp (map (λ file. file.name) folder.files.items)) }
     ensures stopped { IfErr result (λ stop. IsFolderStop stop (K.standing keeper.old) (K.standing keeper.new) moment) }
     ensures unread { IfErr result (λ stop. IfNone stop.at (IsUnchanged (K.standing keeper.old) (K.standing keeper.new))) }
     ensures opened { OnOk result ((K.standing keeper.old).shut ≡ (K.standing keeper.new).shut) }
@@ -211,6 +215,7 @@ pub fn take_folder<R: Files + AllocGlobal + Clone + Drop, K: Keeper>(
     moment: Moment,
 ) -> Result<Vec<Taken>, Fault>
     ensures taken { IfOk result (λ files. (texts : List (List ℕ)) × AreTaken (K.standing keeper.old) (K.standing keeper.new) moment texts (map (λ file. became_of file.outcome) files.items)) }
+    ensures rising { IfOk result (λ files. IsSorted ⟦<String as Ord>⟧.cmp (map (λ file. file.name) files.items)) }
     ensures stopped { IfErr result (λ fault. IsStopped fault (K.standing keeper.old) (K.standing keeper.new) moment) }
     ensures opened { OnOk result ((K.standing keeper.old).shut ≡ (K.standing keeper.new).shut) }
     ensures goes { GoesOn (K.standing keeper.old) (K.standing keeper.new) }

@@ -1,4 +1,6 @@
 //! Which entries of a folder are interchanges.
+ghost use Rattle.std.specs.Prelude.{IfOk, IsSorted};
+
 use crate::passing::{PassedOver, WhyPassed, is_interchange, why_passed};
 use std::rt::Files;
 use std::{fs, io};
@@ -64,7 +66,9 @@ fn place<R: Files + AllocGlobal + Drop>(
 /// what ends so and is passed over: a folder, a pipe, a socket, a device, a link that leads to no file, and a name of more than
 /// 251 bytes, to which `.ans` can't be added. An entry whose name isn't UTF-8 is passed over too, however it ends. Other entries
 /// are no interchanges, and nothing is said of them.
-pub fn listed<R: Files + AllocGlobal + Clone + Drop>(rt: &R, dir: &str) -> io::Result<Listing> {
+pub fn listed<R: Files + AllocGlobal + Clone + Drop>(rt: &R, dir: &str) -> io::Result<Listing>
+    ensures sorted { IfOk result (λ listing. IsSorted ⟦<String as Ord>⟧.cmp listing.names.items) }
+{
     let mut listing = Listing {
         names: Vec::new(rt.alloc()),
         passed: Vec::new(rt.alloc()),

@@ -2,7 +2,7 @@
 use Rattle.std.proofs.Common.{◌≡◌, ℕ, List, Bool, true, false, refl, Option, Some, None, subst, inl, inr, if◌then◌else◌}
 use Rattle.profile.specs.declared.rules.Rules.TheVariants.{Two}
 use Rattle.profile.specs.Moments.{Moment}
-use Rattle.profile.specs.Register.{Entry, Interchange}
+use Rattle.profile.specs.Register.{Command, Entry, Interchange}
 use Rattle.profile.specs.Accepted.{IsLegal, is_accepted, reply_to, after}
 use Rattle.profile.specs.Response.{Response, Method, Route, is_exchange, resp, fault_response}
 use Rattle.store.specs.Faults.{fault_of}
@@ -10,58 +10,60 @@ use Rattle.store.specs.Standing.{Standing, IsUsable, IsUnchanged, IsFault, Leave
 use Rattle.store.specs.declared.fault.Fault.{Fault}
 use Rattle.store.specs.declared.fault.Fault.TheVariants.{OutOfMemory}
 use Rattle.store.proofs.Changes.{unchanged_refl, leaves_first}
-use Rattle.intake.specs.Serving.{handed_in, IsAnswered}
+use Rattle.intake.specs.Serving.{IsAnswered}
+use Rattle.intake.specs.Targets.{handed_in}
 
 pub none_handed_in : (m : Method) (r : Route) (body : List ℕ) → handed_in m r body ≡ None → is_exchange m r ≡ false
 none_handed_in m r body e = by (is_exchange m r) e
   where
-    by : (b : Bool) → (if b then Some body else None) ≡ None → b ≡ false
+    by : (b : Bool) → (if b then Some (Interchange body) else None) ≡ None → b ≡ false
     by true e = cc
     by false e = refl
 
-pub some_handed_in : (m : Method) (r : Route) (body text : List ℕ) → handed_in m r body ≡ Some text → (is_exchange m r ≡ true) × (body ≡ text)
-some_handed_in m r body text e = by (is_exchange m r) e
+pub some_handed_in : (m : Method) (r : Route) (body : List ℕ) (c : Command) → handed_in m r body ≡ Some c → (is_exchange m r ≡ true) × (Interchange body ≡ c)
+some_handed_in m r body c e = by (is_exchange m r) e
   where
-    by : (b : Bool) → (if b then Some body else None) ≡ Some text → (b ≡ true) × (body ≡ text)
+    by : (b : Bool) → (if b then Some (Interchange body) else None) ≡ Some c → (b ≡ true) × (Interchange body ≡ c)
     by true e = (refl, cc)
     by false e = cc
 
+module _ (old new : Standing) (t : Moment) where
+  abbrev pub Taken : Command → Type 0
+  Taken c = new.doubt ≡ 0 → (L : List Entry) → IsUsable old L → IsUsable new (after Two old.warehouse L (c, t))
+
+  abbrev pub Repeated : Command → Type 0
+  Repeated c = new.doubt ≡ 0 → (L : List Entry) → old.keeps L → IsLegal Two old.warehouse L
+      → is_accepted (reply_to Two old.warehouse L c t) ≡ false → IsUnchanged old new
+
+  abbrev pub Left : Command → Type 0
+  Left c = new.doubt ≡ 0 → (L : List Entry) → IsUsable old L → LeavesEither new L (after Two old.warehouse L (c, t))
+
 module _ (old new : Standing) (t : Moment) (m : Method) (r : Route) (body : List ℕ) where
-  abbrev pub Taken : List ℕ → Type 0
-  Taken text = new.doubt ≡ 0 → (L : List Entry) → IsUsable old L → IsUsable new (after Two old.warehouse L (Interchange text, t))
-
-  abbrev pub Repeated : List ℕ → Type 0
-  Repeated text = new.doubt ≡ 0 → (L : List Entry) → old.keeps L → IsLegal Two old.warehouse L
-      → is_accepted (reply_to Two old.warehouse L (Interchange text) t) ≡ false → IsUnchanged old new
-
-  abbrev pub Left : List ℕ → Type 0
-  Left text = new.doubt ≡ 0 → (L : List Entry) → IsUsable old L → LeavesEither new L (after Two old.warehouse L (Interchange text, t))
-
   pub served : (answer : Response) → (new.doubt ≡ 0 → (L : List Entry) → old.keeps L → IsLegal Two old.warehouse L → answer ≡ resp Two old.warehouse L m r body t)
-      → (is_exchange m r ≡ false → IsUnchanged old new) → (is_exchange m r ≡ true → Taken body) → (is_exchange m r ≡ true → Repeated body)
+      → (is_exchange m r ≡ false → IsUnchanged old new) → (is_exchange m r ≡ true → Taken old new t (Interchange body)) → (is_exchange m r ≡ true → Repeated old new t (Interchange body))
       → (is_exchange m r ≡ true → new.shut ≡ false) → IsAnswered old new t (handed_in m r body) (λ L. resp Two old.warehouse L m r body t) answer
   served answer response kept taken repeated opened = inl (record {
     response = response;
     kept = λ e. kept (none_handed_in m r body e);
-    taken = λ text e. let is = some_handed_in m r body text e in subst Taken is.1 (taken is.0);
-    repeated = λ text e. let is = some_handed_in m r body text e in subst Repeated is.1 (repeated is.0);
-    opened = λ text e. opened ((some_handed_in m r body text e).0);
+    taken = λ c e. let is = some_handed_in m r body c e in subst (Taken old new t) is.1 (taken is.0);
+    repeated = λ c e. let is = some_handed_in m r body c e in subst (Repeated old new t) is.1 (repeated is.0);
+    opened = λ c e. opened ((some_handed_in m r body c e).0);
   })
 
   pub faulted : (answer : Response) (fault : Fault) (meant : List Entry → Response) → answer ≡ fault_response (fault_of fault) → IsFault fault old new
-      → (is_exchange m r ≡ false → IsUnchanged old new) → (is_exchange m r ≡ true → Left body) → IsAnswered old new t (handed_in m r body) meant answer
+      → (is_exchange m r ≡ false → IsUnchanged old new) → (is_exchange m r ≡ true → Left old new t (Interchange body)) → IsAnswered old new t (handed_in m r body) meant answer
   faulted answer fault meant response why kept left = inr (record {
     fault = fault;
     response = response;
     why = why;
     kept = λ e. kept (none_handed_in m r body e);
-    left = λ text e. let is = some_handed_in m r body text e in subst Left is.1 (left is.0);
+    left = λ c e. let is = some_handed_in m r body c e in subst (Left old new t) is.1 (left is.0);
   })
 
 -- where memory is wanting and nothing was done
-pub no_memory : (s : Standing) (t : Moment) (body : Option (List ℕ)) (meant : List Entry → Response) (answer : Response)
-    → answer ≡ fault_response (fault_of OutOfMemory) → IsAnswered s s t body meant answer
-no_memory s t body meant answer response = inr (record {
+pub no_memory : (s : Standing) (t : Moment) (submits : Option Command) (meant : List Entry → Response) (answer : Response)
+    → answer ≡ fault_response (fault_of OutOfMemory) → IsAnswered s s t submits meant answer
+no_memory s t submits meant answer response = inr (record {
   fault = OutOfMemory;
   response = response;
   why = record {
@@ -70,5 +72,5 @@ no_memory s t body meant answer response = inr (record {
     why = record { store = λ e. cc; reopen = λ e. cc; not_this = λ e clean L keeps. cc; device = λ e. cc };
   };
   kept = λ e. unchanged_refl s;
-  left = λ text e clean L u. leaves_first s L (after Two s.warehouse L (Interchange text, t)) u;
+  left = λ c e clean L u. leaves_first s L (after Two s.warehouse L (c, t)) u;
 })

@@ -1,108 +1,124 @@
 -- the response by each of the tests
-use Rattle.std.proofs.Common.{◌≡◌, ℕ, ◌<◌, ◌≤◌, List, [], ◌++◌, take, drop, Option, Some, None, IfSome, Result, Err, Ok, sym, length, ◌∙◌, refl, true, false, unwrap_or, nat_lt, arith, ap, subst, inl}
+use Rattle.std.proofs.Common.{◌≡◌, ℕ, ◌<◌, ◌≤◌, List, [], ◌++◌, take, drop, Option, Some, None, IfSome, Err, Ok, sym, length, ◌∙◌, refl, true, false, unwrap_or, nat_lt, arith, ap, subst, inl}
 use Rattle.std.proofs.lemmas.Bool.Decides.{nat_tests}
 use Rattle.std.specs.Io.KnownBytes.{Consumes}
 use Rattle.httparse.specs.Grammar.{RequestHead}
 use Rattle.httparse.specs.Spans.{IsRequestWithin, IsRequestAt}
 use Rattle.httparse.specs.declared.spans.HeaderSpan.{HeaderSpan}
 use Rattle.httparse.specs.declared.spans.RequestSpans.{RequestSpans}
-use Rattle.profile.specs.declared.rules.Rules.TheVariants.{Two}
 use Rattle.profile.specs.Moments.{Moment}
-use Rattle.profile.specs.Response.{Response, Method, Route, Head, bare, is_exchange, stated_length, asked, submitted_by, response_of, resp, fault_response}
+use Rattle.profile.specs.Register.{Entry}
+use Rattle.profile.specs.Response.{Response, Method, Head, bare, stated_length, fault_response}
 use Rattle.store.specs.Faults.{fault_of}
 use Rattle.store.specs.Standing.{Standing}
 use Rattle.store.specs.declared.fault.Fault.TheVariants.{OutOfMemory}
 use Rattle.store.proofs.Changes.{unchanged_refl}
 use Rattle.intake.specs.Fields.{head_of}
 use Rattle.intake.specs.Lines.{IsLineAt, TellsOf, HasLine}
+use Rattle.intake.specs.declared.audience.Audience.{Audience}
+use Rattle.intake.specs.declared.audience.Audience.TheVariants.{Partners, Clerks}
 use Rattle.intake.specs.declared.served.RequestLine.{RequestLine}
 use Rattle.intake.specs.Requests.{IsInput, HasNoHead}
-use Rattle.intake.specs.Serving.{handed_in, IsAnswered, IsExchange, IsExchangeBehind}
+use Rattle.intake.specs.Serving.{IsAnswered, IsExchange, IsExchangeBehind, command_in, answer_of}
+use Rattle.intake.specs.Targets.{Target, target_of, target_command, target_resp, has_body, asked_with}
 use Rattle.intake.proofs.Heads.{head_within}
 use Rattle.intake.proofs.Filling.{own_input, had_input, more_input}
+use Rattle.intake.proofs.Aimed.{to_request}
 use Rattle.intake.proofs.Answered.{no_memory}
 
 -- what is asked for, by each of the tests
-module _ (h : Head) (rest : List ℕ) where
-  asked_encoded : h.is_encoded ≡ true → asked (Some h) rest ≡ Err 501
+module _ (h : Head) (to : Target) (rest : List ℕ) where
+  asked_encoded : h.is_encoded ≡ true → asked_with h to rest ≡ Err 501
   asked_encoded e = rw e refl
 
-  asked_else : h.is_encoded ≡ false → is_exchange h.method h.route ≡ false → asked (Some h) rest ≡ Ok (h, [])
+  asked_else : h.is_encoded ≡ false → has_body h.method to ≡ false → asked_with h to rest ≡ Ok []
   asked_else e x = rw (e, x) refl
 
-  asked_badly : (status : ℕ) → h.is_encoded ≡ false → is_exchange h.method h.route ≡ true → stated_length h.lengths ≡ Err status → asked (Some h) rest ≡ Err status
+  asked_badly : (status : ℕ) → h.is_encoded ≡ false → has_body h.method to ≡ true → stated_length h.lengths ≡ Err status → asked_with h to rest ≡ Err status
   asked_badly status e x l = rw (e, x, l) refl
 
-  asked_cut_off : (n : ℕ) → h.is_encoded ≡ false → is_exchange h.method h.route ≡ true → stated_length h.lengths ≡ Ok n → length rest < n → asked (Some h) rest ≡ Err 400
+  asked_cut_off : (n : ℕ) → h.is_encoded ≡ false → has_body h.method to ≡ true → stated_length h.lengths ≡ Ok n → length rest < n → asked_with h to rest ≡ Err 400
   asked_cut_off n e x l short =
       let t : nat_lt (length rest) n ≡ true = grind (arith, nat_tests) in
       rw (e, x, l, t) refl
 
-  asked_whole : (n : ℕ) → h.is_encoded ≡ false → is_exchange h.method h.route ≡ true → stated_length h.lengths ≡ Ok n → n ≤ length rest → asked (Some h) rest ≡ Ok (h, take n rest)
+  asked_whole : (n : ℕ) → h.is_encoded ≡ false → has_body h.method to ≡ true → stated_length h.lengths ≡ Ok n → n ≤ length rest → asked_with h to rest ≡ Ok (take n rest)
   asked_whole n e x l fits =
       let t : nat_lt (length rest) n ≡ false = grind (arith, nat_tests) in
       rw (e, x, l, t) refl
 
--- an answer to what is asked for
-abbrev Answers : Standing → Standing → Moment → Response → Result (Head × List ℕ) ℕ → Type 0
-Answers old new t r q = IsAnswered old new t (submitted_by q) (λ L. response_of Two old.warehouse L t q) r
-
-at_error : (s : Standing) (t : Moment) (r : Response) (status : ℕ) → r ≡ bare status → Answers s s t r (Err status)
-at_error s t r status is = inl (record {
+-- a response that was not asked of the book
+at_error : (s : Standing) (t : Moment) (meant r : Response) → r ≡ meant → IsAnswered s s t None (λ L. meant) r
+at_error s t meant r is = inl (record {
   response = λ clean L keeps legal. is;
   kept = λ e. unchanged_refl s;
-  taken = λ text e. cc;
-  repeated = λ text e. cc;
-  opened = λ text e. cc;
+  taken = λ c e. cc;
+  repeated = λ c e. cc;
+  opened = λ c e. cc;
 })
 
-module _ (known : Option (List ℕ)) (t : Moment) (h : Head) (start : List ℕ) (r : Response) where
+module _ (audience : Audience) (known : Option (List ℕ)) (t : Moment) (h : RequestHead) (start : List ℕ) (r : Response) where
   -- by a test that fails before the book is asked
   module _ (s : Standing) where
-    at_test : (input : List ℕ) (status : ℕ) → IsInput known input → asked (Some h) (start ++ input) ≡ Err status → r ≡ bare status → IsExchangeBehind s s known t h start r
-    at_test input status i q is = record { input = input; is_input = i; answered = subst (Answers s s t r) (sym q) (at_error s t r status is) }
+    at_test : (input : List ℕ) (status : ℕ) → IsInput known input → asked_with (head_of h) (target_of audience h.target) (start ++ input) ≡ Err status → r ≡ bare status
+        → IsExchangeBehind audience s s known t h start r
+    at_test input status i q is = record {
+      input = input;
+      is_input = i;
+      answered = to_request s s t r audience h (start ++ input) (Err status) q (at_error s t (bare status) r is);
+    }
 
-    pub encoded : h.is_encoded ≡ true → r ≡ bare 501 → IsExchangeBehind s s known t h start r
-    encoded e is = at_test (unwrap_or known []) 501 (own_input known) (asked_encoded h _ e) is
+    pub encoded : (head_of h).is_encoded ≡ true → r ≡ bare 501 → IsExchangeBehind audience s s known t h start r
+    encoded e is = at_test (unwrap_or known []) 501 (own_input known) (asked_encoded (head_of h) _ _ e) is
 
-    pub refused : (status : ℕ) → h.is_encoded ≡ false → is_exchange h.method h.route ≡ true → stated_length h.lengths ≡ Err status → r ≡ bare status → IsExchangeBehind s s known t h start r
-    refused status e x l is = at_test (unwrap_or known []) status (own_input known) (asked_badly h _ status e x l) is
+    pub refused : (status : ℕ) → (head_of h).is_encoded ≡ false → has_body (head_of h).method (target_of audience h.target) ≡ true
+        → stated_length (head_of h).lengths ≡ Err status → r ≡ bare status → IsExchangeBehind audience s s known t h start r
+    refused status e x l is = at_test (unwrap_or known []) status (own_input known) (asked_badly (head_of h) _ _ status e x l) is
 
-    pub cut_off : (n : ℕ) (input tail : List ℕ) → tail ≡ start → IsInput known input → h.is_encoded ≡ false → is_exchange h.method h.route ≡ true → stated_length h.lengths ≡ Ok n
-        → length (tail ++ input) < n → r ≡ bare 400 → IsExchangeBehind s s known t h start r
+    pub cut_off : (n : ℕ) (input tail : List ℕ) → tail ≡ start → IsInput known input → (head_of h).is_encoded ≡ false
+        → has_body (head_of h).method (target_of audience h.target) ≡ true → stated_length (head_of h).lengths ≡ Ok n
+        → length (tail ++ input) < n → r ≡ bare 400 → IsExchangeBehind audience s s known t h start r
     cut_off n input tail same i e x l short is =
-        at_test input 400 i (asked_cut_off h _ n e x l (subst (λ (b : List ℕ). length (b ++ input) < n) same short)) is
+        at_test input 400 i (asked_cut_off (head_of h) _ _ n e x l (subst (λ (b : List ℕ). length (b ++ input) < n) same short)) is
 
     -- where memory is wanting
-    pub wanting : r ≡ fault_response (fault_of OutOfMemory) → IsExchangeBehind s s known t h start r
+    pub wanting : r ≡ fault_response (fault_of OutOfMemory) → IsExchangeBehind audience s s known t h start r
     wanting is = record { input = unwrap_or known []; is_input = own_input known; answered = no_memory s t _ _ r is }
 
   -- by the book
   module _ (old new : Standing) where
-    pub queried : h.is_encoded ≡ false → is_exchange h.method h.route ≡ false
-        → IsAnswered old new t (handed_in h.method h.route []) (λ L. resp Two old.warehouse L h.method h.route [] t) r → IsExchangeBehind old new known t h start r
+    -- an answer to a request with this body
+    abbrev pub Told : List ℕ → Type 0
+    Told body = IsAnswered old new t (target_command (head_of h).method (target_of audience h.target) body)
+        (λ L. target_resp old.warehouse L (head_of h).method (target_of audience h.target) body t) r
+
+    pub queried : (head_of h).is_encoded ≡ false → has_body (head_of h).method (target_of audience h.target) ≡ false → Told []
+        → IsExchangeBehind audience old new known t h start r
     queried e x is = record {
       input = unwrap_or known [];
       is_input = own_input known;
-      answered = subst (Answers old new t r) (sym (asked_else h (start ++ unwrap_or known []) e x)) is;
+      answered = to_request old new t r audience h (start ++ unwrap_or known []) (Ok []) (asked_else (head_of h) _ (start ++ unwrap_or known []) e x) is;
     }
 
-    pub handed : (n : ℕ) (input body tail : List ℕ) → tail ≡ start → IsInput known input → h.is_encoded ≡ false → is_exchange h.method h.route ≡ true → stated_length h.lengths ≡ Ok n
-        → n ≤ length (tail ++ input) → body ≡ take n (tail ++ input)
-        → IsAnswered old new t (handed_in h.method h.route body) (λ L. resp Two old.warehouse L h.method h.route body t) r → IsExchangeBehind old new known t h start r
+    pub handed : (n : ℕ) (input body tail : List ℕ) → tail ≡ start → IsInput known input → (head_of h).is_encoded ≡ false
+        → has_body (head_of h).method (target_of audience h.target) ≡ true → stated_length (head_of h).lengths ≡ Ok n
+        → n ≤ length (tail ++ input) → body ≡ take n (tail ++ input) → Told body → IsExchangeBehind audience old new known t h start r
     handed n input body tail same i e x l fits b is =
-        let q : asked (Some h) (start ++ input) ≡ Ok (h, body) =
-        asked_whole h (start ++ input) n e x l (subst (λ (k : List ℕ). n ≤ length (k ++ input)) same fits)
-        ∙ ap (λ (k : List ℕ). Ok (h, k)) (sym (b ∙ ap (λ (k : List ℕ). take n (k ++ input)) same)) in
-        record { input = input; is_input = i; answered = subst (Answers old new t r) (sym q) is }
+        let q : asked_with (head_of h) (target_of audience h.target) (start ++ input) ≡ Ok body =
+        asked_whole (head_of h) _ (start ++ input) n e x l (subst (λ (k : List ℕ). n ≤ length (k ++ input)) same fits)
+        ∙ ap (λ (k : List ℕ). Ok k) (sym (b ∙ ap (λ (k : List ℕ). take n (k ++ input)) same)) in
+        record { input = input; is_input = i; answered = to_request old new t r audience h (start ++ input) (Ok body) q is }
 
--- an answer by a method and a route is one by those of the head
-pub at_head : (old new : Standing) (t : Moment) (h : Head) (m : Method) (to : Route) (body : List ℕ) (r : Response) → h.method ≡ m → h.route ≡ to
-    → IsAnswered old new t (handed_in m to body) (λ L. resp Two old.warehouse L m to body t) r
-    → IsAnswered old new t (handed_in h.method h.route body) (λ L. resp Two old.warehouse L h.method h.route body t) r
-at_head old new t h m to body r e f is =
-    subst (λ (k : Method). IsAnswered old new t (handed_in k h.route body) (λ L. resp Two old.warehouse L k h.route body t) r) (sym e)
-    (subst (λ (k : Route). IsAnswered old new t (handed_in m k body) (λ L. resp Two old.warehouse L m k body t) r) (sym f) is)
+-- an answer by a method and a target is one by those of the head
+pub at_head : (audience : Audience) (old new : Standing) (t : Moment) (h : RequestHead) (m : Method) (to : Target) (body : List ℕ) (r : Response)
+    → (head_of h).method ≡ m → target_of audience h.target ≡ to
+    → IsAnswered old new t (target_command m to body) (λ L. target_resp old.warehouse L m to body t) r
+    → IsAnswered old new t (target_command (head_of h).method (target_of audience h.target) body)
+    (λ L. target_resp old.warehouse L (head_of h).method (target_of audience h.target) body t) r
+at_head audience old new t h m to body r e f is =
+    let at : Target = target_of audience h.target in
+    subst (λ (k : Method). IsAnswered old new t (target_command k at body) (λ (L : List Entry). target_resp old.warehouse L k at body t) r) (sym e)
+    (subst (λ (k : Target). IsAnswered old new t (target_command m k body) (λ (L : List Entry). target_resp old.warehouse L m k body t) r) (sym f) is)
 
 -- what the spans cover are the method and the path of the head
 told_of : (line : Option RequestLine) (got : List ℕ) (fields : List HeaderSpan) (spans : RequestSpans) (h : RequestHead)
@@ -125,10 +141,10 @@ line_read (Some line) known mid got fields spans h room many within at bytes cop
 }
 
 -- the answer to a head is the answer to the input that begins with it
-pub whole_answer : (old new : Standing) (t : Moment) (known mid : Option (List ℕ)) (got : List ℕ) (fields : List HeaderSpan) (spans : RequestSpans) (h : RequestHead) (r : Response) (line : Option RequestLine)
+pub whole_answer : (audience : Audience) (old new : Standing) (t : Moment) (known mid : Option (List ℕ)) (got : List ℕ) (fields : List HeaderSpan) (spans : RequestSpans) (h : RequestHead) (r : Response) (line : Option RequestLine)
     → length got ≤ 8192 → length fields ≤ 32 → IsRequestWithin got fields spans → IsRequestAt got fields spans h → Consumes known mid got → IfSome line (IsLineAt got spans)
-    → IsExchangeBehind old new mid t (head_of h) (drop spans.len got) r → IsExchange old new known t r line
-whole_answer old new t known mid got fields spans h r line room many within at bytes copied answer = record {
+    → IsExchangeBehind audience old new mid t h (drop spans.len got) r → IsExchange audience old new known t r line
+whole_answer audience old new t known mid got fields spans h r line room many within at bytes copied answer = record {
   input = got ++ answer.input;
   is_input = more_input known mid got answer.input bytes answer.is_input;
   head = Some h;
@@ -138,14 +154,20 @@ whole_answer old new t known mid got fields spans h r line room many within at b
   answered = answer.answered;
 }
 
-pub headless_answer : (s : Standing) (t : Moment) (known mid : Option (List ℕ)) (got : List ℕ) (r : Response)
-    → Consumes known mid got → HasNoHead (got ++ unwrap_or mid []) → r ≡ bare 400 → IsExchange s s known t r None
-headless_answer s t known mid got r bytes none is = record {
+-- no head, whoever is served
+headless : (audience : Audience) (s : Standing) (t : Moment) (r : Response) → r ≡ bare 400
+    → IsAnswered s s t (command_in audience None []) (λ L. answer_of audience s.warehouse L None [] t) r
+headless Partners s t r is = at_error s t (bare 400) r is
+headless Clerks s t r is = at_error s t (bare 400) r is
+
+pub headless_answer : (audience : Audience) (s : Standing) (t : Moment) (known mid : Option (List ℕ)) (got : List ℕ) (r : Response)
+    → Consumes known mid got → HasNoHead (got ++ unwrap_or mid []) → r ≡ bare 400 → IsExchange audience s s known t r None
+headless_answer audience s t known mid got r bytes none is = record {
   input = got ++ unwrap_or mid [];
   is_input = had_input known mid got bytes;
   head = None;
   rest = [];
   begins = none;
   told = tt;
-  answered = at_error s t r 400 is;
+  answered = headless audience s t r is;
 }

@@ -9,6 +9,10 @@ pub mod Replied
 pub mod Found
 pub mod Posted
 pub mod Answered
+pub mod Aimed
 pub mod Answering
+pub mod Called
+pub mod RowsCalls
 pub mod Beginnings
+pub mod Whole
 pub mod Told

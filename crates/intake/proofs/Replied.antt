@@ -13,6 +13,7 @@ use Rattle.store.specs.declared.fault.Fault.{Fault}
 use Rattle.store.specs.declared.fault.Fault.TheVariants.{OutOfMemory, Store, Reopen, NotThisBook, Device}
 use Rattle.store.specs.declared.serving.Reply.{Reply}
 use Rattle.store.specs.declared.serving.Reply.TheVariants.{Accepted, Stored, Refused}
+use Rattle.intake.specs.Calls.{deed_refused}
 use Rattle.intake.specs.Told.{refusal_line, fault_line}
 
 pub fault_line_is : (f : Fault) → fault_line f ≡ meant.told_fault (fault_of f) ++ codes "\n"
@@ -26,6 +27,40 @@ fault_line_is Device = refl
 pub unreadable_line : refusal_line Unreadable ≡ meant.told_refusal meant.Unreadable ++ codes "\n"
 unfolding digits
 unreadable_line = refl
+
+pub bad_text_line : refusal_line BadText ≡ meant.told_refusal meant.BadText ++ codes "\n"
+unfolding digits
+bad_text_line = refl
+
+pub stranger_line : refusal_line UnknownDepositor ≡ meant.told_refusal meant.UnknownDepositor ++ codes "\n"
+unfolding digits
+stranger_line = refl
+
+pub ticket_line : refusal_line TicketUsed ≡ meant.told_refusal meant.TicketUsed ++ codes "\n"
+unfolding digits
+ticket_line = refl
+
+-- any but these two are told of a deed as of an interchange
+pub deed_otherwise : (r : Refusal) (text : List ℕ) → r ≢ UnknownDepositor → r ≢ TicketUsed → refused_response (refusal_of r) text ≡ deed_refused (refusal_of r) text
+deed_otherwise Unreadable text a b = refl
+deed_otherwise (Note code) text a b = refl
+deed_otherwise Duplicate text a b = refl
+deed_otherwise UnknownDepositor text a b = absurd (a refl)
+deed_otherwise TicketUsed text a b = absurd (b refl)
+deed_otherwise UnknownAdvice text a b = refl
+deed_otherwise AdviceClosed text a b = refl
+deed_otherwise UnknownOrder text a b = refl
+deed_otherwise OrderClosed text a b = refl
+deed_otherwise NotReserved text a b = refl
+deed_otherwise UnknownLot text a b = refl
+deed_otherwise BelowReserved text a b = refl
+deed_otherwise NoDifference text a b = refl
+deed_otherwise TooMuch text a b = refl
+deed_otherwise RepeatedLine text a b = refl
+deed_otherwise BadText text a b = refl
+deed_otherwise TooManyLines text a b = refl
+deed_otherwise NumbersUsedUp text a b = refl
+deed_otherwise AlreadyEnrolled text a b = refl
 
 -- any but these three are told by number and name
 pub refused_otherwise : (r : Refusal) (text : List ℕ) → r ≢ Unreadable → ((code : ℕ) → r ≢ Note code) → r ≢ Duplicate

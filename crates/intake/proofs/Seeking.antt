@@ -14,12 +14,12 @@ module _ {K : Type 0} where
   IsIn row [] = ⊥
   IsIn row (x ∷ rest) = (row ≡ x) ⊎ IsIn row rest
 
-  own_in : (rs : RowsOf K) (key : K) → own rs ≡ Some key → IsIn ([], key) rs
+  pub own_in : (rs : RowsOf K) (key : K) → own rs ≡ Some key → IsIn ([], key) rs
   own_in [] key e = cc
   own_in (([], k) ∷ rest) key e = inl cc
   own_in ((x ∷ t, k) ∷ rest) key e = inr (own_in rest key e)
 
-  step_in : (b : ℕ) (rs : RowsOf K) (t : List ℕ) (key : K) → IsIn (t, key) (step b rs) → IsIn (b ∷ t, key) rs
+  pub step_in : (b : ℕ) (rs : RowsOf K) (t : List ℕ) (key : K) → IsIn (t, key) (step b rs) → IsIn (b ∷ t, key) rs
   step_in b [] t key h = absurd h
   step_in b (([], k) ∷ rest) t key h = inr (step_in b rest t key h)
   step_in b ((x ∷ w, k) ∷ rest) t key h = by (x == b) refl (step_in b rest t key) h
@@ -39,7 +39,7 @@ module _ {K : Type 0} where
       by true go (inr more) = inr (go more)
       by false go more = inr (go more)
 
-  param_in : (rs : RowsOf K) (path : List ℕ) (row : List ℕ × K) → IsIn row ((param_step rs path).1) → IsIn row rs
+  pub param_in : (rs : RowsOf K) (path : List ℕ) (row : List ℕ × K) → IsIn row ((param_step rs path).1) → IsIn row rs
   unfolding param_step
   param_in rs path row h = by (ltb 0 (length (longest_suffix (segment path) rs))) (has_slash path) h
     where
@@ -63,7 +63,7 @@ module _ {K : Type 0} where
   by_all rs path key e =
       (catch_all_token ∷ [], step_in catch_all_token rs [] key (own_in (step catch_all_token rs) key e), ((λ few. absurd (omega arith)), (λ many. absurd (omega arith))))
 
-  by_either : (a b : Option K) (key : K) {P : Type 0} → (a ≡ Some key → P) → (b ≡ Some key → P) → or_else a b ≡ Some key → P
+  pub by_either : (a b : Option K) (key : K) {P : Type 0} → (a ≡ Some key → P) → (b ≡ Some key → P) → or_else a b ≡ Some key → P
   by_either None b key f g e = g e
   by_either (Some k) b key f g e = f e
 

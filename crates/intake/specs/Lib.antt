@@ -5,5 +5,8 @@ pub mod Requests
 pub mod Fields
 pub mod Lines
 pub mod Told
+pub mod Calls
+pub mod Targets
+pub mod Slips
 pub mod Serving
 pub mod Connections

@@ -1,11 +1,12 @@
 -- What a request is answered, and what it leaves of the book.
-use Rattle.std.specs.Prelude.{◌≡◌, ◌⊎◌, ℕ, false, List, ◌++◌, if◌then◌else◌, Option, Some, None, IfSome, option_map, length}
+use Rattle.std.specs.Prelude.{◌≡◌, ◌⊎◌, ℕ, false, List, ◌++◌, Option, Some, None, IfSome, option_map, length}
 use Rattle.httparse.specs.Grammar.{RequestHead}
 use Rattle.profile.specs.declared.rules.Rules.TheVariants.{Two}
 use Rattle.profile.specs.Moments.{Moment}
-use Rattle.profile.specs.Register.{Entry, Interchange}
+use Rattle.profile.specs.Header.{Who}
+use Rattle.profile.specs.Register.{Command, Entry, Interchange}
 use Rattle.profile.specs.Accepted.{IsLegal, is_accepted, reply_to, after}
-use Rattle.profile.specs.Response.{Response, Method, Route, Head, is_exchange, fault_response, response_to, submitted, response_bytes}
+use Rattle.profile.specs.Response.{Response, fault_response, response_to, submitted, response_bytes}
 use Rattle.store.specs.Faults.{fault_of}
 use Rattle.store.specs.Standing.{Standing, IsUsable, IsUnchanged, IsFault, LeavesEither}
 use Rattle.store.specs.declared.fault.Fault.{Fault}
@@ -14,35 +15,57 @@ use Rattle.intake.specs.Gauges.{Grew, AppendsBeginning}
 use Rattle.intake.specs.Requests.{HasHead, HasNoHead, IsInput}
 use Rattle.intake.specs.Fields.{head_of}
 use Rattle.intake.specs.Lines.{TellsOf, HasLine}
+use Rattle.intake.specs.Calls.{Call, call_of}
+use Rattle.intake.specs.Targets.{ToCall, asked_with, command_with, response_with}
+use Rattle.intake.specs.declared.audience.Audience.{Audience}
+use Rattle.intake.specs.declared.audience.Audience.TheVariants.{Partners, Clerks}
 use Rattle.intake.specs.declared.served.RequestLine.{RequestLine}
 
--- the interchange that a request hands in, if it does
-abbrev pub handed_in : Method → Route → List ℕ → Option (List ℕ)
-handed_in method route body = if is_exchange method route then Some body else None
+-- What is asked for: by partners an interchange or a route, as ever; by clerks the same, but where a path calls for something.
 
--- The response of the definitions, over a register that the book keeps. The book is left as the interchange that was handed in
+abbrev pub call_submitted : Option Call → RequestHead → List ℕ → Option Command
+call_submitted None h rest = option_map Interchange (submitted (Some (head_of h)) rest)
+call_submitted (Some call) h rest = command_with (head_of h).method (ToCall call) (asked_with (head_of h) (ToCall call) rest)
+
+abbrev pub call_answer : Option Call → Who → List Entry → RequestHead → List ℕ → Moment → Response
+call_answer None W L h rest t = response_to Two W L (Some (head_of h)) rest t
+call_answer (Some call) W L h rest t = response_with W L (head_of h).method (ToCall call) t (asked_with (head_of h) (ToCall call) rest)
+
+-- the command that a request submits, by its head, if that is good, and the bytes after it
+abbrev pub command_in : Audience → Option RequestHead → List ℕ → Option Command
+command_in Partners head rest = option_map Interchange (submitted (option_map head_of head) rest)
+command_in Clerks None rest = None
+command_in Clerks (Some h) rest = call_submitted (call_of h.target) h rest
+
+-- the response to it
+abbrev pub answer_of : Audience → Who → List Entry → Option RequestHead → List ℕ → Moment → Response
+answer_of Partners W L head rest t = response_to Two W L (option_map head_of head) rest t
+answer_of Clerks W L None rest t = response_to Two W L None rest t
+answer_of Clerks W L (Some h) rest t = call_answer (call_of h.target) W L h rest t
+
+-- The response of the definitions, over a register that the book keeps. The book is left as the command that was submitted
 -- leaves it; where none was, or it isn't accepted now, the book is as it was.
-pub record IsServed (old new : Standing) (t : Moment) (body : Option (List ℕ)) (meant : List Entry → Response) (r : Response) : Type 0 where
+pub record IsServed (old new : Standing) (t : Moment) (submits : Option Command) (meant : List Entry → Response) (r : Response) : Type 0 where
   pub response : new.doubt ≡ 0 → (L : List Entry) → old.keeps L → IsLegal Two old.warehouse L → r ≡ meant L
-  pub kept : body ≡ None → IsUnchanged old new
-  pub taken : (text : List ℕ) → body ≡ Some text → new.doubt ≡ 0 → (L : List Entry) → IsUsable old L
-      → IsUsable new (after Two old.warehouse L (Interchange text, t))
-  pub repeated : (text : List ℕ) → body ≡ Some text → new.doubt ≡ 0 → (L : List Entry) → old.keeps L → IsLegal Two old.warehouse L
-      → is_accepted (reply_to Two old.warehouse L (Interchange text) t) ≡ false → IsUnchanged old new
-  pub opened : (text : List ℕ) → body ≡ Some text → new.shut ≡ false
+  pub kept : submits ≡ None → IsUnchanged old new
+  pub taken : (c : Command) → submits ≡ Some c → new.doubt ≡ 0 → (L : List Entry) → IsUsable old L
+      → IsUsable new (after Two old.warehouse L (c, t))
+  pub repeated : (c : Command) → submits ≡ Some c → new.doubt ≡ 0 → (L : List Entry) → old.keeps L → IsLegal Two old.warehouse L
+      → is_accepted (reply_to Two old.warehouse L c t) ≡ false → IsUnchanged old new
+  pub opened : (c : Command) → submits ≡ Some c → new.shut ≡ false
 
 -- The 503 of a fault that happened. The book is as it was, or it has to be opened again; then a crash leaves the register as it
--- was, or with the interchange that was handed in.
-pub record IsFaulted (old new : Standing) (t : Moment) (body : Option (List ℕ)) (r : Response) : Type 0 where
+-- was, or with the entry of the command that was submitted.
+pub record IsFaulted (old new : Standing) (t : Moment) (submits : Option Command) (r : Response) : Type 0 where
   pub fault : Fault
   pub response : r ≡ fault_response (fault_of fault)
   pub why : IsFault fault old new
-  pub kept : body ≡ None → IsUnchanged old new
-  pub left : (text : List ℕ) → body ≡ Some text → new.doubt ≡ 0 → (L : List Entry) → IsUsable old L
-      → LeavesEither new L (after Two old.warehouse L (Interchange text, t))
+  pub kept : submits ≡ None → IsUnchanged old new
+  pub left : (c : Command) → submits ≡ Some c → new.doubt ≡ 0 → (L : List Entry) → IsUsable old L
+      → LeavesEither new L (after Two old.warehouse L (c, t))
 
-abbrev pub IsAnswered : Standing → Standing → Moment → Option (List ℕ) → (List Entry → Response) → Response → Type 0
-IsAnswered old new t body meant r = IsServed old new t body meant r ⊎ IsFaulted old new t body r
+abbrev pub IsAnswered : Standing → Standing → Moment → Option Command → (List Entry → Response) → Response → Type 0
+IsAnswered old new t submits meant r = IsServed old new t submits meant r ⊎ IsFaulted old new t submits r
 
 -- what an input begins with: a head, and what is after it; or none
 abbrev pub BeginsWith : List ℕ → Option RequestHead → List ℕ → Type 0
@@ -50,26 +73,26 @@ BeginsWith input None rest = HasNoHead input
 BeginsWith input (Some h) rest = HasHead input h rest
 
 -- the response to what a reader has, with what became of the book, and what is told of the head
-pub record IsExchange (old new : Standing) (known : Option (List ℕ)) (t : Moment) (r : Response) (line : Option RequestLine) : Type 0 where
+pub record IsExchange (audience : Audience) (old new : Standing) (known : Option (List ℕ)) (t : Moment) (r : Response) (line : Option RequestLine) : Type 0 where
   pub input : List ℕ
   pub is_input : IsInput known input
   pub head : Option RequestHead
   pub rest : List ℕ
   pub begins : BeginsWith input head rest
   pub told : TellsOf line head
-  pub answered : IsAnswered old new t (submitted (option_map head_of head) rest) (λ L. response_to Two old.warehouse L (option_map head_of head) rest t) r
+  pub answered : IsAnswered old new t (command_in audience head rest) (λ L. answer_of audience old.warehouse L head rest t) r
 
 -- the same of a request whose head was read, with the first bytes of what is after it
-pub record IsExchangeBehind (old new : Standing) (known : Option (List ℕ)) (t : Moment) (h : Head) (start : List ℕ) (r : Response) : Type 0 where
+pub record IsExchangeBehind (audience : Audience) (old new : Standing) (known : Option (List ℕ)) (t : Moment) (h : RequestHead) (start : List ℕ) (r : Response) : Type 0 where
   pub input : List ℕ
   pub is_input : IsInput known input
-  pub answered : IsAnswered old new t (submitted (Some h) (start ++ input)) (λ L. response_to Two old.warehouse L (Some h) (start ++ input) t) r
+  pub answered : IsAnswered old new t (command_in audience (Some h) (start ++ input)) (λ L. answer_of audience old.warehouse L (Some h) (start ++ input) t) r
 
 -- A response was written: it was that to what the reader had. What is told is its status, the line of the request, and how many
 -- bytes it has.
-pub record IsWritten (old new : Standing) (known : Option (List ℕ)) (t : Moment) (before behind : Option (List ℕ)) (status : ℕ) (line : Option RequestLine) (bytes : ℕ) : Type 0 where
+pub record IsWritten (audience : Audience) (old new : Standing) (known : Option (List ℕ)) (t : Moment) (before behind : Option (List ℕ)) (status : ℕ) (line : Option RequestLine) (bytes : ℕ) : Type 0 where
   pub response : Response
-  pub exchange : IsExchange old new known t response line
+  pub exchange : IsExchange audience old new known t response line
   pub status_of : status ≡ response.status
   pub whole : Appends before behind (response_bytes response)
   pub counted : bytes ≡ length (response_bytes response)
@@ -83,8 +106,8 @@ pub record IsUnread (old new : Standing) (known before behind : Option (List ℕ
   pub counted : bytes ≡ 0
 
 -- The writer failed: a beginning of the response was written, of so many bytes, and the book is as the request left it.
-pub record IsUnwritten (old new : Standing) (known : Option (List ℕ)) (t : Moment) (before behind : Option (List ℕ)) (errors more : ℕ) (line : Option RequestLine) (bytes : ℕ) : Type 0 where
+pub record IsUnwritten (audience : Audience) (old new : Standing) (known : Option (List ℕ)) (t : Moment) (before behind : Option (List ℕ)) (errors more : ℕ) (line : Option RequestLine) (bytes : ℕ) : Type 0 where
   pub response : Response
-  pub exchange : IsExchange old new known t response line
+  pub exchange : IsExchange audience old new known t response line
   pub beginning : AppendsBeginning before behind (response_bytes response) bytes
   pub grew : Grew errors more

@@ -1,10 +1,15 @@
-//! How interchanges come in: over HTTP on loopback, one request a connection, from a folder, and from a file.
+//! How interchanges come in: over HTTP on loopback, one request a connection, from a folder, and from
+//! a file; and how clerks are served over HTTP.
 #![tactic(auto)]
 
+mod audience;
+mod calls;
+mod clerks;
 mod gauge;
 mod heading;
 pub mod laws;
 mod listening;
+mod looking;
 mod patience;
 mod queries;
 mod reading;
@@ -15,8 +20,11 @@ mod routes;
 mod sending;
 mod served;
 mod serving;
+mod slips;
+mod targets;
 mod texts;
 
+pub use audience::Audience;
 pub use folders::{
     FileOutcome, FolderStop, PassedOver, Taken, TakenFolder, WhyPassed, read_first,
     read_interchange, take_folder, take_folder_telling,
@@ -28,3 +36,4 @@ pub use responding::respond;
 pub use response::{Allow, Body, MediaType, Response, Status};
 pub use served::{Connection, RequestLine, Served};
 pub use serving::{serve_one, serve_telling};
+pub use slips::{act_of, sheet_in};

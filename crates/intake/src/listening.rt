@@ -2,6 +2,7 @@ ghost use Rattle.std.specs.Prelude.{◌≡◌, ◌⊎◌, ◌≤◌, ℕ, Some, 
 ghost use Rattle.store.specs.Standing.{GoesOn};
 ghost use Rattle.intake.specs.Connections.{HasTold, IsOutcome};
 
+use crate::audience::Audience;
 use crate::gauge::Gauge;
 use crate::patience::{Patience, Patient, Standing};
 use crate::served::{Connection, Served};
@@ -49,6 +50,7 @@ fn serve_on<K: Keeper, Q: Clock>(
     stream: &TcpStream,
     peer: SocketAddr,
     keeper: &mut K,
+    audience: Audience,
     moment: Moment,
     patience: &Patience<'_, Q>,
 ) -> Connection
@@ -60,7 +62,7 @@ fn serve_on<K: Keeper, Q: Clock>(
     let begun = Instant::now(patience.timer).ok();
     let mut reader = Gauge::new(Patient::new(stream, patience.timer, patience.limit));
     let mut writer = Gauge::new(Patient::new(stream, patience.timer, patience.limit));
-    let served = serve_telling(alloc, &mut reader, &mut writer, keeper, moment);
+    let served = serve_telling(alloc, &mut reader, &mut writer, keeper, audience, moment);
     let millis = millis_since(patience.timer, begun);
     if served.outcome.is_ok() {
         read_the_rest(stream, patience.timer);
@@ -91,9 +93,9 @@ fn not_accepted(moment: Moment) -> Connection
     }
 }
 
-/// Serves that many connections, one after the other, each at the moment that `clock` gives once it is
-/// accepted, and hands each to `told` with what became of its request: the status that was answered,
-/// or Device (44). A request or a response that takes longer than the patience is Device too. An
+/// Serves that many connections to that audience, one after the other, each at the moment that `clock`
+/// gives once it is accepted, and hands each to `told` with what became of its request: the status
+/// that was answered, or Device (44). A request or a response that takes longer than the patience is Device too. An
 /// accept that fails is Device at the moment that `clock` gives then, and counts as a connection.
 ///
 /// A fault ends it, and no more connections are served then. It is Device (44) where `admits`, which is
@@ -111,6 +113,7 @@ pub fn serve_within<
     listener: &TcpListener,
     count: u16,
     keeper: &mut K,
+    audience: Audience,
     mut clock: C,
     mut told: T,
     mut admits: A,
@@ -136,7 +139,9 @@ pub fn serve_within<
         }
         let moment = clock();
         let connection = match accepted {
-            Ok((stream, peer)) => serve_on(alloc, &stream, peer, keeper, moment, patience),
+            Ok((stream, peer)) => serve_on(
+                alloc, &stream, peer, keeper, audience, moment, patience,
+            ),
             Err(_) => not_accepted(moment),
         };
         told(connection);
@@ -150,8 +155,8 @@ pub fn serve_within<
     Ok(())
 }
 
-/// The same, where each connection is admitted, and nobody measures its time: each of its reads and writes waits 30
-/// seconds, and 0 milliseconds are told.
+/// The same for partners alone, where each connection is admitted, and nobody measures its time: each
+/// of its reads and writes waits 30 seconds, and 0 milliseconds are told.
 pub fn serve_count<K: Keeper, C: FnMut() -> Moment, T: FnMut(Connection)>(
     alloc: Global,
     listener: &TcpListener,
@@ -180,6 +185,7 @@ pub fn serve_count<K: Keeper, C: FnMut() -> Moment, T: FnMut(Connection)>(
         listener,
         count,
         keeper,
+        Audience::Partners,
         clock,
         told,
         || true,

@@ -3,7 +3,9 @@ ghost use Rattle.profile.specs.Response.{answer_response, refused_response, repl
 ghost use Rattle.rules.specs.Told.{refusal_of};
 ghost use Rattle.store.specs.Faults.{fault_of};
 ghost use Rattle.store.specs.Runs.{told};
+ghost use Rattle.profile.specs.Refusals as meant;
 ghost use Rattle.intake.specs.Answers.{number, type_name, seen};
+ghost use Rattle.intake.specs.Calls.{line_response, deed_refused, deed_reply};
 ghost use Rattle.intake.specs.Told.{refusal_line, fault_line};
 
 use crate::response::{Body, MediaType, Response, Status};
@@ -76,8 +78,9 @@ fn refusal_text(refusal: Refusal) -> &'static [u8]
     }
 }
 
-// The response to a refused interchange, with the interchange that answers it.
-fn refused(refusal: Refusal, answer: Vec<u8>) -> Response
+/// The response to a refused interchange, with the interchange that answers it; what else is refused
+/// has no answer.
+pub(crate) fn refused(refusal: Refusal, answer: Vec<u8>) -> Response
     ensures { seen result ≡ refused_response (refusal_of refusal) answer.items }
 {
     match refusal {
@@ -96,6 +99,49 @@ pub(crate) fn of_reply(reply: Reply) -> Response
         Reply::Accepted(text) => answered(text),
         Reply::Stored(text) => answered(text),
         Reply::Refused { refusal, answer } => refused(refusal, answer),
+    }
+}
+
+/// The response to a path of which a part can't be read.
+pub(crate) fn bad_part() -> Response
+    ensures { seen result ≡ line_response 404 meant.BadText }
+{
+    with_line(Status::NotFound, refusal_text(Refusal::BadText))
+}
+
+/// The response to a path that names a stranger.
+pub(crate) fn stranger() -> Response
+    ensures { seen result ≡ line_response 404 meant.UnknownDepositor }
+{
+    with_line(Status::NotFound, refusal_text(Refusal::UnknownDepositor))
+}
+
+// The response to another deed under a ticket that was used.
+fn ticket_used() -> Response
+    ensures { seen result ≡ line_response 409 meant.TicketUsed }
+{
+    with_line(Status::Conflict, refusal_text(Refusal::TicketUsed))
+}
+
+// The response to a refused deed.
+fn deed_refusal(refusal: Refusal, answer: Vec<u8>) -> Response
+    ensures { seen result ≡ deed_refused (refusal_of refusal) answer.items }
+{
+    match refusal {
+        Refusal::UnknownDepositor => stranger(),
+        Refusal::TicketUsed => ticket_used(),
+        _ => refused(refusal, answer),
+    }
+}
+
+/// The response to a deed that is answered so.
+pub(crate) fn of_deed(reply: Reply) -> Response
+    ensures { seen result ≡ deed_reply (told reply) }
+{
+    match reply {
+        Reply::Accepted(text) => with_text(Status::Okay, MediaType::Interchange, text),
+        Reply::Stored(text) => with_text(Status::Okay, MediaType::Interchange, text),
+        Reply::Refused { refusal, answer } => deed_refusal(refusal, answer),
     }
 }
 

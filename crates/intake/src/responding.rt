@@ -7,7 +7,8 @@ ghost use Rattle.store.specs.Standing.{IsUsable, IsUnchanged, GoesOn, IsFault, L
 ghost use Rattle.intake.specs.Answers.{seen};
 ghost use Rattle.intake.specs.Fields.{seen_method, method_of};
 ghost use Rattle.intake.specs.Routes.{seen_route, route_of};
-ghost use Rattle.intake.specs.Serving.{handed_in, IsAnswered};
+ghost use Rattle.intake.specs.Serving.{IsAnswered};
+ghost use Rattle.intake.specs.Targets.{handed_in};
 
 use crate::heading::{MethodKind, read_method};
 use crate::queries::{got, not_served};

@@ -3,19 +3,18 @@ ghost use Rattle.httparse.specs.Grammar.{RequestHead};
 ghost use Rattle.httparse.specs.Spans.{IsRequestWithin, IsRequestAt};
 ghost use Rattle.store.specs.Standing.{IsUnchanged, GoesOn};
 ghost use Rattle.intake.specs.Answers.{seen};
-ghost use Rattle.intake.specs.Fields.{head_of};
 ghost use Rattle.intake.specs.Gauges.{Grew};
 ghost use Rattle.intake.specs.Lines.{IsLineAt, HasLine};
 ghost use Rattle.intake.specs.Serving.{IsExchange, IsExchangeBehind, IsWritten, IsUnread, IsUnwritten};
 
+use crate::audience::Audience;
 use crate::gauge::Gauge;
 use crate::heading::{is_among, length_of, read_method, values_of};
 use crate::reading::{Content, Unread, read_body, read_head};
 use crate::replies::of_fault;
-use crate::responding::respond_at;
 use crate::response::{Response, Status, bare_response};
-use crate::routes::{find_route, is_handed_in};
 use crate::served::{RequestLine, Served};
+use crate::targets::{find_target, has_body, respond_to};
 use crate::texts::write_response;
 use http::StatusCode;
 use httparse::spans::{EMPTY_HEADER_SPAN, HeaderSpan, RequestSpans};
@@ -28,6 +27,7 @@ fn answer<R: Read, K: Keeper>(
     alloc: Global,
     reader: &mut Gauge<R>,
     keeper: &mut K,
+    audience: Audience,
     got: &[u8],
     fields: &[HeaderSpan],
     spans: &RequestSpans,
@@ -35,7 +35,8 @@ fn answer<R: Read, K: Keeper>(
 ) -> Result<Response, Unread>
     requires { IsRequestWithin got.now fields.now spans.now }
     ensures answered { IfOk result (λ response. (h : RequestHead) → IsRequestAt got.now fields.now spans.now h
-        → IsExchangeBehind (K.standing keeper.old) (K.standing keeper.new) (R.remaining reader.old.inner) moment (head_of h) (drop spans.now.len got.now) (seen response)) }
+        → IsExchangeBehind audience (K.standing keeper.old) (K.standing keeper.new) (R.remaining reader.old.inner)
+        moment h (drop spans.now.len got.now) (seen response)) }
     ensures same { OnErr result (IsUnchanged (K.standing keeper.old) (K.standing keeper.new)) }
     ensures count { OnErr result (Grew reader.old.errors reader.new.errors) }
     ensures goes { GoesOn (K.standing keeper.old) (K.standing keeper.new) }
@@ -44,23 +45,23 @@ fn answer<R: Read, K: Keeper>(
     if is_among(got, named, b"Transfer-Encoding") {
         return Ok(bare_response(Status::NotImplemented));
     }
-    let Ok(route) = find_route(alloc, spans.path.of(got)) else {
+    let Ok(target) = find_target(alloc, audience, spans.path.of(got)) else {
         return Ok(of_fault(Fault::OutOfMemory));
     };
     let method = read_method(spans.method.of(got));
-    if !is_handed_in(method, &route) {
-        return Ok(respond_at(alloc, keeper, method, &route, &[], moment));
+    if !has_body(method, &target) {
+        return Ok(respond_to(alloc, keeper, method, &target, &[], moment));
     }
     let size = match length_of(&values_of(got, named, b"Content-Length")) {
         Ok(size) => size,
         Err(status) => return Ok(bare_response(status)),
     };
     match read_body(alloc, reader, &got[spans.len..], size)? {
-        Content::Whole(body) => Ok(respond_at(
+        Content::Whole(body) => Ok(respond_to(
             alloc,
             keeper,
             method,
-            &route,
+            &target,
             body.as_slice(),
             moment,
         )),
@@ -107,10 +108,11 @@ fn receive<R: Read, K: Keeper>(
     alloc: Global,
     reader: &mut Gauge<R>,
     keeper: &mut K,
+    audience: Audience,
     moment: Moment,
 ) -> Received
     ensures answered { IfOk result.response (λ response.
-        IsExchange (K.standing keeper.old) (K.standing keeper.new) (R.remaining reader.old.inner) moment
+        IsExchange audience (K.standing keeper.old) (K.standing keeper.new) (R.remaining reader.old.inner) moment
         (seen response) result.line) }
     ensures line { OnErr result.response (IfSome result.line (HasLine (R.remaining reader.old.inner))) }
     ensures same { OnErr result.response (IsUnchanged (K.standing keeper.old) (K.standing keeper.new)) }
@@ -134,7 +136,7 @@ fn receive<R: Read, K: Keeper>(
         },
     };
     let got = &buf[..begun.filled];
-    let response = answer(alloc, reader, keeper, got, &fields, spans, moment);
+    let response = answer(alloc, reader, keeper, audience, got, &fields, spans, moment);
     let line = copied_line(alloc, got, &fields, spans);
     Received { response, line }
 }
@@ -143,8 +145,10 @@ fn receive<R: Read, K: Keeper>(
 /// in this order: a head that is refused, cut off or too large, over 8,192 bytes or 32 fields, is 400;
 /// a Transfer-Encoding field 501; no route 404; another method 405; for an interchange no
 /// Content-Length 411, more than one, an empty one or not all digits 400, above 1,048,576 413, and a
-/// body that is cut off 400. A growth that is refused gives the 503 of 40; where only the copy of the
-/// method and the path is, these aren't told, and the answer is the same.
+/// body that is cut off 400. Where clerks are served too, a deed with its sheet is tested as an
+/// interchange, and then: a part of its path that can't be read is 404, a text that is no sheet 422.
+/// A growth that is refused gives the 503 of 40; where only the copy of the method and the path is,
+/// these aren't told, and the answer is the same.
 ///
 /// The one fault is Device (44): the reader or the writer gave an error, or took 0 bytes. Where the
 /// reader did, nothing was written and the book is as it was; where the writer did, a beginning of the
@@ -155,22 +159,23 @@ pub fn serve_telling<R: Read, W: Write, K: Keeper>(
     reader: &mut Gauge<R>,
     writer: &mut Gauge<W>,
     keeper: &mut K,
+    audience: Audience,
     moment: Moment,
 ) -> Served
     ensures written { IfOk result.outcome (λ status.
-        IsWritten (K.standing keeper.old) (K.standing keeper.new) (R.remaining reader.old.inner) moment
+        IsWritten audience (K.standing keeper.old) (K.standing keeper.new) (R.remaining reader.old.inner) moment
         (W.contents writer.old.inner) (W.contents writer.new.inner) status result.line result.bytes) }
     ensures stopped { OnErr result.outcome (
         IsUnread (K.standing keeper.old) (K.standing keeper.new) (R.remaining reader.old.inner)
         (W.contents writer.old.inner) (W.contents writer.new.inner)
         reader.old.errors reader.new.errors result.line result.bytes
-        ⊎ IsUnwritten (K.standing keeper.old) (K.standing keeper.new) (R.remaining reader.old.inner) moment
+        ⊎ IsUnwritten audience (K.standing keeper.old) (K.standing keeper.new) (R.remaining reader.old.inner) moment
         (W.contents writer.old.inner) (W.contents writer.new.inner)
         writer.old.errors writer.new.errors result.line result.bytes) }
     ensures fault { IfErr result.outcome (λ fault. fault ≡ Fault.Device) }
     ensures goes { GoesOn (K.standing keeper.old) (K.standing keeper.new) }
 {
-    let Received { response, line } = receive(alloc, reader, keeper, moment);
+    let Received { response, line } = receive(alloc, reader, keeper, audience, moment);
     let Ok(response) = response else {
         return Served {
             outcome: Err(Fault::Device),
@@ -192,7 +197,7 @@ pub fn serve_telling<R: Read, W: Write, K: Keeper>(
     }
 }
 
-/// The same, where no more is told than the response's status, or Device (44).
+/// The same for partners alone, where no more is told than the response's status, or Device (44).
 pub fn serve_one<R: Read, W: Write, K: Keeper>(
     alloc: Global,
     reader: &mut Gauge<R>,
@@ -201,17 +206,17 @@ pub fn serve_one<R: Read, W: Write, K: Keeper>(
     moment: Moment,
 ) -> Result<StatusCode, Fault>
     ensures written { IfOk result (λ status. (line : Option RequestLine) × (bytes : ℕ)
-        × IsWritten (K.standing keeper.old) (K.standing keeper.new) (R.remaining reader.old.inner) moment
+        × IsWritten Audience.Partners (K.standing keeper.old) (K.standing keeper.new) (R.remaining reader.old.inner) moment
         (W.contents writer.old.inner) (W.contents writer.new.inner) status line bytes) }
     ensures stopped { OnErr result ((line : Option RequestLine) × (bytes : ℕ) × (
         IsUnread (K.standing keeper.old) (K.standing keeper.new) (R.remaining reader.old.inner)
         (W.contents writer.old.inner) (W.contents writer.new.inner)
         reader.old.errors reader.new.errors line bytes
-        ⊎ IsUnwritten (K.standing keeper.old) (K.standing keeper.new) (R.remaining reader.old.inner) moment
+        ⊎ IsUnwritten Audience.Partners (K.standing keeper.old) (K.standing keeper.new) (R.remaining reader.old.inner) moment
         (W.contents writer.old.inner) (W.contents writer.new.inner)
         writer.old.errors writer.new.errors line bytes)) }
     ensures fault { IfErr result (λ fault. fault ≡ Fault.Device) }
     ensures goes { GoesOn (K.standing keeper.old) (K.standing keeper.new) }
 {
-    serve_telling(alloc, reader, writer, keeper, moment).outcome
+    serve_telling(alloc, reader, writer, keeper, Audience::Partners, moment).outcome
 }

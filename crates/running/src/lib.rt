@@ -4,6 +4,7 @@
 
 mod book_files;
 mod over_file;
+mod over_server;
 mod run;
 mod starting;
 

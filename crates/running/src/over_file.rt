@@ -293,8 +293,8 @@ fn job_of<'a, R: Files + Clock + AllocGlobal>(
     }
 }
 
-// Tells why a line's words or files are refused, and where it is asked for which of them it is.
-fn tell_unready<R: Files + AllocGlobal, E: io::Write>(
+/// Tells why a line's words or files are refused, and where it is asked for which of them it is.
+pub(crate) fn tell_unready<R: Files + AllocGlobal, E: io::Write>(
     rt: &R,
     task: &Task<'_>,
     refusal: Refusal,

@@ -1,4 +1,5 @@
 use crate::over_file::run_over_file;
+use crate::over_server::run_over_server;
 use command_line::{LineFault, Place, Words, line};
 use commands::{CommandError, ExitStatus, Verbosity, run_script, tell_stop, usage};
 use std::io::{self, IsTerminal};
@@ -21,7 +22,9 @@ fn run_words<W: io::Write, E: io::Write>(
             wait,
             task,
         } => run_over_file(rt, file, *wait, task, verbosity, out, err),
+        // No line of the program comes to this: where it names no server, it names a book.
         Words::Over { book: None, .. } => Err(usage(rt.alloc(), "--book is missing\n")),
+        Words::Remote { server, task } => run_over_server(rt, server, task, verbosity, out, err),
     }
 }
 

@@ -73,7 +73,7 @@ text.book|outbox acme|1|refused 32 BadText
 text.book|send no.x12|3|fault 44 Device
 text.book|recount ZZ-ACME R#1 no.csv|1|refused 32 BadText
 nowhere.book|stock ZZ-ACME --explain|3|fault 44 Device|nowhere.book: no such file; `whx12 init WHO --book nowhere.book` makes a book
-held.book|stock ZZ-ACME --wait 0 --explain|3|fault 44 Device|held.book is in use: is a server running? Stop it first, or wait longer by --wait SECONDS
+held.book|stock ZZ-ACME --wait 0 --explain|3|fault 44 Device|held.book is in use: is a server running? Ask it by --server ADDR, or wait longer by --wait SECONDS
 /proc/house.book|init ZZ-WHSE1 --explain|3|fault 44 Device|/proc/house.book can't be opened: look at its rights, those of its folder, and whether it has a second name (a hard link)
 other.book|stock ZZ-ACME --explain|3|fault 41 Store|other.book: the database refused a statement; is it a book, and its disk full or failing?
 other.book|init ZZ-WHSE1 --explain|3|fault 43 NotThisBook|other.book has a book already, or other tables

@@ -37,6 +37,15 @@ serve --book b.book --listen 127.0.0.1:8080 --count +1
 serve --book b.book --listen 0.0.0.0:8080 --count 1
 serve --book b.book --listen [::]:8080 --count 1
 serve --book b.book --listen 192.168.1.7:8080 --count 1
+stock ZZ-ACME --book b.book --server 127.0.0.1:8080
+stock ZZ-ACME --server
+stock ZZ-ACME --server localhost:8080
+stock ZZ-ACME --server 127.0.0.1:8080 --at 2025-03-04T09:15
+stock ZZ-ACME --server 127.0.0.1:8080 --wait 1
+send a.x12 --server 127.0.0.1:8080 --server 127.0.0.1:8080
+enrol ZZ-ACME --server 127.0.0.1:8080
+take inbox --server 127.0.0.1:8080
+verify --server 127.0.0.1:8080
 ";
 
 /// Lines of a script that can't be read.
@@ -73,6 +82,7 @@ pick ZZ-ACME P-1
 recount ZZ-ACME R-1 SHP1 sheet.csv
 stock
 stock ZZ-ACME --number 1
+stock ZZ-ACME --server 127.0.0.1:8080
 orders ZZ-ACME
 outbox ZZ-ACME --csv
 outbox ZZ-ACME --number

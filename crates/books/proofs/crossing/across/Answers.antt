@@ -5,7 +5,7 @@ use Rattle.store.specs.Standing.{IsUsable}
 use Rattle.books.specs.Opened.{standing_of}
 use Rattle.books.specs.Stopped.{Crosses}
 use Rattle.books.proofs.AgainLemmas.{stores_again}
-use Rattle.books.proofs.CrossLemmas.{crosses}
+use Rattle.books.proofs.CrossLemmas.{crosses, may_be_there}
 use Rattle.books.proofs.crossing.across.Goals as goal
 
 pub returns-in-Ok : goal.returns-in-Ok
@@ -22,14 +22,16 @@ returns-in-Ok g c =
       goes = one.goes;
       answered = λ k. one.replies k L u given;
       opened = λ k open'. one.left k L u given open';
-      broken = λ k shut. one.broken k L u given shut;
+      broken = λ k shut. let b = one.broken k L u given shut in
+          (may_be_there (s c.args.book) (s c.run-before.new.keeper) L _ c.run-before.result.fault k u given one.fault b.0, b.1);
     })
     two.goes
     (λ M v. record {
       goes = two.goes;
       answered = λ k. two.replies k M v given';
       opened = λ k open'. two.left k M v given' open';
-      broken = λ k shut. two.broken k M v given' shut;
+      broken = λ k shut. let b = two.broken k M v given' shut in
+          (may_be_there (s c.in-Ok.book) (s c.run-later.new.keeper) M _ c.run-later.result.fault k v given' two.fault b.0, b.1);
     }) in
     record {
       all = one.all;

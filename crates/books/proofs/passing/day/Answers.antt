@@ -4,6 +4,7 @@ use Rattle.profile.specs.Header.{Who}
 use Rattle.book_tables.specs.Standing.{StandsIn}
 use Rattle.books.specs.Days.{IsAnswered}
 use Rattle.books.specs.Opened.{standing_of}
+use Rattle.books.proofs.CrossLemmas.{may_be_there}
 use Rattle.books.proofs.DaysLemmas.{first_given, left_of_run}
 use Rattle.books.proofs.passing.day.Goals as goal
 
@@ -23,7 +24,8 @@ returns-in-Ok g c =
             goes = ran.goes;
             answered = λ k. ran.replies k L o.usable reached;
             opened = λ k open'. ran.left k L o.usable reached open';
-            broken = λ k shut. ran.broken k L o.usable reached shut;
+            broken = λ k shut. let b = ran.broken k L o.usable reached shut in
+                (may_be_there (s c.in-Ok.book) (s c.run-outcome.new.keeper) L _ c.run-outcome.result.fault k o.usable reached ran.fault b.0, b.1);
           }) db (c.stopped.ensures.left db may) in
           record {
             found = o.found;

@@ -2,5 +2,6 @@ use Rattle.command_line.proofs.subcommands.serve.Goals as goal
 
 pub returns : goal.returns
 returns c =
-    let one = c.with-command.ensures _ _ c.serve_wanted-command.ensures c.option.ensures in
-    c.with_at.ensures _ (c.with-command-2.ensures _ _ one c.flag.ensures)
+    let with_patience = c.with-command.ensures _ _ c.serve_wanted-command.ensures c.option.ensures in
+    let with_anyone = c.with-command-2.ensures _ _ with_patience c.flag.ensures in
+    c.with_at.ensures _ (c.with-command-3.ensures _ _ with_anyone c.flag-2.ensures)

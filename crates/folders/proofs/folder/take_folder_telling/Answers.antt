@@ -2,15 +2,19 @@ use Rattle.std.proofs.Common.{rules, of_calls, ◌≡◌, ◌∙◌, ◌∷◌, 
 use Rattle.store.proofs.Changes.{goes_trans, unchanged_refl}
 use Rattle.folders.specs.Folders.{Became, became_of, AreTaken}
 use Rattle.folders.specs.Stops.{IsFolderStop}
-use Rattle.folders.proofs.Taking.{none_taken, taken_more, counted_behind, none_counted, handed_on, taken_kept, one_more}
+use Rattle.folders.proofs.Taking.{none_taken, taken_more, counted_behind, none_counted, handed_on, taken_kept, one_more, still_rising, none_left}
 use Rattle.folders.specs.declared.folder.FolderStop.{FolderStop}
+use Rattle.folders.specs.declared.folder.Taken.{Taken}
+use Rattle.std.specs.Prelude.{IsSorted}
+use Rattle.std.specs.String.{string_cmp}
+use Rattle.std.specs.Vec.Iter.{into_iter_items}
 use Rattle.folders.proofs.folder.take_folder_telling.Goals as goal
 
 pub returns-in_err-names-clause-stopped : goal.returns-in_err-names-clause-stopped
 returns-in_err-names-clause-stopped g c =
     let at = g.K.Keeper.standing c.args.keeper.now in
     handed_on c.from_residual.result _ _ c.from_residual.ensures
-    (λ stop is. subst (λ (s : FolderStop). IsFolderStop s at at c.args.moment) (sym is) (none_counted _ at c.args.moment c.in_err-names.ensures))
+    (λ stop is. subst (λ (s : FolderStop). IsFolderStop s at at c.args.moment) (sym is) (none_counted _ at c.args.moment c.in_err-names.ensures.unread))
 
 pub loop-name-init : goal.loop-name-init
 loop-name-init g c =
@@ -21,6 +25,8 @@ loop-name-init g c =
       texts = [];
       taken = subst (λ items. AreTaken at at c.args.moment [] (map (λ file. became_of file.outcome) items)) (sym c.new-files.ensures.items) (none_taken at c.args.moment);
       counted = ap length c.new-files.ensures.items;
+      rising = subst (λ (files : List Taken). IsSorted string_cmp (map (λ file. file.name) files ++ into_iter_items c.into_iter-name-iterator.result)) (sym c.new-files.ensures.items)
+          (subst (IsSorted string_cmp) (sym c.into_iter-name-iterator.ensures.into_iter_gives.0) c.in_ok-names.ensures.sorted);
       told = c.requires.told;
     }
 
@@ -50,5 +56,9 @@ loop-name-preserved g c =
           (taken_kept c.loop-name.files.items c.take_named.new.files.items c.push.new.self.items _ c.take_named.ensures.kept grown)
           (taken_more old now new c.args.moment i.texts file.0 _ _ i.goes c.take_named.ensures.goes i.taken file.1);
       counted = one_more c.loop-name.files.items c.take_named.new.files.items c.push.new.self.items _ i.texts file.0 c.take_named.ensures.kept grown i.counted;
+      rising = still_rising c.loop-name.files.items c.take_named.new.files.items c.push.new.self.items _ _ _ c.take_named.ensures.kept grown c.in-Some.ensures.steps.0 i.rising;
       told = search (rules, of_calls);
     }
+
+pub returns-clause-rising : goal.returns-clause-rising
+returns-clause-rising g c = none_left c.loop-name.files.items (into_iter_items c.loop-name.name-iterator) (sym c.loop-name.name-iterator.rest.ok.0 ∙ c.in-None.ensures.steps.0) c.loop-name.invariant.rising

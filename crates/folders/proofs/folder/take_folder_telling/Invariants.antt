@@ -1,4 +1,7 @@
-use Rattle.std.proofs.Common.{◌≡◌, ℕ, List, length, map}
+use Rattle.std.proofs.Common.{◌≡◌, ◌++◌, ℕ, List, length, map}
+use Rattle.std.specs.Prelude.{IsSorted}
+use Rattle.std.specs.String.{string_cmp}
+use Rattle.std.specs.Vec.Iter.{into_iter_items}
 use Rattle.store.specs.Standing.{GoesOn}
 use Rattle.folders.specs.Folders.{became_of, AreTaken}
 use Rattle.folders.proofs.folder.take_folder_telling.Given as goal
@@ -13,5 +16,6 @@ invariant-loop-name g l =
       texts : List (List ℕ);
       taken : AreTaken old now l.fn.moment texts (map (λ file. became_of file.outcome) l.files.items);
       counted : length l.files.items ≡ length texts;
+      rising : IsSorted string_cmp (map (λ file. file.name) l.files.items ++ into_iter_items l.name-iterator);
       told : goal.T-IsAlwaysCallable g l.told;
     }

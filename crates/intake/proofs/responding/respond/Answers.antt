@@ -5,7 +5,8 @@ use Rattle.profile.specs.Response.{Method, Route, resp}
 use Rattle.intake.specs.Answers.{seen}
 use Rattle.intake.specs.Fields.{seen_method, method_of}
 use Rattle.intake.specs.Routes.{route_of}
-use Rattle.intake.specs.Serving.{handed_in, IsAnswered}
+use Rattle.intake.specs.Serving.{IsAnswered}
+use Rattle.intake.specs.Targets.{handed_in}
 use Rattle.intake.proofs.Answered.{no_memory}
 use Rattle.intake.proofs.responding.respond.Goals as goal
 

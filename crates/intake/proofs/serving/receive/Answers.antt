@@ -13,7 +13,7 @@ returns-clause-answered g c =
     let room : length (take c.in-Ok.begun.filled c.read_head.new.buf) ≤ 8192 = grind (arith, common_steps) in
     let many : length c.read_head.new.fields ≤ 32 = grind (arith, common_steps) in
     IfOk-weaker c.answer-response.result _ _
-    (λ response answered. whole_answer _ _ _ _ _ _ _ _ found.0 _ _ room many within found.1 e.bytes c.copied_line-line.ensures (answered found.0 found.1))
+    (λ response answered. whole_answer _ _ _ _ _ _ _ _ _ found.0 _ _ room many within found.1 e.bytes c.copied_line-line.ensures (answered found.0 found.1))
     c.answer-response.ensures.answered
 
 pub returns-clause-line : goal.returns-clause-line
@@ -29,4 +29,4 @@ pub returns-in-None-clause-answered : goal.returns-in-None-clause-answered
 returns-in-None-clause-answered g c =
     let e = c.in-Ok.ensures in
     let none = rw c.in-None.is at e.none in
-    headless_answer _ _ _ _ _ _ e.bytes none c.bare_response.ensures
+    headless_answer _ _ _ _ _ _ _ e.bytes none c.bare_response.ensures

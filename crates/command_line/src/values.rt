@@ -1,0 +1,225 @@
+//! The values of a line of words read, one by one.
+ghost use Rattle.std.specs.Prelude.{◌≡◌, true, IfOk, codes};
+ghost use Rattle.std.specs.Net.Grammar.{IsSocketText};
+ghost use Rattle.clap.specs.Matches.{found_of};
+ghost use Rattle.clap.specs.Walk.{rows_of};
+ghost use Rattle.command_line.specs.Lines as meant;
+
+use crate::moments::moment_of;
+use crate::numbers::{count_of, number_of, wait_of};
+use crate::words::{LineFault, Place, Service};
+use clap::ArgMatches;
+use segments::Moment;
+use std::alloc::Global;
+use std::net::SocketAddr;
+
+/// A usage fault with a text.
+pub(crate) fn usage(alloc: Global, text: &str) -> LineFault {
+    match text.to_string(alloc) {
+        Ok(text) => LineFault::Usage(text),
+        Err(_) => LineFault::OutOfMemory,
+    }
+}
+
+/// The moment that a line says, if it says one.
+pub(crate) fn moment(alloc: Global, values: &ArgMatches<'_>) -> Result<Option<Moment>, LineFault>
+    ensures { IfOk result (meant.SaysMoment (rows_of (found_of values.now))) }
+{
+    let Some(text) = values.get_str("at") else {
+        return Ok(None);
+    };
+    match moment_of(text.as_bytes()) {
+        Some(moment) => Ok(Some(moment)),
+        None => Err(usage(
+            alloc,
+            "--at wants a moment as 2025-03-04T09:15, of the years 2000 to 2099\n",
+        )),
+    }
+}
+
+/// The number that a line says, if it says one.
+pub(crate) fn number(alloc: Global, values: &ArgMatches<'_>) -> Result<Option<u32>, LineFault>
+    ensures { IfOk result (meant.SaysNumber (rows_of (found_of values.now))) }
+{
+    let Some(text) = values.get_str("number") else {
+        return Ok(None);
+    };
+    match number_of(text.as_bytes()) {
+        Some(number) => Ok(Some(number)),
+        None => Err(usage(alloc, "--number wants a number from 1 to 999999\n")),
+    }
+}
+
+/// The value of a word that must be there.
+pub(crate) fn given<'a>(
+    alloc: Global,
+    values: &ArgMatches<'a>,
+    id: &str,
+) -> Result<&'a str, LineFault>
+    ensures { IfOk result (λ text. meant.Has (rows_of (found_of values.now)) id.now text.now) }
+{
+    match values.get_str(id) {
+        Some(text) => Ok(text),
+        None => Err(usage(alloc, "a word is missing\n")),
+    }
+}
+
+// The address that a text writes; the fault where it writes none.
+fn address_in(alloc: Global, text: &str, fault: &str) -> Result<SocketAddr, LineFault>
+    ensures { IfOk result (IsSocketText text.now) }
+{
+    match SocketAddr::parse_ascii(text.as_bytes()) {
+        Ok(address) => Ok(address),
+        Err(_) => Err(usage(alloc, fault)),
+    }
+}
+
+// The address that a line says that a book is served at.
+fn address(alloc: Global, values: &ArgMatches<'_>) -> Result<SocketAddr, LineFault>
+    ensures { IfOk result (meant.SaysAddress (rows_of (found_of values.now)) (codes "listen")) }
+{
+    let text = given(alloc, values, "listen")?;
+    address_in(
+        alloc,
+        text,
+        "--listen wants an IP address and a port, as 127.0.0.1:8080\n",
+    )
+}
+
+// How many connections a line says.
+fn connections(alloc: Global, values: &ArgMatches<'_>) -> Result<u16, LineFault>
+    ensures { IfOk result (meant.SaysCount (rows_of (found_of values.now))) }
+{
+    let text = given(alloc, values, "count")?;
+    match count_of(text.as_bytes()) {
+        Some(count) => Ok(count),
+        None => Err(usage(alloc, "--count wants a number from 1 to 65535\n")),
+    }
+}
+
+// How many seconds a line says that a request is waited for, if it says it.
+fn patience(alloc: Global, values: &ArgMatches<'_>) -> Result<Option<u16>, LineFault>
+    ensures { IfOk result (meant.SaysPatience (rows_of (found_of values.now))) }
+{
+    let Some(text) = values.get_str("patience") else {
+        return Ok(None);
+    };
+    match count_of(text.as_bytes()) {
+        Some(seconds) => Ok(Some(seconds)),
+        None => Err(usage(
+            alloc,
+            "--patience wants a number of seconds from 1 to 65535\n",
+        )),
+    }
+}
+
+// The address that a line says, if it may be listened at: other machines know a depositor by its ISA alone, so one that they reach
+// wants a word more.
+fn guarded_address(alloc: Global, values: &ArgMatches<'_>) -> Result<SocketAddr, LineFault>
+    ensures { IfOk result (meant.SaysAddress (rows_of (found_of values.now)) (codes "listen")) }
+{
+    let address = address(alloc, values)?;
+    if address.ip().is_loopback() || has_flag(values, "anyone") {
+        return Ok(address);
+    }
+    Err(usage(
+        alloc,
+        "--listen wants 127.0.0.1 or ::1, or --anyone beside an address that other machines reach\n",
+    ))
+}
+
+/// Where a line says that a book is served, and for how long.
+pub(crate) fn service_of(alloc: Global, values: &ArgMatches<'_>) -> Result<Service, LineFault>
+    ensures { IfOk result (meant.SaysService (rows_of (found_of values.now))) }
+{
+    Ok(Service {
+        address: guarded_address(alloc, values)?,
+        count: connections(alloc, values)?,
+        patience: patience(alloc, values)?,
+        clerks: has_flag(values, "clerks"),
+    })
+}
+
+/// Whether the line has an option without a value.
+pub(crate) fn has_flag(values: &ArgMatches<'_>, id: &str) -> bool
+    ensures { result ≡ meant.has_flag (rows_of (found_of values.now)) id.now }
+{
+    match values.get_str(id) {
+        Some(text) => text == "true",
+        None => false,
+    }
+}
+
+/// The address of the server that a line asks, if it asks one.
+pub(crate) fn server(
+    alloc: Global,
+    values: &ArgMatches<'_>,
+) -> Result<Option<SocketAddr>, LineFault>
+    ensures { IfOk result (meant.SaysServer (rows_of (found_of values.now))) }
+{
+    let Some(text) = values.get_str("server") else {
+        return Ok(None);
+    };
+    let address = address_in(
+        alloc,
+        text,
+        "--server wants an IP address and a port, as 127.0.0.1:8080\n",
+    )?;
+    Ok(Some(address))
+}
+
+/// The file with a book that a line names. A line of the program that asks no server names one; a script
+/// has a book of its own.
+pub(crate) fn book_of<'a>(
+    alloc: Global,
+    place: Place,
+    values: &ArgMatches<'a>,
+) -> Result<Option<&'a str>, LineFault>
+    ensures book { IfOk result (meant.SaysBook (rows_of (found_of values.now))) }
+    ensures place { IfOk result (λ book. meant.has_book place book ≡ true) }
+{
+    let Some(book) = values.get_str("book") else {
+        return match place {
+            Place::Program => Err(usage(alloc, "--book or --server is missing\n")),
+            Place::Script => Ok(None),
+        };
+    };
+    Ok(Some(book))
+}
+
+/// For how many seconds a line says that a book in use is waited for, if it says it.
+pub(crate) fn wait(alloc: Global, values: &ArgMatches<'_>) -> Result<Option<u16>, LineFault>
+    ensures { IfOk result (meant.SaysWait (rows_of (found_of values.now))) }
+{
+    let Some(text) = values.get_str("wait") else {
+        return Ok(None);
+    };
+    match wait_of(text.as_bytes()) {
+        Some(seconds) => Ok(Some(seconds)),
+        None => Err(usage(alloc, "--wait wants a number of seconds from 0 to 65535\n")),
+    }
+}
+
+// The fault of a line that has a word which it is to lack.
+fn without(alloc: Global, values: &ArgMatches<'_>, id: &str, fault: &str) -> Result<(), LineFault>
+    ensures { IfOk result (λ nothing. meant.Lacks (rows_of (found_of values.now)) id.now) }
+{
+    match values.get_str(id) {
+        None => Ok(()),
+        Some(_) => Err(usage(alloc, fault)),
+    }
+}
+
+/// The fault of a line that asks a server and says what is the server's to say.
+pub(crate) fn leaves_to_server(alloc: Global, values: &ArgMatches<'_>) -> Result<(), LineFault>
+    ensures { IfOk result (λ nothing. meant.LeavesToServer (rows_of (found_of values.now))) }
+{
+    without(
+        alloc,
+        values,
+        "book",
+        "--book and --server exclude each other\n",
+    )?;
+    without(alloc, values, "at", "--at is the server's to say\n")?;
+    without(alloc, values, "wait", "--wait is for a book in a file\n")
+}

@@ -1,0 +1,5 @@
+use Rattle.std.proofs.lemmas.Result.{IfOk-weaker}
+use Rattle.errands.proofs.running.report.Goals as goal
+
+pub returns : goal.returns
+returns g c = IfOk-weaker c.tell_report.result _ _ (λ status told. (c.in_ok-answer.answer, told)) c.tell_report.ensures.told

@@ -1,0 +1,28 @@
+-- What a line asks of a server.
+use Rattle.std.specs.Prelude.{◌≡◌, ℕ, true, List, Some, Ok}
+use Rattle.profile.specs.declared.rules.Rules.TheVariants.{Two}
+use Rattle.profile.specs.Header.{Who}
+use Rattle.profile.specs.Means.{Line}
+use Rattle.sheet_texts.specs.Texts.{sheet_of_text}
+use Rattle.commands.specs.Clerks.{depositor_of, kind_of}
+use Rattle.commands.specs.Looking.{is_readable}
+use Rattle.command_line.specs.declared.words.BookAct.TheVariants as act
+use Rattle.command_line.specs.declared.words.ClerkWords.{ClerkWords}
+use Rattle.command_line.specs.declared.words.Task.{Task}
+use Rattle.command_line.specs.declared.words.Task.TheVariants as task
+use Rattle.errands.specs.declared.errand.Errand.{Errand}
+use Rattle.errands.specs.declared.errand.Errand.TheVariants as errand
+
+-- a clerk's words that can be read, and the text of a sheet of their kind
+pub record IsDeed (t : ClerkWords) (text : List ℕ) : Type 0 where
+  pub who : Who
+  pub named : depositor_of t ≡ Some who
+  pub sheet : List Line
+  pub read : sheet_of_text Two (kind_of t.deed) text ≡ Ok sheet
+
+-- it is what the line asks for; the bytes of an interchange may be any
+abbrev pub IsErrandFor : Task → Errand → Type 0
+IsErrandFor (task.Act (act.Send file) at) (errand.Send bytes) = Unit {0}
+IsErrandFor (task.Act (act.Clerk told) at) (errand.Deed t text) = (t ≡ told) × IsDeed told text.items
+IsErrandFor (task.Show s) (errand.Look shown) = (shown ≡ s) × (is_readable s ≡ true)
+IsErrandFor t e = ⊥

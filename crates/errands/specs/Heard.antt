@@ -1,0 +1,143 @@
+-- What an answer of a server comes to, and what is printed of it.
+use Rattle.std.specs.Prelude.{◌≡◌, ◌⊎◌, ℕ, Bool, ◌==◌, ◌&&◌, ◌||◌, not, List, [], ◌∷◌, take, length, nat_lt, if◌then◌else◌, Option, Some, None, slice_get, slice_index, unwrap_or, option_and_then, min}
+use Rattle.std.specs.List.{slice_split, list_all}
+use Rattle.std.specs.Io.KnownBytes.{Appends}
+use Rattle.profile.specs.Bytes.{is_digit, value}
+use Rattle.profile.specs.Lists.{first_of}
+use Rattle.rules.specs.declared.refusals.Refusal.{Refusal}
+use Rattle.rules.specs.declared.refusals.Refusal.TheVariants as refusals
+use Rattle.store.specs.declared.fault.Fault.{Fault}
+use Rattle.store.specs.declared.fault.Fault.TheVariants as faults
+use Rattle.remote.specs.declared.answers.Answer.{Answer}
+use Rattle.commands.specs.Telling.{line_of}
+use Rattle.commands.specs.declared.told.ExitStatus.{ExitStatus}
+use Rattle.commands.specs.declared.told.ExitStatus.TheVariants as statuses
+use Rattle.errands.specs.declared.answers.Answered.{Answered}
+use Rattle.errands.specs.declared.answers.Answered.TheVariants.{Done, Refused, Stopped}
+
+-- the value of digits; 0 for any other text, and 1000 for any that is larger
+abbrev pub value_of : List ℕ → ℕ
+value_of text = if list_all is_digit text then min (value text) 1000 else 0
+
+-- the number that a text begins with, before its first space
+abbrev pub number_in : List ℕ → ℕ
+number_in text = value_of (unwrap_or (slice_get (slice_split (λ b. b == 32) text) 0) [])
+
+-- the note code that the first three digits of a piece are
+abbrev pub note_of : List ℕ → Option ℕ
+note_of piece = if nat_lt (length piece) 3 then None else (if nat_lt 255 (min (value (take 3 piece)) 1000) then None else Some (min (value (take 3 piece)) 1000))
+
+-- The code of the note in an interchange that refuses another, which is TA105. What separates its elements is its fourth byte; the
+-- sixteen elements of ISA and four of TA1 stand before it.
+abbrev pub note_in : List ℕ → Option ℕ
+note_in text = if nat_lt (length text) 4 then None else option_and_then note_of (slice_get (slice_split (λ b. b == slice_index text 3) text) 21)
+
+abbrev pub numbered : ℕ → Option Refusal
+numbered n = first_of None
+    ((n == 1, Some refusals.Unreadable)
+    ∷ (n == 3, Some refusals.Duplicate)
+    ∷ (n == 20, Some refusals.UnknownDepositor)
+    ∷ (n == 21, Some refusals.TicketUsed)
+    ∷ (n == 22, Some refusals.UnknownAdvice)
+    ∷ (n == 23, Some refusals.AdviceClosed)
+    ∷ (n == 24, Some refusals.UnknownOrder)
+    ∷ (n == 25, Some refusals.OrderClosed)
+    ∷ (n == 26, Some refusals.NotReserved)
+    ∷ (n == 27, Some refusals.UnknownLot)
+    ∷ (n == 28, Some refusals.BelowReserved)
+    ∷ (n == 29, Some refusals.NoDifference)
+    ∷ (n == 30, Some refusals.TooMuch)
+    ∷ (n == 31, Some refusals.RepeatedLine)
+    ∷ (n == 32, Some refusals.BadText)
+    ∷ (n == 33, Some refusals.TooManyLines)
+    ∷ (n == 34, Some refusals.NumbersUsedUp)
+    ∷ (n == 35, Some refusals.AlreadyEnrolled)
+    ∷ [])
+
+-- a server that can be heard tells no 44 of itself
+abbrev pub fault_numbered : ℕ → Fault
+fault_numbered n = first_of faults.Device
+    ((n == 40, faults.OutOfMemory)
+    ∷ (n == 41, faults.Store)
+    ∷ (n == 42, faults.Reopen)
+    ∷ (n == 43, faults.NotThisBook)
+    ∷ [])
+
+-- whether a server tells the refusal under this status: what can't be read is 404 in a path and 422 in a sheet
+abbrev pub stands_under : ℕ → Refusal → Bool
+stands_under status refusals.Unreadable = status == 400
+stands_under status refusals.UnknownDepositor = status == 404
+stands_under status refusals.BadText = status == 404 || status == 422
+stands_under status refusals.TicketUsed = status == 409
+stands_under status r = status == 422
+
+-- a refusal by its number
+abbrev pub heard_line : ℕ → List ℕ → Answered
+heard_line status line = by (numbered (number_in line))
+  where
+    by : Option Refusal → Answered
+    by (Some r) = if stands_under status r then Refused r else Stopped faults.Device
+    by None = Stopped faults.Device
+
+abbrev pub heard_note : List ℕ → Answered
+heard_note text = by (note_in text)
+  where
+    by : Option ℕ → Answered
+    by (Some code) = Refused (refusals.Note code)
+    by None = Stopped faults.Device
+
+-- The answer to a command: what is done has a document, or nothing (204) where an interchange has an empty answer.
+abbrev pub heard : ℕ → Bool → List ℕ → Answered
+heard status is_interchange body = first_of (heard_line status body)
+    ((status == 200 && is_interchange, Done)
+    ∷ (status == 204, Done)
+    ∷ (status == 409 && is_interchange, Refused refusals.Duplicate)
+    ∷ (status == 422 && is_interchange, heard_note body)
+    ∷ (status == 413, Refused refusals.Unreadable)
+    ∷ (status == 503, Stopped (fault_numbered (number_in body)))
+    ∷ [])
+
+-- The answer to a query, whose report is no interchange. A server says `404 Not Found` of a depositor whom it doesn't know.
+abbrev pub heard_report : ℕ → Bool → List ℕ → Answered
+heard_report status is_interchange body = first_of (heard_line status body)
+    ((status == 200 && not is_interchange, Done)
+    ∷ (status == 404 && number_in body == 404, Refused refusals.UnknownDepositor)
+    ∷ (status == 503, Stopped (fault_numbered (number_in body)))
+    ∷ [])
+
+-- a document, or the interchange that refuses another, and a line feed
+abbrev pub printed_document : Bool → List ℕ → List ℕ
+printed_document is_interchange body = if is_interchange then line_of body else []
+
+-- a report as it is
+abbrev pub printed_report : ℕ → List ℕ → List ℕ
+printed_report status body = if status == 200 then body else []
+
+-- the exit status that an answer gives; a fault stops a command
+abbrev pub IsStatus : Answered → ExitStatus → Type 0
+IsStatus Done status = status ≡ statuses.Done
+IsStatus (Refused r) status = status ≡ statuses.Refused
+IsStatus (Stopped f) status = ⊥
+
+-- an answer was told: this was printed, and the exit status is its
+pub record IsTold (printed : List ℕ) (h : Answered) (before after : Option (List ℕ)) (status : ExitStatus) : Type 0 where
+  pub text : Appends before after printed
+  pub says : IsStatus h status
+
+-- the answer to a command was told
+abbrev pub TellsDocument : Option (List ℕ) → Option (List ℕ) → ExitStatus → Type 0
+TellsDocument before after status =
+    (a : Answer) × IsTold (printed_document a.is_interchange a.body.items) (heard a.status a.is_interchange a.body.items) before after status
+
+-- the answer to a query was told
+abbrev pub TellsReport : Option (List ℕ) → Option (List ℕ) → ExitStatus → Type 0
+TellsReport before after status =
+    (a : Answer) × IsTold (printed_report a.status a.body.items) (heard_report a.status a.is_interchange a.body.items) before after status
+
+-- nothing went out under the number that was asked for, which the status alone says
+abbrev pub TellsNothing : Option (List ℕ) → Option (List ℕ) → ExitStatus → Type 0
+TellsNothing before after status = Appends before after [] × (status ≡ statuses.Refused)
+
+-- what a server answered was told, and nothing else
+abbrev pub TellsAnswer : Option (List ℕ) → Option (List ℕ) → ExitStatus → Type 0
+TellsAnswer before after status = TellsDocument before after status ⊎ (TellsReport before after status ⊎ TellsNothing before after status)

@@ -1,0 +1,4 @@
+pub mod Heard
+pub mod Errands
+pub mod Paths
+pub mod Told

@@ -1,0 +1,174 @@
+//! What an answer of a server comes to.
+ghost use Rattle.std.specs.Prelude.{◌≡◌, ◌==◌, option_copied, slice_get};
+ghost use Rattle.std.specs.List.{slice_split};
+ghost use Rattle.errands.specs.Heard as meant;
+
+use segments::{all_digits, value_up_to};
+use store::{Fault, Refusal};
+
+/// What an answer of a server comes to.
+#[derive(Clone, Copy, Debug, PartialEq, Eq)]
+pub enum Answered {
+    /// What was asked for is done.
+    Done,
+    /// It was refused.
+    Refused(Refusal),
+    /// It couldn't be done. Device (44) also stands for an answer that no such server gives.
+    Stopped(Fault),
+}
+
+// The part at a place between the separators.
+fn part(text: &[u8], separator: u8, n: usize) -> Option<&[u8]>
+    ensures { option_copied result ≡ slice_get (slice_split (λ b. b == separator) text.now) n }
+{
+    text.split(|b| *b == separator).nth(n)
+}
+
+// The value of digits, up to 1000; 0 of any other text.
+fn value_of(text: &[u8]) -> u64
+    ensures { result ≡ meant.value_of text.now }
+{
+    if all_digits(text) {
+        value_up_to(text, 1_000)
+    } else {
+        0
+    }
+}
+
+// The number that a text begins with, before its first space.
+fn number_in(text: &[u8]) -> u64
+    ensures { result ≡ meant.number_in text.now }
+{
+    match part(text, b' ', 0) {
+        Some(front) => value_of(front),
+        None => 0,
+    }
+}
+
+// The note code that three digits are, if they are one.
+fn note_of(piece: &[u8]) -> Option<u8>
+    ensures { result ≡ meant.note_of piece.now }
+{
+    if piece.len() < 3 {
+        return None;
+    }
+    let code = value_up_to(&piece[..3], 1_000);
+    if code > 255 {
+        return None;
+    }
+    Some(code as u8)
+}
+
+// The code of the note in an interchange that refuses another (TA105), if it has one.
+fn note_in(text: &[u8]) -> Option<u8>
+    ensures { result ≡ meant.note_in text.now }
+{
+    if text.len() < 4 {
+        return None;
+    }
+    match part(text, text[3], 21) {
+        Some(piece) => note_of(piece),
+        None => None,
+    }
+}
+
+// The refusal of this number; a note has its own way to be told.
+fn numbered(number: u64) -> Option<Refusal>
+    ensures { result ≡ meant.numbered number }
+{
+    Some(match number {
+        1 => Refusal::Unreadable,
+        3 => Refusal::Duplicate,
+        20 => Refusal::UnknownDepositor,
+        21 => Refusal::TicketUsed,
+        22 => Refusal::UnknownAdvice,
+        23 => Refusal::AdviceClosed,
+        24 => Refusal::UnknownOrder,
+        25 => Refusal::OrderClosed,
+        26 => Refusal::NotReserved,
+        27 => Refusal::UnknownLot,
+        28 => Refusal::BelowReserved,
+        29 => Refusal::NoDifference,
+        30 => Refusal::TooMuch,
+        31 => Refusal::RepeatedLine,
+        32 => Refusal::BadText,
+        33 => Refusal::TooManyLines,
+        34 => Refusal::NumbersUsedUp,
+        35 => Refusal::AlreadyEnrolled,
+        _ => return None,
+    })
+}
+
+// The fault of this number.
+fn fault_numbered(number: u64) -> Fault
+    ensures { result ≡ meant.fault_numbered number }
+{
+    match number {
+        40 => Fault::OutOfMemory,
+        41 => Fault::Store,
+        42 => Fault::Reopen,
+        43 => Fault::NotThisBook,
+        _ => Fault::Device,
+    }
+}
+
+// Whether a server tells the refusal under this status.
+fn stands_under(status: u16, refusal: Refusal) -> bool
+    ensures { result ≡ meant.stands_under status refusal }
+{
+    match refusal {
+        Refusal::Unreadable => status == 400,
+        Refusal::UnknownDepositor => status == 404,
+        Refusal::BadText => status == 404 || status == 422,
+        Refusal::TicketUsed => status == 409,
+        _ => status == 422,
+    }
+}
+
+// What a refusal's line comes to.
+fn heard_line(status: u16, line: &[u8]) -> Answered
+    ensures { result ≡ meant.heard_line status line.now }
+{
+    match numbered(number_in(line)) {
+        Some(refusal) if stands_under(status, refusal) => Answered::Refused(refusal),
+        _ => Answered::Stopped(Fault::Device),
+    }
+}
+
+// What an interchange that refuses with a note comes to.
+fn heard_note(text: &[u8]) -> Answered
+    ensures { result ≡ meant.heard_note text.now }
+{
+    match note_in(text) {
+        Some(code) => Answered::Refused(Refusal::Note(code)),
+        None => Answered::Stopped(Fault::Device),
+    }
+}
+
+/// What the answer to a command comes to, by its status, by whether its body is an interchange, and by its body. An interchange
+/// that is too large (413) is refused as one that can't be read, as it is over a book in a file.
+pub fn heard(status: u16, is_interchange: bool, body: &[u8]) -> Answered
+    ensures { result ≡ meant.heard status is_interchange body.now }
+{
+    match status {
+        200 if is_interchange => Answered::Done,
+        204 => Answered::Done,
+        409 if is_interchange => Answered::Refused(Refusal::Duplicate),
+        422 if is_interchange => heard_note(body),
+        413 => Answered::Refused(Refusal::Unreadable),
+        503 => Answered::Stopped(fault_numbered(number_in(body))),
+        _ => heard_line(status, body),
+    }
+}
+
+/// What the answer to a query comes to. A server says `404 Not Found` of a depositor whom it doesn't know.
+pub fn heard_report(status: u16, is_interchange: bool, body: &[u8]) -> Answered
+    ensures { result ≡ meant.heard_report status is_interchange body.now }
+{
+    match status {
+        200 if !is_interchange => Answered::Done,
+        404 if number_in(body) == 404 => Answered::Refused(Refusal::UnknownDepositor),
+        503 => Answered::Stopped(fault_numbered(number_in(body))),
+        _ => heard_line(status, body),
+    }
+}

@@ -1,0 +1,44 @@
+//! Laws, of which nothing runs: a server finds what a command asks, and what it did is told as it is over the book in its file.
+ghost use Rattle.std.specs.Prelude.{◌≡◌, true, Some};
+ghost use Rattle.profile.specs.Header.{Who as Partner};
+ghost use Rattle.profile.specs.Response.{reply_response};
+ghost use Rattle.store.specs.Runs.{told};
+ghost use Rattle.intake.specs.Calls.{Call, call_of, deed_reply};
+ghost use Rattle.commands.specs.Clerks.{depositor_of};
+ghost use Rattle.commands.specs.Looking.{is_readable};
+ghost use Rattle.errands.specs.Paths.{deed_call, deed_path, look_path, show_call};
+ghost use Rattle.errands.specs.Told.{IsReply, IsReplyToInterchange, IsToldAs};
+
+use command_line::{ClerkWords, Show};
+use store::Reply;
+
+/// What a server responds to a clerk's act is told as the reply to it.
+pub fn an_act_is_told_as_over_the_book(reply: &Reply)
+    ensures { IsReply reply.now → IsToldAs reply.now (deed_reply (told reply.now)) }
+{
+    let _ = reply;
+}
+
+/// What a server responds to an interchange is told as the reply to it.
+pub fn an_interchange_is_told_as_over_the_book(reply: &Reply)
+    ensures { IsReplyToInterchange reply.now → IsToldAs reply.now (reply_response (told reply.now)) }
+{
+    let _ = reply;
+}
+
+/// A server finds a clerk's act, of words that can be read, at the path to which its sheet is posted.
+pub fn an_act_is_asked_where_it_is_taken(told: &ClerkWords<'_>)
+    ensures { (who : Partner) → depositor_of told.now ≡ Some who
+        → call_of (deed_path told.now) ≡ Some (deed_call told.now.deed told.now.who.now told.now.ticket.now
+        told.now.number.now) }
+{
+    let _ = told;
+}
+
+/// A server finds a picking sheet, and the stock as CSV, at the paths at which a command asks for them.
+pub fn a_sheet_is_asked_where_it_is_shown(show: &Show<'_>)
+    ensures { is_readable show.now ≡ true → (call : Call) → show_call show.now ≡ Some call
+        → call_of (look_path show.now) ≡ Some call }
+{
+    let _ = show;
+}

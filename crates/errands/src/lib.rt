@@ -1,0 +1,12 @@
+//! What a command asks of a running server, and what it prints of the answer: the same as over the book in its file.
+#![tactic(auto)]
+
+mod answers;
+mod errand;
+pub mod laws;
+mod paths;
+mod running;
+
+pub use answers::{Answered, heard, heard_report};
+pub use errand::{Errand, errand_of};
+pub use running::{carry_out, tell_document, tell_report};

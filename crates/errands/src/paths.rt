@@ -1,0 +1,80 @@
+//! Where a server takes what it is asked for.
+ghost use Rattle.std.specs.Prelude.{◌≡◌, ◌∷◌, [], IfOk, string_bytes};
+ghost use Rattle.errands.specs.Paths as meant;
+
+use command_line::{ClerkWords, Deed, Show};
+use itoa::Buffer;
+use remote::path_of;
+use std::alloc::{AllocError, Global};
+
+// The word of a deed in its path.
+fn name_of(deed: Deed) -> &'static str
+    ensures { result.now ≡ meant.name_of deed }
+{
+    match deed {
+        Deed::Count => "count",
+        Deed::Pick => "pick",
+        Deed::Recount => "recount",
+    }
+}
+
+// The path of an act that has no number.
+fn path_without<'a>(
+    alloc: Global,
+    name: &'a str,
+    who: &'a str,
+    ticket: &'a str,
+) -> Result<String, AllocError>
+    ensures { IfOk result (λ path. string_bytes path ≡ meant.path_text (name.now ∷ who.now ∷ ticket.now ∷ [])) }
+{
+    path_of(alloc, &[name, who, ticket])
+}
+
+// The path of an act about an advice or an order.
+fn path_with<'a>(
+    alloc: Global,
+    name: &'a str,
+    who: &'a str,
+    ticket: &'a str,
+    number: &'a str,
+) -> Result<String, AllocError>
+    ensures { IfOk result (λ path. string_bytes path ≡ meant.path_text (name.now ∷ who.now ∷ ticket.now ∷ number.now ∷ [])) }
+{
+    path_of(alloc, &[name, who, ticket, number])
+}
+
+/// The path to which a clerk's sheet is posted.
+pub(crate) fn deed_path(alloc: Global, told: &ClerkWords<'_>) -> Result<String, AllocError>
+    ensures { IfOk result (λ path. string_bytes path ≡ meant.deed_path told.now) }
+{
+    let name = name_of(told.deed);
+    match told.deed {
+        Deed::Recount => path_without(alloc, name, told.who, told.ticket),
+        _ => path_with(alloc, name, told.who, told.ticket, told.number),
+    }
+}
+
+// The path of a text that went out.
+fn text_path(alloc: Global, who: &str, number: u32) -> Result<String, AllocError>
+    ensures { IfOk result (λ path. string_bytes path ≡ meant.text_path who.now number) }
+{
+    let mut digits = Buffer::new();
+    let number = digits.format(number);
+    path_of(alloc, &["outbox", who, number])
+}
+
+/// The path at which something is shown.
+pub(crate) fn look_path(alloc: Global, show: &Show<'_>) -> Result<String, AllocError>
+    ensures { IfOk result (λ path. string_bytes path ≡ meant.look_path show.now) }
+{
+    match show {
+        Show::Stock { who, is_csv: false } => path_of(alloc, &["stock", *who]),
+        Show::Stock { who, is_csv: true } => path_of(alloc, &["stock", *who, "csv"]),
+        Show::Order { who, number } => path_of(alloc, &["orders", *who, *number]),
+        Show::Outbox { who, number: None } => path_of(alloc, &["outbox", *who]),
+        Show::Outbox {
+            who,
+            number: Some(number),
+        } => text_path(alloc, *who, *number),
+    }
+}

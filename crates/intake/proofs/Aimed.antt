@@ -1,0 +1,62 @@
+-- the answer to what is asked for at a target is the answer to a request
+use Rattle.std.proofs.Common.{◌≡◌, ℕ, Bool, true, false, List, Option, Some, None, option_map, Result, Err, Ok, sym, ◌∙◌, refl, ap, subst, if◌then◌else◌}
+use Rattle.httparse.specs.Grammar.{RequestHead}
+use Rattle.profile.specs.declared.rules.Rules.TheVariants.{Two}
+use Rattle.profile.specs.Moments.{Moment}
+use Rattle.profile.specs.Register.{Command, Interchange}
+use Rattle.profile.specs.Response.{Response, Method, Route, Head, is_exchange, body_after, asked, submitted_by, response_of, resp}
+use Rattle.store.specs.Standing.{Standing}
+use Rattle.intake.specs.Calls.{Call, call_of}
+use Rattle.intake.specs.Fields.{head_of}
+use Rattle.intake.specs.Serving.{IsAnswered, call_submitted, call_answer, command_in, answer_of}
+use Rattle.intake.specs.Targets.{Target, ToRoute, ToCall, target_by, target_of, handed_in, asked_with, command_with, response_with}
+use Rattle.intake.specs.declared.audience.Audience.{Audience}
+use Rattle.intake.specs.declared.audience.Audience.TheVariants.{Partners, Clerks}
+
+abbrev with_head : Head → Result (List ℕ) ℕ → Result (Head × List ℕ) ℕ
+with_head h (Err status) = Err status
+with_head h (Ok body) = Ok (h, body)
+
+-- what is asked for at a route
+as_asked : (h : Head) (rest : List ℕ) → asked (Some h) rest ≡ with_head h (asked_with h (ToRoute h.route) rest)
+as_asked h rest = by h.is_encoded (is_exchange h.method h.route) (body_after h.lengths rest) refl refl refl
+  where
+    by : (e x : Bool) (b : Result (List ℕ) ℕ) → h.is_encoded ≡ e → is_exchange h.method h.route ≡ x → body_after h.lengths rest ≡ b
+        → asked (Some h) rest ≡ with_head h (asked_with h (ToRoute h.route) rest)
+    by true x b p q s = rw p refl
+    by false false b p q s = rw (p, q) refl
+    by false true (Err status) p q s = rw (p, q, s) refl
+    by false true (Ok body) p q s = rw (p, q, s) refl
+
+as_submitted : (m : Method) (to : Route) (body : List ℕ) → handed_in m to body ≡ option_map Interchange (if is_exchange m to then Some body else None)
+as_submitted m to body = by (is_exchange m to)
+  where
+    by : (x : Bool) → (if x then Some (Interchange body) else None) ≡ option_map Interchange (if x then Some body else None)
+    by true = refl
+    by false = refl
+
+module _ (old new : Standing) (t : Moment) (r : Response) where
+  -- an answer to what is asked for at a target
+  abbrev pub Answers : Method → Target → Result (List ℕ) ℕ → Type 0
+  Answers m to q = IsAnswered old new t (command_with m to q) (λ L. response_with old.warehouse L m to t q) r
+
+  -- and at a route alone
+  abbrev Asked : Result (Head × List ℕ) ℕ → Type 0
+  Asked q = IsAnswered old new t (option_map Interchange (submitted_by q)) (λ L. response_of Two old.warehouse L t q) r
+
+  at_route : (h : Head) (q : Result (List ℕ) ℕ) → Answers h.method (ToRoute h.route) q → Asked (with_head h q)
+  at_route h (Err status) answer = answer
+  at_route h (Ok body) answer =
+      subst (λ (c : Option Command). IsAnswered old new t c (λ L. resp Two old.warehouse L h.method h.route body t) r) (as_submitted h.method h.route body) answer
+
+  at_call : (o : Option Call) (h : RequestHead) (rest : List ℕ) (q : Result (List ℕ) ℕ) → asked_with (head_of h) (target_by o h.target) rest ≡ q
+      → Answers (head_of h).method (target_by o h.target) q
+      → IsAnswered old new t (call_submitted o h rest) (λ L. call_answer o old.warehouse L h rest t) r
+  at_call None h rest q e answer = subst Asked (sym (as_asked (head_of h) rest ∙ ap (with_head (head_of h)) e)) (at_route (head_of h) q answer)
+  at_call (Some call) h rest q e answer = subst (Answers (head_of h).method (ToCall call)) (sym e) answer
+
+  pub to_request : (audience : Audience) (h : RequestHead) (rest : List ℕ) (q : Result (List ℕ) ℕ) → asked_with (head_of h) (target_of audience h.target) rest ≡ q
+      → Answers (head_of h).method (target_of audience h.target) q
+      → IsAnswered old new t (command_in audience (Some h) rest) (λ L. answer_of audience old.warehouse L (Some h) rest t) r
+  to_request Partners h rest q e answer = at_call None h rest q e answer
+  to_request Clerks h rest q e answer = at_call (call_of h.target) h rest q e answer

@@ -1,0 +1,6 @@
+use Rattle.store.proofs.Changes.{unchanged_refl}
+use Rattle.intake.proofs.Called.{shown}
+use Rattle.intake.proofs.clerks.called.Goals as goal
+
+pub returns-in-Other-clause-answered : goal.returns-in-Other-clause-answered
+returns-in-Other-clause-answered g c = rw c.in-Other.is (shown _ _ _ _ _ (λ clean L keeps legal. c.not_called.ensures (g.K.Keeper.standing c.args.keeper.now).warehouse L _ _) (unchanged_refl _))

@@ -1,0 +1,7 @@
+use Rattle.std.proofs.Common.{◌∙◌, ap}
+use Rattle.profile.specs.Response.{with_body, plain_type}
+use Rattle.intake.proofs.Replied.{stranger_line}
+use Rattle.intake.proofs.replies.stranger.Goals as goal
+
+pub returns : goal.returns
+returns c = c.with_line.ensures ∙ ap (with_body 404 plain_type) (c.refusal_text.ensures ∙ stranger_line)

@@ -1,0 +1,117 @@
+//! What clerks are answered.
+ghost use Rattle.std.specs.Prelude.{Some};
+ghost use Rattle.profile.specs.declared.rules.Rules.TheVariants.{Two};
+ghost use Rattle.profile.specs.Accepted.{reply_to};
+ghost use Rattle.profile.specs.Response.{Get, Post};
+ghost use Rattle.store.specs.Standing.{GoesOn};
+ghost use Rattle.intake.specs.Answers.{seen};
+ghost use Rattle.intake.specs.Calls.{deed_reply, call_command, call_resp};
+ghost use Rattle.intake.specs.Fields.{seen_method};
+ghost use Rattle.intake.specs.Serving.{IsAnswered};
+ghost use Rattle.intake.specs.Slips.{command_of};
+ghost use Rattle.intake.specs.Targets.{seen_call, seen_deed};
+
+use crate::calls::{Call, Deed};
+use crate::heading::MethodKind;
+use crate::looking::{looked_at, not_called};
+use crate::replies::{of_deed, of_fault};
+use crate::response::Response;
+use crate::slips::{Slip, command, slip_of};
+use std::alloc::Global;
+use store::{Fault, Keeper, Moment, submit};
+
+// Submits what a clerk did.
+fn performed<K: Keeper>(alloc: Global, keeper: &mut K, slip: &Slip<'_>, moment: Moment) -> Response
+    ensures answered { let c = command_of slip.now.who slip.now.deed slip.now.sheet in
+        IsAnswered (K.standing keeper.old) (K.standing keeper.new) moment (Some c)
+        (λ L. deed_reply (reply_to Two (K.standing keeper.old).warehouse L c moment)) (seen result) }
+    ensures goes { GoesOn (K.standing keeper.old) (K.standing keeper.new) }
+{
+    match submit(alloc, keeper, &command(slip), moment) {
+        Ok(reply) => of_deed(reply),
+        Err(fault) => of_fault(fault),
+    }
+}
+
+// The response to a deed whose sheet is the body.
+fn deed_at<K: Keeper>(
+    alloc: Global,
+    keeper: &mut K,
+    deed: &Deed<'_>,
+    body: &[u8],
+    moment: Moment,
+) -> Response
+    ensures answered { IsAnswered (K.standing keeper.old) (K.standing keeper.new) moment
+        (call_command Post (seen_deed deed.now) body.now)
+        (λ L. call_resp (K.standing keeper.old).warehouse L Post (seen_deed deed.now) body.now moment) (seen result) }
+    ensures goes { GoesOn (K.standing keeper.old) (K.standing keeper.new) }
+{
+    let Ok(made) = slip_of(alloc, deed, body) else {
+        return of_fault(Fault::OutOfMemory);
+    };
+    match made {
+        Ok(slip) => performed(alloc, keeper, &slip, moment),
+        Err(response) => response,
+    }
+}
+
+// The response to a call by POST.
+fn posted_to<K: Keeper>(
+    alloc: Global,
+    keeper: &mut K,
+    call: &Call<'_>,
+    body: &[u8],
+    moment: Moment,
+) -> Response
+    ensures answered { IsAnswered (K.standing keeper.old) (K.standing keeper.new) moment
+        (call_command Post (seen_call call.now) body.now)
+        (λ L. call_resp (K.standing keeper.old).warehouse L Post (seen_call call.now) body.now moment) (seen result) }
+    ensures goes { GoesOn (K.standing keeper.old) (K.standing keeper.new) }
+{
+    match *call {
+        Call::Deed(deed) => deed_at(alloc, keeper, &deed, body, moment),
+        _ => not_called(call),
+    }
+}
+
+// The response to a call by GET.
+fn got_from<K: Keeper>(
+    alloc: Global,
+    keeper: &mut K,
+    call: &Call<'_>,
+    body: &[u8],
+    moment: Moment,
+) -> Response
+    ensures answered { IsAnswered (K.standing keeper.old) (K.standing keeper.new) moment
+        (call_command Get (seen_call call.now) body.now)
+        (λ L. call_resp (K.standing keeper.old).warehouse L Get (seen_call call.now) body.now moment) (seen result) }
+    ensures goes { GoesOn (K.standing keeper.old) (K.standing keeper.new) }
+{
+    match looked_at(alloc, keeper, call) {
+        Ok(response) => response,
+        Err(fault) => of_fault(fault),
+    }
+}
+
+/// The response to a request whose path calls for something. A fault inside is answered 503, and is
+/// told in the response alone.
+pub(crate) fn called<K: Keeper>(
+    alloc: Global,
+    keeper: &mut K,
+    method: MethodKind,
+    call: &Call<'_>,
+    body: &[u8],
+    moment: Moment,
+) -> Response
+    ensures answered { IsAnswered (K.standing keeper.old) (K.standing keeper.new) moment
+        (call_command (seen_method method) (seen_call call.now) body.now)
+        (λ L. call_resp (K.standing keeper.old).warehouse L (seen_method method) (seen_call call.now) body.now moment)
+        (seen result) }
+    ensures goes { GoesOn (K.standing keeper.old) (K.standing keeper.new) }
+{
+    match method {
+        MethodKind::Get => got_from(alloc, keeper, call, body, moment),
+        MethodKind::Post => posted_to(alloc, keeper, call, body, moment),
+        MethodKind::Other => not_called(call),
+    }
+}

@@ -1,0 +1,116 @@
+//! What clerks are shown: the picking sheet of an order, and the export of a depositor's stock.
+ghost use Rattle.std.specs.Prelude.{◌≡◌, ℕ, List, Result, IfOk, IfErr};
+ghost use Rattle.profile.specs.declared.rules.Rules.TheVariants.{Two};
+ghost use Rattle.profile.specs.Header.{Who as Partner};
+ghost use Rattle.profile.specs.Moments.{Moment as Minute};
+ghost use Rattle.profile.specs.Refusals.{Refusal as Meant};
+ghost use Rattle.profile.specs.Register.{Entry};
+ghost use Rattle.profile.specs.Reports as reports;
+ghost use Rattle.profile.specs.Response.{Get, OtherMethod, found_for, with_body, plain_type};
+ghost use Rattle.profile.specs.Rows.{stock_of};
+ghost use Rattle.reports.specs.Picking.{Explains};
+ghost use Rattle.store.specs.Standing.{IsUnchanged, IsQueryFault, OfKept};
+ghost use Rattle.intake.specs.Answers.{seen};
+ghost use Rattle.intake.specs.Calls.{owner_of, order_response, sheet_response, call_resp};
+ghost use Rattle.intake.specs.Targets.{seen_call};
+
+use crate::calls::Call;
+use crate::replies::{bad_part, refused, stranger, with_text};
+use crate::response::{Allow, MediaType, Response, Status, bare_response, not_allowed_response};
+use profile::MOST_NUMBER;
+use reports::{NoSheet, pick_list, stock_csv};
+use std::alloc::Global;
+use store::{Fault, Ident, Keeper, Need, Refusal, Who};
+
+// The export of what the depositor has that a part of a path names.
+fn export_at<K: Keeper>(alloc: Global, keeper: &mut K, who: &[u8]) -> Result<Response, Fault>
+    ensures response { OfKept (K.standing keeper.old) (K.standing keeper.new)
+        (λ L. IfOk result (λ r. seen r ≡ found_for who.now (stock_of L) (λ rows. with_body 200 plain_type
+        (reports.stock_csv Two rows)))) }
+    ensures same { IsUnchanged (K.standing keeper.old) (K.standing keeper.new) }
+    ensures fault { IfErr result (λ fault. IsQueryFault fault (K.standing keeper.old) (K.standing keeper.new)) }
+{
+    let Some(who) = Who::new(who) else {
+        return Ok(bare_response(Status::NotFound));
+    };
+    match store::stock(keeper, who)? {
+        Some(rows) => Ok(with_text(Status::Okay, MediaType::Plain, stock_csv(alloc, &rows)?)),
+        None => Ok(bare_response(Status::NotFound)),
+    }
+}
+
+// The depositor whose order is named; None where a part of the path can't be read.
+fn owner(who: &[u8], number: &[u8]) -> Option<Who>
+    ensures { result ≡ owner_of who.now number.now }
+{
+    Ident::new(number, MOST_NUMBER)?;
+    Who::new(who)
+}
+
+// Why there is no picking sheet, as a response.
+fn no_sheet(alloc: Global, why: NoSheet) -> Result<Response, Fault>
+    ensures told { IfOk result (λ r. (answer : Result (List ℕ) Meant) → Explains answer why → seen r ≡ sheet_response answer) }
+    ensures starved { IfErr result (λ fault. fault ≡ Fault.OutOfMemory) }
+{
+    match why {
+        NoSheet::UnknownOrder => Ok(refused(Refusal::UnknownOrder, Vec::new(alloc))),
+        NoSheet::OrderClosed => Ok(refused(Refusal::OrderClosed, Vec::new(alloc))),
+        NoSheet::OutOfMemory => Err(Fault::OutOfMemory),
+    }
+}
+
+// The picking sheet of the order that a path names.
+fn order_at<K: Keeper>(
+    alloc: Global,
+    keeper: &mut K,
+    who: &[u8],
+    number: &[u8],
+) -> Result<Response, Fault>
+    ensures response { OfKept (K.standing keeper.old) (K.standing keeper.new)
+        (λ L. IfOk result (λ r. seen r ≡ order_response L (owner_of who.now number.now) number.now)) }
+    ensures same { IsUnchanged (K.standing keeper.old) (K.standing keeper.new) }
+    ensures fault { IfErr result (λ fault. IsQueryFault fault (K.standing keeper.old) (K.standing keeper.new)) }
+{
+    let Some(who) = owner(who, number) else {
+        return Ok(bad_part());
+    };
+    let need = Need::order(alloc, number)?;
+    let Some(page) = keeper.load(who, &need)? else {
+        return Ok(stranger());
+    };
+    match pick_list(alloc, &page, number) {
+        Ok(sheet) => Ok(with_text(Status::Okay, MediaType::Plain, sheet)),
+        Err(why) => no_sheet(alloc, why),
+    }
+}
+
+/// The response to a call by GET. The book is as before. A fault is that of the query, or want of
+/// memory for the response.
+pub(crate) fn looked_at<K: Keeper>(
+    alloc: Global,
+    keeper: &mut K,
+    call: &Call<'_>,
+) -> Result<Response, Fault>
+    ensures response { OfKept (K.standing keeper.old) (K.standing keeper.new)
+        (λ L. (body : List ℕ) (t : Minute) → IfOk result (λ r. seen r ≡ call_resp
+        (K.standing keeper.old).warehouse L Get (seen_call call.now) body t)) }
+    ensures same { IsUnchanged (K.standing keeper.old) (K.standing keeper.new) }
+    ensures fault { IfErr result (λ fault. IsQueryFault fault (K.standing keeper.old) (K.standing keeper.new)) }
+{
+    match *call {
+        Call::Deed(_) => Ok(not_allowed_response(Allow::Post)),
+        Call::Order(who, number) => order_at(alloc, keeper, who, number),
+        Call::Export(who) => export_at(alloc, keeper, who),
+    }
+}
+
+/// The response to a call by a method that no path allows.
+pub(crate) fn not_called(call: &Call<'_>) -> Response
+    ensures { (W : Partner) (L : List Entry) (body : List ℕ) (t : Minute)
+        → seen result ≡ call_resp W L OtherMethod (seen_call call.now) body t }
+{
+    match *call {
+        Call::Deed(_) => not_allowed_response(Allow::Post),
+        _ => not_allowed_response(Allow::Get),
+    }
+}

@@ -1,0 +1,7 @@
+pub mod Sends
+pub mod Filling
+pub mod Written
+pub mod Answering
+pub mod OneAnswer
+pub mod ReadingBack
+mod RowsTexts

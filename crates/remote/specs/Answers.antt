@@ -1,0 +1,43 @@
+-- What the server answered, as it stands in an input.
+use Rattle.std.specs.Prelude.{◌≡◌, ℕ, ◌≤◌, List, [], Option, Some, IfSome, length, take, codes}
+use Rattle.httparse.specs.Grammar.{ResponseHead, ReadsResponse, print_response, status_code}
+use Rattle.remote.specs.Fields.{stated, is_x12, body_length}
+use Rattle.remote.specs.declared.answers.Answer.{Answer}
+
+-- the input is what the reader has, where that is known
+abbrev pub IsInput : Option (List ℕ) → List ℕ → Type 0
+IsInput known input = IfSome known (λ bytes. input ≡ bytes)
+
+-- the input begins with that head, within the room, and then has rest
+pub record HasHead (input : List ℕ) (h : ResponseHead) (rest : List ℕ) : Type 0 where
+  pub reads : ReadsResponse input h rest
+  pub size : length (print_response h) ≤ 8192
+  pub fields : length h.fields ≤ 32
+
+-- that many bytes, the first of these
+abbrev pub IsFront : List ℕ → ℕ → List ℕ → Type 0
+IsFront body size bytes = (size ≤ length bytes) × (body ≡ take size bytes)
+
+-- a body of one length, and not in chunks
+pub record HasBody (h : ResponseHead) (rest body : List ℕ) : Type 0 where
+  pub whole : stated (codes "Transfer-Encoding") h ≡ []
+  pub size : ℕ
+  pub length : body_length (stated (codes "Content-Length") h) ≡ Some size
+  pub front : IsFront body size rest
+
+-- what a reader has begins with a head and its body, and the answer is what they say
+pub record IsAnswer (known : Option (List ℕ)) (a : Answer) : Type 0 where
+  pub input : List ℕ
+  pub is_input : IsInput known input
+  pub head : ResponseHead
+  pub rest : List ℕ
+  pub begins : HasHead input head rest
+  pub status : a.status ≡ status_code head
+  pub kind : a.is_interchange ≡ is_x12 (stated (codes "Content-Type") head)
+  pub body : HasBody head rest a.body.items
+
+-- both say the same
+pub record IsSame (a b : Answer) : Type 0 where
+  pub status : a.status ≡ b.status
+  pub kind : a.is_interchange ≡ b.is_interchange
+  pub body : a.body.items ≡ b.body.items

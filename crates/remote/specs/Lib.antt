@@ -1,0 +1,4 @@
+pub mod Requests
+pub mod Fields
+pub mod Answers
+pub mod ReadBack

@@ -1,0 +1,2 @@
+mod laying;
+mod program;

@@ -1,0 +1,186 @@
+//! A book that is served.
+use super::*;
+use commands::{Service, Verbosity, serve_on};
+use std::io::{Read, Write};
+use std::net::{TcpListener, TcpStream};
+use store::{Command, Keeper, Moment, ReplayBook, Warehouse, Who, submit};
+
+// The head of the response to the advice; its answer comes after it.
+const HEAD: &str =
+    "HTTP/1.1 200 OK\r\nContent-Type: application/EDI-X12\r\nContent-Length: 265\r\nConnection: close\r\n\r\n";
+
+// The advice with 101 for 100, under the same control number, and the response to it where the
+// advice came before.
+const CHANGED: &str =
+    "ISA*00*          *00*          *ZZ*ACME           *ZZ*WHSE1          *250304*0915*U*00401*000000001*1*P*>~GS*AR*ACME*WHSE1*20250304*0915*1*X*004010~ST*943*0001~W06*F*PO77*20250303*SHP1~W04*101*EA**SK*BOLT~N9*LT*L1~W03*101~SE*6*0001~GE*1*1~IEA*1*000000001~";
+
+const CONFLICT: &[u8] =
+    b"HTTP/1.1 409 Conflict\r\nContent-Type: application/EDI-X12\r\nContent-Length: 154\r\nConnection: close\r\n\r\nISA*00*          *00*          *ZZ*WHSE1          *ZZ*ACME           *250304*0915*U*00401*000000000*0*P*>~TA1*000000001*250304*0915*R*025~IEA*0*000000000~";
+
+// The request that posts an interchange.
+fn posted(rt: &HostRuntime, interchange: &str) -> Result<String, Fail> {
+    let length = interchange.len();
+    Ok(format!(in rt.alloc();
+        "POST /x12 HTTP/1.1\r\nHost: localhost\r\nContent-Length: {length}\r\n\r\n{interchange}"
+    )?)
+}
+
+// Enrols ZZ ACME.
+fn enrol<K: Keeper>(rt: &HostRuntime, book: &mut K, moment: Moment) -> Result<(), Fail> {
+    let who = Who::new(b"ZZ-ACME").ok_or("a depositor")?;
+    submit(rt.alloc(), book, &Command::Enrol(who), moment)?;
+    Ok(())
+}
+
+// A book in memory of which ZZ ACME is a depositor.
+fn enrolled(rt: &HostRuntime, moment: Moment) -> Result<ReplayBook, Fail> {
+    let who = Who::new(b"ZZ-WHSE1").ok_or("a warehouse")?;
+    let mut book = ReplayBook::new(rt.alloc(), Warehouse::new(who));
+    enrol(rt, &mut book, moment)?;
+    Ok(book)
+}
+
+// What was printed of two connections, and what was told of them on standard error.
+#[derive(Drop)]
+struct Told {
+    out: Vec<u8>,
+    err: String,
+}
+
+// Serves two connections, and has each of them told.
+fn served(
+    rt: &HostRuntime,
+    listener: &TcpListener,
+    book: &mut ReplayBook,
+    moment: Moment,
+    has_clock: bool,
+    clerks: bool,
+) -> Result<Told, Fail> {
+    let (mut out, mut err) = (Vec::new(rt.alloc()), Vec::new(rt.alloc()));
+    let loud = Verbosity {
+        explains: true,
+        watches: false,
+    };
+    let service = Service {
+        address: listener.local_addr()?,
+        count: 2,
+        patience: None,
+        clerks,
+    };
+    let status = serve_on(
+        rt,
+        listener,
+        &service,
+        book,
+        moment,
+        has_clock,
+        || true,
+        loud,
+        &mut out,
+        &mut err,
+    );
+    match status {
+        Ok(_) => Ok(Told {
+            out,
+            err: String::from_utf8(err)?,
+        }),
+        Err(_) => Err("a fault".into()),
+    }
+}
+
+// Connects to an address, and writes a request.
+fn asked(rt: &HostRuntime, listener: &TcpListener, request: &[u8]) -> Result<TcpStream, Fail> {
+    let mut client = TcpStream::connect(rt, listener.local_addr()?)?;
+    client.write_all(request)?;
+    Ok(client)
+}
+
+// All that a client is answered.
+fn heard(rt: &HostRuntime, client: &mut TcpStream) -> Result<Vec<u8>, Fail> {
+    let mut whole = Vec::new(rt.alloc());
+    client.read_to_end(&mut whole)?;
+    Ok(whole)
+}
+
+// Whether a line tells of a connection of this machine at the moment, and of what it asked for and was answered.
+fn tells(line: Option<&str>, what: &str) -> bool {
+    match line {
+        Some(line) => line.starts_with("2025-03-04T09:15 127.0.0.1:") && line.contains(what),
+        None => false,
+    }
+}
+
+const NOT_ACCEPTED: &str = "2025-03-04T09:15 - - - 44 0 bytes\n2025-03-04T09:15 - - - 44 0 bytes\n";
+
+// Clients that wrote before they are served, one after the other: two by the clock, and two at one
+// moment. Where no client waits an accept fails, which is told as 44 and counts as a connection.
+#[test]
+fn each_connection_is_told(rt: HostRuntime) -> Result<(), Fail> {
+    let moment = Moment::new(2025, 3, 4, 9, 15).ok_or("a moment")?;
+    let mut book = enrolled(&rt, moment)?;
+    let listener = TcpListener::bind(&rt, "127.0.0.1:0")?;
+    let _first = asked(&rt, &listener, b"GET /stock/ZZ-NONE HTTP/1.1\r\n\r\n")?;
+    let _second = asked(&rt, &listener, b"POST /x12 HTTP/1.1\r\n\r\n")?;
+    let told = served(&rt, &listener, &mut book, moment, true, false)?;
+    assert!(rt; told.out.as_slice() == b"404\n411\n".as_slice());
+    assert!(rt; told.err.contains(" GET /stock/ZZ-NONE 404 "));
+    let (first, changed) = (posted(&rt, ADVICE)?, posted(&rt, CHANGED)?);
+    let response = format!(in rt.alloc(); "{HEAD}{}", ANSWER.trim_end())?;
+    let mut third = asked(&rt, &listener, first.as_bytes())?;
+    let mut fourth = asked(&rt, &listener, changed.as_bytes())?;
+    let told = served(&rt, &listener, &mut book, moment, false, false)?;
+    assert!(rt; told.out.as_slice() == b"200\n409\n".as_slice());
+    let mut lines = told.err.lines();
+    assert!(rt; tells(lines.next(), " POST /x12 200 359 bytes "));
+    assert!(rt; tells(lines.next(), " POST /x12 409 254 bytes ") && lines.next().is_none());
+    assert!(rt; heard(&rt, &mut third)?.as_slice() == response.as_bytes());
+    assert!(rt; heard(&rt, &mut fourth)?.as_slice() == CONFLICT);
+    listener.set_nonblocking(true)?;
+    let told = served(&rt, &listener, &mut book, moment, false, false)?;
+    assert!(rt; told.out.as_slice() == b"fault 44 Device\nfault 44 Device\n".as_slice());
+    assert!(rt; told.err.as_str() == NOT_ACCEPTED);
+    Ok(())
+}
+
+// A recount of a depositor without goods, and a picking sheet.
+const RECOUNT: &[u8] =
+    b"POST /recount/ZZ-ACME/REC-1 HTTP/1.1\r\nContent-Length: 11\r\n\r\nBOLT,L1,90\n";
+
+const PICKING: &[u8] = b"GET /orders/ZZ-NONE/ORD1 HTTP/1.1\r\n\r\n";
+
+// Only a server that is told to takes what clerks ask for.
+#[test]
+fn clerks_are_served_where_it_is_said(rt: HostRuntime) -> Result<(), Fail> {
+    let moment = Moment::new(2025, 3, 4, 9, 15).ok_or("a moment")?;
+    let mut book = enrolled(&rt, moment)?;
+    let listener = TcpListener::bind(&rt, "127.0.0.1:0")?;
+    for (clerks, printed, body) in [
+        (false, b"404\n404\n", "404 Not Found\n"),
+        (true, b"422\n404\n", "20 UnknownDepositor\n"),
+    ] {
+        let _first = asked(&rt, &listener, RECOUNT)?;
+        let mut second = asked(&rt, &listener, PICKING)?;
+        let told = served(&rt, &listener, &mut book, moment, false, clerks)?;
+        assert!(rt; told.out.as_slice() == printed.as_slice());
+        assert!(rt; heard(&rt, &mut second)?.ends_with(body.as_bytes()));
+    }
+    Ok(())
+}
+
+const IN_USE: Wanted<'static> = Wanted {
+    printed: "",
+    told: "fault 44 Device\n",
+    status: 3,
+};
+
+// Nobody can listen where somebody listens.
+#[test]
+fn an_address_in_use_is_a_fault(rt: HostRuntime) -> Result<(), Fail> {
+    let listener = TcpListener::bind(&rt, "127.0.0.1:0")?;
+    let at = listener.local_addr()?;
+    let line = format!(in rt.alloc(); "serve --listen {at} --count 1")?;
+    remove_book(&rt, "served.book", "served.book-wal")?;
+    run_lines(&rt, "served.book", "init ZZ-WHSE1")?;
+    run_lines(&rt, "served.book", &line)?.compare("in use", &IN_USE)?;
+    Ok(())
+}

@@ -1,4 +1,0 @@
-mod calls;
-mod program;
-mod texts;
-mod version1;
