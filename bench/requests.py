@@ -1,13 +1,15 @@
 #!/usr/bin/env python3
 """Hands the server requests that were changed by machine, and compares each response with a second reading of HTTP's rules. Not part of the gate.
 
-Usage: bench/requests.py [--requests N] [--seed N] [PROGRAM]     (default: 100000, crates/whx12/out/whx12, which `rt run` in that folder leaves)
+Usage: bench/requests.py [--requests N] [--seed N] [--clerks] [PROGRAM]     (default: 100000, crates/whx12/out/whx12, which `rt run` in that folder leaves)
 
 PROGRAM serves a book of ZZ-WHSE1 in which ZZ-ACME is enrolled. Each request is one of its routes, or near to one, and most are then changed:
 bytes flipped, put in, taken out or exchanged; fields repeated, left out or empty; lengths too small, too large or no number; the end cut off. Each
 is sent on a connection of its own, which then says that nothing more comes. The status is that of the second reading below, written from the grammar
 of RFC 9112 and the rules of docs/PROFILE.md without the program's code; of an interchange the body is what bench/model.py answers, and every
 response has the fields and the length that it must have. In the end `verify` says ok, and stock and outbox are those of model.py.
+
+With --clerks the server takes clerks' requests too, and half of the requests are such.
 
 Where a head is neither plainly good nor plainly bad, of which RFC 9112 lets a server choose (a lone LF for CR LF, blanks before a field, bytes above 7E),
 400 and the other reading are both taken. The status is 1 where something differs; the folder is then kept.
@@ -39,6 +41,8 @@ def beside(name):
 model = beside("model")
 compare = beside("compare")
 AT = "2025-03-04T09:15"
+# whether clerks are served
+CLERKS = "--clerks" in sys.argv
 TOKEN = rb"[!#$%&'*+\-.^_`|~0-9A-Za-z]+"
 PHRASES = {200: b"OK", 204: b"No Content", 400: b"Bad Request", 404: b"Not Found", 405: b"Method Not Allowed", 409: b"Conflict", 411: b"Length Required",
            413: b"Payload Too Large", 422: b"Unprocessable Entity", 501: b"Not Implemented"}
@@ -87,7 +91,24 @@ def routed(path):
         found = re.fullmatch(pattern, path)
         if found:
             return name, found.groups()
+    return called(path.split(b"/")) if CLERKS else None
+
+
+def called(parts):
+    """What a clerk asks for at a path of these parts, or None."""
+    if parts[0] == b"" and len(parts) == 5 and parts[1] in (b"count", b"pick"):
+        return "deed", (parts[1].decode(), *parts[2:])
+    if parts[0] == b"" and len(parts) == 4 and parts[1] == b"recount":
+        return "deed", ("recount", *parts[2:], b"")
+    if parts[0] == b"" and len(parts) == 4 and parts[1] == b"orders":
+        return "orders", tuple(parts[2:])
+    if parts[0] == b"" and len(parts) == 4 and parts[1] == b"stock" and parts[3] == b"csv":
+        return "export", (parts[2],)
     return None
+
+
+# those to which a body is posted
+POSTED = ("x12", "deed")
 
 
 def read(raw):
@@ -103,9 +124,9 @@ def read(raw):
     route = routed(path)
     if route is None:
         return ("status", 404), True
-    if (method == b"POST") != (route[0] == "x12") or method not in (b"POST", b"GET"):
+    if (method == b"POST") != (route[0] in POSTED) or method not in (b"POST", b"GET"):
         return ("status", 405), True
-    if route[0] != "x12":
+    if route[0] not in POSTED:
         return route, True
     lengths = [value for name, value in fields if name == b"content-length"]
     if not lengths:
@@ -116,7 +137,8 @@ def read(raw):
         return ("status", 413), True
     if len(rest) < int(lengths[0]):
         return ("status", 400), True
-    return ("x12", rest[:int(lengths[0])]), True
+    body = rest[:int(lengths[0])]
+    return ("x12", body) if route[0] == "x12" else ("deed", (*route[1], body)), True
 
 
 def response(status, kind=None, body=b"", allow=b""):
@@ -147,6 +169,27 @@ def exchanged(book, body):
     return response(200, X12, text) if text else response(204)
 
 
+def refused(told, is_bad_path):
+    """The response that tells a clerk's refusal."""
+    line = told.removeprefix("refused ").encode()
+    number = int(line.split(b" ")[0])
+    return response(404 if is_bad_path or number == 20 else 409 if number == 21 else 422, PLAIN, line)
+
+
+def clerk(book, kind, parts):
+    """The response to what a clerk asks for."""
+    if kind == "export":
+        text, told, _ = book.stock(parts[0], True)
+        return bare(404) if told else response(200, PLAIN, text)
+    if kind == "orders":
+        text, told, _ = book.orders(*parts)
+        return refused(told, told.startswith("refused 32 ")) if told else response(200, PLAIN, text)
+    deed, who, ticket, number, sheet = parts
+    is_bad = model.partner(who) is None or not model.ident(ticket, 20) or (deed != "recount" and not model.ident(number, 22))
+    text, told, _ = book.clerk(deed, who, ticket, number, sheet, AT)
+    return refused(told, is_bad) if told else response(200, X12, text[:-1])
+
+
 def wanted(book, raw):
     """The responses that may come to a request."""
     asked, is_sure = read(raw)
@@ -156,10 +199,12 @@ def wanted(book, raw):
         head, _ = split_head(raw)
         if asked[1] == 405:
             route = routed(head[1])
-        allow = b"" if route is None else b"Allow: POST\r\n" if route[0] == "x12" else b"Allow: GET\r\n"
+        allow = b"" if route is None else b"Allow: POST\r\n" if route[0] in POSTED else b"Allow: GET\r\n"
         return [bare(asked[1], allow)], is_sure
     if kind == "x12":
         return [exchanged(book, asked[1])], True
+    if kind in ("deed", "orders", "export"):
+        return [clerk(book, kind, asked[1])], True
     who = asked[1][0]
     if kind == "stock":
         text, told, _ = book.stock(who)
@@ -200,9 +245,15 @@ class Requests(compare.Day):
         path = r.choice([b"/x12"] * 6 + [b"/stock/ZZ-ACME", b"/outbox/ZZ-ACME", b"/outbox/ZZ-ACME/1", b"/outbox/ZZ-ACME/01", b"/outbox/ZZ-ACME/99", b"/stock/ZZ-NONE",
                                         b"/stock/", b"/", b"/x12/", b"/x12?a=1", b"//x12", b"/stock/ZZ-ACME/1", b"/outbox//1", b"/outbox/ZZ-ACME/1000000", b"*",
                                         b"/stock/%5A%5A-ACME", b"http://localhost/x12", b"/outbox/ZZ-BETA/2"])
+        deed = r.choice(["count", "count", "pick", "pick", "recount"]) if CLERKS and r.random() < 0.4 else None
+        if deed:
+            path = self.clerk_path(deed)
+        elif CLERKS and r.random() < 0.2:
+            who = self.word([b"ZZ-ACME"])
+            path = r.choice([b"/orders/%s/%s" % (who, self.word(compare.NUMBERS)), b"/stock/%s/csv" % who, b"/orders/%s" % who, b"/stock/%s/txt" % who])
         if r.random() < 0.8:
-            method = b"POST" if path == b"/x12" else b"GET"
-        body = self.body() if path == b"/x12" or r.random() < 0.1 else b""
+            method = b"POST" if path == b"/x12" or deed else b"GET"
+        body = self.sheet(deed) if deed else self.body() if path == b"/x12" or r.random() < 0.1 else b""
         fields = [b"Host: localhost"] + (self.lengths(body) if body or r.random() < 0.1 else [])
         for _ in range(r.choice([0, 0, 0, 1, 2, 28, 30, 31, 32, 40])):
             fields.append(r.choice([b"Accept: */*", b"X-A: b", b"Expect: 100-continue", b"Connection: keep-alive"]))
@@ -214,6 +265,13 @@ class Requests(compare.Day):
         if r.random() < 0.35:
             raw = self.bent(raw)
         return raw + (b"GET /x12 HTTP/1.1\r\n\r\n" if r.random() < 0.03 else b"")
+
+    def clerk_path(self, deed):
+        r = self.r
+        parts = [deed.encode(), self.word([b"ZZ-ACME"]), self.word([b"T%d" % n for n in range(1, 40)])] + ([] if deed == "recount" else [self.word(compare.NUMBERS)])
+        if r.random() < 0.05:
+            parts[r.randrange(len(parts))] = r.choice([b"", b".", b"..", b"%2F", b"a" * 23, b"ZZ-ACME?x"])
+        return b"/" + b"/".join(parts) + r.choice([b""] * 20 + [b"/", b"/x"])
 
     def bent(self, raw):
         r = self.r
@@ -250,7 +308,8 @@ def free_port():
 def served(program, folder, count):
     """A server of so many connections, which listens."""
     port = free_port()
-    server = subprocess.Popen([program, "serve", "--book", "book", "--listen", f"127.0.0.1:{port}", "--count", str(count), "--at", AT], cwd=folder,
+    server = subprocess.Popen([program, "serve", "--book", "book", "--listen", f"127.0.0.1:{port}", "--count", str(count), "--at", AT,
+                               *(["--clerks"] if CLERKS else [])], cwd=folder,
                               stdout=subprocess.DEVNULL, stderr=subprocess.PIPE)
     for _ in range(400):
         try:
