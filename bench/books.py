@@ -42,20 +42,20 @@ AT = ["--at", "2025-03-04T09:15"]
 SIZES = [(1, 1000), (1, 10_000), (1, 100_000), (100, 1000), (100, 10_000), (100, 100_000)]
 COMMANDS, RUNS = 200, 5
 
-# The texts that the program asks and writes with (crates/books). Each command asks whether its depositor is enrolled, for the last number, for
-# the advice or the order that it names with what belongs to that, where it is there, and for the lots of its item; then for what is known under
-# its mark, and where it is known for the text of that number.
+# The texts that the program asks and writes with (crates/book_tables). Each command asks for what is known under its mark: of a known one for the
+# entry, its rules and the text of its number, and nothing else; of a new one whether its depositor is enrolled, for the last number, for the advice
+# or the order that it names, and for the lots of its item and their expiries.
 OPENING = ["SELECT version, qualifier, id FROM book", "SELECT seq FROM entry"]
 DEPOSITOR = [("SELECT seq FROM entry WHERE who = ?1 LIMIT 1", ["who"]), ("SELECT n FROM outgoing WHERE who = ?1 ORDER BY n DESC LIMIT 1", ["who"])]
 NAMED = [[("SELECT shipment, ord, is_open FROM advice WHERE who = ?1 AND shipment = ?2", ["who", "name"])],
          [("SELECT ord, is_open, to_name, to_one, to_two, to_place FROM orders WHERE who = ?1 AND ord = ?2", ["who", "name"])]]
-LINES = [[("SELECT item, lot, quantity FROM advice_line WHERE who = ?1 AND shipment = ?2 ORDER BY line", ["who", "name"])],
-         [("SELECT item, lot, quantity FROM order_line WHERE who = ?1 AND ord = ?2 ORDER BY line", ["who", "name"]),
-          ("SELECT item, lot, quantity FROM reservation WHERE who = ?1 AND ord = ?2 ORDER BY item, lot", ["who", "name"])]]
 LOTS = [("SELECT item, lot, since, expected, on_hand, reserved, shipped FROM stock WHERE who = ?1 AND item = ?2 ORDER BY item, lot", ["who", "item"])]
-KNOWN = [("SELECT mark, n, moment, body FROM entry WHERE who = ?1 AND mark = ?2 ORDER BY seq", ["who", "mark"]),
+EXPIRIES = [("SELECT item, lot, expiry FROM lot_expiry WHERE who = ?1 AND item = ?2 ORDER BY item, lot", ["who", "item"])]
+KNOWN = [("SELECT seq FROM entry WHERE who = ?1 AND mark = ?2 ORDER BY seq", ["who", "mark"]),
+         ("SELECT who, mark, n, moment, body FROM entry WHERE seq = ?1", ["seq"]), ("SELECT rules FROM entry_rules WHERE seq = ?1", ["seq"]),
          ("SELECT content FROM outgoing WHERE who = ?1 AND n = ?2", ["who", "n"])]
 ENTRY = "INSERT INTO entry (seq, who, mark, n, moment, body) VALUES (?1, ?2, ?3, ?4, ?5, ?6)"
+RULES = "INSERT INTO entry_rules (seq, rules) VALUES (?1, ?2)"
 OUTGOING = "INSERT INTO outgoing (who, n, kind, content, state) VALUES (?1, ?2, ?3, ?4, ?5)"
 STOCK = ("INSERT INTO stock (who, item, lot, since, expected, on_hand, reserved, shipped) VALUES (?1, ?2, ?3, ?4, ?5, ?6, ?7, ?8) "
          "ON CONFLICT (who, item, lot) DO UPDATE SET since = ?4, expected = ?5, on_hand = ?6, reserved = ?7, shipped = ?8")
@@ -89,7 +89,7 @@ class Work:
             item, lot = register.pair(k)
             text, answer = depositor.advise(number, "PO", k, 3) if place % 2 == 0 else depositor.order(number, k, 1)
             n = depositor.n
-            writes = [(ENTRY, seq + place + 1, who, f"X{n:09d}", n, register.STAMP, text.encode()),
+            writes = [(ENTRY, seq + place + 1, who, f"X{n:09d}", n, register.STAMP, text.encode()), (RULES, seq + place + 1, 2),
                       (OUTGOING, who, n, "ANS", answer.encode(), "-"), (STOCK, who, item, lot, *depositor.amounts(k))]
             if place % 2 == 0:
                 writes += [(ADVICE, who, number, "PO", 1), (ADVICE_LINE, who, number, 1, item, lot, 3)]
@@ -98,7 +98,7 @@ class Work:
                            (RESERVATION, who, number, item, lot, 1)]
             self.texts.append(text)
             self.answers.append(answer)
-            self.entries.append({"who": who, "mark": f"X{n:09d}", "n": n, "name": number, "item": item, "kind": place % 2})
+            self.entries.append({"who": who, "seq": seq + place + 1, "mark": f"X{n:09d}", "n": n, "name": number, "item": item, "kind": place % 2})
             self.writes.append(writes)
 
     def folder(self, path):
@@ -129,13 +129,12 @@ class Work:
             return f"b{value.decode()}" if isinstance(value, bytes) else f"t{value}"
 
         lines = []
-        asking = DEPOSITOR + NAMED[0] + NAMED[1] + LINES[0] + LINES[1] + LOTS + KNOWN
+        asking = DEPOSITOR + NAMED[0] + NAMED[1] + LOTS + EXPIRIES + KNOWN
         for sql in OPENING + [sql for sql, _ in asking] + [write[0] for some in self.writes for write in some]:
             number(sql)
         lines += [f"Q\t{number(sql)}" for sql in OPENING] + ["O"]
         for entry, some in zip(self.entries, self.writes):
-            lines_too = [] if writes else LINES[entry["kind"]]
-            asked = DEPOSITOR + NAMED[entry["kind"]] + lines_too + LOTS + (KNOWN[:1] if writes else KNOWN)
+            asked = KNOWN[:1] + DEPOSITOR + NAMED[entry["kind"]] + LOTS + EXPIRIES if writes else KNOWN
             lines += ["\t".join(["Q", str(number(sql)), *(typed(entry[name]) for name in names)]) for sql, names in asked]
             if writes:
                 lines += ["B"] + ["\t".join(["X", str(number(sql)), *map(typed, values)]) for sql, *values in some] + ["E"]
@@ -268,7 +267,7 @@ def measure(program, statements, depositors, entries, folder):
     make(program, book, made)
     shown = run(program, "stock", "ZZ-D001", "--csv", "--book", book)[1].splitlines()
     stock = sorted(made.depositors[0].stock.items())
-    same("stock", shown[1:], [",".join([item, lot, *map(str, amounts[1:])]) for (item, lot), amounts in stock])
+    same("stock", shown[1:], [",".join([item, lot, "", *map(str, amounts[1:])]) for (item, lot), amounts in stock])
     work = Work(made)
     opening, peak = of_files(program, book, work, folder)
     taken, known = of_server(program, book, work, folder)
