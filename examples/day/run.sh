@@ -22,8 +22,8 @@ progress() {
             now=$(basename "${folder%/out/rlib}")
         fi
     done
-    # The crate of tests is no part of the program.
-    echo "proving $now; $proved of $((all - 1)) crates are proved"
+    # The two crates of tests and that of their texts are no part of the program.
+    echo "proving $now; $proved of $((all - 3)) crates are proved"
 }
 
 build() {

@@ -1,5 +1,5 @@
 -- What an answer of a server comes to, and what is printed of it.
-use Rattle.std.specs.Prelude.{◌≡◌, ◌⊎◌, ℕ, Bool, ◌==◌, ◌&&◌, ◌||◌, not, List, [], ◌∷◌, take, length, nat_lt, if◌then◌else◌, Option, Some, None, slice_get, slice_index, unwrap_or, option_and_then, min}
+use Rattle.std.specs.Prelude.{◌≡◌, ℕ, Bool, ◌==◌, ◌&&◌, ◌||◌, not, List, [], ◌∷◌, take, length, nat_lt, if◌then◌else◌, Option, Some, None, slice_get, slice_index, unwrap_or, option_and_then, min}
 use Rattle.std.specs.List.{slice_split, list_all}
 use Rattle.std.specs.Io.KnownBytes.{Appends}
 use Rattle.profile.specs.Bytes.{is_digit, value}
@@ -8,7 +8,6 @@ use Rattle.rules.specs.declared.refusals.Refusal.{Refusal}
 use Rattle.rules.specs.declared.refusals.Refusal.TheVariants as refusals
 use Rattle.store.specs.declared.fault.Fault.{Fault}
 use Rattle.store.specs.declared.fault.Fault.TheVariants as faults
-use Rattle.remote.specs.declared.answers.Answer.{Answer}
 use Rattle.commands.specs.Telling.{line_of}
 use Rattle.commands.specs.declared.told.ExitStatus.{ExitStatus}
 use Rattle.commands.specs.declared.told.ExitStatus.TheVariants as statuses
@@ -124,20 +123,6 @@ pub record IsTold (printed : List ℕ) (h : Answered) (before after : Option (Li
   pub text : Appends before after printed
   pub says : IsStatus h status
 
--- the answer to a command was told
-abbrev pub TellsDocument : Option (List ℕ) → Option (List ℕ) → ExitStatus → Type 0
-TellsDocument before after status =
-    (a : Answer) × IsTold (printed_document a.is_interchange a.body.items) (heard a.status a.is_interchange a.body.items) before after status
-
--- the answer to a query was told
-abbrev pub TellsReport : Option (List ℕ) → Option (List ℕ) → ExitStatus → Type 0
-TellsReport before after status =
-    (a : Answer) × IsTold (printed_report a.status a.body.items) (heard_report a.status a.is_interchange a.body.items) before after status
-
 -- nothing went out under the number that was asked for, which the status alone says
 abbrev pub TellsNothing : Option (List ℕ) → Option (List ℕ) → ExitStatus → Type 0
 TellsNothing before after status = Appends before after [] × (status ≡ statuses.Refused)
-
--- what a server answered was told, and nothing else
-abbrev pub TellsAnswer : Option (List ℕ) → Option (List ℕ) → ExitStatus → Type 0
-TellsAnswer before after status = TellsDocument before after status ⊎ (TellsReport before after status ⊎ TellsNothing before after status)

@@ -2,3 +2,4 @@ pub mod Heard
 pub mod Errands
 pub mod Paths
 pub mod Told
+pub mod Carried

@@ -2,11 +2,13 @@
 #![tactic(auto)]
 
 mod answers;
+mod courier;
 mod errand;
 pub mod laws;
 mod paths;
 mod running;
 
 pub use answers::{Answered, heard, heard_report};
+pub use courier::{Courier, Network};
 pub use errand::{Errand, errand_of};
 pub use running::{carry_out, tell_document, tell_report};

@@ -1,21 +1,20 @@
 //! A running server asked, and its answer told.
-ghost use Rattle.std.specs.Prelude.{◌≡◌, IfOk};
-ghost use Rattle.errands.specs.Heard.{IsStatus, IsTold, TellsAnswer, TellsDocument, TellsReport, heard as heard_of, heard_report as report_of, printed_document, printed_report};
+ghost use Rattle.std.specs.Prelude.{◌≡◌, [], IfOk};
+ghost use Rattle.errands.specs.Heard.{IsStatus, IsTold, heard as heard_of, heard_report as report_of, printed_document, printed_report};
+ghost use Rattle.errands.specs.Carried.{IsCarried, IsContent, IsExported, IsPosted, IsReported, IsShown};
+ghost use Rattle.errands.specs.Paths.{look_path as path_for};
 
 use crate::answers::{Answered, heard, heard_report};
+use crate::courier::Courier;
 use crate::errand::Errand;
 use crate::paths::{deed_path, look_path};
 use command_line::Show;
 use commands::{CommandError, ExitStatus, about_server, tell_refusal, tell_text};
-use remote::{Answer, Request, Unanswered, Verb, call};
+use remote::{Answer, Request, Unanswered, Verb};
 use std::alloc::Global;
 use std::io;
 use std::net::SocketAddr;
-use std::time::Duration;
 use store::Fault;
-
-// How many seconds a server is waited for, in each call. It may have another's large interchange in hand.
-const PATIENCE: u64 = 60;
 
 // Tells what an answer comes to: nothing more of what is done, and a refusal on standard error.
 fn tell_heard<E: io::Write>(
@@ -74,16 +73,20 @@ pub fn tell_report<W: io::Write, E: io::Write>(
 }
 
 // Asks a server.
-fn ask_server(
-    rt: &HostRuntime,
+fn ask_server<C: Courier>(
+    alloc: Global,
+    courier: &mut C,
     server: &SocketAddr,
     request: &Request<'_>,
-) -> Result<Answer, CommandError> {
-    match call(rt, server, request, Duration::from_secs(PATIENCE)) {
+) -> Result<Answer, CommandError>
+    ensures { IfOk result (λ answer. C.brings courier.old request.now.verb request.now.path.now request.now.body.now
+        answer courier.new) }
+{
+    match courier.carry(request) {
         Ok(answer) => Ok(answer),
         Err(Unanswered::OutOfMemory) => Err(CommandError::Fault(Fault::OutOfMemory)),
         Err(Unanswered::Device) => Err(about_server(
-            rt.alloc(),
+            alloc,
             server,
             Fault::Device,
             " gives no answer: is a server running there? What was asked may yet be done: give it again",
@@ -103,147 +106,196 @@ fn about_stop(alloc: Global, server: &SocketAddr, fault: Fault) -> CommandError 
 }
 
 // Posts a body, and tells the answer.
-fn post<W: io::Write, E: io::Write>(
-    rt: &HostRuntime,
+fn post<C: Courier, W: io::Write, E: io::Write>(
+    alloc: Global,
+    courier: &mut C,
     server: &SocketAddr,
     path: &str,
     body: &[u8],
     out: &mut W,
     err: &mut E,
 ) -> Result<ExitStatus, CommandError>
-    ensures { IfOk result (TellsDocument (W.contents out.old) (W.contents out.new)) }
+    ensures { IfOk result (λ status. IsPosted C.brings courier.old courier.new (W.contents out.old)
+        (W.contents out.new) status path.now body.now) }
 {
     let request = Request {
         verb: Verb::Post,
         path,
         body,
     };
-    let answer = ask_server(rt, server, &request)?;
+    let answer = ask_server(alloc, courier, server, &request)?;
     match heard(answer.status, answer.is_interchange, &answer.body) {
-        Answered::Stopped(fault) => Err(about_stop(rt.alloc(), server, fault)),
-        _ => tell_document(rt.alloc(), &answer, out, err),
+        Answered::Stopped(fault) => Err(about_stop(alloc, server, fault)),
+        _ => tell_document(alloc, &answer, out, err),
     }
 }
 
 // The answer to a query, whatever it is.
-fn get_any(rt: &HostRuntime, server: &SocketAddr, show: &Show<'_>) -> Result<Answer, CommandError> {
-    let path = look_path(rt.alloc(), show)?;
+fn get_any<C: Courier>(
+    alloc: Global,
+    courier: &mut C,
+    server: &SocketAddr,
+    show: &Show<'_>,
+) -> Result<Answer, CommandError>
+    ensures { IfOk result (λ answer. C.brings courier.old Verb.Get (path_for show.now) [] answer courier.new) }
+{
+    let path = look_path(alloc, show)?;
     let request = Request {
         verb: Verb::Get,
         path: path.as_str(),
         body: &[],
     };
-    ask_server(rt, server, &request)
+    ask_server(alloc, courier, server, &request)
 }
 
 // The answer to a query for a report, where it is one.
-fn get(rt: &HostRuntime, server: &SocketAddr, show: &Show<'_>) -> Result<Answer, CommandError> {
-    let answer = get_any(rt, server, show)?;
+fn get<C: Courier>(
+    alloc: Global,
+    courier: &mut C,
+    server: &SocketAddr,
+    show: &Show<'_>,
+) -> Result<Answer, CommandError>
+    ensures { IfOk result (λ answer. C.brings courier.old Verb.Get (path_for show.now) [] answer courier.new) }
+{
+    let answer = get_any(alloc, courier, server, show)?;
     match heard_report(answer.status, answer.is_interchange, &answer.body) {
-        Answered::Stopped(fault) => Err(about_stop(rt.alloc(), server, fault)),
+        Answered::Stopped(fault) => Err(about_stop(alloc, server, fault)),
         _ => Ok(answer),
     }
 }
 
 // The answer to a query for a text that went out, where it is one, or 404.
-fn get_text(
-    rt: &HostRuntime,
+fn get_text<C: Courier>(
+    alloc: Global,
+    courier: &mut C,
     server: &SocketAddr,
     show: &Show<'_>,
-) -> Result<Answer, CommandError> {
-    let answer = get_any(rt, server, show)?;
+) -> Result<Answer, CommandError>
+    ensures { IfOk result (λ answer. C.brings courier.old Verb.Get (path_for show.now) [] answer courier.new) }
+{
+    let answer = get_any(alloc, courier, server, show)?;
     match heard(answer.status, answer.is_interchange, &answer.body) {
         Answered::Stopped(fault) if answer.status != 404 => {
-            Err(about_stop(rt.alloc(), server, fault))
+            Err(about_stop(alloc, server, fault))
         }
         _ => Ok(answer),
     }
 }
 
 // Asks for a report, and tells it.
-fn report<W: io::Write, E: io::Write>(
-    rt: &HostRuntime,
+fn report<C: Courier, W: io::Write, E: io::Write>(
+    alloc: Global,
+    courier: &mut C,
     server: &SocketAddr,
     show: &Show<'_>,
     out: &mut W,
     err: &mut E,
 ) -> Result<ExitStatus, CommandError>
-    ensures { IfOk result (TellsReport (W.contents out.old) (W.contents out.new)) }
+    ensures { IfOk result (λ status. IsReported C.brings courier.old courier.new (W.contents out.old)
+        (W.contents out.new) status show.now) }
 {
-    let answer = get(rt, server, show)?;
-    tell_report(rt.alloc(), &answer, out, err)
+    let answer = get(alloc, courier, server, show)?;
+    tell_report(alloc, &answer, out, err)
 }
 
 // Asks for the stock as CSV, and tells it. A server without `--clerks` says 404 of every depositor there, so the stock itself tells
 // whether this one is unknown.
-fn export<W: io::Write, E: io::Write>(
-    rt: &HostRuntime,
+fn export<C: Courier, W: io::Write, E: io::Write>(
+    alloc: Global,
+    courier: &mut C,
     server: &SocketAddr,
     who: &str,
     show: &Show<'_>,
     out: &mut W,
     err: &mut E,
 ) -> Result<ExitStatus, CommandError>
-    ensures { IfOk result (TellsReport (W.contents out.old) (W.contents out.new)) }
+    ensures { IfOk result (λ status. IsExported C.brings courier.old courier.new (W.contents out.old)
+        (W.contents out.new) status show.now who.now) }
 {
-    let answer = get(rt, server, show)?;
-    if answer.status == 404 {
-        let stock = get(rt, server, &Show::Stock { who, is_csv: false })?;
-        if stock.status == 200 {
-            return Err(about_stop(rt.alloc(), server, Fault::Device));
-        }
+    let answer = get(alloc, courier, server, show)?;
+    if answer.status != 404 {
+        return tell_report(alloc, &answer, out, err);
     }
-    tell_report(rt.alloc(), &answer, out, err)
+    let stock = get(alloc, courier, server, &Show::Stock { who, is_csv: false })?;
+    if stock.status == 200 {
+        return Err(about_stop(alloc, server, Fault::Device));
+    }
+    tell_report(alloc, &answer, out, err)
 }
 
 // Asks for a text that went out, and tells it. A server says 404 of a number without a text and of a stranger alike, so the list of what
 // went out tells which it is: a stranger is refused, and of a missing text only the status tells.
-fn content<W: io::Write, E: io::Write>(
-    rt: &HostRuntime,
+fn content<C: Courier, W: io::Write, E: io::Write>(
+    alloc: Global,
+    courier: &mut C,
     server: &SocketAddr,
     who: &str,
     show: &Show<'_>,
     out: &mut W,
     err: &mut E,
 ) -> Result<ExitStatus, CommandError>
-    ensures { IfOk result (TellsAnswer (W.contents out.old) (W.contents out.new)) }
+    ensures { IfOk result (λ status. IsContent C.brings courier.old courier.new (W.contents out.old)
+        (W.contents out.new) status show.now who.now) }
 {
-    let answer = get_text(rt, server, show)?;
+    let answer = get_text(alloc, courier, server, show)?;
     if answer.status != 404 {
-        return tell_document(rt.alloc(), &answer, out, err);
+        return tell_document(alloc, &answer, out, err);
     }
-    let list = get(rt, server, &Show::Outbox { who, number: None })?;
+    let list = get(alloc, courier, server, &Show::Outbox { who, number: None })?;
     match heard_report(list.status, list.is_interchange, &list.body) {
         Answered::Done => Ok(ExitStatus::Refused),
-        _ => tell_report(rt.alloc(), &list, out, err),
+        _ => tell_report(alloc, &list, out, err),
     }
 }
 
-/// Has a running server do what it is asked for, and prints what a command over the book in its file prints. Device (44) where nobody
-/// answers at the address within 60 seconds a call, or where the answer is none that such a server gives; else a fault is the one that the
+// Has a running server show something.
+fn look<C: Courier, W: io::Write, E: io::Write>(
+    alloc: Global,
+    courier: &mut C,
+    server: &SocketAddr,
+    show: &Show<'_>,
+    out: &mut W,
+    err: &mut E,
+) -> Result<ExitStatus, CommandError>
+    ensures { IfOk result (λ status. IsShown C.brings courier.old courier.new (W.contents out.old)
+        (W.contents out.new) status show.now) }
+{
+    match show {
+        Show::Outbox { who, number } => match number {
+            Some(_) => content(alloc, courier, server, *who, show, out, err),
+            None => report(alloc, courier, server, show, out, err),
+        },
+        Show::Stock { who, is_csv } => {
+            if *is_csv {
+                export(alloc, courier, server, *who, show, out, err)
+            } else {
+                report(alloc, courier, server, show, out, err)
+            }
+        }
+        Show::Order { .. } => report(alloc, courier, server, show, out, err),
+    }
+}
+
+/// Has a running server do what it is asked for, and prints what a command over the book in its file prints. Device (44) where no answer is
+/// brought, or where the answer is none that such a server gives; else a fault is the one that the
 /// server tells. Where the answer to a command is lost on the way, the command may be done: given again, it gets its first answer.
-pub fn carry_out<W: io::Write, E: io::Write>(
-    rt: &HostRuntime,
+pub fn carry_out<C: Courier, W: io::Write, E: io::Write>(
+    alloc: Global,
+    courier: &mut C,
     server: &SocketAddr,
     errand: &Errand<'_>,
     out: &mut W,
     err: &mut E,
 ) -> Result<ExitStatus, CommandError>
-    ensures told { IfOk result (TellsAnswer (W.contents out.old) (W.contents out.new)) }
+    ensures carried { IfOk result (λ status. IsCarried C.brings courier.old courier.new (W.contents out.old)
+        (W.contents out.new) status errand.now) }
 {
     match errand {
-        Errand::Send(bytes) => post(rt, server, "/x12", bytes, out, err),
+        Errand::Send(bytes) => post(alloc, courier, server, "/x12", bytes, out, err),
         Errand::Deed(told, sheet) => {
-            let path = deed_path(rt.alloc(), told)?;
-            post(rt, server, path.as_str(), sheet, out, err)
+            let path = deed_path(alloc, told)?;
+            post(alloc, courier, server, path.as_str(), sheet, out, err)
         }
-        Errand::Look(show) => match show {
-            Show::Outbox {
-                who,
-                number: Some(_),
-            } => content(rt, server, *who, show, out, err),
-            Show::Stock { who, is_csv: true } => export(rt, server, *who, show, out, err),
-            _ => report(rt, server, show, out, err),
-        },
+        Errand::Look(show) => look(alloc, courier, server, show, out, err),
     }
 }

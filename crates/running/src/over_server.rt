@@ -2,7 +2,7 @@
 use crate::over_file::tell_unready;
 use command_line::Task;
 use commands::{CommandError, ExitStatus, Verbosity};
-use errands::{carry_out, errand_of};
+use errands::{Network, carry_out, errand_of};
 use std::io;
 use std::net::SocketAddr;
 
@@ -17,7 +17,10 @@ pub fn run_over_server<W: io::Write, E: io::Write>(
     err: &mut E,
 ) -> Result<ExitStatus, CommandError> {
     match errand_of(rt, task)? {
-        Ok(errand) => carry_out(rt, server, &errand, out, err),
+        Ok(errand) => {
+            let mut network = Network::new(rt, *server);
+            carry_out(rt.alloc(), &mut network, server, &errand, out, err)
+        }
         Err(refusal) => tell_unready(rt, task, refusal, verbosity, err),
     }
 }

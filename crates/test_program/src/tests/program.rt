@@ -1,5 +1,5 @@
-//! What the program prints and tells. A case is a script with its files, and is played over a book in memory, and as a batch
-//! over a book in a file, which is opened once; most are also played line by line over such a book, which each line opens
+//! What the program prints and tells. A case is a script with its files, and is played over a book in memory, through a server of
+//! such a book, and as a batch over a book in a file, which is opened once; most are also played line by line over such a book, which each line opens
 //! and closes.
 //!
 //! Cases stand in texts (crate `cases`). A text is made of sections, each of which begins with `@`, a word and what
@@ -161,9 +161,10 @@ fn play_batch(rt: &HostRuntime, name: &str, script: &str, wanted: &Wanted<'_>) -
     run(rt, &["batch", "case.batch", "--book", "case.book"])?.compare(name, wanted)
 }
 
-// Plays a script over a book in memory, and as a batch over a new one in a file.
+// Plays a script over a book in memory, through a server of another one, and as a batch over a new one in a file.
 fn play_whole(rt: &HostRuntime, name: &str, script: &str, wanted: &Wanted<'_>) -> Result<(), Fail> {
     run_text(rt, script)?.compare(name, wanted)?;
+    asked::play_asked(rt, name, script, wanted)?;
     play_batch(rt, name, script, wanted)
 }
 

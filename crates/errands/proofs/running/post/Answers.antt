@@ -2,4 +2,4 @@ use Rattle.std.proofs.lemmas.Result.{IfOk-weaker}
 use Rattle.errands.proofs.running.post.Goals as goal
 
 pub returns : goal.returns
-returns g c = IfOk-weaker c.tell_document.result _ _ (λ status told. (c.in_ok-answer.answer, told)) c.tell_document.ensures.told
+returns g c = IfOk-weaker c.tell_document.result _ _ (λ status told. (c.in_ok-answer.answer, c.in_ok-answer.ensures, told)) c.tell_document.ensures.told

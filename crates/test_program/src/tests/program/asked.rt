@@ -1,9 +1,132 @@
 //! What a command with `--server` prints of the responses that it gets.
 use super::*;
 use cases::clerks::{CASES, FAULTS, UNASKED, response_of};
-use commands::tell_stop;
-use errands::{tell_document, tell_report};
-use remote::{Answer, Unanswered, read_answer};
+use command_line::{Place, Task, Words, line};
+use commands::{CommandError, ExitStatus, play_over, tell_refusal, tell_stop};
+use errands::{Courier, carry_out, errand_of, tell_document, tell_report};
+use intake::{Audience, Gauge, serve_telling};
+use remote::{Answer, Request, Unanswered, read_answer, write_request};
+use std::alloc::Global;
+use std::net::{Ipv4Addr, SocketAddr, SocketAddrV4};
+use store::{Fault, Moment, ReplayBook, Warehouse, Who};
+
+// A server of a book in memory that takes clerks' requests too, at one moment.
+#[derive(Drop)]
+struct InMemory<'b> {
+    alloc: Global,
+    book: &'b mut ReplayBook,
+    moment: Moment,
+}
+
+impl InMemory<'_> {
+    // The bytes of the response to a request.
+    fn response(&mut self, request: &[u8]) -> Result<Vec<u8>, Unanswered> {
+        let (alloc, moment) = (self.alloc, self.moment);
+        let mut reader = Gauge::new(request);
+        let mut writer = Gauge::new(Vec::new(alloc));
+        let clerks = Audience::Clerks;
+        let served = serve_telling(alloc, &mut reader, &mut writer, self.book, clerks, moment);
+        match served.outcome {
+            Ok(_) => Ok(writer.into_inner()),
+            Err(_) => Err(Unanswered::Device),
+        }
+    }
+}
+
+impl Courier for InMemory<'_> {
+    fn carry(&mut self, request: &Request<'_>) -> Result<Answer, Unanswered> {
+        let mut bytes = Vec::new(self.alloc);
+        if write_request(&mut bytes, "127.0.0.1:8080", request).is_err() {
+            return Err(Unanswered::OutOfMemory);
+        }
+        let response = self.response(&bytes)?;
+        let mut input = response.as_slice();
+        read_answer(self.alloc, &mut input)
+    }
+}
+
+// Asks a server of the book for what a line says.
+fn ask_for(
+    rt: &HostRuntime,
+    courier: &mut InMemory<'_>,
+    task: &Task<'_>,
+    out: &mut Vec<u8>,
+    err: &mut Vec<u8>,
+) -> Result<ExitStatus, CommandError> {
+    if let Task::Act {
+        at: Some(moment),
+        ..
+    } = task
+    {
+        courier.moment = *moment;
+    }
+    let server = SocketAddr::V4(SocketAddrV4::new(Ipv4Addr::LOCALHOST, 8080));
+    match errand_of(rt, task)? {
+        Ok(errand) => carry_out(rt.alloc(), courier, &server, &errand, out, err),
+        Err(refusal) => tell_refusal(rt.alloc(), err, refusal),
+    }
+}
+
+// What a server takes.
+const ASKED: &str = "send count pick recount stock orders outbox";
+
+// Plays a line of a script: through a server of the book, if one takes it.
+fn play_line(
+    rt: &HostRuntime,
+    courier: &mut InMemory<'_>,
+    row: &str,
+    out: &mut Vec<u8>,
+    err: &mut Vec<u8>,
+) -> Result<ExitStatus, CommandError> {
+    let first = row.split(' ').next().unwrap_or("");
+    if !ASKED.split(' ').any(|name| name == first) {
+        return play_over(rt, courier.book, row, out, err);
+    }
+    let words: Vec<&str> = row.split(' ').collect(rt.alloc())?;
+    match line(rt.alloc(), Place::Script, &words)? {
+        Words::Over { task, .. } => ask_for(rt, courier, &task, out, err),
+        _ => Err(CommandError::Fault(Fault::Device)),
+    }
+}
+
+// Plays the lines after the first of a script that no fault ends, which makes the book.
+fn play_lines(rt: &HostRuntime, book: &mut ReplayBook, rest: &str) -> Result<Ran, Fail> {
+    let (mut out, mut err) = (Vec::new(rt.alloc()), Vec::new(rt.alloc()));
+    let mut courier = InMemory {
+        alloc: rt.alloc(),
+        book,
+        moment: Moment::new(2025, 3, 4, 9, 15).ok_or("a moment")?,
+    };
+    let mut status = ExitStatus::Done;
+    for row in rest.split('\n') {
+        if row.is_empty() {
+            continue;
+        }
+        match play_line(rt, &mut courier, row, &mut out, &mut err) {
+            Ok(next) => status = status.and(next),
+            Err(_) => return Err("a fault".into()),
+        }
+    }
+    Ran::new(rt, status.code(), &out, &err)
+}
+
+// Plays a script through a server of a book in memory. One that a fault ends, or whose book isn't made, isn't played.
+pub(super) fn play_asked(
+    rt: &HostRuntime,
+    name: &str,
+    script: &str,
+    wanted: &Wanted<'_>,
+) -> Result<(), Fail> {
+    let (first, rest) = script.split_once('\n').ok_or("a line")?;
+    let who = Who::new(first.split(' ').nth(1).unwrap_or("").as_bytes());
+    match who {
+        Some(who) if wanted.status < 2 => {
+            let mut book = ReplayBook::new(rt.alloc(), Warehouse::new(who));
+            play_lines(rt, &mut book, rest)?.compare(name, wanted)
+        }
+        _ => Ok(()),
+    }
+}
 
 // The answer that a response is.
 fn answer_of(rt: &HostRuntime, response: &str) -> Result<Answer, Fail> {

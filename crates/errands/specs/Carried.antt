@@ -1,0 +1,59 @@
+-- Which requests a command makes of a server, and what it tells of the answers.
+use Rattle.std.specs.Prelude.{◌≡◌, ◌⊎◌, ◌∷◌, ℕ, true, List, [], Option, Some, None, codes}
+use Rattle.remote.specs.declared.answers.Answer.{Answer}
+use Rattle.remote.specs.declared.requests.Verb.{Verb}
+use Rattle.remote.specs.declared.requests.Verb.TheVariants.{Get, Post}
+use Rattle.commands.specs.declared.told.ExitStatus.{ExitStatus}
+use Rattle.command_line.specs.declared.words.Show.{Show}
+use Rattle.command_line.specs.declared.words.Show.TheVariants as show
+use Rattle.errands.specs.Heard.{IsTold, TellsNothing, heard, heard_report, printed_document, printed_report}
+use Rattle.errands.specs.Paths.{deed_path, look_path, path_text, text_path}
+use Rattle.errands.specs.declared.errand.Errand.{Errand}
+use Rattle.errands.specs.declared.errand.Errand.TheVariants as errand
+
+-- the answer was told as that to a command, and as that to a query
+abbrev pub TellsAsDocument : Answer → Option (List ℕ) → Option (List ℕ) → ExitStatus → Type 0
+TellsAsDocument a before after status =
+    IsTold (printed_document a.is_interchange a.body.items) (heard a.status a.is_interchange a.body.items) before after status
+
+abbrev pub TellsAsReport : Answer → Option (List ℕ) → Option (List ℕ) → ExitStatus → Type 0
+TellsAsReport a before after status =
+    IsTold (printed_report a.status a.body.items) (heard_report a.status a.is_interchange a.body.items) before after status
+
+-- how a courier, a request (its verb, path and body) and an answer belong together
+abbrev pub Brings : Type 0 → Type 1
+Brings C = C → Verb → List ℕ → List ℕ → Answer → C → Type 0
+
+module _ {C : Type 0} (brings : Brings C) (old new : C) (before after : Option (List ℕ)) (status : ExitStatus) where
+  -- a body was posted, and the answer told
+  abbrev pub IsPosted : List ℕ → List ℕ → Type 0
+  IsPosted path body = (a : Answer) × brings old Post path body a new × TellsAsDocument a before after status
+
+  -- a report was asked for, and told
+  abbrev pub IsReported : Show → Type 0
+  IsReported s = (a : Answer) × brings old Get (look_path s) [] a new × TellsAsReport a before after status
+
+  -- what was asked for is told; where it isn't there, another request was made, which says why
+  abbrev pub IsAskedTwice : Show → List ℕ → (Answer → Answer → Type 0) → Type 0
+  IsAskedTwice s other tells =
+      (a b : Answer) × (mid : C) × (a.status ≡ 404) × brings old Get (look_path s) [] a mid × brings mid Get other [] b new × tells a b
+
+  abbrev pub IsContent : Show → List ℕ → Type 0
+  IsContent s who =
+      ((a : Answer) × brings old Get (look_path s) [] a new × TellsAsDocument a before after status)
+      ⊎ IsAskedTwice s (path_text (codes "outbox" ∷ who ∷ [])) (λ a b. TellsAsReport b before after status ⊎ TellsNothing before after status)
+
+  abbrev pub IsExported : Show → List ℕ → Type 0
+  IsExported s who =
+      IsReported s ⊎ IsAskedTwice s (path_text (codes "stock" ∷ who ∷ [])) (λ a b. TellsAsReport a before after status)
+
+  abbrev pub IsShown : Show → Type 0
+  IsShown (show.Outbox who (Some n)) = IsContent (show.Outbox who (Some n)) who.now
+  IsShown (show.Stock who true) = IsExported (show.Stock who true) who.now
+  IsShown s = IsReported s
+
+  -- an interchange is posted to /x12, a clerk's sheet to the path of the act
+  abbrev pub IsCarried : Errand → Type 0
+  IsCarried (errand.Send bytes) = IsPosted (codes "/x12") bytes.items
+  IsCarried (errand.Deed told sheet) = IsPosted (deed_path told) sheet.items
+  IsCarried (errand.Look s) = IsShown s

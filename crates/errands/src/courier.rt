@@ -1,0 +1,46 @@
+//! What carries requests to a server.
+use remote::{Answer, Request, Unanswered, call};
+use std::net::SocketAddr;
+use std::time::Duration;
+
+/// What carries a request to a server, and brings its answer.
+pub trait Courier {
+    ghost use Rattle.std.specs.Prelude.{ℕ, ⊤, List, IfOk};
+    ghost use Rattle.remote.specs.declared.answers.Answer.{Answer};
+    ghost use Rattle.remote.specs.declared.requests.Verb.{Verb};
+
+    // Relates what it is, the verb, the path and the body of a request, its answer, and what it is then. Of a network nothing is said.
+    ghost brings: { Self → Verb → List ℕ → List ℕ → Answer → Self → Type 0 } = { λ _ _ _ _ _ _. ⊤ };
+
+    /// The answer to a request. Device where none comes: what was asked for may be done all the same.
+    fn carry(&mut self, request: &Request<'_>) -> Result<Answer, Unanswered>
+        ensures { IfOk result (λ answer. brings self.old request.now.verb request.now.path.now request.now.body.now answer self.new) };
+}
+
+// How many seconds a server is waited for, in each call. It may have another's large interchange in hand.
+const PATIENCE: u64 = 60;
+
+/// A connection to a server for each request, of which each call waits 60 seconds at most.
+#[derive(Drop)]
+pub struct Network<'a> {
+    rt: &'a HostRuntime,
+    server: SocketAddr,
+}
+
+impl<'a> Network<'a> {
+    /// Connections to the server at this address.
+    pub fn new(rt: &'a HostRuntime, server: SocketAddr) -> Network<'a> {
+        Network { rt, server }
+    }
+}
+
+impl Courier for Network<'_> {
+    fn carry(&mut self, request: &Request<'_>) -> Result<Answer, Unanswered> {
+        call(
+            self.rt,
+            &self.server,
+            request,
+            Duration::from_secs(PATIENCE),
+        )
+    }
+}
