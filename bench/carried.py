@@ -26,11 +26,12 @@ Then allocations of an opening that carries a book over are refused in turn, and
 of each under --most N, evenly chosen: the old book is left or the whole new one, and the next opening is as the first would have been.
 
 --kills N kills an opening of a book of so many --entries N times, at moments spread over its time: the files hold, to sqlite3, the book as
-it was or the whole of it under version 2; then it is opened again, and `verify` says ok. --measure N tells the time and the memory of the
+it was or the whole of it under version 2; then it is opened again, and `verify` says ok. Where standard error is a terminal, an opening says how far it is. --measure N tells the time and the memory of the
 opening that carries a book over, and of the next one, over 1,000, 10,000 .. up to N entries. Rows of long books are written by
 bench/register.py into a copy of the book without depositors. The folder of a run that fails is kept, and the status is then 1.
 """
 import os
+import pty
 import random
 import shutil
 import signal
@@ -554,6 +555,21 @@ def kill(program, folder, kills, entries, seed):
           flush=True)
 
 
+def watched(program, folder):
+    """What an opening that carries a book over says where standard error is a terminal, which puts CR before each LF; and that the next one says nothing."""
+    book = long_book(folder, 2, 250)
+    for wanted in (b"".join(b"\r%d of 250 entries carried over" % done for done in (100, 200, 250)) + b"\r\n", b""):
+        mine, its = pty.openpty()
+        ran = subprocess.run([program, "depositors", "--book", book], stdout=subprocess.PIPE, stderr=its, check=False)
+        os.write(its, b"#")
+        told = b""
+        while not told.endswith(b"#"):
+            told += os.read(mine, 65536)
+        os.close(its)
+        os.close(mine)
+        same("what is said on a terminal", (ran.returncode, told), (0, wanted + b"#"))
+
+
 def measure(program, folder, largest):
     for depositors in (1, 100):
         entries = 1000
@@ -604,6 +620,7 @@ def main(words):
         spoiled = spoil(program, folder)
         print(f"{len(DAYS)} books of version 1, {given} commands: all carried over, and every row and answer as it has to be; {spoiled} other books "
               "told as faults and left as they are", flush=True)
+        watched(program, folder)
         if option("--most", 500):
             cut_short(program, folder, option("--most", 500))
         kill(program, folder, option("--kills", 200), option("--entries", 10_000), seed)

@@ -35,7 +35,7 @@ IDS = [b"ST", b"SE", b"GS", b"GE", b"IEA", b"TA1", b"ISA", b"W03", b"W04", b"W05
 
 
 # what is asked of a server, and the moment of days that are
-TAKEN = {"send", "count", "pick", "recount", "stock", "orders", "outbox"}
+TAKEN = {"send", "count", "pick", "recount", "stock", "orders", "outbox", "open", "depositors"}
 MOMENT = "2025-03-04T09:15"
 
 
@@ -252,7 +252,9 @@ class Day:
         elif kind < 0.94:
             number = self.word(NUMBERS)
             self.take(f"orders {who.decode()} {number.decode()}", self.book.orders(who, number))
-        elif kind < 0.98:
+        elif kind < 0.96:
+            self.take(f"open {who.decode()}", self.book.open(who))
+        elif kind < 0.985:
             number = r.choice([None, r.randint(1, 12)])
             self.take(f"outbox {who.decode()}" + (f" --number {number}" if number else ""), self.book.outbox(who, number))
         else:
@@ -304,8 +306,10 @@ class Day:
         for who in (b"ZZ-ACME", b"ZZ-BETA"):
             self.take(f"stock {who.decode()}", self.book.stock(who))
             self.take(f"outbox {who.decode()}", self.book.outbox(who))
+            self.take(f"open {who.decode()}", self.book.open(who))
             for number in NUMBERS:
                 self.take(f"orders {who.decode()} {number.decode()}", self.book.orders(who, number))
+        self.take("depositors", self.book.depositors())
         with open(os.path.join(self.folder, "script.txt"), "w", encoding="ascii") as file:
             file.write("\n".join(self.script) + "\n")
         if self.is_served:

@@ -742,6 +742,26 @@ class Book:
                 text += b"%-20s %-12s %6d\n" % (item, b"(short)", short)
         return text, "", 0
 
+    def open(self, who):
+        page = self.asked(who)
+        if isinstance(page, int):
+            return b"", told(page), 1
+        text = b"%-22s %5s %15s %s\n" % (b"advice", b"lines", b"expected", b"order")
+        for advice in sorted((a for _, a in page.of("advised") if not page.counted(a["shipment"])), key=lambda a: a["shipment"]):
+            pieces = sum(q for _, _, q, _ in advice["lines"])
+            text += b"%-22s %5d %15d %s\n" % (advice["shipment"], len(advice["lines"]), pieces, advice["order"] or b"-")
+        text += b"%-22s %5s %s\n" % (b"order", b"lines", b"ship to")
+        for order in sorted((o for _, o in page.of("ordered") if not page.picked(o["number"])), key=lambda o: o["number"]):
+            text += b"%-22s %5d %s\n" % (order["number"], len(order["lines"]), (order["to"][0] if order["to"] else b"") or b"-")
+            for item, _, ordered in order["lines"]:
+                short = ordered - sum(q for pair, q in order["shares"] if pair[0] == item)
+                if short:
+                    text += b"  %-20s %-12s %6d\n" % (item, b"(short)", short)
+        return text, "", 0
+
+    def depositors(self):
+        return b"".join(b"%s-%s\n" % depositor for depositor in self.pages), "", 0
+
 
 def unless_open(found, is_closed, unknown):
     """The refusal of an act on what isn't there, or the one behind it on what is closed; or None."""

@@ -104,6 +104,10 @@ def called(parts):
         return "orders", tuple(parts[2:])
     if parts[0] == b"" and len(parts) == 4 and parts[1] == b"stock" and parts[3] == b"csv":
         return "export", (parts[2],)
+    if parts[0] == b"" and len(parts) == 3 and parts[1] == b"open":
+        return "open", (parts[2],)
+    if parts == [b"", b"depositors"]:
+        return "depositors", ()
     return None
 
 
@@ -181,8 +185,8 @@ def clerk(book, kind, parts):
     if kind == "export":
         text, told, _ = book.stock(parts[0], True)
         return bare(404) if told else response(200, PLAIN, text)
-    if kind == "orders":
-        text, told, _ = book.orders(*parts)
+    if kind in ("orders", "open", "depositors"):
+        text, told, _ = getattr(book, kind)(*parts)
         return refused(told, told.startswith("refused 32 ")) if told else response(200, PLAIN, text)
     deed, who, ticket, number, sheet = parts
     is_bad = model.partner(who) is None or not model.ident(ticket, 20) or (deed != "recount" and not model.ident(number, 22))
@@ -203,7 +207,7 @@ def wanted(book, raw):
         return [bare(asked[1], allow)], is_sure
     if kind == "x12":
         return [exchanged(book, asked[1])], True
-    if kind in ("deed", "orders", "export"):
+    if kind in ("deed", "orders", "open", "depositors", "export"):
         return [clerk(book, kind, asked[1])], True
     who = asked[1][0]
     if kind == "stock":
@@ -250,7 +254,8 @@ class Requests(compare.Day):
             path = self.clerk_path(deed)
         elif CLERKS and r.random() < 0.2:
             who = self.word([b"ZZ-ACME"])
-            path = r.choice([b"/orders/%s/%s" % (who, self.word(compare.NUMBERS)), b"/stock/%s/csv" % who, b"/orders/%s" % who, b"/stock/%s/txt" % who])
+            path = r.choice([b"/orders/%s/%s" % (who, self.word(compare.NUMBERS)), b"/stock/%s/csv" % who, b"/orders/%s" % who, b"/stock/%s/txt" % who,
+                             b"/open/%s" % who, b"/open/%s" % who, b"/depositors", b"/open", b"/open/%s/x" % who, b"/depositors/", b"/depositors/%s" % who])
         if r.random() < 0.8:
             method = b"POST" if path == b"/x12" or deed else b"GET"
         body = self.sheet(deed) if deed else self.body() if path == b"/x12" or r.random() < 0.1 else b""

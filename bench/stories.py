@@ -7,7 +7,7 @@ The cases are those of crates/cases (stories/ and scripts/), read from their tex
 line of a script is a process that opens the book and closes it. What is printed and told and the exit status are compared; the status is 1
 where one differs.
 
-With --server each line that a server takes (send, count, pick, recount, stock, orders, outbox) is asked of a server of the book, which is
+With --server each line that a server takes (send, count, pick, recount, stock, orders, outbox, open, depositors) is asked of a server of the book, which is
 started for it at the line's moment and then killed: the same texts, the same status.
 """
 import glob
@@ -59,7 +59,7 @@ def write_files(text, folder):
                 file.write(spread(body).encode())
 
 
-TAKEN = {"send", "count", "pick", "recount", "stock", "orders", "outbox"}
+TAKEN = {"send", "count", "pick", "recount", "stock", "orders", "outbox", "open", "depositors"}
 
 
 def over_book(program, folder, first, rest):

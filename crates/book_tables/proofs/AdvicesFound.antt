@@ -57,9 +57,9 @@ abbrev advised : Who → PageAdvice → TableRow
 advised who a = Text (who_text who) ∷ advice_cells a
 
 advice_under : (W : Who) (L : List Entry) (who : Who) (shipment : List ℕ) → IsLegal Two W L → is_partner who ≡ true
-    → IsUnder (advised who) 8 advice_columns [] advice_out (value.Text (who_text who)) (value.Text shipment) (advice_table L) (filter (is_shipment shipment) (advices L who))
+    → IsUnder 2 (advised who) 8 advice_columns [] advice_out (value.Text (who_text who)) (value.Text shipment) (advice_table L) (filter (is_shipment shipment) (advices L who))
 advice_under W L who shipment legal partner =
-    cells_under W L who legal partner advice_rows refl advice_cells (advices L who) refl (is_shipment shipment) (value.Text shipment) (λ id a. equal_bytes a.shipment shipment)
+    cells_under W L who legal partner advice_rows refl advice_cells (advices L who) refl (is_shipment shipment) (value.Text shipment) 2 (λ id a. equal_bytes a.shipment shipment)
     8 advice_columns [] advice_out (λ db. refl) (λ id a. refl)
 
 module _ (old : State) (W : Who) (L : List Entry) (who : Who) (shipment : List ℕ) (partner : IsTrue (is_partner who)) (stands : StandsWhileOpen old W L)
@@ -74,13 +74,13 @@ module _ (old : State) (W : Who) (L : List Entry) (who : Who) (shipment : List �
   each =
       let held = here.rows in
       let read = found advice_text (value.Text (who_text who) ∷ value.Text shipment ∷ []) old.now rows _ here.schema advice_plain advice_is finds.1 in
-      each_row (advised who) 8 advice_columns [] advice_out (value.Text (who_text who)) (value.Text shipment) (advice_table L) (filter (is_shipment shipment) (advices L who)) (advice_under W L who shipment here.legal partner) old.now.trees (held.keyed Advice) rows (read.answer value.Null)
+      each_row 2 (advised who) 8 advice_columns [] advice_out (value.Text (who_text who)) (value.Text shipment) (advice_table L) (filter (is_shipment shipment) (advices L who)) (advice_under W L who shipment here.legal partner) old.now.trees (held.keyed Advice) rows (read.answer value.Null)
 
   there : (a : PageAdvice) → Has (filter (is_shipment shipment) (advices L who)) a → Has rows (advice_shown a)
   there =
       let held = here.rows in
       let read = found advice_text (value.Text (who_text who) ∷ value.Text shipment ∷ []) old.now rows _ here.schema advice_plain advice_is finds.1 in
-      has_row (advised who) 8 advice_columns [] advice_out (value.Text (who_text who)) (value.Text shipment) (advice_table L) (filter (is_shipment shipment) (advices L who)) (advice_under W L who shipment here.legal partner) old.now.trees (held.keyed Advice) rows (read.answer value.Null)
+      has_row 2 (advised who) 8 advice_columns [] advice_out (value.Text (who_text who)) (value.Text shipment) (advice_table L) (filter (is_shipment shipment) (advices L who)) (advice_under W L who shipment here.legal partner) old.now.trees (held.keyed Advice) rows (read.answer value.Null)
 
   pub no_advice : rows ≡ [] → advice_at shipment (page_of (own L who)).advices ≡ None
   no_advice = no_row (is_shipment shipment) (advices L who) advice_shown rows each there one
@@ -100,7 +100,7 @@ abbrev its_lines : List Entry → Who → List ℕ → List Line
 its_lines L who shipment = lines_advised (advice_at shipment (page_of (own L who)).advices)
 
 lines_under : (W : Who) (L : List Entry) (who : Who) (shipment : List ℕ) → IsLegal Two W L → is_partner who ≡ true
-    → IsUnder (line_cells who shipment) 10 line_columns line_order line_out (value.Text (who_text who)) (value.Text shipment) (advice_line_table L) (enumerate_from 1 (its_lines L who shipment))
+    → IsUnder 2 (line_cells who shipment) 10 line_columns line_order line_out (value.Text (who_text who)) (value.Text shipment) (advice_line_table L) (enumerate_from 1 (its_lines L who shipment))
 lines_under W L who shipment legal partner =
     parts_under W L who legal partner advice_line_rows refl shipment_of (λ (a : PageAdvice). enumerate_from 1 a.lines) advised_cells (advices L who) refl (advices_rise (events (own L who))) shipment
     10 line_columns line_order line_out (λ db. refl) (λ id p. refl) (λ (o : Option PageAdvice). enumerate_from 1 (lines_advised o)) refl (λ a. refl)
@@ -112,7 +112,7 @@ advised_found W L who shipment db rows partner sound stands h =
     let held = stands.rows in
     let lies = stands.schema in
     let ordered : AreOrdered (filled W L) = all_ordered W L in
-    all_rows (line_cells who shipment) 10 line_columns line_order line_out (value.Text (who_text who)) (value.Text shipment) (advice_line_table L) (enumerate_from 1 (its_lines L who shipment))
+    all_rows 2 (line_cells who shipment) 10 line_columns line_order line_out (value.Text (who_text who)) (value.Text shipment) (advice_line_table L) (enumerate_from 1 (its_lines L who shipment))
     (lines_under W L who shipment stands.legal partner) db.trees (held.keyed AdviceLine) rows (read.answer value.Null)
     nat_lt (λ (p : ℕ × Line). p.0) 3 (numbers_rise 1 (its_lines L who shipment)) (λ a b. numbers_ranked a.0 b.0)
     (λ a b t. let same = number_is a.0 b.0 t in λ i. value.Text (who_text who) ∷ value.Text shipment ∷ value.Int (pos (same i)) ∷ [])

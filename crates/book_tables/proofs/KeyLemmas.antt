@@ -1,5 +1,5 @@
 -- Keys of rows: SQL finds two rows alike in their key exactly where they have the same key.
-use Rattle.std.proofs.Common.{◌≡◌, ℕ, zero, suc, ℤ, List, [], ◌∷◌, take, ◌&&◌, Bool, true, false, Some, refl, sym, ap, subst, ◌∙◌}
+use Rattle.std.proofs.Common.{◌≡◌, ◌==◌, ℕ, zero, suc, ℤ, pos, List, [], ◌∷◌, take, ◌&&◌, Bool, true, false, Some, refl, sym, ap, subst, ◌∙◌}
 use Rattle.std.specs.Ordering.{is_eq, is_ne, ordering_reverse}
 use Rattle.std.specs.declared.cmp.Ordering.{Ordering}
 use Rattle.std.specs.declared.cmp.Ordering.TheVariants.{Less, Equal, Greater}
@@ -12,6 +12,7 @@ use Rattle.sqlite_value.specs.Keys.{plain, first_key}
 use Rattle.sqlite_schema.specs.Rules.{equal, agree, differ}
 use Rattle.sqlite_value.proofs.OrderLemmas.{value_cmp-Text, value_cmp-Int, value_cmp-apart, value_cmp_total}
 use Rattle.sqlite_value.proofs.KeyLemmas.{first_key-plain}
+use Rattle.std.proofs.lemmas.Bool.{eqb-true, eq-eqb}
 use Rattle.std.proofs.lemmas.Map.Text.{is_eq-slice_cmp}
 use Rattle.std.proofs.lemmas.Slice.Eq.{bytes_eq-Decides}
 use Rattle.std.proofs.lemmas.Cmp.{int_ranked}
@@ -74,6 +75,25 @@ text_itself a = equal_texts a a ∙ itself (Text a)
 
 pub int_itself : (a : ℤ) → equal Binary (Int a) (Int a) ≡ true
 int_itself a = equal_ints a a ∙ itself (Int a)
+
+-- two numbers where they are equal
+pub equal_numbers : (m n : ℕ) → equal Binary (Int (pos m)) (Int (pos n)) ≡ (m == n)
+equal_numbers m n = by (equal Binary (Int (pos m)) (Int (pos n))) (m == n) refl refl
+  where
+    pos_is : pos m ≡ pos n → m ≡ n
+    pos_is e = cc
+
+    by : (b d : Bool) → equal Binary (Int (pos m)) (Int (pos n)) ≡ b → (m == n) ≡ d → b ≡ d
+    by true true p q = refl
+    by false false p q = refl
+    by true false p q =
+        let same = pos_is (same_int (pos m) (pos n) p) in
+        let e : (m == n) ≡ true = eq-eqb m n same in
+        let f : ◌≡◌ {A = Bool} false true = sym q ∙ e in absurd (cc)
+    by false true p q =
+        let same : m ≡ n = eqb-true m n q in
+        let e : equal Binary (Int (pos m)) (Int (pos n)) ≡ true = ap (λ (k : ℕ). equal Binary (Int (pos k)) (Int (pos n))) same ∙ int_itself (pos n) in
+        let f : ◌≡◌ {A = Bool} false true = sym p ∙ e in absurd (cc)
 
 apart_never : (a : ℤ) (b : List ℕ) → equal Binary (Int a) (Text b) ≡ true → ⊥
 apart_never a b h =

@@ -54,6 +54,8 @@ mod Under
 mod Finding
 mod UnderTables
 mod LotsFound
+mod OpenTexts
+pub mod OpenFound
 mod AdvicesFound
 mod OrdersFound
 mod DocumentRows
@@ -76,5 +78,6 @@ mod WholeBook
 mod ComparedSoFar
 mod ComparedTables
 mod NumberedFound
+pub mod EnrolledFound
 pub mod KeptTables
 mod OpenedAnew

@@ -46,9 +46,9 @@ abbrev lot_cells : Who → LotRow → TableRow
 lot_cells who r = Text (who_text who) ∷ stock_cells r
 
 lots_under : (W : Who) (L : List Entry) (who : Who) (item : List ℕ) → IsLegal Two W L → is_partner who ≡ true
-    → IsUnder (lot_cells who) 6 lots_columns pair_order lot_out (value.Text (who_text who)) (value.Text item) (stock_table L) (filter (λ r. bytes_eq r.item item) (running_rows (events (own L who))))
+    → IsUnder 2 (lot_cells who) 6 lots_columns pair_order lot_out (value.Text (who_text who)) (value.Text item) (stock_table L) (filter (λ r. bytes_eq r.item item) (running_rows (events (own L who))))
 lots_under W L who item legal partner =
-    cells_under W L who legal partner (λ M. map stock_cells (running_rows (events M))) refl stock_cells (running_rows (events (own L who))) refl (λ r. bytes_eq r.item item) (value.Text item) (λ id m. equal_bytes m.item item)
+    cells_under W L who legal partner (λ M. map stock_cells (running_rows (events M))) refl stock_cells (running_rows (events (own L who))) refl (λ r. bytes_eq r.item item) (value.Text item) 2 (λ id m. equal_bytes m.item item)
     6 lots_columns pair_order lot_out (λ db. refl) (λ id m. refl)
 
 pub lots_found : (W : Who) (L : List Entry) (who : Who) (item : List ℕ) (db : Database) (rows : List Row) → is_partner who ≡ true → IsDatabase db → Stands W L db
@@ -58,7 +58,7 @@ lots_found W L who item db rows partner sound stands h =
     let held = stands.rows in
     let lies = stands.schema in
     let ordered : AreOrdered (filled W L) = all_ordered W L in
-    all_rows (lot_cells who) 6 lots_columns pair_order lot_out (value.Text (who_text who)) (value.Text item) (stock_table L) (filter (λ r. bytes_eq r.item item) (running_rows (events (own L who))))
+    all_rows 2 (lot_cells who) 6 lots_columns pair_order lot_out (value.Text (who_text who)) (value.Text item) (stock_table L) (filter (λ r. bytes_eq r.item item) (running_rows (events (own L who))))
     (lots_under W L who item stands.legal partner) db.trees (held.keyed Stock) rows (read.answer value.Null)
     pairs_in_order row_key 3 (rises_kept pairs_in_order row_key (λ r. bytes_eq r.item item) (running_rows (events (own L who))) (lots_rise (events (own L who))))
     (λ a b. pairs_ranked a.item a.lot b.item b.lot)
@@ -100,10 +100,10 @@ abbrev of_item : List ℕ → List LotRow → List Dated
 of_item item rows = filter (λ (d : Dated). bytes_eq d.item item) (dates_of rows)
 
 dates_under : (W : Who) (L : List Entry) (who : Who) (item : List ℕ) → IsLegal Two W L → is_partner who ≡ true
-    → IsUnder (λ (d : Dated). Text (who_text who) ∷ date_cells d) 19 dates_columns pair_order date_out (value.Text (who_text who)) (value.Text item) (lot_expiry_table L) (of_item item (running_rows (events (own L who))))
+    → IsUnder 2 (λ (d : Dated). Text (who_text who) ∷ date_cells d) 19 dates_columns pair_order date_out (value.Text (who_text who)) (value.Text item) (lot_expiry_table L) (of_item item (running_rows (events (own L who))))
 dates_under W L who item legal partner =
     cells_under W L who legal partner (λ M. flat_map expiry_cells (running_rows (events M))) refl date_cells (dates_of (running_rows (events (own L who)))) (dates_in (running_rows (events (own L who))))
-    (λ d. bytes_eq d.item item) (value.Text item) (λ id d. equal_bytes d.item item) 19 dates_columns pair_order date_out (λ db. refl) (λ id d. refl)
+    (λ d. bytes_eq d.item item) (value.Text item) 2 (λ id d. equal_bytes d.item item) 19 dates_columns pair_order date_out (λ db. refl) (λ id d. refl)
 
 pub dates_found : (W : Who) (L : List Entry) (who : Who) (item : List ℕ) (db : Database) (rows : List Row) → is_partner who ≡ true → IsDatabase db → Stands W L db
     → Finds dates_text (value.Text (who_text who) ∷ value.Text item ∷ []) db rows → rows ≡ map date_shown (dates_of (filter (λ r. bytes_eq r.item item) (page_of (own L who)).rows))
@@ -113,7 +113,7 @@ dates_found W L who item db rows partner sound stands h =
     let lies = stands.schema in
     let ordered : AreOrdered (filled W L) = all_ordered W L in
     let lots = running_rows (events (own L who)) in
-    all_rows (λ (d : Dated). Text (who_text who) ∷ date_cells d) 19 dates_columns pair_order date_out (value.Text (who_text who)) (value.Text item) (lot_expiry_table L) (of_item item lots)
+    all_rows 2 (λ (d : Dated). Text (who_text who) ∷ date_cells d) 19 dates_columns pair_order date_out (value.Text (who_text who)) (value.Text item) (lot_expiry_table L) (of_item item lots)
     (dates_under W L who item stands.legal partner) db.trees (held.keyed LotExpiry) rows (read.answer value.Null)
     pairs_in_order date_key 3 (rises_kept pairs_in_order date_key (λ d. bytes_eq d.item item) (dates_of lots) (dates_rise lots (lots_rise (events (own L who)))))
     (λ a b. pairs_ranked a.item a.lot b.item b.lot)

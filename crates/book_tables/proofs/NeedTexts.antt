@@ -2,7 +2,10 @@
 use Rattle.std.proofs.Common.{◌≡◌, codes, ℕ, List, [], ◌∷◌, refl, false, None, pos, negsuc}
 use Rattle.sqlite.specs.declared.types.Value.TheVariants.{Int}
 use Rattle.sqlite.specs.Command.TheVariants.{Select}
-use Rattle.sqlite.specs.Term.{Term, lit, col}
+use Rattle.sqlite.specs.Term.{Term, lit, col, op2}
+use Rattle.sqlite_sql.specs.declared.ops.BinaryOp.TheVariants.{Compare}
+use Rattle.sqlite_sql.specs.declared.ops.CompareOp.TheVariants.{Eq}
+use Rattle.sqlite.specs.Collation.TheVariants.{Binary}
 use Rattle.sqlite.specs.Query.{Query, inner, end}
 use Rattle.sqlite_value.specs.declared.keys.Key.{Key}
 use Rattle.sqlite_tied.specs.Compute.{everything}
@@ -11,13 +14,13 @@ use Rattle.sqlite.specs.Given.{IsPlain}
 use Rattle.sqlite.proofs.Callers.{command_of}
 use Rattle.book_tables.specs.Layout.{Others, beside}
 use Rattle.book_tables.proofs.ShowingTexts.{rising}
-use Rattle.book_tables.proofs.WritingTexts.{where_key}
 
--- the rows of a table that begin with the two parameters, these columns of them, in this order
-abbrev pub under_where : ℕ → List Term → List (Term × Key) → Query
-under_where tree project order = record {
+-- the rows of a table that begin with the first parameter and have the second in the column at a place, these columns of them, in
+-- this order
+abbrev pub under_at : ℕ → ℕ → List Term → List (Term × Key) → Query
+under_at at tree project order = record {
   from = inner tree end;
-  filter = where_key 0 2;
+  filter = op2 (Compare Eq Binary) (col 1 1) (col 0 0) ∷ op2 (Compare Eq Binary) (col 1 at) (col 0 1) ∷ [];
   group = None;
   project = project;
   distinct = false;
@@ -26,6 +29,10 @@ under_where tree project order = record {
   limit = lit (Int (negsuc 0));
   offset = lit (Int (pos 0));
 }
+
+-- those that begin with both
+abbrev pub under_where : ℕ → List Term → List (Term × Key) → Query
+under_where = under_at 2
 
 -- the text is a query, whose answer has these columns
 abbrev pub Reads : List ℕ → Query → List (List ℕ) → Others → Type 0

@@ -67,9 +67,9 @@ order_puts who number id o = by o.address
     by (Some a) = refl
 
 order_under : (W : Who) (L : List Entry) (who : Who) (number : List ℕ) → IsLegal Two W L → is_partner who ≡ true
-    → IsUnder (ordered_row who) 12 order_columns [] order_out (value.Text (who_text who)) (value.Text number) (orders_table L) (filter (is_number number) (orders L who))
+    → IsUnder 2 (ordered_row who) 12 order_columns [] order_out (value.Text (who_text who)) (value.Text number) (orders_table L) (filter (is_number number) (orders L who))
 order_under W L who number legal partner =
-    cells_under W L who legal partner orders_rows refl orders_cells (orders L who) refl (is_number number) (value.Text number) (λ id a. equal_bytes a.number number)
+    cells_under W L who legal partner orders_rows refl orders_cells (orders L who) refl (is_number number) (value.Text number) 2 (λ id a. equal_bytes a.number number)
     12 order_columns [] order_out (λ db. refl) (order_puts (who_text who) number)
 
 module _ (old : State) (W : Who) (L : List Entry) (who : Who) (number : List ℕ) (partner : IsTrue (is_partner who)) (stands : StandsWhileOpen old W L)
@@ -84,13 +84,13 @@ module _ (old : State) (W : Who) (L : List Entry) (who : Who) (number : List ℕ
   each =
       let held = here.rows in
       let read = found order_text (value.Text (who_text who) ∷ value.Text number ∷ []) old.now rows _ here.schema order_plain order_is finds.1 in
-      each_row (ordered_row who) 12 order_columns [] order_out (value.Text (who_text who)) (value.Text number) (orders_table L) (filter (is_number number) (orders L who)) (order_under W L who number here.legal partner) old.now.trees (held.keyed Orders) rows (read.answer value.Null)
+      each_row 2 (ordered_row who) 12 order_columns [] order_out (value.Text (who_text who)) (value.Text number) (orders_table L) (filter (is_number number) (orders L who)) (order_under W L who number here.legal partner) old.now.trees (held.keyed Orders) rows (read.answer value.Null)
 
   there : (a : PageOrder) → Has (filter (is_number number) (orders L who)) a → Has rows (order_shown a)
   there =
       let held = here.rows in
       let read = found order_text (value.Text (who_text who) ∷ value.Text number ∷ []) old.now rows _ here.schema order_plain order_is finds.1 in
-      has_row (ordered_row who) 12 order_columns [] order_out (value.Text (who_text who)) (value.Text number) (orders_table L) (filter (is_number number) (orders L who)) (order_under W L who number here.legal partner) old.now.trees (held.keyed Orders) rows (read.answer value.Null)
+      has_row 2 (ordered_row who) 12 order_columns [] order_out (value.Text (who_text who)) (value.Text number) (orders_table L) (filter (is_number number) (orders L who)) (order_under W L who number here.legal partner) old.now.trees (held.keyed Orders) rows (read.answer value.Null)
 
   pub no_order : rows ≡ [] → order_at number (page_of (own L who)).orders ≡ None
   no_order = no_row (is_number number) (orders L who) order_shown rows each there one
@@ -110,7 +110,7 @@ abbrev its_lines : List Entry → Who → List ℕ → List PageLine
 its_lines L who number = lines_ordered (order_at number (page_of (own L who)).orders)
 
 lines_under : (W : Who) (L : List Entry) (who : Who) (number : List ℕ) → IsLegal Two W L → is_partner who ≡ true
-    → IsUnder (line_cells who number) 14 line_columns line_order line_out (value.Text (who_text who)) (value.Text number) (order_line_table L) (enumerate_from 1 (its_lines L who number))
+    → IsUnder 2 (line_cells who number) 14 line_columns line_order line_out (value.Text (who_text who)) (value.Text number) (order_line_table L) (enumerate_from 1 (its_lines L who number))
 lines_under W L who number legal partner =
     parts_under W L who legal partner order_line_rows refl number_of (λ (a : PageOrder). enumerate_from 1 a.lines) ordered_cells (orders L who) refl (orders_rise (events (own L who))) number
     14 line_columns line_order line_out (λ db. refl) (λ id p. refl) (λ (o : Option PageOrder). enumerate_from 1 (lines_ordered o)) refl (λ a. refl)
@@ -122,7 +122,7 @@ ordered_found W L who number db rows partner sound stands h =
     let held = stands.rows in
     let lies = stands.schema in
     let ordered : AreOrdered (filled W L) = all_ordered W L in
-    all_rows (line_cells who number) 14 line_columns line_order line_out (value.Text (who_text who)) (value.Text number) (order_line_table L) (enumerate_from 1 (its_lines L who number))
+    all_rows 2 (line_cells who number) 14 line_columns line_order line_out (value.Text (who_text who)) (value.Text number) (order_line_table L) (enumerate_from 1 (its_lines L who number))
     (lines_under W L who number stands.legal partner) db.trees (held.keyed OrderLine) rows (read.answer value.Null)
     nat_lt (λ (p : ℕ × PageLine). p.0) 3 (numbers_rise 1 (its_lines L who number)) (λ a b. numbers_ranked a.0 b.0)
     (λ a b t. let same = number_is a.0 b.0 t in λ i. value.Text (who_text who) ∷ value.Text number ∷ value.Int (pos (same i)) ∷ [])
@@ -149,7 +149,7 @@ abbrev its_shares : List Entry → Who → List ℕ → List Line
 its_shares L who number = lines_reserved (order_at number (page_of (own L who)).orders)
 
 shares_under : (W : Who) (L : List Entry) (who : Who) (number : List ℕ) → IsLegal Two W L → is_partner who ≡ true
-    → IsUnder (share_cells who number) 16 reserved_columns reserved_order reserved_out (value.Text (who_text who)) (value.Text number) (reservation_table L) (its_shares L who number)
+    → IsUnder 2 (share_cells who number) 16 reserved_columns reserved_order reserved_out (value.Text (who_text who)) (value.Text number) (reservation_table L) (its_shares L who number)
 shares_under W L who number legal partner =
     parts_under W L who legal partner reservation_rows refl number_of (λ (o : PageOrder). o.reserved) reserved_cells (orders L who) refl (orders_rise (events (own L who))) number
     16 reserved_columns reserved_order reserved_out (λ db. refl) (λ id l. refl) lines_reserved refl (λ o. refl)
@@ -168,7 +168,7 @@ reserved_found W L who number db rows partner sound stands h =
     let held = stands.rows in
     let lies = stands.schema in
     let ordered : AreOrdered (filled W L) = all_ordered W L in
-    all_rows (share_cells who number) 16 reserved_columns reserved_order reserved_out (value.Text (who_text who)) (value.Text number) (reservation_table L) (its_shares L who number)
+    all_rows 2 (share_cells who number) 16 reserved_columns reserved_order reserved_out (value.Text (who_text who)) (value.Text number) (reservation_table L) (its_shares L who number)
     (shares_under W L who number stands.legal partner) db.trees (held.keyed Reservation) rows (read.answer value.Null)
     pairs_in_order line_pair 4 (shares_rise L who number (order_at number (page_of (own L who)).orders) refl) (λ a b. pairs_ranked a.item a.lot b.item b.lot)
     (λ a b t.

@@ -65,9 +65,13 @@ fewer (suc k) (Real x ∷ cells) h = absurd (let e : ◌≡◌ {A = Bool} false 
 fewer (suc k) (Text t ∷ cells) h = fewer k cells h
 fewer (suc k) (Blob b ∷ cells) h = absurd (let e : ◌≡◌ {A = Bool} false true = h in cc)
 
+-- WHERE the first column is this, and the one at a place that
+abbrev pub whose_at : ℕ → Value → Value → Row → Bool
+whose_at at a b r = equal Binary (column r 1) a && (equal Binary (column r at) b && true)
+
 -- WHERE the first two columns are these
 abbrev pub whose : Value → Value → Row → Bool
-whose a b r = equal Binary (column r 1) a && (equal Binary (column r 2) b && true)
+whose = whose_at 2
 
 whose_agrees : (a b : Value) (r : Row) → agree plain (1 ∷ 2 ∷ []) r (1 ∷ 2 ∷ []) (Null ∷ a ∷ b ∷ []) ≡ whose a b r
 whose_agrees a b r = rw first_key-plain refl

@@ -30,7 +30,7 @@ use Rattle.book_tables.specs.Standing.{Outgoing, Stands}
 use Rattle.book_tables.proofs.Asked.{found}
 use Rattle.book_tables.proofs.DocumentRows.{no_document, its_document}
 use Rattle.book_tables.proofs.Finding.{no_row, first_row, one_key, one_found, none_passes, not_found}
-use Rattle.book_tables.proofs.KeyLemmas.{same_int, int_itself}
+use Rattle.book_tables.proofs.KeyLemmas.{equal_numbers}
 use Rattle.book_tables.proofs.KnownTexts.{content_text, content_is, content_plain}
 use Rattle.book_tables.proofs.NeedTexts.{sent_text, sent_columns, sent_is, sent_plain, under_where}
 use Rattle.book_tables.proofs.Ordered.{sent_rise}
@@ -40,25 +40,6 @@ use Rattle.book_tables.proofs.UnderTables.{cells_under}
 
 abbrev rows_under : ℕ → OutRow → Bool
 rows_under n r = r.n == n
-
-pos_is : (m n : ℕ) → ◌≡◌ {A = ℤ} (pos m) (pos n) → m ≡ n
-pos_is m n e = cc
-
--- SQL finds two numbers alike where they are
-equal_numbers : (m n : ℕ) → equal Binary (value.Int (pos m)) (value.Int (pos n)) ≡ (m == n)
-equal_numbers m n = by (equal Binary (value.Int (pos m)) (value.Int (pos n))) (m == n) refl refl
-  where
-    by : (b d : Bool) → equal Binary (value.Int (pos m)) (value.Int (pos n)) ≡ b → (m == n) ≡ d → b ≡ d
-    by true true p q = refl
-    by false false p q = refl
-    by true false p q =
-        let same = pos_is m n (same_int (pos m) (pos n) p) in
-        let e : (m == n) ≡ true = eq-eqb m n same in
-        let f : ◌≡◌ {A = Bool} false true = sym q ∙ e in absurd (cc)
-    by false true p q =
-        let same : m ≡ n = eqb-true m n q in
-        let e : equal Binary (value.Int (pos m)) (value.Int (pos n)) ≡ true = ap (λ (k : ℕ). equal Binary (value.Int (pos k)) (value.Int (pos n))) same ∙ int_itself (pos n) in
-        let f : ◌≡◌ {A = Bool} false true = sym p ∙ e in absurd (cc)
 
 abbrev sent_cells : Who → OutRow → TableRow
 sent_cells who r = Text (who_text who) ∷ outgoing_cells r
@@ -80,19 +61,19 @@ module _ (old : State) (W : Who) (L : List Entry) (who : Who) (n : ℕ) (partner
   abbrev sent : List OutRow
   sent = outgoing_rows W (own L who)
 
-  sent_under : IsUnder (sent_cells who) 4 sent_columns [] sent_out (value.Text (who_text who)) (value.Int (pos n)) (outgoing_table W L) (filter (rows_under n) sent)
+  sent_under : IsUnder 2 (sent_cells who) 4 sent_columns [] sent_out (value.Text (who_text who)) (value.Int (pos n)) (outgoing_table W L) (filter (rows_under n) sent)
   sent_under =
-      cells_under W L who here.legal partner (λ M. map outgoing_cells (outgoing_rows W M)) refl outgoing_cells sent refl (rows_under n) (value.Int (pos n)) (λ id r. equal_numbers r.n n)
+      cells_under W L who here.legal partner (λ M. map outgoing_cells (outgoing_rows W M)) refl outgoing_cells sent refl (rows_under n) (value.Int (pos n)) 2 (λ id r. equal_numbers r.n n)
       4 sent_columns [] sent_out (λ db. refl) (λ id r. refl)
 
   answer : IsAnswer (under_where 4 sent_columns []) (overlay old.now.trees []) (value.Text (who_text who) ∷ value.Int (pos n) ∷ []) rows
   answer = let read = found sent_text (value.Text (who_text who) ∷ value.Int (pos n) ∷ []) old.now rows _ here.schema sent_plain sent_is finds.1 in read.answer value.Null
 
   each : (row : Row) → Has rows row → (r : OutRow) × Has (filter (rows_under n) sent) r × (row ≡ sent_shown r)
-  each = let held = here.rows in each_row (sent_cells who) 4 sent_columns [] sent_out (value.Text (who_text who)) (value.Int (pos n)) (outgoing_table W L) (filter (rows_under n) sent) sent_under old.now.trees (held.keyed Outgoing) rows answer
+  each = let held = here.rows in each_row 2 (sent_cells who) 4 sent_columns [] sent_out (value.Text (who_text who)) (value.Int (pos n)) (outgoing_table W L) (filter (rows_under n) sent) sent_under old.now.trees (held.keyed Outgoing) rows answer
 
   there : (r : OutRow) → Has (filter (rows_under n) sent) r → Has rows (sent_shown r)
-  there = let held = here.rows in has_row (sent_cells who) 4 sent_columns [] sent_out (value.Text (who_text who)) (value.Int (pos n)) (outgoing_table W L) (filter (rows_under n) sent) sent_under old.now.trees (held.keyed Outgoing) rows answer
+  there = let held = here.rows in has_row 2 (sent_cells who) 4 sent_columns [] sent_out (value.Text (who_text who)) (value.Int (pos n)) (outgoing_table W L) (filter (rows_under n) sent) sent_under old.now.trees (held.keyed Outgoing) rows answer
 
   pub none_sent : rows ≡ [] → document_at n (page_of (own L who)).documents ≡ None
   none_sent is = no_document W n (own L who) (no_row (rows_under n) sent sent_shown rows each there (one_row W (own L who) n) is)
@@ -137,19 +118,19 @@ module _ (old : State) (W : Who) (L : List Entry) (who : Who) (n : ℕ) (partner
   abbrev text_columns : List Term
   text_columns = col 1 4 ∷ []
 
-  texts_under : IsUnder (sent_cells who) 4 text_columns [] content_out (value.Text (who_text who)) (value.Int (pos n)) (outgoing_table W L) (filter (rows_under n) texts)
+  texts_under : IsUnder 2 (sent_cells who) 4 text_columns [] content_out (value.Text (who_text who)) (value.Int (pos n)) (outgoing_table W L) (filter (rows_under n) texts)
   texts_under =
-      cells_under W L who stood.legal partner (λ M. map outgoing_cells (outgoing_rows W M)) refl outgoing_cells texts refl (rows_under n) (value.Int (pos n)) (λ id r. equal_numbers r.n n)
+      cells_under W L who stood.legal partner (λ M. map outgoing_cells (outgoing_rows W M)) refl outgoing_cells texts refl (rows_under n) (value.Int (pos n)) 2 (λ id r. equal_numbers r.n n)
       4 text_columns [] content_out (λ db. refl) (λ id r. refl)
 
   content_answer : IsAnswer (under_where 4 text_columns []) (overlay old.now.trees []) (value.Text (who_text who) ∷ value.Int (pos n) ∷ []) rows
   content_answer = let read = found content_text (value.Text (who_text who) ∷ value.Int (pos n) ∷ []) old.now rows _ stood.schema content_plain content_is finds.1 in read.answer value.Null
 
   each_text : (row : Row) → Has rows row → (r : OutRow) × Has (filter (rows_under n) texts) r × (row ≡ content_shown r)
-  each_text = let held = stood.rows in each_row (sent_cells who) 4 text_columns [] content_out (value.Text (who_text who)) (value.Int (pos n)) (outgoing_table W L) (filter (rows_under n) texts) texts_under old.now.trees (held.keyed Outgoing) rows content_answer
+  each_text = let held = stood.rows in each_row 2 (sent_cells who) 4 text_columns [] content_out (value.Text (who_text who)) (value.Int (pos n)) (outgoing_table W L) (filter (rows_under n) texts) texts_under old.now.trees (held.keyed Outgoing) rows content_answer
 
   text_there : (r : OutRow) → Has (filter (rows_under n) texts) r → Has rows (content_shown r)
-  text_there = let held = stood.rows in has_row (sent_cells who) 4 text_columns [] content_out (value.Text (who_text who)) (value.Int (pos n)) (outgoing_table W L) (filter (rows_under n) texts) texts_under old.now.trees (held.keyed Outgoing) rows content_answer
+  text_there = let held = stood.rows in has_row 2 (sent_cells who) 4 text_columns [] content_out (value.Text (who_text who)) (value.Int (pos n)) (outgoing_table W L) (filter (rows_under n) texts) texts_under old.now.trees (held.keyed Outgoing) rows content_answer
 
   -- the rows show a content, which is the text but where it is empty
   pub text_shown : (content : List ℕ) × IsContent rows content × (text_under W (own L who) n ≡ (if length content == 0 then None else Some content))

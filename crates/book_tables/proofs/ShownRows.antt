@@ -67,6 +67,19 @@ pairs_ranked i l j m =
     ∙ then_less (slice_cmp nat_cmp i j) (slice_cmp nat_cmp l m)
     ∙ ap (λ (b : Bool). comes_before i j || (b && comes_before l m)) (is_eq-slice_cmp i j)
 
+pub texts_ranked : (i j : List ℕ) → is_lt (ordering_then (value_cmp (value.Text i) (value.Text j)) Equal) ≡ comes_before i j
+texts_ranked i j = (λ p. is_lt (ordering_then (value_cmp-Text i j p) Equal)) ∙ by (slice_cmp nat_cmp i j)
+  where
+    by : (o : Ordering) → is_lt (ordering_then o Equal) ≡ is_lt o
+    by Less = refl
+    by Equal = refl
+    by Greater = refl
+
+pub one_equal : (o : Ordering) → is_eq (ordering_then o Equal) ≡ true → is_eq o ≡ true
+one_equal Less h = h
+one_equal Equal h = refl
+one_equal Greater h = h
+
 pub text_is : (i j : List ℕ) → is_eq (value_cmp (value.Text i) (value.Text j)) ≡ true → i ≡ j
 text_is i j h = (bytes_eq-Decides i j).0 (sym (is_eq-slice_cmp i j) ∙ ap is_eq (sym (value_cmp-Text i j)) ∙ h)
 

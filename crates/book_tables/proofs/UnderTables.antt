@@ -26,7 +26,7 @@ use Rattle.stock.proofs.KeyLemmas.{texts_strict}
 use Rattle.book_tables.specs.Held.{values}
 use Rattle.book_tables.proofs.Finding.{one_found, one_key, flat_has}
 use Rattle.book_tables.proofs.KeyLemmas.{text_itself}
-use Rattle.book_tables.proofs.NeedTexts.{under_where}
+use Rattle.book_tables.proofs.NeedTexts.{under_at, under_where}
 use Rattle.book_tables.proofs.Rising.{has_flat}
 use Rattle.book_tables.proofs.Under.{own_row, table_row, IsUnder}
 use Rattle.book_tables.proofs.UnderKey.{equal_bytes}
@@ -37,10 +37,10 @@ module _ (W : Who) (L : List Entry) (who : Who) (legal : IsLegal Two W L) (partn
   t = who_text who
 
   -- a table whose rows are the cells of models, of which a test tells those with the value
-  module _ {M : Type 0} (cell : M → TableRow) (models : List M) (made : rows (own L who) ≡ map cell models) (test : M → Bool) (q : Value) (told : (id : ℤ) (m : M) → equal Binary (column (value.Int id ∷ values (Text t ∷ cell m)) 2) q ≡ test m)
+  module _ {M : Type 0} (cell : M → TableRow) (models : List M) (made : rows (own L who) ≡ map cell models) (test : M → Bool) (q : Value) (at : ℕ) (told : (id : ℤ) (m : M) → equal Binary (column (value.Int id ∷ values (Text t ∷ cell m)) at) q ≡ test m)
       (tree : ℕ) (project : List Term) (order : List (Term × Key)) (out : M → Output) (lies : (db : Trees) → overlay db [] tree ≡ db tree)
-      (puts : (id : ℤ) (m : M) → output (under_where tree project order) ((value.Text t ∷ q ∷ []) ∷ (value.Int id ∷ values (Text t ∷ cell m)) ∷ []) ≡ out m) where
-    pub cells_under : IsUnder (λ m. Text t ∷ cell m) tree project order out (value.Text t) q (for_each L rows) (filter test models)
+      (puts : (id : ℤ) (m : M) → output (under_at at tree project order) ((value.Text t ∷ q ∷ []) ∷ (value.Int id ∷ values (Text t ∷ cell m)) ∷ []) ≡ out m) where
+    pub cells_under : IsUnder at (λ m. Text t ∷ cell m) tree project order out (value.Text t) q (for_each L rows) (filter test models)
     cells_under = record {
       lies = lies;
       sound = λ id c there passes.
@@ -48,7 +48,7 @@ module _ (W : Who) (L : List Entry) (who : Who) (legal : IsLegal Two W L) (partn
           let mine = own_row W L who rows legal partner nothing id c there both.0 in
           let m = has_mapped cell models mine.0 (subst (λ (rs : List TableRow). Has rs mine.0) made mine.1) in
           let shown : c ≡ Text t ∷ cell m.0 = mine.2 ∙ ap (λ (r : TableRow). Text t ∷ r) m.2 in
-          (m.0, has_kept test models m.0 m.1 (sym (told id m.0) ∙ subst (λ (x : TableRow). equal Binary (column (value.Int id ∷ values x) 2) q ≡ true) shown (and_true _ _ both.1).0), shown);
+          (m.0, has_kept test models m.0 m.1 (sym (told id m.0) ∙ subst (λ (x : TableRow). equal Binary (column (value.Int id ∷ values x) at) q ≡ true) shown (and_true _ _ both.1).0), shown);
       listed = λ m there. table_row W L who rows legal partner nothing (cell m) (subst (λ (rs : List TableRow). Has rs (cell m)) (sym made) (mapped_has cell models m (has_filtered test models m there).0));
       passes = λ id m there.
           let its = told id m ∙ (has_filtered test models m there).1 in
@@ -81,7 +81,7 @@ module _ (W : Who) (L : List Entry) (who : Who) (legal : IsLegal Two W L) (partn
         flat_has block owners a (Text text ∷ cell p) it.0
         (subst (λ (s : List ℕ). Has (block a) (Text s ∷ cell p)) (bytes_same (name a) text it.1) (mapped_has (λ q. Text (name a) ∷ cell q) (parts a) p (subst (λ (ps : List P). Has ps p) (of_some a) there)))
 
-    pub parts_under : IsUnder (λ p. Text t ∷ Text text ∷ cell p) tree project order out (value.Text t) (value.Text text) (for_each L rows) (parts_of (find test owners))
+    pub parts_under : IsUnder 2 (λ p. Text t ∷ Text text ∷ cell p) tree project order out (value.Text t) (value.Text text) (for_each L rows) (parts_of (find test owners))
     parts_under = record {
       lies = lies;
       sound = λ id c there passes.

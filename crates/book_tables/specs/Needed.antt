@@ -1,5 +1,5 @@
 -- What is sought of a depositor's page by texts and numbers, and the part of the page that is named so.
-use Rattle.std.specs.Prelude.{◌≡◌, ◌==◌, ℕ, false, ◌||◌, List, Option, None, Some, Result, IfOk, bytes_eq, if◌then◌else◌, length}
+use Rattle.std.specs.Prelude.{◌≡◌, ◌==◌, ℕ, false, ◌||◌, List, [], map, Option, None, Some, Result, IfOk, bytes_eq, if◌then◌else◌, length}
 use Rattle.sqlite.specs.Held.{state}
 use Rattle.sqlite.specs.State.{HasCleanDisk}
 use Rattle.sqlite.specs.Store.{Ghosts}
@@ -11,6 +11,7 @@ use Rattle.profile.specs.Register.{Entry, own}
 use Rattle.stock.specs.Pages.{PageFacts}
 use Rattle.stock.specs.Parts.{Named, part_of}
 use Rattle.rules.specs.Naming.{facts_of}
+use Rattle.store.specs.Open.{OpenWork}
 use Rattle.store.specs.declared.fault.Fault.{Fault}
 use Rattle.book_tables.specs.Exits.{StandsWhileOpen}
 use Rattle.book_tables.specs.Kept.{Kept}
@@ -46,6 +47,15 @@ part_for L who n = part_of n (facts_of (page_of (own L who)))
 abbrev pub Gathers : {S : Type 0} → Ghosts S → Kept S → Kept S → Who → PageFacts → (Named → Named) → Result PageFacts Fault → Type 0
 Gathers store old new who draft more result = HasCleanDisk (state store new.conn) → (W : Who) (L : List Entry) → StandsWhileOpen (state store old.conn) W L
     → (n : Named) → draft ≡ part_for L who n → IfOk result (λ d. d ≡ part_for L who (more n))
+
+-- what is open, by its names, and nothing else
+abbrev pub open_need : OpenWork → Need
+open_need work = record {
+  items = [];
+  shipments = map (λ a. a.shipment) work.advices;
+  orders = map (λ o. o.number) work.orders;
+  documents = [];
+}
 
 -- just the part that is needed of a depositor's page; a stranger has none
 abbrev pub needed_part : Need → List Entry → Who → Option PageFacts

@@ -1,5 +1,5 @@
 -- What the queries of running rows show of a row.
-use Rattle.std.specs.Prelude.{◌≡◌, ◌<◌, ◌^◌, [], ◌∷◌, pos}
+use Rattle.std.specs.Prelude.{◌≡◌, ◌<◌, ◌^◌, ℕ, List, [], ◌∷◌, pos}
 use Rattle.sqlite.specs.declared.types.Value.TheVariants.{Int, Text, Blob}
 use Rattle.sqlite.specs.Order.{Row}
 use Rattle.profile.specs.Means.{Line}
@@ -55,3 +55,7 @@ sent_shown r = Text r.kind ∷ Text r.state ∷ []
 -- its content alone
 abbrev pub content_shown : OutRow → Row
 content_shown r = Blob r.content ∷ []
+
+-- a name alone: a shipment number, the number of an order, or a depositor as the tables have it
+abbrev pub name_shown : List ℕ → Row
+name_shown name = Text name ∷ []

@@ -12,19 +12,22 @@ use sqlite::types::ValueRef;
 use sqlite::{Alter, Transaction};
 use store::Fault;
 
-/// Gives each entry, of so many, the first rules.
-pub(crate) fn give_first_rules<S: Alter>(
+/// Gives each entry, of so many, the first rules. After each, `told` is handed how many have them of how many.
+pub(crate) fn give_first_rules<S: Alter, T: FnMut(u64, u64)>(
     tx: &mut Transaction<'_, S>,
     calls: &mut Calls,
     entries: u64,
+    mut told: T,
 ) -> Result<(), Fault>
-    requires { entries < 2 ^ 63 }
+    requires few { entries < 2 ^ 63 }
+    requires told { T.IsAlwaysCallable told }
     ensures same_reference { tx.new.conn.ghost_name ≡ tx.old.conn.ghost_name }
     ensures wrote { let old = state S.Store tx.old.conn.now in let new = state S.Store tx.new.conn.now in
         Wrote (GivesRules entries old.now new.now) old new calls.old calls.new result }
 {
     for before in 0..entries {
         insert_rules(tx, calls, before + 1, Rules::One)?;
+        told(before + 1, entries);
     }
     Ok(())
 }
@@ -47,18 +50,20 @@ pub(crate) fn set_version<S: Alter>(
 }
 
 /// Carries the tables of a book of version 1, with so many entries, over to version 2: makes the two tables that are new in it, gives
-/// every entry the first rules, and sets the version.
-pub(crate) fn carry_all<S: Alter>(
+/// every entry the first rules, of which `told` is handed how many have them of how many, and sets the version.
+pub(crate) fn carry_all<S: Alter, T: FnMut(u64, u64)>(
     tx: &mut Transaction<'_, S>,
     calls: &mut Calls,
     entries: u64,
+    told: T,
 ) -> Result<(), Fault>
-    requires { entries < 2 ^ 63 }
+    requires few { entries < 2 ^ 63 }
+    requires told { T.IsAlwaysCallable told }
     ensures same_reference { tx.new.conn.ghost_name ≡ tx.old.conn.ghost_name }
     ensures wrote { let old = state S.Store tx.old.conn.now in let new = state S.Store tx.new.conn.now in
         Wrote (CarriesOver entries old new) old new calls.old calls.new result }
 {
     make_fourth(tx, calls)?;
-    give_first_rules(tx, calls, entries)?;
+    give_first_rules(tx, calls, entries, told)?;
     set_version(tx, calls)
 }

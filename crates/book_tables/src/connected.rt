@@ -248,10 +248,12 @@ impl<S: Alter + Drop> Tables<S> {
         }
     }
 
-    /// Carries a book of version 1, which has so many entries, over to version 2, in one transaction.
+    /// Carries a book of version 1, which has so many entries, over to version 2, in one transaction. Of its entries `told` is
+    /// handed how many were gone over of how many.
     #[tactic(auto, using(crate::proofs::Limited::spends_both, crate::proofs::Limited::spends_same))]
-    pub fn carry_over(&mut self, entries: u64) -> Result<(), Fault>
-        requires { entries < 2 ^ 63 }
+    pub fn carry_over<T: FnMut(u64, u64)>(&mut self, entries: u64, told: T) -> Result<(), Fault>
+        requires few { entries < 2 ^ 63 }
+        requires told { T.IsAlwaysCallable told }
         ensures ok { HasCleanDisk (state S.Store self.new.conn)
             → OnOk result (CarriesOver entries (state S.Store self.old.conn) (state S.Store self.new.conn)) }
         ensures left { HasCleanDisk (state S.Store self.new.conn)
@@ -271,7 +273,7 @@ impl<S: Alter + Drop> Tables<S> {
         let settled = self.conn.is_autocommit();
         prove!(settled);
         let mut tx = self.conn.transaction();
-        carry_all(&mut tx, &mut self.calls, entries)?;
+        carry_all(&mut tx, &mut self.calls, entries, told)?;
         self.calls.allow()?;
         match tx.commit() {
             Ok(()) => Ok(()),

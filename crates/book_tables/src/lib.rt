@@ -20,6 +20,7 @@ mod making;
 mod needed;
 mod numbered;
 mod numbers;
+mod opened;
 mod opening;
 mod orders;
 mod reading;

@@ -1,5 +1,5 @@
 -- Days after one another.
-use Rattle.std.proofs.Common.{◌≡◌, ◌≤◌, inl, inr, ℕ, zero, suc, ◌+◌, Bool, true, false, List, [], ◌∷◌, ◌++◌, length, map, take, Result, Ok, Err, Some, slice_get, refl, sym, ap, subst, ◌∙◌, arith}
+use Rattle.std.proofs.Common.{◌≡◌, ◌≤◌, inl, inr, ℕ, zero, suc, ◌+◌, Bool, true, false, List, [], ◌∷◌, ◌++◌, length, map, take, drop, Result, Ok, Err, Some, slice_get, refl, sym, ap, subst, ◌∙◌, arith}
 use Rattle.std.specs.List.{list_all}
 use Rattle.std.specs.Cmp.Derive.{both_true}
 use Rattle.std.proofs.lemmas.Bool.{cases_Bool}
@@ -22,7 +22,7 @@ use Rattle.store.specs.declared.serving.Outcome.{Outcome}
 use Rattle.store.proofs.Again.{stored_again}
 use Rattle.book_tables.specs.Carrying.{LeavesCarried}
 use Rattle.book_tables.specs.Standing.{StandsIn}
-use Rattle.books.specs.Days.{AllCarried, IsAnswered, Passes, PassesTo, Pass, KeepsAnswers}
+use Rattle.books.specs.Days.{day_by_day, AllCarried, IsAnswered, Passes, PassesTo, Pass, KeepsAnswers}
 use Rattle.books.specs.Opened.{Opened, standing_of}
 use Rattle.books.proofs.AgainLemmas.{Stood, stood}
 use Rattle.books.proofs.CrossLemmas.{Runs}
@@ -117,3 +117,23 @@ keeps_answers W L (cs' ∷ given) (day' ∷ days) M pass zero i cs day c t s tex
     let rest = later_on W pass.0 given days M pass.2 in
     stored_later W pass.0 M c t s text rest.0 other (stood_on W L pass.0 cs day i c t text p here said) rest.1
 keeps_answers W L (cs' ∷ given) (day' ∷ days) M pass (suc d) i cs day c t s text other at on here said = keeps_answers W pass.0 given days M pass.2 d i cs day c t s text other at on here said
+
+-- Commands day by day.
+
+-- what is left of them after days of so many each
+abbrev pub left_after : {X : Type 0} → List ℕ → List X → List X
+left_after [] xs = xs
+left_after (n ∷ ns) xs = left_after ns (drop n xs)
+
+pub day_at : {X : Type 0} (ns : List ℕ) (xs : List X) (i n : ℕ) → slice_get ns i ≡ Some n → slice_get (day_by_day ns xs) i ≡ Some (take n (left_after (take i ns) xs))
+day_at [] xs i n at = absurd (cc)
+day_at (m ∷ ns) xs zero n at = let is : m ≡ n = cc in ap (λ (k : ℕ). Some (take k xs)) is
+day_at (m ∷ ns) xs (suc i) n at = day_at ns (drop m xs) i n at
+
+left_next : {X : Type 0} (ns : List ℕ) (xs : List X) (i n : ℕ) → slice_get ns i ≡ Some n → left_after (take (suc i) ns) xs ≡ drop n (left_after (take i ns) xs)
+left_next [] xs i n at = absurd (cc)
+left_next (m ∷ ns) xs zero n at = let is : m ≡ n = cc in ap (λ (k : ℕ). drop k xs) is
+left_next (m ∷ ns) xs (suc i) n at = left_next ns (drop m xs) i n at
+
+pub left_more : {X : Type 0} (ns : List ℕ) (xs : List X) (i n : ℕ) → slice_get ns i ≡ Some n → left_after (take (i + 1) ns) xs ≡ drop n (left_after (take i ns) xs)
+left_more ns xs i n at = let one : i + 1 ≡ suc i = omega arith in ap (λ (k : ℕ). left_after (take k ns) xs) one ∙ left_next ns xs i n at

@@ -1,5 +1,5 @@
 -- Days of a book. Each opens what the stop before it left, in version 1 or in version 2, answers commands, and ends in a stop.
-use Rattle.std.specs.Prelude.{◌≡◌, ◌≢◌, ◌⊎◌, ℕ, ◌+◌, false, List, [], ◌∷◌, Result, Ok, Err, Some, length, map, take, slice_get}
+use Rattle.std.specs.Prelude.{◌≡◌, ◌≢◌, ◌⊎◌, ℕ, ◌+◌, false, List, [], ◌∷◌, Result, Ok, Err, Some, length, map, take, drop, slice_get}
 use Rattle.sqlite.specs.Tree.{Trees}
 use Rattle.profile.specs.declared.rules.Rules.TheVariants.{Two}
 use Rattle.profile.specs.Header.{Who}
@@ -15,6 +15,11 @@ use Rattle.store.specs.declared.fault.Fault.TheVariants.{NotThisBook}
 use Rattle.store.specs.declared.serving.Outcome.{Outcome}
 use Rattle.book_tables.specs.Carrying.{LeavesCarried}
 use Rattle.books.specs.Stopped.{MayBeThere}
+
+-- commands day by day: so many each, one day's after the other's, and fewer where the commands end
+abbrev pub day_by_day : {X : Type 0} → List ℕ → List X → List (List X)
+day_by_day [] xs = []
+day_by_day (n ∷ ns) xs = take n xs ∷ day_by_day ns (drop n xs)
 
 -- whatever was left stands for a register of the warehouse, in one version or the other
 abbrev pub AllCarried : (Trees → Type 0) → Who → Type 0

@@ -31,13 +31,13 @@ ghost use Rattle.book_tables.specs.Standing.{StandsIn};
 ghost use Rattle.book_tables.specs.Taken.{has_book_table};
 
 use crate::verifying::replayed;
-use book_tables::{Tables, partner_text};
+use book_tables::Tables;
 use profile::Rules;
-use rules::{Change, Entry, Key, Known, Need, Page, Warehouse, Who};
+use rules::Warehouse;
 use sqlite::Alter;
 use std::alloc::Global;
 use std::marker::Model;
-use store::{Fault, Keeper, OutRow, StockRow};
+use store::{Fault, Keeper};
 
 // The greatest number that SQLite holds.
 pub(crate) const GREATEST: u64 = 9_223_372_036_854_775_807;
@@ -45,11 +45,11 @@ pub(crate) const GREATEST: u64 = 9_223_372_036_854_775_807;
 /// A book of a warehouse in SQLite tables.
 #[derive(Drop)]
 pub struct Book<S: Alter + Drop> {
-    alloc: Global,
-    tables: Tables<S>,
-    warehouse: Warehouse,
-    entries: u64,
-    shut: bool,
+    pub(crate) alloc: Global,
+    pub(crate) tables: Tables<S>,
+    pub(crate) warehouse: Warehouse,
+    pub(crate) entries: u64,
+    pub(crate) shut: bool,
 }
 
 impl<S: Alter + Drop> Model for Book<S> {
@@ -62,14 +62,17 @@ impl<S: Alter + Drop> Model for Book<S> {
     ghost view = { λ b. record { tables = b.tables; warehouse = b.warehouse; entries = b.entries; shut = b.shut } };
 }
 
-// Carries tables of version 1, which have so many entries, over to version 2; those of version 2 stay.
+// Carries tables of version 1, which have so many entries, over to version 2; those of version 2 stay. Of the entries `told` is
+// handed how many were gone over of how many.
 #[tactic(auto, using(book_tables::proofs::Limited::spends_both, book_tables::proofs::Limited::spends_same))]
-fn bring_up<S: Alter + Drop>(
+fn bring_up<S: Alter + Drop, T: FnMut(u64, u64)>(
     tables: &mut Tables<S>,
     version: Rules,
     entries: u64,
+    told: T,
 ) -> Result<(), Fault>
-    requires { entries < 2 ^ 63 }
+    requires few { entries < 2 ^ 63 }
+    requires told { T.IsAlwaysCallable told }
     ensures brought { BringsUp S.Store version entries tables.old tables.new result }
     ensures named { IfErr result (λ f. (f ≡ Fault.OutOfMemory) ⊎ (f ≡ Fault.Store)) }
     ensures counted { OnErr result (Rises tables.old.refused tables.new.refused) }
@@ -77,7 +80,7 @@ fn bring_up<S: Alter + Drop>(
     ensures limit { Counts tables.old tables.new }
 {
     match version {
-        Rules::One => tables.carry_over(entries),
+        Rules::One => tables.carry_over(entries, told),
         Rules::Two => Ok(()),
     }
 }
@@ -130,7 +133,50 @@ impl<S: Alter + Drop> Book<S> {
     /// entry under the rules that it was judged by. A fault hands the tables back, which stand for the same register: 40 or 41
     /// where a call was refused, 43 where `book` hasn't one row, or that row has another version than 1 and 2 or no warehouse.
     #[tactic(auto, using(book_tables::proofs::Limited::spends_both, book_tables::proofs::Limited::spends_same))]
-    pub fn open_from(alloc: Global, mut tables: Tables<S>) -> Result<Book<S>, (Fault, Tables<S>)>
+    pub fn open_from(alloc: Global, tables: Tables<S>) -> Result<Book<S>, (Fault, Tables<S>)>
+        ensures usable { IfOk result (λ b. HasCleanDisk (state S.Store b.tables.conn)
+            → (q : Rules) (W : Partner) (L : List register.Entry) → StandsOpenAs q (state S.Store tables.conn) W L
+            → IsUsable (standing_of S.Store b) L) }
+        ensures keeps { IfOk result (λ b. HasCleanDisk (state S.Store b.tables.conn)
+            → (q : Rules) (W : Partner) (L : List register.Entry) → StandsOpenAs q (state S.Store tables.conn) W L
+            → (b.warehouse ≡ W) × IsKept (state S.Store b.tables.conn) W b.entries L) }
+        ensures opened { IfOk result (λ b. b.shut ≡ false) }
+        ensures still { IfOk result (λ b. OpensAs (state S.Store tables.conn) (state S.Store b.tables.conn)) }
+        ensures house { IfOk result (λ b. HasCleanDisk (state S.Store b.tables.conn)
+            → (rows : List Cells) × Finds house_text [] (state S.Store tables.conn).now rows
+            × ((q : Rules) × IsHouse q rows b.warehouse)) }
+        ensures not_this { IfErr result (λ e. e.0 ≡ Fault.NotThisBook → HasCleanDisk (state S.Store e.1.conn)
+            → (rows : List Cells) × Finds house_text [] (state S.Store tables.conn).now rows
+            × ((q : Rules) (W : Partner) → IsHouse q rows W → ⊥)) }
+        ensures this { IfErr result (λ e. HasCleanDisk (state S.Store e.1.conn)
+            → (q : Rules) (W : Partner) (L : List register.Entry) → StandsOpenAs q (state S.Store tables.conn) W L
+            → e.0 ≢ Fault.NotThisBook) }
+        ensures asked { IfErr result (λ e. OpensAs (state S.Store tables.conn) (state S.Store e.1.conn)) }
+        ensures carried { IfErr result (λ e. HasCleanDisk (state S.Store e.1.conn)
+            → (W : Partner) (L : List register.Entry) → StandsOpenAs One (state S.Store tables.conn) W L
+            → AllStandAs One (state S.Store tables.conn) W L
+            → (db : Trees) → (state S.Store e.1.conn).may_leave db → LeavesCarried W L db) }
+        ensures counted { IfErr result (λ e. e.0 ≢ Fault.NotThisBook → Rises tables.refused e.1.refused) }
+        ensures uncounted { IfErr result (λ e. e.0 ≡ Fault.NotThisBook → e.1.refused ≡ tables.refused) }
+        ensures named { IfErr result (λ e. (e.0 ≡ Fault.NotThisBook) ⊎ ((e.0 ≡ Fault.OutOfMemory)
+            ⊎ (e.0 ≡ Fault.Store))) }
+        ensures uncounted_ok { IfOk result (λ b. b.tables.refused ≡ tables.refused) }
+        ensures limit { IfOk result (λ b. Counts tables b.tables) }
+        ensures limit_back { IfErr result (λ e. Counts tables e.1) }
+        ensures allowed { OnOk result (tables.limit ≢ Some 0) }
+    {
+        Book::open_from_telling(alloc, tables, |_, _| {})
+    }
+
+    /// The same as `open_from`; and while a book of version 1 is carried over, `told` is handed, after each of its entries, how many
+    /// were gone over and how many there are.
+    #[tactic(auto, using(book_tables::proofs::Limited::spends_both, book_tables::proofs::Limited::spends_same))]
+    pub fn open_from_telling<T: FnMut(u64, u64)>(
+        alloc: Global,
+        mut tables: Tables<S>,
+        told: T,
+    ) -> Result<Book<S>, (Fault, Tables<S>)>
+        requires told { T.IsAlwaysCallable told }
         ensures usable { IfOk result (λ b. HasCleanDisk (state S.Store b.tables.conn)
             → (q : Rules) (W : Partner) (L : List register.Entry) → StandsOpenAs q (state S.Store tables.conn) W L
             → IsUsable (standing_of S.Store b) L) }
@@ -169,7 +215,7 @@ impl<S: Alter + Drop> Book<S> {
             Err(fault) => return Err((fault, tables)),
         };
         let (version, warehouse) = house;
-        if let Err(fault) = bring_up(&mut tables, version, entries) {
+        if let Err(fault) = bring_up(&mut tables, version, entries, told) {
             return Err((fault, tables));
         }
         Ok(Book {
@@ -247,174 +293,5 @@ impl<S: Alter + Drop> Book<S> {
             shut: _,
         } = self;
         tables
-    }
-}
-
-impl<S: Alter + Drop> Keeper for Book<S> {
-    ghost use Rattle.books.specs.Opened.{standing_of};
-
-    ghost standing = { λ b. standing_of S.Store b };
-
-    fn warehouse(&self) -> Warehouse {
-        self.warehouse
-    }
-
-    /// Just the part that is needed of a depositor's page, from the running rows; None for a stranger.
-    #[tactic(auto, using(book_tables::proofs::Limited::spends_both, book_tables::proofs::Limited::spends_same))]
-    fn load(&mut self, who: Who, need: &Need) -> Result<Option<Page>, Fault>
-        ensures page { OfKept (standing_of S.Store self.old) (standing_of S.Store self.new)
-            (λ L. IfOk result (λ page. IsHeld need.now page (decided.standing (register.own L who)))) }
-        ensures part { (standing_of S.Store self.new).doubt ≡ 0 → (L : List register.Entry)
-            → (standing_of S.Store self.old).keeps L → IfOk result (λ page. page ≡ needed_part need.now L who) }
-        ensures rest { IfOk result IsHeldAtRest }
-        ensures same { IsUnchanged (standing_of S.Store self.old) (standing_of S.Store self.new) }
-        ensures fault { IfErr result (λ fault. IsQueryFault fault (standing_of S.Store self.old)
-            (standing_of S.Store self.new)) }
-        ensures shut { (standing_of S.Store self.old).shut ≡ true → IsErrOf result Fault.Reopen }
-        ensures uncounted { OnOk result (self.new.tables.refused ≡ self.old.tables.refused) }
-        ensures limit { Counts self.old.tables self.new.tables }
-        ensures allowed { OnOk result (self.old.tables.limit ≢ Some 0) }
-    {
-        if self.shut {
-            return Err(Fault::Reopen);
-        }
-        self.tables.page_for(self.alloc, who, need)
-    }
-
-    #[tactic(auto, using(book_tables::proofs::Limited::spends_both, book_tables::proofs::Limited::spends_same))]
-    fn known(&mut self, who: Who, key: &Key<'_>) -> Result<Option<Known>, Fault>
-        ensures entry { OfKept (standing_of S.Store self.old) (standing_of S.Store self.new)
-            (λ L. IfOk result (λ known. IsRecalled known (decided.recalled
-            (standing_of S.Store self.old).warehouse (mark_of key.now) (register.own L who)))) }
-        ensures recorded { (standing_of S.Store self.new).doubt ≡ 0 → (L : List register.Entry)
-            → (standing_of S.Store self.old).keeps L
-            → IfOk result (λ known. option_map (λ k. k.entry) known ≡ first_under who (mark_of key.now) L) }
-        ensures same { IsUnchanged (standing_of S.Store self.old) (standing_of S.Store self.new) }
-        ensures fault { IfErr result (λ fault. IsQueryFault fault (standing_of S.Store self.old)
-            (standing_of S.Store self.new)) }
-        ensures shut { (standing_of S.Store self.old).shut ≡ true → IsErrOf result Fault.Reopen }
-        ensures uncounted { OnOk result (self.new.tables.refused ≡ self.old.tables.refused) }
-        ensures limit { Counts self.old.tables self.new.tables }
-        ensures allowed { OnOk result (self.old.tables.limit ≢ Some 0) }
-    {
-        if self.shut {
-            return Err(Fault::Reopen);
-        }
-        let mark = key.text(self.alloc)?;
-        self.tables.known_of(self.alloc, who, &mark)
-    }
-
-    /// Appends an entry, with the rows that it changes and the text that goes out for it, in one transaction. After a fault of
-    /// the store the book has to be opened again, and answers 42 until then. 41 where the numbers that SQLite has for entries are used up.
-    #[tactic(auto, using(book_tables::proofs::Limited::spends_both, book_tables::proofs::Limited::spends_same))]
-    fn commit(&mut self, entry: &Entry, changes: &[Change], outgoing: &[u8]) -> Result<(), Fault>
-        ensures ok { (standing_of S.Store self.new).doubt ≡ 0 → (L : List register.Entry) (e : register.Entry)
-            → IsUsable (standing_of S.Store self.old) L
-            → IsNext (standing_of S.Store self.old).warehouse L e entry.now changes.now outgoing.now
-            → OnOk result (IsUsable (standing_of S.Store self.new) (L ++ e ∷ [])) }
-        ensures left { (standing_of S.Store self.new).doubt ≡ 0 → (L : List register.Entry) (e : register.Entry)
-            → IsUsable (standing_of S.Store self.old) L
-            → IsNext (standing_of S.Store self.old).warehouse L e entry.now changes.now outgoing.now
-            → OnErr result (LeavesEither (standing_of S.Store self.new) L (L ++ e ∷ [])) }
-        ensures opened { OnOk result ((standing_of S.Store self.new).shut ≡ false) }
-        ensures fault { IfErr result (λ fault. IsFault fault (standing_of S.Store self.old)
-            (standing_of S.Store self.new)) }
-        ensures kinds { IfErr result IsCommitFault }
-        ensures store { IsErrOf result Fault.Store → (standing_of S.Store self.new).shut ≡ true }
-        ensures broken { OnErr result
-            ((standing_of S.Store self.old).refusals < (standing_of S.Store self.new).refusals
-            → (standing_of S.Store self.new).shut ≡ true) }
-        ensures used_up { self.old.shut ≡ false → 2 ^ 63 - 1 ≤ self.old.entries → IsErrOf result Fault.Store }
-        ensures shut { (standing_of S.Store self.old).shut ≡ true
-            → IsErrOf result Fault.Reopen
-            × IsUnchanged (standing_of S.Store self.old) (standing_of S.Store self.new) }
-        ensures goes { GoesOn (standing_of S.Store self.old) (standing_of S.Store self.new) }
-        ensures uncounted { OnOk result (self.new.tables.refused ≡ self.old.tables.refused) }
-        ensures limit { Counts self.old.tables self.new.tables }
-        ensures allowed { OnOk result (self.old.tables.limit ≢ Some 0) }
-    {
-        if self.shut {
-            return Err(Fault::Reopen);
-        }
-        if self.entries >= GREATEST {
-            self.shut = true;
-            return Err(self.tables.use_up());
-        }
-        let who = partner_text(self.alloc, &entry.who())?;
-        let seq = self.entries + 1;
-        match self.tables.append(seq, &who, entry, changes, outgoing) {
-            Ok(()) => {
-                self.entries = seq;
-                Ok(())
-            }
-            Err(fault) => {
-                self.shut = true;
-                Err(fault)
-            }
-        }
-    }
-
-    #[tactic(auto, using(book_tables::proofs::Limited::spends_both, book_tables::proofs::Limited::spends_same))]
-    fn stock_rows(&mut self, who: Who) -> Result<Option<Vec<StockRow>>, Fault>
-        ensures rows { OfKept (standing_of S.Store self.old) (standing_of S.Store self.new)
-            (λ L. IfOk result (λ rows. option_map (λ v. v.items) rows ≡ stock_of L who)) }
-        ensures same { IsUnchanged (standing_of S.Store self.old) (standing_of S.Store self.new) }
-        ensures fault { IfErr result (λ fault. IsQueryFault fault (standing_of S.Store self.old)
-            (standing_of S.Store self.new)) }
-        ensures shut { (standing_of S.Store self.old).shut ≡ true → IsErrOf result Fault.Reopen }
-        ensures uncounted { OnOk result (self.new.tables.refused ≡ self.old.tables.refused) }
-        ensures limit { Counts self.old.tables self.new.tables }
-        ensures allowed { OnOk result (self.old.tables.limit ≢ Some 0) }
-    {
-        if self.shut {
-            return Err(Fault::Reopen);
-        }
-        self.tables.stock_of(self.alloc, who)
-    }
-
-    #[tactic(auto, using(book_tables::proofs::Limited::spends_both, book_tables::proofs::Limited::spends_same))]
-    fn outbox(&mut self, who: Who) -> Result<Option<Vec<OutRow>>, Fault>
-        ensures rows { OfKept (standing_of S.Store self.old) (standing_of S.Store self.new)
-            (λ L. IfOk result (λ rows. option_map (λ v. v.items) rows ≡ outbox_of
-            (standing_of S.Store self.old).warehouse L who)) }
-        ensures same { IsUnchanged (standing_of S.Store self.old) (standing_of S.Store self.new) }
-        ensures fault { IfErr result (λ fault. IsQueryFault fault (standing_of S.Store self.old)
-            (standing_of S.Store self.new)) }
-        ensures shut { (standing_of S.Store self.old).shut ≡ true → IsErrOf result Fault.Reopen }
-        ensures uncounted { OnOk result (self.new.tables.refused ≡ self.old.tables.refused) }
-        ensures limit { Counts self.old.tables self.new.tables }
-        ensures allowed { OnOk result (self.old.tables.limit ≢ Some 0) }
-    {
-        if self.shut {
-            return Err(Fault::Reopen);
-        }
-        self.tables.outbox_of(self.alloc, who)
-    }
-
-    #[tactic(auto, using(book_tables::proofs::Limited::spends_both, book_tables::proofs::Limited::spends_same))]
-    fn text(&mut self, who: Who, n: u32) -> Result<Option<Option<Vec<u8>>>, Fault>
-        ensures text { OfKept (standing_of S.Store self.old) (standing_of S.Store self.new)
-            (λ L. IfOk result (λ text. option_map (option_map (λ v. v.items)) text ≡ text_of
-            (standing_of S.Store self.old).warehouse L who n)) }
-        ensures same { IsUnchanged (standing_of S.Store self.old) (standing_of S.Store self.new) }
-        ensures fault { IfErr result (λ fault. IsQueryFault fault (standing_of S.Store self.old)
-            (standing_of S.Store self.new)) }
-        ensures shut { (standing_of S.Store self.old).shut ≡ true → IsErrOf result Fault.Reopen }
-        ensures uncounted { OnOk result (self.new.tables.refused ≡ self.old.tables.refused) }
-        ensures limit { Counts self.old.tables self.new.tables }
-        ensures allowed { OnOk result (self.old.tables.limit ≢ Some 0) }
-    {
-        if self.shut {
-            return Err(Fault::Reopen);
-        }
-        self.tables.text_of(self.alloc, who, n)
-    }
-
-    fn refused(&self) -> u64 {
-        self.tables.refused()
-    }
-
-    fn must_reopen(&self) -> bool {
-        self.shut
     }
 }

@@ -3,6 +3,7 @@
 
 mod book;
 mod crossing;
+mod keeping;
 mod leaving;
 mod passing;
 mod reopening;

@@ -1,4 +1,4 @@
-ghost use Rattle.std.specs.Prelude.{◌≡◌, ◌≤◌, List, length, map, true, IsTrue};
+ghost use Rattle.std.specs.Prelude.{◌≡◌, ◌≤◌, List, drop, length, map, take, true, IsTrue};
 ghost use Rattle.std.specs.List.{list_all};
 ghost use Rattle.profile.specs.Header.{Who as Partner};
 ghost use Rattle.profile.specs.Register.{Entry};
@@ -6,7 +6,7 @@ ghost use Rattle.sqlite_trees.specs.Tree.{Trees};
 ghost use Rattle.sqlite_trees.specs.View.{IsClean, doubt};
 ghost use Rattle.store.specs.Runs.{all_asked, can_be_given};
 ghost use Rattle.book_tables.specs.Carrying.{LeavesCarried};
-ghost use Rattle.books.specs.Days.{AllCarried, AreLed, PassesTo};
+ghost use Rattle.books.specs.Days.{AllCarried, AreLed, PassesTo, day_by_day};
 
 use crate::reopening::{opened_after, stopped};
 use sqlite::Alter;
@@ -36,32 +36,50 @@ fn day<S: Alter + Reopen + Drop>(
     }
 }
 
-/// Any number of days after one another, over a store that holds a book of version 1 or of version 2. Each opens what the stop
-/// before it left, which carries a book of version 1 over, answers its commands, and stops at its end, or at a fault. Told is what
-/// each came to: its replies, or the fault at which the book wasn't opened. What is left at last stands for one register, to which
-/// the days led: no day lost an entry that was there before it or that was answered on it, and whatever was accepted is answered by
-/// the same text when it is given again. Also whether all days came: they end early where no memory is left to write one more down,
-/// and after one on which the store itself wasn't opened (40, 41).
+// The first of the commands, so many of them or all.
+fn first_of<'a, 'b>(asked: &'a [(Command<'b>, Moment)], count: usize) -> &'a [(Command<'b>, Moment)]
+    ensures { result.now ≡ take count asked.now }
+{
+    &asked[..count.min(asked.len())]
+}
+
+// The commands after these.
+fn after_of<'a, 'b>(asked: &'a [(Command<'b>, Moment)], count: usize) -> &'a [(Command<'b>, Moment)]
+    ensures { result.now ≡ drop count asked.now }
+{
+    &asked[count.min(asked.len())..]
+}
+
+/// Any number of days after one another, over a store that holds a book of version 1 or of version 2. Each has as many of the
+/// commands as its count says, after those of the day before it. It opens what the stop before it left, which carries a book of
+/// version 1 over, answers its commands, and stops at its end, or at a fault. Told is what each came to: its replies, or the fault
+/// at which the book wasn't opened. What is left at last stands for one register, to which the days led: no day lost an entry that
+/// was there before it or that was answered on it, and whatever was accepted is answered by the same text when it is given again.
+/// Also whether all days came: they end early where no memory is left to write one more down, and after one on which the store
+/// itself wasn't opened (40, 41).
 pub fn days<S: Alter + Reopen + Drop>(
     alloc: Global,
     mut store: S,
-    asked: &[Vec<(Command<'_>, Moment)>],
+    asked: &[(Command<'_>, Moment)],
+    counts: &[usize],
 ) -> (Vec<Result<Outcome, Fault>>, bool, S)
     requires { IsClean (S.Store.view store) → IsTrue (S.Store.view store).is_numbered }
-    ensures led { IsClean (S.Store.view result.2) → list_all (λ cs. can_be_given cs.items) asked.now ≡ true
+    ensures led { IsClean (S.Store.view result.2) → list_all can_be_given (day_by_day counts.now asked.now) ≡ true
         → (W : Partner) (L : List Entry) → ((db : Trees) → S.Store.recovers store db → LeavesCarried W L db)
         → (db : Trees) → S.Store.recovers result.2 db
-        → AreLed W L (map (λ cs. all_asked cs.items) asked.now) result.0.items db }
-    ensures all { result.1 ≡ true → length result.0.items ≡ length asked.now }
-    ensures most { length result.0.items ≤ length asked.now }
+        → AreLed W L (map all_asked (day_by_day counts.now asked.now)) result.0.items db }
+    ensures all { result.1 ≡ true → length result.0.items ≡ length counts.now }
+    ensures most { length result.0.items ≤ length counts.now }
 {
     let mut told = Vec::new(alloc);
-    for commands in asked {
+    let mut rest = asked;
+    for count in counts {
         if told.reserve(1).is_err() {
             return (told, false, store);
         }
-        let (outcome, left, again) = day(alloc, store, commands);
+        let (outcome, left, again) = day(alloc, store, first_of(rest, *count));
         store = left;
+        rest = after_of(rest, *count);
         told.push(outcome).unwrap();
         if !again {
             return (told, false, store);

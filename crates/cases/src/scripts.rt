@@ -10,6 +10,7 @@ pub mod inboxes;
 pub mod lists;
 pub mod lots;
 pub mod on_disk;
+pub mod open_work;
 pub mod picks;
 pub mod refused_sheets;
 pub mod sets;

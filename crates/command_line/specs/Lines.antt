@@ -96,11 +96,17 @@ recount_shape = subcommand (codes "recount") (who_rule ∷ ticket_rule ∷ sheet
 abbrev pub stock_shape : Shape
 stock_shape = subcommand (codes "stock") (who_rule ∷ flag_rule (codes "csv") ∷ at_rule ∷ [])
 
+abbrev pub open_shape : Shape
+open_shape = subcommand (codes "open") (who_rule ∷ at_rule ∷ [])
+
 abbrev pub orders_shape : Shape
 orders_shape = subcommand (codes "orders") (who_rule ∷ number_rule ∷ at_rule ∷ [])
 
 abbrev pub outbox_shape : Shape
 outbox_shape = subcommand (codes "outbox") (who_rule ∷ option_rule (codes "number") ∷ at_rule ∷ [])
+
+abbrev pub depositors_shape : Shape
+depositors_shape = subcommand (codes "depositors") (at_rule ∷ [])
 
 abbrev pub serve_shape : Shape
 serve_shape = subcommand (codes "serve") (wanted_rule (codes "listen") ∷ wanted_rule (codes "count")
@@ -150,7 +156,8 @@ act_subcommands p = over_at p enrol_shape ∷ over_at p roster_shape ∷ either_
     ∷ either_at p count_shape ∷ either_at p pick_shape ∷ either_at p recount_shape ∷ []
 
 abbrev pub show_subcommands : Place → List Shape
-show_subcommands p = either_at p stock_shape ∷ either_at p orders_shape ∷ either_at p outbox_shape ∷ []
+show_subcommands p = either_at p stock_shape ∷ either_at p open_shape ∷ either_at p orders_shape ∷ either_at p outbox_shape
+    ∷ either_at p depositors_shape ∷ []
 
 -- those that may stand in a script, as they stand at a place
 abbrev pub line_subcommands : Place → List Shape
@@ -239,8 +246,10 @@ SaysAct f (act.Clerk t) = (f.0 ≡ deed_name t.deed) × SaysTold f.1 t
 abbrev pub SaysShow : Found → Show → Type 0
 SaysShow f (show.Stock who is_csv) = (f.0 ≡ codes "stock") × Has f.1 (codes "who") who.now
     × (is_csv ≡ has_flag f.1 (codes "csv"))
+SaysShow f (show.Open who) = (f.0 ≡ codes "open") × Has f.1 (codes "who") who.now
 SaysShow f (show.Order who number) = (f.0 ≡ codes "orders") × Has f.1 (codes "who") who.now × Has f.1 (codes "number") number.now
 SaysShow f (show.Outbox who number) = (f.0 ≡ codes "outbox") × Has f.1 (codes "who") who.now × SaysNumber f.1 number
+SaysShow f show.Depositors = f.0 ≡ codes "depositors"
 
 -- an address is written as std's grammar has it: an IP address, a colon and a port
 abbrev pub SaysAddress : List Row → Text → SocketAddr → Type 0
@@ -287,8 +296,8 @@ LeavesToServer rows = Lacks rows (codes "book") × Lacks rows (codes "at") × La
 -- the subcommands that a running server may be asked for
 abbrev pub takes_server : Text → Bool
 takes_server name = bytes_eq name (codes "send") || (bytes_eq name (codes "count") || (bytes_eq name (codes "pick")
-    || (bytes_eq name (codes "recount") || (bytes_eq name (codes "stock") || (bytes_eq name (codes "orders")
-    || bytes_eq name (codes "outbox"))))))
+    || (bytes_eq name (codes "recount") || (bytes_eq name (codes "stock") || (bytes_eq name (codes "open")
+    || (bytes_eq name (codes "orders") || (bytes_eq name (codes "outbox") || bytes_eq name (codes "depositors"))))))))
 
 -- the line, at this place, asks for this
 abbrev pub Says : Place → Found → Words → Type 0

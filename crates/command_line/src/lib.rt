@@ -6,6 +6,7 @@ mod arguments;
 mod moments;
 mod numbers;
 mod reading;
+mod shows;
 mod subcommands;
 mod values;
 mod words;

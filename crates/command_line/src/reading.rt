@@ -112,6 +112,9 @@ fn show_of<'a>(
             who: given(alloc, values, "who")?,
             is_csv: has_flag(values, "csv"),
         },
+        "open" => Show::Open {
+            who: given(alloc, values, "who")?,
+        },
         "orders" => Show::Order {
             who: given(alloc, values, "who")?,
             number: given(alloc, values, "number")?,
@@ -120,6 +123,7 @@ fn show_of<'a>(
             who: given(alloc, values, "who")?,
             number: number(alloc, values)?,
         },
+        "depositors" => Show::Depositors,
         _ => return Ok(None),
     };
     Ok(Some(show))
@@ -205,8 +209,10 @@ fn takes_server(name: &str) -> bool
         || name == "pick"
         || name == "recount"
         || name == "stock"
+        || name == "open"
         || name == "orders"
         || name == "outbox"
+        || name == "depositors"
 }
 
 // What a subcommand asks a running server for with its values.

@@ -1,4 +1,4 @@
-//! What may stand in a line of words: the subcommands, and the help that each shows.
+//! What may stand in a line of words: the subcommands, and the help that each shows. Those that only look stand in shows.rt.
 ghost use Rattle.std.specs.Prelude.{◌≡◌, ◌∷◌, IfOk, true, [], codes};
 ghost use Rattle.clap.specs.Simple.{App, app_of};
 ghost use Rattle.command_line.specs.Lines as meant;
@@ -8,6 +8,7 @@ use crate::arguments::{
     at, described, flag, join, join_at, join_either_at, of_clerk, of_depositor, option, order,
     subcommand, value, wanted, with, with_at, with_sheet,
 };
+use crate::shows::with_shows;
 use crate::words::Place;
 use clap::Command;
 use std::alloc::{AllocError, Global};
@@ -20,7 +21,7 @@ fn script<'a>(alloc: Global) -> Result<Command<'a>, AllocError>
         "script",
         "Runs the commands of a file, line by line, over a new book in memory",
         "whx12 script FILE",
-        "Example: whx12 script morning.txt\n\nThe first line makes the book, as: init ZZ-WHSE1. Each other line is one of\n  enrol   roster   send   take   count   pick   recount   stock   orders   outbox\nwithout `whx12` and `--book`, and with single spaces between its words; empty lines are passed over. A line that is a name and --help stops the script and\nshows what that command wants. A refused command is told on standard error, and the script goes on; words that can't be\nread and faults stop it.",
+        "Example: whx12 script morning.txt\n\nThe first line makes the book, as: init ZZ-WHSE1. Each other line is one of\n  enrol   roster   send   take   count   pick   recount   stock   open   orders   outbox   depositors\nwithout `whx12` and `--book`, and with single spaces between its words; empty lines are passed over. A line that is a name and --help stops the script and\nshows what that command wants. A refused command is told on standard error, and the script goes on; words that can't be\nread and faults stop it.",
         value(alloc, "file", "FILE", "The file with the commands"),
     )
 }
@@ -161,59 +162,6 @@ fn recount<'a>(alloc: Global) -> Result<Command<'a>, AllocError>
     with_sheet(alloc, command)
 }
 
-fn stock<'a>(alloc: Global) -> Result<Command<'a>, AllocError>
-    ensures { IfOk result (IsCommand meant.stock_shape) }
-{
-    let command = of_depositor(
-        alloc,
-        "stock",
-        "Prints what a depositor has, a line for each item and lot",
-        "whx12 stock WHO [--csv] (--book BOOK | --server ADDR)",
-        "Example: whx12 stock ZZ-ACME --book harbor.book\nExample: whx12 stock ZZ-ACME --csv --book harbor.book\nExample: whx12 stock ZZ-ACME --server 127.0.0.1:8080",
-    );
-    let command = with(
-        command,
-        flag(alloc, "csv", "Prints it as CSV, for a spreadsheet"),
-    );
-    with_at(alloc, command)
-}
-
-fn orders<'a>(alloc: Global) -> Result<Command<'a>, AllocError>
-    ensures { IfOk result (IsCommand meant.orders_shape) }
-{
-    let command = of_depositor(
-        alloc,
-        "orders",
-        "Prints the picking sheet of an open order",
-        "whx12 orders WHO ORDER (--book BOOK | --server ADDR)",
-        "Example: whx12 orders ZZ-ACME ORD1 --book harbor.book\nExample: whx12 orders ZZ-ACME ORD1 --server 127.0.0.1:8080",
-    );
-    let command = with(command, order(alloc));
-    with_at(alloc, command)
-}
-
-fn outbox<'a>(alloc: Global) -> Result<Command<'a>, AllocError>
-    ensures { IfOk result (IsCommand meant.outbox_shape) }
-{
-    let command = of_depositor(
-        alloc,
-        "outbox",
-        "Lists what went out to a depositor, or prints one of those texts again",
-        "whx12 outbox WHO [--number N] (--book BOOK | --server ADDR)",
-        "Example: whx12 outbox ZZ-ACME --book harbor.book\nExample: whx12 outbox ZZ-ACME --number 4 --book harbor.book\nExample: whx12 outbox ZZ-ACME --server 127.0.0.1:8080\n\nIn the list ANS is an answer; of a document it says whether the depositor took it: open, accepted or refused.",
-    );
-    let command = with(
-        command,
-        option(
-            alloc,
-            "number",
-            "N",
-            "The number of one text, from 1 to 999999",
-        ),
-    );
-    with_at(alloc, command)
-}
-
 // The subcommand `serve` as far as its words must be there.
 fn serve_wanted<'a>(alloc: Global) -> Result<Command<'a>, AllocError>
     ensures { IfOk result (IsCommand (meant.subcommand (codes "serve")
@@ -269,7 +217,7 @@ fn serve<'a>(alloc: Global) -> Result<Command<'a>, AllocError>
         flag(
             alloc,
             "clerks",
-            "Takes counts, picks, recounts and picking sheets too, for commands with --server",
+            "Takes counts, picks and recounts too, and shows picking sheets, what is open and who is enrolled, for commands with --server",
         ),
     );
     with_at(alloc, command)
@@ -306,20 +254,6 @@ fn with_acts<'a>(
     join_either_at(alloc, place, parser, recount(alloc))
 }
 
-// With the subcommands that show something of the book.
-fn with_shows<'a>(
-    alloc: Global,
-    place: Place,
-    parser: Result<Command<'a>, AllocError>,
-) -> Result<Command<'a>, AllocError>
-    ensures { (a : App) → IfOk parser.entry (λ c. app_of c ≡ a)
-        → IfOk result (λ c. app_of c ≡ meant.with_all a (meant.show_subcommands place)) }
-{
-    let parser = join_either_at(alloc, place, parser, stock(alloc));
-    let parser = join_either_at(alloc, place, parser, orders(alloc));
-    join_either_at(alloc, place, parser, outbox(alloc))
-}
-
 // With the subcommands that may stand in a script, as they stand at the place.
 fn with_lines<'a>(
     alloc: Global,
@@ -343,7 +277,7 @@ fn top<'a>(alloc: Global) -> Command<'a>
         "whx12",
         "The book of a third-party warehouse that takes its orders as X12 interchanges",
         "whx12 COMMAND ..",
-        "The book:      init, enrol, roster, verify\nInterchanges:  send, take, serve\nClerks:        orders, count, pick, recount\nLooking:       stock, outbox\nMany at once:  batch\nTrying out:    script\n\nExample: whx12 init ZZ-WHSE1 --book harbor.book\nExample: whx12 enrol ZZ-ACME --book harbor.book\nExample: whx12 send advice.x12 --book harbor.book\nExample: whx12 script morning.txt\n\n`whx12 help COMMAND` says what a command wants. The exit status is 0 where all was done, 1 where something was refused, 2 where words can't be read, 3 at a fault.",
+        "The book:      init, enrol, roster, verify\nInterchanges:  send, take, serve\nClerks:        orders, count, pick, recount\nLooking:       stock, open, outbox, depositors\nMany at once:  batch\nTrying out:    script\n\nExample: whx12 init ZZ-WHSE1 --book harbor.book\nExample: whx12 enrol ZZ-ACME --book harbor.book\nExample: whx12 send advice.x12 --book harbor.book\nExample: whx12 script morning.txt\n\n`whx12 help COMMAND` says what a command wants. The exit status is 0 where all was done, 1 where something was refused, 2 where words can't be read, 3 at a fault.",
     )
     .no_binary_name(true)
     .subcommand_required(true)

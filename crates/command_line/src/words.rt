@@ -34,7 +34,7 @@ pub enum Words<'a> {
         /// The IP address and port that it listens at.
         server: SocketAddr,
         /// What is done, at no moment that the line says: `send`, `count`, `pick`, `recount`, `stock`,
-        /// `orders` or `outbox`.
+        /// `open`, `orders`, `outbox` or `depositors`.
         task: Task<'a>,
     },
 }
@@ -138,7 +138,7 @@ pub enum Deed {
     Recount,
 }
 
-/// What can be shown of a depositor.
+/// What can be shown of a book.
 #[derive(Clone, Copy)]
 pub enum Show<'a> {
     /// What is on hand.
@@ -147,6 +147,11 @@ pub enum Show<'a> {
         who: &'a str,
         /// Whether it is shown as CSV.
         is_csv: bool,
+    },
+    /// What is open: advices that aren't counted, and orders that aren't picked.
+    Open {
+        /// The depositor, as `QQ-ID`.
+        who: &'a str,
     },
     /// The picking sheet of an order.
     Order {
@@ -162,6 +167,8 @@ pub enum Show<'a> {
         /// The number of the one text that is asked for, 1 to 999,999; None for the list.
         number: Option<u32>,
     },
+    /// Who is enrolled.
+    Depositors,
 }
 
 /// Why a line of words asks for nothing.

@@ -1,4 +1,4 @@
--- What is shown of stock and of an order.
+-- What is shown of stock, of what is open, and of an order.
 use Rattle.std.proofs.Common.{◌≡◌, ◌≢◌, ◌∙◌, ℕ, Bool, List, [], Option, Some, None, option_map, Ok, Err, IfErr, Result, refl, sym, ap, subst, inl, inr}
 use Rattle.std.specs.Prelude.{if◌then◌else◌, IsErrOf}
 use Rattle.std.specs.Io.KnownBytes.{Appends}
@@ -11,14 +11,17 @@ use Rattle.profile.specs.Register.{Entry}
 use Rattle.profile.specs.Reports.{pick_list, stock_csv, stock_report}
 use Rattle.profile.specs.Rows.{StockRow}
 use Rattle.rules.specs.Decided.{IsHeldPart}
+use Rattle.reports.specs.Open.{open_report}
 use Rattle.reports.specs.Picking.{Explains}
 use Rattle.reports.specs.declared.picking.NoSheet.{NoSheet}
 use Rattle.reports.specs.declared.picking.NoSheet.TheVariants.{UnknownOrder, OrderClosed, OutOfMemory}
+use Rattle.stock.specs.Pages.{PageFacts}
 use Rattle.store.specs.Held.{IsHeld}
+use Rattle.store.specs.Open.{OpenWork, open_on}
 use Rattle.store.specs.Standing.{Standing, IsQueryFault}
 use Rattle.store.specs.declared.fault.Fault.TheVariants as faults
 use Rattle.commands.specs.Stops.{IsDeviceStop}
-use Rattle.commands.specs.Shown.{Shown, IsShown, IsShowStopped, shown_stock, shown_order, shown_sheet}
+use Rattle.commands.specs.Shown.{Shown, IsShown, IsShowStopped, shown_stock, shown_open, shown_order, shown_sheet}
 use Rattle.commands.specs.declared.told.CommandError.{CommandError}
 use Rattle.commands.specs.declared.told.CommandError.TheVariants as stops
 use Rattle.commands.specs.declared.told.ExitStatus.{ExitStatus}
@@ -36,6 +39,13 @@ stock_shown rows_of o v is_csv found rows text written before behind is e r t w 
     w ∙ t ∙ ap (λ k. if is_csv then stock_csv Two k else stock_report Two k) r in
     subst (λ k. IsShown (shown_stock is_csv k) before behind Done) given
     (record { printed = subst (Appends before behind) report told; says = refl })
+
+-- what is open on the page that was found
+pub open_shown : (o : Option PageFacts) (p : PageFacts) (found : Option OpenWork) (text written : List ℕ) (before behind : Option (List ℕ)) → o ≡ Some p
+    → option_map open_on o ≡ found → text ≡ open_report (open_on p) → written ≡ text → Appends before behind written → IsShown (shown_open found) before behind Done
+open_shown o p found text written before behind is e t w told =
+    let given : Some (open_on p) ≡ found = sym (ap (option_map open_on) is) ∙ e in
+    subst (λ k. IsShown (shown_open k) before behind Done) given (record { printed = subst (Appends before behind) (w ∙ t) told; says = refl })
 
 -- want of memory has no cause here
 pub starved : (old new : Standing) → IsQueryFault faults.OutOfMemory old new

@@ -1,16 +1,16 @@
 -- What comes of a line that shows something, and of a line of a script.
-use Rattle.std.specs.Prelude.{◌≡◌, ◌⊎◌, ◌&&◌, ℕ, Bool, true, false, List, Option, Some, IfOk, IfErr, is_some}
+use Rattle.std.specs.Prelude.{◌≡◌, ◌⊎◌, ℕ, Bool, false, List, Option, Some, IfOk, IfErr, is_some, option_map}
 use Rattle.profile.specs.declared.rules.Rules.TheVariants.{Two}
 use Rattle.profile.specs.Accepted.{IsLegal}
-use Rattle.profile.specs.Bytes.{is_identifier}
-use Rattle.profile.specs.Limits.{most_number}
 use Rattle.profile.specs.Header.{who_of}
 use Rattle.profile.specs.Register.{Entry}
 use Rattle.store.specs.Standing.{Standing, IsUnchanged}
+use Rattle.intake.specs.Calls.{owner_of}
 use Rattle.commands.specs.Acting.{Ending}
 use Rattle.commands.specs.Readying.{IsChange, IsLeft}
 use Rattle.commands.specs.Shown.{IsShown, IsShowStopped, shown_of}
 use Rattle.commands.specs.declared.shows.Asked.{Asked}
+use Rattle.commands.specs.declared.shows.Asked.TheVariants as asks
 use Rattle.command_line.specs.declared.words.Show.{Show}
 use Rattle.command_line.specs.declared.words.Show.TheVariants as show
 use Rattle.command_line.specs.declared.words.Task.{Task}
@@ -18,26 +18,20 @@ use Rattle.command_line.specs.declared.words.Task.TheVariants as task
 use Rattle.command_line.specs.declared.words.Words.{Words}
 use Rattle.command_line.specs.declared.words.Words.TheVariants as words
 
--- the word that names the depositor
-abbrev pub name_in : Show → List ℕ
-name_in (show.Stock who is_csv) = who.now
-name_in (show.Order who number) = who.now
-name_in (show.Outbox who number) = who.now
+-- what the words ask for; nothing where one of them can't be read
+abbrev pub asked_for : Show → Option Asked
+asked_for (show.Stock name is_csv) = option_map (λ who. asks.Stock who is_csv) (who_of name.now)
+asked_for (show.Open name) = option_map asks.Open (who_of name.now)
+asked_for (show.Order name number) = option_map (λ who. asks.Order who number) (owner_of name.now number.now)
+asked_for (show.Outbox name number) = option_map (λ who. asks.Outbox who number) (who_of name.now)
+asked_for show.Depositors = Some asks.Depositors
 
--- whether the number of an order is one, where an order is asked for
-abbrev pub is_numbered : Show → Bool
-is_numbered (show.Order who number) = is_identifier 1 most_number number.now
-is_numbered other = true
+abbrev pub IsAskedFor : Show → Asked → Type 0
+IsAskedFor s asked = asked_for s ≡ Some asked
 
 -- whether the words can be read
 abbrev pub is_readable : Show → Bool
-is_readable s = is_some (who_of (name_in s)) && is_numbered s
-
--- it is what these words ask for
-pub record IsAskedFor (s : Show) (asked : Asked) : Type 0 where
-  pub show : asked.show ≡ s
-  pub who : who_of (name_in s) ≡ Some asked.who
-  pub number : is_numbered s ≡ true
+is_readable s = is_some (asked_for s)
 
 -- it was shown, and the book is as before
 pub record IsLook (old new : Standing) (asked : Asked) (before behind : Option (List ℕ)) (ending : Ending) : Type 0 where

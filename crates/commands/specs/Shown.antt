@@ -10,6 +10,8 @@ use Rattle.profile.specs.Refusals.{Refusal}
 use Rattle.profile.specs.Register.{Entry, own}
 use Rattle.profile.specs.Reports.{stock_csv, stock_report, outbox_list, pick_list}
 use Rattle.profile.specs.Rows.{StockRow, OutRow, stock_of, outbox_of}
+use Rattle.reports.specs.Open.{depositor_list, open_report}
+use Rattle.store.specs.Open.{OpenWork, enrolled, open_of}
 use Rattle.store.specs.Sent.{text_of}
 use Rattle.store.specs.Standing.{Standing, IsQueryFault}
 use Rattle.commands.specs.Stops.{IsDeviceStop, IsFaultThat}
@@ -18,8 +20,7 @@ use Rattle.commands.specs.declared.told.CommandError.{CommandError}
 use Rattle.commands.specs.declared.told.ExitStatus.{ExitStatus}
 use Rattle.commands.specs.declared.told.ExitStatus.TheVariants.{Done, Refused}
 use Rattle.commands.specs.declared.shows.Asked.{Asked}
-use Rattle.command_line.specs.declared.words.Show.{Show}
-use Rattle.command_line.specs.declared.words.Show.TheVariants as show
+use Rattle.commands.specs.declared.shows.Asked.TheVariants as asks
 
 -- what is printed, and the status
 abbrev pub Shown : Type 0
@@ -33,6 +34,13 @@ shown_stock is_csv (Some rows) = (if is_csv then stock_csv Two rows else stock_r
 abbrev pub shown_list : Option (List OutRow) → Shown
 shown_list None = ([], Refused)
 shown_list (Some rows) = (outbox_list rows, Done)
+
+abbrev pub shown_open : Option OpenWork → Shown
+shown_open None = ([], Refused)
+shown_open (Some work) = (open_report work, Done)
+
+abbrev pub shown_depositors : List Who → Shown
+shown_depositors whos = (depositor_list whos, Done)
 
 -- a text that went out, where one did
 abbrev pub shown_text : Option (Option (List ℕ)) → Shown
@@ -48,15 +56,14 @@ abbrev pub shown_order : List ℕ → Option History → Shown
 shown_order number None = ([], Refused)
 shown_order number (Some h) = shown_sheet (pick_list h.events number)
 
--- what a warehouse with this register shows to a depositor
-abbrev pub shown_to : Who → List Entry → Who → Show → Shown
-shown_to W L who (show.Stock name is_csv) = shown_stock is_csv (stock_of L who)
-shown_to W L who (show.Order name number) = shown_order number.now (standing (own L who))
-shown_to W L who (show.Outbox name None) = shown_list (outbox_of W L who)
-shown_to W L who (show.Outbox name (Some n)) = shown_text (text_of W L who n)
-
+-- what a warehouse with this register shows
 abbrev pub shown_of : Who → List Entry → Asked → Shown
-shown_of W L asked = shown_to W L asked.who asked.show
+shown_of W L (asks.Stock who is_csv) = shown_stock is_csv (stock_of L who)
+shown_of W L (asks.Open who) = shown_open (open_of L who)
+shown_of W L (asks.Order who number) = shown_order number.now (standing (own L who))
+shown_of W L (asks.Outbox who None) = shown_list (outbox_of W L who)
+shown_of W L (asks.Outbox who (Some n)) = shown_text (text_of W L who n)
+shown_of W L asks.Depositors = shown_depositors (enrolled L)
 
 -- it was printed, and the status is the one that it gives
 pub record IsShown (shown : Shown) (before behind : Option (List ℕ)) (status : ExitStatus) : Type 0 where

@@ -284,7 +284,9 @@ fn bad_word<'a>(task: &Task<'a>) -> Option<BadWord<'a>> {
             Some(bad) => Some(bad),
             None => bad_ident(*number, MOST_NUMBER, NUMBER),
         },
-        Task::Show(Show::Stock { who, .. } | Show::Outbox { who, .. }) => bad_partner(*who),
+        Task::Show(Show::Stock { who, .. } | Show::Open { who } | Show::Outbox { who, .. }) => {
+            bad_partner(*who)
+        }
         _ => None,
     }
 }

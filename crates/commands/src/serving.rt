@@ -9,7 +9,7 @@ use crate::told::{CommandError, ExitStatus};
 use crate::verbosity::Verbosity;
 use command_line::Service;
 use http::StatusCode;
-use intake::{Audience, Connection, Patience, RequestLine, serve_within};
+use intake::{Audience, Connection, Patience, RequestLine, serve_within, write_sender};
 use std::io;
 use std::net::TcpListener;
 use std::time::Duration;
@@ -93,11 +93,13 @@ fn tell_end<E: io::Write>(err: &mut E, connection: &Connection) -> io::Result<()
     }
 }
 
-// Tells of a connection on a line of its own: moment, peer, method, path, status or fault, bytes and milliseconds, with `-` for what isn't
-// known.
+// Tells of a connection on a line of its own: moment, peer, method, path, whose interchange was handed in, status or fault, bytes and
+// milliseconds, with `-` for what isn't known.
 fn tell_connection<E: io::Write>(err: &mut E, connection: &Connection) -> io::Result<()> {
     tell_peer(err, connection)?;
     tell_asked(err, &connection.served.line)?;
+    write_sender(err, &connection.served.sender)?;
+    err.write_all(b" ")?;
     tell_end(err, connection)
 }
 

@@ -4,27 +4,68 @@ ghost use Rattle.profile.specs.declared.rules.Rules.TheVariants.{Two};
 ghost use Rattle.profile.specs.Reports as meant;
 ghost use Rattle.profile.specs.Accepted.{IsLegal};
 ghost use Rattle.profile.specs.Decision.{standing as standing_of};
+ghost use Rattle.profile.specs.Header.{who_of};
 ghost use Rattle.profile.specs.Register.{Entry, own};
 ghost use Rattle.profile.specs.Rows.{stock_of, outbox_of};
+ghost use Rattle.store.specs.Open.{open_of, enrolled};
 ghost use Rattle.store.specs.Sent.{text_of};
 ghost use Rattle.store.specs.Standing.{IsUnchanged, OfKept};
-ghost use Rattle.commands.specs.Looking.{IsAskedFor, is_readable};
+ghost use Rattle.intake.specs.Calls.{owner_of};
+ghost use Rattle.commands.specs.Looking.{IsAskedFor, asked_for, is_readable};
 ghost use Rattle.commands.specs.Stops.{IsDeviceStop};
-ghost use Rattle.commands.specs.Shown.{IsShown, IsShowStopped, shown_stock, shown_list, shown_text, shown_order, shown_of};
+ghost use Rattle.commands.specs.Shown.{IsShown, IsShowStopped, shown_stock, shown_open, shown_list, shown_text, shown_order, shown_depositors, shown_of};
 
 use crate::told::{CommandError, ExitStatus, tell_refusal, tell_text};
 use command_line::Show;
 use profile::MOST_NUMBER;
-use reports::{NoSheet, outbox_list, pick_list, stock_csv, stock_report};
+use reports::{
+    NoSheet, depositor_list, open_report, outbox_list, pick_list, stock_csv, stock_report,
+};
 use std::alloc::{AllocError, Global};
 use std::io;
 use store::{Fault, Ident, Keeper, Need, Refusal, StockRow, Who};
 
 /// What is to be shown, its words tested.
 #[derive(Clone, Copy)]
-pub struct Asked<'a> {
-    who: Who,
-    show: Show<'a>,
+pub enum Asked<'a> {
+    /// What a depositor has, as CSV or not.
+    Stock(Who, bool),
+    /// What a depositor has open.
+    Open(Who),
+    /// The picking sheet of a depositor's order, by its number.
+    Order(Who, &'a str),
+    /// What went out to a depositor: the text of this number, or the list.
+    Outbox(Who, Option<u32>),
+    /// Who is enrolled.
+    Depositors,
+}
+
+// The depositor that a word names.
+fn named(who: &str) -> Option<Who>
+    ensures { result ≡ who_of who.now }
+{
+    Who::new(who.as_bytes())
+}
+
+// The depositor whose order is named; None where one of the two words can't be read.
+fn owner(who: &str, number: &str) -> Option<Who>
+    ensures { result ≡ owner_of who.now number.now }
+{
+    Ident::new(number.as_bytes(), MOST_NUMBER)?;
+    named(who)
+}
+
+// What a line asks to be shown; None where one of its words can't be read.
+fn read<'a>(show: &Show<'a>) -> Option<Asked<'a>>
+    ensures { result ≡ asked_for show.now }
+{
+    match show {
+        Show::Stock { who, is_csv } => Some(Asked::Stock(named(*who)?, *is_csv)),
+        Show::Open { who } => Some(Asked::Open(named(*who)?)),
+        Show::Order { who, number } => Some(Asked::Order(owner(*who, *number)?, *number)),
+        Show::Outbox { who, number } => Some(Asked::Outbox(named(*who)?, *number)),
+        Show::Depositors => Some(Asked::Depositors),
+    }
 }
 
 /// What a line asks to be shown. Refused is 32, a word that can't be read.
@@ -32,15 +73,10 @@ pub fn ask<'a>(show: &Show<'a>) -> Result<Asked<'a>, Refusal>
     ensures asked { IfOk result (IsAskedFor show.now) }
     ensures refused { IfErr result (λ refusal. (refusal ≡ Refusal.BadText) × (is_readable show.now ≡ false)) }
 {
-    let (who, number) = match show {
-        Show::Order { who, number } => (*who, Some(*number)),
-        Show::Stock { who, .. } | Show::Outbox { who, .. } => (*who, None),
-    };
-    let who = Who::new(who.as_bytes()).ok_or(Refusal::BadText)?;
-    if let Some(number) = number {
-        Ident::new(number.as_bytes(), MOST_NUMBER).ok_or(Refusal::BadText)?;
+    match read(show) {
+        Some(asked) => Ok(asked),
+        None => Err(Refusal::BadText),
     }
-    Ok(Asked { who, show: *show })
 }
 
 // The stock report, or its export as CSV.
@@ -74,6 +110,30 @@ fn stock<K: Keeper, W: io::Write, E: io::Write>(
     match store::stock(book, who)? {
         Some(rows) => {
             out.write_all(&stock_text(alloc, &rows, is_csv)?)?;
+            Ok(ExitStatus::Done)
+        }
+        None => tell_refusal(alloc, err, Refusal::UnknownDepositor),
+    }
+}
+
+// Prints what a depositor has open. Refused is 20, an unknown depositor.
+fn open<K: Keeper, W: io::Write, E: io::Write>(
+    alloc: Global,
+    book: &mut K,
+    who: Who,
+    out: &mut W,
+    err: &mut E,
+) -> Result<ExitStatus, CommandError>
+    ensures shown { OfKept (K.standing book.old) (K.standing book.new)
+        (λ L. IfOk result (λ status. IsShown (shown_open (open_of L who)) (W.contents out.old)
+        (W.contents out.new) status)) }
+    ensures same { IsUnchanged (K.standing book.old) (K.standing book.new) }
+    ensures stopped { IfErr result (IsShowStopped (K.standing book.old) (K.standing book.new)
+        (λ L. shown_open (open_of L who))) }
+{
+    match book.open(who)? {
+        Some(page) => {
+            out.write_all(&open_report(alloc, &page)?)?;
             Ok(ExitStatus::Done)
         }
         None => tell_refusal(alloc, err, Refusal::UnknownDepositor),
@@ -193,6 +253,24 @@ fn content<K: Keeper, W: io::Write, E: io::Write>(
     }
 }
 
+// Prints who is enrolled.
+fn depositors<K: Keeper, W: io::Write>(
+    alloc: Global,
+    book: &mut K,
+    out: &mut W,
+) -> Result<ExitStatus, CommandError>
+    ensures shown { OfKept (K.standing book.old) (K.standing book.new)
+        (λ L. IfOk result (λ status. IsShown (shown_depositors (enrolled L)) (W.contents out.old)
+        (W.contents out.new) status)) }
+    ensures same { IsUnchanged (K.standing book.old) (K.standing book.new) }
+    ensures stopped { IfErr result (IsShowStopped (K.standing book.old) (K.standing book.new)
+        (λ L. shown_depositors (enrolled L))) }
+{
+    let whos = book.depositors()?;
+    out.write_all(&depositor_list(alloc, &whos)?)?;
+    Ok(ExitStatus::Done)
+}
+
 /// Shows of a book what is asked for. Refused are 20, an unknown depositor, and of a picking sheet 24, an unknown order, and 25,
 /// one that was picked; a number without a text is told by the status alone.
 pub fn show<K: Keeper, W: io::Write, E: io::Write>(
@@ -209,14 +287,12 @@ pub fn show<K: Keeper, W: io::Write, E: io::Write>(
     ensures stopped { IfErr result (IsShowStopped (K.standing book.old) (K.standing book.new)
         (λ L. shown_of (K.standing book.old).warehouse L asked.now)) }
 {
-    let who = asked.who;
-    match asked.show {
-        Show::Stock { is_csv, .. } => stock(alloc, book, who, is_csv, out, err),
-        Show::Order { number, .. } => order(alloc, book, who, number, out, err),
-        Show::Outbox { number: None, .. } => outbox(alloc, book, who, out, err),
-        Show::Outbox {
-            number: Some(number),
-            ..
-        } => content(alloc, book, who, number, out, err),
+    match *asked {
+        Asked::Stock(who, is_csv) => stock(alloc, book, who, is_csv, out, err),
+        Asked::Open(who) => open(alloc, book, who, out, err),
+        Asked::Order(who, number) => order(alloc, book, who, number, out, err),
+        Asked::Outbox(who, None) => outbox(alloc, book, who, out, err),
+        Asked::Outbox(who, Some(number)) => content(alloc, book, who, number, out, err),
+        Asked::Depositors => depositors(alloc, book, out),
     }
 }

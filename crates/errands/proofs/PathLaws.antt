@@ -10,7 +10,7 @@ use Rattle.profile.specs.Header.{Who, who_of, who_text, is_partner}
 use Rattle.profile.specs.Limits.{most_ticket, most_number}
 use Rattle.profile.proofs.TextLaws.{both_parts, text_is}
 use Rattle.commands.specs.Clerks.{kind_of}
-use Rattle.intake.specs.Calls.{ToOrder, ToExport, call_of, call_in, is_named}
+use Rattle.intake.specs.Calls.{ToOrder, ToExport, ToOpen, ToDepositors, call_of, call_in, is_named, owner_of}
 use Rattle.command_line.specs.declared.words.Deed.{Deed}
 use Rattle.command_line.specs.declared.words.Deed.TheVariants as deed
 use Rattle.errands.specs.Paths.{path_text, deed_text, deed_call}
@@ -123,8 +123,18 @@ deed_found d who ticket number w h = by (is_identifier 1 most_ticket ticket && i
         found d (who_whole who w k) (identifier_whole 1 most_ticket ticket both.0) both.1
 
 -- and a picking sheet where it stands
-pub order_found : (who number : List ℕ) (w : Who) → who_of who ≡ Some w → is_identifier 1 most_number number ≡ true → call_of (path_text (codes "orders" ∷ who ∷ number ∷ [])) ≡ Some (ToOrder who number)
-order_found who number w h k = ap call_in (path_parts (codes "orders") (who ∷ number ∷ []) refl (who_whole who w h, (identifier_whole 1 most_number number k, tt)))
+pub order_found : (who number : List ℕ) (w : Who) → owner_of who number ≡ Some w → call_of (path_text (codes "orders" ∷ who ∷ number ∷ [])) ≡ Some (ToOrder who number)
+order_found who number w h = by (is_identifier 1 most_number number) refl h
+  where
+    by : (c : Bool) → is_identifier 1 most_number number ≡ c → (if c then who_of who else None) ≡ Some w → call_of (path_text (codes "orders" ∷ who ∷ number ∷ [])) ≡ Some (ToOrder who number)
+    by false e k = absurd (cc)
+    by true e k = ap call_in (path_parts (codes "orders") (who ∷ number ∷ []) refl (who_whole who w k, (identifier_whole 1 most_number number e, tt)))
 
 pub export_found : (who : List ℕ) (w : Who) → who_of who ≡ Some w → call_of (path_text (codes "stock" ∷ who ∷ codes "csv" ∷ [])) ≡ Some (ToExport who)
 export_found who w h = ap call_in (path_parts (codes "stock") (who ∷ codes "csv" ∷ []) refl (who_whole who w h, (refl, tt)))
+
+pub open_found : (who : List ℕ) (w : Who) → who_of who ≡ Some w → call_of (path_text (codes "open" ∷ who ∷ [])) ≡ Some (ToOpen who)
+open_found who w h = ap call_in (path_parts (codes "open") (who ∷ []) refl (who_whole who w h, tt))
+
+pub depositors_found : call_of (path_text (codes "depositors" ∷ [])) ≡ Some ToDepositors
+depositors_found = refl

@@ -2,7 +2,7 @@
 use Rattle.std.proofs.Common.{◌≡◌, codes, refl, Some, None, true, false}
 use Rattle.rules.specs.declared.refusals.Refusal.TheVariants as refusals
 use Rattle.store.specs.declared.fault.Fault.TheVariants as faults
-use Rattle.errands.specs.Heard.{heard, heard_report, note_in, number_in}
+use Rattle.errands.specs.Heard.{heard, heard_look, heard_report, note_in, number_in}
 use Rattle.errands.specs.declared.answers.Answered.TheVariants.{Done, Refused, Stopped}
 
 -- another number in the trailer than in the header
@@ -30,6 +30,13 @@ nowhere = refl
 
 nobody : heard_report 404 false (codes "404 Not Found\n") ≡ Refused refusals.UnknownDepositor
 nobody = refl
+
+-- of what clerks alone are shown
+stranger : heard_look 404 false (codes "20 UnknownDepositor\n") ≡ Refused refusals.UnknownDepositor
+stranger = refl
+
+without_clerks : heard_look 404 false (codes "404 Not Found\n") ≡ Stopped faults.Device
+without_clerks = refl
 
 stopped : heard 503 false (codes "41 Store\n") ≡ Stopped faults.Store
 stopped = refl

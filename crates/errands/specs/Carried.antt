@@ -1,17 +1,17 @@
 -- Which requests a command makes of a server, and what it tells of the answers.
-use Rattle.std.specs.Prelude.{◌≡◌, ◌⊎◌, ◌∷◌, ℕ, true, List, [], Option, Some, None, codes}
+use Rattle.std.specs.Prelude.{◌≡◌, ◌⊎◌, ◌∷◌, ℕ, true, false, List, [], Option, Some, None, codes}
 use Rattle.remote.specs.declared.answers.Answer.{Answer}
 use Rattle.remote.specs.declared.requests.Verb.{Verb}
 use Rattle.remote.specs.declared.requests.Verb.TheVariants.{Get, Post}
 use Rattle.commands.specs.declared.told.ExitStatus.{ExitStatus}
 use Rattle.command_line.specs.declared.words.Show.{Show}
 use Rattle.command_line.specs.declared.words.Show.TheVariants as show
-use Rattle.errands.specs.Heard.{IsTold, TellsNothing, heard, heard_report, printed_document, printed_report}
-use Rattle.errands.specs.Paths.{deed_path, look_path, path_text, text_path}
+use Rattle.errands.specs.Heard.{IsTold, TellsNothing, heard, heard_look, heard_report, printed_document, printed_report}
+use Rattle.errands.specs.Paths.{deed_path, look_path, path_text}
 use Rattle.errands.specs.declared.errand.Errand.{Errand}
 use Rattle.errands.specs.declared.errand.Errand.TheVariants as errand
 
--- the answer was told as that to a command, and as that to a query
+-- the answer was told as that to a command, as that to a query, and as that to a query of what clerks alone are shown
 abbrev pub TellsAsDocument : Answer → Option (List ℕ) → Option (List ℕ) → ExitStatus → Type 0
 TellsAsDocument a before after status =
     IsTold (printed_document a.is_interchange a.body.items) (heard a.status a.is_interchange a.body.items) before after status
@@ -19,6 +19,10 @@ TellsAsDocument a before after status =
 abbrev pub TellsAsReport : Answer → Option (List ℕ) → Option (List ℕ) → ExitStatus → Type 0
 TellsAsReport a before after status =
     IsTold (printed_report a.status a.body.items) (heard_report a.status a.is_interchange a.body.items) before after status
+
+abbrev pub TellsAsLook : Answer → Option (List ℕ) → Option (List ℕ) → ExitStatus → Type 0
+TellsAsLook a before after status =
+    IsTold (printed_report a.status a.body.items) (heard_look a.status a.is_interchange a.body.items) before after status
 
 -- how a courier, a request (its verb, path and body) and an answer belong together
 abbrev pub Brings : Type 0 → Type 1
@@ -32,6 +36,10 @@ module _ {C : Type 0} (brings : Brings C) (old new : C) (before after : Option (
   -- a report was asked for, and told
   abbrev pub IsReported : Show → Type 0
   IsReported s = (a : Answer) × brings old Get (look_path s) [] a new × TellsAsReport a before after status
+
+  -- what clerks alone are shown was asked for, and told
+  abbrev pub IsLooked : Show → Type 0
+  IsLooked s = (a : Answer) × brings old Get (look_path s) [] a new × TellsAsLook a before after status
 
   -- what was asked for is told; where it isn't there, another request was made, which says why
   abbrev pub IsAskedTwice : Show → List ℕ → (Answer → Answer → Type 0) → Type 0
@@ -49,8 +57,10 @@ module _ {C : Type 0} (brings : Brings C) (old new : C) (before after : Option (
 
   abbrev pub IsShown : Show → Type 0
   IsShown (show.Outbox who (Some n)) = IsContent (show.Outbox who (Some n)) who.now
+  IsShown (show.Outbox who None) = IsReported (show.Outbox who None)
   IsShown (show.Stock who true) = IsExported (show.Stock who true) who.now
-  IsShown s = IsReported s
+  IsShown (show.Stock who false) = IsReported (show.Stock who false)
+  IsShown s = IsLooked s
 
   -- an interchange is posted to /x12, a clerk's sheet to the path of the act
   abbrev pub IsCarried : Errand → Type 0

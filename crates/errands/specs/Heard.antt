@@ -104,6 +104,14 @@ heard_report status is_interchange body = first_of (heard_line status body)
     ∷ (status == 503, Stopped (fault_numbered (number_in body)))
     ∷ [])
 
+-- The answer to a query of what clerks alone are shown. What it is refused for stands in its body by number, so a 404 without such a
+-- number is no server's that takes clerks' requests.
+abbrev pub heard_look : ℕ → Bool → List ℕ → Answered
+heard_look status is_interchange body = first_of (heard_line status body)
+    ((status == 200 && not is_interchange, Done)
+    ∷ (status == 503, Stopped (fault_numbered (number_in body)))
+    ∷ [])
+
 -- a document, or the interchange that refuses another, and a line feed
 abbrev pub printed_document : Bool → List ℕ → List ℕ
 printed_document is_interchange body = if is_interchange then line_of body else []

@@ -2,7 +2,7 @@
 use Rattle.std.specs.Prelude.{ℕ, true, false, List, [], ◌∷◌, ◌++◌, Option, Some, None, codes, decimal, flat_map}
 use Rattle.profile.specs.Clerk.{RecountSheet}
 use Rattle.commands.specs.Clerks.{kind_of}
-use Rattle.intake.specs.Calls.{Call, ToDeed, ToOrder, ToExport}
+use Rattle.intake.specs.Calls.{Call, ToDeed, ToOrder, ToExport, ToOpen, ToDepositors}
 use Rattle.command_line.specs.declared.words.ClerkWords.{ClerkWords}
 use Rattle.command_line.specs.declared.words.Deed.{Deed}
 use Rattle.command_line.specs.declared.words.Deed.TheVariants as deed
@@ -32,11 +32,13 @@ text_path who n = path_text (codes "outbox" ∷ who ∷ decimal n ∷ [])
 abbrev pub look_path : Show → List ℕ
 look_path (show.Stock who false) = path_text (codes "stock" ∷ who.now ∷ [])
 look_path (show.Stock who true) = path_text (codes "stock" ∷ who.now ∷ codes "csv" ∷ [])
+look_path (show.Open who) = path_text (codes "open" ∷ who.now ∷ [])
 look_path (show.Order who number) = path_text (codes "orders" ∷ who.now ∷ number.now ∷ [])
 look_path (show.Outbox who None) = path_text (codes "outbox" ∷ who.now ∷ [])
 look_path (show.Outbox who (Some n)) = text_path who.now n
+look_path show.Depositors = path_text (codes "depositors" ∷ [])
 
--- what a server finds at the path of a deed, and at those of a picking sheet and an export
+-- what a server finds at the path of a deed, and at those of what only clerks are shown
 abbrev pub deed_call : Deed → List ℕ → List ℕ → List ℕ → Call
 deed_call deed.Recount who ticket number = ToDeed RecountSheet who ticket []
 deed_call d who ticket number = ToDeed (kind_of d) who ticket number
@@ -44,4 +46,6 @@ deed_call d who ticket number = ToDeed (kind_of d) who ticket number
 abbrev pub show_call : Show → Option Call
 show_call (show.Order who number) = Some (ToOrder who.now number.now)
 show_call (show.Stock who true) = Some (ToExport who.now)
+show_call (show.Open who) = Some (ToOpen who.now)
+show_call show.Depositors = Some ToDepositors
 show_call other = None

@@ -172,3 +172,15 @@ pub fn heard_report(status: u16, is_interchange: bool, body: &[u8]) -> Answered
         _ => heard_line(status, body),
     }
 }
+
+/// What the answer to a query of what clerks alone are shown comes to. A server that takes their requests says by number what it refuses one for; a 404 without a
+/// number is another's.
+pub fn heard_look(status: u16, is_interchange: bool, body: &[u8]) -> Answered
+    ensures { result ≡ meant.heard_look status is_interchange body.now }
+{
+    match status {
+        200 if !is_interchange => Answered::Done,
+        503 => Answered::Stopped(fault_numbered(number_in(body))),
+        _ => heard_line(status, body),
+    }
+}

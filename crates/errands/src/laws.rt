@@ -35,8 +35,8 @@ pub fn an_act_is_asked_where_it_is_taken(told: &ClerkWords<'_>)
     let _ = told;
 }
 
-/// A server finds a picking sheet, and the stock as CSV, at the paths at which a command asks for them.
-pub fn a_sheet_is_asked_where_it_is_shown(show: &Show<'_>)
+/// A server finds a picking sheet, the stock as CSV, what is open, and who is enrolled at the paths at which a command asks for them.
+pub fn what_clerks_look_at_is_asked_where_it_is_shown(show: &Show<'_>)
     ensures { is_readable show.now ≡ true → (call : Call) → show_call show.now ≡ Some call
         → call_of (look_path show.now) ≡ Some call }
 {

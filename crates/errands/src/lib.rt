@@ -8,7 +8,7 @@ pub mod laws;
 mod paths;
 mod running;
 
-pub use answers::{Answered, heard, heard_report};
+pub use answers::{Answered, heard, heard_look, heard_report};
 pub use courier::{Courier, Network};
 pub use errand::{Errand, errand_of};
-pub use running::{carry_out, tell_document, tell_report};
+pub use running::{carry_out, tell_document, tell_look, tell_report};

@@ -70,11 +70,13 @@ pub(crate) fn look_path(alloc: Global, show: &Show<'_>) -> Result<String, AllocE
     match show {
         Show::Stock { who, is_csv: false } => path_of(alloc, &["stock", *who]),
         Show::Stock { who, is_csv: true } => path_of(alloc, &["stock", *who, "csv"]),
+        Show::Open { who } => path_of(alloc, &["open", *who]),
         Show::Order { who, number } => path_of(alloc, &["orders", *who, *number]),
         Show::Outbox { who, number: None } => path_of(alloc, &["outbox", *who]),
         Show::Outbox {
             who,
             number: Some(number),
         } => text_path(alloc, *who, *number),
+        Show::Depositors => path_of(alloc, &["depositors"]),
     }
 }

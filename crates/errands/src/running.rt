@@ -1,10 +1,10 @@
 //! A running server asked, and its answer told.
 ghost use Rattle.std.specs.Prelude.{◌≡◌, [], IfOk};
-ghost use Rattle.errands.specs.Heard.{IsStatus, IsTold, heard as heard_of, heard_report as report_of, printed_document, printed_report};
-ghost use Rattle.errands.specs.Carried.{IsCarried, IsContent, IsExported, IsPosted, IsReported, IsShown};
+ghost use Rattle.errands.specs.Heard.{IsStatus, IsTold, heard as heard_of, heard_look as look_of, heard_report as report_of, printed_document, printed_report};
+ghost use Rattle.errands.specs.Carried.{IsCarried, IsContent, IsExported, IsLooked, IsPosted, IsReported, IsShown};
 ghost use Rattle.errands.specs.Paths.{look_path as path_for};
 
-use crate::answers::{Answered, heard, heard_report};
+use crate::answers::{Answered, heard, heard_look, heard_report};
 use crate::courier::Courier;
 use crate::errand::Errand;
 use crate::paths::{deed_path, look_path};
@@ -68,6 +68,28 @@ pub fn tell_report<W: io::Write, E: io::Write>(
     tell_heard(
         alloc,
         heard_report(answer.status, answer.is_interchange, &answer.body),
+        err,
+    )
+}
+
+/// Tells the answer to a query of what clerks alone are shown: the report, or a refusal.
+pub fn tell_look<W: io::Write, E: io::Write>(
+    alloc: Global,
+    answer: &Answer,
+    out: &mut W,
+    err: &mut E,
+) -> Result<ExitStatus, CommandError>
+    ensures told { IfOk result (λ status. IsTold
+        (printed_report answer.now.status answer.now.body.items)
+        (look_of answer.now.status answer.now.is_interchange answer.now.body.items)
+        (W.contents out.old) (W.contents out.new) status) }
+{
+    if answer.status == 200 {
+        out.write_all(&answer.body)?;
+    }
+    tell_heard(
+        alloc,
+        heard_look(answer.status, answer.is_interchange, &answer.body),
         err,
     )
 }
@@ -198,6 +220,25 @@ fn report<C: Courier, W: io::Write, E: io::Write>(
     tell_report(alloc, &answer, out, err)
 }
 
+// Asks for what clerks alone are shown, and tells it.
+fn clerks_look<C: Courier, W: io::Write, E: io::Write>(
+    alloc: Global,
+    courier: &mut C,
+    server: &SocketAddr,
+    show: &Show<'_>,
+    out: &mut W,
+    err: &mut E,
+) -> Result<ExitStatus, CommandError>
+    ensures { IfOk result (λ status. IsLooked C.brings courier.old courier.new (W.contents out.old)
+        (W.contents out.new) status show.now) }
+{
+    let answer = get_any(alloc, courier, server, show)?;
+    match heard_look(answer.status, answer.is_interchange, &answer.body) {
+        Answered::Stopped(fault) => Err(about_stop(alloc, server, fault)),
+        _ => tell_look(alloc, &answer, out, err),
+    }
+}
+
 // Asks for the stock as CSV, and tells it. A server without `--clerks` says 404 of every depositor there, so the stock itself tells
 // whether this one is unknown.
 fn export<C: Courier, W: io::Write, E: io::Write>(
@@ -272,7 +313,9 @@ fn look<C: Courier, W: io::Write, E: io::Write>(
                 report(alloc, courier, server, show, out, err)
             }
         }
-        Show::Order { .. } => report(alloc, courier, server, show, out, err),
+        Show::Open { .. } | Show::Order { .. } | Show::Depositors => {
+            clerks_look(alloc, courier, server, show, out, err)
+        }
     }
 }
 

@@ -1,4 +1,4 @@
--- the answer to what is asked for at a target is the answer to a request
+-- the answer to what is asked for at a target is the answer to a request, and so is what is submitted
 use Rattle.std.proofs.Common.{◌≡◌, ℕ, Bool, true, false, List, Option, Some, None, option_map, Result, Err, Ok, sym, ◌∙◌, refl, ap, subst, if◌then◌else◌}
 use Rattle.httparse.specs.Grammar.{RequestHead}
 use Rattle.profile.specs.declared.rules.Rules.TheVariants.{Two}
@@ -34,6 +34,24 @@ as_submitted m to body = by (is_exchange m to)
     by : (x : Bool) → (if x then Some (Interchange body) else None) ≡ option_map Interchange (if x then Some body else None)
     by true = refl
     by false = refl
+
+-- what is submitted by what is asked for
+
+submitted_at_route : (h : Head) (q : Result (List ℕ) ℕ) → option_map Interchange (submitted_by (with_head h q)) ≡ command_with h.method (ToRoute h.route) q
+submitted_at_route h (Err status) = refl
+submitted_at_route h (Ok body) = sym (as_submitted h.method h.route body)
+
+submitted_at : (o : Option Call) (h : RequestHead) (rest : List ℕ) (q : Result (List ℕ) ℕ) → asked_with (head_of h) (target_by o h.target) rest ≡ q
+    → call_submitted o h rest ≡ command_with (head_of h).method (target_by o h.target) q
+submitted_at None h rest q e =
+    ap (λ a. option_map Interchange (submitted_by a)) (as_asked (head_of h) rest ∙ ap (with_head (head_of h)) e)
+    ∙ submitted_at_route (head_of h) q
+submitted_at (Some call) h rest q e = ap (command_with (head_of h).method (ToCall call)) e
+
+pub submits : (audience : Audience) (h : RequestHead) (rest : List ℕ) (q : Result (List ℕ) ℕ) → asked_with (head_of h) (target_of audience h.target) rest ≡ q
+    → command_in audience (Some h) rest ≡ command_with (head_of h).method (target_of audience h.target) q
+submits Partners h rest q e = submitted_at None h rest q e
+submits Clerks h rest q e = submitted_at (call_of h.target) h rest q e
 
 module _ (old new : Standing) (t : Moment) (r : Response) where
   -- an answer to what is asked for at a target

@@ -1,11 +1,12 @@
 -- the response by each of the tests
-use Rattle.std.proofs.Common.{◌≡◌, ℕ, ◌<◌, ◌≤◌, List, [], ◌++◌, take, drop, Option, Some, None, IfSome, Err, Ok, sym, length, ◌∙◌, refl, true, false, unwrap_or, nat_lt, arith, ap, subst, inl}
+use Rattle.std.proofs.Common.{◌≡◌, ℕ, ◌<◌, ◌≤◌, List, [], ◌++◌, take, drop, Option, Some, None, IfSome, Result, Err, Ok, sym, length, ◌∙◌, refl, true, false, unwrap_or, nat_lt, arith, ap, subst, inl, inr}
 use Rattle.std.proofs.lemmas.Bool.Decides.{nat_tests}
 use Rattle.std.specs.Io.KnownBytes.{Consumes}
 use Rattle.httparse.specs.Grammar.{RequestHead}
 use Rattle.httparse.specs.Spans.{IsRequestWithin, IsRequestAt}
 use Rattle.httparse.specs.declared.spans.HeaderSpan.{HeaderSpan}
 use Rattle.httparse.specs.declared.spans.RequestSpans.{RequestSpans}
+use Rattle.profile.specs.Header.{Who}
 use Rattle.profile.specs.Moments.{Moment}
 use Rattle.profile.specs.Register.{Entry}
 use Rattle.profile.specs.Response.{Response, Method, Head, bare, stated_length, fault_response}
@@ -14,16 +15,16 @@ use Rattle.store.specs.Standing.{Standing}
 use Rattle.store.specs.declared.fault.Fault.TheVariants.{OutOfMemory}
 use Rattle.store.proofs.Changes.{unchanged_refl}
 use Rattle.intake.specs.Fields.{head_of}
-use Rattle.intake.specs.Lines.{IsLineAt, TellsOf, HasLine}
+use Rattle.intake.specs.Lines.{IsLineAt, TellsOf, HasLine, TellsSender, sender_in}
 use Rattle.intake.specs.declared.audience.Audience.{Audience}
 use Rattle.intake.specs.declared.audience.Audience.TheVariants.{Partners, Clerks}
 use Rattle.intake.specs.declared.served.RequestLine.{RequestLine}
 use Rattle.intake.specs.Requests.{IsInput, HasNoHead}
 use Rattle.intake.specs.Serving.{IsAnswered, IsExchange, IsExchangeBehind, command_in, answer_of}
-use Rattle.intake.specs.Targets.{Target, target_of, target_command, target_resp, has_body, asked_with}
+use Rattle.intake.specs.Targets.{Target, target_of, target_command, target_resp, has_body, asked_with, command_with}
 use Rattle.intake.proofs.Heads.{head_within}
 use Rattle.intake.proofs.Filling.{own_input, had_input, more_input}
-use Rattle.intake.proofs.Aimed.{to_request}
+use Rattle.intake.proofs.Aimed.{submits, to_request}
 use Rattle.intake.proofs.Answered.{no_memory}
 
 -- what is asked for, by each of the tests
@@ -57,33 +58,44 @@ at_error s t meant r is = inl (record {
   opened = λ c e. cc;
 })
 
-module _ (audience : Audience) (known : Option (List ℕ)) (t : Moment) (h : RequestHead) (start : List ℕ) (r : Response) where
+module _ (audience : Audience) (known : Option (List ℕ)) (t : Moment) (h : RequestHead) (start : List ℕ) (r : Response) (sender : Option Who) where
+  -- the sender of what is submitted is told
+  sent_with : (rest : List ℕ) (q : Result (List ℕ) ℕ) → asked_with (head_of h) (target_of audience h.target) rest ≡ q
+      → sender ≡ sender_in (command_with (head_of h).method (target_of audience h.target) q) → TellsSender sender (command_in audience (Some h) rest) r
+  sent_with rest q e is = inl (is ∙ sym (ap sender_in (submits audience h rest q e)))
+
   -- by a test that fails before the book is asked
   module _ (s : Standing) where
     at_test : (input : List ℕ) (status : ℕ) → IsInput known input → asked_with (head_of h) (target_of audience h.target) (start ++ input) ≡ Err status → r ≡ bare status
-        → IsExchangeBehind audience s s known t h start r
-    at_test input status i q is = record {
+        → sender ≡ None → IsExchangeBehind audience s s known t h start r sender
+    at_test input status i q is none = record {
       input = input;
       is_input = i;
+      sent = sent_with (start ++ input) (Err status) q none;
       answered = to_request s s t r audience h (start ++ input) (Err status) q (at_error s t (bare status) r is);
     }
 
-    pub encoded : (head_of h).is_encoded ≡ true → r ≡ bare 501 → IsExchangeBehind audience s s known t h start r
-    encoded e is = at_test (unwrap_or known []) 501 (own_input known) (asked_encoded (head_of h) _ _ e) is
+    pub encoded : (head_of h).is_encoded ≡ true → r ≡ bare 501 → sender ≡ None → IsExchangeBehind audience s s known t h start r sender
+    encoded e is none = at_test (unwrap_or known []) 501 (own_input known) (asked_encoded (head_of h) _ _ e) is none
 
     pub refused : (status : ℕ) → (head_of h).is_encoded ≡ false → has_body (head_of h).method (target_of audience h.target) ≡ true
-        → stated_length (head_of h).lengths ≡ Err status → r ≡ bare status → IsExchangeBehind audience s s known t h start r
-    refused status e x l is = at_test (unwrap_or known []) status (own_input known) (asked_badly (head_of h) _ _ status e x l) is
+        → stated_length (head_of h).lengths ≡ Err status → r ≡ bare status → sender ≡ None → IsExchangeBehind audience s s known t h start r sender
+    refused status e x l is none = at_test (unwrap_or known []) status (own_input known) (asked_badly (head_of h) _ _ status e x l) is none
 
     pub cut_off : (n : ℕ) (input tail : List ℕ) → tail ≡ start → IsInput known input → (head_of h).is_encoded ≡ false
         → has_body (head_of h).method (target_of audience h.target) ≡ true → stated_length (head_of h).lengths ≡ Ok n
-        → length (tail ++ input) < n → r ≡ bare 400 → IsExchangeBehind audience s s known t h start r
-    cut_off n input tail same i e x l short is =
-        at_test input 400 i (asked_cut_off (head_of h) _ _ n e x l (subst (λ (b : List ℕ). length (b ++ input) < n) same short)) is
+        → length (tail ++ input) < n → r ≡ bare 400 → sender ≡ None → IsExchangeBehind audience s s known t h start r sender
+    cut_off n input tail same i e x l short is none =
+        at_test input 400 i (asked_cut_off (head_of h) _ _ n e x l (subst (λ (b : List ℕ). length (b ++ input) < n) same short)) is none
 
     -- where memory is wanting
-    pub wanting : r ≡ fault_response (fault_of OutOfMemory) → IsExchangeBehind audience s s known t h start r
-    wanting is = record { input = unwrap_or known []; is_input = own_input known; answered = no_memory s t _ _ r is }
+    pub wanting : r ≡ fault_response (fault_of OutOfMemory) → sender ≡ None → IsExchangeBehind audience s s known t h start r sender
+    wanting is none = record {
+      input = unwrap_or known [];
+      is_input = own_input known;
+      sent = inr (none, is);
+      answered = no_memory s t _ _ r is;
+    }
 
   -- by the book
   module _ (old new : Standing) where
@@ -92,22 +104,35 @@ module _ (audience : Audience) (known : Option (List ℕ)) (t : Moment) (h : Req
     Told body = IsAnswered old new t (target_command (head_of h).method (target_of audience h.target) body)
         (λ L. target_resp old.warehouse L (head_of h).method (target_of audience h.target) body t) r
 
-    pub queried : (head_of h).is_encoded ≡ false → has_body (head_of h).method (target_of audience h.target) ≡ false → Told []
-        → IsExchangeBehind audience old new known t h start r
-    queried e x is = record {
-      input = unwrap_or known [];
-      is_input = own_input known;
-      answered = to_request old new t r audience h (start ++ unwrap_or known []) (Ok []) (asked_else (head_of h) _ (start ++ unwrap_or known []) e x) is;
-    }
+    -- and its sender is told
+    abbrev pub Sent : List ℕ → Type 0
+    Sent body = sender ≡ sender_in (target_command (head_of h).method (target_of audience h.target) body)
+
+    pub queried : (head_of h).is_encoded ≡ false → has_body (head_of h).method (target_of audience h.target) ≡ false → Told [] → Sent []
+        → IsExchangeBehind audience old new known t h start r sender
+    queried e x is from =
+        let rest : List ℕ = start ++ unwrap_or known [] in
+        let q : asked_with (head_of h) (target_of audience h.target) rest ≡ Ok [] = asked_else (head_of h) _ rest e x in
+        record {
+          input = unwrap_or known [];
+          is_input = own_input known;
+          sent = sent_with rest (Ok []) q from;
+          answered = to_request old new t r audience h rest (Ok []) q is;
+        }
 
     pub handed : (n : ℕ) (input body tail : List ℕ) → tail ≡ start → IsInput known input → (head_of h).is_encoded ≡ false
         → has_body (head_of h).method (target_of audience h.target) ≡ true → stated_length (head_of h).lengths ≡ Ok n
-        → n ≤ length (tail ++ input) → body ≡ take n (tail ++ input) → Told body → IsExchangeBehind audience old new known t h start r
-    handed n input body tail same i e x l fits b is =
+        → n ≤ length (tail ++ input) → body ≡ take n (tail ++ input) → Told body → Sent body → IsExchangeBehind audience old new known t h start r sender
+    handed n input body tail same i e x l fits b is from =
         let q : asked_with (head_of h) (target_of audience h.target) (start ++ input) ≡ Ok body =
         asked_whole (head_of h) _ (start ++ input) n e x l (subst (λ (k : List ℕ). n ≤ length (k ++ input)) same fits)
         ∙ ap (λ (k : List ℕ). Ok k) (sym (b ∙ ap (λ (k : List ℕ). take n (k ++ input)) same)) in
-        record { input = input; is_input = i; answered = to_request old new t r audience h (start ++ input) (Ok body) q is }
+        record {
+          input = input;
+          is_input = i;
+          sent = sent_with (start ++ input) (Ok body) q from;
+          answered = to_request old new t r audience h (start ++ input) (Ok body) q is;
+        }
 
 -- an answer by a method and a target is one by those of the head
 pub at_head : (audience : Audience) (old new : Standing) (t : Moment) (h : RequestHead) (m : Method) (to : Target) (body : List ℕ) (r : Response)
@@ -119,6 +144,12 @@ at_head audience old new t h m to body r e f is =
     let at : Target = target_of audience h.target in
     subst (λ (k : Method). IsAnswered old new t (target_command k at body) (λ (L : List Entry). target_resp old.warehouse L k at body t) r) (sym e)
     (subst (λ (k : Target). IsAnswered old new t (target_command m k body) (λ (L : List Entry). target_resp old.warehouse L m k body t) r) (sym f) is)
+
+-- and so the sender
+pub from_head : (audience : Audience) (h : RequestHead) (m : Method) (to : Target) (body : List ℕ) (sender : Option Who)
+    → (head_of h).method ≡ m → target_of audience h.target ≡ to → sender ≡ sender_in (target_command m to body)
+    → sender ≡ sender_in (target_command (head_of h).method (target_of audience h.target) body)
+from_head audience h m to body sender e f is = rw (e, f) is
 
 -- what the spans cover are the method and the path of the head
 told_of : (line : Option RequestLine) (got : List ℕ) (fields : List HeaderSpan) (spans : RequestSpans) (h : RequestHead)
@@ -141,33 +172,39 @@ line_read (Some line) known mid got fields spans h room many within at bytes cop
 }
 
 -- the answer to a head is the answer to the input that begins with it
-pub whole_answer : (audience : Audience) (old new : Standing) (t : Moment) (known mid : Option (List ℕ)) (got : List ℕ) (fields : List HeaderSpan) (spans : RequestSpans) (h : RequestHead) (r : Response) (line : Option RequestLine)
+pub whole_answer : (audience : Audience) (old new : Standing) (t : Moment) (known mid : Option (List ℕ)) (got : List ℕ) (fields : List HeaderSpan) (spans : RequestSpans) (h : RequestHead) (r : Response) (line : Option RequestLine) (sender : Option Who)
     → length got ≤ 8192 → length fields ≤ 32 → IsRequestWithin got fields spans → IsRequestAt got fields spans h → Consumes known mid got → IfSome line (IsLineAt got spans)
-    → IsExchangeBehind audience old new mid t h (drop spans.len got) r → IsExchange audience old new known t r line
-whole_answer audience old new t known mid got fields spans h r line room many within at bytes copied answer = record {
+    → IsExchangeBehind audience old new mid t h (drop spans.len got) r sender → IsExchange audience old new known t r line sender
+whole_answer audience old new t known mid got fields spans h r line sender room many within at bytes copied answer = record {
   input = got ++ answer.input;
   is_input = more_input known mid got answer.input bytes answer.is_input;
   head = Some h;
   rest = drop spans.len got ++ answer.input;
   begins = head_within got answer.input fields spans h room many within at;
   told = told_of line got fields spans h at copied;
+  sent = answer.sent;
   answered = answer.answered;
 }
 
--- no head, whoever is served
+-- no head, whoever is served: nothing is handed in
+unsent_by : (audience : Audience) (r : Response) (sender : Option Who) → sender ≡ None → TellsSender sender (command_in audience None []) r
+unsent_by Partners r sender none = inl none
+unsent_by Clerks r sender none = inl none
+
 headless : (audience : Audience) (s : Standing) (t : Moment) (r : Response) → r ≡ bare 400
     → IsAnswered s s t (command_in audience None []) (λ L. answer_of audience s.warehouse L None [] t) r
 headless Partners s t r is = at_error s t (bare 400) r is
 headless Clerks s t r is = at_error s t (bare 400) r is
 
-pub headless_answer : (audience : Audience) (s : Standing) (t : Moment) (known mid : Option (List ℕ)) (got : List ℕ) (r : Response)
-    → Consumes known mid got → HasNoHead (got ++ unwrap_or mid []) → r ≡ bare 400 → IsExchange audience s s known t r None
-headless_answer audience s t known mid got r bytes none is = record {
+pub headless_answer : (audience : Audience) (s : Standing) (t : Moment) (known mid : Option (List ℕ)) (got : List ℕ) (r : Response) (sender : Option Who)
+    → Consumes known mid got → HasNoHead (got ++ unwrap_or mid []) → r ≡ bare 400 → sender ≡ None → IsExchange audience s s known t r None sender
+headless_answer audience s t known mid got r sender bytes none is unsent = record {
   input = got ++ unwrap_or mid [];
   is_input = had_input known mid got bytes;
   head = None;
   rest = [];
   begins = none;
   told = tt;
+  sent = unsent_by audience r sender unsent;
   answered = headless audience s t r is;
 }

@@ -88,3 +88,5 @@ module _ (s : Standing) (t : Moment) where
   not_posted (calls.Deed d) body answer not is = absurd (not d refl)
   not_posted (calls.Order who number) body answer not is = shown s s t _ answer (λ clean L keeps legal. is s.warehouse L body t) (unchanged_refl s)
   not_posted (calls.Export who) body answer not is = shown s s t _ answer (λ clean L keeps legal. is s.warehouse L body t) (unchanged_refl s)
+  not_posted (calls.Open who) body answer not is = shown s s t _ answer (λ clean L keeps legal. is s.warehouse L body t) (unchanged_refl s)
+  not_posted calls.Depositors body answer not is = shown s s t _ answer (λ clean L keeps legal. is s.warehouse L body t) (unchanged_refl s)

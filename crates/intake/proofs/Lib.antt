@@ -10,9 +10,11 @@ pub mod Found
 pub mod Posted
 pub mod Answered
 pub mod Aimed
+pub mod Sent
 pub mod Answering
 pub mod Called
 pub mod RowsCalls
+pub mod RowsLines
 pub mod Beginnings
 pub mod Whole
 pub mod Told

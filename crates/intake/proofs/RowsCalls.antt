@@ -1,14 +1,18 @@
 -- Worked examples: what paths call for, and the statuses of deeds.
-use Rattle.std.specs.Prelude.{◌≡◌, ℕ, List, [], Some, None, codes}
+use Rattle.std.specs.Prelude.{◌≡◌, ℕ, List, [], ◌++◌, Some, None, codes}
 use Rattle.std.proofs.Common.{refl}
 use Rattle.profile.specs.Clerk.{CountSheet, PickSheet, RecountSheet}
 use Rattle.profile.specs.Refusals.{UnknownDepositor, TicketUsed, UnknownAdvice, OrderClosed, NumbersUsedUp}
 use Rattle.profile.specs.Reply.{Accepted, Stored, Refused}
-use Rattle.profile.specs.Response.{with_body, plain_type, x12_type}
+use Rattle.profile.specs.Moments.{Moment}
+use Rattle.profile.specs.Register.{Entry}
+use Rattle.profile.specs.Response.{Get, Post, OtherMethod, with_body, plain_type, x12_type, not_allowed}
+use Rattle.profile.specs.declared.rules.Rules.TheVariants.{Two}
+use Rattle.profile.proofs.Sample.{WHSE1, ACME, book}
 use Rattle.std.specs.Fmt.{digits}
-use Rattle.intake.specs.Calls.{ToDeed, ToOrder, ToExport, call_of, deed_reply}
+use Rattle.intake.specs.Calls.{ToDeed, ToOrder, ToExport, ToOpen, ToDepositors, call_of, call_resp, deed_reply, open_response}
 
--- The five paths.
+-- The seven paths.
 
 a_count : call_of (codes "/count/ZZ-ACME/T1/SHP1") ≡ Some (ToDeed CountSheet (codes "ZZ-ACME") (codes "T1") (codes "SHP1"))
 a_count = refl
@@ -25,6 +29,12 @@ an_order = refl
 an_export : call_of (codes "/stock/ZZ-ACME/csv") ≡ Some (ToExport (codes "ZZ-ACME"))
 an_export = refl
 
+what_is_open : call_of (codes "/open/ZZ-ACME") ≡ Some (ToOpen (codes "ZZ-ACME"))
+what_is_open = refl
+
+the_depositors : call_of (codes "/depositors") ≡ Some ToDepositors
+the_depositors = refl
+
 -- An empty part is one that can't be read.
 
 an_empty_part : call_of (codes "/count//T1/SHP1") ≡ Some (ToDeed CountSheet [] (codes "T1") (codes "SHP1"))
@@ -32,6 +42,9 @@ an_empty_part = refl
 
 an_empty_number : call_of (codes "/pick/ZZ-ACME/T2/") ≡ Some (ToDeed PickSheet (codes "ZZ-ACME") (codes "T2") [])
 an_empty_number = refl
+
+open_of_an_empty_part : call_of (codes "/open/") ≡ Some (ToOpen [])
+open_of_an_empty_part = refl
 
 -- Near misses.
 
@@ -58,6 +71,24 @@ two_slashes_in_front = refl
 
 another_export : call_of (codes "/stock/ZZ-ACME/txt") ≡ None
 another_export = refl
+
+open_of_nobody : call_of (codes "/open") ≡ None
+open_of_nobody = refl
+
+open_of_two : call_of (codes "/open/a/b") ≡ None
+open_of_two = refl
+
+a_slash_after_depositors : call_of (codes "/depositors/") ≡ None
+a_slash_after_depositors = refl
+
+a_depositor : call_of (codes "/depositors/x") ≡ None
+a_depositor = refl
+
+no_slash_before_depositors : call_of (codes "depositors") ≡ None
+no_slash_before_depositors = refl
+
+no_path : call_of [] ≡ None
+no_path = refl
 
 -- The routes that are always served call for nothing.
 
@@ -97,3 +128,39 @@ a_closed_order_is = refl
 no_more_numbers_is : deed_reply (Refused NumbersUsedUp []) ≡ with_body 422 plain_type (codes "34 NumbersUsedUp\n")
 unfolding digits
 no_more_numbers_is = refl
+
+-- What is open, and who is enrolled.
+
+open_of_what_cannot_be_read : (L : List Entry) (t : Moment) → call_resp WHSE1 L Get (ToOpen []) [] t ≡ with_body 404 plain_type (codes "32 BadText\n")
+unfolding digits
+open_of_what_cannot_be_read L t = refl
+
+open_of_a_stranger : open_response [] (Some ACME) ≡ with_body 404 plain_type (codes "20 UnknownDepositor\n")
+unfolding digits
+open_of_a_stranger = refl
+
+-- a newcomer has nothing open
+open_of_a_newcomer : (t : Moment) → call_resp WHSE1 (book Two []) Get (ToOpen (codes "ZZ-ACME")) [] t
+    ≡ with_body 200 plain_type (codes "advice                 lines        expected order\n" ++ codes "order                  lines ship to\n")
+open_of_a_newcomer t = refl
+
+nobody_is_enrolled : (t : Moment) → call_resp WHSE1 [] Get ToDepositors [] t ≡ with_body 200 plain_type []
+nobody_is_enrolled t = refl
+
+one_is_enrolled : (t : Moment) → call_resp WHSE1 (book Two []) Get ToDepositors [] t ≡ with_body 200 plain_type (codes "ZZ-ACME\n")
+one_is_enrolled t = refl
+
+-- They are shown by GET alone.
+
+module _ (L : List Entry) (who body : List ℕ) (t : Moment) where
+  open_posted : call_resp WHSE1 L Post (ToOpen who) body t ≡ not_allowed (codes "GET")
+  open_posted = refl
+
+  open_otherwise : call_resp WHSE1 L OtherMethod (ToOpen who) body t ≡ not_allowed (codes "GET")
+  open_otherwise = refl
+
+  depositors_posted : call_resp WHSE1 L Post ToDepositors body t ≡ not_allowed (codes "GET")
+  depositors_posted = refl
+
+  depositors_otherwise : call_resp WHSE1 L OtherMethod ToDepositors body t ≡ not_allowed (codes "GET")
+  depositors_otherwise = refl

@@ -17,7 +17,9 @@ use Rattle.profile.specs.Reply.{Reply, Accepted, Stored, Refused}
 use Rattle.profile.specs.Reports.{pick_list, stock_csv}
 use Rattle.profile.specs.Response.{Method, Get, Post, Response, with_body, plain_type, x12_type, refused_response, found_for, not_allowed}
 use Rattle.profile.specs.Rows.{stock_of}
+use Rattle.reports.specs.Open.{open_report, depositor_list}
 use Rattle.sheet_texts.specs.Texts.{sheet_of_text}
+use Rattle.store.specs.Open.{OpenWork, open_of, enrolled}
 
 -- Paths.
 
@@ -29,8 +31,20 @@ pub data Call : Type 0 where
   ToOrder : List ℕ → List ℕ → Call
   -- /stock/{who}/csv
   ToExport : List ℕ → Call
+  -- /open/{who}
+  ToOpen : List ℕ → Call
+  -- /depositors
+  ToDepositors : Call
 
--- of three parts
+-- of one part
+abbrev pub call_of_one : List ℕ → Option Call
+call_of_one name = if bytes_eq name (codes "depositors") then Some ToDepositors else None
+
+-- of two
+abbrev pub call_of_two : List ℕ → List ℕ → Option Call
+call_of_two name who = if bytes_eq name (codes "open") then Some (ToOpen who) else None
+
+-- of three
 abbrev pub call_of_three : List ℕ → List ℕ → List ℕ → Option Call
 call_of_three name who last =
     if bytes_eq name (codes "recount") then Some (ToDeed RecountSheet who last [])
@@ -43,11 +57,18 @@ call_of_four name who ticket number =
     if bytes_eq name (codes "count") then Some (ToDeed CountSheet who ticket number)
     else (if bytes_eq name (codes "pick") then Some (ToDeed PickSheet who ticket number) else None)
 
+-- by the parts after the first slash
+abbrev pub call_of_parts : List (List ℕ) → Option Call
+call_of_parts (name ∷ []) = call_of_one name
+call_of_parts (name ∷ who ∷ []) = call_of_two name who
+call_of_parts (name ∷ who ∷ last ∷ []) = call_of_three name who last
+call_of_parts (name ∷ who ∷ ticket ∷ number ∷ []) = call_of_four name who ticket number
+call_of_parts parts = None
+
 -- nothing stands before the first slash
 abbrev pub call_in : List (List ℕ) → Option Call
-call_in (front ∷ name ∷ who ∷ last ∷ []) = if length front == 0 then call_of_three name who last else None
-call_in (front ∷ name ∷ who ∷ ticket ∷ number ∷ []) = if length front == 0 then call_of_four name who ticket number else None
-call_in parts = None
+call_in [] = None
+call_in (front ∷ parts) = if length front == 0 then call_of_parts parts else None
 
 -- what a path calls for, by its parts between slashes, if it does; a part may be empty
 abbrev pub call_of : List ℕ → Option Call
@@ -125,6 +146,21 @@ abbrev pub order_response : List Entry → Option Who → List ℕ → Response
 order_response L None number = line_response 404 BadText
 order_response L (Some w) number = picking_response number (standing (own L w))
 
+-- What is open, and who is enrolled.
+
+-- a stranger has no work
+abbrev pub work_response : Option OpenWork → Response
+work_response None = line_response 404 UnknownDepositor
+work_response (Some work) = with_body 200 plain_type (open_report work)
+
+-- of the depositor that is named; none where the part of the path can't be read
+abbrev pub open_response : List Entry → Option Who → Response
+open_response L None = line_response 404 BadText
+open_response L (Some w) = work_response (open_of L w)
+
+abbrev pub depositors_response : List Entry → Response
+depositors_response L = with_body 200 plain_type (depositor_list (enrolled L))
+
 -- Calls.
 
 -- whether the request is one that has a body
@@ -142,5 +178,7 @@ abbrev pub call_resp : Who → List Entry → Method → Call → List ℕ → M
 call_resp W L Post (ToDeed kind who ticket number) body t = deed_response W L t (deed_of kind who ticket number body)
 call_resp W L Get (ToOrder who number) body t = order_response L (owner_of who number) number
 call_resp W L Get (ToExport who) body t = found_for who (stock_of L) (λ rows. with_body 200 plain_type (stock_csv Two rows))
+call_resp W L Get (ToOpen who) body t = open_response L (who_of who)
+call_resp W L Get ToDepositors body t = depositors_response L
 call_resp W L method (ToDeed kind who ticket number) body t = not_allowed (codes "POST")
 call_resp W L method call body t = not_allowed (codes "GET")

@@ -14,7 +14,7 @@ use Rattle.std.specs.Io.KnownBytes.{Appends}
 use Rattle.intake.specs.Gauges.{Grew, AppendsBeginning}
 use Rattle.intake.specs.Requests.{HasHead, HasNoHead, IsInput}
 use Rattle.intake.specs.Fields.{head_of}
-use Rattle.intake.specs.Lines.{TellsOf, HasLine}
+use Rattle.intake.specs.Lines.{TellsOf, HasLine, TellsSender}
 use Rattle.intake.specs.Calls.{Call, call_of}
 use Rattle.intake.specs.Targets.{ToCall, asked_with, command_with, response_with}
 use Rattle.intake.specs.declared.audience.Audience.{Audience}
@@ -72,42 +72,45 @@ abbrev pub BeginsWith : List ℕ → Option RequestHead → List ℕ → Type 0
 BeginsWith input None rest = HasNoHead input
 BeginsWith input (Some h) rest = HasHead input h rest
 
--- the response to what a reader has, with what became of the book, and what is told of the head
-pub record IsExchange (audience : Audience) (old new : Standing) (known : Option (List ℕ)) (t : Moment) (r : Response) (line : Option RequestLine) : Type 0 where
+-- the response to what a reader has, with what became of the book, and what is told of the head and of the sender
+pub record IsExchange (audience : Audience) (old new : Standing) (known : Option (List ℕ)) (t : Moment) (r : Response) (line : Option RequestLine) (sender : Option Who) : Type 0 where
   pub input : List ℕ
   pub is_input : IsInput known input
   pub head : Option RequestHead
   pub rest : List ℕ
   pub begins : BeginsWith input head rest
   pub told : TellsOf line head
+  pub sent : TellsSender sender (command_in audience head rest) r
   pub answered : IsAnswered old new t (command_in audience head rest) (λ L. answer_of audience old.warehouse L head rest t) r
 
 -- the same of a request whose head was read, with the first bytes of what is after it
-pub record IsExchangeBehind (audience : Audience) (old new : Standing) (known : Option (List ℕ)) (t : Moment) (h : RequestHead) (start : List ℕ) (r : Response) : Type 0 where
+pub record IsExchangeBehind (audience : Audience) (old new : Standing) (known : Option (List ℕ)) (t : Moment) (h : RequestHead) (start : List ℕ) (r : Response) (sender : Option Who) : Type 0 where
   pub input : List ℕ
   pub is_input : IsInput known input
+  pub sent : TellsSender sender (command_in audience (Some h) (start ++ input)) r
   pub answered : IsAnswered old new t (command_in audience (Some h) (start ++ input)) (λ L. answer_of audience old.warehouse L (Some h) (start ++ input) t) r
 
--- A response was written: it was that to what the reader had. What is told is its status, the line of the request, and how many
--- bytes it has.
-pub record IsWritten (audience : Audience) (old new : Standing) (known : Option (List ℕ)) (t : Moment) (before behind : Option (List ℕ)) (status : ℕ) (line : Option RequestLine) (bytes : ℕ) : Type 0 where
+-- A response was written: it was that to what the reader had. What is told is its status, the line of the request, who sent the
+-- interchange that was handed in, and how many bytes the response has.
+pub record IsWritten (audience : Audience) (old new : Standing) (known : Option (List ℕ)) (t : Moment) (before behind : Option (List ℕ)) (status : ℕ) (line : Option RequestLine) (sender : Option Who) (bytes : ℕ) : Type 0 where
   pub response : Response
-  pub exchange : IsExchange audience old new known t response line
+  pub exchange : IsExchange audience old new known t response line sender
   pub status_of : status ≡ response.status
   pub whole : Appends before behind (response_bytes response)
   pub counted : bytes ≡ length (response_bytes response)
 
--- The reader failed: nothing was written, and the book is as it was. The line is told where the head was read.
-pub record IsUnread (old new : Standing) (known before behind : Option (List ℕ)) (errors more : ℕ) (line : Option RequestLine) (bytes : ℕ) : Type 0 where
+-- The reader failed: nothing was handed in or written, and the book is as it was. The line is told where the head was read.
+pub record IsUnread (old new : Standing) (known before behind : Option (List ℕ)) (errors more : ℕ) (line : Option RequestLine) (sender : Option Who) (bytes : ℕ) : Type 0 where
   pub book : IsUnchanged old new
   pub nothing : behind ≡ before
   pub grew : Grew errors more
   pub told : IfSome line (HasLine known)
+  pub sent : sender ≡ None
   pub counted : bytes ≡ 0
 
 -- The writer failed: a beginning of the response was written, of so many bytes, and the book is as the request left it.
-pub record IsUnwritten (audience : Audience) (old new : Standing) (known : Option (List ℕ)) (t : Moment) (before behind : Option (List ℕ)) (errors more : ℕ) (line : Option RequestLine) (bytes : ℕ) : Type 0 where
+pub record IsUnwritten (audience : Audience) (old new : Standing) (known : Option (List ℕ)) (t : Moment) (before behind : Option (List ℕ)) (errors more : ℕ) (line : Option RequestLine) (sender : Option Who) (bytes : ℕ) : Type 0 where
   pub response : Response
-  pub exchange : IsExchange audience old new known t response line
+  pub exchange : IsExchange audience old new known t response line sender
   pub beginning : AppendsBeginning before behind (response_bytes response) bytes
   pub grew : Grew errors more

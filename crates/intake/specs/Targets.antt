@@ -1,12 +1,12 @@
 -- Where a path leads, by whom a server answers, and what is asked for there.
-use Rattle.std.specs.Prelude.{ℕ, Bool, List, [], if◌then◌else◌, Option, Some, None, Result, Ok, Err}
+use Rattle.std.specs.Prelude.{ℕ, Bool, false, List, [], if◌then◌else◌, Option, Some, None, Result, Ok, Err}
 use Rattle.profile.specs.declared.rules.Rules.TheVariants.{Two}
 use Rattle.profile.specs.Header.{Who}
 use Rattle.profile.specs.Moments.{Moment}
 use Rattle.profile.specs.Register.{Command, Interchange, Entry}
 use Rattle.profile.specs.Response.{Method, Route, Head, Response, bare, is_exchange, body_after, resp}
 use Rattle.sheets.specs.Kinds.{kind_of}
-use Rattle.intake.specs.Calls.{Call, ToDeed, ToOrder, ToExport, call_of, is_deed, call_command, call_resp}
+use Rattle.intake.specs.Calls.{Call, ToDeed, ToOrder, ToExport, ToOpen, ToDepositors, call_of, is_deed, call_command, call_resp}
 use Rattle.intake.specs.Routes.{route_of, seen_route}
 use Rattle.intake.specs.declared.audience.Audience.{Audience}
 use Rattle.intake.specs.declared.audience.Audience.TheVariants.{Partners, Clerks}
@@ -37,6 +37,11 @@ target_of audience path = target_by (call_for audience path) path
 abbrev pub has_body : Method → Target → Bool
 has_body method (ToRoute route) = is_exchange method route
 has_body method (ToCall call) = is_deed method call
+
+-- whether the request hands an interchange in
+abbrev pub hands_in : Method → Target → Bool
+hands_in method (ToRoute route) = is_exchange method route
+hands_in method (ToCall call) = false
 
 -- the interchange that a request hands in, if it does
 abbrev pub handed_in : Method → Route → List ℕ → Option Command
@@ -72,6 +77,8 @@ abbrev pub seen_call : FoundCall → Call
 seen_call (calls.Deed d) = seen_deed d
 seen_call (calls.Order who number) = ToOrder who.now number.now
 seen_call (calls.Export who) = ToExport who.now
+seen_call (calls.Open who) = ToOpen who.now
+seen_call calls.Depositors = ToDepositors
 
 abbrev pub seen_target : Found → Target
 seen_target (found.Route route) = ToRoute (seen_route route)

@@ -29,6 +29,32 @@ pub(crate) enum Call<'p> {
     Order(&'p [u8], &'p [u8]),
     /// `/stock/{who}/csv`
     Export(&'p [u8]),
+    /// `/open/{who}`
+    Open(&'p [u8]),
+    /// `/depositors`
+    Depositors,
+}
+
+// What a path of one part calls for.
+fn call_of_one<'p>(name: &'p [u8]) -> Option<Call<'p>>
+    ensures { option_map seen_call result ≡ meant.call_of_one name.now }
+{
+    if name == b"depositors".as_slice() {
+        Some(Call::Depositors)
+    } else {
+        None
+    }
+}
+
+// What a path of two parts calls for.
+fn call_of_two<'p>(name: &[u8], who: &'p [u8]) -> Option<Call<'p>>
+    ensures { option_map seen_call result ≡ meant.call_of_two name.now who.now }
+{
+    if name == b"open".as_slice() {
+        Some(Call::Open(who))
+    } else {
+        None
+    }
 }
 
 // What a path of three parts calls for.
@@ -75,26 +101,28 @@ fn call_of_four<'p>(
     }))
 }
 
+// What a path calls for by its parts after the first slash.
+fn call_of_parts<'p>(parts: &[&'p [u8]]) -> Option<Call<'p>>
+    ensures { option_map seen_call result ≡ meant.call_of_parts (map (λ part. part.now) parts.now) }
+{
+    match *parts {
+        [name] => call_of_one(name),
+        [name, who] => call_of_two(name, who),
+        [name, who, last] => call_of_three(name, who, last),
+        [name, who, ticket, number] => call_of_four(name, who, ticket, number),
+        _ => None,
+    }
+}
+
 // What a path calls for by its parts, nothing before the first slash.
 fn call_in<'p>(parts: &[&'p [u8]]) -> Option<Call<'p>>
     ensures { option_map seen_call result ≡ meant.call_in (map (λ part. part.now) parts.now) }
 {
-    match *parts {
-        [front, name, who, last] => {
-            if front.is_empty() {
-                call_of_three(name, who, last)
-            } else {
-                None
-            }
-        }
-        [front, name, who, ticket, number] => {
-            if front.is_empty() {
-                call_of_four(name, who, ticket, number)
-            } else {
-                None
-            }
-        }
-        _ => None,
+    let (front, parts) = parts.split_first()?;
+    if front.is_empty() {
+        call_of_parts(parts)
+    } else {
+        None
     }
 }
 

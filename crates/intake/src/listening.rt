@@ -87,6 +87,7 @@ fn not_accepted(moment: Moment) -> Connection
         served: Served {
             outcome: Err(Fault::Device),
             line: None,
+            sender: None,
             bytes: 0,
         },
         millis: None,

@@ -1,7 +1,7 @@
-//! What clerks are shown: the picking sheet of an order, and the export of a depositor's stock.
+//! What clerks are shown: the picking sheet of an order, the export of a depositor's stock, what it has open, and who is enrolled.
 ghost use Rattle.std.specs.Prelude.{◌≡◌, ℕ, List, Result, IfOk, IfErr};
 ghost use Rattle.profile.specs.declared.rules.Rules.TheVariants.{Two};
-ghost use Rattle.profile.specs.Header.{Who as Partner};
+ghost use Rattle.profile.specs.Header.{Who as Partner, who_of};
 ghost use Rattle.profile.specs.Moments.{Moment as Minute};
 ghost use Rattle.profile.specs.Refusals.{Refusal as Meant};
 ghost use Rattle.profile.specs.Register.{Entry};
@@ -11,14 +11,14 @@ ghost use Rattle.profile.specs.Rows.{stock_of};
 ghost use Rattle.reports.specs.Picking.{Explains};
 ghost use Rattle.store.specs.Standing.{IsUnchanged, IsQueryFault, OfKept};
 ghost use Rattle.intake.specs.Answers.{seen};
-ghost use Rattle.intake.specs.Calls.{owner_of, order_response, sheet_response, call_resp};
+ghost use Rattle.intake.specs.Calls.{owner_of, order_response, sheet_response, open_response, depositors_response, call_resp};
 ghost use Rattle.intake.specs.Targets.{seen_call};
 
 use crate::calls::Call;
 use crate::replies::{bad_part, refused, stranger, with_text};
 use crate::response::{Allow, MediaType, Response, Status, bare_response, not_allowed_response};
 use profile::MOST_NUMBER;
-use reports::{NoSheet, pick_list, stock_csv};
+use reports::{NoSheet, depositor_list, open_report, pick_list, stock_csv};
 use std::alloc::Global;
 use store::{Fault, Ident, Keeper, Need, Refusal, Who};
 
@@ -84,6 +84,37 @@ fn order_at<K: Keeper>(
     }
 }
 
+// What the depositor has open that a part of a path names.
+fn open_at<K: Keeper>(alloc: Global, keeper: &mut K, who: &[u8]) -> Result<Response, Fault>
+    ensures response { OfKept (K.standing keeper.old) (K.standing keeper.new)
+        (λ L. IfOk result (λ r. seen r ≡ open_response L (who_of who.now))) }
+    ensures same { IsUnchanged (K.standing keeper.old) (K.standing keeper.new) }
+    ensures fault { IfErr result (λ fault. IsQueryFault fault (K.standing keeper.old) (K.standing keeper.new)) }
+{
+    let Some(who) = Who::new(who) else {
+        return Ok(bad_part());
+    };
+    match keeper.open(who)? {
+        Some(page) => Ok(with_text(Status::Okay, MediaType::Plain, open_report(alloc, &page)?)),
+        None => Ok(stranger()),
+    }
+}
+
+// Who is enrolled.
+fn depositors_at<K: Keeper>(alloc: Global, keeper: &mut K) -> Result<Response, Fault>
+    ensures response { OfKept (K.standing keeper.old) (K.standing keeper.new)
+        (λ L. IfOk result (λ r. seen r ≡ depositors_response L)) }
+    ensures same { IsUnchanged (K.standing keeper.old) (K.standing keeper.new) }
+    ensures fault { IfErr result (λ fault. IsQueryFault fault (K.standing keeper.old) (K.standing keeper.new)) }
+{
+    let whos = keeper.depositors()?;
+    Ok(with_text(
+        Status::Okay,
+        MediaType::Plain,
+        depositor_list(alloc, &whos)?,
+    ))
+}
+
 /// The response to a call by GET. The book is as before. A fault is that of the query, or want of
 /// memory for the response.
 pub(crate) fn looked_at<K: Keeper>(
@@ -101,6 +132,8 @@ pub(crate) fn looked_at<K: Keeper>(
         Call::Deed(_) => Ok(not_allowed_response(Allow::Post)),
         Call::Order(who, number) => order_at(alloc, keeper, who, number),
         Call::Export(who) => export_at(alloc, keeper, who),
+        Call::Open(who) => open_at(alloc, keeper, who),
+        Call::Depositors => depositors_at(alloc, keeper),
     }
 }
 

@@ -1,8 +1,12 @@
 //! What a server tells of the connections that it had.
+ghost use Rattle.std.specs.Prelude.{OnOk};
+ghost use Rattle.std.specs.Io.KnownBytes.{Appends};
+ghost use Rattle.intake.specs.Lines.{sender_text};
 
 use http::StatusCode;
+use std::io;
 use std::net::SocketAddr;
-use store::{Fault, Moment};
+use store::{Fault, Moment, Who};
 
 /// The method and the path of a request, as they stand in its head.
 #[derive(Debug, Drop)]
@@ -14,15 +18,32 @@ pub struct RequestLine {
 }
 
 /// What became of a request.
-#[derive(Debug, Drop)]
+#[derive(Drop)]
 pub struct Served {
     /// The status that was answered; Device (44) where nothing was, or not all of it.
     pub outcome: Result<StatusCode, Fault>,
     /// Its method and its path. None where no head was read, and where there was no memory for a
     /// copy.
     pub line: Option<RequestLine>,
+    /// The depositor of the interchange that was handed in: the sender that its ISA05 and ISA06 name,
+    /// enrolled or not. None of any other request, where the interchange can't be read or these two
+    /// can be no partner, and where there was no memory to read it.
+    pub sender: Option<Who>,
     /// How many bytes of the response were written, its head among them.
     pub bytes: u64,
+}
+
+/// Writes who sent an interchange, as a line tells it: `QQ-ID`, or `-` where nobody is told. An error is
+/// the writer's, which then may have a beginning of it.
+pub fn write_sender<W: io::Write>(out: &mut W, sender: &Option<Who>) -> io::Result<()>
+    ensures { OnOk result (Appends (W.contents out.old) (W.contents out.new) (sender_text sender.now)) }
+{
+    let Some(who) = sender else {
+        return out.write_all(b"-");
+    };
+    out.write_all(who.qualifier())?;
+    out.write_all(b"-")?;
+    out.write_all(who.id())
 }
 
 /// A connection that was accepted, or couldn't be.

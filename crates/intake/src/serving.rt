@@ -1,6 +1,7 @@
 ghost use Rattle.std.specs.Prelude.{◌≡◌, ◌⊎◌, ℕ, Option, length, drop, OnErr, IfOk, IfErr, IfSome, string_bytes};
 ghost use Rattle.httparse.specs.Grammar.{RequestHead};
 ghost use Rattle.httparse.specs.Spans.{IsRequestWithin, IsRequestAt};
+ghost use Rattle.profile.specs.Header.{Who as Partner};
 ghost use Rattle.store.specs.Standing.{IsUnchanged, GoesOn};
 ghost use Rattle.intake.specs.Answers.{seen};
 ghost use Rattle.intake.specs.Gauges.{Grew};
@@ -12,9 +13,10 @@ use crate::gauge::Gauge;
 use crate::heading::{is_among, length_of, read_method, values_of};
 use crate::reading::{Content, Unread, read_body, read_head};
 use crate::replies::of_fault;
-use crate::response::{Response, Status, bare_response};
+use crate::response::{Status, bare_response};
+use crate::senders::{Replied, answer_at, unsent};
 use crate::served::{RequestLine, Served};
-use crate::targets::{find_target, has_body, respond_to};
+use crate::targets::{find_target, has_body};
 use crate::texts::write_response;
 use http::StatusCode;
 use httparse::spans::{EMPTY_HEADER_SPAN, HeaderSpan, RequestSpans};
@@ -32,32 +34,32 @@ fn answer<R: Read, K: Keeper>(
     fields: &[HeaderSpan],
     spans: &RequestSpans,
     moment: Moment,
-) -> Result<Response, Unread>
+) -> Result<Replied, Unread>
     requires { IsRequestWithin got.now fields.now spans.now }
-    ensures answered { IfOk result (λ response. (h : RequestHead) → IsRequestAt got.now fields.now spans.now h
+    ensures answered { IfOk result (λ replied. (h : RequestHead) → IsRequestAt got.now fields.now spans.now h
         → IsExchangeBehind audience (K.standing keeper.old) (K.standing keeper.new) (R.remaining reader.old.inner)
-        moment h (drop spans.now.len got.now) (seen response)) }
+        moment h (drop spans.now.len got.now) (seen replied.response) replied.sender) }
     ensures same { OnErr result (IsUnchanged (K.standing keeper.old) (K.standing keeper.new)) }
     ensures count { OnErr result (Grew reader.old.errors reader.new.errors) }
     ensures goes { GoesOn (K.standing keeper.old) (K.standing keeper.new) }
 {
     let named = &fields[..spans.headers];
     if is_among(got, named, b"Transfer-Encoding") {
-        return Ok(bare_response(Status::NotImplemented));
+        return Ok(unsent(bare_response(Status::NotImplemented)));
     }
     let Ok(target) = find_target(alloc, audience, spans.path.of(got)) else {
-        return Ok(of_fault(Fault::OutOfMemory));
+        return Ok(unsent(of_fault(Fault::OutOfMemory)));
     };
     let method = read_method(spans.method.of(got));
     if !has_body(method, &target) {
-        return Ok(respond_to(alloc, keeper, method, &target, &[], moment));
+        return Ok(answer_at(alloc, keeper, method, &target, &[], moment));
     }
     let size = match length_of(&values_of(got, named, b"Content-Length")) {
         Ok(size) => size,
-        Err(status) => return Ok(bare_response(status)),
+        Err(status) => return Ok(unsent(bare_response(status))),
     };
     match read_body(alloc, reader, &got[spans.len..], size)? {
-        Content::Whole(body) => Ok(respond_to(
+        Content::Whole(body) => Ok(answer_at(
             alloc,
             keeper,
             method,
@@ -65,8 +67,8 @@ fn answer<R: Read, K: Keeper>(
             body.as_slice(),
             moment,
         )),
-        Content::CutOff => Ok(bare_response(Status::BadRequest)),
-        Content::NoMemory => Ok(of_fault(Fault::OutOfMemory)),
+        Content::CutOff => Ok(unsent(bare_response(Status::BadRequest))),
+        Content::NoMemory => Ok(unsent(of_fault(Fault::OutOfMemory))),
     }
 }
 
@@ -96,8 +98,8 @@ fn copied_line(
 // What was received.
 #[derive(Drop)]
 struct Received {
-    // The response to it.
-    response: Result<Response, Unread>,
+    // What it is answered.
+    replied: Result<Replied, Unread>,
     // Its method and its path, where a head was read and there was memory for a copy.
     line: Option<RequestLine>,
 }
@@ -111,12 +113,12 @@ fn receive<R: Read, K: Keeper>(
     audience: Audience,
     moment: Moment,
 ) -> Received
-    ensures answered { IfOk result.response (λ response.
+    ensures answered { IfOk result.replied (λ replied.
         IsExchange audience (K.standing keeper.old) (K.standing keeper.new) (R.remaining reader.old.inner) moment
-        (seen response) result.line) }
-    ensures line { OnErr result.response (IfSome result.line (HasLine (R.remaining reader.old.inner))) }
-    ensures same { OnErr result.response (IsUnchanged (K.standing keeper.old) (K.standing keeper.new)) }
-    ensures count { OnErr result.response (Grew reader.old.errors reader.new.errors) }
+        (seen replied.response) result.line replied.sender) }
+    ensures line { OnErr result.replied (IfSome result.line (HasLine (R.remaining reader.old.inner))) }
+    ensures same { OnErr result.replied (IsUnchanged (K.standing keeper.old) (K.standing keeper.new)) }
+    ensures count { OnErr result.replied (Grew reader.old.errors reader.new.errors) }
     ensures goes { GoesOn (K.standing keeper.old) (K.standing keeper.new) }
 {
     let mut buf = [0u8; 8192];
@@ -124,21 +126,21 @@ fn receive<R: Read, K: Keeper>(
     let begun = match read_head(reader, &mut buf, &mut fields) {
         Ok(begun) => begun,
         Err(unread) => return Received {
-            response: Err(unread),
+            replied: Err(unread),
             line: None,
         },
     };
     let spans = match &begun.head {
         Some(spans) => spans,
         None => return Received {
-            response: Ok(bare_response(Status::BadRequest)),
+            replied: Ok(unsent(bare_response(Status::BadRequest))),
             line: None,
         },
     };
     let got = &buf[..begun.filled];
-    let response = answer(alloc, reader, keeper, audience, got, &fields, spans, moment);
+    let replied = answer(alloc, reader, keeper, audience, got, &fields, spans, moment);
     let line = copied_line(alloc, got, &fields, spans);
-    Received { response, line }
+    Received { replied, line }
 }
 
 /// Reads one request, writes its response, and tells what became of them. The tests of a request come
@@ -148,7 +150,8 @@ fn receive<R: Read, K: Keeper>(
 /// body that is cut off 400. Where clerks are served too, a deed with its sheet is tested as an
 /// interchange, and then: a part of its path that can't be read is 404, a text that is no sheet 422.
 /// A growth that is refused gives the 503 of 40; where only the copy of the method and the path is,
-/// these aren't told, and the answer is the same.
+/// these aren't told, and the answer is the same. Of an interchange that is handed in, its sender is
+/// told, also where it is refused.
 ///
 /// The one fault is Device (44): the reader or the writer gave an error, or took 0 bytes. Where the
 /// reader did, nothing was written and the book is as it was; where the writer did, a beginning of the
@@ -164,34 +167,38 @@ pub fn serve_telling<R: Read, W: Write, K: Keeper>(
 ) -> Served
     ensures written { IfOk result.outcome (λ status.
         IsWritten audience (K.standing keeper.old) (K.standing keeper.new) (R.remaining reader.old.inner) moment
-        (W.contents writer.old.inner) (W.contents writer.new.inner) status result.line result.bytes) }
+        (W.contents writer.old.inner) (W.contents writer.new.inner) status result.line result.sender result.bytes) }
     ensures stopped { OnErr result.outcome (
         IsUnread (K.standing keeper.old) (K.standing keeper.new) (R.remaining reader.old.inner)
         (W.contents writer.old.inner) (W.contents writer.new.inner)
-        reader.old.errors reader.new.errors result.line result.bytes
+        reader.old.errors reader.new.errors result.line result.sender result.bytes
         ⊎ IsUnwritten audience (K.standing keeper.old) (K.standing keeper.new) (R.remaining reader.old.inner) moment
         (W.contents writer.old.inner) (W.contents writer.new.inner)
-        writer.old.errors writer.new.errors result.line result.bytes) }
+        writer.old.errors writer.new.errors result.line result.sender result.bytes) }
     ensures fault { IfErr result.outcome (λ fault. fault ≡ Fault.Device) }
     ensures goes { GoesOn (K.standing keeper.old) (K.standing keeper.new) }
 {
-    let Received { response, line } = receive(alloc, reader, keeper, audience, moment);
-    let Ok(response) = response else {
+    let Received { replied, line } = receive(alloc, reader, keeper, audience, moment);
+    let Ok(replied) = replied else {
         return Served {
             outcome: Err(Fault::Device),
             line,
+            sender: None,
             bytes: 0,
         };
     };
+    let Replied { response, sender } = replied;
     match write_response(writer, &response) {
         Ok(bytes) => Served {
             outcome: Ok(response.status.code()),
             line,
+            sender,
             bytes,
         },
         Err(stop) => Served {
             outcome: Err(Fault::Device),
             line,
+            sender,
             bytes: stop.sent,
         },
     }
@@ -205,16 +212,16 @@ pub fn serve_one<R: Read, W: Write, K: Keeper>(
     keeper: &mut K,
     moment: Moment,
 ) -> Result<StatusCode, Fault>
-    ensures written { IfOk result (λ status. (line : Option RequestLine) × (bytes : ℕ)
+    ensures written { IfOk result (λ status. (line : Option RequestLine) × (sender : Option Partner) × (bytes : ℕ)
         × IsWritten Audience.Partners (K.standing keeper.old) (K.standing keeper.new) (R.remaining reader.old.inner) moment
-        (W.contents writer.old.inner) (W.contents writer.new.inner) status line bytes) }
-    ensures stopped { OnErr result ((line : Option RequestLine) × (bytes : ℕ) × (
+        (W.contents writer.old.inner) (W.contents writer.new.inner) status line sender bytes) }
+    ensures stopped { OnErr result ((line : Option RequestLine) × (sender : Option Partner) × (bytes : ℕ) × (
         IsUnread (K.standing keeper.old) (K.standing keeper.new) (R.remaining reader.old.inner)
         (W.contents writer.old.inner) (W.contents writer.new.inner)
-        reader.old.errors reader.new.errors line bytes
+        reader.old.errors reader.new.errors line sender bytes
         ⊎ IsUnwritten Audience.Partners (K.standing keeper.old) (K.standing keeper.new) (R.remaining reader.old.inner) moment
         (W.contents writer.old.inner) (W.contents writer.new.inner)
-        writer.old.errors writer.new.errors line bytes)) }
+        writer.old.errors writer.new.errors line sender bytes)) }
     ensures fault { IfErr result (λ fault. fault ≡ Fault.Device) }
     ensures goes { GoesOn (K.standing keeper.old) (K.standing keeper.new) }
 {

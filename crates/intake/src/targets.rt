@@ -72,6 +72,16 @@ pub(crate) fn has_body(method: MethodKind, target: &Target<'_>) -> bool
     }
 }
 
+/// Whether a request hands an interchange in.
+pub(crate) fn hands_in(method: MethodKind, target: &Target<'_>) -> bool
+    ensures { result ≡ targets.hands_in (seen_method method) (seen_target target.now) }
+{
+    match target {
+        Target::Route(route) => is_handed_in(method, route),
+        Target::Call(_) => false,
+    }
+}
+
 /// The response to a request whose target is found. A fault inside is answered 503, and is told in the
 /// response alone.
 pub(crate) fn respond_to<K: Keeper>(

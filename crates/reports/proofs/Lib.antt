@@ -3,3 +3,5 @@ mod MoreLaws
 mod FilterLaws
 mod PickLaws
 mod WriterLaws
+mod OpenLaws
+mod RowsOpen

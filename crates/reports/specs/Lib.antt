@@ -1,2 +1,3 @@
 pub mod Exports
 pub mod Picking
+pub mod Open

@@ -18,9 +18,13 @@ held_lines held = flat_map (λ k. pick_line k.item k.lot k.quantity) held
 abbrev pub short_line : List ℕ → ℕ → List ℕ
 short_line item short = if short == 0 then [] else pick_line item (codes "(short)") short
 
+-- how much of a line isn't reserved
+abbrev pub short_of : List Line → PageLine → ℕ
+short_of reserved l = l.quantity - total_of (held_of reserved l.item)
+
 -- the reservations of a line, and what is short
 abbrev pub order_lines : List Line → PageLine → List ℕ
-order_lines reserved l = held_lines (held_of reserved l.item) ++ short_line l.item (l.quantity - total_of (held_of reserved l.item))
+order_lines reserved l = held_lines (held_of reserved l.item) ++ short_line l.item (short_of reserved l)
 
 -- a line of an address, after three spaces
 abbrev pub address_line : List ℕ → List ℕ

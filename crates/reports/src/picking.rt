@@ -1,9 +1,8 @@
-ghost use Rattle.std.specs.Prelude.{◌≡◌, ◌++◌, ◌-◌, List, Some, Ok, IfOk, IfErr, OnOk, flat_map, option_to_list};
+ghost use Rattle.std.specs.Prelude.{◌≡◌, ◌++◌, Some, Ok, IfOk, IfErr, OnOk, flat_map, option_to_list};
 ghost use Rattle.profile.specs.History.{History};
 ghost use Rattle.profile.specs.Need.{need_of_number};
 ghost use Rattle.profile.specs.Reports as meant;
-ghost use Rattle.profile.specs.Texts.{total_of};
-ghost use Rattle.reports.specs.Picking.{held_of, held_lines, address_line, order_lines, order_sheet, listed, Explains};
+ghost use Rattle.reports.specs.Picking.{held_of, held_lines, short_of as meant_short_of, short_line, address_line, order_lines, order_sheet, listed, Explains};
 ghost use Rattle.stock.specs.Pages.{order_at};
 ghost use Rattle.rules.specs.Decided.{IsHeldPart};
 
@@ -89,24 +88,39 @@ fn append_line(out: &mut Vec<u8>, item: &[u8], lot: &[u8], quantity: u32) -> Res
     Ok(())
 }
 
-// Appends a line for each reservation of the item. The result is how much of the quantity is short.
-fn append_held(
-    out: &mut Vec<u8>,
-    reserved: &[Goods],
-    item: &[u8],
-    quantity: u32,
-) -> Result<u32, AllocError>
-    ensures text { OnOk result (out.new.items ≡ out.old.items ++ held_lines (held_of reserved.now item.now)) }
-    ensures short { IfOk result (λ short. short ≡ quantity - total_of (held_of reserved.now item.now)) }
+// Appends a line for each reservation of the item.
+fn append_held(out: &mut Vec<u8>, reserved: &[Goods], item: &[u8]) -> Result<(), AllocError>
+    ensures { OnOk result (out.new.items ≡ out.old.items ++ held_lines (held_of reserved.now item.now)) }
 {
-    let mut short = quantity;
     for line in reserved {
         if line.item.as_slice() == item {
             append_line(out, &line.item, &line.lot, line.quantity)?;
-            short = short.saturating_sub(line.quantity);
         }
     }
-    Ok(short)
+    Ok(())
+}
+
+/// How much is short of a line of an order with these reservations: what is ordered, less what is reserved of its item.
+pub(crate) fn short_of(reserved: &[Goods], line: &KnownLine) -> u32
+    ensures { result ≡ meant_short_of reserved.now line.now }
+{
+    let mut short = line.quantity;
+    for goods in reserved {
+        if goods.item == line.item {
+            short = short.saturating_sub(goods.quantity);
+        }
+    }
+    short
+}
+
+/// Appends what is short of an item, where something is.
+pub(crate) fn append_short(out: &mut Vec<u8>, item: &[u8], short: u32) -> Result<(), AllocError>
+    ensures { OnOk result (out.new.items ≡ out.old.items ++ short_line item.now short) }
+{
+    if short == 0 {
+        return Ok(());
+    }
+    append_line(out, item, b"(short)", short)
 }
 
 // Appends what of a line of an order is reserved, and what is short.
@@ -117,11 +131,8 @@ fn append_order_line(
 ) -> Result<(), AllocError>
     ensures { OnOk result (out.new.items ≡ out.old.items ++ order_lines reserved.now line.now) }
 {
-    let short = append_held(out, reserved, &line.item, line.quantity)?;
-    if short == 0 {
-        return Ok(());
-    }
-    append_line(out, &line.item, b"(short)", short)
+    append_held(out, reserved, &line.item)?;
+    append_short(out, &line.item, short_of(reserved, line))
 }
 
 // The picking sheet of an order.

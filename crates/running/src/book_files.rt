@@ -87,13 +87,16 @@ pub fn make<S: Alter + Drop>(
     }
 }
 
-/// Opens the book in a database that is in no transaction; one of version 1 is carried over to version 2 first. NotThisBook (43)
-/// where its tables are no book; Store (41) where they can't be read, or a book can't be carried over.
-pub fn open<S: Alter + Drop>(
+/// Opens the book in a database that is in no transaction; one of version 1 is carried over to version 2 first, and of its entries
+/// `told` is handed how many were gone over of how many. NotThisBook (43) where its tables are no book; Store (41) where they
+/// can't be read, or a book can't be carried over.
+pub fn open<S: Alter + Drop, T: FnMut(u64, u64)>(
     alloc: Global,
     database: Connection<S>,
+    told: T,
 ) -> Result<Book<S>, CommandError>
-    requires { database.in_transaction ≡ false }
+    requires free { database.in_transaction ≡ false }
+    requires told { T.IsAlwaysCallable told }
     ensures usable { IfOk result (λ b. HasCleanDisk (state S.Store b.tables.conn)
         → (q : Rules) (W : Partner) (L : List Entry) → StandsOpenAs q (state S.Store database) W L
         → IsUsable (standing_of S.Store b) L) }
@@ -104,7 +107,7 @@ pub fn open<S: Alter + Drop>(
     ensures named { IfErr result (λ stop. (stop ≡ CommandError.Fault Fault.NotThisBook)
         ⊎ ((stop ≡ CommandError.Fault Fault.OutOfMemory) ⊎ (stop ≡ CommandError.Fault Fault.Store))) }
 {
-    match Book::open_from(alloc, Tables::new(database)) {
+    match Book::open_from_telling(alloc, Tables::new(database), told) {
         Ok(book) => Ok(book),
         Err((fault, _)) => Err(CommandError::Fault(fault)),
     }

@@ -63,18 +63,43 @@ fn work<K: Keeper, W: io::Write, E: io::Write>(
     }
 }
 
+// Opens the book in a database, and says to somebody who watches how far a book of version 1 is carried over.
+fn open_watched<S: Alter + Drop, E: io::Write>(
+    alloc: Global,
+    database: Connection<S>,
+    verbosity: Verbosity,
+    err: &mut E,
+) -> Result<Book<S>, CommandError>
+    requires { database.in_transaction ≡ false }
+{
+    if !verbosity.watches {
+        return open(alloc, database, |_, _| {});
+    }
+    let mut is_told = false;
+    let opened = open(alloc, database, |done, all| {
+        is_told = true;
+        verbosity.tell_progress(err, done, all, "entries carried over");
+    });
+    if is_told && opened.is_err() {
+        verbosity.end_progress(err);
+    }
+    opened
+}
+
 // Opens the book in a database, or makes it where that is the job.
-fn begin<S: Alter + Drop>(
+fn begin<S: Alter + Drop, E: io::Write>(
     alloc: Global,
     database: Connection<S>,
     job: &Job<'_>,
+    verbosity: Verbosity,
+    err: &mut E,
 ) -> Result<Book<S>, CommandError>
     requires { database.in_transaction ≡ false }
 {
     match job {
         Job::Make(warehouse) => make(alloc, database, *warehouse),
         Job::Check => open_anew(alloc, database),
-        _ => open(alloc, database),
+        _ => open_watched(alloc, database, verbosity, err),
     }
 }
 
@@ -152,7 +177,7 @@ fn work_over<S: Alter + Drop, W: io::Write, E: io::Write>(
 ) -> Result<(ExitStatus, Connection<S>), CommandError>
     requires { database.in_transaction ≡ false }
 {
-    let mut book = begin(rt.alloc(), database, job)?;
+    let mut book = begin(rt.alloc(), database, job, verbosity, err)?;
     let status = done(rt, &mut book, job, verbosity, out, err)?;
     if verbosity.explains && status == ExitStatus::Refused {
         explain(rt.alloc(), &mut book, job, err);

@@ -330,30 +330,39 @@ pub is_recalled : (W : Who) (L : List Entry) (i : ℕ) (w copy : Written) (e : E
 is_recalled W L i w copy e text o there same sent is =
     subst (IsRecalled (Some (record { entry = copy; outgoing = text }))) (sym is) (number_of (take i L) e, same ∙ there.row, sent)
 
--- The stock of a depositor, by its page.
+-- What is shown of a depositor, by its page.
 
 pub rows_of_page : (p : PageFacts) (M : List Entry) → IsSound p → IsPageOf p (history M) → map shown_row p.rows ≡ stock_rows M
 rows_of_page p M sound h = ap (map shown_row) (rows_are p (events M) sound h.shows)
 
-stock_by : (rows : List StockRow) (page : Option PageFacts) (M : List Entry) (b : Bool) → (length M == 0) ≡ b → IsHeldFor page (if b then None else Some (history M))
-    → ((p : PageFacts) → page ≡ Some p → IsPageOf p (history M) → rows ≡ stock_rows M)
-    → option_map (λ (p : PageFacts). rows) page ≡ (if b then None else Some (stock_rows M))
-stock_by rows None M true t h is = refl
-stock_by rows None M false t h is = absurd h
-stock_by rows (Some p) M true t h is = absurd h
-stock_by rows (Some p) M false t h is = ap Some (is p refl h)
-
-pub stock_none : (L : List Entry) (who : Who) → IsHeldFor None (standing (own L who)) → None ≡ stock_of L who
-stock_none L who h = stock_by [] None (own L who) (length (own L who) == 0) refl h (λ p e i. absurd (cc))
+shown_by : {X : Type 0} (f : List Entry → X) (x : X) (page : Option PageFacts) (M : List Entry) (b : Bool) → (length M == 0) ≡ b → IsHeldFor page (if b then None else Some (history M))
+    → ((p : PageFacts) → page ≡ Some p → IsPageOf p (history M) → x ≡ f M)
+    → option_map (λ (p : PageFacts). x) page ≡ (if b then None else Some (f M))
+shown_by f x None M true t h is = refl
+shown_by f x None M false t h is = absurd h
+shown_by f x (Some p) M true t h is = absurd h
+shown_by f x (Some p) M false t h is = ap Some (is p refl h)
 
 some_is : (a b : PageFacts) → Some a ≡ Some b → a ≡ b
 some_is a b e = ap (λ (o : Option PageFacts). unwrap_or o a) e
 
+-- of a stranger nothing
+pub shown_none : {X : Type 0} (f : List Entry → X) (x : X) (L : List Entry) (who : Who) → IsHeldFor None (standing (own L who))
+    → None ≡ (if length (own L who) == 0 then None else Some (f (own L who)))
+shown_none f x L who h = shown_by f x None (own L who) (length (own L who) == 0) refl h (λ p e i. absurd (cc))
+
+pub shown_some : {X : Type 0} (f : List Entry → X) (x : X) (L : List Entry) (who : Who) (p : PageFacts) → IsHeldFor (Some p) (standing (own L who))
+    → ((M : List Entry) → IsPageOf p (history M) → x ≡ f M) → Some x ≡ (if length (own L who) == 0 then None else Some (f (own L who)))
+shown_some f x L who p h is =
+    shown_by f x (Some p) (own L who) (length (own L who) == 0) refl h
+    (λ q e i. is (own L who) (subst (λ y. IsPageOf y (history (own L who))) (some_is q p (sym e)) i))
+
+pub stock_none : (L : List Entry) (who : Who) → IsHeldFor None (standing (own L who)) → None ≡ stock_of L who
+stock_none L who h = shown_none stock_rows [] L who h
+
 pub stock_some : (L : List Entry) (who : Who) (p : PageFacts) (rows : List StockRow) → IsHeldFor (Some p) (standing (own L who))
     → ((M : List Entry) → IsPageOf p (history M) → rows ≡ stock_rows M) → Some rows ≡ stock_of L who
-stock_some L who p rows h is =
-    stock_by rows (Some p) (own L who) (length (own L who) == 0) refl h
-    (λ q e i. is (own L who) (subst (λ x. IsPageOf x (history (own L who))) (some_is q p (sym e)) i))
+stock_some L who p rows h is = shown_some stock_rows rows L who p h is
 
 -- The search goes on after an entry that isn't the one.
 

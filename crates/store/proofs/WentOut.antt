@@ -111,7 +111,7 @@ adds_row W L i who w e rows there whose is =
     ∙ sent_more W (events (own L who)) (own (take i L) who) e
     ∙ ap (λ (rs : List OutRow). sent_on W (events (own L who)) (own (take i L) who) ++ rs) is
 
-positive : (n : ℕ) → nat_lt 0 (n + 1) ≡ true
+pub positive : (n : ℕ) → nat_lt 0 (n + 1) ≡ true
 positive n = lt-ltb 0 (n + 1) (omega arith)
 
 not_both : (b : Bool) → b ≡ true → b ≡ false → ⊥

@@ -6,6 +6,7 @@ ghost use Rattle.rules.specs.Asked.{mark_of};
 ghost use Rattle.rules.specs.Decided.{IsHeldAtRest, IsRecalled};
 ghost use Rattle.store.specs.Held.{IsHeld};
 ghost use Rattle.store.specs.Known.{first_under};
+ghost use Rattle.store.specs.Open.{open_of, open_on, enrolled};
 ghost use Rattle.store.specs.Sent.{text_of};
 ghost use Rattle.store.specs.Standing.{Standing, IsUsable, IsNext, IsUnchanged, GoesOn, LeavesEither, IsFault, IsQueryFault, IsCommitFault, OfKept};
 
@@ -87,6 +88,23 @@ pub trait Keeper {
         ensures text { OfKept (standing self.old) (standing self.new)
             (λ L. IfOk result (λ text. option_map (option_map (λ v. v.items)) text ≡ text_of
             (standing self.old).warehouse L who n)) }
+        ensures same { IsUnchanged (standing self.old) (standing self.new) }
+        ensures fault { IfErr result (λ fault. IsQueryFault fault (standing self.old) (standing self.new)) }
+        ensures shut { (standing self.old).shut ≡ true → IsErrOf result Fault.Reopen };
+
+    /// A part of a depositor's page that has what is open: each advice that isn't counted and each order that isn't picked, and
+    /// perhaps more; None for a stranger.
+    fn open(&mut self, who: Who) -> Result<Option<Page>, Fault>
+        ensures work { OfKept (standing self.old) (standing self.new)
+            (λ L. IfOk result (λ page. option_map open_on page ≡ open_of L who)) }
+        ensures same { IsUnchanged (standing self.old) (standing self.new) }
+        ensures fault { IfErr result (λ fault. IsQueryFault fault (standing self.old) (standing self.new)) }
+        ensures shut { (standing self.old).shut ≡ true → IsErrOf result Fault.Reopen };
+
+    /// The depositors, in the order in which they were enrolled.
+    fn depositors(&mut self) -> Result<Vec<Who>, Fault>
+        ensures whole { OfKept (standing self.old) (standing self.new)
+            (λ L. IfOk result (λ whos. whos.items ≡ enrolled L)) }
         ensures same { IsUnchanged (standing self.old) (standing self.new) }
         ensures fault { IfErr result (λ fault. IsQueryFault fault (standing self.old) (standing self.new)) }
         ensures shut { (standing self.old).shut ≡ true → IsErrOf result Fault.Reopen };

@@ -11,6 +11,7 @@ ghost use Rattle.rules.specs.Decided.{IsHeldAtRest, IsRecalled, IsPageOf};
 ghost use Rattle.rules.specs.Written.{written};
 ghost use Rattle.stock.specs.Pages.{IsAt};
 ghost use Rattle.store.specs.Held.{IsHeld, IsHeldFor};
+ghost use Rattle.store.specs.Open.{open_of, open_on, enrolled};
 ghost use Rattle.store.specs.Replayed.{all_written, is_under};
 ghost use Rattle.store.specs.Sent.{sent_on};
 ghost use Rattle.store.specs.Standing.{IsUsable};
@@ -117,6 +118,18 @@ fn held(page: Option<Page>, _need: &Need) -> Option<Page>
     page
 }
 
+// The whole page has what is open of it.
+fn with_open(page: Option<Page>) -> Option<Page>
+    ensures { (L : List register.Entry) (who : Partner) → IsHeldFor page (standing_of (register.own L who))
+        → option_map open_on result ≡ open_of L who }
+{
+    if let Some(page) = &page {
+        // what is known of every page
+        let _ = page.rows();
+    }
+    page
+}
+
 // The text that went out for an entry, with these before it.
 fn outgoing_behind(
     alloc: Global,
@@ -199,6 +212,20 @@ fn rows_for(alloc: Global, page: Option<Page>) -> Result<Option<Vec<StockRow>>, 
         Some(page) => Ok(Some(shown(alloc, &page)?)),
         None => Ok(None),
     }
+}
+
+// The depositors, in the order of their enrolments.
+fn depositors_of(alloc: Global, entries: &[Entry]) -> Result<Vec<Who>, AllocError>
+    ensures { IfOk result (λ whos. (L : List register.Entry) → entries.now ≡ all_written L
+        → whos.items ≡ enrolled L) }
+{
+    let mut whos = Vec::new(alloc);
+    for entry in entries {
+        if !entry.is_numbered() {
+            whos.push(entry.who())?;
+        }
+    }
+    Ok(whos)
 }
 
 // What the entry at a place sent out, if it is a depositor's that counts, by the page of all of that depositor's entries; None
@@ -350,6 +377,15 @@ impl Keeper for ReplayBook {
             Some(rows) => Ok(Some(content_of(rows, n))),
             None => Ok(None),
         }
+    }
+
+    fn open(&mut self, who: Who) -> Result<Option<Page>, Fault> {
+        let page = self.page(&who)?;
+        Ok(with_open(page))
+    }
+
+    fn depositors(&mut self) -> Result<Vec<Who>, Fault> {
+        Ok(depositors_of(self.alloc, &self.entries)?)
     }
 
     fn refused(&self) -> u64 {

@@ -24,7 +24,7 @@ mod served;
 mod usage;
 
 use cases::scripts::{
-    acknowledged, addresses, day, envelopes, goods, lists, lots, picks, refused_sheets,
+    acknowledged, addresses, day, envelopes, goods, lists, lots, open_work, picks, refused_sheets,
     sheet_limits, shown,
 };
 use cases::sections::section_of;
@@ -282,6 +282,7 @@ fn goods_are_picked_and_acknowledged(rt: HostRuntime) -> Result<(), Fail> {
 #[test]
 fn a_book_shows_what_it_has(rt: HostRuntime) -> Result<(), Fail> {
     play_all(&rt, shown::CASES)?;
+    play_all(&rt, open_work::CASES)?;
     play_all(&rt, addresses::CASES)?;
     play_all(&rt, day::CASES)
 }

@@ -1,4 +1,4 @@
-use Rattle.std.proofs.Common.{rules, ◌≡◌, ℕ, subst}
+use Rattle.std.proofs.Common.{rules, of_calls, ◌≡◌, ℕ, subst}
 use Rattle.std.specs.Prelude.{IsErrAnd}
 use Rattle.sqlite.specs.Held.{state}
 use Rattle.store.specs.declared.fault.Fault.{Fault}
@@ -7,7 +7,7 @@ use Rattle.book_tables.proofs.Writes.{wrote_as, wrote_nothing, wrote_on, wrote_f
 use Rattle.book_tables.proofs.carrying.give_first_rules.Goals as goal
 
 pub loop-before-init : goal.loop-before-init
-loop-before-init g c = record { same = search rules; wrote = wrote_nothing _ _ _ (given_none _) }
+loop-before-init g c = record { told = search rules; same = search rules; wrote = wrote_nothing _ _ _ (given_none _) }
 
 pub loop-before-preserved : goal.loop-before-preserved
 loop-before-preserved g c =
@@ -16,6 +16,7 @@ loop-before-preserved g c =
     let b = (state g.S.Store c.loop-before.tx.conn.now).now in
     let d = (state g.S.Store c.insert_rules.new.tx.conn.now).now in
     record {
+      told = search (rules, of_calls);
       same = search rules;
       wrote = wrote_on _ _ _ _ _ _ _ _ was.wrote c.in_ok-insert_rules.ensures.wrote (λ some led. given_more c.loop-before.before a b d some led);
     }

@@ -1,4 +1,4 @@
-use Rattle.std.proofs.Common.{◌≡◌, ◌≤◌, List, true, length, map, IsTrue}
+use Rattle.std.proofs.Common.{◌≡◌, ◌≤◌, List, true, length, map, take, IsTrue}
 use Rattle.std.specs.List.{list_all}
 use Rattle.sqlite.specs.Tree.{Trees}
 use Rattle.sqlite_trees.specs.View.{IsClean, doubt}
@@ -6,16 +6,18 @@ use Rattle.profile.specs.Header.{Who}
 use Rattle.profile.specs.Register.{Entry}
 use Rattle.store.specs.Runs.{all_asked, can_be_given}
 use Rattle.book_tables.specs.Carrying.{LeavesCarried}
-use Rattle.books.specs.Days.{Pass}
+use Rattle.books.specs.Days.{Pass, day_by_day}
+use Rattle.books.proofs.DaysLemmas.{left_after}
 use Rattle.books.proofs.passing.days.Given as goal
 
-abbrev pub invariant-loop-commands : goal.invariant-loop-commands
-invariant-loop-commands g l =
+abbrev pub invariant-loop-count : goal.invariant-loop-count
+invariant-loop-count g l =
     let v = g.S.Store in
     record {
-      count : length l.told.items ≡ l.commands-index;
+      rest : l.rest ≡ left_after (take l.count-index l.counts) l.asked;
+      count : length l.told.items ≡ l.count-index;
       doubt : doubt (v.view l.fn.store).is_clean ≤ doubt (v.view l.store).is_clean;
       numbered : IsClean (v.view l.store) → IsTrue (v.view l.store).is_numbered;
-      led : IsClean (v.view l.store) → list_all (λ cs. can_be_given cs.items) l.asked ≡ true → (W : Who) (L : List Entry) → ((db : Trees) → v.recovers l.fn.store db → LeavesCarried W L db)
-          → (db : Trees) → v.recovers l.store db → (M : List Entry) × Pass W L (map (λ cs. all_asked cs.items) l.asked) l.told.items M × LeavesCarried W M db;
+      led : IsClean (v.view l.store) → list_all can_be_given (day_by_day l.counts l.asked) ≡ true → (W : Who) (L : List Entry) → ((db : Trees) → v.recovers l.fn.store db → LeavesCarried W L db)
+          → (db : Trees) → v.recovers l.store db → (M : List Entry) × Pass W L (map all_asked (day_by_day l.counts l.asked)) l.told.items M × LeavesCarried W M db;
     }

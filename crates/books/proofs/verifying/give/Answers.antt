@@ -12,7 +12,7 @@ use Rattle.rules.specs.Given.{RuledCommand, given_by, ruled_by}
 use Rattle.rules.proofs.Follows.{legal_follow}
 use Rattle.rules.proofs.GivenAgain.{made_again}
 use Rattle.store.specs.Standing.{IsUsable}
-use Rattle.books.proofs.GivenLemmas.{never_none, never_both, one_some}
+use Rattle.books.proofs.GivenLemmas.{never_none, one_some}
 use Rattle.books.proofs.RulesLemmas.{legal_next, legal_now, rises_at}
 use Rattle.books.proofs.verifying.give.Goals as goal
 

@@ -1,3 +1,4 @@
+use Rattle.std.proofs.Common.{inl, inr}
 use Rattle.errands.proofs.running.look.Goals as goal
 
 pub returns-in-Some : goal.returns-in-Some
@@ -12,5 +13,9 @@ returns-then-is_csv g c = rw (c.in-Stock.is, c.if-is_csv.true) (rw (c.in-Stock.i
 pub returns-else-is_csv : goal.returns-else-is_csv
 returns-else-is_csv g c = rw (c.in-Stock.is, c.if-is_csv.false) (rw (c.in-Stock.is, c.if-is_csv.false) at c.report-else-is_csv.ensures)
 
-pub returns-in-Order : goal.returns-in-Order
-returns-in-Order g c = rw c.in-Order.is (rw c.in-Order.is at c.report-in-Order.ensures)
+pub returns-in-Open : goal.returns-in-Open
+returns-in-Open g c = elim c.in-Open.is [
+  | inl is ↦ rw is.1 (rw is.1 at c.clerks_look.ensures)
+  | inr (inl is) ↦ rw is.2 (rw is.2 at c.clerks_look.ensures)
+  | inr (inr is) ↦ rw is (rw is at c.clerks_look.ensures)
+]

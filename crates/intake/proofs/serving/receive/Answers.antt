@@ -1,6 +1,7 @@
-use Rattle.std.proofs.Common.{arith, ◌≤◌, length, take}
+use Rattle.std.proofs.Common.{arith, ◌≤◌, ◌∙◌, ap, length, take}
 use Rattle.std.proofs.lemmas.Grind.{common_steps}
 use Rattle.std.proofs.lemmas.Result.{IfOk-weaker}
+use Rattle.intake.specs.Answers.{seen}
 use Rattle.intake.proofs.Sends.{on_err}
 use Rattle.intake.proofs.Answering.{whole_answer, headless_answer, line_read}
 use Rattle.intake.proofs.serving.receive.Goals as goal
@@ -12,9 +13,9 @@ returns-clause-answered g c =
     let within = rw c.in-Some.is at e.spans in
     let room : length (take c.in-Ok.begun.filled c.read_head.new.buf) ≤ 8192 = grind (arith, common_steps) in
     let many : length c.read_head.new.fields ≤ 32 = grind (arith, common_steps) in
-    IfOk-weaker c.answer-response.result _ _
-    (λ response answered. whole_answer _ _ _ _ _ _ _ _ _ found.0 _ _ room many within found.1 e.bytes c.copied_line-line.ensures (answered found.0 found.1))
-    c.answer-response.ensures.answered
+    IfOk-weaker c.answer-replied.result _ _
+    (λ replied answered. whole_answer _ _ _ _ _ _ _ _ _ found.0 _ _ _ room many within found.1 e.bytes c.copied_line-line.ensures (answered found.0 found.1))
+    c.answer-replied.ensures.answered
 
 pub returns-clause-line : goal.returns-clause-line
 returns-clause-line g c =
@@ -23,10 +24,10 @@ returns-clause-line g c =
     let within = rw c.in-Some.is at e.spans in
     let room : length (take c.in-Ok.begun.filled c.read_head.new.buf) ≤ 8192 = grind (arith, common_steps) in
     let many : length c.read_head.new.fields ≤ 32 = grind (arith, common_steps) in
-    on_err c.answer-response.result (line_read _ _ _ _ _ _ found.0 room many within found.1 e.bytes c.copied_line-line.ensures)
+    on_err c.answer-replied.result (line_read _ _ _ _ _ _ found.0 room many within found.1 e.bytes c.copied_line-line.ensures)
 
 pub returns-in-None-clause-answered : goal.returns-in-None-clause-answered
 returns-in-None-clause-answered g c =
     let e = c.in-Ok.ensures in
     let none = rw c.in-None.is at e.none in
-    headless_answer _ _ _ _ _ _ _ e.bytes none c.bare_response.ensures
+    headless_answer _ _ _ _ _ _ _ _ e.bytes none (ap seen c.unsent.ensures.response ∙ c.bare_response.ensures) c.unsent.ensures.sender

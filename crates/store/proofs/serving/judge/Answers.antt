@@ -1,4 +1,4 @@
-use Rattle.std.proofs.Common.{◌≡◌, None, Some, IfOk, refl, sym, subst}
+use Rattle.std.proofs.Common.{None, Some, IfOk, refl, sym, subst}
 use Rattle.std.proofs.lemmas.Result.{IfErr-weaker}
 use Rattle.profile.specs.declared.rules.Rules.TheVariants.{Two}
 use Rattle.profile.specs.Accepted.{IsLegal, own_of}

@@ -103,6 +103,20 @@ impl Keeper for BreakingBook {
         self.book.text(who, n)
     }
 
+    fn open(&mut self, who: Who) -> Result<Option<Page>, Fault> {
+        if self.shut {
+            return Err(Fault::Reopen);
+        }
+        self.book.open(who)
+    }
+
+    fn depositors(&mut self) -> Result<Vec<Who>, Fault> {
+        if self.shut {
+            return Err(Fault::Reopen);
+        }
+        self.book.depositors()
+    }
+
     fn refused(&self) -> u64 {
         self.refused
     }
@@ -128,6 +142,8 @@ fn is_shut<K: Keeper>(alloc: Global, book: &mut K, who: Who, moment: Moment) -> 
         && is_fault(&submit(alloc, book, &advice, moment), Fault::Reopen)
         && is_fault(&stock(book, who), Fault::Reopen)
         && is_fault(&outbox(book, who), Fault::Reopen)
+        && is_fault(&book.open(who), Fault::Reopen)
+        && is_fault(&book.depositors(), Fault::Reopen)
 }
 
 // Whether the count failed, after the two commands that were answered.

@@ -2,9 +2,9 @@
 //! that and all later ones, for each call in turn.
 use super::super::laying::lay;
 use super::day::commands;
-use super::stopped::{Stop, are_answers_again, is_whole};
+use super::stopped::{Stop, are_answers_again, are_answers_from, is_whole};
 use super::worked::{acme, morning, ninety};
-use books::{Book, Tables};
+use books::{Book, Tables, days};
 use cases::version1::{COUNTED, DATED, ORDERED, TABLES, hundred_lines, with_lines};
 use reports::{outbox_list, stock_csv};
 use sqlite::{Alter, Connection};
@@ -167,5 +167,25 @@ fn a_day_goes_on_after_a_carrying_over(rt: HostRuntime) -> Result<(), Fail> {
     let again = run(alloc, &mut book, &day);
     assert!(rt; again.fault.is_none() && are_answers_again(&again.replies, ANSWERED));
     assert!(rt; is_whole(&mut book)?);
+    Ok(())
+}
+
+// Two days over a book of version 1: the first carries it over, and stops after four commands; the second opens what that left.
+// Each command is answered as on one day, and what version 1 answered is answered so again.
+#[test]
+fn days_follow_a_carrying_over(rt: HostRuntime) -> Result<(), Fail> {
+    let alloc = rt.alloc();
+    let counted = ninety(alloc, SheetKind::Count)?;
+    let goods = ninety(alloc, SheetKind::Pick)?;
+    let day = commands(acme()?, &counted, &goods, morning()?);
+    let rows = format!(in alloc; "{COUNTED}{ORDERED}")?;
+    let store = laid(alloc, &rows)?.into_inner().into_store();
+    let (told, all_came, _) = days(alloc, store, &day, &[4, 5]);
+    let [Ok(first), Ok(second)] = told.as_slice() else {
+        return Err("two days".into());
+    };
+    assert!(rt; all_came && first.fault.is_none() && second.fault.is_none());
+    assert!(rt; are_answers_from(&first.replies, 0, ANSWERED) && first.replies.len() == 4);
+    assert!(rt; are_answers_from(&second.replies, 4, ANSWERED) && second.replies.len() == 5);
     Ok(())
 }

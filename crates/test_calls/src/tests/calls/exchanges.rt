@@ -3,7 +3,7 @@
 mod texts;
 
 use super::worked::{acme, counts, empty, enrols, morning, ninety};
-use cases::clerks::{CASES, request_of, response_of};
+use cases::clerks::{deeds, looks, request_of, response_of, strays};
 use cases::sections::section_of;
 use http::Method;
 use intake::{Audience, Gauge, Status, respond, serve_one, serve_telling};
@@ -175,6 +175,8 @@ const AFTER_THE_COUNT: &[(&[u8], &[u8])] = &[
     (b"DELETE /orders HTTP/1.1\r\n\r\n", NOT_FOUND),
     (b"GET /orders/ZZ-ACME/ORD1 HTTP/1.1\r\n\r\n", NOT_FOUND),
     (b"GET /stock/ZZ-ACME/csv HTTP/1.1\r\n\r\n", NOT_FOUND),
+    (b"GET /open/ZZ-ACME HTTP/1.1\r\n\r\n", NOT_FOUND),
+    (b"GET /depositors HTTP/1.1\r\n\r\n", NOT_FOUND),
     (
         b"POST /recount/ZZ-ACME/R1 HTTP/1.1\r\nContent-Length: 0\r\n\r\n",
         NOT_FOUND,
@@ -236,12 +238,14 @@ fn written(alloc: Global, book: &mut ReplayBook, request: &str) -> Result<Vec<u8
 fn clerks_are_answered(rt: HostRuntime) -> Result<(), Fail> {
     let alloc = rt.alloc();
     let mut book = enrolled(alloc)?;
-    for case in CASES.split("@case ").skip(1) {
-        let (line, body) = section_of(case, "asked");
-        let request = request_of(alloc, line, body)?;
-        let response = response_of(alloc, section_of(case, "answered").1)?;
-        let got = written(alloc, &mut book, &request)?;
-        assert!(rt; got.as_slice() == response.as_bytes(), "{case}");
+    for text in [deeds::CASES, looks::CASES, strays::CASES] {
+        for case in text.split("@case ").skip(1) {
+            let (line, body) = section_of(case, "asked");
+            let request = request_of(alloc, line, body)?;
+            let response = response_of(alloc, section_of(case, "answered").1)?;
+            let got = written(alloc, &mut book, &request)?;
+            assert!(rt; got.as_slice() == response.as_bytes(), "{case}");
+        }
     }
     Ok(())
 }

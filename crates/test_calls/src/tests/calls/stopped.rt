@@ -50,13 +50,20 @@ fn is_answer_again(reply: &Reply, wanted: &(&[u8], Want), was_answered: bool) ->
     }
 }
 
-// The same of all commands of the day, of which so many were answered before.
-pub(super) fn are_answers_again(replies: &[Reply], answered: usize) -> bool {
-    replies.iter().zip(answers().iter()).enumerate().all(|(at, (reply, wanted))| is_answer_again(
+// The same of the commands of the day from a place on, of which so many were answered before.
+pub(super) fn are_answers_from(replies: &[Reply], from: usize, answered: usize) -> bool {
+    let wanted = answers();
+    let wanted = wanted.iter().enumerate().skip(from);
+    replies.iter().zip(wanted).all(|(reply, (at, wanted))| is_answer_again(
         reply,
         wanted,
         at < answered,
     ))
+}
+
+// The same of all commands of the day.
+pub(super) fn are_answers_again(replies: &[Reply], answered: usize) -> bool {
+    are_answers_from(replies, 0, answered)
 }
 
 // How many entries the first answers of the day made: each but the resend, the refused one and the
@@ -95,6 +102,8 @@ fn ends_with<K: Keeper>(
         && is_fault(&book.stock_rows(who), fault)
         && is_fault(&book.outbox(who), fault)
         && is_fault(&book.text(who, 1), fault)
+        && is_fault(&book.open(who), fault)
+        && is_fault(&book.depositors(), fault)
 }
 
 // Whether a book of which one call was refused fails from then on: where a commit was cut it has to

@@ -1,9 +1,10 @@
 //! What a command with `--server` prints of the responses that it gets.
 use super::*;
-use cases::clerks::{CASES, FAULTS, UNASKED, response_of};
+use cases::clerks::faults::UNASKED;
+use cases::clerks::{deeds, faults, looks, response_of, strays};
 use command_line::{Place, Task, Words, line};
 use commands::{CommandError, ExitStatus, play_over, tell_refusal, tell_stop};
-use errands::{Courier, carry_out, errand_of, tell_document, tell_report};
+use errands::{Courier, carry_out, errand_of, tell_document, tell_look, tell_report};
 use intake::{Audience, Gauge, serve_telling};
 use remote::{Answer, Request, Unanswered, read_answer, write_request};
 use std::alloc::Global;
@@ -68,7 +69,7 @@ fn ask_for(
 }
 
 // What a server takes.
-const ASKED: &str = "send count pick recount stock orders outbox";
+const ASKED: &str = "send count pick recount stock orders outbox open depositors";
 
 // Plays a line of a script: through a server of the book, if one takes it.
 fn play_line(
@@ -143,10 +144,10 @@ fn told(rt: &HostRuntime, case: &str) -> Result<Ran, Fail> {
     let response = response_of(rt.alloc(), section_of(case, "answered").1)?;
     let answer = answer_of(rt, response.as_str())?;
     let (mut out, mut err) = (Vec::new(rt.alloc()), Vec::new(rt.alloc()));
-    let ended = if section_of(case, "by").0 == "report" {
-        tell_report(rt.alloc(), &answer, &mut out, &mut err)
-    } else {
-        tell_document(rt.alloc(), &answer, &mut out, &mut err)
+    let ended = match section_of(case, "by").0 {
+        "report" => tell_report(rt.alloc(), &answer, &mut out, &mut err),
+        "look" => tell_look(rt.alloc(), &answer, &mut out, &mut err),
+        _ => tell_document(rt.alloc(), &answer, &mut out, &mut err),
     };
     let status = match ended {
         Ok(status) => status,
@@ -168,7 +169,7 @@ fn is_told(rt: &HostRuntime, case: &str) -> Result<(), Fail> {
 
 #[test]
 fn the_answers_of_a_server_are_told_as_over_the_book(rt: HostRuntime) -> Result<(), Fail> {
-    for text in [CASES, FAULTS] {
+    for text in [deeds::CASES, looks::CASES, strays::CASES, faults::CASES] {
         for case in text.split("@case ").skip(1) {
             is_told(&rt, case)?;
         }
@@ -179,7 +180,7 @@ fn the_answers_of_a_server_are_told_as_over_the_book(rt: HostRuntime) -> Result<
 // No beginning of a response is an answer.
 #[test]
 fn a_response_that_breaks_off_is_no_answer(rt: HostRuntime) -> Result<(), Fail> {
-    let case = CASES.split("@case ").nth(1).ok_or("a case")?;
+    let case = deeds::CASES.split("@case ").nth(1).ok_or("a case")?;
     let response = response_of(rt.alloc(), section_of(case, "answered").1)?;
     for k in 0..response.len() {
         let mut bytes = &response.as_bytes()[..k];

@@ -110,7 +110,8 @@ fn tells(line: Option<&str>, what: &str) -> bool {
     }
 }
 
-const NOT_ACCEPTED: &str = "2025-03-04T09:15 - - - 44 0 bytes\n2025-03-04T09:15 - - - 44 0 bytes\n";
+const NOT_ACCEPTED: &str =
+    "2025-03-04T09:15 - - - - 44 0 bytes\n2025-03-04T09:15 - - - - 44 0 bytes\n";
 
 // Clients that wrote before they are served, one after the other: two by the clock, and two at one
 // moment. Where no client waits an accept fails, which is told as 44 and counts as a connection.
@@ -123,7 +124,7 @@ fn each_connection_is_told(rt: HostRuntime) -> Result<(), Fail> {
     let _second = asked(&rt, &listener, b"POST /x12 HTTP/1.1\r\n\r\n")?;
     let told = served(&rt, &listener, &mut book, moment, true, false)?;
     assert!(rt; told.out.as_slice() == b"404\n411\n".as_slice());
-    assert!(rt; told.err.contains(" GET /stock/ZZ-NONE 404 "));
+    assert!(rt; told.err.contains(" GET /stock/ZZ-NONE - 404 "));
     let (first, changed) = (posted(&rt, ADVICE)?, posted(&rt, CHANGED)?);
     let response = format!(in rt.alloc(); "{HEAD}{}", ANSWER.trim_end())?;
     let mut third = asked(&rt, &listener, first.as_bytes())?;
@@ -131,8 +132,8 @@ fn each_connection_is_told(rt: HostRuntime) -> Result<(), Fail> {
     let told = served(&rt, &listener, &mut book, moment, false, false)?;
     assert!(rt; told.out.as_slice() == b"200\n409\n".as_slice());
     let mut lines = told.err.lines();
-    assert!(rt; tells(lines.next(), " POST /x12 200 359 bytes "));
-    assert!(rt; tells(lines.next(), " POST /x12 409 254 bytes ") && lines.next().is_none());
+    assert!(rt; tells(lines.next(), " POST /x12 ZZ-ACME 200 359 bytes "));
+    assert!(rt; tells(lines.next(), " POST /x12 ZZ-ACME 409 254 bytes ") && lines.next().is_none());
     assert!(rt; heard(&rt, &mut third)?.as_slice() == response.as_bytes());
     assert!(rt; heard(&rt, &mut fourth)?.as_slice() == CONFLICT);
     listener.set_nonblocking(true)?;

@@ -1,0 +1,226 @@
+//! A book in tables kept: what it answers to commands and to questions, each from its tables.
+ghost use Rattle.std.specs.Prelude.{◌≡◌, ◌≢◌, ◌≤◌, ◌<◌, ◌^◌, ◌-◌, ◌++◌, ◌∷◌, [], List, true, false, IfErr, IfOk, OnOk, OnErr, IsErrOf, Some, option_map};
+ghost use Rattle.profile.specs.Decision as decided;
+ghost use Rattle.profile.specs.Register as register;
+ghost use Rattle.profile.specs.Rows.{stock_of, outbox_of};
+ghost use Rattle.rules.specs.Asked.{mark_of};
+ghost use Rattle.rules.specs.Decided.{IsHeldAtRest, IsRecalled};
+ghost use Rattle.store.specs.Held.{IsHeld};
+ghost use Rattle.store.specs.Known.{first_under};
+ghost use Rattle.store.specs.Open.{open_of, open_on, enrolled};
+ghost use Rattle.store.specs.Sent.{text_of};
+ghost use Rattle.store.specs.Standing.{IsUsable, IsUnchanged, IsQueryFault, IsNext, IsFault, IsCommitFault, LeavesEither, GoesOn, OfKept};
+ghost use Rattle.book_tables.specs.Limits.{Counts};
+ghost use Rattle.book_tables.specs.Needed.{needed_part};
+ghost use Rattle.books.specs.Opened.{standing_of};
+
+use crate::book::{Book, GREATEST};
+use book_tables::partner_text;
+use rules::{Change, Entry, Key, Known, Need, Page, Warehouse, Who};
+use sqlite::Alter;
+use store::{Fault, Keeper, OutRow, StockRow};
+
+impl<S: Alter + Drop> Keeper for Book<S> {
+    ghost use Rattle.books.specs.Opened.{standing_of};
+
+    ghost standing = { λ b. standing_of S.Store b };
+
+    fn warehouse(&self) -> Warehouse {
+        self.warehouse
+    }
+
+    /// Just the part that is needed of a depositor's page, from the running rows; None for a stranger.
+    #[tactic(auto, using(book_tables::proofs::Limited::spends_both, book_tables::proofs::Limited::spends_same))]
+    fn load(&mut self, who: Who, need: &Need) -> Result<Option<Page>, Fault>
+        ensures page { OfKept (standing_of S.Store self.old) (standing_of S.Store self.new)
+            (λ L. IfOk result (λ page. IsHeld need.now page (decided.standing (register.own L who)))) }
+        ensures part { (standing_of S.Store self.new).doubt ≡ 0 → (L : List register.Entry)
+            → (standing_of S.Store self.old).keeps L → IfOk result (λ page. page ≡ needed_part need.now L who) }
+        ensures rest { IfOk result IsHeldAtRest }
+        ensures same { IsUnchanged (standing_of S.Store self.old) (standing_of S.Store self.new) }
+        ensures fault { IfErr result (λ fault. IsQueryFault fault (standing_of S.Store self.old)
+            (standing_of S.Store self.new)) }
+        ensures shut { (standing_of S.Store self.old).shut ≡ true → IsErrOf result Fault.Reopen }
+        ensures uncounted { OnOk result (self.new.tables.refused ≡ self.old.tables.refused) }
+        ensures limit { Counts self.old.tables self.new.tables }
+        ensures allowed { OnOk result (self.old.tables.limit ≢ Some 0) }
+    {
+        if self.shut {
+            return Err(Fault::Reopen);
+        }
+        self.tables.page_for(self.alloc, who, need)
+    }
+
+    #[tactic(auto, using(book_tables::proofs::Limited::spends_both, book_tables::proofs::Limited::spends_same))]
+    fn known(&mut self, who: Who, key: &Key<'_>) -> Result<Option<Known>, Fault>
+        ensures entry { OfKept (standing_of S.Store self.old) (standing_of S.Store self.new)
+            (λ L. IfOk result (λ known. IsRecalled known (decided.recalled
+            (standing_of S.Store self.old).warehouse (mark_of key.now) (register.own L who)))) }
+        ensures recorded { (standing_of S.Store self.new).doubt ≡ 0 → (L : List register.Entry)
+            → (standing_of S.Store self.old).keeps L
+            → IfOk result (λ known. option_map (λ k. k.entry) known ≡ first_under who (mark_of key.now) L) }
+        ensures same { IsUnchanged (standing_of S.Store self.old) (standing_of S.Store self.new) }
+        ensures fault { IfErr result (λ fault. IsQueryFault fault (standing_of S.Store self.old)
+            (standing_of S.Store self.new)) }
+        ensures shut { (standing_of S.Store self.old).shut ≡ true → IsErrOf result Fault.Reopen }
+        ensures uncounted { OnOk result (self.new.tables.refused ≡ self.old.tables.refused) }
+        ensures limit { Counts self.old.tables self.new.tables }
+        ensures allowed { OnOk result (self.old.tables.limit ≢ Some 0) }
+    {
+        if self.shut {
+            return Err(Fault::Reopen);
+        }
+        let mark = key.text(self.alloc)?;
+        self.tables.known_of(self.alloc, who, &mark)
+    }
+
+    /// Appends an entry, with the rows that it changes and the text that goes out for it, in one transaction. After a fault of
+    /// the store the book has to be opened again, and answers 42 until then. 41 where the numbers that SQLite has for entries are used up.
+    #[tactic(auto, using(book_tables::proofs::Limited::spends_both, book_tables::proofs::Limited::spends_same))]
+    fn commit(&mut self, entry: &Entry, changes: &[Change], outgoing: &[u8]) -> Result<(), Fault>
+        ensures ok { (standing_of S.Store self.new).doubt ≡ 0 → (L : List register.Entry) (e : register.Entry)
+            → IsUsable (standing_of S.Store self.old) L
+            → IsNext (standing_of S.Store self.old).warehouse L e entry.now changes.now outgoing.now
+            → OnOk result (IsUsable (standing_of S.Store self.new) (L ++ e ∷ [])) }
+        ensures left { (standing_of S.Store self.new).doubt ≡ 0 → (L : List register.Entry) (e : register.Entry)
+            → IsUsable (standing_of S.Store self.old) L
+            → IsNext (standing_of S.Store self.old).warehouse L e entry.now changes.now outgoing.now
+            → OnErr result (LeavesEither (standing_of S.Store self.new) L (L ++ e ∷ [])) }
+        ensures opened { OnOk result ((standing_of S.Store self.new).shut ≡ false) }
+        ensures fault { IfErr result (λ fault. IsFault fault (standing_of S.Store self.old)
+            (standing_of S.Store self.new)) }
+        ensures kinds { IfErr result IsCommitFault }
+        ensures store { IsErrOf result Fault.Store → (standing_of S.Store self.new).shut ≡ true }
+        ensures broken { OnErr result
+            ((standing_of S.Store self.old).refusals < (standing_of S.Store self.new).refusals
+            → (standing_of S.Store self.new).shut ≡ true) }
+        ensures used_up { self.old.shut ≡ false → 2 ^ 63 - 1 ≤ self.old.entries → IsErrOf result Fault.Store }
+        ensures shut { (standing_of S.Store self.old).shut ≡ true
+            → IsErrOf result Fault.Reopen
+            × IsUnchanged (standing_of S.Store self.old) (standing_of S.Store self.new) }
+        ensures goes { GoesOn (standing_of S.Store self.old) (standing_of S.Store self.new) }
+        ensures uncounted { OnOk result (self.new.tables.refused ≡ self.old.tables.refused) }
+        ensures limit { Counts self.old.tables self.new.tables }
+        ensures allowed { OnOk result (self.old.tables.limit ≢ Some 0) }
+    {
+        if self.shut {
+            return Err(Fault::Reopen);
+        }
+        if self.entries >= GREATEST {
+            self.shut = true;
+            return Err(self.tables.use_up());
+        }
+        let who = partner_text(self.alloc, &entry.who())?;
+        let seq = self.entries + 1;
+        match self.tables.append(seq, &who, entry, changes, outgoing) {
+            Ok(()) => {
+                self.entries = seq;
+                Ok(())
+            }
+            Err(fault) => {
+                self.shut = true;
+                Err(fault)
+            }
+        }
+    }
+
+    #[tactic(auto, using(book_tables::proofs::Limited::spends_both, book_tables::proofs::Limited::spends_same))]
+    fn stock_rows(&mut self, who: Who) -> Result<Option<Vec<StockRow>>, Fault>
+        ensures rows { OfKept (standing_of S.Store self.old) (standing_of S.Store self.new)
+            (λ L. IfOk result (λ rows. option_map (λ v. v.items) rows ≡ stock_of L who)) }
+        ensures same { IsUnchanged (standing_of S.Store self.old) (standing_of S.Store self.new) }
+        ensures fault { IfErr result (λ fault. IsQueryFault fault (standing_of S.Store self.old)
+            (standing_of S.Store self.new)) }
+        ensures shut { (standing_of S.Store self.old).shut ≡ true → IsErrOf result Fault.Reopen }
+        ensures uncounted { OnOk result (self.new.tables.refused ≡ self.old.tables.refused) }
+        ensures limit { Counts self.old.tables self.new.tables }
+        ensures allowed { OnOk result (self.old.tables.limit ≢ Some 0) }
+    {
+        if self.shut {
+            return Err(Fault::Reopen);
+        }
+        self.tables.stock_of(self.alloc, who)
+    }
+
+    #[tactic(auto, using(book_tables::proofs::Limited::spends_both, book_tables::proofs::Limited::spends_same))]
+    fn outbox(&mut self, who: Who) -> Result<Option<Vec<OutRow>>, Fault>
+        ensures rows { OfKept (standing_of S.Store self.old) (standing_of S.Store self.new)
+            (λ L. IfOk result (λ rows. option_map (λ v. v.items) rows ≡ outbox_of
+            (standing_of S.Store self.old).warehouse L who)) }
+        ensures same { IsUnchanged (standing_of S.Store self.old) (standing_of S.Store self.new) }
+        ensures fault { IfErr result (λ fault. IsQueryFault fault (standing_of S.Store self.old)
+            (standing_of S.Store self.new)) }
+        ensures shut { (standing_of S.Store self.old).shut ≡ true → IsErrOf result Fault.Reopen }
+        ensures uncounted { OnOk result (self.new.tables.refused ≡ self.old.tables.refused) }
+        ensures limit { Counts self.old.tables self.new.tables }
+        ensures allowed { OnOk result (self.old.tables.limit ≢ Some 0) }
+    {
+        if self.shut {
+            return Err(Fault::Reopen);
+        }
+        self.tables.outbox_of(self.alloc, who)
+    }
+
+    #[tactic(auto, using(book_tables::proofs::Limited::spends_both, book_tables::proofs::Limited::spends_same))]
+    fn text(&mut self, who: Who, n: u32) -> Result<Option<Option<Vec<u8>>>, Fault>
+        ensures text { OfKept (standing_of S.Store self.old) (standing_of S.Store self.new)
+            (λ L. IfOk result (λ text. option_map (option_map (λ v. v.items)) text ≡ text_of
+            (standing_of S.Store self.old).warehouse L who n)) }
+        ensures same { IsUnchanged (standing_of S.Store self.old) (standing_of S.Store self.new) }
+        ensures fault { IfErr result (λ fault. IsQueryFault fault (standing_of S.Store self.old)
+            (standing_of S.Store self.new)) }
+        ensures shut { (standing_of S.Store self.old).shut ≡ true → IsErrOf result Fault.Reopen }
+        ensures uncounted { OnOk result (self.new.tables.refused ≡ self.old.tables.refused) }
+        ensures limit { Counts self.old.tables self.new.tables }
+        ensures allowed { OnOk result (self.old.tables.limit ≢ Some 0) }
+    {
+        if self.shut {
+            return Err(Fault::Reopen);
+        }
+        self.tables.text_of(self.alloc, who, n)
+    }
+
+    #[tactic(auto, using(book_tables::proofs::Limited::spends_both, book_tables::proofs::Limited::spends_same))]
+    fn open(&mut self, who: Who) -> Result<Option<Page>, Fault>
+        ensures work { OfKept (standing_of S.Store self.old) (standing_of S.Store self.new)
+            (λ L. IfOk result (λ page. option_map open_on page ≡ open_of L who)) }
+        ensures same { IsUnchanged (standing_of S.Store self.old) (standing_of S.Store self.new) }
+        ensures fault { IfErr result (λ fault. IsQueryFault fault (standing_of S.Store self.old)
+            (standing_of S.Store self.new)) }
+        ensures shut { (standing_of S.Store self.old).shut ≡ true → IsErrOf result Fault.Reopen }
+        ensures uncounted { OnOk result (self.new.tables.refused ≡ self.old.tables.refused) }
+        ensures limit { Counts self.old.tables self.new.tables }
+        ensures allowed { OnOk result (self.old.tables.limit ≢ Some 0) }
+    {
+        if self.shut {
+            return Err(Fault::Reopen);
+        }
+        self.tables.open_of(self.alloc, who)
+    }
+
+    #[tactic(auto, using(book_tables::proofs::Limited::spends_both, book_tables::proofs::Limited::spends_same))]
+    fn depositors(&mut self) -> Result<Vec<Who>, Fault>
+        ensures whole { OfKept (standing_of S.Store self.old) (standing_of S.Store self.new)
+            (λ L. IfOk result (λ whos. whos.items ≡ enrolled L)) }
+        ensures same { IsUnchanged (standing_of S.Store self.old) (standing_of S.Store self.new) }
+        ensures fault { IfErr result (λ fault. IsQueryFault fault (standing_of S.Store self.old)
+            (standing_of S.Store self.new)) }
+        ensures shut { (standing_of S.Store self.old).shut ≡ true → IsErrOf result Fault.Reopen }
+        ensures uncounted { OnOk result (self.new.tables.refused ≡ self.old.tables.refused) }
+        ensures limit { Counts self.old.tables self.new.tables }
+        ensures allowed { OnOk result (self.old.tables.limit ≢ Some 0) }
+    {
+        if self.shut {
+            return Err(Fault::Reopen);
+        }
+        self.tables.depositors(self.alloc)
+    }
+
+    fn refused(&self) -> u64 {
+        self.tables.refused()
+    }
+
+    fn must_reopen(&self) -> bool {
+        self.shut
+    }
+}

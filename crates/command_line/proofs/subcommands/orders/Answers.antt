@@ -1,4 +1,0 @@
-use Rattle.command_line.proofs.subcommands.orders.Goals as goal
-
-pub returns : goal.returns
-returns c = c.with_at.ensures _ (c.with-command.ensures _ _ c.of_depositor-command.ensures c.order.ensures)

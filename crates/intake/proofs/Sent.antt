@@ -1,0 +1,73 @@
+-- who sent what a request submits
+use Rattle.std.proofs.Common.{◌≡◌, ℕ, List, Bool, true, false, Option, Some, None, refl, sym, ap, if◌then◌else◌}
+use Rattle.std.specs.Prelude.{Result, Ok, Err, option_map}
+use Rattle.profile.specs.declared.rules.Rules.TheVariants.{Two}
+use Rattle.profile.specs.Accepted.{depositor_of, subject}
+use Rattle.profile.specs.Clerk.{SheetKind}
+use Rattle.profile.specs.Header.{Who}
+use Rattle.profile.specs.Means.{Line}
+use Rattle.profile.specs.Refusals.{Refusal}
+use Rattle.profile.specs.Register.{Command, Interchange, command_mark}
+use Rattle.profile.specs.Response.{Method, Get, Post, OtherMethod, is_exchange}
+use Rattle.sheet_texts.specs.Texts.{sheet_of_text}
+use Rattle.intake.specs.Calls.{Call, ToDeed, ToOrder, ToExport, ToOpen, ToDepositors, depositor_of as owner_of_deed, with_sheet, by_depositor, deed_command, call_command}
+use Rattle.intake.specs.Lines.{sender_in}
+use Rattle.intake.specs.Targets.{Target, ToRoute, ToCall, hands_in, target_command}
+
+-- the depositor that a command names stands beside its key
+
+pub named_none : (c : Command) → subject c ≡ None → None ≡ depositor_of c
+named_none c e = by (depositor_of c) e
+  where
+    by : (o : Option Who) → option_map {U = Who × List ℕ} (λ w. (w, command_mark c)) o ≡ None → None ≡ o
+    by None e = refl
+    by (Some w) e = cc
+
+pub named_some : (c : Command) (w : Who) (mark : List ℕ) → subject c ≡ Some (w, mark) → Some w ≡ depositor_of c
+named_some c w mark e = by (depositor_of c) e
+  where
+    by : (o : Option Who) → option_map {U = Who × List ℕ} (λ w. (w, command_mark c)) o ≡ Some (w, mark) → Some w ≡ o
+    by None e = cc
+    by (Some v) e = sym (ap (λ (o : Option (Who × List ℕ)). option_map (λ p. p.0) o) e)
+
+-- a deed is no interchange
+
+deed_unsent : (kind : SheetKind) (o : Option Who) (ticket number body : List ℕ) → sender_in (deed_command (by_depositor kind o ticket number body)) ≡ None
+deed_unsent kind None ticket number body = refl
+deed_unsent kind (Some w) ticket number body = by (sheet_of_text Two kind body)
+  where
+    by : (s : Result (List Line) Refusal) → sender_in (deed_command (with_sheet kind w ticket number s)) ≡ None
+    by (Ok sheet) = refl
+    by (Err r) = refl
+
+call_unsent : (m : Method) (call : Call) (body : List ℕ) → sender_in (call_command m call body) ≡ None
+call_unsent Post (ToDeed kind who ticket number) body = deed_unsent kind (owner_of_deed kind who ticket number) ticket number body
+call_unsent Post (ToOrder who number) body = refl
+call_unsent Post (ToExport who) body = refl
+call_unsent Post (ToOpen who) body = refl
+call_unsent Post ToDepositors body = refl
+call_unsent Get call body = refl
+call_unsent OtherMethod call body = refl
+
+-- what isn't handed in has no sender
+
+pub unsent_at : (m : Method) (to : Target) (body : List ℕ) → hands_in m to ≡ false → None ≡ sender_in (target_command m to body)
+unsent_at m (ToRoute route) body e = by (is_exchange m route) e
+  where
+    by : (x : Bool) → x ≡ false → None ≡ sender_in (if x then Some (Interchange body) else None)
+    by true e = cc
+    by false e = refl
+unsent_at m (ToCall call) body e = by (call_command m call body) (call_unsent m call body)
+  where
+    by : (c : Option Command) → sender_in c ≡ None → None ≡ sender_in c
+    by c e = cc
+
+-- and what is has that of the interchange
+
+pub sent_at : (m : Method) (to : Target) (body : List ℕ) (o : Option Who) → hands_in m to ≡ true → o ≡ depositor_of (Interchange body) → o ≡ sender_in (target_command m to body)
+sent_at m (ToRoute route) body o e is = by (is_exchange m route) e
+  where
+    by : (x : Bool) → x ≡ true → o ≡ sender_in (if x then Some (Interchange body) else None)
+    by true e = is
+    by false e = cc
+sent_at m (ToCall call) body o e is = cc
