@@ -557,10 +557,13 @@ def kill(program, folder, kills, entries, seed):
 
 def watched(program, folder):
     """What an opening that carries a book over says where standard error is a terminal, which puts CR before each LF; and that the next one says nothing."""
-    book = long_book(folder, 2, 250)
-    for wanted in (b"".join(b"\r%d of 250 entries carried over" % done for done in (100, 200, 250)) + b"\r\n", b""):
+    steps = lambda what: b"".join(b"\r%d of 250 %s" % (done, what) for done in (100, 200, 250)) + b"\r\n"
+    over, checked = steps(b"entries carried over"), steps(b"entries")
+    book, other = long_book(folder, 2, 250), os.path.join(folder, "other.book")
+    copied(book, other)
+    for words, at, wanted in (("depositors", book, over), ("depositors", book, b""), ("verify", other, over + checked), ("verify", other, checked)):
         mine, its = pty.openpty()
-        ran = subprocess.run([program, "depositors", "--book", book], stdout=subprocess.PIPE, stderr=its, check=False)
+        ran = subprocess.run([program, words, "--book", at], stdout=subprocess.PIPE, stderr=its, check=False)
         os.write(its, b"#")
         told = b""
         while not told.endswith(b"#"):

@@ -114,19 +114,22 @@ pub fn open<S: Alter + Drop, T: FnMut(u64, u64)>(
 }
 
 /// Opens the book in a database that is in no transaction, to check it whole: its tables are read and tested against their schema anew
-/// first, so that all that `Book::verify` asks of them is known. Beyond the faults of `open` it is Device (44) where the file can't be read.
-pub fn open_anew<S: Alter + Drop>(
+/// first, so that all that `Book::verify` asks of them is known. `told` is that of `open`. Beyond the faults of `open` it is Device (44) where the
+/// file can't be read.
+pub fn open_anew<S: Alter + Drop, T: FnMut(u64, u64)>(
     alloc: Global,
     database: Connection<S>,
+    told: T,
 ) -> Result<Book<S>, CommandError>
-    requires { database.in_transaction ≡ false }
+    requires free { database.in_transaction ≡ false }
+    requires told { T.IsAlwaysCallable told }
     ensures opened { IfOk result (λ b. b.shut ≡ false) }
 {
     let tables = match Tables::new(database).reopened(alloc) {
         Ok(tables) => tables,
         Err((error, _)) => return Err(CommandError::Fault(fault(&error))),
     };
-    match Book::open_from(alloc, tables) {
+    match Book::open_from_telling(alloc, tables, told) {
         Ok(book) => Ok(book),
         Err((fault, _)) => Err(CommandError::Fault(fault)),
     }

@@ -63,20 +63,37 @@ fn work<K: Keeper, W: io::Write, E: io::Write>(
     }
 }
 
-// Opens the book in a database, and says to somebody who watches how far a book of version 1 is carried over.
+// Opens the book in a database for a job; of a book of version 1 `told` is handed how many entries are carried over of how many.
+fn open_for<S: Alter + Drop, T: FnMut(u64, u64)>(
+    alloc: Global,
+    database: Connection<S>,
+    job: &Job<'_>,
+    told: T,
+) -> Result<Book<S>, CommandError>
+    requires free { database.in_transaction ≡ false }
+    requires told { T.IsAlwaysCallable told }
+{
+    match job {
+        Job::Check => open_anew(alloc, database, told),
+        _ => open(alloc, database, told),
+    }
+}
+
+// Opens the book in a database for a job, and says to somebody who watches how far a book of version 1 is carried over.
 fn open_watched<S: Alter + Drop, E: io::Write>(
     alloc: Global,
     database: Connection<S>,
+    job: &Job<'_>,
     verbosity: Verbosity,
     err: &mut E,
 ) -> Result<Book<S>, CommandError>
     requires { database.in_transaction ≡ false }
 {
     if !verbosity.watches {
-        return open(alloc, database, |_, _| {});
+        return open_for(alloc, database, job, |_, _| {});
     }
     let mut is_told = false;
-    let opened = open(alloc, database, |done, all| {
+    let opened = open_for(alloc, database, job, |done, all| {
         is_told = true;
         verbosity.tell_progress(err, done, all, "entries carried over");
     });
@@ -98,8 +115,7 @@ fn begin<S: Alter + Drop, E: io::Write>(
 {
     match job {
         Job::Make(warehouse) => make(alloc, database, *warehouse),
-        Job::Check => open_anew(alloc, database),
-        _ => open_watched(alloc, database, verbosity, err),
+        _ => open_watched(alloc, database, job, verbosity, err),
     }
 }
 
