@@ -12,9 +12,10 @@ random moment, again and again, and at last runs to its end, at the same moment 
     end each kill may have left an answer that was being written;
   - stock and outbox are those of each file sent once: no order is there twice, and none is missing.
 
-After each kill sqlite3 says whether a copy of the files is sound. Status 1 where something differs; the folder is then kept.
+After each kill sqlite3 says whether a copy of the files is sound. Where standard error is a terminal, `take` says how far it is. Status 1 where something differs; the folder is then kept.
 """
 import os
+import pty
 import random
 import shutil
 import signal
@@ -110,6 +111,21 @@ class House:
             same(f"outbox of {who}", self.run("outbox", who.decode()), self.rules.outbox(who)[0])
 
 
+def watched(program, seed, folder):
+    """What `take` says of 120 files where standard error is a terminal, which puts CR before each LF."""
+    house = House(program, seed, folder, 120)
+    mine, its = pty.openpty()
+    words = [program, "take", house.inbox, "--at", AT, "--book", house.book]
+    ran = subprocess.run(words, stdout=subprocess.DEVNULL, stderr=its, check=False)
+    os.write(its, b"#")
+    told = b""
+    while not told.endswith(b"#"):
+        told += os.read(mine, 65536)
+    os.close(its)
+    os.close(mine)
+    same("what is said on a terminal", (ran.returncode, told), (0, b"\r100 of 120 files\r120 of 120 files\r\n#"))
+
+
 def main(words):
     option = lambda name, default: int(words[words.index(name) + 1]) if name in words else default
     files, rounds, seed = option("--files", 200), option("--rounds", 50), option("--seed", 1)
@@ -117,6 +133,8 @@ def main(words):
     program = os.path.abspath(last or os.path.join(HERE, "..", "crates", "whx12", "out", "whx12"))
     folder = tempfile.mkdtemp(prefix="taken")
     try:
+        with tempfile.TemporaryDirectory() as other:
+            watched(program, seed, other)
         house = House(program, seed, folder, files)
         killed, seen = 0, []
         for _ in range(rounds):
