@@ -324,6 +324,20 @@ def outlasts_the_idle(program, book):
     return good == 200 and cut in (100, 101) and told.count("200") == 200
 
 
+def wants_anyone(program, book):
+    """Whether an address that other machines reach is listened at only with --anyone beside it."""
+    port = free_port()
+    words = [program, "serve", *book, "--listen", f"0.0.0.0:{port}", "--count", "2"]
+    without = subprocess.run(words, capture_output=True, text=True, timeout=20, check=False)
+    with subprocess.Popen([*words, "--anyone"], stdout=subprocess.PIPE, text=True) as server:
+        wait_for(f"127.0.0.1:{port}")
+        answer = asking("127.0.0.1", port)
+        server.communicate(timeout=20)
+    good = (without.returncode, without.stdout) == (2, "") and "--anyone" in without.stderr and answer.startswith(b"HTTP/1.1 200 ")
+    print("an address that other machines reach wants --anyone" if good else f"--anyone: {without} {answer[:40]}")
+    return good
+
+
 def main():
     """Serves a new book, or asks the server that is given."""
     with tempfile.TemporaryDirectory() as folder:
@@ -351,6 +365,7 @@ def main():
         good = is_told_why(program, book) and good
         good = outlasts_the_idle(program, book) and good
         good = ends_when_replaced(program, book) and good
+        good = wants_anyone(program, book) and good
         sys.exit(0 if good else 1)
 
 

@@ -9,6 +9,8 @@ where one differs.
 
 With --server each line that a server takes (send, count, pick, recount, stock, orders, outbox, open, depositors) is asked of a server of the book, which is
 started for it at the line's moment and then killed: the same texts, the same status.
+
+A case that has `explained` is played once more, each line with --explain: what is told then, but for the lines' numbers, which a script alone tells.
 """
 import glob
 import os
@@ -81,8 +83,11 @@ def over_server(program, folder, first, rest):
     return ran
 
 
-def play(program, name, text, before, by_server):
-    """Plays a case: how many processes it took."""
+NUMBERED = re.compile(r"^refused at line \d+\n", re.MULTILINE)
+
+
+def play(program, name, text, before, by_server, more=()):
+    """Plays a case, with more words on each line: how many processes it took."""
     with tempfile.TemporaryDirectory(prefix="whx12-case-") as folder:
         write_files(before, folder)
         write_files(text, folder)
@@ -92,11 +97,14 @@ def play(program, name, text, before, by_server):
             if line and status < 2:
                 first, *rest = line.split(" ")
                 run = over_server if by_server and first in TAKEN else over_book
-                ran = run(program, folder, first, rest)
+                ran = run(program, folder, first, [*rest, *more])
                 printed, told, status = printed + ran.stdout.decode(), told + ran.stderr.decode(), max(status, ran.returncode)
                 runs += 1
         ends = found["ends"]
-        same(name, (printed, told, status), (spread(found.get("printed", ("", ""))[1]), ends[1], int(ends[0])))
+        wanted = NUMBERED.sub("", found["explained"][1]) if more else ends[1]
+        same(name, (printed, told, status), (spread(found.get("printed", ("", ""))[1]), wanted, int(ends[0])))
+        if "explained" in found and not more:
+            runs += play(program, f"{name}, explained", text, before, by_server, ["--explain"])
         return runs
 
 

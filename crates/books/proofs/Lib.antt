@@ -7,3 +7,4 @@ mod GivenLemmas
 mod RulesLemmas
 mod OpeningLemmas
 mod DaysLemmas
+mod RamLaws

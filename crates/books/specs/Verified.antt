@@ -1,7 +1,13 @@
 -- What checking a book whole goes by: a copy in memory, to which the commands of its entries were given again.
 use Rattle.std.specs.Prelude.{◌≡◌, ◌≤◌, ℕ, List, [], ◌∷◌, length, take}
 use Rattle.sqlite.specs.Effect.{Database}
-use Rattle.sqlite.specs.State.{State}
+use Rattle.sqlite.specs.State.{State, HasCleanDisk}
+use Rattle.sqlite.specs.Held.{Held, state}
+use Rattle.sqlite.specs.Store.{Ghosts}
+use Rattle.sqlite.specs.Files.{over_files}
+use Rattle.sqlite_store.specs.declared.store.FileStore.{FileStore}
+use Rattle.ram_disk.specs.Ram.{ram}
+use Rattle.ram_disk.specs.declared.RamDisk.{RamDisk}
 use Rattle.profile.specs.declared.rules.Rules.{Rules}
 use Rattle.profile.specs.declared.rules.Rules.TheVariants.{One}
 use Rattle.profile.specs.Header.{Who}
@@ -15,6 +21,14 @@ use Rattle.book_tables.specs.Standing.{Stands}
 abbrev pub last_rules : Rules → List Entry → Rules
 last_rules r [] = r
 last_rules r (e ∷ L) = last_rules e.rules L
+
+-- a database whose file and log are in memory
+abbrev pub over_ram : Ghosts (FileStore RamDisk ram)
+over_ram = over_files
+
+-- no wrong answer of such a store is ever taken as true
+abbrev pub IsAlwaysClean : {C : Type 0} → Ghosts C → Type 0
+IsAlwaysClean {C} g = (c : Held C) → HasCleanDisk (state g c)
 
 -- the book is usable for some register of the warehouse, in which no entry has rules above these
 pub record IsCopy (last : Rules) (W : Who) (copy : Standing) : Type 0 where

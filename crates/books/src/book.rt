@@ -1,4 +1,4 @@
-ghost use Rattle.std.specs.Prelude.{length, ◌≡◌, ◌≢◌, ◌⊎◌, ◌≤◌, ◌<◌, ◌^◌, ◌-◌, ◌++◌, ◌∷◌, [], List, true, false, IfErr, IfOk, OnOk, OnErr, IsErrOf, IsErrAnd, Some, option_map};
+ghost use Rattle.std.specs.Prelude.{IsTrue, length, ◌≡◌, ◌≢◌, ◌⊎◌, ◌≤◌, ◌<◌, ◌^◌, ◌-◌, ◌++◌, ◌∷◌, [], List, true, false, IfErr, IfOk, OnOk, OnErr, IsErrOf, IsErrAnd, Some, option_map};
 ghost use Rattle.profile.specs.declared.rules.Rules.TheVariants.{One, Two};
 ghost use Rattle.profile.specs.Header.{Who as Partner};
 ghost use Rattle.profile.specs.Decision as decided;
@@ -20,7 +20,7 @@ ghost use Rattle.book_tables.specs.Exits.{IsAsBefore};
 ghost use Rattle.book_tables.specs.Comparing.{AreTables, IsLaid};
 ghost use Rattle.books.specs.Carrying.{AllStandAs, BringsUp, OpensAs};
 ghost use Rattle.books.specs.Keeping.{IsKept};
-ghost use Rattle.books.specs.Verified.{StandsForMany};
+ghost use Rattle.books.specs.Verified.{IsAlwaysClean, StandsForMany};
 ghost use Rattle.book_tables.specs.Limits.{Counts};
 ghost use Rattle.book_tables.specs.Needed.{needed_part};
 ghost use Rattle.book_tables.specs.Layout.{no_layout};
@@ -30,6 +30,7 @@ ghost use Rattle.book_tables.specs.Rises.{Rises};
 ghost use Rattle.book_tables.specs.Standing.{StandsIn};
 ghost use Rattle.book_tables.specs.Taken.{has_book_table};
 
+use crate::blank::blank;
 use crate::verifying::replayed;
 use book_tables::Tables;
 use profile::Rules;
@@ -233,8 +234,10 @@ impl<S: Alter + Drop> Book<S> {
     #[tactic(auto, using(book_tables::proofs::Limited::spends_both, book_tables::proofs::Limited::spends_same))]
     pub fn verify(&mut self) -> Result<u64, Fault>
         ensures stands { (standing_of S.Store self.new).doubt ≡ 0 → IsLaid (state S.Store self.old.tables.conn)
-            → AreTables (state S.Store self.old.tables.conn).now.trees
-            → IfOk result (λ n. StandsForMany self.old.warehouse n (state S.Store self.old.tables.conn).now) }
+            → (IsTrue (state S.Store self.old.tables.conn).is_open
+            → AreTables (state S.Store self.old.tables.conn).now.trees)
+            → IfOk result (λ n. IsTrue (state S.Store self.old.tables.conn).is_open
+            × StandsForMany self.old.warehouse n (state S.Store self.old.tables.conn).now) }
         ensures whole { (standing_of S.Store self.new).doubt ≡ 0 → (L : List register.Entry)
             → (standing_of S.Store self.old).keeps L → IfOk result (λ n. n ≡ length L) }
         ensures same { IsUnchanged (standing_of S.Store self.old) (standing_of S.Store self.new) }
@@ -251,8 +254,10 @@ impl<S: Alter + Drop> Book<S> {
     pub fn verify_telling<T: FnMut(u64, u64)>(&mut self, told: T) -> Result<u64, Fault>
         requires told { T.IsAlwaysCallable told }
         ensures stands { (standing_of S.Store self.new).doubt ≡ 0 → IsLaid (state S.Store self.old.tables.conn)
-            → AreTables (state S.Store self.old.tables.conn).now.trees
-            → IfOk result (λ n. StandsForMany self.old.warehouse n (state S.Store self.old.tables.conn).now) }
+            → (IsTrue (state S.Store self.old.tables.conn).is_open
+            → AreTables (state S.Store self.old.tables.conn).now.trees)
+            → IfOk result (λ n. IsTrue (state S.Store self.old.tables.conn).is_open
+            × StandsForMany self.old.warehouse n (state S.Store self.old.tables.conn).now) }
         ensures whole { (standing_of S.Store self.new).doubt ≡ 0 → (L : List register.Entry)
             → (standing_of S.Store self.old).keeps L → IfOk result (λ n. n ≡ length L) }
         ensures same { IsUnchanged (standing_of S.Store self.old) (standing_of S.Store self.new) }
@@ -264,13 +269,34 @@ impl<S: Alter + Drop> Book<S> {
         if self.shut {
             return Err(Fault::Reopen);
         }
-        let found = replayed(
-            self.alloc,
-            &mut self.tables,
-            self.warehouse,
-            self.entries,
-            told,
-        )?;
+        let copy = blank(self.alloc, self.warehouse)?;
+        self.check_by(copy, told)
+    }
+
+    // How many entries the register has, where every table is what comes of giving their commands again to this empty book.
+    #[tactic(auto, using(book_tables::proofs::Limited::spends_both, book_tables::proofs::Limited::spends_same))]
+    fn check_by<C: Alter + Drop, T: FnMut(u64, u64)>(
+        &mut self,
+        copy: Book<C>,
+        told: T,
+    ) -> Result<u64, Fault>
+        requires clean { IsAlwaysClean C.Store }
+        requires empty { IsUsable (standing_of C.Store copy) [] }
+        requires warehouse { copy.warehouse ≡ self.old.warehouse }
+        requires told { T.IsAlwaysCallable told }
+        ensures stands { (standing_of S.Store self.new).doubt ≡ 0 → IsLaid (state S.Store self.old.tables.conn)
+            → (IsTrue (state S.Store self.old.tables.conn).is_open
+            → AreTables (state S.Store self.old.tables.conn).now.trees)
+            → IfOk result (λ n. IsTrue (state S.Store self.old.tables.conn).is_open
+            × StandsForMany self.old.warehouse n (state S.Store self.old.tables.conn).now) }
+        ensures whole { (standing_of S.Store self.new).doubt ≡ 0 → (L : List register.Entry)
+            → (standing_of S.Store self.old).keeps L → IfOk result (λ n. n ≡ length L) }
+        ensures same { IsUnchanged (standing_of S.Store self.old) (standing_of S.Store self.new) }
+        ensures fault { IfErr result (λ fault. IsQueryFault fault (standing_of S.Store self.old)
+            (standing_of S.Store self.new)) }
+        ensures limit { Counts self.old.tables self.new.tables }
+    {
+        let found = replayed(self.alloc, &mut self.tables, copy, self.entries, told)?;
         let Some(mut copy) = found else {
             return Err(Fault::NotThisBook);
         };

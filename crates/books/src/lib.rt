@@ -1,6 +1,7 @@
 //! A warehouse's book in SQLite tables: what a crash leaves is a prefix of what was answered.
 #![tactic(auto)]
 
+mod blank;
 mod book;
 mod crossing;
 mod keeping;
@@ -9,6 +10,7 @@ mod passing;
 mod reopening;
 mod verifying;
 
+pub use blank::is_blank;
 pub use book::Book;
 pub use book_tables::Tables;
 pub use crossing::across;

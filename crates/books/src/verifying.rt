@@ -8,34 +8,19 @@ ghost use Rattle.profile.specs.Register as register;
 ghost use Rattle.rules.specs.Written.{written};
 ghost use Rattle.sqlite.specs.Held.{state};
 ghost use Rattle.sqlite.specs.State.{HasCleanDisk};
-ghost use Rattle.sqlite.specs.Steps.{over_memory};
 ghost use Rattle.store.specs.Standing.{GoesOn, IsUsable};
 ghost use Rattle.books.specs.Opened.{standing_of};
 ghost use Rattle.book_tables.specs.Asking.{Went};
 ghost use Rattle.book_tables.specs.Exits.{StandsWhileOpen};
-ghost use Rattle.books.specs.Verified.{Follows, IsCopy, Stays, last_rules};
+ghost use Rattle.books.specs.Verified.{Follows, IsAlwaysClean, IsCopy, Stays, last_rules};
 
 use crate::book::{Book, GREATEST};
 use book_tables::Tables;
 use profile::Rules;
-use rules::{Entry, Warehouse, command_of};
-use sqlite::{Alter, Connection};
-use sqlite_trees::memory::MemStore;
+use rules::{Entry, command_of};
+use sqlite::Alter;
 use std::alloc::Global;
 use store::{Fault, Keeper, submit_under};
-
-// An empty book of the warehouse, in memory.
-fn blank(alloc: Global, warehouse: Warehouse) -> Result<Book<MemStore>, Fault>
-    ensures copy { IfOk result (λ b. IsCopy One warehouse (standing_of over_memory b)) }
-    ensures usable { IfOk result (λ b. IsUsable (standing_of over_memory b) []) }
-    ensures named { IfErr result (λ f. f ≡ Fault.OutOfMemory) }
-{
-    let conn = Connection::open_in_memory(alloc)?;
-    match Book::create(alloc, Tables::new(conn), warehouse) {
-        Ok(book) => Ok(book),
-        Err(_) => Err(Fault::OutOfMemory),
-    }
-}
 
 // Whether rules may be those of an entry after one under these: they never fall.
 fn may_follow(last: Rules, rules: Rules) -> bool
@@ -79,19 +64,20 @@ fn give<K: Keeper>(
 // Gives a copy the command of the entry after so many again: the entry's rules, or None where there is no entry that a command
 // made under rules that may follow the last ones. 40 where the copy lacks memory, as it would for more entries than SQLite has
 // numbers, and 41 where a call of these tables is refused.
-fn give_entry<S: Alter + Drop>(
+fn give_entry<S: Alter + Drop, C: Alter + Drop>(
     alloc: Global,
     tables: &mut Tables<S>,
-    copy: &mut Book<MemStore>,
+    copy: &mut Book<C>,
     before: u64,
     last: Rules,
 ) -> Result<Option<Rules>, Fault>
-    ensures copy { (W : Partner) → IsCopy last W (standing_of over_memory copy.old)
-        → IfOk result (λ given. IfSome given (λ rules. IsCopy rules W (standing_of over_memory copy.new))) }
+    requires { IsAlwaysClean C.Store }
+    ensures copy { (W : Partner) → IsCopy last W (standing_of C.Store copy.old)
+        → IfOk result (λ given. IfSome given (λ rules. IsCopy rules W (standing_of C.Store copy.new))) }
     ensures next { HasCleanDisk (state S.Store tables.new.conn) → (W : Partner) (L : List register.Entry)
-        → before < length L → Follows before last (state S.Store tables.old.conn) W (standing_of over_memory copy.old) L
+        → before < length L → Follows before last (state S.Store tables.old.conn) W (standing_of C.Store copy.old) L
         → IfOk result (λ given. IsSomeAnd given
-        (λ rules. Follows (before + 1) rules (state S.Store tables.new.conn) W (standing_of over_memory copy.new) L)) }
+        (λ rules. Follows (before + 1) rules (state S.Store tables.new.conn) W (standing_of C.Store copy.new) L)) }
     ensures went { Went S.Store tables.old tables.new result }
 {
     if before >= GREATEST {
@@ -103,24 +89,25 @@ fn give_entry<S: Alter + Drop>(
     }
 }
 
-/// A book in memory to which the commands of so many entries were given again, in their order, each under the rules of its entry;
-/// None where one is missing, no command made it, or the rules fall. After each, `told` is handed how many were given of how many.
-pub(crate) fn replayed<S: Alter + Drop, T: FnMut(u64, u64)>(
+/// An empty book of the warehouse, to which the commands of so many entries were given again, in their order, each under the rules of its
+/// entry; None where one is missing, no command made it, or the rules fall. After each, `told` is handed how many were given of how many.
+pub(crate) fn replayed<S: Alter + Drop, C: Alter + Drop, T: FnMut(u64, u64)>(
     alloc: Global,
     tables: &mut Tables<S>,
-    warehouse: Warehouse,
+    mut copy: Book<C>,
     entries: u64,
     mut told: T,
-) -> Result<Option<Book<MemStore>>, Fault>
+) -> Result<Option<Book<C>>, Fault>
+    requires clean { IsAlwaysClean C.Store }
+    requires empty { IsUsable (standing_of C.Store copy) [] }
     requires told { T.IsAlwaysCallable told }
-    ensures copy { IfOk result (λ o. IfSome o (λ b. IsCopy Two warehouse (standing_of over_memory b))) }
+    ensures copy { IfOk result (λ o. IfSome o (λ b. IsCopy Two copy.warehouse (standing_of C.Store b))) }
     ensures whole { HasCleanDisk (state S.Store tables.new.conn) → (L : List register.Entry) → entries ≡ length L
-        → StandsWhileOpen (state S.Store tables.old.conn) warehouse L
-        → IfOk result (λ o. IsSomeAnd o (λ b. Stays entries (state S.Store tables.new.conn) warehouse
-        (standing_of over_memory b) L)) }
+        → StandsWhileOpen (state S.Store tables.old.conn) copy.warehouse L
+        → IfOk result (λ o. IsSomeAnd o (λ b. Stays entries (state S.Store tables.new.conn) copy.warehouse
+        (standing_of C.Store b) L)) }
     ensures went { Went S.Store tables.old tables.new result }
 {
-    let mut copy = blank(alloc, warehouse)?;
     let mut last = Rules::One;
     for before in 0..entries {
         let Some(rules) = give_entry(alloc, tables, &mut copy, before, last)? else {

@@ -5,6 +5,7 @@ pub mod carried;
 pub mod changes;
 pub mod day;
 pub mod envelopes;
+pub mod explained;
 pub mod goods;
 pub mod inboxes;
 pub mod lists;

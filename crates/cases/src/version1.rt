@@ -19,6 +19,12 @@ pub const TABLES: &str = "\
 @CREATE TABLE reservation (who TEXT NOT NULL, ord TEXT NOT NULL, item TEXT NOT NULL, lot TEXT NOT NULL, quantity INTEGER NOT NULL, PRIMARY KEY (who, ord, item, lot)) STRICT
 ";
 
+/// A table of the house's own after those, with a row.
+pub const BESIDE: &str = "\
+@CREATE TABLE note (id INTEGER PRIMARY KEY, said TEXT NOT NULL UNIQUE) STRICT
+@INSERT INTO note VALUES (1, 'gate 4')
+";
+
 /// The rows of a book of ZZ WHSE1 after three entries of ZZ ACME: its enrolment, an advice of 100 BOLT, and its count, which
 /// found 90.
 pub const COUNTED: &str = "\

@@ -18,16 +18,14 @@ mod told;
 mod verbosity;
 
 pub use acts::{Ready, perform, ready_at};
-pub use causes::{
-    about_book, about_file, about_line, about_missing, about_opening, about_server, about_use,
-};
+pub use causes::{about_book, about_file, about_missing, about_opening, about_server, about_use};
 pub use clock::moment_for;
 pub use command_line::Service;
-pub use reasons::tell_reason;
+pub use reasons::{Kept, reason, tell_cause, tell_reason, tell_unready};
 pub use script::{play_over, read_lines, run_script};
 pub use served_files::ServedFile;
 pub use serving::{serve, serve_on};
 pub use shows::{Asked, ask, show};
-pub use slips::{Slip, sheet_text_of};
+pub use slips::{Slip, lines_in, sheet_text_of};
 pub use told::{CommandError, ExitStatus, tell_refusal, tell_stop, tell_text, usage};
 pub use verbosity::Verbosity;

@@ -4,10 +4,13 @@ ghost use Rattle.commands.specs.Readying.{IsChange};
 
 use crate::acts::{perform, ready_at};
 use crate::files::{MOST_SCRIPT, read_within};
+use crate::reasons::{tell_reason, tell_unready};
 use crate::shows::{ask, show};
-use crate::told::{CommandError, ExitStatus, tell_refusal, usage};
+use crate::slips::slip_of;
+use crate::told::{CommandError, ExitStatus, usage};
 use crate::verbosity::Verbosity;
 use command_line::{BookAct, Place, Show, Task, Words, line};
+use std::alloc::Global;
 use std::io;
 use std::rt::{Clock, Files};
 use store::{Keeper, Moment, Refusal, ReplayBook, Warehouse, Who};
@@ -16,8 +19,10 @@ use store::{Keeper, Moment, Refusal, ReplayBook, Warehouse, Who};
 fn change<R: Files + Clock + AllocGlobal + Clone + Drop, K: Keeper, W: io::Write, E: io::Write>(
     rt: &R,
     book: &mut K,
+    task: &Task<'_>,
     act: &BookAct<'_>,
     at: Option<Moment>,
+    verbosity: Verbosity,
     out: &mut W,
     err: &mut E,
 ) -> Result<ExitStatus, CommandError>
@@ -26,16 +31,18 @@ fn change<R: Files + Clock + AllocGlobal + Clone + Drop, K: Keeper, W: io::Write
     ensures goes { GoesOn (K.standing book.old) (K.standing book.new) }
 {
     match ready_at(rt, act, at)? {
-        Ok(made) => perform(rt, book, &made.0, made.1, Verbosity::QUIET, out, err),
-        Err(refusal) => tell_refusal(rt.alloc(), err, refusal),
+        Ok(made) => perform(rt, book, &made.0, made.1, verbosity, out, err),
+        Err(refusal) => tell_unready(rt, task, refusal, verbosity, err),
     }
 }
 
 // Shows of the book what a line asks for.
-fn look<K: Keeper, W: io::Write, E: io::Write>(
-    rt: &impl AllocGlobal,
+fn look<R: Files + AllocGlobal, K: Keeper, W: io::Write, E: io::Write>(
+    rt: &R,
     book: &mut K,
+    task: &Task<'_>,
     what: &Show<'_>,
+    verbosity: Verbosity,
     out: &mut W,
     err: &mut E,
 ) -> Result<ExitStatus, CommandError>
@@ -45,7 +52,7 @@ fn look<K: Keeper, W: io::Write, E: io::Write>(
 {
     match ask(what) {
         Ok(asked) => show(rt.alloc(), book, &asked, out, err),
-        Err(refusal) => tell_refusal(rt.alloc(), err, refusal),
+        Err(refusal) => tell_unready(rt, task, refusal, verbosity, err),
     }
 }
 
@@ -54,6 +61,7 @@ fn answer<R: Files + Clock + AllocGlobal + Clone + Drop, K: Keeper, W: io::Write
     rt: &R,
     book: &mut K,
     words: &Words<'_>,
+    verbosity: Verbosity,
     out: &mut W,
     err: &mut E,
 ) -> Result<ExitStatus, CommandError>
@@ -61,24 +69,47 @@ fn answer<R: Files + Clock + AllocGlobal + Clone + Drop, K: Keeper, W: io::Write
         (W.contents out.old) (W.contents out.new) result }
     ensures goes { GoesOn (K.standing book.old) (K.standing book.new) }
 {
-    match words {
-        Words::Over {
-            task: Task::Act { act, at },
-            ..
-        } => change(rt, book, act, *at, out, err),
-        Words::Over {
-            task: Task::Show(what),
-            ..
-        } => look(rt, book, what, out, err),
-        _ => Err(usage(rt.alloc(), "init makes a book, and here is one\n")),
+    let Words::Over { task, .. } = words else {
+        return Err(no_line(rt.alloc()));
+    };
+    match task {
+        Task::Act { act, at } => change(rt, book, task, act, *at, verbosity, out, err),
+        Task::Show(what) => look(rt, book, task, what, verbosity, out, err),
+        _ => Err(no_line(rt.alloc())),
     }
 }
 
-// Does what a row of a script or a batch asks for, over the book.
+// Tells why the book refused what a clerk's line says, where a line of the sheet is the reason.
+fn tell_why<R: Files + AllocGlobal, K: Keeper, E: io::Write>(
+    rt: &R,
+    book: &mut K,
+    words: &Words<'_>,
+    err: &mut E,
+) -> Result<(), CommandError>
+    ensures { GoesOn (K.standing book.old) (K.standing book.new) }
+{
+    let Words::Over {
+        task: Task::Act {
+            act: BookAct::Clerk(told),
+            ..
+        },
+        ..
+    } = words
+    else {
+        return Ok(());
+    };
+    match slip_of(rt, told)? {
+        Ok(slip) => tell_reason(rt.alloc(), book, &slip, err),
+        Err(_) => Ok(()),
+    }
+}
+
+// Does what a row of a script or a batch asks for, over the book. What can't be told of a refusal is left out: the refusal stands.
 fn answer_row<R: Files + Clock + AllocGlobal + Clone + Drop, K: Keeper, W: io::Write, E: io::Write>(
     rt: &R,
     book: &mut K,
     row: &str,
+    verbosity: Verbosity,
     out: &mut W,
     err: &mut E,
 ) -> Result<ExitStatus, CommandError>
@@ -86,22 +117,47 @@ fn answer_row<R: Files + Clock + AllocGlobal + Clone + Drop, K: Keeper, W: io::W
 {
     let words: Vec<&str> = row.split(' ').collect(rt.alloc())?;
     let asked = line(rt.alloc(), Place::Script, &words)?;
-    answer(rt, book, &asked, out, err)
+    let status = answer(rt, book, &asked, verbosity, out, err)?;
+    if verbosity.explains && status == ExitStatus::Refused {
+        let _ = tell_why(rt, book, &asked, err);
+    }
+    Ok(status)
 }
 
-// Says at which line of a batch it stopped. Where that can't be said, the fault is told all the same.
-fn tell_line<E: io::Write>(err: &mut E, number: usize) {
-    let _ = write!(err, "stopped at line {number}\n");
+// Says at which line of a script or a batch something was refused, or stopped it. Where that can't be said, the rest is told all the
+// same.
+fn tell_line<E: io::Write>(err: &mut E, what: &str, number: usize) {
+    let _ = write!(err, "{what} at line {number}\n");
+}
+
+// Says at which line something was refused, where that is asked for.
+fn tell_refused_line<E: io::Write>(
+    err: &mut E,
+    status: ExitStatus,
+    number: usize,
+    verbosity: Verbosity,
+) {
+    if verbosity.explains && status == ExitStatus::Refused {
+        tell_line(err, "refused", number);
+    }
 }
 
 /// Does what the lines of a text ask for over a book, one after the other. A refusal goes on; words that can't be read, and a fault, stop
-/// it, after the number of the line is told. What was done by then stays done.
+/// it, after the number of the line is told. What was done by then stays done. Where it is asked for, the number of each line that is
+/// refused is told too, with its cause before it.
 pub fn play_over<
     R: Files + Clock + AllocGlobal + Clone + Drop,
     K: Keeper,
     W: io::Write,
     E: io::Write,
->(rt: &R, book: &mut K, text: &str, out: &mut W, err: &mut E) -> Result<ExitStatus, CommandError>
+>(
+    rt: &R,
+    book: &mut K,
+    text: &str,
+    verbosity: Verbosity,
+    out: &mut W,
+    err: &mut E,
+) -> Result<ExitStatus, CommandError>
     ensures goes { GoesOn (K.standing book.old) (K.standing book.new) }
 {
     let mut status = ExitStatus::Done;
@@ -109,10 +165,13 @@ pub fn play_over<
         if row.is_empty() {
             continue;
         }
-        match answer_row(rt, book, row, out, err) {
-            Ok(next) => status = status.and(next),
+        match answer_row(rt, book, row, verbosity, out, err) {
+            Ok(next) => {
+                tell_refused_line(err, next, i + 1, verbosity);
+                status = status.and(next);
+            }
             Err(stop) => {
-                tell_line(err, i + 1);
+                tell_line(err, "stopped", i + 1);
                 return Err(stop);
             }
         }
@@ -120,49 +179,82 @@ pub fn play_over<
     Ok(status)
 }
 
-// The book that the first line makes; None where its name is refused.
-fn made<R: AllocGlobal, E: io::Write>(
+// What a line is that a book that is there can't do.
+fn no_line(alloc: Global) -> CommandError {
+    usage(alloc, "init makes a book, and here is one\n")
+}
+
+// The book that the first row makes; None where its name is refused.
+fn made<R: Files + AllocGlobal, E: io::Write>(
     rt: &R,
-    words: &Words<'_>,
+    row: &str,
+    verbosity: Verbosity,
     err: &mut E,
 ) -> Result<Option<ReplayBook>, CommandError> {
-    let Words::Over {
-        task: Task::Init { who },
-        ..
-    } = words
-    else {
+    let words: Vec<&str> = row.split(' ').collect(rt.alloc())?;
+    let Words::Over { task, .. } = line(rt.alloc(), Place::Script, &words)? else {
+        return Err(usage(rt.alloc(), "the first line is init\n"));
+    };
+    let Task::Init { who } = task else {
         return Err(usage(rt.alloc(), "the first line is init\n"));
     };
     match Who::new(who.as_bytes()) {
         Some(who) => Ok(Some(ReplayBook::new(rt.alloc(), Warehouse::new(who)))),
         None => {
-            tell_refusal(rt.alloc(), err, Refusal::BadText)?;
+            tell_unready(rt, &task, Refusal::BadText, verbosity, err)?;
             Ok(None)
         }
     }
 }
 
-// Plays the lines of a script. A refusal goes on, but of the first line; anything else that isn't done stops it.
+// Plays a row of a script: the first one makes the book, if it isn't refused.
+fn play_row<R: Files + Clock + AllocGlobal + Clone + Drop, W: io::Write, E: io::Write>(
+    rt: &R,
+    book: &mut Option<ReplayBook>,
+    row: &str,
+    verbosity: Verbosity,
+    out: &mut W,
+    err: &mut E,
+) -> Result<ExitStatus, CommandError> {
+    if let Some(book) = book {
+        return answer_row(rt, book, row, verbosity, out, err);
+    }
+    *book = made(rt, row, verbosity, err)?;
+    match book {
+        Some(_) => Ok(ExitStatus::Done),
+        None => Ok(ExitStatus::Refused),
+    }
+}
+
+// Plays the lines of a script. A refusal goes on, but of the first line; anything else that isn't done stops it. The number of such a line is
+// told where it is asked for.
 fn play<R: Files + Clock + AllocGlobal + Clone + Drop, W: io::Write, E: io::Write>(
     rt: &R,
     text: &str,
+    verbosity: Verbosity,
     out: &mut W,
     err: &mut E,
 ) -> Result<ExitStatus, CommandError> {
     let mut book: Option<ReplayBook> = None;
     let mut status = ExitStatus::Done;
-    for row in text.split('\n') {
+    for (i, row) in text.split('\n').enumerate() {
         if row.is_empty() {
             continue;
         }
-        let words: Vec<&str> = row.split(' ').collect(rt.alloc())?;
-        let asked = line(rt.alloc(), Place::Script, &words)?;
-        match &mut book {
-            Some(book) => status = status.and(answer(rt, book, &asked, out, err)?),
-            None => match made(rt, &asked, err)? {
-                Some(new) => book = Some(new),
-                None => return Ok(ExitStatus::Refused),
-            },
+        match play_row(rt, &mut book, row, verbosity, out, err) {
+            Ok(next) => {
+                tell_refused_line(err, next, i + 1, verbosity);
+                status = status.and(next);
+            }
+            Err(stop) => {
+                if verbosity.explains {
+                    tell_line(err, "stopped", i + 1);
+                }
+                return Err(stop);
+            }
+        }
+        if book.is_none() {
+            return Ok(status);
         }
     }
     match book {
@@ -184,13 +276,14 @@ pub fn read_lines<R: Files + AllocGlobal>(rt: &R, file: &str) -> Result<String, 
 }
 
 /// Runs the script in a file over a new book in memory. A script that can't be read as words is a usage fault; what was printed before
-/// it, or before a fault, stays.
+/// it, or before a fault, stays. Where it is asked for, the number of each line that is refused or stops it is told.
 pub fn run_script<R: Files + Clock + AllocGlobal + Clone + Drop, W: io::Write, E: io::Write>(
     rt: &R,
     file: &str,
+    verbosity: Verbosity,
     out: &mut W,
     err: &mut E,
 ) -> Result<ExitStatus, CommandError> {
     let text = read_lines(rt, file)?;
-    play(rt, &text, out, err)
+    play(rt, &text, verbosity, out, err)
 }

@@ -15,6 +15,8 @@ use crate::told::CommandError;
 use command_line::{ClerkWords, Deed};
 use intake::{act_of, sheet_in};
 use profile::{MOST_NUMBER, MOST_TICKET};
+use sets_in::Goods;
+use std::alloc::{AllocError, Global};
 use std::rt::Files;
 use store::{Command, Ident, Refusal, Sheet, SheetKind, Who};
 
@@ -110,6 +112,18 @@ pub fn sheet_text_of<R: Files + AllocGlobal>(
     match sheet_in(rt.alloc(), sheet_kind(told.deed), &text)? {
         Ok(_) => Ok(Ok(text)),
         Err(refusal) => Ok(Err(refusal)),
+    }
+}
+
+/// The lines of a clerk's sheet in a text, by item and then lot; None where it makes no sheet.
+pub fn lines_in(
+    alloc: Global,
+    told: &ClerkWords<'_>,
+    text: &[u8],
+) -> Result<Option<Vec<Goods>>, AllocError> {
+    match sheet_in(alloc, sheet_kind(told.deed), text)? {
+        Ok(sheet) => Ok(Some(sheet.lines(alloc)?)),
+        Err(_) => Ok(None),
     }
 }
 

@@ -14,7 +14,7 @@ pub struct Verbosity {
 const STRIDE: u64 = 100;
 
 impl Verbosity {
-    /// Nothing more, as for the lines of a script.
+    /// Nothing more.
     pub const QUIET: Verbosity = Verbosity {
         explains: false,
         watches: false,

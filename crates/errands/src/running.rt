@@ -152,8 +152,8 @@ fn post<C: Courier, W: io::Write, E: io::Write>(
     }
 }
 
-// The answer to a query, whatever it is.
-fn get_any<C: Courier>(
+/// The answer to a query, whatever it is.
+pub(crate) fn get_any<C: Courier>(
     alloc: Global,
     courier: &mut C,
     server: &SocketAddr,

@@ -1,10 +1,8 @@
--- Which job over a book in a file a line asks for, and what the job comes to.
-use Rattle.std.specs.Prelude.{◌≡◌, ℕ, Bool, true, false, List, [], ◌∷◌, ◌++◌, Option, Some, None, IfSome, OnOk, codes, decimal, length}
-use Rattle.std.specs.Io.KnownBytes.{Appends}
+-- Which job over a book in a file a line asks for, and what the job comes to (Checking: that of a check).
+use Rattle.std.specs.Prelude.{◌≡◌, ℕ, Bool, true, false, List, Option, Some, None, IfSome}
 use Rattle.profile.specs.Header.{who_of}
 use Rattle.profile.specs.Moments.{Moment}
-use Rattle.profile.specs.Register.{Entry}
-use Rattle.store.specs.Standing.{Standing, IsUnchanged, GoesOn}
+use Rattle.store.specs.Standing.{Standing, GoesOn}
 use Rattle.commands.specs.Acting.{Ending, IsPerformed}
 use Rattle.commands.specs.Looking.{IsAskedFor, IsLook}
 use Rattle.commands.specs.Readying.{IsMadeReady}
@@ -34,17 +32,3 @@ IsWork old new (job.Change ready moment) before behind ending = IsPerformed old 
 IsWork old new (job.Look asked) before behind ending = IsLook old new asked before behind ending
 IsWork old new (job.Play text) before behind ending = GoesOn old new
 IsWork old new other before behind ending = Unit {0}
-
--- what is printed of a book whose tables are what its register gives: how many entries it has
-abbrev pub told_whole : ℕ → List ℕ
-told_whole n = codes "ok " ++ decimal n ++ 10 ∷ []
-
--- a book was checked whole, and is as before
-pub record IsChecked (old new : Standing) (before behind : Option (List ℕ)) (ending : Ending) : Type 0 where
-  pub told : new.doubt ≡ 0 → (L : List Entry) → old.keeps L → OnOk ending (Appends before behind (told_whole (length L)))
-  pub same : IsUnchanged old new
-
--- what comes of a job over a book in tables
-abbrev pub IsJobDone : Standing → Standing → Job → Option (List ℕ) → Option (List ℕ) → Ending → Type 0
-IsJobDone old new job.Check before behind ending = IsChecked old new before behind ending
-IsJobDone old new other before behind ending = IsWork old new other before behind ending

@@ -11,9 +11,10 @@ ghost use Rattle.store.specs.Standing.{IsUsable};
 ghost use Rattle.book_tables.specs.Carrying.{StandsOpenAs};
 ghost use Rattle.book_tables.specs.Layout.{no_layout};
 ghost use Rattle.books.specs.Opened.{standing_of};
+ghost use Rattle.running.specs.Checking.{IsReadAnew};
 ghost use Rattle.running.specs.Faults as meant;
 
-use books::{Book, Tables};
+use books::{Book, Tables, is_blank};
 use commands::CommandError;
 use sqlite::{Alter, Connection, Error, ErrorCode, FileStore};
 use sqlite_disk::Disk;
@@ -48,15 +49,6 @@ pub fn disconnect<D: Disk + Drop>(database: Connection<FileStore<D>>) -> Result<
         Ok(()) => Ok(()),
         Err(error) => Err(CommandError::Fault(fault(&error))),
     }
-}
-
-// Whether a database holds nothing yet: no table, no index and no view.
-fn is_blank<S: Alter + Drop>(database: &Connection<S>) -> bool
-    ensures blank { result ≡ true → (state S.Store database.now).now.schema ≡ no_layout }
-    ensures used { result ≡ false → (state S.Store database.now).now.schema ≢ no_layout }
-{
-    let schema = database.schema();
-    schema.tables.len() == 0 && schema.indexes.len() == 0 && schema.views.len() == 0
 }
 
 /// Makes the book of a warehouse in a database that is in no transaction. NotThisBook (43) where the database holds anything already, a
@@ -124,6 +116,8 @@ pub fn open_anew<S: Alter + Drop, T: FnMut(u64, u64)>(
     requires free { database.in_transaction ≡ false }
     requires told { T.IsAlwaysCallable told }
     ensures opened { IfOk result (λ b. b.shut ≡ false) }
+    ensures anew { IfOk result (λ b. HasCleanDisk (state S.Store b.tables.conn)
+        → IsReadAnew (state S.Store database) (state S.Store b.tables.conn)) }
 {
     let tables = match Tables::new(database).reopened(alloc) {
         Ok(tables) => tables,

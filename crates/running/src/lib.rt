@@ -3,6 +3,7 @@
 #![tactic(auto)]
 
 mod book_files;
+mod checking;
 mod over_file;
 mod over_server;
 mod run;

@@ -1,19 +1,20 @@
 //! What a line says, done over the book in a file: words are tested and files read before the book is opened, and it is closed
 //! before the line is done.
-ghost use Rattle.std.specs.Prelude.{◌≡◌, ◌≤◌, List, false, length, IfOk};
-ghost use Rattle.profile.specs.Register.{Entry};
-ghost use Rattle.store.specs.Standing.{IsUnchanged};
-ghost use Rattle.books.specs.Opened.{standing_of};
+ghost use Rattle.std.specs.Prelude.{◌≡◌, ◌≤◌, false, IfOk};
+ghost use Rattle.sqlite.specs.Held.{state};
+ghost use Rattle.sqlite.specs.State.{HasCleanDisk};
 ghost use Rattle.commands.specs.Stops.{fault_in};
-ghost use Rattle.running.specs.Working.{IsChecked, IsJobDone, IsJobFor, IsWork};
+ghost use Rattle.running.specs.Checking.{IsReadAnew};
+ghost use Rattle.running.specs.Working.{IsJobFor, IsWork};
 
 use crate::book_files::{close, disconnect, fault, is_in_use, make, open, open_anew};
+use crate::checking::check_over;
 use books::Book;
 use command_line::{Service, Task};
 use commands::{
-    Asked, CommandError, ExitStatus, Ready, ServedFile, Verbosity, about_book, about_line,
-    about_missing, about_opening, about_use, ask, moment_for, perform, play_over, read_lines,
-    ready_at, serve, show, tell_reason, tell_refusal,
+    Asked, CommandError, ExitStatus, Ready, ServedFile, Verbosity, about_book, about_missing,
+    about_opening, about_use, ask, moment_for, perform, play_over, read_lines, ready_at, serve,
+    show, tell_reason, tell_unready,
 };
 use sqlite::{Alter, Connection, FileStore};
 use sqlite_disk::Disk;
@@ -21,11 +22,11 @@ use std::alloc::Global;
 use std::rt::{Clock, Files};
 use std::time::Duration;
 use std::{fs, io, thread};
-use store::{Fault, Keeper, Moment, Refusal, Warehouse, Who};
+use store::{Keeper, Moment, Refusal, Warehouse, Who};
 
 // What is to be done over a book, its words tested and its files read.
 #[derive(Drop)]
-enum Job<'a> {
+pub(crate) enum Job<'a> {
     // make it
     Make(Warehouse),
     // change the book
@@ -56,7 +57,7 @@ fn work<K: Keeper, W: io::Write, E: io::Write>(
         Job::Make(_) | Job::Check => Ok(ExitStatus::Done),
         Job::Change(ready, moment) => perform(rt, book, ready, *moment, verbosity, out, err),
         Job::Look(asked) => show(rt.alloc(), book, asked, out, err),
-        Job::Play(text) => play_over(rt, book, text, out, err),
+        Job::Play(text) => play_over(rt, book, text, verbosity, out, err),
         Job::Listen(service, first, has_clock, file) => serve(
             rt, book, file, service, *first, *has_clock, verbosity, out, err,
         ),
@@ -72,6 +73,8 @@ fn open_for<S: Alter + Drop, T: FnMut(u64, u64)>(
 ) -> Result<Book<S>, CommandError>
     requires free { database.in_transaction ≡ false }
     requires told { T.IsAlwaysCallable told }
+    ensures anew { job.now ≡ Job.Check → IfOk result (λ b. HasCleanDisk (state S.Store b.tables.conn)
+        → IsReadAnew (state S.Store database) (state S.Store b.tables.conn)) }
 {
     match job {
         Job::Check => open_anew(alloc, database, told),
@@ -79,8 +82,9 @@ fn open_for<S: Alter + Drop, T: FnMut(u64, u64)>(
     }
 }
 
-// Opens the book in a database for a job, and says to somebody who watches how far a book of version 1 is carried over.
-fn open_watched<S: Alter + Drop, E: io::Write>(
+/// Opens the book in a database for a job, and says to somebody who watches how far a book of version 1 is carried over. To be checked, its
+/// tables are read anew.
+pub(crate) fn open_watched<S: Alter + Drop, E: io::Write>(
     alloc: Global,
     database: Connection<S>,
     job: &Job<'_>,
@@ -88,6 +92,8 @@ fn open_watched<S: Alter + Drop, E: io::Write>(
     err: &mut E,
 ) -> Result<Book<S>, CommandError>
     requires { database.in_transaction ≡ false }
+    ensures anew { job.now ≡ Job.Check → IfOk result (λ b. HasCleanDisk (state S.Store b.tables.conn)
+        → IsReadAnew (state S.Store database) (state S.Store b.tables.conn)) }
 {
     if !verbosity.watches {
         return open_for(alloc, database, job, |_, _| {});
@@ -119,61 +125,6 @@ fn begin<S: Alter + Drop, E: io::Write>(
     }
 }
 
-// Checks a book whole, and says to somebody who watches how far it is until then.
-fn watched<S: Alter + Drop, E: io::Write>(
-    book: &mut Book<S>,
-    verbosity: Verbosity,
-    err: &mut E,
-) -> Result<u64, Fault>
-    ensures whole { (standing_of S.Store book.new).doubt ≡ 0 → (L : List Entry)
-        → (standing_of S.Store book.old).keeps L → IfOk result (λ n. n ≡ length L) }
-    ensures same { IsUnchanged (standing_of S.Store book.old) (standing_of S.Store book.new) }
-{
-    if !verbosity.watches {
-        return book.verify();
-    }
-    let found = book.verify_telling(|done, all| {
-        verbosity.tell_progress(err, done, all, "entries");
-    });
-    if found.is_err() {
-        verbosity.end_progress(err);
-    }
-    found
-}
-
-// Says how many entries a book has whose tables are what its register gives.
-fn check<S: Alter + Drop, W: io::Write, E: io::Write>(
-    book: &mut Book<S>,
-    verbosity: Verbosity,
-    out: &mut W,
-    err: &mut E,
-) -> Result<ExitStatus, CommandError>
-    ensures checked { IsChecked (standing_of S.Store book.old) (standing_of S.Store book.new)
-        (W.contents out.old) (W.contents out.new) result }
-{
-    let entries = watched(book, verbosity, err)?;
-    write!(out, "ok {entries}\n")?;
-    Ok(ExitStatus::Done)
-}
-
-// Does a job over a book in a database. To check it whole is not for a book of any kind.
-fn done<S: Alter + Drop, W: io::Write, E: io::Write>(
-    rt: &HostRuntime,
-    book: &mut Book<S>,
-    job: &Job<'_>,
-    verbosity: Verbosity,
-    out: &mut W,
-    err: &mut E,
-) -> Result<ExitStatus, CommandError>
-    ensures done { IsJobDone (standing_of S.Store book.old) (standing_of S.Store book.new) job.now
-        (W.contents out.old) (W.contents out.new) result }
-{
-    match job {
-        Job::Check => check(book, verbosity, out, err),
-        _ => work(rt, book, job, verbosity, out, err),
-    }
-}
-
 // Tells why what a clerk did was refused. What can't be told is left out: the refusal stands.
 fn explain<K: Keeper, E: io::Write>(alloc: Global, book: &mut K, job: &Job<'_>, err: &mut E) {
     if let Job::Change(Ready::Clerk(slip), _) = job {
@@ -181,7 +132,7 @@ fn explain<K: Keeper, E: io::Write>(alloc: Global, book: &mut K, job: &Job<'_>, 
     }
 }
 
-// Opens the book in a database, or makes it, does a job over it, and closes it. At a fault the database is let go as it is: its log has all
+// Opens the book in a database, or makes it, does a job over it, and closes it; or checks it whole, which isn't for a book of any kind. At a fault the database is let go as it is: its log has all
 // that was answered, and nothing more is written to a store that has just failed.
 fn work_over<S: Alter + Drop, W: io::Write, E: io::Write>(
     rt: &HostRuntime,
@@ -193,8 +144,11 @@ fn work_over<S: Alter + Drop, W: io::Write, E: io::Write>(
 ) -> Result<(ExitStatus, Connection<S>), CommandError>
     requires { database.in_transaction ≡ false }
 {
+    if let Job::Check = job {
+        return check_over(rt.alloc(), database, verbosity, out, err);
+    }
     let mut book = begin(rt.alloc(), database, job, verbosity, err)?;
-    let status = done(rt, &mut book, job, verbosity, out, err)?;
+    let status = work(rt, &mut book, job, verbosity, out, err)?;
     if verbosity.explains && status == ExitStatus::Refused {
         explain(rt.alloc(), &mut book, job, err);
     }
@@ -332,24 +286,6 @@ fn job_of<'a, R: Files + Clock + AllocGlobal>(
             Ok(Ok(Job::Listen(*service, first, at.is_none(), served)))
         }
     }
-}
-
-/// Tells why a line's words or files are refused, and where it is asked for which of them it is.
-pub(crate) fn tell_unready<R: Files + AllocGlobal, E: io::Write>(
-    rt: &R,
-    task: &Task<'_>,
-    refusal: Refusal,
-    verbosity: Verbosity,
-    err: &mut E,
-) -> Result<ExitStatus, CommandError> {
-    let status = tell_refusal(rt.alloc(), err, refusal)?;
-    if verbosity.explains {
-        if let Some(cause) = about_line(rt, task, refusal)? {
-            err.write_all(cause.as_bytes())?;
-            err.write_all(b"\n")?;
-        }
-    }
-    Ok(status)
 }
 
 /// Does over the book in a file what a line says; a book that is in use is waited for, 5 seconds where the line doesn't say how long. A

@@ -1,8 +1,7 @@
 //! What a line says, done by a running server.
-use crate::over_file::tell_unready;
 use command_line::Task;
-use commands::{CommandError, ExitStatus, Verbosity};
-use errands::{Network, carry_out, errand_of};
+use commands::{CommandError, ExitStatus, Verbosity, tell_unready};
+use errands::{Listening, Network, carry_out, errand_of, tell_reason_there};
 use std::io;
 use std::net::SocketAddr;
 
@@ -18,8 +17,13 @@ pub fn run_over_server<W: io::Write, E: io::Write>(
 ) -> Result<ExitStatus, CommandError> {
     match errand_of(rt, task)? {
         Ok(errand) => {
-            let mut network = Network::new(rt, *server);
-            carry_out(rt.alloc(), &mut network, server, &errand, out, err)
+            let (alloc, mut courier) = (rt.alloc(), Listening::new(Network::new(rt, *server)));
+            let status = carry_out(alloc, &mut courier, server, &errand, out, err)?;
+            if verbosity.explains && status == ExitStatus::Refused {
+                // What can't be told is left out: the refusal stands.
+                let _ = tell_reason_there(alloc, &mut courier, server, &errand, err);
+            }
+            Ok(status)
         }
         Err(refusal) => tell_unready(rt, task, refusal, verbosity, err),
     }

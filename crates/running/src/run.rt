@@ -16,7 +16,7 @@ fn run_words<W: io::Write, E: io::Write>(
     err: &mut E,
 ) -> Result<ExitStatus, CommandError> {
     match words {
-        Words::Script { file } => run_script(rt, file, out, err),
+        Words::Script { file } => run_script(rt, file, verbosity, out, err),
         Words::Over {
             book: Some(file),
             wait,

@@ -10,6 +10,7 @@
 //! - `note TEXT` says more of it, and is read by nobody else than you.
 //! - `script` has the lines of its script.
 //! - `printed` has what is printed; with no such section it is nothing.
+//! - `explained` has what is told where it is asked for why lines are refused. With that the case is played so too.
 //! - `ends STATUS` has what is told on standard error, which may be nothing. With that the case is
 //!   played.
 //!
@@ -24,12 +25,13 @@ mod served;
 mod usage;
 
 use cases::scripts::{
-    acknowledged, addresses, day, envelopes, goods, lists, lots, open_work, picks, refused_sheets,
-    sheet_limits, shown,
+    acknowledged, addresses, day, envelopes, explained, goods, lists, lots, open_work, picks,
+    refused_sheets, sheet_limits, shown,
 };
 use cases::sections::section_of;
 use cases::spreading::spread;
 use cases::stories;
+use commands::Verbosity;
 use running::command;
 use std::fs;
 use std::test::Fail;
@@ -99,6 +101,12 @@ fn run_text(rt: &HostRuntime, text: &str) -> Result<Ran, Fail> {
     run(rt, &["script", "case.script"])
 }
 
+// Runs a script of this text, and asks why lines are refused.
+fn run_explained(rt: &HostRuntime, text: &str) -> Result<Ran, Fail> {
+    fs::write(rt, "case.script", text)?;
+    run(rt, &["script", "case.script", "--explain"])
+}
+
 // Runs a line of words over the book in a file, which is named after its first word. The result is
 // the exit status.
 fn run_over(
@@ -164,8 +172,32 @@ fn play_batch(rt: &HostRuntime, name: &str, script: &str, wanted: &Wanted<'_>) -
 // Plays a script over a book in memory, through a server of another one, and as a batch over a new one in a file.
 fn play_whole(rt: &HostRuntime, name: &str, script: &str, wanted: &Wanted<'_>) -> Result<(), Fail> {
     run_text(rt, script)?.compare(name, wanted)?;
-    asked::play_asked(rt, name, script, wanted)?;
+    asked::play_asked(rt, name, script, Verbosity::QUIET, wanted)?;
     play_batch(rt, name, script, wanted)
+}
+
+// Plays a script so, and asks why lines are refused. The first line of the batch is empty, so that its lines have the same numbers.
+fn play_explained(
+    rt: &HostRuntime,
+    name: &str,
+    script: &str,
+    wanted: &Wanted<'_>,
+) -> Result<(), Fail> {
+    let explains = Verbosity {
+        explains: true,
+        watches: false,
+    };
+    run_explained(rt, script)?.compare(name, wanted)?;
+    asked::play_asked(rt, name, script, explains, wanted)?;
+    let (first, rest) = script.split_once('\n').ok_or("a line")?;
+    remove_book(rt, "case.book", "case.book-wal")?;
+    run_lines(rt, "case.book", first)?;
+    fs::write(rt, "case.batch", format!(in rt.alloc(); "\n{rest}")?)?;
+    run(
+        rt,
+        &["batch", "case.batch", "--book", "case.book", "--explain"],
+    )?
+    .compare(name, wanted)
 }
 
 // Plays a script so, and line by line over another book in a file.
@@ -209,8 +241,12 @@ fn play_case(rt: &HostRuntime, case: &str, ways: Ways) -> Result<(), Fail> {
     };
     let script = section_of(sections, "script").1;
     match ways {
-        Ways::Whole => play_whole(rt, name, script, &wanted),
-        Ways::Each => play(rt, name, script, &wanted),
+        Ways::Whole => play_whole(rt, name, script, &wanted)?,
+        Ways::Each => play(rt, name, script, &wanted)?,
+    }
+    match section_of(sections, "explained").1 {
+        "" => Ok(()),
+        told => play_explained(rt, name, script, &Wanted { told, ..wanted }),
     }
 }
 
@@ -303,4 +339,15 @@ fn sheets_and_lists_are_read(rt: HostRuntime) -> Result<(), Fail> {
 fn faults_stop_a_script(rt: HostRuntime) -> Result<(), Fail> {
     play_all(&rt, cases::scripts::usage::CASES)?;
     play_all(&rt, cases::scripts::inboxes::CASES)
+}
+
+#[test]
+fn refused_lines_are_explained(rt: HostRuntime) -> Result<(), Fail> {
+    play_all(&rt, explained::CASES)?;
+    let wanted = Wanted {
+        printed: "",
+        told: explained::TOLD,
+        status: 3,
+    };
+    run_explained(&rt, explained::STOPPED)?.compare("a fault", &wanted)
 }

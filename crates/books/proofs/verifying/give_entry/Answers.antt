@@ -1,9 +1,7 @@
 use Rattle.std.proofs.Common.{◌≡◌, ◌+◌, ◌++◌, ◌∷◌, [], suc, Option, None, Some, sym, ap, subst, ◌∙◌, arith, take, drop, slice_get}
 use Rattle.std.specs.Prelude.{IsSomeAnd}
 use Rattle.std.proofs.lemmas.Result.{IfOk-weaker}
-use Rattle.sqlite.proofs.Callers.{memory_is_clean}
 use Rattle.sqlite.specs.Held.{state}
-use Rattle.sqlite.specs.Steps.{over_memory}
 use Rattle.profile.specs.declared.rules.Rules.{Rules}
 use Rattle.profile.specs.declared.rules.Rules.TheVariants.{One, Two}
 use Rattle.profile.specs.Accepted.{IsLegal}
@@ -19,7 +17,7 @@ use Rattle.books.proofs.RulesLemmas.{last_more}
 use Rattle.books.proofs.verifying.give_entry.Goals as goal
 
 pub returns-in-Some-clause-copy : goal.returns-in-Some-clause-copy
-returns-in-Some-clause-copy g c = λ W k. c.give.ensures.copy (memory_is_clean c.give.new.copy.tables.conn) W k
+returns-in-Some-clause-copy g c = λ W k. c.give.ensures.copy (c.requires c.give.new.copy.tables.conn) W k
 
 pub returns-in-Some-clause-next : goal.returns-in-Some-clause-next
 returns-in-Some-clause-next g c = λ clean W L lt h.
@@ -37,18 +35,18 @@ returns-in-Some-clause-next g c = λ clean W L lt h.
     let stands = f.stands (c.in_ok-entry.ensures.was_open clean) in
     let legal : IsLegal Two W (take i L ++ e ∷ drop (suc i) L) = subst (IsLegal Two W) t.split stands.legal in
     let legal' = subst (λ V. IsLegal Two V (take i L ++ e ∷ drop (suc i) L)) (sym f.warehouse) legal in
-    IfOk-weaker c.give.result _ _ (λ given its. subst (λ (o : Option Rules). IsSomeAnd o (λ rules. Follows (i + 1) rules new W (standing_of over_memory c.give.new.copy) L)) (sym its.0)
+    IfOk-weaker c.give.result _ _ (λ given its. subst (λ (o : Option Rules). IsSomeAnd o (λ rules. Follows (i + 1) rules new W (standing_of g.C.Store c.give.new.copy) L)) (sym its.0)
     (record {
       stays = record {
         stands = stands_later old new W L clean c.in_ok-entry.ensures.asked.left f.stands;
         fits = omega (arith, lt);
         warehouse = let goes = c.give.ensures.goes in goes.warehouse ∙ f.warehouse;
-        usable = subst (IsUsable (standing_of over_memory c.give.new.copy)) (sym t.more ∙ ap (λ n. take n L) (sym one)) its.2;
+        usable = subst (IsUsable (standing_of g.C.Store c.give.new.copy)) (sym t.more ∙ ap (λ n. take n L) (sym one)) its.2;
       };
-      legal = subst (IsLegal e.rules (standing_of over_memory c.give.new.copy).warehouse) (sym t.more ∙ ap (λ n. take n L) (sym one)) its.1;
+      legal = subst (IsLegal e.rules (standing_of g.C.Store c.give.new.copy).warehouse) (sym t.more ∙ ap (λ n. take n L) (sym one)) its.1;
       last_is = sym (last_more One (take i L) e) ∙ ap (last_rules One) (sym t.more ∙ ap (λ n. take n L) (sym one));
     }))
-    (c.give.ensures.next (memory_is_clean c.give.new.copy.tables.conn) (take i L) e (drop (suc i) L) t.row legal' h.last_is h.legal f.usable)
+    (c.give.ensures.next (c.requires c.give.new.copy.tables.conn) (take i L) e (drop (suc i) L) t.row legal' h.last_is h.legal f.usable)
 
 pub returns-in-None-clause-next : goal.returns-in-None-clause-next
 returns-in-None-clause-next g c = λ clean W L lt h.

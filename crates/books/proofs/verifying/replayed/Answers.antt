@@ -1,7 +1,6 @@
-use Rattle.std.proofs.Common.{◌≡◌, ◌+◌, rules, of_calls, arith, refl, subst, None}
+use Rattle.std.proofs.Common.{[], ◌≡◌, ◌+◌, rules, of_calls, arith, refl, subst, None}
 use Rattle.std.specs.Prelude.{IfSome, IsErrAnd, IsSomeAnd}
 use Rattle.sqlite.specs.Held.{state}
-use Rattle.sqlite.specs.Steps.{over_memory}
 use Rattle.store.specs.declared.fault.Fault.{Fault}
 use Rattle.book_tables.proofs.AskedLater.{clean_before}
 use Rattle.book_tables.proofs.Queries.{went_as, went_fails, went_on}
@@ -13,9 +12,9 @@ use Rattle.books.proofs.verifying.replayed.Goals as goal
 
 pub returns-in_err-rules-clause-went : goal.returns-in_err-rules-clause-went
 returns-in_err-rules-clause-went g c =
-    let same : IsErrAnd c.from_residual-in_err-rules.result (λ (f : Fault). f ≡ c.in_err-rules.field-0.0) = search rules in
+    let same : IsErrAnd c.from_residual.result (λ (f : Fault). f ≡ c.in_err-rules.field-0.0) = search rules in
     went_on g.S.Store c.args.tables.now c.loop-before.tables c.give_entry.new.tables tt _ c.loop-before.invariant.went
-    (went_fails g.S.Store c.loop-before.tables c.give_entry.new.tables c.in_err-rules.field-0.0 c.from_residual-in_err-rules.result same c.in_err-rules.ensures.went)
+    (went_fails g.S.Store c.loop-before.tables c.give_entry.new.tables c.in_err-rules.field-0.0 c.from_residual.result same c.in_err-rules.ensures.went)
 
 pub returns-in_default-clause-went : goal.returns-in_default-clause-went
 returns-in_default-clause-went g c =
@@ -29,19 +28,17 @@ returns-in_default-clause-whole g c = λ clean L long stands.
     let new = state g.S.Store c.give_entry.new.tables.conn in
     let its = c.in_ok-rules.ensures in
     let f = was.follows (clean_before mid new its.went.left clean) L long stands in
-    let given = its.next clean c.args.warehouse L (omega (arith, c.loop-before-test.true, long)) f in
+    let given = its.next clean c.args.copy.warehouse L (omega (arith, c.loop-before-test.true, long)) f in
     absurd (none_given c.in_ok-rules.field-0 _ c.in_default.not-Some given)
 
 pub loop-before-init : goal.loop-before-init
 loop-before-init g c =
-    let its = c.in_ok-copy.ensures in
-    let k = its.copy in
-    let u = its.usable in
+    let u = c.requires.empty in
     let l = u.legal in
     record {
-      copy = k;
+      copy = record { warehouse = refl; register = []; legal = none_legal _ l.of_a_partner; usable = u };
       follows = λ clean L long stands. record {
-        stays = record { stands = stands; fits = omega arith; warehouse = k.warehouse; usable = u };
+        stays = record { stands = stands; fits = omega arith; warehouse = refl; usable = u };
         last_is = refl;
         legal = none_legal _ l.of_a_partner;
       };
@@ -54,14 +51,14 @@ loop-before-preserved g c =
     let was = c.loop-before.invariant in
     let mid = state g.S.Store c.loop-before.tables.conn in
     let new = state g.S.Store c.give_entry.new.tables.conn in
-    let copy = standing_of over_memory c.give_entry.new.copy in
+    let copy = standing_of g.C.Store c.give_entry.new.copy in
     let its = c.in_ok-rules.ensures in
     record {
-      copy = subst (λ o. IfSome o (λ r. IsCopy r c.args.warehouse copy)) c.in-Some.is (its.copy c.args.warehouse was.copy);
+      copy = subst (λ o. IfSome o (λ r. IsCopy r c.args.copy.warehouse copy)) c.in-Some.is (its.copy c.args.copy.warehouse was.copy);
       follows = λ clean L long stands.
           let f = was.follows (clean_before mid new its.went.left clean) L long stands in
-          subst (λ o. IsSomeAnd o (λ r. Follows (c.loop-before.before + 1) r new c.args.warehouse copy L)) c.in-Some.is
-          (its.next clean c.args.warehouse L (omega (arith, c.loop-before-test.true, long)) f);
+          subst (λ o. IsSomeAnd o (λ r. Follows (c.loop-before.before + 1) r new c.args.copy.warehouse copy L)) c.in-Some.is
+          (its.next clean c.args.copy.warehouse L (omega (arith, c.loop-before-test.true, long)) f);
       told = search (rules, of_calls);
       went = went_on g.S.Store c.args.tables.now c.loop-before.tables c.give_entry.new.tables tt _ was.went
           (went_as g.S.Store c.loop-before.tables c.give_entry.new.tables c.in_ok-rules.field-0 tt its.went);
@@ -76,4 +73,4 @@ pub returns-clause-whole : goal.returns-clause-whole
 returns-clause-whole g c = λ clean L long stands.
     let f = c.loop-before.invariant.follows clean L long stands in
     let all : c.loop-before.before ≡ c.args.entries = search rules in
-    subst (λ n. Stays n (state g.S.Store c.loop-before.tables.conn) c.args.warehouse (standing_of over_memory c.loop-before.copy) L) all f.stays
+    subst (λ n. Stays n (state g.S.Store c.loop-before.tables.conn) c.args.copy.warehouse (standing_of g.C.Store c.loop-before.copy) L) all f.stays

@@ -5,7 +5,7 @@ use super::day::commands;
 use super::stopped::{Stop, are_answers_again, are_answers_from, is_whole};
 use super::worked::{acme, morning, ninety};
 use books::{Book, Tables, days};
-use cases::version1::{COUNTED, DATED, ORDERED, TABLES, hundred_lines, with_lines};
+use cases::version1::{BESIDE, COUNTED, DATED, ORDERED, TABLES, hundred_lines, with_lines};
 use reports::{outbox_list, stock_csv};
 use sqlite::{Alter, Connection};
 use sqlite_trees::memory::MemStore;
@@ -129,11 +129,13 @@ fn each_call(
     Err("a book that is never opened".into())
 }
 
-// The same of a book with an open order, of one in which a date was refused, and of one in which an
-// order of 100 lines was.
+// The same of a book with an open order, also beside a table of the house's own, of one in which a date was refused, and of one in
+// which an order of 100 lines was.
 fn each_book(alloc: Global, stop: Stop) -> Result<(), Fail> {
     let rows = format!(in alloc; "{COUNTED}{ORDERED}")?;
     let reserved = "item,lot,expiry,expected,on_hand,reserved,shipped\nBOLT,L1,,0,90,90,0\n";
+    each_call(alloc, &rows, 4, (reserved, SENT), stop)?;
+    let rows = format!(in alloc; "{BESIDE}{rows}")?;
     each_call(alloc, &rows, 4, (reserved, SENT), stop)?;
     let nothing = "item,lot,expiry,expected,on_hand,reserved,shipped\n";
     each_call(alloc, DATED, 2, (nothing, "     1 ANS -\n"), stop)?;

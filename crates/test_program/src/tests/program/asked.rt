@@ -3,11 +3,15 @@ use super::*;
 use cases::clerks::faults::UNASKED;
 use cases::clerks::{deeds, faults, looks, response_of, strays};
 use command_line::{Place, Task, Words, line};
-use commands::{CommandError, ExitStatus, play_over, tell_refusal, tell_stop};
-use errands::{Courier, carry_out, errand_of, tell_document, tell_look, tell_report};
+use commands::{CommandError, ExitStatus, Verbosity, play_over, tell_stop, tell_unready};
+use errands::{
+    Courier, Errand, Listening, carry_out, errand_of, tell_document, tell_look, tell_reason_there,
+    tell_report,
+};
 use intake::{Audience, Gauge, serve_telling};
 use remote::{Answer, Request, Unanswered, read_answer, write_request};
 use std::alloc::Global;
+use std::io::Write;
 use std::net::{Ipv4Addr, SocketAddr, SocketAddrV4};
 use store::{Fault, Moment, ReplayBook, Warehouse, Who};
 
@@ -46,25 +50,49 @@ impl Courier for InMemory<'_> {
     }
 }
 
-// Asks a server of the book for what a line says.
-fn ask_for(
+// Has a server of the book do what it is asked for, and tells why it is refused, where that is asked for.
+fn carry(
     rt: &HostRuntime,
-    courier: &mut InMemory<'_>,
-    task: &Task<'_>,
+    book: &mut ReplayBook,
+    moment: Moment,
+    errand: &Errand<'_>,
+    verbosity: Verbosity,
     out: &mut Vec<u8>,
     err: &mut Vec<u8>,
 ) -> Result<ExitStatus, CommandError> {
-    if let Task::Act {
-        at: Some(moment),
-        ..
-    } = task
-    {
-        courier.moment = *moment;
-    }
+    let alloc = rt.alloc();
     let server = SocketAddr::V4(SocketAddrV4::new(Ipv4Addr::LOCALHOST, 8080));
+    let mut courier = Listening::new(InMemory {
+        alloc,
+        book,
+        moment,
+    });
+    let status = carry_out(alloc, &mut courier, &server, errand, out, err)?;
+    if verbosity.explains && status == ExitStatus::Refused {
+        tell_reason_there(alloc, &mut courier, &server, errand, err)?;
+    }
+    Ok(status)
+}
+
+// Asks a server of the book for what a line says.
+fn ask_for(
+    rt: &HostRuntime,
+    book: &mut ReplayBook,
+    task: &Task<'_>,
+    verbosity: Verbosity,
+    out: &mut Vec<u8>,
+    err: &mut Vec<u8>,
+) -> Result<ExitStatus, CommandError> {
+    let moment = match task {
+        Task::Act {
+            at: Some(moment),
+            ..
+        } => *moment,
+        _ => Moment::new(2025, 3, 4, 9, 15).ok_or(CommandError::Fault(Fault::Device))?,
+    };
     match errand_of(rt, task)? {
-        Ok(errand) => carry_out(rt.alloc(), courier, &server, &errand, out, err),
-        Err(refusal) => tell_refusal(rt.alloc(), err, refusal),
+        Ok(errand) => carry(rt, book, moment, &errand, verbosity, out, err),
+        Err(refusal) => tell_unready(rt, task, refusal, verbosity, err),
     }
 }
 
@@ -74,39 +102,43 @@ const ASKED: &str = "send count pick recount stock orders outbox open depositors
 // Plays a line of a script: through a server of the book, if one takes it.
 fn play_line(
     rt: &HostRuntime,
-    courier: &mut InMemory<'_>,
+    book: &mut ReplayBook,
     row: &str,
+    verbosity: Verbosity,
     out: &mut Vec<u8>,
     err: &mut Vec<u8>,
 ) -> Result<ExitStatus, CommandError> {
     let first = row.split(' ').next().unwrap_or("");
     if !ASKED.split(' ').any(|name| name == first) {
-        return play_over(rt, courier.book, row, out, err);
+        return play_over(rt, book, row, Verbosity::QUIET, out, err);
     }
     let words: Vec<&str> = row.split(' ').collect(rt.alloc())?;
     match line(rt.alloc(), Place::Script, &words)? {
-        Words::Over { task, .. } => ask_for(rt, courier, &task, out, err),
+        Words::Over { task, .. } => ask_for(rt, book, &task, verbosity, out, err),
         _ => Err(CommandError::Fault(Fault::Device)),
     }
 }
 
 // Plays the lines after the first of a script that no fault ends, which makes the book.
-fn play_lines(rt: &HostRuntime, book: &mut ReplayBook, rest: &str) -> Result<Ran, Fail> {
+fn play_lines(
+    rt: &HostRuntime,
+    book: &mut ReplayBook,
+    rest: &str,
+    verbosity: Verbosity,
+) -> Result<Ran, Fail> {
     let (mut out, mut err) = (Vec::new(rt.alloc()), Vec::new(rt.alloc()));
-    let mut courier = InMemory {
-        alloc: rt.alloc(),
-        book,
-        moment: Moment::new(2025, 3, 4, 9, 15).ok_or("a moment")?,
-    };
     let mut status = ExitStatus::Done;
-    for row in rest.split('\n') {
+    for (i, row) in rest.split('\n').enumerate() {
         if row.is_empty() {
             continue;
         }
-        match play_line(rt, &mut courier, row, &mut out, &mut err) {
-            Ok(next) => status = status.and(next),
-            Err(_) => return Err("a fault".into()),
+        let Ok(next) = play_line(rt, book, row, verbosity, &mut out, &mut err) else {
+            return Err("a fault".into());
+        };
+        if verbosity.explains && next == ExitStatus::Refused {
+            write!(err, "refused at line {}\n", i + 2)?;
         }
+        status = status.and(next);
     }
     Ran::new(rt, status.code(), &out, &err)
 }
@@ -116,6 +148,7 @@ pub(super) fn play_asked(
     rt: &HostRuntime,
     name: &str,
     script: &str,
+    verbosity: Verbosity,
     wanted: &Wanted<'_>,
 ) -> Result<(), Fail> {
     let (first, rest) = script.split_once('\n').ok_or("a line")?;
@@ -123,7 +156,7 @@ pub(super) fn play_asked(
     match who {
         Some(who) if wanted.status < 2 => {
             let mut book = ReplayBook::new(rt.alloc(), Warehouse::new(who));
-            play_lines(rt, &mut book, rest)?.compare(name, wanted)
+            play_lines(rt, &mut book, rest, verbosity)?.compare(name, wanted)
         }
         _ => Ok(()),
     }

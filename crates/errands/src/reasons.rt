@@ -1,0 +1,147 @@
+//! Why a book at a server refuses what a clerk did, for people. A server says the number of a refusal alone, so it is asked for what its book
+//! has of the sheet's pairs.
+use crate::answers::{Answered, heard};
+use crate::courier::Courier;
+use crate::errand::Errand;
+use crate::running::get_any;
+use command_line::{ClerkWords, Show};
+use commands::{CommandError, Kept, lines_in, reason, tell_cause};
+use remote::{Answer, Request, Unanswered};
+use std::alloc::{AllocError, Global};
+use std::io;
+use std::net::SocketAddr;
+use store::Refusal;
+
+/// Carries requests as another courier does, and keeps what the last answer came to, as that to a command.
+#[derive(Drop)]
+pub struct Listening<C: Courier> {
+    inner: C,
+    last: Option<Answered>,
+}
+
+impl<C: Courier> Listening<C> {
+    /// A courier that has heard nothing yet.
+    pub fn new(inner: C) -> Listening<C> {
+        Listening { inner, last: None }
+    }
+
+    // What the last answer refused, if it refused something.
+    fn refusal(&self) -> Option<Refusal> {
+        match self.last {
+            Some(Answered::Refused(refusal)) => Some(refusal),
+            _ => None,
+        }
+    }
+}
+
+impl<C: Courier> Courier for Listening<C> {
+    ghost brings = { λ old verb path body answer new. C.brings old.inner verb path body answer new.inner };
+
+    fn carry(&mut self, request: &Request<'_>) -> Result<Answer, Unanswered> {
+        let answer = self.inner.carry(request)?;
+        self.last = Some(heard(answer.status, answer.is_interchange, &answer.body));
+        Ok(answer)
+    }
+}
+
+// The shortest line of a picking sheet that has a pair: its columns are 20, 12 and 6 wide.
+const HELD_LINE: usize = 40;
+
+// A pair of item and lot, and how much of it is reserved, in a line of a picking sheet; None of another line.
+fn held_in(line: &str) -> Option<Kept<'_>> {
+    if line.len() < HELD_LINE || line.starts_with(' ') {
+        return None;
+    }
+    let mut words = line.split_ascii_whitespace();
+    let (item, lot, reserved) = (words.next()?, words.next()?, words.next()?);
+    if words.next().is_some() {
+        return None;
+    }
+    Some(Kept {
+        item: item.as_bytes(),
+        lot: lot.as_bytes(),
+        reserved: reserved.parse().ok()?,
+        is_counted: true,
+    })
+}
+
+// A pair of item and lot, and how much of it is reserved, in a record of the stock as CSV; None of its headings. That a count named the
+// pair is known where something is on hand, reserved or shipped.
+fn stocked_in(record: &str) -> Option<Kept<'_>> {
+    let mut fields = record.split(',');
+    let (item, lot) = (fields.next()?, fields.next()?);
+    let mut amounts = fields.skip(2);
+    let on_hand: u64 = amounts.next()?.parse().ok()?;
+    let reserved: u64 = amounts.next()?.parse().ok()?;
+    let shipped: u64 = amounts.next()?.parse().ok()?;
+    Some(Kept {
+        item: item.as_bytes(),
+        lot: lot.as_bytes(),
+        reserved,
+        is_counted: on_hand > 0 || reserved > 0 || shipped > 0,
+    })
+}
+
+// The pairs in a report: a picking sheet, or the stock as CSV.
+fn pairs_in<'a>(
+    alloc: Global,
+    refusal: Refusal,
+    report: &'a str,
+) -> Result<Vec<Kept<'a>>, AllocError> {
+    let mut kept = Vec::new(alloc);
+    for line in report.split('\n') {
+        let pair = match refusal {
+            Refusal::NotReserved => held_in(line),
+            _ => stocked_in(line),
+        };
+        if let Some(pair) = pair {
+            kept.push(pair)?;
+        }
+    }
+    Ok(kept)
+}
+
+// What shows why what a clerk did is refused; None where no line of the sheet is the reason.
+fn shown_for<'a>(refusal: Refusal, told: &ClerkWords<'a>) -> Option<Show<'a>> {
+    match refusal {
+        Refusal::NotReserved => Some(Show::Order {
+            who: told.who,
+            number: told.number,
+        }),
+        Refusal::UnknownLot | Refusal::BelowReserved => Some(Show::Stock {
+            who: told.who,
+            is_csv: true,
+        }),
+        _ => None,
+    }
+}
+
+/// Tells why the book at a server refused what a clerk did (26 to 28), by one more request, for the order's picking sheet or the stock.
+/// Nothing is told where no line of the sheet is the reason, or the server doesn't show it.
+pub fn tell_reason_there<C: Courier, E: io::Write>(
+    alloc: Global,
+    courier: &mut Listening<C>,
+    server: &SocketAddr,
+    errand: &Errand<'_>,
+    err: &mut E,
+) -> Result<(), CommandError> {
+    let (Errand::Deed(told, sheet), Some(refusal)) = (errand, courier.refusal()) else {
+        return Ok(());
+    };
+    let Some(show) = shown_for(refusal, told) else {
+        return Ok(());
+    };
+    let answer = get_any(alloc, courier, server, &show)?;
+    let (Ok(report), Some(lines)) = (str::from_utf8(&answer.body), lines_in(alloc, told, sheet)?)
+    else {
+        return Ok(());
+    };
+    if answer.status != 200 {
+        return Ok(());
+    }
+    let kept = pairs_in(alloc, refusal, report)?;
+    if let Some(why) = reason(alloc, refusal, &lines, &kept)? {
+        tell_cause(err, &why)?;
+    }
+    Ok(())
+}

@@ -1,0 +1,29 @@
+use Rattle.std.proofs.Common.{◌≡◌, refl, sym, subst, arith, IsTrue}
+use Rattle.sqlite.specs.Effect.{Database}
+use Rattle.sqlite.specs.Held.{state}
+use Rattle.sqlite.specs.State.{HasCleanDisk}
+use Rattle.book_tables.specs.Comparing.{AreTables, IsLaid}
+use Rattle.book_tables.specs.Layout.{IsLayout}
+use Rattle.running.specs.Checking.{TellsWhole}
+use Rattle.running.proofs.checking.check_over.Goals as goal
+
+pub returns : goal.returns
+returns g c = record {
+  whole = λ clean.
+      let opened = state g.S.Store c.in_ok-book.book.tables.conn in
+      let checked = c.in_ok-status.ensures.checked in
+      let goes = checked.same.goes in
+      let clean' : HasCleanDisk (state g.S.Store c.check.new.book.tables.conn) = subst (λ k. HasCleanDisk (state g.S.Store k)) c.close.ensures clean in
+      let was : HasCleanDisk opened = omega (arith, goes.doubt, clean') in
+      let anew = c.in_ok-book.ensures.anew refl was in
+      record {
+        read = anew.read;
+        trees = anew.trees;
+        told = λ laid second.
+            let same : IsTrue opened.is_open → opened.now ≡ anew.read = λ here. (anew.tables laid second here).0 in
+            let is_laid : IsLaid opened = λ here. subst (λ (d : Database). IsLayout d.schema) (sym (same here)) laid in
+            let whole = c.in_ok-status.ensures.stands clean' is_laid
+            (λ here. subst (λ (d : Database). AreTables d.trees) (sym (same here)) (anew.tables laid second here).1) in
+            subst (λ (d : Database). TellsWhole d (g.W.Write.contents c.args.out.now) (g.W.Write.contents c.check.new.out)) (same whole.0) whole.1;
+      };
+}

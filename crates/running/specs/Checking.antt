@@ -1,0 +1,42 @@
+-- What a check of the book in a database tells.
+use Rattle.std.specs.Prelude.{◌≡◌, ℕ, List, [], ◌∷◌, ◌++◌, Option, OnOk, codes, decimal, length, IsTrue}
+use Rattle.std.specs.Io.KnownBytes.{Appends}
+use Rattle.profile.specs.Header.{Who}
+use Rattle.profile.specs.Register.{Entry}
+use Rattle.sqlite.specs.Effect.{Database}
+use Rattle.sqlite.specs.State.{State}
+use Rattle.store.specs.Standing.{Standing, IsUnchanged}
+use Rattle.book_tables.specs.Asking.{IsOfFirst}
+use Rattle.book_tables.specs.Comparing.{AreTables}
+use Rattle.book_tables.specs.Layout.{IsLayout}
+use Rattle.books.specs.Verified.{StandsForMany}
+use Rattle.commands.specs.Acting.{Ending}
+
+-- what is printed of a book whose tables are what its register gives: how many entries it has
+abbrev pub told_whole : ℕ → List ℕ
+told_whole n = codes "ok " ++ decimal n ++ 10 ∷ []
+
+-- a book was checked whole, and is as before
+pub record IsChecked (old new : Standing) (before behind : Option (List ℕ)) (ending : Ending) : Type 0 where
+  pub told : new.doubt ≡ 0 → (L : List Entry) → old.keeps L → OnOk ending (Appends before behind (told_whole (length L)))
+  pub same : IsUnchanged old new
+
+-- the database stands for a register, and how many entries that has is printed
+pub record TellsWhole (db : Database) (before behind : Option (List ℕ)) : Type 0 where
+  pub warehouse : Who
+  pub entries : ℕ
+  pub stands : StandsForMany warehouse entries db
+  pub told : Appends before behind (told_whole entries)
+
+-- The tables that were committed to a database, as they are read anew: where they are a book's of version 2, their rows rise by their
+-- rowids, and opening the book leaves them as they are.
+pub record IsReadAnew (file opened : State) : Type 0 where
+  pub read : Database
+  pub trees : read.trees ≡ (let db = file.committed in db.trees)
+  pub tables : IsLayout read.schema → (IsOfFirst read → ⊥) → IsTrue opened.is_open → (opened.now ≡ read) × AreTables read.trees
+
+-- what was committed to a database is read anew; where that is a book of version 2, it stands for a register of so many entries as are printed
+pub record IsFoundWhole (file : State) (before behind : Option (List ℕ)) : Type 0 where
+  pub read : Database
+  pub trees : read.trees ≡ (let db = file.committed in db.trees)
+  pub told : IsLayout read.schema → (IsOfFirst read → ⊥) → TellsWhole read before behind

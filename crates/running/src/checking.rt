@@ -1,0 +1,84 @@
+//! A book in a database checked whole: its tables are read anew, and compared with what its register gives.
+ghost use Rattle.std.specs.Prelude.{◌≡◌, List, false, length, IfOk, IsTrue};
+ghost use Rattle.profile.specs.Register.{Entry};
+ghost use Rattle.sqlite.specs.Held.{state};
+ghost use Rattle.sqlite.specs.State.{HasCleanDisk};
+ghost use Rattle.store.specs.Standing.{IsUnchanged};
+ghost use Rattle.book_tables.specs.Comparing.{AreTables, IsLaid};
+ghost use Rattle.books.specs.Opened.{standing_of};
+ghost use Rattle.books.specs.Verified.{StandsForMany};
+ghost use Rattle.running.specs.Checking.{IsChecked, IsFoundWhole, TellsWhole};
+
+use crate::book_files::close;
+use crate::over_file::{Job, open_watched};
+use books::Book;
+use commands::{CommandError, ExitStatus, Verbosity};
+use sqlite::{Alter, Connection};
+use std::alloc::Global;
+use std::io;
+use store::Fault;
+
+// Checks a book whole, and says to somebody who watches how far it is until then.
+fn watched<S: Alter + Drop, E: io::Write>(
+    book: &mut Book<S>,
+    verbosity: Verbosity,
+    err: &mut E,
+) -> Result<u64, Fault>
+    ensures stands { (standing_of S.Store book.new).doubt ≡ 0 → IsLaid (state S.Store book.old.tables.conn)
+        → (IsTrue (state S.Store book.old.tables.conn).is_open
+        → AreTables (state S.Store book.old.tables.conn).now.trees)
+        → IfOk result (λ n. IsTrue (state S.Store book.old.tables.conn).is_open
+        × StandsForMany book.old.warehouse n (state S.Store book.old.tables.conn).now) }
+    ensures whole { (standing_of S.Store book.new).doubt ≡ 0 → (L : List Entry)
+        → (standing_of S.Store book.old).keeps L → IfOk result (λ n. n ≡ length L) }
+    ensures same { IsUnchanged (standing_of S.Store book.old) (standing_of S.Store book.new) }
+{
+    if !verbosity.watches {
+        return book.verify();
+    }
+    let found = book.verify_telling(|done, all| {
+        verbosity.tell_progress(err, done, all, "entries");
+    });
+    if found.is_err() {
+        verbosity.end_progress(err);
+    }
+    found
+}
+
+// Says how many entries a book has whose tables are what its register gives.
+fn check<S: Alter + Drop, W: io::Write, E: io::Write>(
+    book: &mut Book<S>,
+    verbosity: Verbosity,
+    out: &mut W,
+    err: &mut E,
+) -> Result<ExitStatus, CommandError>
+    ensures checked { IsChecked (standing_of S.Store book.old) (standing_of S.Store book.new)
+        (W.contents out.old) (W.contents out.new) result }
+    ensures stands { (standing_of S.Store book.new).doubt ≡ 0 → IsLaid (state S.Store book.old.tables.conn)
+        → (IsTrue (state S.Store book.old.tables.conn).is_open
+        → AreTables (state S.Store book.old.tables.conn).now.trees)
+        → IfOk result (λ _. IsTrue (state S.Store book.old.tables.conn).is_open
+        × TellsWhole (state S.Store book.old.tables.conn).now (W.contents out.old) (W.contents out.new)) }
+{
+    let entries = watched(book, verbosity, err)?;
+    write!(out, "ok {entries}\n")?;
+    Ok(ExitStatus::Done)
+}
+
+/// Reads the tables of the book in a database anew, says how many entries it has where every table is what its register gives, and closes it.
+/// NotThisBook (43) where one isn't, or the tables are no book; the other faults are those of an opening and of a query.
+pub(crate) fn check_over<S: Alter + Drop, W: io::Write, E: io::Write>(
+    alloc: Global,
+    database: Connection<S>,
+    verbosity: Verbosity,
+    out: &mut W,
+    err: &mut E,
+) -> Result<(ExitStatus, Connection<S>), CommandError>
+    requires { database.in_transaction ≡ false }
+    ensures whole { IfOk result (λ r. HasCleanDisk (state S.Store r.1)
+        → IsFoundWhole (state S.Store database) (W.contents out.old) (W.contents out.new)) }
+{
+    let mut book = open_watched(alloc, database, &Job::Check, verbosity, err)?;
+    let status = check(&mut book, verbosity, out, err)?;
+    Ok((status, close(book)))
+}
