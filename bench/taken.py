@@ -12,6 +12,9 @@ random moment, again and again, and at last runs to its end, at the same moment 
     end each kill may have left an answer that was being written;
   - stock and outbox are those of each file sent once: no order is there twice, and none is missing.
 
+Before that a folder of three files is taken twice at one moment: first the advice is `accepted`, then it is `stored`, and both times the other files are refused
+alike; the answers are the same bytes after the second time as after the first, that of the advice 265.
+
 After each kill sqlite3 says whether a copy of the files is sound. Where standard error is a terminal, `take` says how far it is. Status 1 where something differs; the folder is then kept.
 """
 import os
@@ -126,6 +129,34 @@ def watched(program, seed, folder):
     same("what is said on a terminal", (ran.returncode, told), (0, b"\r100 of 120 files\r120 of 120 files\r\n#"))
 
 
+ADVICE = (b"ISA*00*          *00*          *ZZ*ACME           *ZZ*WHSE1          *250304*0915*U*00401*000000001*1*P*>~GS*AR*ACME*WHSE1*20250304*0915*1*X*004010~"
+          b"ST*943*0001~W06*F*PO77*20250303*SHP1~W04*100*EA**SK*BOLT~N9*LT*L1~W03*100~SE*6*0001~GE*1*1~IEA*1*000000001~")
+
+
+def taken_twice(program, folder):
+    """A folder taken twice at one moment."""
+    os.mkdir(f"{folder}/inbox")
+    for name, text in {"a.x12": ADVICE, "b.x12": ADVICE.replace(b"100", b"101"), "c.x12": ADVICE[:100]}.items():
+        with open(f"{folder}/inbox/{name}", "wb") as file:
+            file.write(text)
+    at, seen = ["--book", f"{folder}/book", "--at", "2025-03-04T09:15"], []
+    for words in (["init", "ZZ-WHSE1"], ["enrol", "ZZ-ACME"]):
+        subprocess.run([program, *words, *at], check=True)
+    for told in ("accepted", "stored"):
+        ran = subprocess.run([program, "take", f"{folder}/inbox", *at], capture_output=True, text=True, check=False)
+        answers = {}
+        for name in sorted(os.listdir(f"{folder}/inbox")):
+            if name.endswith(".ans"):
+                with open(f"{folder}/inbox/{name}", "rb") as file:
+                    answers[name] = file.read()
+        wanted = (1, f"a.x12 {told}\nb.x12 refused 025\nc.x12 unreadable\n", "")
+        if (ran.returncode, ran.stdout, ran.stderr) != wanted:
+            raise Wrong(f"a folder taken twice: {ran}")
+        seen.append(answers)
+    if seen[0] != seen[1] or list(seen[0]) != ["a.x12.ans", "b.x12.ans"] or len(seen[0]["a.x12.ans"]) != 265:
+        raise Wrong(f"a folder taken twice: {seen}")
+
+
 def main(words):
     option = lambda name, default: int(words[words.index(name) + 1]) if name in words else default
     files, rounds, seed = option("--files", 200), option("--rounds", 50), option("--seed", 1)
@@ -135,6 +166,8 @@ def main(words):
     try:
         with tempfile.TemporaryDirectory() as other:
             watched(program, seed, other)
+        with tempfile.TemporaryDirectory() as other:
+            taken_twice(program, other)
         house = House(program, seed, folder, files)
         killed, seen = 0, []
         for _ in range(rounds):
@@ -146,7 +179,7 @@ def main(words):
         print(f"{wrong}\nkept: {folder}")
         return 1
     print(f"{files} files, {killed} kills of {rounds} before the end; after the first there were {seen[0]} answers, after the last {seen[-1]}; "
-          "each answer is right, and every file is in the book once")
+          "each answer is right, and every file is in the book once; a folder taken twice at one moment has the same answers")
     shutil.rmtree(folder)
     return 0
 

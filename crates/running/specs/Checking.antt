@@ -3,7 +3,7 @@ use Rattle.std.specs.Prelude.{◌≡◌, ℕ, List, [], ◌∷◌, ◌++◌, Opt
 use Rattle.std.specs.Io.KnownBytes.{Appends}
 use Rattle.profile.specs.Header.{Who}
 use Rattle.profile.specs.Register.{Entry}
-use Rattle.sqlite.specs.Effect.{Database}
+use Rattle.sqlite.specs.Effect.{Database, IsDatabase}
 use Rattle.sqlite.specs.State.{State}
 use Rattle.store.specs.Standing.{Standing, IsUnchanged}
 use Rattle.book_tables.specs.Asking.{IsOfFirst}
@@ -28,15 +28,18 @@ pub record TellsWhole (db : Database) (before behind : Option (List ℕ)) : Type
   pub stands : StandsForMany warehouse entries db
   pub told : Appends before behind (told_whole entries)
 
--- The tables that were committed to a database, as they are read anew: where they are a book's of version 2, their rows rise by their
--- rowids, and opening the book leaves them as they are.
+-- What was committed to a database, read anew with the schema that it lists: where that is a book of version 2, the rows of its tables
+-- rise by their rowids, and opening the book leaves them as they are.
 pub record IsReadAnew (file opened : State) : Type 0 where
   pub read : Database
+  pub sound : IsDatabase read
   pub trees : read.trees ≡ (let db = file.committed in db.trees)
   pub tables : IsLayout read.schema → (IsOfFirst read → ⊥) → IsTrue opened.is_open → (opened.now ≡ read) × AreTables read.trees
 
--- what was committed to a database is read anew; where that is a book of version 2, it stands for a register of so many entries as are printed
+-- what was committed to a database is read anew with the schema that it lists; where that is a book of version 2, it stands for a register
+-- of so many entries as are printed
 pub record IsFoundWhole (file : State) (before behind : Option (List ℕ)) : Type 0 where
   pub read : Database
+  pub sound : IsDatabase read
   pub trees : read.trees ≡ (let db = file.committed in db.trees)
   pub told : IsLayout read.schema → (IsOfFirst read → ⊥) → TellsWhole read before behind

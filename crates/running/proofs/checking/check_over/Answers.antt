@@ -18,6 +18,7 @@ returns g c = record {
       let anew = c.in_ok-book.ensures.anew refl was in
       record {
         read = anew.read;
+        sound = anew.sound;
         trees = anew.trees;
         told = λ laid second.
             let same : IsTrue opened.is_open → opened.now ≡ anew.read = λ here. (anew.tables laid second here).0 in
