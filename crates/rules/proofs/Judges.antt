@@ -13,14 +13,13 @@ use Rattle.profile.specs.History.{traded, unless, judged, by_segment, Rejection}
 use Rattle.tables.specs.Judged.{told}
 use Rattle.tables.specs.declared.faults.SetFault.{SetFault as Fault}
 use Rattle.stock.specs.Stops.{StopsFor}
-use Rattle.stock.specs.declared.steps.Stop.{Stop}
-use Rattle.stock.specs.declared.steps.Stop.TheVariants as stopped
+use Rattle.stock.specs.declared.steps.SetStop.{SetStop}
+use Rattle.stock.specs.declared.steps.SetStop.TheVariants as stopped
 use Rattle.rules.specs.Judging.{IsStop}
 
 -- a fault, or the event
-stops : (e : Event) (fault : Option SetFault) (outcome : Result Event SetFault) (stop : Stop) → outcome ≡ unless fault e → StopsFor fault stop → IsStop outcome stop
-stops e fault outcome (stopped.Set f) is h = is ∙ ap (λ (o : Option SetFault). unless o e) h
-stops e fault outcome (stopped.Refused n) is h = h
+stops : (e : Event) (fault : Option SetFault) (outcome : Result Event SetFault) (stop : SetStop) → outcome ≡ unless fault e → StopsFor fault stop → IsStop outcome stop
+stops e fault outcome (stopped.Fault f) is h = is ∙ ap (λ (o : Option SetFault). unless o e) h
 stops e fault outcome stopped.OutOfMemory is h = tt
 
 advised_is : (r : Rules) (es : List Event) (n : ℕ) (kind : SetKind) (ss : List Segment) (a : Advice) → kind ≡ ShipmentAdvice → a ≡ advice_of ss
@@ -31,7 +30,7 @@ pub advised_ok : (r : Rules) (es : List Event) (n : ℕ) (kind : SetKind) (ss : 
     → advice_fault es a ≡ None → traded r es n kind ss ≡ Ok (Advised a)
 advised_ok r es n kind ss a is same none = advised_is r es n kind ss a is same ∙ ap (λ (o : Option SetFault). unless o (Advised a)) none
 
-pub advised_stops : (r : Rules) (es : List Event) (n : ℕ) (kind : SetKind) (ss : List Segment) (a : Advice) (stop : Stop) → kind ≡ ShipmentAdvice → a ≡ advice_of ss
+pub advised_stops : (r : Rules) (es : List Event) (n : ℕ) (kind : SetKind) (ss : List Segment) (a : Advice) (stop : SetStop) → kind ≡ ShipmentAdvice → a ≡ advice_of ss
     → StopsFor (advice_fault es a) stop → IsStop (traded r es n kind ss) stop
 advised_stops r es n kind ss a stop is same h = stops (Advised a) (advice_fault es a) (traded r es n kind ss) stop (advised_is r es n kind ss a is same) h
 
@@ -43,7 +42,7 @@ pub ordered_ok : (r : Rules) (es : List Event) (n : ℕ) (kind : SetKind) (ss : 
     → order_fault es o ≡ None → traded r es n kind ss ≡ Ok (Ordered o (order_shares r es o))
 ordered_ok r es n kind ss o is same none = ordered_is r es n kind ss o is same ∙ ap (λ (x : Option SetFault). unless x (Ordered o (order_shares r es o))) none
 
-pub ordered_stops : (r : Rules) (es : List Event) (n : ℕ) (kind : SetKind) (ss : List Segment) (o : Order) (stop : Stop) → kind ≡ ShippingOrder → o ≡ order_of ss
+pub ordered_stops : (r : Rules) (es : List Event) (n : ℕ) (kind : SetKind) (ss : List Segment) (o : Order) (stop : SetStop) → kind ≡ ShippingOrder → o ≡ order_of ss
     → StopsFor (order_fault es o) stop → IsStop (traded r es n kind ss) stop
 ordered_stops r es n kind ss o stop is same h = stops (Ordered o (order_shares r es o)) (order_fault es o) (traded r es n kind ss) stop (ordered_is r es n kind ss o is same) h
 
@@ -76,6 +75,6 @@ judged_traded r d es n kind k q ps qs is same ruled none of =
     ∙ sym (judged_sound r d es n kind (segments_of ps) (none d of)))
 
 -- a trade fault that stopped it
-pub stopped_by : (outcome : Result Event SetFault) (stop : Stop) (f : Fault) (r : Rejection) → stop ≡ stopped.Set f → IsStop outcome stop
+pub stopped_by : (outcome : Result Event SetFault) (stop : SetStop) (f : Fault) (r : Rejection) → stop ≡ stopped.Fault f → IsStop outcome stop
     → r ≡ record { code = 5; segment = Some (told f) } → by_segment outcome ≡ Err r
 stopped_by outcome stop f r is h same = by_segment_err outcome (told f) r (subst (IsStop outcome) is h) same

@@ -17,9 +17,9 @@ use Rattle.stock.specs.declared.steps.Change.{Change}
 use Rattle.stock.specs.Parts.{Named, IsPart}
 use Rattle.stock.specs.Shows.{Shows}
 use Rattle.rules.specs.Needs.{NamesSets, NamesGroup, NamesGroups}
-use Rattle.stock.specs.declared.steps.Stop.{Stop}
+use Rattle.stock.specs.declared.steps.SetStop.{SetStop}
 use Rattle.rules.specs.Proper.{AreProper}
-use Rattle.stock.specs.declared.steps.Stop.TheVariants as stopped
+use Rattle.stock.specs.declared.steps.SetStop.TheVariants as stopped
 use Rattle.rules.specs.declared.judging.Verdict.{Verdict}
 use Rattle.rules.specs.declared.judging.Verdict.TheVariants.{Passed, Rejected}
 
@@ -28,9 +28,8 @@ abbrev pub IsStep : PageFacts → List Event → Result Event SetFault → List 
 IsStep p es outcome cs = (e : Event) × (outcome ≡ Ok e) × Shows (put cs p) (es ++ e ∷ []) × AreProper p cs
 
 -- the trade fault of this outcome, or want of memory
-abbrev pub IsStop : Result Event SetFault → Stop → Type 0
-IsStop outcome (stopped.Set f) = outcome ≡ Err (told f)
-IsStop outcome (stopped.Refused n) = ⊥
+abbrev pub IsStop : Result Event SetFault → SetStop → Type 0
+IsStop outcome (stopped.Fault f) = outcome ≡ Err (told f)
 IsStop outcome stopped.OutOfMemory = Unit {0}
 
 -- changes of this outcome are proper, and put in they are the page with its event

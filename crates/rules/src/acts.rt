@@ -30,10 +30,10 @@ use crate::refusals::Refusal;
 use profile::{MOST_ENTRIES, Rules};
 use sets_out::Envelope;
 use std::alloc::{AllocError, Global};
-use stock::{Change, Page, Step, Stop, pick, receive, recount};
+use stock::{ActStop, Change, Page, Step, pick, receive, recount};
 
 /// What an act's event changes on the page.
-pub(crate) fn perform(alloc: Global, page: &Page, act: &Act<'_>) -> Result<Step, Stop>
+pub(crate) fn perform(alloc: Global, page: &Page, act: &Act<'_>) -> Result<Step, ActStop>
     requires { page.now.recent < most_sets }
     ensures ok { IfOk result (λ step. (n : Named) (P : PageFacts) (es : List Event) → IsPart n page.now P
         → NamesAct n page.now (act_of act.now) → Shows P es
@@ -89,7 +89,7 @@ fn entry(
 }
 
 // The refusal that stopped an act.
-fn refused(alloc: Global, stop: Stop) -> Result<Decision, AllocError>
+fn refused(alloc: Global, stop: ActStop) -> Result<Decision, AllocError>
     ensures comes { IfOk result (IsNoEntry) }
     ensures reply { IfOk result (λ d. (es : List Event) (number : ℕ) (act : register.Act)
         → StopsAct (performed es number act) stop
@@ -97,8 +97,8 @@ fn refused(alloc: Global, stop: Stop) -> Result<Decision, AllocError>
         → IsReply r n c t (recalled.act_told W h e (performed es number act)) d) }
 {
     match stop {
-        Stop::Refused(number) => Ok(Decision::Refused(numbered(number), Vec::new(alloc))),
-        _ => Err(AllocError),
+        ActStop::Refused(number) => Ok(Decision::Refused(numbered(number), Vec::new(alloc))),
+        ActStop::OutOfMemory => Err(AllocError),
     }
 }
 

@@ -22,7 +22,7 @@ use segments::Segment;
 use sets_in::{ack, advice, order};
 use sets_out::{ElementFault, Rejection, SegmentFault};
 use std::alloc::{AllocError, Global};
-use stock::{Page, Step, Stop, acknowledge, announce, reserve};
+use stock::{Page, SetStop, Step, acknowledge, announce, reserve};
 use tables::{Checked, SetFault, SetKind, judge};
 
 /// What a set came to.
@@ -54,7 +54,7 @@ fn in_segment<'a>(fault: &SetFault<'a>) -> Rejection<'a>
 }
 
 // The step of an advice.
-fn advised(alloc: Global, page: &Page, set: &Checked<'_>) -> Result<Step, Stop>
+fn advised(alloc: Global, page: &Page, set: &Checked<'_>) -> Result<Step, SetStop>
     requires kind { set.now.kind ≡ kinds.ShipmentAdvice }
     requires room { page.now.recent < most_sets }
     ensures ok { IfOk result (λ step. (n : Named) (P : PageFacts) (es : List Event) → IsPart n page.now P
@@ -71,7 +71,7 @@ fn advised(alloc: Global, page: &Page, set: &Checked<'_>) -> Result<Step, Stop>
 }
 
 // The step of an order.
-fn ordered(alloc: Global, page: &Page, set: &Checked<'_>) -> Result<Step, Stop>
+fn ordered(alloc: Global, page: &Page, set: &Checked<'_>) -> Result<Step, SetStop>
     requires kind { set.now.kind ≡ kinds.ShippingOrder }
     requires room { page.now.recent < most_sets }
     ensures ok { IfOk result (λ step. (n : Named) (P : PageFacts) (es : List Event) → IsPart n page.now P
@@ -88,7 +88,7 @@ fn ordered(alloc: Global, page: &Page, set: &Checked<'_>) -> Result<Step, Stop>
 }
 
 // The step of an acknowledgment.
-fn acknowledged(alloc: Global, page: &Page, set: &Checked<'_>) -> Result<Step, Stop>
+fn acknowledged(alloc: Global, page: &Page, set: &Checked<'_>) -> Result<Step, SetStop>
     requires kind { set.now.kind ≡ kinds.FunctionalAcknowledgment }
     requires room { page.now.recent < most_sets }
     ensures ok { IfOk result (λ step. (n : Named) (P : PageFacts) (es : List Event) → IsPart n page.now P
@@ -105,7 +105,7 @@ fn acknowledged(alloc: Global, page: &Page, set: &Checked<'_>) -> Result<Step, S
 }
 
 // The step of a set without a fault of its own, or its trade fault.
-fn traded(alloc: Global, page: &Page, set: &Checked<'_>) -> Result<Step, Stop>
+fn traded(alloc: Global, page: &Page, set: &Checked<'_>) -> Result<Step, SetStop>
     requires { page.now.recent < most_sets }
     ensures ok { IfOk result (λ step. (n : Named) (P : PageFacts) (es : List Event) → IsPart n page.now P
         → NamesSet n set.now.kind (segments_of set.now.pieces) → Shows P es
@@ -134,8 +134,8 @@ fn settled<'a>(alloc: Global, page: &Page, set: &Checked<'a>) -> Result<Verdict<
 {
     match traded(alloc, page, set) {
         Ok(step) => Ok(Verdict::Passed(step)),
-        Err(Stop::Set(fault)) => Ok(Verdict::Rejected(in_segment(&fault))),
-        Err(_) => Err(AllocError),
+        Err(SetStop::Fault(fault)) => Ok(Verdict::Rejected(in_segment(&fault))),
+        Err(SetStop::OutOfMemory) => Err(AllocError),
     }
 }
 

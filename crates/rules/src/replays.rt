@@ -36,7 +36,7 @@ use envelope::{Halt, Interchange, Isa, isa, structure};
 use profile::{MOST_ENTRIES, Rules};
 use sets_out::Envelope;
 use std::alloc::{AllocError, Global};
-use stock::{Page, Step, Stop};
+use stock::{ActStop, Page, Step};
 
 /// A page with one entry of the register more, and the text that went out for it.
 #[derive(Drop)]
@@ -160,14 +160,14 @@ fn received(
 }
 
 // An act that was stopped came to nothing.
-fn stopped(alloc: Global, page: Page, stop: Stop) -> Result<Replayed, AllocError>
+fn stopped(alloc: Global, page: Page, stop: ActStop) -> Result<Replayed, AllocError>
     ensures { IfOk result (λ r. (r.page ≡ page) × (r.outgoing.items ≡ [])
         × ((outcome : Result Event Refusal) → StopsAct outcome stop → (refusal : Refusal)
         × (outcome ≡ Err refusal))) }
 {
     match stop {
-        Stop::OutOfMemory => Err(AllocError),
-        Stop::Set(_) | Stop::Refused(_) => Ok(nothing(alloc, page)),
+        ActStop::Refused(_) => Ok(nothing(alloc, page)),
+        ActStop::OutOfMemory => Err(AllocError),
     }
 }
 

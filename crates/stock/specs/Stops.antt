@@ -6,8 +6,10 @@ use Rattle.profile.specs.Means.{Acknowledgment}
 use Rattle.profile.specs.Events.{Event}
 use Rattle.profile.specs.Refusals.{Refusal, refusal_number}
 use Rattle.tables.specs.Judged.{told}
-use Rattle.stock.specs.declared.steps.Stop.{Stop}
-use Rattle.stock.specs.declared.steps.Stop.TheVariants.{Set, Refused, OutOfMemory}
+use Rattle.stock.specs.declared.steps.SetStop.{SetStop}
+use Rattle.stock.specs.declared.steps.SetStop.TheVariants as sets
+use Rattle.stock.specs.declared.steps.ActStop.{ActStop}
+use Rattle.stock.specs.declared.steps.ActStop.TheVariants as acts
 use Rattle.stock.specs.declared.steps.Change.{Change}
 use Rattle.stock.specs.declared.steps.Change.TheVariants.{Stock, Advice, Order, Document}
 use Rattle.stock.specs.Told.{changed_rows}
@@ -15,16 +17,14 @@ use Rattle.stock.specs.Pages.{PageFacts, advice_at, order_at}
 use Rattle.stock.specs.Steps.{decides}
 
 -- a set's trade fault, or want of memory
-abbrev pub StopsFor : Option SetFault → Stop → Type 0
-StopsFor fault (Set f) = fault ≡ Some (told f)
-StopsFor fault (Refused n) = ⊥
-StopsFor fault OutOfMemory = Unit {0}
+abbrev pub StopsFor : Option SetFault → SetStop → Type 0
+StopsFor fault (sets.Fault f) = fault ≡ Some (told f)
+StopsFor fault sets.OutOfMemory = Unit {0}
 
 -- an act's refusal, or want of memory
-abbrev pub StopsAct : Result Event Refusal → Stop → Type 0
-StopsAct outcome (Set f) = ⊥
-StopsAct outcome (Refused n) = (r : Refusal) × (outcome ≡ Err r) × (refusal_number r ≡ n)
-StopsAct outcome OutOfMemory = Unit {0}
+abbrev pub StopsAct : Result Event Refusal → ActStop → Type 0
+StopsAct outcome (acts.Refused n) = (r : Refusal) × (outcome ≡ Err r) × (refusal_number r ≡ n)
+StopsAct outcome acts.OutOfMemory = Unit {0}
 
 -- the rows of pairs that changed
 abbrev pub row_changes : PageFacts → PageFacts → List Change

@@ -16,7 +16,7 @@ use crate::known_advices::KnownAdvice;
 use crate::lines::advised;
 use crate::page::Page;
 use crate::rows::{Column, add_lines, date_lines, touched};
-use crate::steps::{Change, Step, Stop};
+use crate::steps::{Change, SetStop, Step};
 use sets_in::{Advice, Goods};
 use std::alloc::{AllocError, Global};
 
@@ -53,7 +53,7 @@ fn changes(alloc: Global, page: &Page, advice: &Advice) -> Result<Vec<Change>, A
 /// Opens an advice: each of its lines is added to what is expected of its pair, and gives a pair without a date of expiry its
 /// own, if it has one. The error is the trade fault at the least position (a known shipment number, a pair that stands twice
 /// or has another date, a W03 that isn't the sum), or want of memory.
-pub fn announce(alloc: Global, page: &Page, advice: &Advice) -> Result<Step, Stop>
+pub fn announce(alloc: Global, page: &Page, advice: &Advice) -> Result<Step, SetStop>
     requires { page.now.recent < most_sets }
     ensures ok { IfOk result (λ step. (n : Named) (P : PageFacts) (es : List Event) → IsPart n page.now P → NamesAdvice n advice.now → Shows P es → (advice_fault es advice.now ≡ None) × Shows (put step.changes.items P) (es ++ Advised advice.now ∷ [])) }
     ensures err { IfErr result (λ stop. (n : Named) (P : PageFacts) (es : List Event) → IsPart n page.now P → NamesAdvice n advice.now → Shows P es → StopsFor (advice_fault es advice.now) stop) }
@@ -62,7 +62,7 @@ pub fn announce(alloc: Global, page: &Page, advice: &Advice) -> Result<Step, Sto
 {
     let is_known = page.has_advice(advice.shipment());
     if let Some(fault) = advice_fault(alloc, advice, is_known, page.rows())? {
-        return Err(Stop::Set(fault));
+        return Err(SetStop::Fault(fault));
     }
     let changes = changes(alloc, page, advice)?;
     Ok(Step { changes })

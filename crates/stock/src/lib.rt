@@ -40,4 +40,4 @@ pub use recounts::recount;
 pub use reservations::reserve;
 pub use rows::Row;
 pub use sheets::{Line, Sheet, SheetKind};
-pub use steps::{Change, Step, Stop};
+pub use steps::{ActStop, Change, SetStop, Step};

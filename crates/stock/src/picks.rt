@@ -18,7 +18,7 @@ use crate::known_orders::KnownOrder;
 use crate::lines::{exceeds, joined};
 use crate::page::Page;
 use crate::rows::{ship, touched};
-use crate::steps::{Change, Step, Stop};
+use crate::steps::{ActStop, Change, Step};
 use sheets::Sheet;
 use std::alloc::{AllocError, Global};
 
@@ -56,7 +56,7 @@ fn changes(
 /// Ships the goods of an order under the number of the next entry: what the sheet says goes from what is on hand, and
 /// nothing is reserved for the order any more. The error is 24 (there is no such order), 25 (it was picked), 26 (a line
 /// exceeds what is reserved for the order of its pair), each over all lines, or want of memory.
-pub fn pick(alloc: Global, page: &Page, number: &[u8], sheet: &Sheet) -> Result<Step, Stop>
+pub fn pick(alloc: Global, page: &Page, number: &[u8], sheet: &Sheet) -> Result<Step, ActStop>
     requires { page.now.recent < most_sets }
     ensures ok { IfOk result (λ step. (n : Named) (P : PageFacts) (es : List Event) → IsPart n page.now P → NamesPick n page.now number.now sheet.now → Shows P es
         → (e : Event) × (picked es (page.now.entries + 1) number.now sheet.now ≡ Ok e) × Shows (put step.changes.items P) (es ++ e ∷ [])) }
@@ -68,14 +68,14 @@ pub fn pick(alloc: Global, page: &Page, number: &[u8], sheet: &Sheet) -> Result<
     // what is known of every page
     let _ = page.rows();
     let Some(order) = page.order(number) else {
-        return Err(Stop::Refused(24));
+        return Err(ActStop::Refused(24));
     };
     if !order.is_open {
-        return Err(Stop::Refused(25));
+        return Err(ActStop::Refused(25));
     }
     let goods = sheet.lines(alloc)?;
     if exceeds(&order.reserved, &goods) {
-        return Err(Stop::Refused(26));
+        return Err(ActStop::Refused(26));
     }
     let changes = changes(alloc, page, order, sheet)?;
     Ok(Step { changes })

@@ -17,7 +17,7 @@ use crate::known_advices::KnownAdvice;
 use crate::lines::joined;
 use crate::page::Page;
 use crate::rows::{count, touched};
-use crate::steps::{Change, Step, Stop};
+use crate::steps::{ActStop, Change, Step};
 use sheets::Sheet;
 use std::alloc::{AllocError, Global};
 
@@ -59,7 +59,7 @@ fn changes(
 
 /// Counts the goods of an advice under the number of the next entry: nothing of it is expected any more, and what the sheet
 /// says is on hand. The error is 22 (there is no such advice), 23 (it was counted), or want of memory.
-pub fn receive(alloc: Global, page: &Page, shipment: &[u8], sheet: &Sheet) -> Result<Step, Stop>
+pub fn receive(alloc: Global, page: &Page, shipment: &[u8], sheet: &Sheet) -> Result<Step, ActStop>
     requires { page.now.recent < most_sets }
     ensures ok { IfOk result (λ step. (n : Named) (P : PageFacts) (es : List Event) → IsPart n page.now P → NamesCount n page.now shipment.now sheet.now → Shows P es
         → (e : Event) × (counted es (page.now.entries + 1) shipment.now sheet.now ≡ Ok e) × Shows (put step.changes.items P) (es ++ e ∷ [])) }
@@ -69,10 +69,10 @@ pub fn receive(alloc: Global, page: &Page, shipment: &[u8], sheet: &Sheet) -> Re
     ensures sound { IfOk result (λ step. IsSound (put step.changes.items page.now)) }
 {
     let Some(advice) = page.advice(shipment) else {
-        return Err(Stop::Refused(22));
+        return Err(ActStop::Refused(22));
     };
     if !advice.is_open() {
-        return Err(Stop::Refused(23));
+        return Err(ActStop::Refused(23));
     }
     let changes = changes(alloc, page, advice, sheet)?;
     Ok(Step { changes })

@@ -17,7 +17,7 @@ use crate::changes::row_changes;
 use crate::documents::Function;
 use crate::page::Page;
 use crate::rows::{Column, Row, amount_of, set_lines, since_of, touched};
-use crate::steps::{Change, Step, Stop};
+use crate::steps::{ActStop, Change, Step};
 use sets_in::Goods;
 use sheets::Sheet;
 use std::alloc::{AllocError, Global};
@@ -101,7 +101,7 @@ fn changes(alloc: Global, page: &Page, sheet: &Sheet) -> Result<Vec<Change>, All
 /// Sets what is on hand of the sheet's pairs, under the number of the next entry. The error is 27 (no count named a pair), 28
 /// (an amount is below what is reserved of its pair), 29 (no line differs from what is on hand), each over all lines, or
 /// want of memory.
-pub fn recount(alloc: Global, page: &Page, sheet: &Sheet) -> Result<Step, Stop>
+pub fn recount(alloc: Global, page: &Page, sheet: &Sheet) -> Result<Step, ActStop>
     requires { page.now.recent < most_sets }
     ensures ok { IfOk result (λ step. (n : Named) (P : PageFacts) (es : List Event) → IsPart n page.now P → are_items n sheet.now ≡ true → Shows P es
         → (e : Event) × (recounted es (page.now.entries + 1) sheet.now ≡ Ok e) × Shows (put step.changes.items P) (es ++ e ∷ [])) }
@@ -112,13 +112,13 @@ pub fn recount(alloc: Global, page: &Page, sheet: &Sheet) -> Result<Step, Stop>
     let goods = sheet.lines(alloc)?;
     let rows = page.rows();
     if has_unknown(rows, &goods) {
-        return Err(Stop::Refused(27));
+        return Err(ActStop::Refused(27));
     }
     if has_below(rows, &goods) {
-        return Err(Stop::Refused(28));
+        return Err(ActStop::Refused(28));
     }
     if are_on_hand(rows, &goods) {
-        return Err(Stop::Refused(29));
+        return Err(ActStop::Refused(29));
     }
     let changes = changes(alloc, page, sheet)?;
     Ok(Step { changes })

@@ -19,7 +19,7 @@ use crate::lines::{known_lines, reserved};
 use crate::lots::all_shares;
 use crate::page::Page;
 use crate::rows::{Column, add_lines, touched};
-use crate::steps::{Change, Step, Stop};
+use crate::steps::{Change, SetStop, Step};
 use profile::Rules;
 use sets_in::{Address, Goods, Order};
 use std::alloc::{AllocError, Global};
@@ -84,7 +84,7 @@ fn changes(
 /// reserved. Under rules 1 the lot that was counted first comes before the others. Under rules 2 that is the lot that expires
 /// first, those without a date come last, and of one date the one that was counted first comes first. The error is the trade
 /// fault at the least position (a known order number, an item that stands twice, a W76 that isn't the sum), or want of memory.
-pub fn reserve(alloc: Global, page: &Page, order: &Order, rules: Rules) -> Result<Step, Stop>
+pub fn reserve(alloc: Global, page: &Page, order: &Order, rules: Rules) -> Result<Step, SetStop>
     requires { page.now.recent < most_sets }
     ensures ok { IfOk result (λ step. (n : Named) (P : PageFacts) (es : List Event) → IsPart n page.now P → NamesOrder n order.now → Shows P es
         → (order_fault es order.now ≡ None) × Shows (put step.changes.items P) (es ++ Ordered order.now (order_shares rules es order.now) ∷ [])) }
@@ -94,7 +94,7 @@ pub fn reserve(alloc: Global, page: &Page, order: &Order, rules: Rules) -> Resul
 {
     let is_known = page.has_order(order.number());
     if let Some(fault) = order_fault(alloc, order, is_known)? {
-        return Err(Stop::Set(fault));
+        return Err(SetStop::Fault(fault));
     }
     let shares = all_shares(alloc, page.rows(), order.lines(), rules)?;
     let changes = changes(alloc, page, order, &shares)?;

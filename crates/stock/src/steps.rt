@@ -39,23 +39,40 @@ pub struct Step {
     pub changes: Vec<Change>,
 }
 
-/// Why there is no such step.
+/// Why a set comes to no step.
 #[derive(Drop)]
-pub enum Stop {
-    /// The trade fault of a set, at the least position.
-    Set(SetFault<'static>),
-    /// The first refusal of a clerk's act, by its number, 22 to 29.
+pub enum SetStop {
+    /// Its trade fault, at the least position.
+    Fault(SetFault<'static>),
+    /// A growth was refused.
+    OutOfMemory,
+}
+
+impl From<AllocError> for SetStop {
+    ghost use Rattle.stock.specs.declared.steps.SetStop.TheVariants.{OutOfMemory};
+
+    ghost from_gives = { λ _ s. s ≡ OutOfMemory };
+
+    fn from(_error: AllocError) -> SetStop {
+        SetStop::OutOfMemory
+    }
+}
+
+/// Why a clerk's act comes to no step.
+#[derive(Drop)]
+pub enum ActStop {
+    /// Its first refusal, by its number, 22 to 29.
     Refused(u8),
     /// A growth was refused.
     OutOfMemory,
 }
 
-impl From<AllocError> for Stop {
-    ghost use Rattle.stock.specs.declared.steps.Stop.TheVariants.{OutOfMemory};
+impl From<AllocError> for ActStop {
+    ghost use Rattle.stock.specs.declared.steps.ActStop.TheVariants.{OutOfMemory};
 
     ghost from_gives = { λ _ s. s ≡ OutOfMemory };
 
-    fn from(_error: AllocError) -> Stop {
-        Stop::OutOfMemory
+    fn from(_error: AllocError) -> ActStop {
+        ActStop::OutOfMemory
     }
 }
