@@ -36,7 +36,7 @@ use Rattle.book_tables.proofs.Asked.{found}
 use Rattle.book_tables.proofs.Finding.{no_row, first_row, one_key, second_of}
 use Rattle.book_tables.proofs.FoundRows.{sound_layout}
 use Rattle.book_tables.proofs.HoldsLemmas.{are_keyed}
-use Rattle.book_tables.proofs.NeedTexts.{advice_text, advice_columns, advice_is, advice_plain, advice_lines_text, advice_lines_is, advice_lines_plain, line_columns, line_order}
+use Rattle.book_tables.proofs.NeedTexts.{advice_text, advice_columns, advice_is, advice_reads, advice_lines_text, advice_lines_is, advice_lines_reads, line_columns, line_order}
 use Rattle.book_tables.proofs.Ordered.{all_ordered, advices_rise, advised_cells}
 use Rattle.book_tables.proofs.Rising.{numbers_rise}
 use Rattle.book_tables.proofs.ShownRows.{numbers_ranked, number_is}
@@ -73,13 +73,13 @@ module _ (old : State) (W : Who) (L : List Entry) (who : Who) (shipment : List �
   each : (row : Row) → Has rows row → (a : PageAdvice) × Has (filter (is_shipment shipment) (advices L who)) a × (row ≡ advice_shown a)
   each =
       let held = here.rows in
-      let read = found advice_text (value.Text (who_text who) ∷ value.Text shipment ∷ []) old.now rows _ here.schema advice_plain advice_is finds.1 in
+      let read = found advice_text (value.Text (who_text who) ∷ value.Text shipment ∷ []) old.now rows _ here.schema advice_reads advice_is finds.1 in
       each_row 2 (advised who) 8 advice_columns [] advice_out (value.Text (who_text who)) (value.Text shipment) (advice_table L) (filter (is_shipment shipment) (advices L who)) (advice_under W L who shipment here.legal partner) old.now.trees (held.keyed Advice) rows (read.answer value.Null)
 
   there : (a : PageAdvice) → Has (filter (is_shipment shipment) (advices L who)) a → Has rows (advice_shown a)
   there =
       let held = here.rows in
-      let read = found advice_text (value.Text (who_text who) ∷ value.Text shipment ∷ []) old.now rows _ here.schema advice_plain advice_is finds.1 in
+      let read = found advice_text (value.Text (who_text who) ∷ value.Text shipment ∷ []) old.now rows _ here.schema advice_reads advice_is finds.1 in
       has_row 2 (advised who) 8 advice_columns [] advice_out (value.Text (who_text who)) (value.Text shipment) (advice_table L) (filter (is_shipment shipment) (advices L who)) (advice_under W L who shipment here.legal partner) old.now.trees (held.keyed Advice) rows (read.answer value.Null)
 
   pub no_advice : rows ≡ [] → advice_at shipment (page_of (own L who)).advices ≡ None
@@ -108,7 +108,7 @@ lines_under W L who shipment legal partner =
 pub advised_found : (W : Who) (L : List Entry) (who : Who) (shipment : List ℕ) (db : Database) (rows : List Row) → is_partner who ≡ true → IsDatabase db → Stands W L db
     → Finds advice_lines_text (value.Text (who_text who) ∷ value.Text shipment ∷ []) db rows → rows ≡ map line_shown (its_lines L who shipment)
 advised_found W L who shipment db rows partner sound stands h =
-    let read = found advice_lines_text (value.Text (who_text who) ∷ value.Text shipment ∷ []) db rows _ stands.schema advice_lines_plain advice_lines_is h in
+    let read = found advice_lines_text (value.Text (who_text who) ∷ value.Text shipment ∷ []) db rows _ stands.schema advice_lines_reads advice_lines_is h in
     let held = stands.rows in
     let lies = stands.schema in
     let ordered : AreOrdered (filled W L) = all_ordered W L in

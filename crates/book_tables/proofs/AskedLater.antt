@@ -13,7 +13,7 @@ use Rattle.book_tables.specs.Standing.{Stands}
 
 pub stands_later : (old mid : State) (W : Who) (L : List Entry) → HasCleanDisk mid → IsAsked old mid → StandsWhileOpen old W L → StandsWhileOpen mid W L
 stands_later old mid W L clean asked stands =
-    let before = asked.same clean (λ o. let here = stands o in here.schema) in
+    let before = asked.same clean in
     (λ o. subst (Stands W L) (sym (before.now o)) (stands (before.was_open o)))
 
 pub clean_before : (mid new : State) → IsAsked mid new → HasCleanDisk new → HasCleanDisk mid

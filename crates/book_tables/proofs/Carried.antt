@@ -19,8 +19,8 @@ use Rattle.profile.proofs.TextLaws.{both_parts}
 use Rattle.profile.proofs.RegisterLaws.{first_is, legal-first}
 use Rattle.profile.proofs.CarriedLaws.{legal-carried, lot_expiry-first}
 use Rattle.rules.proofs.SentRows.{entry_rules_put}
-use Rattle.book_tables.specs.Asking.{IsAskedOf, IsOfFirst}
-use Rattle.book_tables.specs.Carrying.{LiesAs, StandsAs, StandsOpenAs, first_filled, KeepsFirst, Widens, with_rules, GivesRules, SetsVersion, CarriesOver}
+use Rattle.book_tables.specs.Asking.{IsAsked, IsOfFirst}
+use Rattle.book_tables.specs.Carrying.{StandsAs, StandsOpenAs, first_filled, KeepsFirst, Widens, with_rules, GivesRules, SetsVersion, CarriesOver}
 use Rattle.book_tables.specs.Held.{Holds}
 use Rattle.book_tables.specs.Leading.{Leads, Keeps}
 use Rattle.book_tables.specs.Lines.{rules_row}
@@ -118,14 +118,10 @@ carried_over entries old b c new opened wide ruled versioned W L count while_ope
     }
 
 -- what asking leaves of a book of either version
-pub stands_open_later : (q : Rules) (old mid : State) (W : Who) (L : List Entry) → HasCleanDisk mid → IsAskedOf (LiesAs q) old mid → StandsOpenAs q old W L → StandsOpenAs q mid W L
+pub stands_open_later : (q : Rules) (old mid : State) (W : Who) (L : List Entry) → HasCleanDisk mid → IsAsked old mid → StandsOpenAs q old W L → StandsOpenAs q mid W L
 stands_open_later q old mid W L clean asked stands =
-    let before = asked.same clean (λ o. lies q old.now (stands o)) in
+    let before = asked.same clean in
     (λ o. subst (StandsAs q W L) (sym (before.now o)) (stands (before.was_open o)))
-  where
-    lies : (q : Rules) (db : Database) → StandsAs q W L db → LiesAs q db.schema
-    lies One db here = here.schema
-    lies Two db here = here.schema
 
 -- what stands for a register in version 2 doesn't name version 1
 pub not_first : (W : Who) (L : List Entry) (db : Database) → Stands W L db → IsOfFirst db → ⊥

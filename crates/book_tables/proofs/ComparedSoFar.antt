@@ -1,5 +1,5 @@
 -- Tables that are compared one after another.
-use Rattle.std.proofs.Common.{◌≡◌, ◌≢◌, ◌≤◌, ◌<◌, inl, inr, ℕ, ◌+◌, List, Bool, true, false, Some, Option, Result, Ok, refl, sym, ap, subst, subst₂, ◌∙◌, arith}
+use Rattle.std.proofs.Common.{◌≡◌, ◌≢◌, ◌≤◌, ◌<◌, inl, inr, ℕ, ◌+◌, List, Bool, true, false, Some, Result, Ok, refl, sym, ap, subst, subst₂, ◌∙◌, arith}
 use Rattle.std.specs.Prelude.{nat_lt, ◌==◌, if◌then◌else◌}
 use Rattle.std.proofs.lemmas.Bool.{cases_Bool}
 use Rattle.std.proofs.lemmas.Bool.Decides.{nat_tests}
@@ -11,7 +11,7 @@ use Rattle.store.specs.declared.fault.Fault.{Fault}
 use Rattle.book_tables.specs.declared.comparing.TableName.{TableName}
 use Rattle.book_tables.specs.declared.comparing.TableName.TheVariants.{Book, Entry, Outgoing, Stock, Advice, AdviceLine, Orders, OrderLine, Reservation, EntryRules, LotExpiry}
 use Rattle.book_tables.specs.Asking.{Asked, Went, IsAsked}
-use Rattle.book_tables.specs.Comparing.{whole_text, number_of, FindBoth, ShowBoth, IsLaid, Compares}
+use Rattle.book_tables.specs.Comparing.{whole_text, number_of, FindBoth, ShowBoth, Compares}
 use Rattle.book_tables.specs.Kept.{Kept}
 use Rattle.book_tables.specs.Limits.{Counts}
 use Rattle.book_tables.proofs.Asked.{asked_twice}
@@ -72,11 +72,10 @@ above : (m n : ℕ) → nat_lt m n ≡ false → m < n + 1 → m ≡ n
 above m n h g = grind (arith, nat_tests, h, g)
 
 -- what is shown after other queries was shown before them
-pub shown_before : (old mid them them_mid : State) (sql : List ℕ) (same : Bool) → HasCleanDisk mid → HasCleanDisk them_mid → IsAsked old mid → IsAsked them them_mid → IsLaid old → IsLaid them
-    → ShowBoth sql mid them_mid same → ShowBoth sql old them same
-shown_before old mid them them_mid sql same clean their_clean asked their_asked laid their_laid h =
-    let p = asked.same clean laid in
-    let q = their_asked.same their_clean their_laid in
+pub shown_before : (old mid them them_mid : State) (sql : List ℕ) (same : Bool) → HasCleanDisk mid → HasCleanDisk them_mid → IsAsked old mid → IsAsked them them_mid → ShowBoth sql mid them_mid same → ShowBoth sql old them same
+shown_before old mid them them_mid sql same clean their_clean asked their_asked h =
+    let p = asked.same clean in
+    let q = their_asked.same their_clean in
     record {
       is_open = p.was_open h.is_open;
       other_open = q.was_open h.other_open;
@@ -97,8 +96,7 @@ module _ {S T : Type 0} (store : Ghosts S) (its : Ghosts T) where
     pub other : IsAsked (state its them.conn) (state its them_now.conn)
     pub other_limit : Counts them them_now
     pub allowed : 0 < number → old.limit ≢ Some 0
-    pub same : HasCleanDisk (state store now.conn) → HasCleanDisk (state its them_now.conn) → IsLaid (state store old.conn) → IsLaid (state its them.conn)
-        → (t : TableName) → number_of t < number → ShowBoth (whole_text t) (state store old.conn) (state its them.conn) true
+    pub same : HasCleanDisk (state store now.conn) → HasCleanDisk (state its them_now.conn) → (t : TableName) → number_of t < number → ShowBoth (whole_text t) (state store old.conn) (state its them.conn) true
 
   pub none_so_far : (old : Kept S) (them : Kept T) → SoFar old old them them 0
   none_so_far old them = record {
@@ -106,7 +104,7 @@ module _ {S T : Type 0} (store : Ghosts S) (its : Ghosts T) where
     other = let w = went_none its them true in w.left;
     other_limit = spends_none them.made them.limit;
     allowed = λ h. absurd (omega (arith, h));
-    same = λ _ _ _ _ t h. absurd (omega (arith, h));
+    same = λ _ _ t h. absurd (omega (arith, h));
   }
 
   module _ (old mid new : Kept S) (them them_mid them_new : Kept T) (number : ℕ) (so_far : SoFar old mid them them_mid number) where
@@ -131,10 +129,10 @@ module _ {S T : Type 0} (store : Ghosts S) (its : Ghosts T) where
       its_early : HasCleanDisk (state its them_new.conn) → HasCleanDisk (state its them_mid.conn)
       its_early = clean_before (state its them_mid.conn) (state its them_new.conn) other_asked
 
-      shown : HasCleanDisk (state store new.conn) → HasCleanDisk (state its them_new.conn) → IsLaid (state store old.conn) → IsLaid (state its them.conn) → ShowBoth (whole_text t) (state store old.conn) (state its them.conn) same
-      shown clean its_clean laid its_laid =
+      shown : HasCleanDisk (state store new.conn) → HasCleanDisk (state its them_new.conn) → ShowBoth (whole_text t) (state store old.conn) (state its them.conn) same
+      shown clean its_clean =
           let went = so_far.went in
-          shown_before (state store old.conn) (state store mid.conn) (state its them.conn) (state its them_mid.conn) (whole_text t) same (early clean) (its_early its_clean) went.left so_far.other laid its_laid
+          shown_before (state store old.conn) (state store mid.conn) (state its them.conn) (state its them_mid.conn) (whole_text t) same (early clean) (its_early its_clean) went.left so_far.other
           (subst (λ (text : List ℕ). ShowBoth text (state store mid.conn) (state its them_mid.conn) same) sql_is (shows clean its_clean))
 
       pub one_more : same ≡ true → SoFar old new them them_new (number + 1)
@@ -145,21 +143,21 @@ module _ {S T : Type 0} (store : Ghosts S) (its : Ghosts T) where
             other = both_asked other_asked;
             other_limit = limit_after other_limit;
             allowed = λ _. all.allowed;
-            same = λ clean its_clean laid its_laid u low. elim (cases_Bool (nat_lt (number_of u) number)) [
-              | inl less ↦ so_far.same (early clean) (its_early its_clean) laid its_laid u (below (number_of u) number less)
+            same = λ clean its_clean u low. elim (cases_Bool (nat_lt (number_of u) number)) [
+              | inl less ↦ so_far.same (early clean) (its_early its_clean) u (below (number_of u) number less)
               | inr last ↦
                   let is = one_name t u (number_is ∙ sym (above (number_of u) number last low)) in
-                  subst₂ (λ (v : TableName) (b : Bool). ShowBoth (whole_text v) (state store old.conn) (state its them.conn) b) is passes (shown clean its_clean laid its_laid)
+                  subst₂ (λ (v : TableName) (b : Bool). ShowBoth (whole_text v) (state store old.conn) (state its them.conn) b) is passes (shown clean its_clean)
             ];
           }
 
-      pub one_differs : same ≡ false → HasCleanDisk (state store new.conn) → HasCleanDisk (state its them_new.conn) → IsLaid (state store old.conn) → IsLaid (state its them.conn)
+      pub one_differs : same ≡ false → HasCleanDisk (state store new.conn) → HasCleanDisk (state its them_new.conn)
           → Compares false (state store old.conn) (state its them.conn)
-      one_differs differs clean its_clean laid its_laid = (t, subst (λ (b : Bool). ShowBoth (whole_text t) (state store old.conn) (state its them.conn) b) differs (shown clean its_clean laid its_laid))
+      one_differs differs clean its_clean = (t, subst (λ (b : Bool). ShowBoth (whole_text t) (state store old.conn) (state its them.conn) b) differs (shown clean its_clean))
 
   module _ (old now : Kept S) (them them_now : Kept T) (number : ℕ) (whole : 11 ≤ number) (so_far : SoFar old now them them_now number) where
-    pub all_same : HasCleanDisk (state store now.conn) → HasCleanDisk (state its them_now.conn) → IsLaid (state store old.conn) → IsLaid (state its them.conn) → Compares true (state store old.conn) (state its them.conn)
-    all_same clean its_clean laid its_laid t = so_far.same clean its_clean laid its_laid t (omega (arith, eleven t, whole))
+    pub all_same : HasCleanDisk (state store now.conn) → HasCleanDisk (state its them_now.conn) → Compares true (state store old.conn) (state its them.conn)
+    all_same clean its_clean t = so_far.same clean its_clean t (omega (arith, eleven t, whole))
 
     pub all_asked : Asked {T = Bool} store old now (Ok true)
     all_asked =

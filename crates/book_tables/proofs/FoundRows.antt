@@ -22,7 +22,7 @@ use Rattle.book_tables.specs.Standing.{Stock, LotExpiry, Outgoing, Stands}
 use Rattle.book_tables.proofs.Asked.{found}
 use Rattle.book_tables.proofs.Ordered.{lots_rise}
 use Rattle.book_tables.proofs.Sendings.{legal_sent}
-use Rattle.book_tables.proofs.ShowingTexts.{stock_rows_text, stock_rows_is, stock_rows_plain, all_dates_text, all_dates_is, all_dates_plain, outbox_text, outbox_is, outbox_plain}
+use Rattle.book_tables.proofs.ShowingTexts.{stock_rows_text, stock_rows_is, stock_rows_reads, all_dates_text, all_dates_is, all_dates_reads, outbox_text, outbox_is, outbox_reads}
 use Rattle.book_tables.proofs.ShownRows.{stock_rows_shown, dates_shown, outgoing_rows_shown}
 
 pub sound_layout : (db : Database) (lies : IsLayout db.schema) → IsDatabase db → IsSound (beside lies.others) db.trees
@@ -31,21 +31,21 @@ sound_layout db lies sound = subst (λ (s : Schema). IsSound s db.trees) lies.is
 stock_found : (W : Who) (L : List Entry) (who : Who) (db : Database) (rows : List Row) → is_partner who ≡ true → IsDatabase db → Stands W L db
     → Finds stock_rows_text (value.Text (who_text who) ∷ []) db rows → rows ≡ map (λ r. stock_shown (shown_row r)) (running_rows (events (own L who)))
 stock_found W L who db rows partner sound stands h =
-    let read = found stock_rows_text (value.Text (who_text who) ∷ []) db rows _ stands.schema stock_rows_plain stock_rows_is h in
+    let read = found stock_rows_text (value.Text (who_text who) ∷ []) db rows _ stands.schema stock_rows_reads stock_rows_is h in
     let held = stands.rows in
     stock_rows_shown (let lies = stands.schema in lies.others) W L who db.trees rows stands.legal partner (sound_layout db stands.schema sound) (held.keyed Stock) (read.answer value.Null)
 
 dates_found : (W : Who) (L : List Entry) (who : Who) (db : Database) (rows : List Row) → is_partner who ≡ true → IsDatabase db → Stands W L db
     → Finds all_dates_text (value.Text (who_text who) ∷ []) db rows → rows ≡ map date_shown (dates_of (running_rows (events (own L who))))
 dates_found W L who db rows partner sound stands h =
-    let read = found all_dates_text (value.Text (who_text who) ∷ []) db rows _ stands.schema all_dates_plain all_dates_is h in
+    let read = found all_dates_text (value.Text (who_text who) ∷ []) db rows _ stands.schema all_dates_reads all_dates_is h in
     let held = stands.rows in
     dates_shown (let lies = stands.schema in lies.others) W L who db.trees rows stands.legal partner (sound_layout db stands.schema sound) (held.keyed LotExpiry) (read.answer value.Null)
 
 outgoing_found : (W : Who) (L : List Entry) (who : Who) (db : Database) (rows : List Row) → is_partner who ≡ true → IsDatabase db → Stands W L db
     → Finds outbox_text (value.Text (who_text who) ∷ []) db rows → rows ≡ map out_shown (outgoing_rows W (own L who))
 outgoing_found W L who db rows partner sound stands h =
-    let read = found outbox_text (value.Text (who_text who) ∷ []) db rows _ stands.schema outbox_plain outbox_is h in
+    let read = found outbox_text (value.Text (who_text who) ∷ []) db rows _ stands.schema outbox_reads outbox_is h in
     let held = stands.rows in
     outgoing_rows_shown (let lies = stands.schema in lies.others) W L who db.trees rows stands.legal partner (sound_layout db stands.schema sound) (held.keyed Outgoing) (read.answer value.Null)
 

@@ -31,7 +31,7 @@ use Rattle.book_tables.specs.Held.{entry_values}
 use Rattle.book_tables.proofs.Asked.{found}
 use Rattle.book_tables.proofs.KeyLemmas.{equal_texts}
 use Rattle.book_tables.proofs.Owned.{told_apart}
-use Rattle.book_tables.proofs.ShowingTexts.{has_text, has_query, has_is, has_plain}
+use Rattle.book_tables.proofs.ShowingTexts.{has_text, has_query, has_is, has_reads}
 
 passing_map : {A B : Type 0} (t : A → Bool) (f : A → B) (xs : List A) → flat_map (λ x. cond (t x) (f x ∷ []) []) xs ≡ map f (filter t xs)
 passing_map t f [] = refl
@@ -95,5 +95,5 @@ none_read old W L who partner stands text told rows finds =
     let here = stands finds.0 in
     let held = here.rows in
     let h = subst (λ t. Finds has_text (value.Text t ∷ []) old.now rows) told finds.1 in
-    let read = found has_text (value.Text (who_text who) ∷ []) old.now rows _ here.schema has_plain has_is h in
+    let read = found has_text (value.Text (who_text who) ∷ []) old.now rows _ here.schema has_reads has_is h in
     none_shown who L old.now.trees rows (legal-entries Two W L here.legal) partner held.entry (read.answer value.Null)

@@ -9,11 +9,12 @@ use Rattle.sqlite_value.specs.Keys.{ascending}
 use Rattle.sqlite.specs.Query.{Query}
 use Rattle.sqlite_tied.specs.Compute.{everything}
 use Rattle.sqlite.specs.Listing.{understood, reads_listing}
-use Rattle.sqlite.specs.Given.{IsPlain}
 use Rattle.sqlite.proofs.Callers.{command_of}
+use Rattle.book_tables.specs.Asking.{OnlyReads}
 use Rattle.book_tables.specs.Layout.{Others, beside}
 use Rattle.book_tables.proofs.ReadingTexts.{ordered_from}
 use Rattle.book_tables.proofs.WritingTexts.{where_key}
+use Rattle.book_tables.proofs.Selects.{query_reads}
 
 -- The number of the entry under a key.
 
@@ -27,9 +28,9 @@ pub under_is : (others : Others) → (command_of (understood (beside others) und
 unfolding understood everything
 under_is others = (refl, refl)
 
-pub under_plain : (others : Others) → IsPlain (understood (beside others) under_text)
-unfolding understood everything
-under_plain others = (refl, refl)
+pub under_reads : OnlyReads under_text
+unfolding everything
+under_reads = query_reads under_text (λ schema base. refl)
 
 -- What an entry sent out.
 
@@ -43,6 +44,6 @@ pub content_is : (others : Others) → (command_of (understood (beside others) c
 unfolding understood everything
 content_is others = (refl, refl)
 
-pub content_plain : (others : Others) → IsPlain (understood (beside others) content_text)
-unfolding understood everything
-content_plain others = (refl, refl)
+pub content_reads : OnlyReads content_text
+unfolding everything
+content_reads = query_reads content_text (λ schema base. refl)

@@ -15,7 +15,6 @@ use Rattle.sqlite.specs.Program.{overlay}
 use Rattle.sqlite.specs.Term.{Env, lit, col}
 use Rattle.sqlite.specs.Tree.{Trees}
 use Rattle.sqlite.specs.Listing.{understood}
-use Rattle.sqlite.specs.Given.{IsPlain}
 use Rattle.sqlite_tied.specs.Compute.{everything}
 use Rattle.sqlite_sql.proofs.QueryLemmas.{output_cmp_total}
 use Rattle.sqlite_value.specs.declared.keys.Key.{Key}
@@ -35,10 +34,10 @@ use Rattle.profile.specs.Rows.{OutRow, out_row, outgoing_on, outgoing_rows}
 use Rattle.profile.specs.Tables.{Text, TableRow, outgoing_cells, outgoing_table}
 use Rattle.profile.proofs.HistoryLaws.{history-numbered}
 use Rattle.rules.proofs.SentRows.{next_snoc}
-use Rattle.book_tables.specs.Asking.{Finds}
+use Rattle.book_tables.specs.Asking.{OnlyReads, Finds}
 use Rattle.book_tables.specs.Exits.{StandsWhileOpen}
 use Rattle.book_tables.specs.Held.{values, Holds}
-use Rattle.book_tables.specs.Layout.{Others, beside}
+use Rattle.book_tables.specs.Layout.{Others}
 use Rattle.book_tables.specs.Standing.{Outgoing}
 use Rattle.book_tables.proofs.Asked.{found}
 use Rattle.book_tables.proofs.Found.{flat_map-cond}
@@ -49,6 +48,7 @@ use Rattle.book_tables.proofs.Ordered.{row_number}
 use Rattle.book_tables.proofs.Under.{own_row, table_row}
 use Rattle.book_tables.proofs.Values.{and_true}
 use Rattle.book_tables.proofs.WritingTexts.{where_key}
+use Rattle.book_tables.proofs.Selects.{query_reads}
 
 abbrev pub last_text : List ℕ
 last_text = codes "SELECT n FROM outgoing WHERE who = ?1 ORDER BY n DESC LIMIT 1"
@@ -73,9 +73,9 @@ pub last_is : (others : Others) → Reads last_text last_query (codes "n" ∷ []
 unfolding understood everything
 last_is others = (refl, refl)
 
-pub last_plain : (others : Others) → IsPlain (understood (beside others) last_text)
-unfolding understood everything
-last_plain others = (refl, refl)
+pub last_reads : OnlyReads last_text
+unfolding everything
+last_reads = query_reads last_text (λ schema base. refl)
 
 -- The numbers.
 
@@ -238,5 +238,5 @@ pub last_read : (old : State) (W : Who) (L : List Entry) (who : Who) → IsTrue 
 last_read old W L who partner stands rows finds =
     let here = stands finds.0 in
     let held = here.rows in
-    let read = found last_text (value.Text (who_text who) ∷ []) old.now rows _ here.schema last_plain last_is finds.1 in
+    let read = found last_text (value.Text (who_text who) ∷ []) old.now rows _ here.schema last_reads last_is finds.1 in
     last W L who here.legal partner old.now.trees (held.keyed Outgoing) rows (read.answer value.Null)

@@ -15,6 +15,7 @@ mod Values
 mod PutLemmas
 mod KeyLemmas
 mod UpsertLemmas
+mod Selects
 mod WritingTexts
 mod Beside
 mod Upserts
@@ -78,6 +79,8 @@ mod WholeBook
 mod ComparedSoFar
 mod ComparedTables
 mod NumberedFound
+mod NextNames
+mod EnrolledOnce
 pub mod EnrolledFound
 pub mod KeptTables
 mod OpenedAnew

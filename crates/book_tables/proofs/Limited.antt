@@ -1,5 +1,5 @@
 -- Calls that are counted, one after another.
-use Rattle.std.proofs.Common.{◌≡◌, ◌≢◌, ◌≤◌, ◌<◌, ◌+◌, ◌-◌, ◌^◌, ◌∙◌, ℕ, zero, suc, Option, None, Some, refl, sym, ap, subst, arith}
+use Rattle.std.proofs.Common.{◌≡◌, ◌≢◌, ◌≤◌, ◌+◌, ◌-◌, ◌^◌, ◌∙◌, ℕ, zero, suc, Option, None, Some, refl, sym, ap, subst, arith}
 use Rattle.std.specs.Prelude.{min}
 use Rattle.book_tables.specs.Kept.{Kept}
 use Rattle.book_tables.specs.Limits.{Counts, fewer, Spent, Spends}

@@ -30,7 +30,7 @@ use Rattle.book_tables.proofs.Asked.{found}
 use Rattle.book_tables.proofs.Finding.{rises_kept}
 use Rattle.book_tables.proofs.FoundRows.{sound_layout}
 use Rattle.book_tables.proofs.HoldsLemmas.{are_keyed}
-use Rattle.book_tables.proofs.NeedTexts.{lots_text, lots_columns, pair_order, lots_is, lots_plain, dates_text, dates_columns, dates_is, dates_plain}
+use Rattle.book_tables.proofs.NeedTexts.{lots_text, lots_columns, pair_order, lots_is, lots_reads, dates_text, dates_columns, dates_is, dates_reads}
 use Rattle.book_tables.proofs.Ordered.{all_ordered, lots_rise}
 use Rattle.book_tables.proofs.DateLemmas.{date_cells, date_key, dates_in, dates_rise}
 use Rattle.book_tables.proofs.ShownRows.{pairs_ranked, both_equal, text_is}
@@ -54,7 +54,7 @@ lots_under W L who item legal partner =
 pub lots_found : (W : Who) (L : List Entry) (who : Who) (item : List ℕ) (db : Database) (rows : List Row) → is_partner who ≡ true → IsDatabase db → Stands W L db
     → Finds lots_text (value.Text (who_text who) ∷ value.Text item ∷ []) db rows → rows ≡ map lot_shown (filter (λ r. bytes_eq r.item item) (page_of (own L who)).rows)
 lots_found W L who item db rows partner sound stands h =
-    let read = found lots_text (value.Text (who_text who) ∷ value.Text item ∷ []) db rows _ stands.schema lots_plain lots_is h in
+    let read = found lots_text (value.Text (who_text who) ∷ value.Text item ∷ []) db rows _ stands.schema lots_reads lots_is h in
     let held = stands.rows in
     let lies = stands.schema in
     let ordered : AreOrdered (filled W L) = all_ordered W L in
@@ -108,7 +108,7 @@ dates_under W L who item legal partner =
 pub dates_found : (W : Who) (L : List Entry) (who : Who) (item : List ℕ) (db : Database) (rows : List Row) → is_partner who ≡ true → IsDatabase db → Stands W L db
     → Finds dates_text (value.Text (who_text who) ∷ value.Text item ∷ []) db rows → rows ≡ map date_shown (dates_of (filter (λ r. bytes_eq r.item item) (page_of (own L who)).rows))
 dates_found W L who item db rows partner sound stands h =
-    let read = found dates_text (value.Text (who_text who) ∷ value.Text item ∷ []) db rows _ stands.schema dates_plain dates_is h in
+    let read = found dates_text (value.Text (who_text who) ∷ value.Text item ∷ []) db rows _ stands.schema dates_reads dates_is h in
     let held = stands.rows in
     let lies = stands.schema in
     let ordered : AreOrdered (filled W L) = all_ordered W L in

@@ -10,10 +10,11 @@ use Rattle.sqlite.specs.Query.{Query, inner, end}
 use Rattle.sqlite_value.specs.declared.keys.Key.{Key}
 use Rattle.sqlite_tied.specs.Compute.{everything}
 use Rattle.sqlite.specs.Listing.{understood, reads_listing}
-use Rattle.sqlite.specs.Given.{IsPlain}
 use Rattle.sqlite.proofs.Callers.{command_of}
+use Rattle.book_tables.specs.Asking.{OnlyReads}
 use Rattle.book_tables.specs.Layout.{Others, beside}
 use Rattle.book_tables.proofs.ShowingTexts.{rising}
+use Rattle.book_tables.proofs.Selects.{query_reads}
 
 -- the rows of a table that begin with the first parameter and have the second in the column at a place, these columns of them, in
 -- this order
@@ -56,9 +57,9 @@ pub lots_is : (others : Others) → Reads lots_text (under_where 6 lots_columns 
 unfolding understood everything
 lots_is others = (refl, refl)
 
-pub lots_plain : (others : Others) → IsPlain (understood (beside others) lots_text)
-unfolding understood everything
-lots_plain others = (refl, refl)
+pub lots_reads : OnlyReads lots_text
+unfolding everything
+lots_reads = query_reads lots_text (λ schema base. refl)
 
 -- And their dates.
 
@@ -75,9 +76,9 @@ pub dates_is : (others : Others) → Reads dates_text (under_where 19 dates_colu
 unfolding understood everything
 dates_is others = (refl, refl)
 
-pub dates_plain : (others : Others) → IsPlain (understood (beside others) dates_text)
-unfolding understood everything
-dates_plain others = (refl, refl)
+pub dates_reads : OnlyReads dates_text
+unfolding everything
+dates_reads = query_reads dates_text (λ schema base. refl)
 
 -- An advice and its lines.
 
@@ -94,9 +95,9 @@ pub advice_is : (others : Others) → Reads advice_text (under_where 8 advice_co
 unfolding understood everything
 advice_is others = (refl, refl)
 
-pub advice_plain : (others : Others) → IsPlain (understood (beside others) advice_text)
-unfolding understood everything
-advice_plain others = (refl, refl)
+pub advice_reads : OnlyReads advice_text
+unfolding everything
+advice_reads = query_reads advice_text (λ schema base. refl)
 
 abbrev pub line_names : List (List ℕ)
 line_names = codes "item" ∷ codes "lot" ∷ codes "quantity" ∷ []
@@ -114,9 +115,9 @@ pub advice_lines_is : (others : Others) → Reads advice_lines_text (under_where
 unfolding understood everything
 advice_lines_is others = (refl, refl)
 
-pub advice_lines_plain : (others : Others) → IsPlain (understood (beside others) advice_lines_text)
-unfolding understood everything
-advice_lines_plain others = (refl, refl)
+pub advice_lines_reads : OnlyReads advice_lines_text
+unfolding everything
+advice_lines_reads = query_reads advice_lines_text (λ schema base. refl)
 
 -- An order, its lines, and what is reserved for it.
 
@@ -133,9 +134,9 @@ pub order_is : (others : Others) → Reads order_text (under_where 12 order_colu
 unfolding understood everything
 order_is others = (refl, refl)
 
-pub order_plain : (others : Others) → IsPlain (understood (beside others) order_text)
-unfolding understood everything
-order_plain others = (refl, refl)
+pub order_reads : OnlyReads order_text
+unfolding everything
+order_reads = query_reads order_text (λ schema base. refl)
 
 abbrev pub order_lines_text : List ℕ
 order_lines_text = codes "SELECT item, lot, quantity FROM order_line WHERE who = ?1 AND ord = ?2 ORDER BY line"
@@ -144,9 +145,9 @@ pub order_lines_is : (others : Others) → Reads order_lines_text (under_where 1
 unfolding understood everything
 order_lines_is others = (refl, refl)
 
-pub order_lines_plain : (others : Others) → IsPlain (understood (beside others) order_lines_text)
-unfolding understood everything
-order_lines_plain others = (refl, refl)
+pub order_lines_reads : OnlyReads order_lines_text
+unfolding everything
+order_lines_reads = query_reads order_lines_text (λ schema base. refl)
 
 abbrev pub reserved_text : List ℕ
 reserved_text = codes "SELECT item, lot, quantity FROM reservation WHERE who = ?1 AND ord = ?2 ORDER BY item, lot"
@@ -161,9 +162,9 @@ pub reserved_is : (others : Others) → Reads reserved_text (under_where 16 rese
 unfolding understood everything
 reserved_is others = (refl, refl)
 
-pub reserved_plain : (others : Others) → IsPlain (understood (beside others) reserved_text)
-unfolding understood everything
-reserved_plain others = (refl, refl)
+pub reserved_reads : OnlyReads reserved_text
+unfolding everything
+reserved_reads = query_reads reserved_text (λ schema base. refl)
 
 -- What went out under a number: what it was and what was said of it.
 
@@ -177,6 +178,6 @@ pub sent_is : (others : Others) → Reads sent_text (under_where 4 sent_columns 
 unfolding understood everything
 sent_is others = (refl, refl)
 
-pub sent_plain : (others : Others) → IsPlain (understood (beside others) sent_text)
-unfolding understood everything
-sent_plain others = (refl, refl)
+pub sent_reads : OnlyReads sent_text
+unfolding everything
+sent_reads = query_reads sent_text (λ schema base. refl)

@@ -19,7 +19,6 @@ use Rattle.sqlite.specs.Program.{overlay}
 use Rattle.sqlite.specs.Effect.{Database}
 use Rattle.sqlite.specs.State.{State}
 use Rattle.sqlite.specs.Listing.{understood, reads_listing}
-use Rattle.sqlite.specs.Given.{IsPlain}
 use Rattle.sqlite.proofs.Callers.{command_of, one_permutation}
 use Rattle.sqlite_tied.specs.Compute.{everything}
 use Rattle.sqlite_schema.specs.Rules.{equal}
@@ -39,7 +38,7 @@ use Rattle.rules.specs.Written.{Written, written}
 use Rattle.rules.proofs.Depositors.{partner_of}
 use Rattle.rules.proofs.Registers.{same_who}
 use Rattle.store.specs.Replayed.{written_on, all_written}
-use Rattle.book_tables.specs.Asking.{Finds}
+use Rattle.book_tables.specs.Asking.{OnlyReads, Finds}
 use Rattle.book_tables.specs.Exits.{StandsWhileOpen}
 use Rattle.book_tables.specs.Held.{entry_values}
 use Rattle.book_tables.specs.Layout.{Others, beside}
@@ -52,6 +51,7 @@ use Rattle.book_tables.proofs.OwnEntries.{each_recorded}
 use Rattle.book_tables.proofs.Owned.{own_written}
 use Rattle.book_tables.proofs.ReadLemmas.{same_text_value, same_number_value, same_some}
 use Rattle.book_tables.proofs.ReadingTexts.{ordered_from}
+use Rattle.book_tables.proofs.Selects.{query_reads}
 
 -- The texts.
 
@@ -64,9 +64,9 @@ pub numbered_is : (others : Others)
 unfolding understood everything
 numbered_is others = (refl, refl)
 
-pub numbered_plain : (others : Others) → IsPlain (understood (beside others) numbered_text)
-unfolding understood everything
-numbered_plain others = (refl, refl)
+pub numbered_reads : OnlyReads numbered_text
+unfolding everything
+numbered_reads = query_reads numbered_text (λ schema base. refl)
 
 abbrev pub rules_query : Query
 rules_query = ordered_from 18 (op2 (Compare Eq Binary) (col 1 0) (col 0 0) ∷ []) (col 1 2 ∷ []) []
@@ -75,9 +75,9 @@ pub rules_is : (others : Others) → (command_of (understood (beside others) rul
 unfolding understood everything
 rules_is others = (refl, refl)
 
-pub rules_plain : (others : Others) → IsPlain (understood (beside others) rules_text)
-unfolding understood everything
-rules_plain others = (refl, refl)
+pub rules_reads : OnlyReads rules_text
+unfolding everything
+rules_reads = query_reads rules_text (λ schema base. refl)
 
 -- The entry with a number, as a list.
 
@@ -178,7 +178,7 @@ module _ (seq : ℕ) where
 
   pub numbered_found : (W : Who) (L : List Entry) (db : Database) (rows : List Row) → Stands W L db → Finds numbered_text (value.Int (pos seq) ∷ []) db rows → rows ≡ map numbered_shown (listed (written_at (all_written L) seq))
   numbered_found W L db rows stands h =
-      let read = found numbered_text (value.Int (pos seq) ∷ []) db rows _ stands.schema numbered_plain numbered_is h in
+      let read = found numbered_text (value.Int (pos seq) ∷ []) db rows _ stands.schema numbered_reads numbered_is h in
       let a : IsAnswer numbered_query (overlay db.trees []) (value.Int (pos seq) ∷ []) rows = read.answer value.Null in
       let entries = let r = stands.rows in r.entry in
       let is : a.kept ≡ map (output numbered_query) (map env_of (filter has_number (db.trees 1))) = a.distinct ∙ ap (map (output numbered_query)) (a.grouped ∙ flat_map-cond has_number env_of (db.trees 1)) in
@@ -189,7 +189,7 @@ module _ (seq : ℕ) where
 
   pub rules_found : (W : Who) (L : List Entry) (db : Database) (rows : List Row) → Stands W L db → Finds rules_text (value.Int (pos seq) ∷ []) db rows → rows ≡ map rules_shown (listed (written_at (all_written L) seq))
   rules_found W L db rows stands h =
-      let read = found rules_text (value.Int (pos seq) ∷ []) db rows _ stands.schema rules_plain rules_is h in
+      let read = found rules_text (value.Int (pos seq) ∷ []) db rows _ stands.schema rules_reads rules_is h in
       let a : IsAnswer rules_query (overlay db.trees []) (value.Int (pos seq) ∷ []) rows = read.answer value.Null in
       let rules = let r = stands.rows in r.rules in
       let is : a.kept ≡ map (output rules_query) (map env_of (filter has_number (db.trees 18))) = a.distinct ∙ ap (map (output rules_query)) (a.grouped ∙ flat_map-cond has_number env_of (db.trees 18)) in

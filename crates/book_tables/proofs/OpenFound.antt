@@ -38,7 +38,7 @@ use Rattle.book_tables.proofs.Found.{map-both}
 use Rattle.book_tables.proofs.FoundRows.{sound_layout}
 use Rattle.book_tables.proofs.HoldsLemmas.{are_keyed}
 use Rattle.book_tables.proofs.KeyLemmas.{equal_numbers}
-use Rattle.book_tables.proofs.OpenTexts.{name_columns, name_order, shipments_text, shipments_is, shipments_plain, numbers_text, numbers_is, numbers_plain}
+use Rattle.book_tables.proofs.OpenTexts.{name_columns, name_order, shipments_text, shipments_is, shipments_reads, numbers_text, numbers_is, numbers_reads}
 use Rattle.book_tables.proofs.Ordered.{all_ordered, advices_rise, orders_rise}
 use Rattle.book_tables.proofs.ShownRows.{texts_ranked, one_equal, text_is}
 use Rattle.book_tables.proofs.Under.{IsUnder, all_rows}
@@ -73,7 +73,7 @@ shipments_under W L who legal partner =
 shipments_found : (W : Who) (L : List Entry) (who : Who) (db : Database) (rows : List Row) → is_partner who ≡ true → IsDatabase db → Stands W L db
     → Finds shipments_text (open_params who) db rows → rows ≡ map name_shown (map shipment_of (open_advices L who))
 shipments_found W L who db rows partner sound stands h =
-    let read = found shipments_text (open_params who) db rows _ stands.schema shipments_plain shipments_is h in
+    let read = found shipments_text (open_params who) db rows _ stands.schema shipments_reads shipments_is h in
     let held = stands.rows in
     let lies = stands.schema in
     let ordered : AreOrdered (filled W L) = all_ordered W L in
@@ -109,7 +109,7 @@ numbers_under W L who legal partner =
 numbers_found : (W : Who) (L : List Entry) (who : Who) (db : Database) (rows : List Row) → is_partner who ≡ true → IsDatabase db → Stands W L db
     → Finds numbers_text (open_params who) db rows → rows ≡ map name_shown (map number_of (open_orders L who))
 numbers_found W L who db rows partner sound stands h =
-    let read = found numbers_text (open_params who) db rows _ stands.schema numbers_plain numbers_is h in
+    let read = found numbers_text (open_params who) db rows _ stands.schema numbers_reads numbers_is h in
     let held = stands.rows in
     let lies = stands.schema in
     let ordered : AreOrdered (filled W L) = all_ordered W L in

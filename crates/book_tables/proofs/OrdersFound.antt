@@ -39,7 +39,7 @@ use Rattle.book_tables.proofs.Asked.{found}
 use Rattle.book_tables.proofs.Finding.{no_row, first_row, one_key, second_of}
 use Rattle.book_tables.proofs.FoundRows.{sound_layout}
 use Rattle.book_tables.proofs.HoldsLemmas.{are_keyed}
-use Rattle.book_tables.proofs.NeedTexts.{order_text, order_columns, order_is, order_plain, order_lines_text, order_lines_is, order_lines_plain, line_columns, line_order, reserved_text, reserved_columns, reserved_order, reserved_is, reserved_plain, under_where}
+use Rattle.book_tables.proofs.NeedTexts.{order_text, order_columns, order_is, order_reads, order_lines_text, order_lines_is, order_lines_reads, line_columns, line_order, reserved_text, reserved_columns, reserved_order, reserved_is, reserved_reads, under_where}
 use Rattle.book_tables.proofs.Ordered.{all_ordered, orders_rise, ordered_cells, reserved_cells, reserved_rise, line_pair}
 use Rattle.book_tables.proofs.Rising.{numbers_rise}
 use Rattle.book_tables.proofs.ShownRows.{numbers_ranked, number_is, pairs_ranked, both_equal, text_is}
@@ -83,13 +83,13 @@ module _ (old : State) (W : Who) (L : List Entry) (who : Who) (number : List ℕ
   each : (row : Row) → Has rows row → (a : PageOrder) × Has (filter (is_number number) (orders L who)) a × (row ≡ order_shown a)
   each =
       let held = here.rows in
-      let read = found order_text (value.Text (who_text who) ∷ value.Text number ∷ []) old.now rows _ here.schema order_plain order_is finds.1 in
+      let read = found order_text (value.Text (who_text who) ∷ value.Text number ∷ []) old.now rows _ here.schema order_reads order_is finds.1 in
       each_row 2 (ordered_row who) 12 order_columns [] order_out (value.Text (who_text who)) (value.Text number) (orders_table L) (filter (is_number number) (orders L who)) (order_under W L who number here.legal partner) old.now.trees (held.keyed Orders) rows (read.answer value.Null)
 
   there : (a : PageOrder) → Has (filter (is_number number) (orders L who)) a → Has rows (order_shown a)
   there =
       let held = here.rows in
-      let read = found order_text (value.Text (who_text who) ∷ value.Text number ∷ []) old.now rows _ here.schema order_plain order_is finds.1 in
+      let read = found order_text (value.Text (who_text who) ∷ value.Text number ∷ []) old.now rows _ here.schema order_reads order_is finds.1 in
       has_row 2 (ordered_row who) 12 order_columns [] order_out (value.Text (who_text who)) (value.Text number) (orders_table L) (filter (is_number number) (orders L who)) (order_under W L who number here.legal partner) old.now.trees (held.keyed Orders) rows (read.answer value.Null)
 
   pub no_order : rows ≡ [] → order_at number (page_of (own L who)).orders ≡ None
@@ -118,7 +118,7 @@ lines_under W L who number legal partner =
 pub ordered_found : (W : Who) (L : List Entry) (who : Who) (number : List ℕ) (db : Database) (rows : List Row) → is_partner who ≡ true → IsDatabase db → Stands W L db
     → Finds order_lines_text (value.Text (who_text who) ∷ value.Text number ∷ []) db rows → rows ≡ map order_line_shown (its_lines L who number)
 ordered_found W L who number db rows partner sound stands h =
-    let read = found order_lines_text (value.Text (who_text who) ∷ value.Text number ∷ []) db rows _ stands.schema order_lines_plain order_lines_is h in
+    let read = found order_lines_text (value.Text (who_text who) ∷ value.Text number ∷ []) db rows _ stands.schema order_lines_reads order_lines_is h in
     let held = stands.rows in
     let lies = stands.schema in
     let ordered : AreOrdered (filled W L) = all_ordered W L in
@@ -164,7 +164,7 @@ shares_rise L who number (Some o) e =
 pub reserved_found : (W : Who) (L : List Entry) (who : Who) (number : List ℕ) (db : Database) (rows : List Row) → is_partner who ≡ true → IsDatabase db → Stands W L db
     → Finds reserved_text (value.Text (who_text who) ∷ value.Text number ∷ []) db rows → rows ≡ map line_shown (its_shares L who number)
 reserved_found W L who number db rows partner sound stands h =
-    let read = found reserved_text (value.Text (who_text who) ∷ value.Text number ∷ []) db rows _ stands.schema reserved_plain reserved_is h in
+    let read = found reserved_text (value.Text (who_text who) ∷ value.Text number ∷ []) db rows _ stands.schema reserved_reads reserved_is h in
     let held = stands.rows in
     let lies = stands.schema in
     let ordered : AreOrdered (filled W L) = all_ordered W L in

@@ -1,6 +1,7 @@
 -- The rows of an answer at their places, where they are what a model's rows show.
-use Rattle.std.proofs.Common.{◌≡◌, ◌<◌, ◌≤◌, ℕ, zero, suc, ◌+◌, Bool, true, false, cond, List, [], ◌∷◌, ◌++◌, length, map, filter, take, drop, get_or, refl, sym, ap, subst, ◌∙◌, inl, inr, arith, append-nil}
+use Rattle.std.proofs.Common.{◌≡◌, ◌<◌, ◌≤◌, ℕ, zero, suc, ◌+◌, Bool, true, false, cond, List, [], ◌∷◌, ◌++◌, length, map, filter, take, drop, get_or, refl, sym, ap, subst, ◌∙◌, inl, inr, arith, append-nil, length-append}
 use Rattle.std.specs.Prelude.{nat_lt, ◌==◌}
+use Rattle.std.specs.List.{AllByRecursion}
 use Rattle.std.proofs.lemmas.Bool.{eqb-true, lt-ltb, le-ltb}
 use Rattle.std.proofs.lemmas.List.{length-map}
 use Rattle.std.proofs.lemmas.List.Elements.{filter-append}
@@ -41,6 +42,23 @@ whole_taken f rows ms i is past = taken ms i (omega (arith, past, ap length is, 
     taken [] (suc n) h = refl
     taken (x ∷ xs) zero h = absurd (omega (arith, h))
     taken (x ∷ xs) (suc n) h = ap (λ ys. x ∷ ys) (taken xs n (omega (arith, h)))
+
+-- the first ones and the one at a place
+pub taken_more : {A : Type 0} (xs : List A) (i : ℕ) (x : A) → i < length xs → x ≡ get_or xs i x → take (i + 1) xs ≡ take i xs ++ x ∷ []
+taken_more xs i x within here = ap (λ (n : ℕ). take n xs) (let one : i + 1 ≡ suc i = omega arith in one) ∙ go xs i x within here
+  where
+    go : {A : Type 0} (xs : List A) (i : ℕ) (x : A) → i < length xs → x ≡ get_or xs i x → take (suc i) xs ≡ take i xs ++ x ∷ []
+    go [] i x within here = absurd (omega (arith, within))
+    go (y ∷ xs) zero x within here = ap (λ z. z ∷ []) (sym here)
+    go (y ∷ xs) (suc i) x within here = ap (λ ys. y ∷ ys) (go xs i x (omega (arith, within)) here)
+
+pub all_more : {A : Type 0} (P : A → Type 0) (xs : List A) (x : A) → AllByRecursion P xs → P x → AllByRecursion P (xs ++ x ∷ [])
+all_more P [] x all p = (p, tt)
+all_more P (y ∷ xs) x all p = (all.0, all_more P xs x all.1 p)
+
+-- one more makes it longer by one
+pub one_longer : {A : Type 0} (xs ys : List A) (x : A) (n : ℕ) → ys ≡ xs ++ x ∷ [] → length xs ≡ n → length ys ≡ n + 1
+one_longer xs ys x n more long = omega (arith, ap length more, length-append xs (x ∷ []), long)
 
 -- one more that passes a test is kept, and one that doesn't isn't
 pub kept_more : {M : Type 0} (p : M → Bool) (ms : List M) (m : M) → p m ≡ true → filter p (ms ++ m ∷ []) ≡ filter p ms ++ m ∷ []

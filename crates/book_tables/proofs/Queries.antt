@@ -17,7 +17,7 @@ use Rattle.book_tables.specs.Rises.{Rises}
 use Rattle.book_tables.proofs.Asked.{asked_twice}
 use Rattle.book_tables.proofs.AskedLater.{fault_later}
 use Rattle.book_tables.proofs.OwnEntries.{shows_none}
-use Rattle.book_tables.proofs.Limited.{spends_none, counts_both}
+use Rattle.book_tables.proofs.Limited.{spends_none, counts_both, none_after}
 use Rattle.book_tables.proofs.StepLemmas.{on_ok}
 use Rattle.book_tables.proofs.Writes.{same_survives}
 
@@ -58,7 +58,7 @@ never_ok A P (Err e) h = tt
 
 unasked : (s : State) → IsAsked s s
 unasked s = record {
-  same = λ clean has. record { was_open = λ h. h; now = λ _. refl; committed = λ _. refl };
+  same = λ clean. record { was_open = λ h. h; now = λ _. refl; committed = λ _. refl };
   crash = survives_weaker s s _ _ (λ _ db none. absurd none) (same_survives s);
 }
 
@@ -163,3 +163,27 @@ module _ {S : Type 0} (store : Ghosts S) where
 
   pub asked_on : {T U : Type 0} (a b c : Kept S) (t : T) (r : Result U Fault) → Asked {T = T} store a b (Ok t) → Asked store b c r → Asked store a c r
   asked_on a b c t r one two = asked_went a b c t r one (went_of b c r two)
+
+  -- queries, and then one more: where that was allowed, so was the first
+  pub went_asked : {T U : Type 0} (a b c : Kept S) (t : T) (r : Result U Fault) → Went {T = T} store a b (Ok t) → Asked store b c r → Asked store a c r
+  went_asked a b c t r one two =
+      let both = went_on a b c t r one (went_of b c r two) in
+      record {
+        left = both.left;
+        fault = both.fault;
+        counts = both.counts;
+        uncounted = both.uncounted;
+        limit = both.limit;
+        allowed = on_ok r (λ some none. some (none_after a.made b.made a.limit b.limit one.limit none)) two.allowed;
+      }
+
+  -- queries, and then no memory
+  pub went_short : {T U : Type 0} (old new : Kept S) (t : T) → Went {T = T} store old new (Ok t) → Asked {T = U} store old new (Err OutOfMemory)
+  went_short old new t went = record {
+    left = went.left;
+    fault = memory_fault OutOfMemory (state store old.conn) (state store new.conn) old.refused new.refused refl;
+    counts = went.counts;
+    uncounted = tt;
+    limit = went.limit;
+    allowed = tt;
+  }

@@ -7,11 +7,11 @@ use Rattle.sqlite_value.specs.declared.keys.Key.{Key}
 use Rattle.sqlite.specs.Query.{Query, inner, end}
 use Rattle.sqlite_tied.specs.Compute.{everything}
 use Rattle.sqlite.specs.Listing.{understood, reads_listing}
-use Rattle.sqlite.specs.Given.{IsPlain}
 use Rattle.sqlite.proofs.Callers.{command_of}
 use Rattle.book_tables.specs.Layout.{Others, beside}
-use Rattle.book_tables.specs.Asking.{house_text}
+use Rattle.book_tables.specs.Asking.{OnlyReads, house_text}
 use Rattle.book_tables.specs.Carrying.{first_layout}
+use Rattle.book_tables.proofs.Selects.{query_reads}
 
 -- the rows of a table that pass, as these terms, in an order
 abbrev pub ordered_from : ℕ → List Term → List Term → List (Term × Key) → Query
@@ -39,17 +39,13 @@ pub count_is : (others : Others) → (command_of (understood (beside others) cou
 unfolding understood everything
 count_is others = (refl, refl)
 
-pub count_plain : (others : Others) → IsPlain (understood (beside others) count_text)
-unfolding understood everything
-count_plain others = (refl, refl)
+pub count_reads : OnlyReads count_text
+unfolding everything
+count_reads = query_reads count_text (λ schema base. refl)
 
 pub count_first : (command_of (understood first_layout count_text) ≡ Select (record { lets = []; body = count_query }) (codes "seq" ∷ [])) × (reads_listing first_layout count_text ≡ false)
 unfolding understood everything
 count_first = (refl, refl)
-
-pub count_plain_first : IsPlain (understood first_layout count_text)
-unfolding understood everything
-count_plain_first = (refl, refl)
 
 -- The warehouse.
 
@@ -60,14 +56,10 @@ pub house_is : (others : Others) → (command_of (understood (beside others) hou
 unfolding understood everything
 house_is others = (refl, refl)
 
-pub house_plain : (others : Others) → IsPlain (understood (beside others) house_text)
-unfolding understood everything
-house_plain others = (refl, refl)
+pub house_reads : OnlyReads house_text
+unfolding everything
+house_reads = query_reads house_text (λ schema base. refl)
 
 pub house_first : (command_of (understood first_layout house_text) ≡ Select (record { lets = []; body = house_query }) (codes "version" ∷ codes "qualifier" ∷ codes "id" ∷ [])) × (reads_listing first_layout house_text ≡ false)
 unfolding understood everything
 house_first = (refl, refl)
-
-pub house_plain_first : IsPlain (understood first_layout house_text)
-unfolding understood everything
-house_plain_first = (refl, refl)

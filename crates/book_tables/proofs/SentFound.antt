@@ -1,15 +1,13 @@
 -- The row of `outgoing` under a depositor and a number: what it tells of the document and of the text of that number.
-use Rattle.std.proofs.Common.{◌≡◌, ℕ, ℤ, pos, List, [], ◌∷◌, map, filter, length, Bool, true, false, None, Some, IsTrue, option_map, refl, sym, ap, ◌∙◌}
+use Rattle.std.proofs.Common.{◌≡◌, ℕ, pos, List, [], ◌∷◌, map, filter, length, Bool, true, false, None, Some, IsTrue, option_map, refl, sym, ap, ◌∙◌}
 use Rattle.std.specs.Prelude.{find, nat_lt, ◌==◌, if◌then◌else◌}
-use Rattle.std.proofs.lemmas.Bool.{eqb-true, eq-eqb}
+use Rattle.std.proofs.lemmas.Bool.{eqb-true}
 use Rattle.sqlite.specs.State.{State}
 use Rattle.sqlite.specs.declared.types.Value.TheVariants as value
 use Rattle.sqlite.specs.Order.{Row}
-use Rattle.sqlite.specs.Collation.TheVariants.{Binary}
 use Rattle.sqlite.specs.Query.{Output, IsAnswer}
 use Rattle.sqlite.specs.Program.{overlay}
 use Rattle.sqlite.specs.Term.{Term, col}
-use Rattle.sqlite_schema.specs.Rules.{equal}
 use Rattle.sqlite_rules.specs.Lists.{Has}
 use Rattle.sqlite_rules.proofs.ListLemmas.{has_filtered, has_found, has_kept}
 use Rattle.profile.specs.Header.{Who, is_partner, who_text}
@@ -31,8 +29,8 @@ use Rattle.book_tables.proofs.Asked.{found}
 use Rattle.book_tables.proofs.DocumentRows.{no_document, its_document}
 use Rattle.book_tables.proofs.Finding.{no_row, first_row, one_key, one_found, none_passes, not_found}
 use Rattle.book_tables.proofs.KeyLemmas.{equal_numbers}
-use Rattle.book_tables.proofs.KnownTexts.{content_text, content_is, content_plain}
-use Rattle.book_tables.proofs.NeedTexts.{sent_text, sent_columns, sent_is, sent_plain, under_where}
+use Rattle.book_tables.proofs.KnownTexts.{content_text, content_is, content_reads}
+use Rattle.book_tables.proofs.NeedTexts.{sent_text, sent_columns, sent_is, sent_reads, under_where}
 use Rattle.book_tables.proofs.Ordered.{sent_rise}
 use Rattle.book_tables.proofs.Places.{none_at_all, not_none}
 use Rattle.book_tables.proofs.Under.{IsUnder, each_row, has_row}
@@ -67,7 +65,7 @@ module _ (old : State) (W : Who) (L : List Entry) (who : Who) (n : ℕ) (partner
       4 sent_columns [] sent_out (λ db. refl) (λ id r. refl)
 
   answer : IsAnswer (under_where 4 sent_columns []) (overlay old.now.trees []) (value.Text (who_text who) ∷ value.Int (pos n) ∷ []) rows
-  answer = let read = found sent_text (value.Text (who_text who) ∷ value.Int (pos n) ∷ []) old.now rows _ here.schema sent_plain sent_is finds.1 in read.answer value.Null
+  answer = let read = found sent_text (value.Text (who_text who) ∷ value.Int (pos n) ∷ []) old.now rows _ here.schema sent_reads sent_is finds.1 in read.answer value.Null
 
   each : (row : Row) → Has rows row → (r : OutRow) × Has (filter (rows_under n) sent) r × (row ≡ sent_shown r)
   each = let held = here.rows in each_row 2 (sent_cells who) 4 sent_columns [] sent_out (value.Text (who_text who)) (value.Int (pos n)) (outgoing_table W L) (filter (rows_under n) sent) sent_under old.now.trees (held.keyed Outgoing) rows answer
@@ -124,7 +122,7 @@ module _ (old : State) (W : Who) (L : List Entry) (who : Who) (n : ℕ) (partner
       4 text_columns [] content_out (λ db. refl) (λ id r. refl)
 
   content_answer : IsAnswer (under_where 4 text_columns []) (overlay old.now.trees []) (value.Text (who_text who) ∷ value.Int (pos n) ∷ []) rows
-  content_answer = let read = found content_text (value.Text (who_text who) ∷ value.Int (pos n) ∷ []) old.now rows _ stood.schema content_plain content_is finds.1 in read.answer value.Null
+  content_answer = let read = found content_text (value.Text (who_text who) ∷ value.Int (pos n) ∷ []) old.now rows _ stood.schema content_reads content_is finds.1 in read.answer value.Null
 
   each_text : (row : Row) → Has rows row → (r : OutRow) × Has (filter (rows_under n) texts) r × (row ≡ content_shown r)
   each_text = let held = stood.rows in each_row 2 (sent_cells who) 4 text_columns [] content_out (value.Text (who_text who)) (value.Int (pos n)) (outgoing_table W L) (filter (rows_under n) texts) texts_under old.now.trees (held.keyed Outgoing) rows content_answer

@@ -34,7 +34,7 @@ use Rattle.book_tables.specs.Held.{values, Holds}
 use Rattle.book_tables.specs.Standing.{Outgoing, Stands}
 use Rattle.book_tables.proofs.Asked.{found}
 use Rattle.book_tables.proofs.KeyLemmas.{text_itself, int_itself, same_int, same_text as equal_text}
-use Rattle.book_tables.proofs.KnownTexts.{content_text, content_query, content_is, content_plain}
+use Rattle.book_tables.proofs.KnownTexts.{content_text, content_query, content_is, content_reads}
 use Rattle.book_tables.proofs.Ordered.{numbers_over, row_number, sent_rise}
 use Rattle.book_tables.proofs.Parts.{begins, outgoing_part}
 use Rattle.book_tables.proofs.Passing.{flat_map-cond, from_row, to_row, whose}
@@ -193,7 +193,7 @@ pub content_found : (W : Who) (L : List Entry) (who : Who) (n : ℕ) (db : Datab
     → Finds content_text (value.Text (who_text who) ∷ value.Int (pos n) ∷ []) db rows → (before : List Entry) (e : Entry) (behind : List Entry) → own L who ≡ before ++ e ∷ behind
     → n ≡ (if is_numbered e then next_number before else 0) → IsContent rows (out W before e)
 content_found W L who n db rows partner stands h before e behind split is =
-    let read = found content_text (value.Text (who_text who) ∷ value.Int (pos n) ∷ []) db rows _ stands.schema content_plain content_is h in
+    let read = found content_text (value.Text (who_text who) ∷ value.Int (pos n) ∷ []) db rows _ stands.schema content_reads content_is h in
     let held = stands.rows in
     content_shown W L who stands.legal partner n db.trees (held.keyed Outgoing) rows (read.answer value.Null) before e behind split is
 
@@ -201,7 +201,7 @@ content_found W L who n db rows partner stands h before e behind split is =
 pub some_content : (W : Who) (L : List Entry) (who : Who) (n : ℕ) (db : Database) (rows : List Row) → is_partner who ≡ true → Stands W L db
     → Finds content_text (value.Text (who_text who) ∷ value.Int (pos n) ∷ []) db rows → (content : List ℕ) × IsContent rows content
 some_content W L who n db rows partner stands h =
-    let read = found content_text (value.Text (who_text who) ∷ value.Int (pos n) ∷ []) db rows _ stands.schema content_plain content_is h in
+    let read = found content_text (value.Text (who_text who) ∷ value.Int (pos n) ∷ []) db rows _ stands.schema content_reads content_is h in
     let held = stands.rows in
     by rows (of_row W L who stands.legal partner n db.trees (held.keyed Outgoing) rows (read.answer value.Null))
   where

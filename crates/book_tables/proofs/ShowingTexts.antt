@@ -11,10 +11,11 @@ use Rattle.sqlite_value.specs.Keys.{ascending}
 use Rattle.sqlite_value.specs.declared.keys.Key.{Key}
 use Rattle.sqlite_tied.specs.Compute.{everything}
 use Rattle.sqlite.specs.Listing.{understood, reads_listing}
-use Rattle.sqlite.specs.Given.{IsPlain}
 use Rattle.sqlite.proofs.Callers.{command_of}
+use Rattle.book_tables.specs.Asking.{OnlyReads}
 use Rattle.book_tables.specs.Layout.{Others, beside}
 use Rattle.book_tables.proofs.WritingTexts.{where_key}
+use Rattle.book_tables.proofs.Selects.{query_reads}
 
 -- a column of the row, from the least to the greatest
 abbrev pub rising : ℕ → Term × Key
@@ -55,9 +56,9 @@ pub stock_rows_is : (others : Others) → (command_of (understood (beside others
 unfolding understood everything
 stock_rows_is others = (refl, refl)
 
-pub stock_rows_plain : (others : Others) → IsPlain (understood (beside others) stock_rows_text)
-unfolding understood everything
-stock_rows_plain others = (refl, refl)
+pub stock_rows_reads : OnlyReads stock_rows_text
+unfolding everything
+stock_rows_reads = query_reads stock_rows_text (λ schema base. refl)
 
 -- And the dates.
 
@@ -77,9 +78,9 @@ pub all_dates_is : (others : Others) → (command_of (understood (beside others)
 unfolding understood everything
 all_dates_is others = (refl, refl)
 
-pub all_dates_plain : (others : Others) → IsPlain (understood (beside others) all_dates_text)
-unfolding understood everything
-all_dates_plain others = (refl, refl)
+pub all_dates_reads : OnlyReads all_dates_text
+unfolding everything
+all_dates_reads = query_reads all_dates_text (λ schema base. refl)
 
 -- What went out.
 
@@ -102,9 +103,9 @@ pub outbox_is : (others : Others) → (command_of (understood (beside others) ou
 unfolding understood everything
 outbox_is others = (refl, refl)
 
-pub outbox_plain : (others : Others) → IsPlain (understood (beside others) outbox_text)
-unfolding understood everything
-outbox_plain others = (refl, refl)
+pub outbox_reads : OnlyReads outbox_text
+unfolding everything
+outbox_reads = query_reads outbox_text (λ schema base. refl)
 
 -- Whether a depositor has an entry.
 
@@ -128,6 +129,6 @@ pub has_is : (others : Others) → (command_of (understood (beside others) has_t
 unfolding understood everything
 has_is others = (refl, refl)
 
-pub has_plain : (others : Others) → IsPlain (understood (beside others) has_text)
-unfolding understood everything
-has_plain others = (refl, refl)
+pub has_reads : OnlyReads has_text
+unfolding everything
+has_reads = query_reads has_text (λ schema base. refl)

@@ -34,7 +34,7 @@ use Rattle.book_tables.proofs.Asked.{found}
 use Rattle.book_tables.proofs.Found.{flat_map-cond, map-both, entries_rise}
 use Rattle.book_tables.proofs.InOrder.{in_order}
 use Rattle.book_tables.proofs.KeyLemmas.{equal_texts}
-use Rattle.book_tables.proofs.KnownTexts.{under_text, under_query, under_is, under_plain}
+use Rattle.book_tables.proofs.KnownTexts.{under_text, under_query, under_is, under_reads}
 use Rattle.book_tables.proofs.Owned.{told_apart}
 
 -- the number of a row
@@ -104,7 +104,7 @@ under_told who key before (e ∷ L) good partner =
 pub under_found : (W : Who) (L : List Entry) (who : Who) (key : List ℕ) (db : Database) (rows : List Row) → is_partner who ≡ true → Stands W L db
     → Finds under_text (params (who_text who) key) db rows → rows ≡ map seq_shown (numbers_of (is_under who key) 0 (all_written L))
 under_found W L who key db rows partner stands h =
-    let read = found under_text (params (who_text who) key) db rows _ stands.schema under_plain under_is h in
+    let read = found under_text (params (who_text who) key) db rows _ stands.schema under_reads under_is h in
     let entries = let r = stands.rows in r.entry in
     under_shown (who_text who) key db.trees rows (subst IsTable (sym entries) (entries_rise [] L)) (read.answer value.Null)
     ∙ ap (λ src. map shows (filter (whose (who_text who) key) src)) entries

@@ -18,10 +18,10 @@ use Rattle.book_tables.specs.Comparing.{whole_text}
 use Rattle.book_tables.specs.Layout.{IsLayout}
 use Rattle.book_tables.proofs.Asked.{found}
 use Rattle.book_tables.proofs.ReadingTexts.{ordered_from}
-use Rattle.book_tables.proofs.WholeTexts.{whole_query, whole_command, whole_is, whole_plain}
+use Rattle.book_tables.proofs.WholeTexts.{whole_query, whole_command, whole_is, whole_reads}
 
 pub whole_found : (t : TableName) (db : Database) (rows : List Row) → IsLayout db.schema → Finds (whole_text t) [] db rows → IsAnswer (whole_query t) (overlay db.trees []) [] rows
-whole_found t db rows lies h = let read = found (whole_text t) [] db rows (whole_command t) lies (whole_plain t) (whole_is t) h in read.answer value.Null
+whole_found t db rows lies h = let read = found (whole_text t) [] db rows (whole_command t) lies (whole_reads t) (whole_is t) h in read.answer value.Null
 
 singles : {A B : Type 0} (f : A → B) (xs : List A) → flat_map (λ x. f x ∷ []) xs ≡ map f xs
 singles f [] = refl

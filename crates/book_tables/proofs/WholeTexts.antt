@@ -11,8 +11,8 @@ use Rattle.sqlite_value.specs.declared.keys.Key.{Key}
 use Rattle.sqlite_schema.specs.declared.schema.Column.{Column}
 use Rattle.sqlite_tied.specs.Compute.{everything}
 use Rattle.sqlite.specs.Listing.{understood, reads_listing}
-use Rattle.sqlite.specs.Given.{IsPlain}
 use Rattle.sqlite.proofs.Callers.{command_of}
+use Rattle.book_tables.specs.Asking.{OnlyReads}
 use Rattle.book_tables.specs.declared.comparing.TableName.{TableName}
 use Rattle.book_tables.specs.declared.comparing.TableName.TheVariants.{Book, Entry, Outgoing, Stock, Advice, AdviceLine, Orders, OrderLine, Reservation, EntryRules, LotExpiry}
 use Rattle.book_tables.specs.Comparing.{whole_text}
@@ -21,6 +21,7 @@ use Rattle.book_tables.specs.Standing as keyed
 use Rattle.book_tables.specs.Standing.{BookTable, layout_of, width_of, tree_of}
 use Rattle.book_tables.proofs.KeyLemmas.{places}
 use Rattle.book_tables.proofs.ReadingTexts.{ordered_from}
+use Rattle.book_tables.proofs.Selects.{query_reads}
 
 abbrev pub columns_at : List ℕ → List Term
 columns_at places = map (λ (p : ℕ). col 1 p) places
@@ -101,16 +102,16 @@ whole_is Reservation others = (refl, refl)
 whole_is EntryRules others = (refl, refl)
 whole_is LotExpiry others = (refl, refl)
 
-pub whole_plain : (t : TableName) (others : Others) → IsPlain (understood (beside others) (whole_text t))
-unfolding understood everything
-whole_plain Book others = (refl, refl)
-whole_plain Entry others = (refl, refl)
-whole_plain Outgoing others = (refl, refl)
-whole_plain Stock others = (refl, refl)
-whole_plain Advice others = (refl, refl)
-whole_plain AdviceLine others = (refl, refl)
-whole_plain Orders others = (refl, refl)
-whole_plain OrderLine others = (refl, refl)
-whole_plain Reservation others = (refl, refl)
-whole_plain EntryRules others = (refl, refl)
-whole_plain LotExpiry others = (refl, refl)
+pub whole_reads : (t : TableName) → OnlyReads (whole_text t)
+unfolding everything
+whole_reads Book = query_reads (whole_text Book) (λ schema base. refl)
+whole_reads Entry = query_reads (whole_text Entry) (λ schema base. refl)
+whole_reads Outgoing = query_reads (whole_text Outgoing) (λ schema base. refl)
+whole_reads Stock = query_reads (whole_text Stock) (λ schema base. refl)
+whole_reads Advice = query_reads (whole_text Advice) (λ schema base. refl)
+whole_reads AdviceLine = query_reads (whole_text AdviceLine) (λ schema base. refl)
+whole_reads Orders = query_reads (whole_text Orders) (λ schema base. refl)
+whole_reads OrderLine = query_reads (whole_text OrderLine) (λ schema base. refl)
+whole_reads Reservation = query_reads (whole_text Reservation) (λ schema base. refl)
+whole_reads EntryRules = query_reads (whole_text EntryRules) (λ schema base. refl)
+whole_reads LotExpiry = query_reads (whole_text LotExpiry) (λ schema base. refl)

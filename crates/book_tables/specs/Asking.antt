@@ -1,5 +1,5 @@
 -- What asking the tables tells, what it leaves, and why it fails.
-use Rattle.std.specs.Prelude.{◌≡◌, ◌≢◌, ◌≤◌, ℕ, List, [], None, Some, Ok, Result, IsTrue, IfErr, OnOk, codes}
+use Rattle.std.specs.Prelude.{◌≡◌, ◌≢◌, ◌≤◌, ℕ, List, [], None, Some, Ok, Result, IfErr, OnOk, codes}
 use Rattle.sqlite.specs.Order.{Row}
 use Rattle.sqlite.specs.Schema.{Schema}
 use Rattle.sqlite.specs.Clock.{timed}
@@ -16,7 +16,6 @@ use Rattle.store.specs.declared.fault.Fault.{Fault}
 use Rattle.store.specs.declared.fault.Fault.TheVariants.{Store, Reopen, NotThisBook, Device}
 use Rattle.book_tables.specs.Exits.{IsAsBefore, StandsWhileOpen}
 use Rattle.book_tables.specs.Kept.{Kept}
-use Rattle.book_tables.specs.Layout.{IsLayout}
 use Rattle.book_tables.specs.Limits.{Counts}
 use Rattle.book_tables.specs.Recorded.{IsHouse}
 use Rattle.book_tables.specs.Rises.{Rises}
@@ -32,14 +31,14 @@ pub record Finds (sql : List ℕ) (params : Row) (db : Database) (rows : List Ro
 abbrev pub house_text : List ℕ
 house_text = codes "SELECT version, qualifier, id FROM book"
 
--- tables of such a schema are as before, and a crash leaves no more
-pub record IsAskedOf (Lies : Schema → Type 0) (old new : State) : Type 0 where
-  pub same : HasCleanDisk new → (IsTrue old.is_open → Lies old.now.schema) → IsAsBefore old new
-  pub crash : Survives old new (λ _. (IsTrue old.is_open → Lies old.now.schema) → ⊥)
+-- under any schema under which the text is understood, it gives nothing back of a write, and asks for no time
+abbrev pub OnlyReads : List ℕ → Type 0
+OnlyReads sql = (schema : Schema) (c : Compiled) → understood schema sql ≡ Ok c → (c.returning ≡ None) × (c.formats ≡ [])
 
--- and so are a book's
-abbrev pub IsAsked : State → State → Type 0
-IsAsked = IsAskedOf IsLayout
+-- the tables are as before, whatever they are, and a crash leaves no more
+pub record IsAsked (old new : State) : Type 0 where
+  pub same : HasCleanDisk new → IsAsBefore old new
+  pub crash : Survives old new (λ _. ⊥)
 
 -- the rows of `book` name version 1
 abbrev pub IsOfFirst : Database → Type 0

@@ -12,7 +12,7 @@ use Rattle.profile.specs.Header.{Who}
 use Rattle.profile.specs.Register.{Entry, is_first}
 use Rattle.profile.specs.Accepted.{IsLegal}
 use Rattle.profile.specs.Tables.{TableRow, book_table, entry_table, entry_rules_table}
-use Rattle.book_tables.specs.Layout.{IsLayout, first_layouts}
+use Rattle.book_tables.specs.Layout.{first_layouts}
 use Rattle.book_tables.specs.Held.{Holds, first_row, entry_values}
 use Rattle.book_tables.specs.Standing.{BookTable, LotExpiry, keyed_tables, tree_of, rows_of, Filled, AreOrdered, Stands, StandsIn}
 use Rattle.book_tables.specs.Leading.{Keeps}
@@ -21,11 +21,6 @@ use Rattle.book_tables.specs.Exits.{HasGrown}
 -- the nine tables of version 1, and nothing else
 abbrev pub first_layout : sqlite.Schema
 first_layout = first_layouts 9 9
-
--- the schema of a book of each version; beside the tables of version 2 others may stand
-abbrev pub LiesAs : Rules → sqlite.Schema → Type 0
-LiesAs One schema = schema ≡ first_layout
-LiesAs Two schema = IsLayout schema
 
 -- the rows of a register's tables in version 1
 abbrev pub first_filled : Who → List Entry → Filled

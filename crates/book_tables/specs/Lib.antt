@@ -18,6 +18,7 @@ pub mod Contents
 pub mod Looking
 pub mod Asking
 pub mod Recorded
+pub mod Enrolments
 pub mod Taken
 pub mod Making
 pub mod Needed

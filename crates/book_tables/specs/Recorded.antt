@@ -23,10 +23,6 @@ rules_shown w = Int (pos (rules_number w.rules)) ∷ []
 abbrev pub rules_text : List ℕ
 rules_text = codes "SELECT rules FROM entry_rules WHERE seq = ?1"
 
--- the text that asks for the depositors of the entries that have none
-abbrev pub enrolled_text : List ℕ
-enrolled_text = codes "SELECT who FROM entry WHERE n = 0 ORDER BY seq"
-
 -- the entry under a number, of those that are written down from 1 on
 abbrev pub written_at : List Written → ℕ → Option Written
 written_at ws zero = None

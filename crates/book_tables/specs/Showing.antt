@@ -1,7 +1,7 @@
 -- What the queries of running rows show of a row.
 use Rattle.std.specs.Prelude.{◌≡◌, ◌<◌, ◌^◌, ℕ, List, [], ◌∷◌, pos}
 use Rattle.sqlite.specs.declared.types.Value.TheVariants.{Int, Text, Blob}
-use Rattle.sqlite.specs.Order.{Row}
+use Rattle.sqlite.specs.Order.{Row, column}
 use Rattle.profile.specs.Means.{Line}
 use Rattle.profile.specs.Page.{PageAdvice, PageLine, PageOrder}
 use Rattle.profile.specs.Rows.{StockRow, LotRow, OutRow}
@@ -15,6 +15,10 @@ use Rattle.book_tables.specs.Held.{value_of, values}
 -- item, lot, expected, on_hand, reserved, shipped: all but the date
 abbrev pub stock_shown : StockRow → Row
 stock_shown r = Text r.item ∷ Text r.lot ∷ Int (pos r.expected) ∷ Int (pos r.on_hand) ∷ Int (pos r.reserved) ∷ Int (pos r.shipped) ∷ []
+
+-- the row has a text that went out
+abbrev pub HasText : Row → Type 0
+HasText row = (text : List ℕ) × (column row 2 ≡ Blob text)
 
 -- n, kind, content, state
 abbrev pub out_shown : OutRow → Row

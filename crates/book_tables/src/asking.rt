@@ -4,8 +4,8 @@ ghost use Rattle.profile.specs.Register as register;
 ghost use Rattle.sqlite.specs.Held.{state};
 ghost use Rattle.sqlite.specs.Order.{Row as Cells};
 ghost use Rattle.sqlite.specs.State.{HasCleanDisk};
-ghost use Rattle.book_tables.specs.Asking.{Finds, IsAskedOf, house_text};
-ghost use Rattle.book_tables.specs.Carrying.{LiesAs, StandsOpenAs};
+ghost use Rattle.book_tables.specs.Asking.{Finds, IsAsked, house_text};
+ghost use Rattle.book_tables.specs.Carrying.{StandsOpenAs};
 ghost use Rattle.book_tables.specs.Limits.{Counts};
 ghost use Rattle.book_tables.specs.Recorded.{IsHouse};
 ghost use Rattle.book_tables.specs.Rises.{Rises};
@@ -37,8 +37,7 @@ impl<S: Alter + Drop> Tables<S> {
             → StandsOpenAs q (state S.Store self.old.conn) W L → IfErr result (λ f. f ≢ Fault.NotThisBook) }
         ensures was_open { HasCleanDisk (state S.Store self.new.conn)
             → OnOk result (IsTrue (state S.Store self.old.conn).is_open) }
-        ensures asked { (q : Rules) → IsAskedOf (LiesAs q) (state S.Store self.old.conn)
-            (state S.Store self.new.conn) }
+        ensures asked { IsAsked (state S.Store self.old.conn) (state S.Store self.new.conn) }
         ensures named { IfErr result (λ f. (f ≡ Fault.NotThisBook) ⊎ ((f ≡ Fault.OutOfMemory)
             ⊎ (f ≡ Fault.Store))) }
         ensures counted { IfErr result (λ f. f ≢ Fault.NotThisBook → Rises self.old.refused self.new.refused) }
@@ -47,7 +46,7 @@ impl<S: Alter + Drop> Tables<S> {
         ensures limit { Counts self.old self.new }
         ensures allowed { OnOk result (self.old.limit ≢ Some 0) }
     {
-        let rows = self.ask_any("SELECT version, qualifier, id FROM book", &[])?;
+        let rows = self.ask("SELECT version, qualifier, id FROM book", &[])?;
         match house_of(&rows) {
             Some(house) => Ok(house),
             None => Err(Fault::NotThisBook),
@@ -61,15 +60,14 @@ impl<S: Alter + Drop> Tables<S> {
         ensures count { HasCleanDisk (state S.Store self.new.conn)
             → (q : Rules) (W : Partner) (L : List register.Entry)
             → StandsOpenAs q (state S.Store self.old.conn) W L → IfOk result (λ n. n ≡ length L) }
-        ensures asked { (q : Rules) → IsAskedOf (LiesAs q) (state S.Store self.old.conn)
-            (state S.Store self.new.conn) }
+        ensures asked { IsAsked (state S.Store self.old.conn) (state S.Store self.new.conn) }
         ensures named { IfErr result (λ f. (f ≡ Fault.OutOfMemory) ⊎ (f ≡ Fault.Store)) }
         ensures counted { OnErr result (Rises self.old.refused self.new.refused) }
         ensures uncounted { OnOk result (self.new.refused ≡ self.old.refused) }
         ensures limit { Counts self.old self.new }
         ensures allowed { OnOk result (self.old.limit ≢ Some 0) }
     {
-        let rows = self.ask_any("SELECT seq FROM entry", &[])?;
+        let rows = self.ask("SELECT seq FROM entry", &[])?;
         Ok(rows.len() as u64)
     }
 
@@ -93,8 +91,7 @@ impl<S: Alter + Drop> Tables<S> {
             → StandsOpenAs q (state S.Store self.old.conn) W L → IfErr result (λ f. f ≢ Fault.NotThisBook) }
         ensures was_open { HasCleanDisk (state S.Store self.new.conn)
             → OnOk result (IsTrue (state S.Store self.old.conn).is_open) }
-        ensures asked { (q : Rules) → IsAskedOf (LiesAs q) (state S.Store self.old.conn)
-            (state S.Store self.new.conn) }
+        ensures asked { IsAsked (state S.Store self.old.conn) (state S.Store self.new.conn) }
         ensures named { IfErr result (λ f. (f ≡ Fault.NotThisBook) ⊎ ((f ≡ Fault.OutOfMemory)
             ⊎ (f ≡ Fault.Store))) }
         ensures counted { IfErr result (λ f. f ≢ Fault.NotThisBook → Rises self.old.refused self.new.refused) }

@@ -1,16 +1,13 @@
 ghost use Rattle.std.specs.Prelude.{◌≡◌, ◌≢◌, ◌<◌, ◌↔◌, List, length, IsTrue, IfOk, OnOk, false, true};
 ghost use Rattle.profile.specs.Header.{Who as Partner};
 ghost use Rattle.profile.specs.Register as register;
-ghost use Rattle.sqlite.specs.Given.{IsPlain};
 ghost use Rattle.sqlite.specs.Held.{state};
-ghost use Rattle.sqlite.specs.Listing.{understood};
 ghost use Rattle.sqlite.specs.Order.{column};
 ghost use Rattle.sqlite.specs.State.{HasCleanDisk};
-ghost use Rattle.book_tables.specs.Asking.{Asked, IsAsked};
+ghost use Rattle.book_tables.specs.Asking.{Asked, IsAsked, OnlyReads};
 ghost use Rattle.book_tables.specs.Comparing as comparing;
 ghost use Rattle.book_tables.specs.Comparing.{AreTables, Compares, IsLaid, ShowBoth, number_of};
 ghost use Rattle.book_tables.specs.Exits.{StandsWhileOpen};
-ghost use Rattle.book_tables.specs.Layout.{Others, beside};
 ghost use Rattle.book_tables.specs.Limits.{Counts};
 ghost use Rattle.book_tables.specs.Standing.{Stands};
 
@@ -141,7 +138,7 @@ impl<S: Alter + Drop> Tables<S> {
         other: &mut Tables<T>,
         sql: &str,
     ) -> Result<bool, Fault>
-        requires { (others : Others) → IsPlain (understood (beside others) sql.now) }
+        requires { OnlyReads sql.now }
         ensures same { HasCleanDisk (state S.Store self.new.conn) → HasCleanDisk (state T.Store other.new.conn)
             → IfOk result (ShowBoth sql.now (state S.Store self.old.conn) (state T.Store other.old.conn)) }
         ensures asked { Asked S.Store self.old self.new result }
@@ -158,8 +155,7 @@ impl<S: Alter + Drop> Tables<S> {
     // Whether each table shows the same rows in both. It stops at the first that differs.
     fn compare_tables<T: Alter + Drop>(&mut self, other: &mut Tables<T>) -> Result<bool, Fault>
         ensures compares { HasCleanDisk (state S.Store self.new.conn)
-            → HasCleanDisk (state T.Store other.new.conn) → IsLaid (state S.Store self.old.conn)
-            → IsLaid (state T.Store other.old.conn)
+            → HasCleanDisk (state T.Store other.new.conn)
             → IfOk result (λ same. Compares same (state S.Store self.old.conn) (state T.Store other.old.conn)) }
         ensures asked { Asked S.Store self.old self.new result }
         ensures other { IsAsked (state T.Store other.old.conn) (state T.Store other.new.conn) }
@@ -186,8 +182,8 @@ impl<S: Alter + Drop> Tables<S> {
             → StandsWhileOpen (state T.Store other.old.conn) W L
             → StandsWhileOpen (state S.Store self.old.conn) W L → IfOk result IsTrue }
         ensures was_open { HasCleanDisk (state S.Store self.new.conn)
-            → HasCleanDisk (state T.Store other.new.conn) → IsLaid (state S.Store self.old.conn)
-            → IsLaid (state T.Store other.old.conn) → OnOk result (IsTrue (state S.Store self.old.conn).is_open) }
+            → HasCleanDisk (state T.Store other.new.conn)
+            → OnOk result (IsTrue (state S.Store self.old.conn).is_open) }
         ensures asked { Asked S.Store self.old self.new result }
         ensures other { IsAsked (state T.Store other.old.conn) (state T.Store other.new.conn) }
         ensures other_limit { Counts other.old other.new }

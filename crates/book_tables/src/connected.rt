@@ -5,14 +5,12 @@ ghost use Rattle.profile.specs.Header.{Who as Partner};
 ghost use Rattle.profile.specs.Register as register;
 ghost use Rattle.sqlite.specs.State.{HasCleanDisk, IsLive, Survives};
 ghost use Rattle.sqlite.specs.Held.{state};
-ghost use Rattle.sqlite.specs.Given.{IsPlain};
-ghost use Rattle.sqlite.specs.Listing.{understood};
 ghost use Rattle.sqlite.specs.Values.{bound};
-ghost use Rattle.book_tables.specs.Asking.{Finds, IsAsked, IsAskedOf};
+ghost use Rattle.book_tables.specs.Asking.{Finds, IsAsked, OnlyReads};
 ghost use Rattle.book_tables.specs.Carrying.{CarriesOver, StandsOpenAs};
 ghost use Rattle.book_tables.specs.Exits.{IsAppended, HasGrown, Extends, IsAsBefore, LeavesIt};
 ghost use Rattle.book_tables.specs.Limits.{Counts, Spent};
-ghost use Rattle.book_tables.specs.Layout.{Others, beside, no_layout};
+ghost use Rattle.book_tables.specs.Layout.{no_layout};
 ghost use Rattle.book_tables.specs.Making.{Makes};
 ghost use Rattle.book_tables.specs.Rises.{Rises};
 ghost use Rattle.book_tables.specs.Standing.{StandsIn};
@@ -124,17 +122,17 @@ impl<S: Alter + Drop> Tables<S> {
         self.calls.refuse()
     }
 
-    /// The rows that a text answers; where it only reads under the schema that is there, the tables are as they were. A refused
-    /// call is 40 or 41, and counts.
+    /// The rows that a text answers which only reads, under any schema: the tables are as they were. A refused call is 40 or 41, and
+    /// counts.
     #[tactic(auto, using(crate::proofs::Limited::spends_both, crate::proofs::Limited::spends_same))]
-    pub(crate) fn ask_any(&mut self, sql: &str, params: &[ValueRef<'_>]) -> Result<Vec<Row>, Fault>
+    pub(crate) fn ask(&mut self, sql: &str, params: &[ValueRef<'_>]) -> Result<Vec<Row>, Fault>
+        requires { OnlyReads sql.now }
         ensures finds { HasCleanDisk (state S.Store self.new.conn)
             → IfOk result (λ rows. IsTrue (state S.Store self.old.conn).is_open
             × Finds sql.now (bound params.now)
             (state S.Store self.old.conn).now rows.items) }
         ensures live { IsLive (state S.Store self.old.conn) }
-        ensures asked { IsAskedOf (λ schema. IsPlain (understood schema sql.now)) (state S.Store self.old.conn)
-            (state S.Store self.new.conn) }
+        ensures asked { IsAsked (state S.Store self.old.conn) (state S.Store self.new.conn) }
         ensures named { IfErr result (λ f. (f ≡ Fault.OutOfMemory) ⊎ (f ≡ Fault.Store)) }
         ensures counted { OnErr result (Rises self.old.refused self.new.refused) }
         ensures uncounted { OnOk result (self.new.refused ≡ self.old.refused) }
@@ -156,26 +154,6 @@ impl<S: Alter + Drop> Tables<S> {
             Ok(rows) => Ok(rows),
             Err(error) => Err(self.calls.told(error)),
         }
-    }
-
-    /// The rows that a text answers which only reads the tables of a book of version 2.
-    #[tactic(auto, using(crate::proofs::Limited::spends_both, crate::proofs::Limited::spends_same))]
-    pub(crate) fn ask(&mut self, sql: &str, params: &[ValueRef<'_>]) -> Result<Vec<Row>, Fault>
-        requires { (others : Others) → IsPlain (understood (beside others) sql.now) }
-        ensures finds { HasCleanDisk (state S.Store self.new.conn)
-            → IfOk result (λ rows. IsTrue (state S.Store self.old.conn).is_open
-            × Finds sql.now (bound params.now)
-            (state S.Store self.old.conn).now rows.items) }
-        ensures live { IsLive (state S.Store self.old.conn) }
-        ensures asked { IsAsked (state S.Store self.old.conn) (state S.Store self.new.conn) }
-        ensures named { IfErr result (λ f. (f ≡ Fault.OutOfMemory) ⊎ (f ≡ Fault.Store)) }
-        ensures counted { OnErr result (Rises self.old.refused self.new.refused) }
-        ensures uncounted { OnOk result (self.new.refused ≡ self.old.refused) }
-        ensures limit { Counts self.old self.new }
-        ensures twice { OnOk result (Spent 2 self.old.made self.new.made self.old.limit self.new.limit) }
-        ensures allowed { OnOk result (self.old.limit ≢ Some 0) }
-    {
-        self.ask_any(sql, params)
     }
 
     /// Appends an entry under the next number, with what its command changes and what goes out for it, in one transaction.
@@ -205,7 +183,7 @@ impl<S: Alter + Drop> Tables<S> {
         ensures limit { Counts self.old self.new }
         ensures allowed { OnOk result (self.old.limit ≢ Some 0) }
     {
-        // For the prover alone, as in `ask_any`.
+        // For the prover alone, as in `ask`.
         let settled = self.conn.is_autocommit();
         prove!(settled);
         let _schema = self.conn.schema();
@@ -236,7 +214,7 @@ impl<S: Alter + Drop> Tables<S> {
         ensures limit { Counts self.old self.new }
         ensures allowed { OnOk result (self.old.limit ≢ Some 0) }
     {
-        // For the prover alone, as in `ask_any`.
+        // For the prover alone, as in `ask`.
         let settled = self.conn.is_autocommit();
         prove!(settled);
         let mut tx = self.conn.transaction();
@@ -269,7 +247,7 @@ impl<S: Alter + Drop> Tables<S> {
         ensures limit { Counts self.old self.new }
         ensures allowed { OnOk result (self.old.limit ≢ Some 0) }
     {
-        // For the prover alone, as in `ask_any`.
+        // For the prover alone, as in `ask`.
         let settled = self.conn.is_autocommit();
         prove!(settled);
         let mut tx = self.conn.transaction();

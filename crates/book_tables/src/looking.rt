@@ -1,13 +1,10 @@
 ghost use Rattle.std.specs.Prelude.{◌≡◌, ◌∷◌, [], pos, IfOk, OnOk, IsTrue};
 ghost use Rattle.profile.specs.Header.{who_text};
 ghost use Rattle.sqlite.specs.declared.types.Value.TheVariants as value;
-ghost use Rattle.sqlite.specs.Given.{IsPlain};
 ghost use Rattle.sqlite.specs.Held.{state};
-ghost use Rattle.sqlite.specs.Listing.{understood};
 ghost use Rattle.sqlite.specs.State.{HasCleanDisk, IsLive};
 ghost use Rattle.sqlite.specs.Values.{bound};
-ghost use Rattle.book_tables.specs.Asking.{Asked, Finds};
-ghost use Rattle.book_tables.specs.Layout.{Others, beside};
+ghost use Rattle.book_tables.specs.Asking.{Asked, Finds, OnlyReads};
 
 use crate::connected::Tables;
 use crate::texts::partner_text;
@@ -39,7 +36,7 @@ impl<S: Alter + Drop> Tables<S> {
         sql: &str,
         who: Who,
     ) -> Result<Vec<Row>, Fault>
-        requires { (others : Others) → IsPlain (understood (beside others) sql.now) }
+        requires { OnlyReads sql.now }
         ensures finds { HasCleanDisk (state S.Store self.new.conn)
             → IfOk result (λ rows. IsTrue (state S.Store self.old.conn).is_open
             × Finds sql.now (value.Text (who_text who)
@@ -59,7 +56,7 @@ impl<S: Alter + Drop> Tables<S> {
         who: Who,
         key: &[u8],
     ) -> Result<Vec<Row>, Fault>
-        requires { (others : Others) → IsPlain (understood (beside others) sql.now) }
+        requires { OnlyReads sql.now }
         ensures finds { HasCleanDisk (state S.Store self.new.conn)
             → IfOk result (λ rows. IsTrue (state S.Store self.old.conn).is_open
             × Finds sql.now (value.Text (who_text who)
@@ -79,7 +76,7 @@ impl<S: Alter + Drop> Tables<S> {
         who: Who,
         n: u32,
     ) -> Result<Vec<Row>, Fault>
-        requires { (others : Others) → IsPlain (understood (beside others) sql.now) }
+        requires { OnlyReads sql.now }
         ensures finds { HasCleanDisk (state S.Store self.new.conn)
             → IfOk result (λ rows. IsTrue (state S.Store self.old.conn).is_open
             × Finds sql.now (value.Text (who_text who)

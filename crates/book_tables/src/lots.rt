@@ -1,5 +1,5 @@
 ghost use Rattle.std.specs.Borrow.{Bor};
-ghost use Rattle.std.specs.Prelude.{◌≡◌, ◌<◌, ◌^◌, ℕ, List, Some, IfOk, bytes_eq, filter, map, option_map, true};
+ghost use Rattle.std.specs.Prelude.{◌≡◌, ◌<◌, ◌^◌, ℕ, List, Some, IfOk, bytes_eq, filter, map, option_map, true, length, IfSome, ◌≤◌};
 ghost use Rattle.std.specs.List.{list_all};
 ghost use Rattle.profile.specs.Header.{Who as Partner};
 ghost use Rattle.profile.specs.Page.{page_of};
@@ -63,8 +63,9 @@ fn lot_in(alloc: Global, row: &Shown, expiry: Option<&[u8]>) -> Result<Option<Ro
 // The lots that rows show, with the dates that rows of item, lot and expiry show of them, where both stand by item and lot; None
 // where one of them shows none.
 fn lots_in(alloc: Global, rows: &[Shown], dates: &[Shown]) -> Result<Option<Vec<Row>>, AllocError>
-    ensures { (rs : List LotRow) → list_all is_fitting_row rs ≡ true → rises_by key_before row_key rs ≡ true
+    ensures shows { (rs : List LotRow) → list_all is_fitting_row rs ≡ true → rises_by key_before row_key rs ≡ true
         → rows.now ≡ map lot_shown rs → dates.now ≡ map date_shown (dates_of rs) → IfOk result (λ shown. option_map (λ v. v.items) shown ≡ Some rs) }
+    ensures all { IfOk result (λ shown. IfSome shown (λ v. length rows.now ≤ length v.items)) }
 {
     let mut shown = Vec::new(alloc);
     let mut left = dates;

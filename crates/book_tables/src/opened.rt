@@ -1,5 +1,5 @@
 //! What a depositor has open: the names of what is open by two queries, and then the part of its page that they name.
-ghost use Rattle.std.specs.Prelude.{◌≡◌, ℕ, List, Some, IfOk, map, option_map};
+ghost use Rattle.std.specs.Prelude.{◌≡◌, ℕ, List, Some, IfOk, map, option_map, length, IfSome, ◌≤◌};
 ghost use Rattle.profile.specs.Header.{Who as Partner};
 ghost use Rattle.profile.specs.Register as register;
 ghost use Rattle.sqlite.specs.Held.{state};
@@ -23,8 +23,9 @@ const OPEN: u32 = 1;
 
 // The names in the first column of rows; None where a row has none there.
 fn names_in(alloc: Global, rows: &[Row]) -> Result<Option<Vec<Name>>, AllocError>
-    ensures { (names : List (List ℕ)) → rows.now ≡ map name_shown names
+    ensures shows { (names : List (List ℕ)) → rows.now ≡ map name_shown names
         → IfOk result (λ shown. option_map (λ v. v.items) shown ≡ Some names) }
+    ensures all { IfOk result (λ shown. IfSome shown (λ v. length rows.now ≤ length v.items)) }
 {
     let mut shown = Vec::new(alloc);
     for row in rows {

@@ -1,15 +1,18 @@
-ghost use Rattle.std.specs.Prelude.{◌≡◌, List, Some, MatchOption, IfOk, map, option_map, filter, length, nat_lt};
+ghost use Rattle.std.specs.Prelude.{◌≡◌, List, Some, MatchOption, IfOk, IfSome, map, option_map, filter, length, nat_lt};
+ghost use Rattle.std.specs.List.{AllByRecursion};
 ghost use Rattle.profile.specs.Header.{Who as Partner};
 ghost use Rattle.profile.specs.Register as register;
 ghost use Rattle.profile.specs.Rows as meant;
+ghost use Rattle.sqlite.specs.declared.types.Value.TheVariants as value;
 ghost use Rattle.sqlite.specs.Held.{state};
+ghost use Rattle.sqlite.specs.Order.{column};
 ghost use Rattle.sqlite.specs.State.{HasCleanDisk};
 ghost use Rattle.sqlite_rules.specs.Lists.{Has};
 ghost use Rattle.rules.specs.Kinds.{kind_text};
 ghost use Rattle.store.specs.Sent.{state_name};
 ghost use Rattle.book_tables.specs.Asking.{Asked};
 ghost use Rattle.book_tables.specs.Exits.{StandsWhileOpen};
-ghost use Rattle.book_tables.specs.Showing.{out_shown, IsSent};
+ghost use Rattle.book_tables.specs.Showing.{out_shown, HasText, IsSent};
 
 use crate::connected::Tables;
 use crate::reading::{blob_at, number_at, text_at};
@@ -48,7 +51,8 @@ fn state_of(text: &[u8]) -> Option<DocumentState>
 
 // The text that a row of n, kind, content and state shows; None where it shows none.
 fn out_row_in(alloc: Global, row: &Row) -> Result<Option<OutRow>, AllocError>
-    ensures { (r : meant.OutRow) → IsSent r → row.now ≡ out_shown r → IfOk result (λ shown. shown ≡ Some r) }
+    ensures shows { (r : meant.OutRow) → IsSent r → row.now ≡ out_shown r → IfOk result (λ shown. shown ≡ Some r) }
+    ensures text { IfOk result (λ shown. IfSome shown (λ r. column row.now 2 ≡ value.Blob r.content)) }
 {
     let Some(n) = number_at(row, 0) else {
         return Ok(None);
@@ -81,10 +85,11 @@ fn out_row_in(alloc: Global, row: &Row) -> Result<Option<OutRow>, AllocError>
 
 /// The texts that rows of n, kind, content and state show, but for the empty ones; None where one of them shows none.
 pub(crate) fn out_rows_in(alloc: Global, rows: &[Row]) -> Result<Option<Vec<OutRow>>, AllocError>
-    ensures { (rs : List meant.OutRow) → ((r : meant.OutRow) → Has rs r → IsSent r)
+    ensures shows { (rs : List meant.OutRow) → ((r : meant.OutRow) → Has rs r → IsSent r)
         → rows.now ≡ map out_shown rs
         → IfOk result (λ shown. option_map (λ v. v.items) shown ≡ Some (filter (λ (r : meant.OutRow). nat_lt 0
         (length r.content)) rs)) }
+    ensures all { IfOk result (λ shown. IfSome shown (λ _. AllByRecursion HasText rows.now)) }
 {
     let mut shown = Vec::new(alloc);
     for row in rows {

@@ -1,5 +1,5 @@
 ghost use Rattle.std.specs.Borrow.{Bor};
-ghost use Rattle.std.specs.Prelude.{◌≡◌, ℕ, List, Some, IfOk, map, option_map, true};
+ghost use Rattle.std.specs.Prelude.{◌≡◌, ℕ, List, Some, IfOk, map, option_map, true, length, IfSome, ◌≤◌};
 ghost use Rattle.profile.specs.Header.{Who as Partner};
 ghost use Rattle.profile.specs.Register as register;
 ghost use Rattle.profile.specs.Rows as meant;
@@ -64,9 +64,10 @@ pub(crate) fn stock_rows_in(
     rows: &[Row],
     dates: &[Row],
 ) -> Result<Option<Vec<StockRow>>, AllocError>
-    ensures { (rs : List meant.LotRow) → rises_by key_before row_key rs ≡ true
+    ensures shows { (rs : List meant.LotRow) → rises_by key_before row_key rs ≡ true
         → rows.now ≡ map (λ r. stock_shown (meant.shown_row r)) rs → dates.now ≡ map date_shown (dates_of rs)
         → IfOk result (λ shown. option_map (λ v. v.items) shown ≡ Some (map meant.shown_row rs)) }
+    ensures all { IfOk result (λ shown. IfSome shown (λ v. length rows.now ≤ length v.items)) }
 {
     let mut shown = Vec::new(alloc);
     let mut left = dates;

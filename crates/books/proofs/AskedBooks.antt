@@ -12,8 +12,8 @@ use Rattle.books.specs.Keeping.{IsKept, IsSettled, standing_in}
 use Rattle.book_tables.proofs.AskedLater.{stands_later}
 
 -- no more is left than was
-no_new : (old new : State) (W : Who) (L : List Entry) → HasCleanDisk new → IsAsked old new → StandsWhileOpen old W L → (db : Trees) → new.may_leave db → old.may_leave db
-no_new old new W L clean asked stands db may = elim (asked.crash.crash clean db may) [ inl before ↦ before | inr none ↦ absurd (none (λ o. let here = stands o in here.schema)) ]
+no_new : (old new : State) → HasCleanDisk new → IsAsked old new → (db : Trees) → new.may_leave db → old.may_leave db
+no_new old new clean asked db may = elim (asked.crash.crash clean db may) [ inl before ↦ before | inr none ↦ absurd none ]
 
 -- a query leaves the book as it was
 pub asked_unchanged : (old new : State) (W : Who) (n refused more : ℕ) (shut : Bool) → refused ≤ more → IsAsked old new → IsUnchanged (standing_in old W n refused shut) (standing_in new W n more shut)
@@ -21,8 +21,8 @@ asked_unchanged old new W n refused more shut grew asked = record {
   goes = record { warehouse = refl; doubt = asked.crash.clean; refusals = grew };
   shut = refl;
   keeps = λ clean L k. record { count = k.count; stands = stands_later old new W L clean asked k.stands };
-  stand = λ clean L k was db may. was db (no_new old new W L clean asked k.stands db may);
-  no_more = λ clean L k M left. (left.0, no_new old new W L clean asked k.stands left.0 left.1, left.2);
+  stand = λ clean L k was db may. was db (no_new old new clean asked db may);
+  no_more = λ clean L k M left. (left.0, no_new old new clean asked left.0 left.1, left.2);
 }
 
 -- why a query of the tables failed is why that of the book did
@@ -52,6 +52,6 @@ opened_usable old new W n refused L clean asked count house same was =
       opened = refl;
       legal = was.legal;
       keeps = opened_kept old new W n L clean asked count was.stands;
-      stand = λ db may. was.stand db (no_new old new W L clean asked was.stands db may);
-      only = λ M left. was.only M (left.0, no_new old new W L clean asked was.stands left.0 left.1, left.2);
+      stand = λ db may. was.stand db (no_new old new clean asked db may);
+      only = λ M left. was.only M (left.0, no_new old new clean asked left.0 left.1, left.2);
     })

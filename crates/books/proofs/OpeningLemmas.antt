@@ -13,8 +13,8 @@ use Rattle.profile.specs.Header.{Who}
 use Rattle.profile.specs.Register.{Entry}
 use Rattle.store.specs.declared.fault.Fault.{Fault}
 use Rattle.store.specs.Standing.{IsUsable}
-use Rattle.book_tables.specs.Asking.{IsAsked, IsAskedOf, IsOfFirst, Finds, house_text}
-use Rattle.book_tables.specs.Carrying.{CarriesOver, LeavesCarried, LiesAs, StandsOpenAs}
+use Rattle.book_tables.specs.Asking.{IsAsked, IsOfFirst, Finds, house_text}
+use Rattle.book_tables.specs.Carrying.{CarriesOver, LeavesCarried, StandsOpenAs}
 use Rattle.book_tables.specs.Exits.{LeavesIt}
 use Rattle.book_tables.specs.Kept.{Kept}
 use Rattle.book_tables.specs.Recorded.{IsHouse}
@@ -32,18 +32,15 @@ not_both : One ≡ Two → ⊥
 not_both e = let f : ◌≡◌ {A = ℕ} 1 2 = ap rules_number e in absurd (cc)
 
 -- queries leave of a book of version 1 what a crash left before
-pub left_carried : (old mid : State) → IsAskedOf (LiesAs One) old mid → (W : Who) (L : List Entry) → HasCleanDisk mid → StandsOpenAs One old W L → AllStandAs One old W L → (db : Trees) → mid.may_leave db → LeavesCarried W L db
-left_carried old mid asked W L clean stands all db may = elim (asked.crash.crash clean db may) [
-  | inl before ↦ inl (all db before)
-  | inr none ↦ absurd (none (λ o. let here = stands o in here.schema))
-]
+pub left_carried : (old mid : State) → IsAsked old mid → (W : Who) (L : List Entry) → HasCleanDisk mid → AllStandAs One old W L → (db : Trees) → mid.may_leave db → LeavesCarried W L db
+left_carried old mid asked W L clean all db may = elim (asked.crash.crash clean db may) [ inl before ↦ inl (all db before) | inr none ↦ absurd none ]
 
 -- and of any tables no more than queries do
 pub queried : (old mid : State) → IsAsked old mid → OpensAs old mid
 queried old mid asked = record { clean = let crash = asked.crash in crash.clean; asked = λ none. asked }
 
 -- the book was found by queries, and then brought to version 2
-module _ {S T : Type 0} (store : Ghosts S) (version : Rules) (entries : ℕ) (old mid new : Kept S) (result : Result T Fault) (asked : (q : Rules) → IsAskedOf (LiesAs q) (state store old.conn) (state store mid.conn)) (brought : BringsUp store version entries mid new result) where
+module _ {S T : Type 0} (store : Ghosts S) (version : Rules) (entries : ℕ) (old mid new : Kept S) (result : Result T Fault) (asked : IsAsked (state store old.conn) (state store mid.conn)) (brought : BringsUp store version entries mid new result) where
   abbrev before : State
   before = state store old.conn
 
@@ -63,18 +60,18 @@ module _ {S T : Type 0} (store : Ghosts S) (version : Rules) (entries : ℕ) (ol
   opens_as W house = both_versions version (OpensAs before after)
       (λ one.
       let first : HasCleanDisk between → IsOfFirst before.now = λ clean. let it = house clean in (it.0, it.1, (W, subst (λ q. IsHouse q it.0 W) one it.2)) in
-      let early = (asked One).crash in
+      let early = asked.crash in
       let later = brought.crash one in
       record {
         clean = omega (arith, early.clean, later.clean);
         asked = λ none. record {
-          same = λ clean has. absurd (none (first (clean_mid clean)));
+          same = λ clean. absurd (none (first (clean_mid clean)));
           crash = survives_then before between after _ _ _ (λ clean db no. absurd (none (first (clean_mid clean)))) (λ clean db made. absurd (none (first (clean_mid clean)))) early later;
         };
       })
       (λ two.
-      let early = (asked Two).crash in
-      subst (λ (k : Kept S). OpensAs before (state store k.conn)) (sym (brought.stays two)) (record { clean = early.clean; asked = λ none. asked Two }))
+      let early = asked.crash in
+      subst (λ (k : Kept S). OpensAs before (state store k.conn)) (sym (brought.stays two)) (record { clean = early.clean; asked = λ none. asked }))
 
   -- where it answers Ok, it is usable for the register that stood there in either version
   pub opened_at : (q : Rules) (W : Who) (L : List Entry) (refused : ℕ) (house : Who) (u : T) → result ≡ Ok u → HasCleanDisk after → IsTrue before.is_open → IsLive before
@@ -85,17 +82,17 @@ module _ {S T : Type 0} (store : Ghosts S) (version : Rules) (entries : ℕ) (ol
       by : (q : Rules) → version ≡ q → StandsOpenAs q before W L → IsUsable (standing_in after house entries refused false) L
       by One one stands =
           let made : CarriesOver entries between after × LeavesIt after = subst (λ (r : Result T Fault). OnOk r (CarriesOver entries between after × LeavesIt after)) ok (brought.done clean one) in
-          let there = stands_open_later One before between W L (clean_mid clean) (asked One) stands in
+          let there = stands_open_later One before between W L (clean_mid clean) asked stands in
           subst (λ (V : Who). IsUsable (standing_in after V entries refused false) L) (sym same) (usable_now after W entries refused L count (made.0 W L count there) made.1)
       by Two two stands =
           let settled = settled_at before W L opened live rest law stands in
-          subst (λ (k : Kept S). IsUsable (standing_in (state store k.conn) house entries refused false) L) (sym (brought.stays two)) (opened_usable before between W entries refused L (clean_mid clean) (asked Two) count house same settled)
+          subst (λ (k : Kept S). IsUsable (standing_in (state store k.conn) house entries refused false) L) (sym (brought.stays two)) (opened_usable before between W entries refused L (clean_mid clean) asked count house same settled)
 
   -- and where it fails, a crash leaves the register of a book of version 1 in that version or in version 2
   pub leaves_carried : (W : Who) (L : List Entry) → HasCleanDisk after → version ≡ One → entries ≡ length L → StandsOpenAs One before W L → AllStandAs One before W L → (db : Trees) → after.may_leave db → LeavesCarried W L db
   leaves_carried W L clean one count stands all db may =
       let later = brought.crash one in
       elim (later.crash clean db may) [
-        | inl early ↦ left_carried before between (asked One) W L (clean_mid clean) stands all db early
-        | inr made ↦ inr (made W L count (stands_open_later One before between W L (clean_mid clean) (asked One) stands))
+        | inl early ↦ left_carried before between asked W L (clean_mid clean) all db early
+        | inr made ↦ inr (made W L count (stands_open_later One before between W L (clean_mid clean) asked stands))
       ]

@@ -34,7 +34,4 @@ still_carried old new One W L clean opened stands all asked carried db may = car
 still_carried old new Two W L clean opened stands all asked carried db may =
     let here : Stands W L old.now = stands opened in
     let queried = asked.asked (not_first W L old.now here) in
-    elim (queried.crash.crash clean db may) [
-      | inl early ↦ inr (all db early)
-      | inr none ↦ absurd (none (λ _. here.schema))
-    ]
+    elim (queried.crash.crash clean db may) [ inl early ↦ inr (all db early) | inr none ↦ absurd none ]

@@ -14,7 +14,7 @@ ghost use Rattle.store.specs.Held.{IsHeld};
 ghost use Rattle.store.specs.Known.{first_under};
 ghost use Rattle.store.specs.Sent.{text_of};
 ghost use Rattle.store.specs.Standing.{IsUsable, IsUnchanged, IsQueryFault, IsNext, IsFault, IsCommitFault, LeavesEither, GoesOn, OfKept};
-ghost use Rattle.book_tables.specs.Asking.{Finds, house_text};
+ghost use Rattle.book_tables.specs.Asking.{Finds, IsAsked, house_text};
 ghost use Rattle.book_tables.specs.Carrying.{LeavesCarried, StandsOpenAs};
 ghost use Rattle.book_tables.specs.Exits.{IsAsBefore};
 ghost use Rattle.book_tables.specs.Comparing.{AreTables, IsLaid};
@@ -132,7 +132,8 @@ impl<S: Alter + Drop> Book<S> {
 
     /// Opens the book that tables hold. One of version 1 is carried over to version 2 first, in one transaction, which keeps every
     /// entry under the rules that it was judged by. A fault hands the tables back, which stand for the same register: 40 or 41
-    /// where a call was refused, 43 where `book` hasn't one row, or that row has another version than 1 and 2 or no warehouse.
+    /// where a call was refused, 43 where `book` hasn't one row, or that row has another version than 1 and 2 or no warehouse, which
+    /// leaves the tables as they were, whatever they are.
     #[tactic(auto, using(book_tables::proofs::Limited::spends_both, book_tables::proofs::Limited::spends_same))]
     pub fn open_from(alloc: Global, tables: Tables<S>) -> Result<Book<S>, (Fault, Tables<S>)>
         ensures usable { IfOk result (λ b. HasCleanDisk (state S.Store b.tables.conn)
@@ -153,6 +154,8 @@ impl<S: Alter + Drop> Book<S> {
             → (q : Rules) (W : Partner) (L : List register.Entry) → StandsOpenAs q (state S.Store tables.conn) W L
             → e.0 ≢ Fault.NotThisBook) }
         ensures asked { IfErr result (λ e. OpensAs (state S.Store tables.conn) (state S.Store e.1.conn)) }
+        ensures untouched { IfErr result (λ e. e.0 ≡ Fault.NotThisBook
+            → IsAsked (state S.Store tables.conn) (state S.Store e.1.conn)) }
         ensures carried { IfErr result (λ e. HasCleanDisk (state S.Store e.1.conn)
             → (W : Partner) (L : List register.Entry) → StandsOpenAs One (state S.Store tables.conn) W L
             → AllStandAs One (state S.Store tables.conn) W L
@@ -196,6 +199,8 @@ impl<S: Alter + Drop> Book<S> {
             → (q : Rules) (W : Partner) (L : List register.Entry) → StandsOpenAs q (state S.Store tables.conn) W L
             → e.0 ≢ Fault.NotThisBook) }
         ensures asked { IfErr result (λ e. OpensAs (state S.Store tables.conn) (state S.Store e.1.conn)) }
+        ensures untouched { IfErr result (λ e. e.0 ≡ Fault.NotThisBook
+            → IsAsked (state S.Store tables.conn) (state S.Store e.1.conn)) }
         ensures carried { IfErr result (λ e. HasCleanDisk (state S.Store e.1.conn)
             → (W : Partner) (L : List register.Entry) → StandsOpenAs One (state S.Store tables.conn) W L
             → AllStandAs One (state S.Store tables.conn) W L

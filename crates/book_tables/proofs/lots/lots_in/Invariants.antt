@@ -1,4 +1,4 @@
-use Rattle.std.proofs.Common.{◌≡◌, List, map, take, drop, true}
+use Rattle.std.proofs.Common.{◌≡◌, List, map, take, drop, true, length}
 use Rattle.std.specs.List.{list_all}
 use Rattle.profile.specs.Rows.{LotRow}
 use Rattle.stock.specs.Keyed.{key_before, rises_by, row_key}
@@ -8,5 +8,5 @@ use Rattle.book_tables.specs.Showing.{lot_shown}
 use Rattle.book_tables.proofs.lots.lots_in.Given as goal
 
 abbrev pub invariant-loop-row : goal.invariant-loop-row
-invariant-loop-row l = (rs : List LotRow) → list_all is_fitting_row rs ≡ true → rises_by key_before row_key rs ≡ true → l.rows ≡ map lot_shown rs → l.dates ≡ map date_shown (dates_of rs)
-    → (l.shown.items ≡ take l.row-index rs) × (l.left ≡ map date_shown (dates_of (drop l.row-index rs)))
+invariant-loop-row l = (length l.shown.items ≡ l.row-index) × ((rs : List LotRow) → list_all is_fitting_row rs ≡ true → rises_by key_before row_key rs ≡ true → l.rows ≡ map lot_shown rs → l.dates ≡ map date_shown (dates_of rs)
+    → (l.shown.items ≡ take l.row-index rs) × (l.left ≡ map date_shown (dates_of (drop l.row-index rs))))

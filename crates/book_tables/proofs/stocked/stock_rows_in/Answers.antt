@@ -6,40 +6,46 @@ use Rattle.stock.specs.Keyed.{key_before, rises_by, row_key}
 use Rattle.book_tables.specs.Dated.{date_shown, dates_of}
 use Rattle.book_tables.specs.Showing.{stock_shown}
 use Rattle.book_tables.proofs.DateLemmas.{rises_left}
-use Rattle.book_tables.proofs.Places.{at_place, whole_taken}
+use Rattle.book_tables.proofs.Places.{at_place, one_longer, whole_taken}
 use Rattle.book_tables.proofs.stocked.stock_rows_in.Goals as goal
 
 abbrev shows : LotRow → Row
 shows r = stock_shown (shown_row r)
 
 pub loop-row-init : goal.loop-row-init
-loop-row-init c rs rise is dated = let none : c.new-shown.result.items ≡ [] = search rules in (none, dated)
+loop-row-init c = let none : c.new-shown.result.items ≡ [] = search rules in (ap length none, λ rs rise is dated. (none, dated))
 
-pub returns-in_default : goal.returns-in_default
-returns-in_default c rs rise is dated =
+pub returns-in_default-clause-shows : goal.returns-in_default-clause-shows
+returns-in_default-clause-shows c rs rise is dated =
     let i = c.loop-row.row-index in
     let at = at_place shows c.args.rows.now rs i c.row-item.result is c.loop-row-test.true c.row-item.is in
     let next = c.next_date.ensures at.row (drop (i + 1) rs) (subst (λ (ls : List LotRow). rises_by key_before row_key ls ≡ true) at.left (rises_left rs i rise)) (ap (λ (r : Row). column r 0) at.shows) (ap (λ (r : Row). column r 1) at.shows)
-    ((c.loop-row.invariant rs rise is dated).1 ∙ ap (λ (ls : List LotRow). map date_shown (dates_of ls)) at.left) in
+    ((c.loop-row.invariant.1 rs rise is dated).1 ∙ ap (λ (ls : List LotRow). map date_shown (dates_of ls)) at.left) in
     let some = c.in_ok-stock.ensures (shown_row at.row) at.shows next.0 in
     let none = c.in_default.is in
     absurd (cc (some, none))
 
 pub loop-row-preserved : goal.loop-row-preserved
-loop-row-preserved c rs rise is dated =
-    let i = c.loop-row.row-index in
-    let at = at_place shows c.args.rows.now rs i c.row-item.result is c.loop-row-test.true c.row-item.is in
-    let so_far = c.loop-row.invariant rs rise is dated in
-    let next = c.next_date.ensures at.row (drop (i + 1) rs) (subst (λ (ls : List LotRow). rises_by key_before row_key ls ≡ true) at.left (rises_left rs i rise)) (ap (λ (r : Row). column r 0) at.shows) (ap (λ (r : Row). column r 1) at.shows)
-    (so_far.1 ∙ ap (λ (ls : List LotRow). map date_shown (dates_of ls)) at.left) in
-    let some = c.in_ok-stock.ensures (shown_row at.row) at.shows next.0 in
-    let found = c.in-Some.is in
-    let same : c.in-Some.stock ≡ shown_row at.row = cc (some, found) in (
-      c.in_ok-push.ensures.items ∙ (λ j. so_far.0 j ++ same j ∷ []) ∙ sym (ap (map shown_row) at.more ∙ map-append shown_row (take i rs) (at.row ∷ [])),
-      next.1,
-    )
+loop-row-preserved c = (
+  one_longer _ _ _ _ c.in_ok-push.ensures.items c.loop-row.invariant.0,
+  λ rs rise is dated.
+      let i = c.loop-row.row-index in
+      let at = at_place shows c.args.rows.now rs i c.row-item.result is c.loop-row-test.true c.row-item.is in
+      let so_far = c.loop-row.invariant.1 rs rise is dated in
+      let next = c.next_date.ensures at.row (drop (i + 1) rs) (subst (λ (ls : List LotRow). rises_by key_before row_key ls ≡ true) at.left (rises_left rs i rise)) (ap (λ (r : Row). column r 0) at.shows) (ap (λ (r : Row). column r 1) at.shows)
+      (so_far.1 ∙ ap (λ (ls : List LotRow). map date_shown (dates_of ls)) at.left) in
+      let some = c.in_ok-stock.ensures (shown_row at.row) at.shows next.0 in
+      let found = c.in-Some.is in
+      let same : c.in-Some.stock ≡ shown_row at.row = cc (some, found) in (
+        c.in_ok-push.ensures.items ∙ (λ j. so_far.0 j ++ same j ∷ []) ∙ sym (ap (map shown_row) at.more ∙ map-append shown_row (take i rs) (at.row ∷ [])),
+        next.1,
+      ),
+)
 
-pub returns : goal.returns
-returns c rs rise is dated =
+pub returns-clause-shows : goal.returns-clause-shows
+returns-clause-shows c rs rise is dated =
     let past : length c.args.rows.now ≤ c.loop-row.row-index = omega (arith, c.loop-row-test.false) in
-    ap Some ((c.loop-row.invariant rs rise is dated).0 ∙ ap (map shown_row) (whole_taken shows c.args.rows.now rs c.loop-row.row-index is past))
+    ap Some ((c.loop-row.invariant.1 rs rise is dated).0 ∙ ap (map shown_row) (whole_taken shows c.args.rows.now rs c.loop-row.row-index is past))
+
+pub returns-clause-all : goal.returns-clause-all
+returns-clause-all c = omega (arith, c.loop-row-test.false, c.loop-row.invariant.0)

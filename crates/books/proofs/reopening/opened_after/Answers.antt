@@ -111,7 +111,7 @@ returns-in-Err-open_from-clause-same g c = λ clean W all db may.
     elim (queried.crash.crash late db (last.outcomes db may)) [
       | inl before ↦ subst (v.recovers c.args.store)
           (sym (g.met.S.Store.settled conn.store db opens.0.is_open before ∙ sym (ap (λ (d : Database). d.trees) opens.0.clean) ∙ trees)) found
-      | inr none ↦ absurd (none (λ _. here.schema))
+      | inr none ↦ absurd none
     ]
 
 pub returns-in-Err-open_from-clause-this : goal.returns-in-Err-open_from-clause-this

@@ -13,6 +13,6 @@ returns-in-Ok-open_from_telling-clause-anew g c = λ clean.
       sound = ((c.in-Ok.ensures.opens fresh).1 (let opens = (c.in-Ok.ensures.opens fresh).0 in opens.is_open)).0;
       trees = c.in-Ok.ensures.trees fresh ∙ ap (λ k. (state g.S.Store k).committed.trees) c.new.ensures.conn;
       tables = λ laid second here.
-          let before = (still.asked second).same clean (λ _. laid) in
+          let before = (still.asked second).same clean in
           (before.now here, c.in-Ok.ensures.tables fresh (λ _. laid));
     }

@@ -1,11 +1,26 @@
-use Rattle.sqlite.specs.Given.{IsPlain}
+use Rattle.std.proofs.Common.{rules, IsTrue}
 use Rattle.sqlite.specs.Held.{state}
-use Rattle.sqlite.specs.Listing.{understood}
-use Rattle.book_tables.specs.Layout.{IsLayout}
-use Rattle.book_tables.proofs.Asked.{asked_weaker, plain_beside}
+use Rattle.sqlite.specs.Values.{bound}
+use Rattle.book_tables.proofs.Asked.{not_prepared, shown_asked, shown_found, failed_asked}
 use Rattle.book_tables.proofs.connected.Tables.ask.Goals as goal
 
+pub returns-in-Err-clause-asked : goal.returns-in-Err-clause-asked
+returns-in-Err-clause-asked g c = rw (← c.self.view_is) (
+    let auto : IsTrue c.is_autocommit-settled.result = search rules in
+    not_prepared (state g.S.Store c.self.inside.conn) (state g.S.Store c.prepare.new.self) c.args.sql.now c.in-Err.error (c.is_autocommit-settled.ensures.settled auto) c.in-Err.ensures.err c.prepare.ensures.survives)
+
+pub returns-in-Ok-query_all-clause-finds : goal.returns-in-Ok-query_all-clause-finds
+returns-in-Ok-query_all-clause-finds g c = rw (← c.self.view_is) (λ clean.
+    shown_found c.args.sql.now (bound c.args.params.now) c.in-Ok.statement.text (state g.S.Store c.self.inside.conn) (state g.S.Store c.prepare.new.self) (state g.S.Store c.query_all.new.conn) c.requires
+    c.in-Ok.ensures.ok c.prepare.ensures.survives c.query_all.ensures.survives c.in-Ok-query_all.rows.items c.in-Ok-query_all.ensures.ok clean)
+
+pub returns-in-Ok-query_all-clause-asked : goal.returns-in-Ok-query_all-clause-asked
+returns-in-Ok-query_all-clause-asked g c = rw (← c.self.view_is) (
+    shown_asked c.args.sql.now (bound c.args.params.now) c.in-Ok.statement.text (state g.S.Store c.self.inside.conn) (state g.S.Store c.prepare.new.self) (state g.S.Store c.query_all.new.conn) c.requires
+    c.in-Ok.ensures.ok c.prepare.ensures.survives c.query_all.ensures.survives c.in-Ok-query_all.rows.items c.in-Ok-query_all.ensures.ok)
+
 pub returns-clause-asked : goal.returns-clause-asked
-returns-clause-asked g c =
-    asked_weaker IsLayout (λ schema. IsPlain (understood schema c.args.sql.now)) (state g.S.Store c.args.self.now.conn) (state g.S.Store c.ask_any.new.self.conn)
-    (λ schema lies. plain_beside c.args.sql.now schema c.requires lies) c.ask_any.ensures.asked
+returns-clause-asked g c = rw (← c.self.view_is) (
+    let auto : IsTrue c.is_autocommit-settled.result = search rules in
+    failed_asked c.args.sql.now (bound c.args.params.now) c.in-Ok.statement.text (state g.S.Store c.self.inside.conn) (state g.S.Store c.prepare.new.self) (state g.S.Store c.query_all.new.conn) c.requires
+    c.in-Ok.ensures.ok c.prepare.ensures.survives c.query_all.ensures.survives c.in-Err-query_all.error (c.is_autocommit-settled.ensures.settled auto) c.in-Err-query_all.ensures.err)

@@ -1,6 +1,5 @@
-use Rattle.std.proofs.Common.{arith, ap, subst, sym, ◌≡◌, ◌∙◌, ℕ, List, length, IsTrue}
+use Rattle.std.proofs.Common.{arith, ap, subst, sym, ◌≡◌, List, length, IsTrue}
 use Rattle.sqlite.specs.State.{HasCleanDisk, Survives}
-use Rattle.sqlite.specs.Effect.{Database}
 use Rattle.sqlite.specs.Held.{Held, state}
 use Rattle.sqlite.specs.Tree.{Trees}
 use Rattle.sqlite.proofs.Callers.{survives_begin}

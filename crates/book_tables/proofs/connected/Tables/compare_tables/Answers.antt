@@ -1,19 +1,17 @@
-use Rattle.std.proofs.Common.{rules, arith, ◌≡◌, ◌≤◌, List, ℕ, sym, subst}
+use Rattle.std.proofs.Common.{rules, arith, ◌≡◌, ◌≤◌, sym, subst}
 use Rattle.std.specs.Prelude.{IsErrAnd}
-use Rattle.sqlite.specs.Given.{IsPlain}
-use Rattle.sqlite.specs.Listing.{understood}
 use Rattle.store.specs.declared.fault.Fault.{Fault}
-use Rattle.book_tables.specs.Layout.{Others, beside}
+use Rattle.book_tables.specs.Asking.{OnlyReads}
 use Rattle.book_tables.proofs.ComparedSoFar.{none_so_far, fails_after, other_after, limit_after, one_more, one_differs, all_same, all_asked}
 use Rattle.book_tables.proofs.Queries.{asked_fails}
-use Rattle.book_tables.proofs.WholeTexts.{whole_plain}
+use Rattle.book_tables.proofs.WholeTexts.{whole_reads}
 use Rattle.book_tables.proofs.connected.Tables.compare_tables.Goals as goal
 
 pub loop-number-init : goal.loop-number-init
 loop-number-init g c = none_so_far g.S.Store g.T.Store c.args.self.now c.args.other.now
 
 pub shows_the_same-requires : goal.shows_the_same-requires
-shows_the_same-requires g c = subst (λ (sql : List ℕ). (others : Others) → IsPlain (understood (beside others) sql)) (sym c.whole_text.ensures) (whole_plain c.table_at.result)
+shows_the_same-requires g c = subst OnlyReads (sym c.whole_text.ensures) (whole_reads c.table_at.result)
 
 pub returns-in_err-shows_the_same-clause-asked : goal.returns-in_err-shows_the_same-clause-asked
 returns-in_err-shows_the_same-clause-asked g c =

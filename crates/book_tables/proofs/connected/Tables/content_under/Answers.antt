@@ -4,14 +4,14 @@ use Rattle.profile.specs.Reply.{out}
 use Rattle.sqlite.specs.Held.{state}
 use Rattle.sqlite.specs.Order.{Row}
 use Rattle.book_tables.specs.Contents.{IsContent}
-use Rattle.book_tables.proofs.KnownTexts.{content_plain}
+use Rattle.book_tables.proofs.KnownTexts.{content_reads}
 use Rattle.book_tables.proofs.Looked.{content_read, content_there}
 use Rattle.book_tables.proofs.Queries.{asked_wrong}
 use Rattle.book_tables.proofs.ReadLemmas.{none_some, same_some}
 use Rattle.book_tables.proofs.connected.Tables.content_under.Goals as goal
 
 pub under_number-requires : goal.under_number-requires
-under_number-requires g c = content_plain
+under_number-requires g c = content_reads
 
 pub returns-in-Some-clause-content : goal.returns-in-Some-clause-content
 returns-in-Some-clause-content g c = λ clean W L stands before e behind split is.

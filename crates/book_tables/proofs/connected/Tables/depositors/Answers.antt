@@ -1,26 +1,22 @@
-use Rattle.std.proofs.Common.{true, ◌≡◌, ◌∙◌, sym, ap, subst, List, Option, Some, option_map, map}
-use Rattle.std.specs.List.{list_all}
-use Rattle.profile.specs.Header.{Who, is_partner, who_text}
-use Rattle.store.specs.Open.{enrolled}
-use Rattle.sqlite.specs.Held.{state}
-use Rattle.sqlite.specs.Order.{Row}
-use Rattle.book_tables.specs.Showing.{name_shown}
-use Rattle.book_tables.proofs.EnrolledFound.{enrolled_read}
-use Rattle.book_tables.proofs.Queries.{asked_wrong}
-use Rattle.book_tables.proofs.ReadLemmas.{none_some, same_some}
+use Rattle.std.proofs.Common.{rules, ◌≡◌, ◌∙◌, ap, map}
+use Rattle.std.specs.Prelude.{IsErrAnd}
+use Rattle.store.specs.declared.fault.Fault.{Fault}
+use Rattle.store.specs.declared.fault.Fault.TheVariants.{OutOfMemory}
+use Rattle.book_tables.specs.Enrolments.{EnrolmentFacts}
+use Rattle.book_tables.proofs.EnrolledOnce.{whos_in_order}
+use Rattle.book_tables.proofs.Queries.{asked_then, asked_short}
 use Rattle.book_tables.proofs.connected.Tables.depositors.Goals as goal
 
-abbrev ReadsRight : List Row → Option (List Who) → Type 0
-ReadsRight rows read = (ws : List Who) → list_all is_partner ws ≡ true → rows ≡ map (λ (w : Who). name_shown (who_text w)) ws → read ≡ Some ws
-
-pub returns-in-Some-clause-whole : goal.returns-in-Some-clause-whole
-returns-in-Some-clause-whole g c = λ clean W L stands.
-    let right = subst (λ (rows : List Row). ReadsRight rows (option_map (λ v. v.items) c.in_ok-whos.field-0)) c.deref.ensures.value c.in_ok-whos.ensures in
-    same_some c.in-Some.whos.items (enrolled L) (sym (ap (option_map (λ v. v.items)) c.in-Some.is)
-    ∙ enrolled_read (state g.S.Store c.args.self.now.conn) W L stands c.in_ok-rows.rows.items (c.in_ok-rows.ensures.finds clean) _ right)
+pub returns-clause-whole : goal.returns-clause-whole
+returns-clause-whole g c = λ clean W L stands.
+    c.in_ok-whos.ensures ∙ ap (map (λ (x : EnrolmentFacts). x.who)) c.deref.ensures.value
+    ∙ whos_in_order L c.in_ok-enrolments.field-0.items c.by_entries-enrolments.result.items (c.in_ok-enrolments.ensures.all clean W L stands)
+    c.by_entries-enrolments.ensures.same c.by_entries-enrolments.ensures.sorted
 
 pub returns-clause-asked : goal.returns-clause-asked
-returns-clause-asked g c = asked_wrong g.S.Store c.args.self.now c.enrolments.new.self c.in_ok-rows.rows c.in_ok-rows.ensures.asked (λ clean W L stands.
-    let right = subst (λ (rows : List Row). ReadsRight rows (option_map (λ v. v.items) c.in_ok-whos.field-0)) c.deref.ensures.value c.in_ok-whos.ensures in
-    none_some _ (enrolled L) (ap (option_map (λ v. v.items)) c.in-None.is)
-    (enrolled_read (state g.S.Store c.args.self.now.conn) W L stands c.in_ok-rows.rows.items (c.in_ok-rows.ensures.finds clean) _ right))
+returns-clause-asked g c = asked_then g.S.Store c.args.self.now c.enrolments.new.self c.in_ok-enrolments.field-0 _ c.in_ok-enrolments.ensures.asked tt
+
+pub returns-in_err-whos-clause-asked : goal.returns-in_err-whos-clause-asked
+returns-in_err-whos-clause-asked g c =
+    let same : IsErrAnd c.from_residual-in_err-whos.result (λ (f : Fault). f ≡ OutOfMemory) = search rules in
+    asked_short g.S.Store c.args.self.now c.enrolments.new.self c.in_ok-enrolments.field-0 c.from_residual-in_err-whos.result same c.in_ok-enrolments.ensures.asked

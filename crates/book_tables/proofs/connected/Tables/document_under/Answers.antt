@@ -6,13 +6,13 @@ use Rattle.sqlite.specs.Held.{state}
 use Rattle.sqlite.specs.Order.{Row}
 use Rattle.book_tables.proofs.SentFound.{none_sent, first_sent}
 use Rattle.book_tables.proofs.Looked.{begins_with, is_empty}
-use Rattle.book_tables.proofs.NeedTexts.{sent_plain}
+use Rattle.book_tables.proofs.NeedTexts.{sent_reads}
 use Rattle.book_tables.proofs.Queries.{asked_wrong}
 use Rattle.book_tables.proofs.ReadLemmas.{none_some, same_some}
 use Rattle.book_tables.proofs.connected.Tables.document_under.Goals as goal
 
 pub under_number-requires : goal.under_number-requires
-under_number-requires g c = sent_plain
+under_number-requires g c = sent_reads
 
 pub returns-in_default-clause-document : goal.returns-in_default-clause-document
 returns-in_default-clause-document g c = λ clean W L stands.

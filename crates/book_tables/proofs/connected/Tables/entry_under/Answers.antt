@@ -8,14 +8,14 @@ use Rattle.sqlite.specs.Held.{state}
 use Rattle.sqlite.specs.Order.{Row, column}
 use Rattle.book_tables.specs.Recorded.{written_at}
 use Rattle.book_tables.proofs.AskedLater.{stands_later, clean_before}
-use Rattle.book_tables.proofs.KnownTexts.{under_plain}
+use Rattle.book_tables.proofs.KnownTexts.{under_reads}
 use Rattle.book_tables.proofs.Looked.{begins_with, is_empty, none_under, first_under}
 use Rattle.book_tables.proofs.Queries.{asked_on, asked_wrong}
 use Rattle.book_tables.proofs.ReadLemmas.{same_number_value}
 use Rattle.book_tables.proofs.connected.Tables.entry_under.Goals as goal
 
 pub under_text-requires : goal.under_text-requires
-under_text-requires g c = under_plain
+under_text-requires g c = under_reads
 
 pub returns-in_default-clause-entry : goal.returns-in_default-clause-entry
 returns-in_default-clause-entry g c = λ clean W L stands.

@@ -4,9 +4,7 @@ use Rattle.sqlite.specs.State.{HasCleanDisk}
 use Rattle.sqlite.specs.Held.{state}
 use Rattle.store.specs.declared.fault.Fault.{Fault}
 use Rattle.store.specs.declared.fault.Fault.TheVariants.{NotThisBook}
-use Rattle.profile.specs.declared.rules.Rules.TheVariants.{One}
-use Rattle.book_tables.specs.Carrying.{LiesAs}
-use Rattle.book_tables.proofs.Asked.{asked_both}
+use Rattle.book_tables.proofs.Asked.{asked_twice}
 use Rattle.book_tables.proofs.AskedLater.{err_as}
 use Rattle.book_tables.proofs.Carried.{stands_open_later}
 use Rattle.book_tables.proofs.Limited.{counts_both}
@@ -18,27 +16,27 @@ returns-in_err-house-clause-this g c = λ clean q W L stands.
     err_as (λ (f : Fault). f ≢ NotThisBook) c.from_residual.result c.in_err-house.field-0.0 same (c.in_err-house.ensures.this clean q W L stands)
 
 pub returns-clause-house : goal.returns-clause-house
-returns-clause-house g c = λ clean. c.in_ok-house.ensures.house (omega (arith, (c.count.ensures.asked One).crash.clean, clean))
+returns-clause-house g c = λ clean. c.in_ok-house.ensures.house (omega (arith, c.count.ensures.asked.crash.clean, clean))
 
 pub returns-clause-count : goal.returns-clause-count
 returns-clause-count g c = λ clean q W L stands.
-    let early : HasCleanDisk (state g.S.Store c.house.new.self.conn) = omega (arith, (c.count.ensures.asked q).crash.clean, clean) in
+    let early : HasCleanDisk (state g.S.Store c.house.new.self.conn) = omega (arith, c.count.ensures.asked.crash.clean, clean) in
     let named = c.in_ok-house.ensures.whose early q W L stands in (
       named.0,
       named.1,
-      c.in_ok-entries.ensures.count clean q W L (stands_open_later q (state g.S.Store c.args.self.now.conn) (state g.S.Store c.house.new.self.conn) W L early (c.house.ensures.asked q) stands),
+      c.in_ok-entries.ensures.count clean q W L (stands_open_later q (state g.S.Store c.args.self.now.conn) (state g.S.Store c.house.new.self.conn) W L early c.house.ensures.asked stands),
     )
 
 pub returns-in_err-entries-clause-asked : goal.returns-in_err-entries-clause-asked
-returns-in_err-entries-clause-asked g c = λ q.
-    asked_both (LiesAs q) (state g.S.Store c.args.self.now.conn) (state g.S.Store c.house.new.self.conn) (state g.S.Store c.count.new.self.conn) (c.house.ensures.asked q) (c.count.ensures.asked q)
+returns-in_err-entries-clause-asked g c =
+    asked_twice (state g.S.Store c.args.self.now.conn) (state g.S.Store c.house.new.self.conn) (state g.S.Store c.count.new.self.conn) c.house.ensures.asked c.count.ensures.asked
 
 pub returns-clause-limit : goal.returns-clause-limit
 returns-clause-limit g c = counts_both c.args.self.now c.house.new.self c.count.new.self c.house.ensures.limit c.count.ensures.limit
 
 pub returns-clause-was_open : goal.returns-clause-was_open
-returns-clause-was_open g c = λ clean. c.in_ok-house.ensures.was_open (omega (arith, (c.count.ensures.asked One).crash.clean, clean))
+returns-clause-was_open g c = λ clean. c.in_ok-house.ensures.was_open (omega (arith, c.count.ensures.asked.crash.clean, clean))
 
 pub returns-clause-asked : goal.returns-clause-asked
-returns-clause-asked g c = λ q.
-    asked_both (LiesAs q) (state g.S.Store c.args.self.now.conn) (state g.S.Store c.house.new.self.conn) (state g.S.Store c.count.new.self.conn) (c.house.ensures.asked q) (c.count.ensures.asked q)
+returns-clause-asked g c =
+    asked_twice (state g.S.Store c.args.self.now.conn) (state g.S.Store c.house.new.self.conn) (state g.S.Store c.count.new.self.conn) c.house.ensures.asked c.count.ensures.asked

@@ -1,15 +1,11 @@
 use Rattle.std.proofs.Common.{List, subst}
 use Rattle.profile.specs.declared.rules.Rules.{Rules}
 use Rattle.profile.specs.Header.{Who}
-use Rattle.sqlite.specs.Given.{IsPlain}
 use Rattle.sqlite.specs.Held.{state}
-use Rattle.sqlite.specs.Listing.{understood}
 use Rattle.sqlite.specs.Order.{Row}
-use Rattle.book_tables.specs.Asking.{house_text}
-use Rattle.book_tables.specs.Carrying.{LiesAs}
 use Rattle.book_tables.specs.Recorded.{IsHouse}
-use Rattle.book_tables.proofs.Asked.{asked_weaker}
-use Rattle.book_tables.proofs.Found.{house_found, house_reads, one_house}
+use Rattle.book_tables.proofs.Found.{house_found, one_house}
+use Rattle.book_tables.proofs.ReadingTexts.{house_reads}
 use Rattle.book_tables.proofs.connected.Tables.house.Goals as goal
 
 pub returns-in-Some-clause-house : goal.returns-in-Some-clause-house
@@ -34,14 +30,5 @@ returns-clause-this g c = λ clean q W L stands _.
 pub returns-in-Some-clause-was_open : goal.returns-in-Some-clause-was_open
 returns-in-Some-clause-was_open g c = λ clean. (c.in_ok-rows.ensures.finds clean).0
 
-pub returns-in-Some-clause-asked : goal.returns-in-Some-clause-asked
-returns-in-Some-clause-asked g c = λ q.
-    asked_weaker (LiesAs q) (λ schema. IsPlain (understood schema house_text)) (state g.S.Store c.args.self.now.conn) (state g.S.Store c.ask_any.new.self.conn) (house_reads q) c.ask_any.ensures.asked
-
-pub returns-clause-asked : goal.returns-clause-asked
-returns-clause-asked g c = λ q.
-    asked_weaker (LiesAs q) (λ schema. IsPlain (understood schema house_text)) (state g.S.Store c.args.self.now.conn) (state g.S.Store c.ask_any.new.self.conn) (house_reads q) c.ask_any.ensures.asked
-
-pub returns-in_err-rows-clause-asked : goal.returns-in_err-rows-clause-asked
-returns-in_err-rows-clause-asked g c = λ q.
-    asked_weaker (LiesAs q) (λ schema. IsPlain (understood schema house_text)) (state g.S.Store c.args.self.now.conn) (state g.S.Store c.ask_any.new.self.conn) (house_reads q) c.ask_any.ensures.asked
+pub ask-requires : goal.ask-requires
+ask-requires g c = house_reads

@@ -3,11 +3,11 @@ use Rattle.std.specs.Prelude.{◌==◌}
 use Rattle.profile.specs.Header.{is_partner, who_text}
 use Rattle.sqlite.specs.Held.{state}
 use Rattle.book_tables.proofs.HasEntries.{none_read}
-use Rattle.book_tables.proofs.ShowingTexts.{has_plain}
+use Rattle.book_tables.proofs.ShowingTexts.{has_reads}
 use Rattle.book_tables.proofs.connected.Tables.is_enrolled.Goals as goal
 
 pub of_depositor-requires : goal.of_depositor-requires
-of_depositor-requires g c = has_plain
+of_depositor-requires g c = has_reads
 
 pub returns-clause-enrolled : goal.returns-clause-enrolled
 returns-clause-enrolled g c = λ clean W L stands.

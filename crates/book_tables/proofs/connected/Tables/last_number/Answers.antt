@@ -8,14 +8,14 @@ use Rattle.profile.specs.Page.{page_of}
 use Rattle.profile.specs.Register.{own}
 use Rattle.sqlite.specs.Held.{state}
 use Rattle.sqlite.specs.Order.{Row, column}
-use Rattle.book_tables.proofs.LastFound.{IsLast, last_read, last_plain}
+use Rattle.book_tables.proofs.LastFound.{IsLast, last_read, last_reads}
 use Rattle.book_tables.proofs.Looked.{begins_with, is_empty}
 use Rattle.book_tables.proofs.Queries.{asked_wrong}
 use Rattle.book_tables.proofs.ReadLemmas.{same_number_value}
 use Rattle.book_tables.proofs.connected.Tables.last_number.Goals as goal
 
 pub of_depositor-requires : goal.of_depositor-requires
-of_depositor-requires g c = last_plain
+of_depositor-requires g c = last_reads
 
 pub returns-in_default-clause-number : goal.returns-in_default-clause-number
 returns-in_default-clause-number g c = λ clean W L stands.

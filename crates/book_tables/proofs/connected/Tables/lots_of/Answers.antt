@@ -15,17 +15,17 @@ use Rattle.book_tables.proofs.AskedLater.{stands_later, clean_before}
 use Rattle.book_tables.proofs.LotsFound.{lots_read}
 use Rattle.book_tables.proofs.Queries.{asked_on, asked_then, asked_short, asked_fails, asked_wrong}
 use Rattle.book_tables.proofs.ReadLemmas.{none_some, same_some}
-use Rattle.book_tables.proofs.NeedTexts.{lots_plain, dates_plain}
+use Rattle.book_tables.proofs.NeedTexts.{lots_reads, dates_reads}
 use Rattle.book_tables.proofs.connected.Tables.lots_of.Goals as goal
 
 abbrev ReadsRight : List Row → List Row → Option (List LotRow) → Type 0
 ReadsRight rows dates read = (rs : List LotRow) → list_all is_fitting_row rs ≡ true → rises_by key_before row_key rs ≡ true → rows ≡ map lot_shown rs → dates ≡ map date_shown (dates_of rs) → read ≡ Some rs
 
 pub under_text-requires : goal.under_text-requires
-under_text-requires g c = lots_plain
+under_text-requires g c = lots_reads
 
 pub under_text-requires-2 : goal.under_text-requires-2
-under_text-requires-2 g c = dates_plain
+under_text-requires-2 g c = dates_reads
 
 pub returns-in_err-dates-clause-asked : goal.returns-in_err-dates-clause-asked
 returns-in_err-dates-clause-asked g c =
@@ -46,7 +46,7 @@ returns-in-Some-clause-lots g c = λ clean W L stands.
     let mid = state g.S.Store c.under_text.new.self.conn in
     let new = state g.S.Store c.under_text-2.new.self.conn in
     let early = clean_before mid new c.in_ok-dates.ensures.asked.left clean in
-    let right = subst₂ (λ (rows dates : List Row). ReadsRight rows dates (option_map (λ v. v.items) c.in_ok-lots.field-0)) c.deref.ensures.value c.deref-2.ensures.value c.in_ok-lots.ensures in
+    let right = subst₂ (λ (rows dates : List Row). ReadsRight rows dates (option_map (λ v. v.items) c.in_ok-lots.field-0)) c.deref.ensures.value c.deref-2.ensures.value c.in_ok-lots.ensures.shows in
     same_some c.in-Some.lots.items _ (sym (ap (option_map (λ v. v.items)) c.in-Some.is)
     ∙ lots_read old mid W L c.args.who c.args.item.now partner c.in_ok-rows.ensures.live c.in_ok-dates.ensures.live stands (stands_later old mid W L early c.in_ok-rows.ensures.asked.left stands)
     c.in_ok-rows.rows.items c.in_ok-dates.dates.items (c.in_ok-rows.ensures.finds early) (c.in_ok-dates.ensures.finds clean) _ right)
@@ -66,7 +66,7 @@ returns-clause-asked g c =
     let mid = state g.S.Store c.under_text.new.self.conn in
     let new = state g.S.Store c.under_text-2.new.self.conn in
     let early = clean_before mid new c.in_ok-dates.ensures.asked.left clean in
-    let right = subst₂ (λ (rows dates : List Row). ReadsRight rows dates (option_map (λ v. v.items) c.in_ok-lots.field-0)) c.deref.ensures.value c.deref-2.ensures.value c.in_ok-lots.ensures in
+    let right = subst₂ (λ (rows dates : List Row). ReadsRight rows dates (option_map (λ v. v.items) c.in_ok-lots.field-0)) c.deref.ensures.value c.deref-2.ensures.value c.in_ok-lots.ensures.shows in
     none_some _ _ (ap (option_map (λ v. v.items)) c.in-None.is)
     (lots_read old mid W L c.args.who c.args.item.now partner c.in_ok-rows.ensures.live c.in_ok-dates.ensures.live stands (stands_later old mid W L early c.in_ok-rows.ensures.asked.left stands)
     c.in_ok-rows.rows.items c.in_ok-dates.dates.items (c.in_ok-rows.ensures.finds early) (c.in_ok-dates.ensures.finds clean) _ right))

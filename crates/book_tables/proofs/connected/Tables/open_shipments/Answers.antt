@@ -4,7 +4,7 @@ use Rattle.sqlite.specs.Held.{state}
 use Rattle.sqlite.specs.Order.{Row}
 use Rattle.book_tables.specs.Showing.{name_shown}
 use Rattle.book_tables.proofs.OpenFound.{shipments_read}
-use Rattle.book_tables.proofs.OpenTexts.{shipments_plain}
+use Rattle.book_tables.proofs.OpenTexts.{shipments_reads}
 use Rattle.book_tables.proofs.Queries.{asked_wrong}
 use Rattle.book_tables.proofs.ReadLemmas.{none_some, same_some}
 use Rattle.book_tables.proofs.connected.Tables.open_shipments.Goals as goal
@@ -13,18 +13,18 @@ abbrev ReadsRight : List Row → Option (List (List ℕ)) → Type 0
 ReadsRight rows read = (names : List (List ℕ)) → rows ≡ map name_shown names → read ≡ Some names
 
 pub under_number-requires : goal.under_number-requires
-under_number-requires g c = shipments_plain
+under_number-requires g c = shipments_reads
 
 pub returns-in-Some-clause-names : goal.returns-in-Some-clause-names
 returns-in-Some-clause-names g c = λ clean W L stands.
     let partner : IsTrue (is_partner c.args.who) = search rules in
-    let right = subst (λ (rows : List Row). ReadsRight rows (option_map (λ v. v.items) c.in_ok-names.field-0)) c.deref.ensures.value c.in_ok-names.ensures in
+    let right = subst (λ (rows : List Row). ReadsRight rows (option_map (λ v. v.items) c.in_ok-names.field-0)) c.deref.ensures.value c.in_ok-names.ensures.shows in
     same_some c.in-Some.names.items _ (sym (ap (option_map (λ v. v.items)) c.in-Some.is)
     ∙ shipments_read (state g.S.Store c.args.self.now.conn) W L c.args.who partner c.in_ok-rows.ensures.live stands c.in_ok-rows.rows.items (c.in_ok-rows.ensures.finds clean) _ right)
 
 pub returns-clause-asked : goal.returns-clause-asked
 returns-clause-asked g c = asked_wrong g.S.Store c.args.self.now c.under_number.new.self c.in_ok-rows.rows c.in_ok-rows.ensures.asked (λ clean W L stands.
     let partner : IsTrue (is_partner c.args.who) = search rules in
-    let right = subst (λ (rows : List Row). ReadsRight rows (option_map (λ v. v.items) c.in_ok-names.field-0)) c.deref.ensures.value c.in_ok-names.ensures in
+    let right = subst (λ (rows : List Row). ReadsRight rows (option_map (λ v. v.items) c.in_ok-names.field-0)) c.deref.ensures.value c.in_ok-names.ensures.shows in
     none_some _ _ (ap (option_map (λ v. v.items)) c.in-None.is)
     (shipments_read (state g.S.Store c.args.self.now.conn) W L c.args.who partner c.in_ok-rows.ensures.live stands c.in_ok-rows.rows.items (c.in_ok-rows.ensures.finds clean) _ right))

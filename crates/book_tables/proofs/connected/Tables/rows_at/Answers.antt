@@ -4,11 +4,11 @@ use Rattle.sqlite.specs.Held.{state}
 use Rattle.sqlite.specs.Order.{Row}
 use Rattle.book_tables.specs.Asking.{Finds}
 use Rattle.book_tables.specs.Recorded.{numbered_text}
-use Rattle.book_tables.proofs.NumberedFound.{numbered_plain}
+use Rattle.book_tables.proofs.NumberedFound.{numbered_reads}
 use Rattle.book_tables.proofs.connected.Tables.rows_at.Goals as goal
 
 pub ask-requires : goal.ask-requires
-ask-requires g c = numbered_plain
+ask-requires g c = numbered_reads
 
 pub returns-clause-finds : goal.returns-clause-finds
 returns-clause-finds g c = λ clean.

@@ -14,17 +14,17 @@ use Rattle.book_tables.proofs.AskedLater.{stands_later, clean_before}
 use Rattle.book_tables.proofs.FoundRows.{stock_read}
 use Rattle.book_tables.proofs.Queries.{asked_on, asked_then, asked_short, asked_fails, asked_wrong}
 use Rattle.book_tables.proofs.ReadLemmas.{none_some, same_some}
-use Rattle.book_tables.proofs.ShowingTexts.{stock_rows_plain, all_dates_plain}
+use Rattle.book_tables.proofs.ShowingTexts.{stock_rows_reads, all_dates_reads}
 use Rattle.book_tables.proofs.connected.Tables.stock_rows.Goals as goal
 
 abbrev ReadsRight : List Row → List Row → Option (List StockRow) → Type 0
 ReadsRight rows dates read = (rs : List LotRow) → rises_by key_before row_key rs ≡ true → rows ≡ map (λ r. stock_shown (shown_row r)) rs → dates ≡ map date_shown (dates_of rs) → read ≡ Some (map shown_row rs)
 
 pub of_depositor-requires : goal.of_depositor-requires
-of_depositor-requires g c = stock_rows_plain
+of_depositor-requires g c = stock_rows_reads
 
 pub of_depositor-requires-2 : goal.of_depositor-requires-2
-of_depositor-requires-2 g c = all_dates_plain
+of_depositor-requires-2 g c = all_dates_reads
 
 pub returns-in_err-dates-clause-asked : goal.returns-in_err-dates-clause-asked
 returns-in_err-dates-clause-asked g c =
@@ -45,7 +45,7 @@ returns-in-Some-clause-rows g c = λ clean W L stands.
     let mid = state g.S.Store c.of_depositor.new.self.conn in
     let new = state g.S.Store c.of_depositor-2.new.self.conn in
     let early = clean_before mid new c.in_ok-dates.ensures.asked.left clean in
-    let right = subst₂ (λ (rows dates : List Row). ReadsRight rows dates (option_map (λ v. v.items) c.in_ok-shown.field-0)) c.deref.ensures.value c.deref-2.ensures.value c.in_ok-shown.ensures in
+    let right = subst₂ (λ (rows dates : List Row). ReadsRight rows dates (option_map (λ v. v.items) c.in_ok-shown.field-0)) c.deref.ensures.value c.deref-2.ensures.value c.in_ok-shown.ensures.shows in
     same_some c.in-Some.shown.items (stock_rows (own L c.args.who)) (sym (ap (option_map (λ v. v.items)) c.in-Some.is)
     ∙ stock_read old mid W L c.args.who partner c.in_ok-rows.ensures.live c.in_ok-dates.ensures.live stands (stands_later old mid W L early c.in_ok-rows.ensures.asked.left stands)
     c.in_ok-rows.rows.items c.in_ok-dates.dates.items (c.in_ok-rows.ensures.finds early) (c.in_ok-dates.ensures.finds clean) _ right)
@@ -65,7 +65,7 @@ returns-clause-asked g c =
     let mid = state g.S.Store c.of_depositor.new.self.conn in
     let new = state g.S.Store c.of_depositor-2.new.self.conn in
     let early = clean_before mid new c.in_ok-dates.ensures.asked.left clean in
-    let right = subst₂ (λ (rows dates : List Row). ReadsRight rows dates (option_map (λ v. v.items) c.in_ok-shown.field-0)) c.deref.ensures.value c.deref-2.ensures.value c.in_ok-shown.ensures in
+    let right = subst₂ (λ (rows dates : List Row). ReadsRight rows dates (option_map (λ v. v.items) c.in_ok-shown.field-0)) c.deref.ensures.value c.deref-2.ensures.value c.in_ok-shown.ensures.shows in
     none_some _ (stock_rows (own L c.args.who)) (ap (option_map (λ v. v.items)) c.in-None.is)
     (stock_read old mid W L c.args.who partner c.in_ok-rows.ensures.live c.in_ok-dates.ensures.live stands (stands_later old mid W L early c.in_ok-rows.ensures.asked.left stands)
     c.in_ok-rows.rows.items c.in_ok-dates.dates.items (c.in_ok-rows.ensures.finds early) (c.in_ok-dates.ensures.finds clean) _ right))

@@ -4,14 +4,14 @@ use Rattle.profile.specs.Header.{is_partner}
 use Rattle.sqlite.specs.Held.{state}
 use Rattle.sqlite.specs.Order.{Row}
 use Rattle.book_tables.specs.Contents.{IsContent}
-use Rattle.book_tables.proofs.KnownTexts.{content_plain}
+use Rattle.book_tables.proofs.KnownTexts.{content_reads}
 use Rattle.book_tables.proofs.Queries.{asked_wrong}
 use Rattle.book_tables.proofs.ReadLemmas.{none_some, same_some}
 use Rattle.book_tables.proofs.SentFound.{text_shown}
 use Rattle.book_tables.proofs.connected.Tables.text_under.Goals as goal
 
 pub under_number-requires : goal.under_number-requires
-under_number-requires g c = content_plain
+under_number-requires g c = content_reads
 
 pub returns-in_default-clause-asked : goal.returns-in_default-clause-asked
 returns-in_default-clause-asked g c = asked_wrong g.S.Store c.args.self.now c.under_number.new.self c.in_ok-rows.rows c.in_ok-rows.ensures.asked (λ clean W L stands.

@@ -79,7 +79,7 @@ returns-then-branch-clause-stands g c = rw (← c.self.view_is) (λ clean laid a
     let other = state g.C.Store c.copy.inside.tables.conn in
     let its = c.in_ok-same_tables.ensures in
     let clean' = c.requires.clean c.same_tables.new.other.conn in
-    let before = c.in_ok-found.ensures.went.left.same (clean_before mid new its.asked.left clean) laid in
+    let before = c.in_ok-found.ensures.went.left.same (clean_before mid new its.asked.left clean) in
     let laid' : IsLaid mid = λ o. subst (λ (d : Database). IsLayout d.schema) (sym (before.now o)) (laid (before.was_open o)) in
     let house : c.args.copy.warehouse ≡ W = c.requires.warehouse ∙ ap (λ (o : Opened _). o.warehouse) (sym c.self.view_is) in
     let found : IsCopy Two W (standing_of g.C.Store c.in-Some.copy) =
@@ -89,7 +89,7 @@ returns-then-branch-clause-stands g c = rw (← c.self.view_is) (λ clean laid a
     let usable = copy.usable in
     let kept = usable.keeps in
     let stood : StandsWhileOpen other W copy.register = subst (λ V. StandsWhileOpen other V copy.register) copy.warehouse kept.stands in
-    let opened = its.was_open clean clean' laid' (λ o. let here = stood o in here.schema) in
+    let opened = its.was_open clean clean' in
     let same = before.now opened in
     let now = its.stands clean clean' laid' (subst (λ (d : Database). AreTables d.trees) (sym same) (are (before.was_open opened))) W copy.register stood c.if-branch.true in
     (before.was_open opened, record { register = copy.register; long = sym kept.count; stands = subst (Stands W copy.register) same now }))

@@ -1,15 +1,15 @@
 use Rattle.std.proofs.Common.{refl}
 use Rattle.sqlite.specs.Held.{state}
-use Rattle.profile.specs.declared.rules.Rules.TheVariants.{One, Two}
+use Rattle.profile.specs.declared.rules.Rules.TheVariants.{One}
 use Rattle.books.proofs.OpeningLemmas.{clean_mid, opens_as, opened_at, leaves_carried, left_carried, queried}
 use Rattle.books.proofs.book.Book.open_from_telling.Goals as goal
 
 pub returns-in-Err-clause-asked : goal.returns-in-Err-clause-asked
-returns-in-Err-clause-asked g c = queried (state g.S.Store c.args.tables.conn) (state g.S.Store c.found.new.self.conn) (c.found.ensures.asked Two)
+returns-in-Err-clause-asked g c = queried (state g.S.Store c.args.tables.conn) (state g.S.Store c.found.new.self.conn) c.found.ensures.asked
 
 pub returns-in-Err-clause-carried : goal.returns-in-Err-clause-carried
-returns-in-Err-clause-carried g c = λ clean W L stands all.
-    left_carried (state g.S.Store c.args.tables.conn) (state g.S.Store c.found.new.self.conn) (c.found.ensures.asked One) W L clean stands all
+returns-in-Err-clause-carried g c = λ clean W L _ all.
+    left_carried (state g.S.Store c.args.tables.conn) (state g.S.Store c.found.new.self.conn) c.found.ensures.asked W L clean all
 
 pub returns-in-Err-bring_up-clause-asked : goal.returns-in-Err-bring_up-clause-asked
 returns-in-Err-bring_up-clause-asked g c =
