@@ -15,6 +15,8 @@ pub mod Answering
 pub mod Called
 pub mod RowsCalls
 pub mod RowsLines
+pub mod RowsHeads
+pub mod Inserting
 pub mod Beginnings
 pub mod Whole
 pub mod Told

@@ -1,4 +1,4 @@
-ghost use Rattle.std.specs.Prelude.{◌≡◌, IfOk};
+ghost use Rattle.std.specs.Prelude.{◌≡◌, IfErr, IfOk};
 ghost use Rattle.profile.specs.Response.{is_exchange};
 ghost use Rattle.matchit.specs.Params.{AllText, walk};
 ghost use Rattle.intake.specs.Fields.{seen_method};
@@ -37,9 +37,10 @@ pub(crate) enum Route<'p> {
     Nowhere,
 }
 
-// The routes that are served.
+// The routes that are served. None of them conflicts with another, so that the one error is want of memory.
 fn router(alloc: Global) -> Result<Router<RouteKind>, InsertError>
-    ensures { IfOk result (λ router. router ≡ table) }
+    ensures table { IfOk result (λ router. router ≡ table) }
+    ensures short { IfErr result (λ error. error ≡ InsertError.OutOfMemory) }
 {
     let mut router = Router::new(alloc);
     router.insert("/x12", RouteKind::Exchange)?;
