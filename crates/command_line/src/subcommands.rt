@@ -277,7 +277,7 @@ fn top<'a>(alloc: Global) -> Command<'a>
         "whx12",
         "The book of a third-party warehouse that takes its orders as X12 interchanges",
         "whx12 COMMAND ..",
-        "The book:      init, enrol, roster, verify\nInterchanges:  send, take, serve\nClerks:        orders, count, pick, recount\nLooking:       stock, open, outbox, depositors\nMany at once:  batch\nTrying out:    script\n\nExample: whx12 init ZZ-WHSE1 --book harbor.book\nExample: whx12 enrol ZZ-ACME --book harbor.book\nExample: whx12 send advice.x12 --book harbor.book\nExample: whx12 script morning.txt\n\n`whx12 help COMMAND` says what a command wants. The exit status is 0 where all was done, 1 where something was refused, 2 where words can't be read, 3 at a fault.",
+        "The book:      init, enrol, roster, verify\nInterchanges:  send, take, serve\nClerks:        orders, count, pick, recount\nLooking:       stock, open, outbox, depositors\nMany at once:  batch\nTrying out:    script\n\nExample: whx12 init ZZ-WHSE1 --book harbor.book\nExample: whx12 enrol ZZ-ACME --book harbor.book\nExample: whx12 send advice.x12 --book harbor.book\nExample: whx12 script morning.txt\n\n`whx12 help COMMAND` says what a command wants. The exit status is 0 where all was done, 1 where something was refused, 2 where words can't be read, 3 at a fault.\n\nWhat a refusal or a fault is about is told in a line of its own on a terminal, and elsewhere where --explain is the last word.",
     )
     .no_binary_name(true)
     .subcommand_required(true)

@@ -3,3 +3,4 @@ pub mod ShownLaws
 pub mod ActLaws
 pub mod EnrolLaws
 pub mod ClockLaws
+mod RowsEnrolled

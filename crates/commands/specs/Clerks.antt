@@ -23,10 +23,9 @@ command_of who t sheet = Clerk who t.ticket.now (calls.act_of (kind_of t.deed) t
 abbrev pub depositor_of : ClerkWords → Option Who
 depositor_of t = calls.depositor_of (kind_of t.deed) t.who.now t.ticket.now t.number.now
 
--- what a slip of these words has: the words, the depositor that they name, and the sheet of their kind that some
+-- what a slip of these words has: the words, the depositor that they name, a text, and the sheet of their kind that the
 -- text makes
-pub record IsSlipOf (t : ClerkWords) (who : Who) (kept : ClerkWords) (sheet : List Line) : Type 0 where
+pub record IsSlipOf (t : ClerkWords) (who : Who) (kept : ClerkWords) (text : List ℕ) (sheet : List Line) : Type 0 where
   pub told : kept ≡ t
   pub named : depositor_of t ≡ Some who
-  pub text : List ℕ
   pub read : sheet_of_text Two (kind_of t.deed) text ≡ Ok sheet

@@ -10,3 +10,4 @@ pub mod Takes
 pub mod Enrolling
 pub mod Clock
 pub mod Serving
+pub mod Reasons

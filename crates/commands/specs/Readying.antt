@@ -19,7 +19,7 @@ IsMadeReady (act.Enrol who) (ready.Enrol w) = who_of who.now ≡ Some w
 IsMadeReady (act.Roster file) (ready.Roster partners) = (text : List ℕ) × IsRead text (Some partners.items)
 IsMadeReady (act.Send file) (ready.Send bytes) = Unit {0}
 IsMadeReady (act.Take dir) (ready.Take folder) = folder ≡ dir
-IsMadeReady (act.Clerk told) (ready.Clerk slip) = IsSlipOf told slip.who slip.told slip.sheet
+IsMadeReady (act.Clerk told) (ready.Clerk slip) = IsSlipOf told slip.who slip.told slip.text.items slip.sheet
 IsMadeReady a r = ⊥
 
 -- the words or their files were refused, or a fault came first: the book is as before, and nothing is printed

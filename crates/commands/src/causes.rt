@@ -291,8 +291,13 @@ fn bad_word<'a>(task: &Task<'a>) -> Option<BadWord<'a>> {
     }
 }
 
-// What is wrong at a line of a file.
-fn at_line(alloc: Global, file: &str, line: u64, why: &str) -> Result<String, AllocError> {
+/// What is wrong at a line of a file.
+pub(crate) fn at_line(
+    alloc: Global,
+    file: &str,
+    line: u64,
+    why: &str,
+) -> Result<String, AllocError> {
     let mut number = Buffer::new();
     [file, " line ", number.format(line), ": ", why].concat(alloc)
 }
@@ -308,7 +313,7 @@ fn about_sheet<R: Files + AllocGlobal>(
         return Ok(Some(named(alloc, file, " has more than 1,048,576 bytes")?));
     };
     match first_bad(alloc, sheet_kind(told.deed), &text, refusal.number())? {
-        Some(bad) => Ok(Some(at_line(alloc, file, bad.line, bad.why)?)),
+        Some(bad) => Ok(Some(at_line(alloc, file, bad.line, &bad.why)?)),
         None => Ok(None),
     }
 }

@@ -26,6 +26,6 @@ pub use script::{play_over, read_lines, run_script};
 pub use served_files::ServedFile;
 pub use serving::{serve, serve_on};
 pub use shows::{Asked, ask, show};
-pub use slips::{Slip, lines_in, sheet_text_of};
+pub use slips::{Slip, sheet_text_of};
 pub use told::{CommandError, ExitStatus, tell_refusal, tell_stop, tell_text, usage};
 pub use verbosity::Verbosity;

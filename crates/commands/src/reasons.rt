@@ -1,15 +1,23 @@
 //! Why words, files or the book refuse something, for people: the word, or the line of the sheet and what the book has of its pair.
-ghost use Rattle.std.specs.Prelude.{◌≡◌, IfOk};
+ghost use Rattle.std.specs.Io.KnownBytes.{Appends};
+ghost use Rattle.std.specs.Prelude.{◌≡◌, ◌++◌, false, List, Ok, IfOk, OnOk, codes, count_by, find, is_some, option_copied};
+ghost use Rattle.profile.specs.declared.rules.Rules.TheVariants.{Two};
+ghost use Rattle.profile.specs.Means.{Line};
+ghost use Rattle.sheet_texts.specs.Texts.{sheet_of_text};
 ghost use Rattle.store.specs.Standing.{GoesOn};
+ghost use Rattle.commands.specs.Clerks.{kind_of};
+ghost use Rattle.commands.specs.Reasons as meant;
+ghost use Rattle.commands.specs.Telling.{refusal_line};
 
-use crate::causes::about_line;
-use crate::slips::{Slip, clerk};
+use crate::causes::{about_line, at_line};
+use crate::slips::{Slip, clerk, lines_in};
 use crate::told::{CommandError, ExitStatus, tell_refusal};
 use crate::verbosity::Verbosity;
-use command_line::{Deed, Task};
+use command_line::{ClerkWords, Deed, Task};
 use itoa::Buffer;
 use rules::{Key, need};
 use sets_in::Goods;
+use sheet_texts::line_of_pair;
 use std::alloc::{AllocError, Global};
 use std::io;
 use std::rt::Files;
@@ -34,13 +42,126 @@ fn text_of(bytes: &[u8]) -> &str {
     str::from_utf8(bytes).unwrap_or("")
 }
 
-// A line that asks for more than there is, or sets less.
-fn compared(
-    alloc: Global,
-    line: &Goods,
-    deed: &str,
-    reserved: u64,
-) -> Result<Option<String>, AllocError> {
+// What is kept of a line's pair, if anything is.
+fn kept_of<'k, 'a>(kept: &'k [Kept<'a>], line: &Goods) -> Option<&'k Kept<'a>>
+    ensures { option_copied result ≡ meant.kept_of kept.now line.now }
+{
+    kept.iter().find(|pair| pair.item == line.item.as_slice() && pair.lot == line.lot.as_slice())
+}
+
+// How much is reserved of a line's pair.
+fn reserved_of(kept: &[Kept<'_>], line: &Goods) -> u64
+    ensures { result ≡ meant.reserved_of kept.now line.now }
+{
+    match kept_of(kept, line) {
+        Some(pair) => pair.reserved,
+        None => 0,
+    }
+}
+
+// Whether a count may not have named a line's pair.
+fn is_doubtful(kept: &[Kept<'_>], line: &Goods) -> bool
+    ensures { result ≡ meant.is_doubtful kept.now line.now }
+{
+    match kept_of(kept, line) {
+        Some(pair) => !pair.is_counted,
+        None => true,
+    }
+}
+
+// How many lines have pairs that a count may not have named.
+fn doubtful(lines: &[Goods], kept: &[Kept<'_>]) -> usize
+    ensures { result ≡ count_by (meant.is_doubtful kept.now) lines.now }
+{
+    lines.iter().filter(|line| is_doubtful(kept, line)).count()
+}
+
+// The first of them.
+fn first_doubtful<'l>(lines: &'l [Goods], kept: &[Kept<'_>]) -> Option<&'l Goods>
+    ensures { option_copied result ≡ find (meant.is_doubtful kept.now) lines.now }
+{
+    lines.iter().find(|line| is_doubtful(kept, line))
+}
+
+// The only one of them; of several it isn't known which it is.
+fn only_doubtful<'l>(lines: &'l [Goods], kept: &[Kept<'_>]) -> Option<&'l Goods>
+    ensures { option_copied result ≡ meant.only_doubtful kept.now lines.now }
+{
+    if doubtful(lines, kept) == 1 {
+        first_doubtful(lines, kept)
+    } else {
+        None
+    }
+}
+
+// Whether nothing is kept of a line's pair.
+fn is_unkept(kept: &[Kept<'_>], line: &Goods) -> bool
+    ensures { result ≡ meant.is_unkept kept.now line.now }
+{
+    kept_of(kept, line).is_none()
+}
+
+// The first line of whose pair nothing is kept.
+fn first_unkept<'l>(lines: &'l [Goods], kept: &[Kept<'_>]) -> Option<&'l Goods>
+    ensures { option_copied result ≡ find (meant.is_unkept kept.now) lines.now }
+{
+    lines.iter().find(|line| is_unkept(kept, line))
+}
+
+// The line whose pair no count has named: the first one of whose pair nothing is kept, or the only one of which it isn't known that a count
+// named it.
+fn unnamed<'l>(lines: &'l [Goods], kept: &[Kept<'_>]) -> Option<&'l Goods>
+    ensures { option_copied result ≡ meant.unnamed kept.now lines.now }
+{
+    match first_unkept(lines, kept) {
+        Some(line) => Some(line),
+        None => only_doubtful(lines, kept),
+    }
+}
+
+// Whether more of a line's pair is picked than is reserved.
+fn is_over(kept: &[Kept<'_>], line: &Goods) -> bool
+    ensures { result ≡ meant.is_over kept.now line.now }
+{
+    reserved_of(kept, line) < u64::from(line.quantity)
+}
+
+// The first line of whose pair more is picked than is reserved.
+fn first_over<'l>(lines: &'l [Goods], kept: &[Kept<'_>]) -> Option<&'l Goods>
+    ensures { option_copied result ≡ find (meant.is_over kept.now) lines.now }
+{
+    lines.iter().find(|line| is_over(kept, line))
+}
+
+// Whether less of a line's pair is left than is reserved.
+fn is_under(kept: &[Kept<'_>], line: &Goods) -> bool
+    ensures { result ≡ meant.is_under kept.now line.now }
+{
+    u64::from(line.quantity) < reserved_of(kept, line)
+}
+
+// The first line of whose pair less is left than is reserved.
+fn first_under<'l>(lines: &'l [Goods], kept: &[Kept<'_>]) -> Option<&'l Goods>
+    ensures { option_copied result ≡ find (meant.is_under kept.now) lines.now }
+{
+    lines.iter().find(|line| is_under(kept, line))
+}
+
+// The line of a sheet that is the reason of a refusal, by what is kept of the pairs; None of a refusal that no line is the reason of, or
+// where it isn't known.
+fn blamed<'l>(refusal: Refusal, lines: &'l [Goods], kept: &[Kept<'_>]) -> Option<&'l Goods>
+    ensures { option_copied result ≡ meant.blamed refusal kept.now lines.now }
+{
+    match refusal {
+        Refusal::NotReserved => first_over(lines, kept),
+        Refusal::UnknownLot => unnamed(lines, kept),
+        Refusal::BelowReserved => first_under(lines, kept),
+        _ => None,
+    }
+}
+
+// Says of a line what is done with its pair, and how much is reserved of it.
+fn compared(alloc: Global, line: &Goods, deed: &str, reserved: u64) -> Result<String, AllocError> {
     let (mut told, mut kept) = (Buffer::new(), Buffer::new());
     let why = [
         text_of(&line.item),
@@ -54,95 +175,51 @@ fn compared(
         kept.format(reserved),
         " reserved",
     ];
-    Ok(Some(why.concat(alloc)?))
-}
-
-// What is kept of a line's pair, if anything is.
-fn kept_of<'k, 'a>(kept: &'k [Kept<'a>], line: &Goods) -> Option<&'k Kept<'a>> {
-    kept.iter().find(|pair| pair.item == line.item.as_slice() && pair.lot == line.lot.as_slice())
-}
-
-// How much is reserved of a line's pair.
-fn reserved_of(kept: &[Kept<'_>], line: &Goods) -> u64 {
-    match kept_of(kept, line) {
-        Some(pair) => pair.reserved,
-        None => 0,
-    }
-}
-
-// The first line of a pick that exceeds what its order has reserved.
-fn not_reserved(
-    alloc: Global,
-    lines: &[Goods],
-    kept: &[Kept<'_>],
-) -> Result<Option<String>, AllocError> {
-    for line in lines {
-        let reserved = reserved_of(kept, line);
-        if reserved < u64::from(line.quantity) {
-            return compared(alloc, line, "picked", reserved);
-        }
-    }
-    Ok(None)
-}
-
-// The first line of a recount that leaves less than is reserved.
-fn below_reserved(
-    alloc: Global,
-    lines: &[Goods],
-    kept: &[Kept<'_>],
-) -> Result<Option<String>, AllocError> {
-    for line in lines {
-        let reserved = reserved_of(kept, line);
-        if u64::from(line.quantity) < reserved {
-            return compared(alloc, line, "on hand", reserved);
-        }
-    }
-    Ok(None)
+    why.concat(alloc)
 }
 
 // Says of a line that no count has named its pair.
-fn not_counted(alloc: Global, line: &Goods) -> Result<Option<String>, AllocError> {
+fn not_counted(alloc: Global, line: &Goods) -> Result<String, AllocError> {
     let (item, lot) = (text_of(&line.item), text_of(&line.lot));
-    Ok(Some([item, " ", lot, ": no count has named it"].concat(alloc)?))
+    [item, " ", lot, ": no count has named it"].concat(alloc)
 }
 
-// A line of a recount whose pair no count has named: the first one that isn't kept, or the only one of which it isn't known that a count
-// named it. Of several such it isn't known which it is.
-fn unknown_lot(
+// What is wrong with a line, by how much is reserved of its pair.
+fn wrong_with(
     alloc: Global,
-    lines: &[Goods],
-    kept: &[Kept<'_>],
-) -> Result<Option<String>, AllocError> {
-    let (mut doubtful, mut only) = (0u64, None);
-    for line in lines {
-        match kept_of(kept, line) {
-            None => return not_counted(alloc, line),
-            Some(pair) if !pair.is_counted => {
-                doubtful = doubtful.saturating_add(1);
-                only = Some(line);
-            }
-            Some(_) => {}
-        }
-    }
-    match only {
-        Some(line) if doubtful == 1 => not_counted(alloc, line),
-        _ => Ok(None),
+    refusal: Refusal,
+    line: &Goods,
+    reserved: u64,
+) -> Result<String, AllocError> {
+    match refusal {
+        Refusal::NotReserved => compared(alloc, line, "picked", reserved),
+        Refusal::BelowReserved => compared(alloc, line, "on hand", reserved),
+        _ => not_counted(alloc, line),
     }
 }
 
-/// Why a sheet of these lines is refused (26, 27 or 28) by a book that keeps these pairs, as a line without its end; None for another
-/// refusal, or where it isn't known.
+/// Why the sheet in a file, which has this text, is refused (26, 27 or 28) by a book that keeps these pairs, as a line without its end: the
+/// file's name, the line and what is wrong there. None for another refusal, or where it isn't known.
 pub fn reason(
     alloc: Global,
     refusal: Refusal,
-    lines: &[Goods],
+    told: &ClerkWords<'_>,
+    text: &[u8],
     kept: &[Kept<'_>],
-) -> Result<Option<String>, AllocError> {
-    match refusal {
-        Refusal::NotReserved => not_reserved(alloc, lines, kept),
-        Refusal::UnknownLot => unknown_lot(alloc, lines, kept),
-        Refusal::BelowReserved => below_reserved(alloc, lines, kept),
-        _ => Ok(None),
+) -> Result<Option<String>, AllocError>
+    ensures blamed { (sheet : List Line) → sheet_of_text Two (kind_of told.now.deed) text.now ≡ Ok sheet
+        → IfOk result (λ why. is_some why ≡ is_some (meant.blamed refusal kept.now sheet)) }
+{
+    let Some(lines) = lines_in(alloc, told, text)? else {
+        return Ok(None);
+    };
+    let Some(line) = blamed(refusal, &lines, kept) else {
+        return Ok(None);
+    };
+    let wrong = wrong_with(alloc, refusal, line, reserved_of(kept, line))?;
+    match line_of_pair(alloc, text, &line.item, &line.lot)? {
+        Some(number) => Ok(Some(at_line(alloc, told.sheet, number, &wrong)?)),
+        None => Ok(Some(wrong)),
     }
 }
 
@@ -176,34 +253,44 @@ fn counted_of(alloc: Global, page: &Page) -> Result<Vec<Kept<'_>>, AllocError> {
     Ok(kept)
 }
 
-// Why a page refuses a recount, as far as a line of the sheet is the reason.
+// Why a page refuses a recount, as far as a line of the sheet is the reason: a pair that no count has named comes first.
 fn not_recounted(
     alloc: Global,
     page: &Page,
-    lines: &[Goods],
+    slip: &Slip<'_>,
 ) -> Result<Option<String>, AllocError> {
     let kept = counted_of(alloc, page)?;
-    match unknown_lot(alloc, lines, &kept)? {
+    match reason(alloc, Refusal::UnknownLot, &slip.told, &slip.text, &kept)? {
         Some(why) => Ok(Some(why)),
-        None => below_reserved(alloc, lines, &kept),
+        None => reason(alloc, Refusal::BelowReserved, &slip.told, &slip.text, &kept),
     }
+}
+
+// Why a page refuses a pick, as far as a line of the sheet is the reason.
+fn not_picked(alloc: Global, page: &Page, slip: &Slip<'_>) -> Result<Option<String>, AllocError> {
+    let Some(order) = page.order(slip.told.number.as_bytes()) else {
+        return Ok(None);
+    };
+    if !order.is_open {
+        return Ok(None);
+    }
+    let kept = held_of(alloc, order)?;
+    reason(alloc, Refusal::NotReserved, &slip.told, &slip.text, &kept)
 }
 
 // Why a page refuses what a clerk did under a new ticket, as far as a line of the sheet is the reason.
 fn page_reason(alloc: Global, page: &Page, slip: &Slip<'_>) -> Result<Option<String>, AllocError> {
-    let lines = slip.sheet.lines(alloc)?;
     match slip.told.deed {
         Deed::Count => Ok(None),
-        Deed::Pick => match page.order(slip.told.number.as_bytes()) {
-            Some(order) if order.is_open => not_reserved(alloc, &lines, &held_of(alloc, order)?),
-            _ => Ok(None),
-        },
-        Deed::Recount => not_recounted(alloc, page, &lines),
+        Deed::Pick => not_picked(alloc, page, slip),
+        Deed::Recount => not_recounted(alloc, page, slip),
     }
 }
 
 /// Tells what a refusal is about, as a line.
-pub fn tell_cause<E: io::Write>(err: &mut E, cause: &str) -> io::Result<()> {
+pub fn tell_cause<E: io::Write>(err: &mut E, cause: &str) -> io::Result<()>
+    ensures { OnOk result (Appends (E.contents err.old) (E.contents err.new) (cause.now ++ codes "\n")) }
+{
     err.write_all(cause.as_bytes())?;
     err.write_all(b"\n")
 }
@@ -218,6 +305,8 @@ pub fn tell_unready<R: Files + AllocGlobal, E: io::Write>(
     err: &mut E,
 ) -> Result<ExitStatus, CommandError>
     ensures says { IfOk result (λ status. status ≡ ExitStatus.Refused) }
+    ensures quiet { verbosity.explains ≡ false
+        → OnOk result (Appends (E.contents err.old) (E.contents err.new) (refusal_line refusal)) }
 {
     let status = tell_refusal(rt.alloc(), err, refusal)?;
     if verbosity.explains {

@@ -124,9 +124,9 @@ fn answer_row<R: Files + Clock + AllocGlobal + Clone + Drop, K: Keeper, W: io::W
     Ok(status)
 }
 
-// Says at which line of a script or a batch something was refused, or stopped it. Where that can't be said, the rest is told all the
-// same.
-fn tell_line<E: io::Write>(err: &mut E, what: &str, number: usize) {
+// Says what happened at a line of a script or a batch, counted from 0. Where that can't be said, the rest is told all the same.
+fn tell_line<E: io::Write>(err: &mut E, what: &str, line: usize) {
+    let number = line.saturating_add(1);
     let _ = write!(err, "{what} at line {number}\n");
 }
 
@@ -134,12 +134,52 @@ fn tell_line<E: io::Write>(err: &mut E, what: &str, number: usize) {
 fn tell_refused_line<E: io::Write>(
     err: &mut E,
     status: ExitStatus,
-    number: usize,
+    line: usize,
     verbosity: Verbosity,
 ) {
     if verbosity.explains && status == ExitStatus::Refused {
-        tell_line(err, "refused", number);
+        tell_line(err, "refused", line);
     }
+}
+
+// Says at which line everything stopped, where that is wanted.
+fn tell_stopped_line<E: io::Write>(err: &mut E, line: usize, is_wanted: bool) {
+    if is_wanted {
+        tell_line(err, "stopped", line);
+    }
+}
+
+// Does what the lines of a text ask for over a book, one after the other, from the one after so many on. Where a line stops it, its number is
+// told if that is wanted.
+fn play_from<R: Files + Clock + AllocGlobal + Clone + Drop, K: Keeper, W: io::Write, E: io::Write>(
+    rt: &R,
+    book: &mut K,
+    text: &str,
+    done: usize,
+    tells_stop: bool,
+    verbosity: Verbosity,
+    out: &mut W,
+    err: &mut E,
+) -> Result<ExitStatus, CommandError>
+    ensures goes { GoesOn (K.standing book.old) (K.standing book.new) }
+{
+    let mut status = ExitStatus::Done;
+    for (i, row) in text.split('\n').enumerate().skip(done) {
+        if row.is_empty() {
+            continue;
+        }
+        match answer_row(rt, book, row, verbosity, out, err) {
+            Ok(next) => {
+                tell_refused_line(err, next, i, verbosity);
+                status = status.and(next);
+            }
+            Err(stop) => {
+                tell_stopped_line(err, i, tells_stop);
+                return Err(stop);
+            }
+        }
+    }
+    Ok(status)
 }
 
 /// Does what the lines of a text ask for over a book, one after the other. A refusal goes on; words that can't be read, and a fault, stop
@@ -160,23 +200,7 @@ pub fn play_over<
 ) -> Result<ExitStatus, CommandError>
     ensures goes { GoesOn (K.standing book.old) (K.standing book.new) }
 {
-    let mut status = ExitStatus::Done;
-    for (i, row) in text.split('\n').enumerate() {
-        if row.is_empty() {
-            continue;
-        }
-        match answer_row(rt, book, row, verbosity, out, err) {
-            Ok(next) => {
-                tell_refused_line(err, next, i + 1, verbosity);
-                status = status.and(next);
-            }
-            Err(stop) => {
-                tell_line(err, "stopped", i + 1);
-                return Err(stop);
-            }
-        }
-    }
-    Ok(status)
+    play_from(rt, book, text, 0, true, verbosity, out, err)
 }
 
 // What a line is that a book that is there can't do.
@@ -207,27 +231,8 @@ fn made<R: Files + AllocGlobal, E: io::Write>(
     }
 }
 
-// Plays a row of a script: the first one makes the book, if it isn't refused.
-fn play_row<R: Files + Clock + AllocGlobal + Clone + Drop, W: io::Write, E: io::Write>(
-    rt: &R,
-    book: &mut Option<ReplayBook>,
-    row: &str,
-    verbosity: Verbosity,
-    out: &mut W,
-    err: &mut E,
-) -> Result<ExitStatus, CommandError> {
-    if let Some(book) = book {
-        return answer_row(rt, book, row, verbosity, out, err);
-    }
-    *book = made(rt, row, verbosity, err)?;
-    match book {
-        Some(_) => Ok(ExitStatus::Done),
-        None => Ok(ExitStatus::Refused),
-    }
-}
-
-// Plays the lines of a script. A refusal goes on, but of the first line; anything else that isn't done stops it. The number of such a line is
-// told where it is asked for.
+// Plays the lines of a script, the first of which makes the book. A refusal goes on, but of that line; anything else that isn't done stops it.
+// The number of such a line is told where it is asked for.
 fn play<R: Files + Clock + AllocGlobal + Clone + Drop, W: io::Write, E: io::Write>(
     rt: &R,
     text: &str,
@@ -235,31 +240,27 @@ fn play<R: Files + Clock + AllocGlobal + Clone + Drop, W: io::Write, E: io::Writ
     out: &mut W,
     err: &mut E,
 ) -> Result<ExitStatus, CommandError> {
-    let mut book: Option<ReplayBook> = None;
-    let mut status = ExitStatus::Done;
-    for (i, row) in text.split('\n').enumerate() {
-        if row.is_empty() {
-            continue;
+    let Some((i, row)) = text
+        .split('\n')
+        .enumerate()
+        .find(|(_, row)| !row.is_empty())
+    else {
+        return Err(usage(rt.alloc(), "a script begins with init\n"));
+    };
+    match made(rt, row, verbosity, err) {
+        Ok(Some(mut book)) => {
+            let tells_stop = verbosity.explains;
+            let done = i.saturating_add(1);
+            play_from(rt, &mut book, text, done, tells_stop, verbosity, out, err)
         }
-        match play_row(rt, &mut book, row, verbosity, out, err) {
-            Ok(next) => {
-                tell_refused_line(err, next, i + 1, verbosity);
-                status = status.and(next);
-            }
-            Err(stop) => {
-                if verbosity.explains {
-                    tell_line(err, "stopped", i + 1);
-                }
-                return Err(stop);
-            }
+        Ok(None) => {
+            tell_refused_line(err, ExitStatus::Refused, i, verbosity);
+            Ok(ExitStatus::Refused)
         }
-        if book.is_none() {
-            return Ok(status);
+        Err(stop) => {
+            tell_stopped_line(err, i, verbosity.explains);
+            Err(stop)
         }
-    }
-    match book {
-        Some(_) => Ok(status),
-        None => Err(usage(rt.alloc(), "a script begins with init\n")),
     }
 }
 

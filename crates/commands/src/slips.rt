@@ -1,5 +1,5 @@
 //! What clerks did, with their sheets.
-ghost use Rattle.std.specs.Prelude.{◌≡◌, List, true, IsTrue, Some, Ok, IfOk, IfSome};
+ghost use Rattle.std.specs.Prelude.{◌≡◌, List, true, IsTrue, Some, Ok, IfOk, IfSome, option_map};
 ghost use Rattle.profile.specs.declared.rules.Rules.TheVariants.{Two};
 ghost use Rattle.profile.specs.Accepted.{is_command};
 ghost use Rattle.profile.specs.Header.{Who as Partner};
@@ -25,6 +25,7 @@ use store::{Command, Ident, Refusal, Sheet, SheetKind, Who};
 pub struct Slip<'a> {
     pub(crate) who: Who,
     pub(crate) told: ClerkWords<'a>,
+    pub(crate) text: Vec<u8>,
     pub(crate) sheet: Sheet,
     pub ghost given: { IsTrue (is_command Two (command_of who told sheet)) },
 }
@@ -82,7 +83,7 @@ pub fn slip_of<'a, R: Files + AllocGlobal>(
     rt: &R,
     told: &ClerkWords<'a>,
 ) -> Result<Result<Slip<'a>, Refusal>, CommandError>
-    ensures { IfOk result (λ made. IfOk made (λ slip. IsSlipOf told.now slip.who slip.told slip.sheet)) }
+    ensures { IfOk result (λ made. IfOk made (λ slip. IsSlipOf told.now slip.who slip.told slip.text.items slip.sheet)) }
 {
     let Some(Read { who, text }) = read_slip(rt, told)? else {
         return Ok(Err(Refusal::BadText));
@@ -91,6 +92,7 @@ pub fn slip_of<'a, R: Files + AllocGlobal>(
         Ok(sheet) => Ok(Ok(Slip {
             who,
             told: *told,
+            text,
             sheet,
         })),
         Err(refusal) => Ok(Err(refusal)),
@@ -116,11 +118,14 @@ pub fn sheet_text_of<R: Files + AllocGlobal>(
 }
 
 /// The lines of a clerk's sheet in a text, by item and then lot; None where it makes no sheet.
-pub fn lines_in(
+pub(crate) fn lines_in(
     alloc: Global,
     told: &ClerkWords<'_>,
     text: &[u8],
-) -> Result<Option<Vec<Goods>>, AllocError> {
+) -> Result<Option<Vec<Goods>>, AllocError>
+    ensures { (sheet : List Line) → sheet_of_text Two (meant.kind_of told.now.deed) text.now ≡ Ok sheet
+        → IfOk result (λ found. option_map (λ lines. lines.items) found ≡ Some sheet) }
+{
     match sheet_in(alloc, sheet_kind(told.deed), text)? {
         Ok(sheet) => Ok(Some(sheet.lines(alloc)?)),
         Err(_) => Ok(None),

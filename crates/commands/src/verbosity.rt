@@ -1,4 +1,6 @@
 //! How much is told on standard error beside refusals and faults.
+ghost use Rattle.std.specs.Prelude.{◌≡◌, false};
+
 use std::io;
 
 /// How much is told on standard error beside refusals and faults. What can't be told is left out: it is no part of an answer.
@@ -20,8 +22,10 @@ impl Verbosity {
         watches: false,
     };
 
-    /// Says how far work is, at each hundredth thing and at the last one.
-    pub fn tell_progress<E: io::Write>(self, err: &mut E, done: u64, all: u64, things: &str) {
+    /// Says how far work is, at each hundredth thing and at the last one; nothing where nobody watches.
+    pub fn tell_progress<E: io::Write>(self, err: &mut E, done: u64, all: u64, things: &str)
+        ensures { self.watches ≡ false → E.contents err.new ≡ E.contents err.old }
+    {
         if self.watches && done == all {
             let _ = write!(err, "\r{done} of {all} {things}\n");
         } else if self.watches && done % STRIDE == 0 {
@@ -29,8 +33,10 @@ impl Verbosity {
         }
     }
 
-    /// Ends the line that says how far work was when it stopped, so that a fault is told on a line of its own.
-    pub fn end_progress<E: io::Write>(self, err: &mut E) {
+    /// Ends the line that says how far work was when it stopped, so that a fault is told on a line of its own; nothing where nobody watches.
+    pub fn end_progress<E: io::Write>(self, err: &mut E)
+        ensures { self.watches ≡ false → E.contents err.new ≡ E.contents err.old }
+    {
         if self.watches {
             let _ = err.write_all(b"\n");
         }

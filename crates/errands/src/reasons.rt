@@ -5,7 +5,7 @@ use crate::courier::Courier;
 use crate::errand::Errand;
 use crate::running::get_any;
 use command_line::{ClerkWords, Show};
-use commands::{CommandError, Kept, lines_in, reason, tell_cause};
+use commands::{CommandError, Kept, reason, tell_cause};
 use remote::{Answer, Request, Unanswered};
 use std::alloc::{AllocError, Global};
 use std::io;
@@ -132,15 +132,14 @@ pub fn tell_reason_there<C: Courier, E: io::Write>(
         return Ok(());
     };
     let answer = get_any(alloc, courier, server, &show)?;
-    let (Ok(report), Some(lines)) = (str::from_utf8(&answer.body), lines_in(alloc, told, sheet)?)
-    else {
-        return Ok(());
-    };
     if answer.status != 200 {
         return Ok(());
     }
+    let Ok(report) = str::from_utf8(&answer.body) else {
+        return Ok(());
+    };
     let kept = pairs_in(alloc, refusal, report)?;
-    if let Some(why) = reason(alloc, refusal, &lines, &kept)? {
+    if let Some(why) = reason(alloc, refusal, told, sheet, &kept)? {
         tell_cause(err, &why)?;
     }
     Ok(())

@@ -17,12 +17,12 @@ const BAD_TEXT: u8 = 32;
 const TOO_MANY_LINES: u8 = 33;
 
 /// What a sheet is refused for, and at which line of its text.
-#[derive(Clone, Copy)]
+#[derive(Drop)]
 pub struct BadLine {
     /// The line, from 1.
     pub line: u64,
     /// What is wrong there, or what should stand there.
-    pub why: &'static str,
+    pub why: String,
 }
 
 // What of a record can't be read, if something can't.
@@ -56,15 +56,31 @@ fn too_much_in(kind: SheetKind, row: &ByteRecord) -> Option<&'static str> {
     }
 }
 
+// Whether a record has this pair.
+fn has_pair(row: &ByteRecord, item: &[u8], lot: &[u8]) -> bool {
+    field(row, 0) == item && field(row, 1) == lot
+}
+
 // Whether the pair of a record stands in one of those before it.
 fn repeated_in(before: &[ByteRecord], row: &ByteRecord) -> Option<&'static str> {
-    let stands = before.iter().any(|other| field(other, 0) == field(row, 0)
-        && field(other, 1) == field(row, 1));
-    if stands {
-        Some("its item and lot stand in a line before it")
+    if before
+        .iter()
+        .any(|other| has_pair(other, field(row, 0), field(row, 1)))
+    {
+        Some(" stands in a line before it")
     } else {
         None
     }
+}
+
+// What is wrong with a record: of one that stands twice after its pair, which can be read.
+fn told_of(alloc: Global, row: &ByteRecord, number: u8, why: &str) -> Result<String, AllocError> {
+    if number != REPEATED_LINE {
+        return String::from_str(alloc, why);
+    }
+    let item = str::from_utf8(field(row, 0)).unwrap_or("");
+    let lot = str::from_utf8(field(row, 1)).unwrap_or("");
+    [item, " ", lot, why].concat(alloc)
 }
 
 // The line of a record. The reader tells where it began to read it, which is before the empty lines that it passes over.
@@ -115,9 +131,22 @@ pub fn first_bad(
         if let Some(why) = bad_in(kind, row, &rows[..at], number) {
             return Ok(Some(BadLine {
                 line: line_of(text, row),
-                why,
+                why: told_of(alloc, row, number, why)?,
             }));
         }
     }
     Ok(None)
+}
+
+/// The line of a sheet's text, from 1, at which an item and a lot stand first; None where they stand nowhere. The one error is want of
+/// memory.
+pub fn line_of_pair(
+    alloc: Global,
+    text: &[u8],
+    item: &[u8],
+    lot: &[u8],
+) -> Result<Option<u64>, AllocError> {
+    let rows = first_records(alloc, text)?;
+    let found = rows.iter().find(|row| has_pair(row, item, lot));
+    Ok(found.map(|row| line_of(text, row)))
 }

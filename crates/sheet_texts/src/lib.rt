@@ -5,5 +5,5 @@ mod bad;
 mod records;
 mod texts;
 
-pub use bad::{BadLine, first_bad};
+pub use bad::{BadLine, first_bad, line_of_pair};
 pub use texts::sheet;

@@ -22,6 +22,7 @@ BOLT,L1,4
 BOLT,L2,7
 @file other.csv
 BOLT,L1,4
+
 NUT,L9,3
 @file next.csv
 BOLT,L2,6
@@ -56,23 +57,23 @@ refused 32 BadText
 ACME: a name is a qualifier of two characters, a hyphen and an id of 2 to 15, as ZZ-ACME, of A to Z, 0 to 9, - and .
 refused at line 5
 refused 31 RepeatedLine
-twice.csv line 2: its item and lot stand in a line before it
+twice.csv line 2: BOLT L1 stands in a line before it
 refused at line 7
 refused 26 NotReserved
-BOLT L2: 2 picked, and 1 reserved
+more.csv line 2: BOLT L2: 2 picked, and 1 reserved
 refused at line 10
 refused 21 TicketUsed
 refused at line 11
 refused 24 UnknownOrder
 refused at line 12
 refused 28 BelowReserved
-BOLT L1: 4 on hand, and 5 reserved
+less.csv line 1: BOLT L1: 4 on hand, and 5 reserved
 refused at line 13
 refused 27 UnknownLot
-NUT L9: no count has named it
+other.csv line 3: NUT L9: no count has named it
 refused at line 14
 refused 27 UnknownLot
-BOLT L3: no count has named it
+next.csv line 2: BOLT L3: no count has named it
 refused at line 16
 @ends 1
 refused 35 AlreadyEnrolled

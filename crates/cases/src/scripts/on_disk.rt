@@ -86,7 +86,7 @@ text.book|recount ZZ-ACME R#1 no.csv --explain|1|refused 32 BadText|R#1: a ticke
 text.book|orders ZZ-ACME ORD#1 --explain|1|refused 32 BadText|ORD#1: a number has 1 to 22 characters of A to Z, 0 to 9, - and .
 text.book|count ZZ-ACME C-1 SHP1 item.csv --explain|1|refused 32 BadText|item.csv line 2: an item has 1 to 20 characters of A to Z, 0 to 9, - and .
 text.book|count ZZ-ACME C-1 SHP1 much.csv --explain|1|refused 30 TooMuch|much.csv line 3: a quantity is at most 999,999
-text.book|pick ZZ-ACME P-1 ORD1 twice.csv --explain|1|refused 31 RepeatedLine|twice.csv line 2: its item and lot stand in a line before it
+text.book|pick ZZ-ACME P-1 ORD1 twice.csv --explain|1|refused 31 RepeatedLine|twice.csv line 2: BOLT L1 stands in a line before it
 text.book|pick ZZ-ACME P-1 ORD1 none.csv --explain|1|refused 32 BadText|none.csv line 1: a picked quantity is 1 at least
 nowhere.book|serve --listen 0.0.0.0:8080 --count 1 --anyone|3|fault 44 Device
 text.book|roster text.book --explain|1|refused 32 BadText|text.book: a list is TOML with the key `depositors`, an array of names as \"ZZ-ACME\"

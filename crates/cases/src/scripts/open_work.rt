@@ -26,6 +26,24 @@ ZZ-BETA
 ZZ-ACME
 @ends 1
 refused 35 AlreadyEnrolled
+@case who is enrolled: names that begin alike, and entries between the enrolments
+@script
+init ZZ-WHSE1
+enrol ZZ-ACME0 --at 2025-03-04T09:15
+enrol ZZ-ACME --at 2025-03-04T09:15
+send goods.x12 --at 2025-03-04T09:15
+enrol ZZ-ACME.1 --at 2025-03-04T09:15
+enrol AA-ACME --at 2025-03-04T09:15
+enrol ZZ-ACME-1 --at 2025-03-04T09:15
+depositors
+@printed
+ISA*00*          *00*          *ZZ*WHSE1          *ZZ*ACME           *250304*0915*U*00401*000000001*0*P*>~GS*FA*WHSE1*ACME*20250304*0915*1*X*004010~ST*997*0001~AK1*AR*1~AK2*943*0001~AK5*A~AK2*943*0002~AK5*A~AK9*A*2*2*2~SE*8*0001~GE*1*1~IEA*1*000000001~
+ZZ-ACME0
+ZZ-ACME
+ZZ-ACME.1
+AA-ACME
+ZZ-ACME-1
+@ends 0
 @case what is open of advices and orders, until it is counted or picked
 @script
 init ZZ-WHSE1

@@ -1,5 +1,5 @@
 use Rattle.store.specs.Standing.{GoesOn}
-use Rattle.commands.proofs.script.play_over.Given as goal
+use Rattle.commands.proofs.script.play_from.Given as goal
 
 abbrev pub invariant-loop-i : goal.invariant-loop-i
 invariant-loop-i g l = record {
