@@ -10,7 +10,7 @@ use intake::{Audience, Gauge, Status, respond, serve_one, serve_telling};
 use std::alloc::Global;
 use std::io::{self, ErrorKind, Read, Write};
 use std::test::Fail;
-use store::{Fault, ReplayBook, SheetKind, outbox};
+use store::{Fault, Keeper, Moment, ReplayBook, SheetKind, outbox};
 use texts::*;
 
 // Gives some bytes, and then its end or an error.
@@ -71,71 +71,91 @@ fn with_room(alloc: Global, room: usize, fails: bool) -> Gauge<Taking> {
     })
 }
 
-// What came of a request: whether it was served, how often the reader and the writer failed, and
-// what was written.
+// What is to come of a request: whether it is served, how often the reader and the writer fail, and
+// what is written.
 #[derive(Drop)]
-struct Exchange {
+struct Exchange<'a> {
     is_served: bool,
     failed: (u64, u64),
-    written: Vec<u8>,
+    written: &'a [u8],
 }
 
-// Serves a request.
-fn served(
+// Serves a request, to a writer with so much room: whether that comes of it.
+fn comes_to<K: Keeper>(
     alloc: Global,
-    book: &mut ReplayBook,
+    book: &mut K,
+    moment: Moment,
     request: Given<'_>,
-    room: usize,
-    fails: bool,
-) -> Result<Exchange, Fail> {
+    (room, fails): (usize, bool),
+    want: Exchange<'_>,
+) -> bool {
     let mut reader = Gauge::new(request);
     let mut writer = with_room(alloc, room, fails);
-    let is_served = match serve_one(alloc, &mut reader, &mut writer, book, morning()?) {
-        Ok(_) => true,
-        Err(Fault::Device) => false,
-        Err(_) => return Err("another fault".into()),
+    let is_so = match serve_one(alloc, &mut reader, &mut writer, book, moment) {
+        Ok(_) => want.is_served,
+        Err(fault) => fault == Fault::Device && !want.is_served,
     };
-    Ok(Exchange {
-        is_served,
-        failed: (reader.errors(), writer.errors()),
-        written: writer.into_inner().bytes,
-    })
+    is_so
+        && (reader.errors(), writer.errors()) == want.failed
+        && writer.into_inner().bytes.as_slice() == want.written
 }
 
 // Whether a request whose bytes end is answered so.
-fn is_answered(
+fn is_answered<K: Keeper>(
     alloc: Global,
-    book: &mut ReplayBook,
+    book: &mut K,
+    moment: Moment,
     bytes: &[u8],
     response: &[u8],
-) -> Result<bool, Fail> {
+) -> bool {
     let request = Given {
         bytes,
         fails: false,
     };
-    let served = served(alloc, book, request, 10_000, true)?;
-    Ok(served.is_served && served.failed == (0, 0) && served.written.as_slice() == response)
+    let want = Exchange {
+        is_served: true,
+        failed: (0, 0),
+        written: response,
+    };
+    comes_to(alloc, book, moment, request, (10_000, true), want)
 }
 
-// Whether a request ends with a fault: how often the reader and the writer failed, and what was
+// Whether a request whose reader fails after these bytes ends with a fault: how often the reader and the writer failed, and what was
 // written.
-fn is_broken_off(served: &Exchange, failed: (u64, u64), written: &[u8]) -> bool {
-    !served.is_served && served.failed == failed && served.written.as_slice() == written
+fn is_broken_off<K: Keeper>(
+    alloc: Global,
+    book: &mut K,
+    moment: Moment,
+    bytes: &[u8],
+    room: (usize, bool),
+    (failed, written): ((u64, u64), &[u8]),
+) -> bool {
+    let request = Given { bytes, fails: true };
+    let want = Exchange {
+        is_served: false,
+        failed,
+        written,
+    };
+    comes_to(alloc, book, moment, request, room, want)
 }
 
 // The book of ZZ WHSE1, in which ZZ ACME is enrolled.
-fn enrolled(alloc: Global) -> Result<ReplayBook, Fail> {
+fn enrolled(alloc: Global, moment: Moment) -> Result<ReplayBook, Fail> {
+    let acme = acme()?;
     let mut book = empty(alloc)?;
-    if enrols(alloc, &mut book, acme()?, morning()?) {
+    if enrols(alloc, &mut book, acme, moment) {
         Ok(book)
     } else {
         Err("enrolled".into())
     }
 }
 
-// How many texts went out.
-fn sent(book: &mut ReplayBook) -> Result<usize, Fail> {
-    Ok(outbox(book, acme()?)?.ok_or("a depositor")?.len())
+// Whether so many texts went out.
+fn has_sent<K: Keeper>(book: &mut K, count: usize) -> Result<bool, Fail> {
+    match outbox(book, acme()?)? {
+        Some(texts) => Ok(texts.len() == count),
+        None => Ok(false),
+    }
 }
 
 const BEFORE_THE_COUNT: &[(&[u8], &[u8])] = &[
@@ -190,73 +210,94 @@ const AFTER_THE_COUNT: &[(&[u8], &[u8])] = &[
     (ACKNOWLEDGMENT, EMPTY),
 ];
 
-// The first of the requests that is answered otherwise.
-fn first_wrong(
+// Fails at the first of the requests that is answered otherwise.
+fn all_answered<K: Keeper>(
     alloc: Global,
-    book: &mut ReplayBook,
+    book: &mut K,
+    moment: Moment,
     rows: &[(&[u8], &[u8])],
-) -> Result<Option<usize>, Fail> {
+) -> Result<(), Fail> {
     for (i, (request, response)) in rows.iter().enumerate() {
-        if !is_answered(alloc, book, request, response)? {
-            return Ok(Some(i));
+        if !is_answered(alloc, book, moment, request, response) {
+            return Err(Fail::new(format_args!("request {i}")));
         }
     }
-    Ok(None)
+    Ok(())
 }
 
 #[test]
 fn requests_are_answered(rt: HostRuntime) -> Result<(), Fail> {
-    let alloc = rt.alloc();
-    let mut book = enrolled(alloc)?;
-    assert_eq!(rt; first_wrong(alloc, &mut book, BEFORE_THE_COUNT)?, None);
+    let (alloc, acme, moment) = (rt.alloc(), acme()?, morning()?);
     let sheet = ninety(alloc, SheetKind::Count)?;
-    assert!(rt; counts(alloc, &mut book, acme()?, &sheet, morning()?));
-    assert_eq!(rt; first_wrong(alloc, &mut book, AFTER_THE_COUNT)?, None);
-    Ok(())
+    let mut book = enrolled(alloc, moment)?;
+    all_answered(alloc, &mut book, moment, BEFORE_THE_COUNT)?;
+    assert!(rt; counts(alloc, &mut book, acme, &sheet, moment));
+    all_answered(alloc, &mut book, moment, AFTER_THE_COUNT)
 }
 
-// What a server that takes clerks' requests too writes in response to one.
-fn written(alloc: Global, book: &mut ReplayBook, request: &str) -> Result<Vec<u8>, Fail> {
+// Whether a server that takes clerks' requests too writes this in response to one.
+fn is_written<K: Keeper>(
+    alloc: Global,
+    book: &mut K,
+    moment: Moment,
+    request: &str,
+    response: &str,
+) -> bool {
     let mut reader = Gauge::new(request.as_bytes());
     let mut writer = Gauge::new(Vec::new(alloc));
-    let moment = morning()?;
-    let served = serve_telling(
-        alloc,
-        &mut reader,
-        &mut writer,
-        book,
-        Audience::Clerks,
-        moment,
-    );
-    match served.outcome {
-        Ok(_) => Ok(writer.into_inner()),
-        Err(_) => Err("a fault".into()),
+    let clerks = Audience::Clerks;
+    let served = serve_telling(alloc, &mut reader, &mut writer, book, clerks, moment);
+    served.outcome.is_ok() && writer.into_inner().as_slice() == response.as_bytes()
+}
+
+// Fails at the first case of a text that is answered otherwise.
+fn all_written<K: Keeper>(
+    alloc: Global,
+    book: &mut K,
+    moment: Moment,
+    text: &str,
+) -> Result<(), Fail> {
+    for case in text.split("@case ").skip(1) {
+        let (line, body) = section_of(case, "asked");
+        let request = request_of(alloc, line, body)?;
+        let response = response_of(alloc, section_of(case, "answered").1)?;
+        if !is_written(alloc, book, moment, &request, &response) {
+            return Err(Fail::new(format_args!("{case}")));
+        }
     }
+    Ok(())
 }
 
 #[test]
 fn clerks_are_answered(rt: HostRuntime) -> Result<(), Fail> {
-    let alloc = rt.alloc();
-    let mut book = enrolled(alloc)?;
-    for text in [deeds::CASES, looks::CASES, strays::CASES] {
-        for case in text.split("@case ").skip(1) {
-            let (line, body) = section_of(case, "asked");
-            let request = request_of(alloc, line, body)?;
-            let response = response_of(alloc, section_of(case, "answered").1)?;
-            let got = written(alloc, &mut book, &request)?;
-            assert!(rt; got.as_slice() == response.as_bytes(), "{case}");
-        }
-    }
-    Ok(())
+    let (alloc, moment) = (rt.alloc(), morning()?);
+    let mut book = enrolled(alloc, moment)?;
+    all_written(alloc, &mut book, moment, deeds::CASES)?;
+    all_written(alloc, &mut book, moment, looks::CASES)?;
+    all_written(alloc, &mut book, moment, strays::CASES)
 }
 
 // A path that isn't UTF-8, which no head has.
 #[test]
 fn a_path_that_is_no_text_is_not_found(rt: HostRuntime) -> Result<(), Fail> {
+    let moment = morning()?;
     let mut book = empty(rt.alloc())?;
     let path = b"/stock/\xff";
-    let response = respond(rt.alloc(), &mut book, &Method::GET, path, b"", morning()?);
-    assert_eq!(rt; response.status, Status::NotFound);
+    let response = respond(rt.alloc(), &mut book, &Method::GET, path, b"", moment);
+    assert!(rt; response.status == Status::NotFound);
+    Ok(())
+}
+
+// Fails at the first beginning of a request that isn't answered 400, or after which an error isn't 44 with nothing written.
+fn all_begun<K: Keeper>(alloc: Global, book: &mut K, moment: Moment) -> Result<(), Fail> {
+    for k in 0..REQUEST.len() {
+        let bytes = &REQUEST[..k];
+        let is_so = is_answered(alloc, book, moment, bytes, BAD_REQUEST)
+            && is_broken_off(alloc, book, moment, bytes, (10_000, true), ((1, 0), b""));
+        if !is_so {
+            return Err(Fail::new(format_args!("{k}")));
+        }
+    }
     Ok(())
 }
 
@@ -264,36 +305,42 @@ fn a_path_that_is_no_text_is_not_found(rt: HostRuntime) -> Result<(), Fail> {
 // as before.
 #[test]
 fn requests_break_off_at_each_byte(rt: HostRuntime) -> Result<(), Fail> {
-    let alloc = rt.alloc();
-    let mut book = enrolled(alloc)?;
-    for k in 0..REQUEST.len() {
-        let bytes = &REQUEST[..k];
-        assert!(rt; is_answered(alloc, &mut book, bytes, BAD_REQUEST)?, "{k}");
-        let request = Given { bytes, fails: true };
-        let served = served(alloc, &mut book, request, 10_000, true)?;
-        assert!(rt; is_broken_off(&served, (1, 0), b""), "{k}");
-    }
-    assert_eq!(rt; sent(&mut book)?, 0);
-    assert!(rt; is_answered(alloc, &mut book, REQUEST, RESPONSE)?);
+    let (alloc, moment) = (rt.alloc(), morning()?);
+    let mut book = enrolled(alloc, moment)?;
+    all_begun(alloc, &mut book, moment)?;
+    assert!(rt; has_sent(&mut book, 0)?);
+    assert!(rt; is_answered(alloc, &mut book, moment, REQUEST, RESPONSE));
     Ok(())
+}
+
+// Whether a response that breaks off there is the beginning of it, and the interchange is taken.
+fn is_taken<K: Keeper>(
+    alloc: Global,
+    book: &mut K,
+    moment: Moment,
+    room: (usize, bool),
+    begun: &[u8],
+) -> Result<bool, Fail> {
+    Ok(
+        is_broken_off(alloc, book, moment, REQUEST, room, ((0, 1), begun))
+            && has_sent(book, 1)?
+            && is_answered(alloc, book, moment, REQUEST, RESPONSE),
+    )
 }
 
 // A writer that takes so many bytes and then fails, or takes nothing: what it took is the beginning
 // of the response, and the interchange is taken.
 #[test]
 fn responses_break_off_at_each_byte(rt: HostRuntime) -> Result<(), Fail> {
-    let alloc = rt.alloc();
+    let (alloc, moment) = (rt.alloc(), morning()?);
     for room in 0..RESPONSE.len() {
+        let begun = &RESPONSE[..room];
         for fails in [true, false] {
-            let mut book = enrolled(alloc)?;
-            let request = Given {
-                bytes: REQUEST,
-                fails: true,
-            };
-            let served = served(alloc, &mut book, request, room, fails)?;
-            assert!(rt; is_broken_off(&served, (0, 1), &RESPONSE[..room]), "{room}");
-            assert_eq!(rt; sent(&mut book)?, 1, "{room}");
-            assert!(rt; is_answered(alloc, &mut book, REQUEST, RESPONSE)?, "{room}");
+            let mut book = enrolled(alloc, moment)?;
+            assert!(rt;
+                is_taken(alloc, &mut book, moment, (room, fails), begun)?,
+                "{room}"
+            );
         }
     }
     Ok(())
@@ -303,9 +350,8 @@ fn responses_break_off_at_each_byte(rt: HostRuntime) -> Result<(), Fail> {
 #[test]
 fn a_flush_goes_through(rt: HostRuntime) {
     let mut writer = with_room(rt.alloc(), 0, false);
-    assert!(rt; writer.flush().is_ok());
-    assert_eq!(rt; writer.errors(), 0);
-    assert!(rt; writer.flush().is_err());
-    assert_eq!(rt; writer.errors(), 1);
-    assert_eq!(rt; writer.into_inner().flushes, 2);
+    let first = (writer.flush().is_ok(), writer.errors());
+    let second = (writer.flush().is_ok(), writer.errors());
+    assert!(rt; first == (true, 0) && second == (false, 1));
+    assert!(rt; writer.into_inner().flushes == 2);
 }

@@ -294,7 +294,8 @@ fn opening_of<S: Alter + Drop>(
         return Ok(Some(false));
     };
     let again = run(alloc, &mut book, day);
-    Ok(Some(are_answers_again(&again.replies, day.len()) && is_whole(&mut book)?))
+    let is_answered = again.fault.is_none() && again.replies.len() == day.len();
+    Ok(Some(is_answered && are_answers_again(&again.replies, day.len()) && is_whole(&mut book)?))
 }
 
 #[test]
