@@ -1,9 +1,9 @@
 //! Books of version 1, which are carried over as they are opened, and whose store refuses a call of
 //! that and all later ones, for each call in turn.
 use super::super::laying::lay;
-use super::day::commands;
-use super::stopped::{Stop, are_answers_again, are_answers_from, is_whole};
-use super::worked::{acme, morning, ninety};
+use super::day::{Trial, on_day};
+use super::stopped::{Stop, answers_again, are_answers_from, is_whole};
+use super::worked::{acme, opened, settled};
 use books::{Book, Tables, days};
 use cases::version1::{BESIDE, COUNTED, DATED, ORDERED, TABLES, hundred_lines, with_lines};
 use reports::{outbox_list, stock_csv};
@@ -12,7 +12,7 @@ use sqlite_trees::memory::MemStore;
 use sqlite_trees::store::Reopen;
 use std::alloc::Global;
 use std::test::Fail;
-use store::{Fault, SheetKind, outbox, run, stock};
+use store::{Command, Fault, Keeper, Moment, Outcome, Who, outbox, stock};
 
 // More calls than an opening makes of its store.
 const MOST: u64 = 100;
@@ -28,16 +28,16 @@ const ANSWERED: usize = 6;
 // What went out by the order of 120 BOLT, or by the one that was refused.
 const SENT: &str = "     1 ANS -\n     2 944 open\n     3 ANS -\n";
 
-// A book of version 1 with these rows.
-fn laid(alloc: Global, rows: &str) -> Result<Tables<MemStore>, Fail> {
-    let mut conn = Connection::open_in_memory(alloc)?;
+// Lays a book of version 1 with these rows.
+fn laid_in<S: Alter + Drop>(mut conn: Connection<S>, rows: &str) -> Result<Tables<S>, Fail> {
     lay(&mut conn, TABLES)?;
     lay(&mut conn, rows)?;
-    if conn.is_autocommit() {
-        Ok(Tables::new(conn))
-    } else {
-        Err("an open transaction".into())
-    }
+    settled(conn)
+}
+
+// A book of version 1 with these rows, in memory.
+fn laid(alloc: Global, rows: &str) -> Result<Tables<MemStore>, Fail> {
+    laid_in(Connection::open_in_memory(alloc)?, rows)
 }
 
 // What a crash leaves of a store.
@@ -48,59 +48,57 @@ fn crashed<S: Alter + Reopen + Drop>(alloc: Global, tables: Tables<S>) -> Result
     }
     match Connection::over(alloc, store) {
         Ok(conn) => Ok(Tables::new(conn)),
-        Err(_) => Err("a database that isn't there after a crash".into()),
+        Err((error, _)) => Err(error.into()),
     }
 }
 
-// The tables of an opening that was stopped, as the next one finds them.
-fn left<S: Alter + Reopen + Drop>(
+// The book of an opening that was stopped, opened again.
+fn opened_after<S: Alter + Reopen + Drop>(
     alloc: Global,
     mut tables: Tables<S>,
     stop: Stop,
-) -> Result<Tables<S>, Fail> {
+) -> Result<Book<S>, Fail> {
     match stop {
-        Stop::Crash => crashed(alloc, tables),
+        Stop::Crash => opened(alloc, crashed(alloc, tables)?),
         Stop::Closing => {
             tables.limit_calls(None);
-            Ok(tables)
+            opened(alloc, tables)
         }
     }
 }
 
-// Opens a book with so many calls, stops it, and opens it again; None where no call was refused.
-fn opened_again<S: Alter + Reopen + Drop>(
+// Whether a book shows these rows of stock and of the outbox, as the reports have them.
+fn shows<K: Keeper>(
+    alloc: Global,
+    book: &mut K,
+    who: Who,
+    (rows, texts): (&str, &str),
+) -> Result<bool, Fail> {
+    let stocked = stock(book, who)?.ok_or("a depositor")?;
+    let sent = outbox(book, who)?.ok_or("a depositor")?;
+    let stocked = stock_csv(alloc, &stocked)?;
+    let sent = outbox_list(alloc, &sent)?;
+    Ok(stocked.as_slice() == rows.as_bytes() && sent.as_slice() == texts.as_bytes())
+}
+
+// Opens a book with so many calls, stops it, and opens it again: whether it has so many entries then, is what its register gives, and
+// shows these rows. None where no call was refused.
+fn is_kept<S: Alter + Reopen + Drop>(
     alloc: Global,
     mut tables: Tables<S>,
-    calls: u64,
-    stop: Stop,
-) -> Result<Option<Book<S>>, Fail> {
+    (calls, stop): (u64, Stop),
+    entries: u64,
+    want: (&str, &str),
+) -> Result<Option<bool>, Fail> {
+    let who = acme()?;
     tables.limit_calls(Some(calls));
     let tables = match Book::open_from(alloc, tables) {
         Ok(_) => return Ok(None),
-        Err((Fault::Store, tables)) => left(alloc, tables, stop)?,
+        Err((Fault::Store, tables)) => tables,
         Err(_) => return Err("another fault".into()),
     };
-    match Book::open_from(alloc, tables) {
-        Ok(book) => Ok(Some(book)),
-        Err(_) => Err("a book that isn't there".into()),
-    }
-}
-
-// Whether a book has so many entries, is what its register gives, and shows these rows of stock and
-// of the outbox, as the reports have them.
-fn is_kept<S: Alter + Drop>(
-    alloc: Global,
-    book: &mut Book<S>,
-    entries: u64,
-    want: (&str, &str),
-) -> Result<bool, Fail> {
-    let stocked = stock(book, acme()?)?.ok_or("a depositor")?;
-    let sent = outbox(book, acme()?)?.ok_or("a depositor")?;
-    let stocked = stock_csv(alloc, &stocked)?;
-    let sent = outbox_list(alloc, &sent)?;
-    let (rows, texts) = want;
-    let is_shown = stocked.as_slice() == rows.as_bytes() && sent.as_slice() == texts.as_bytes();
-    Ok(is_shown && book.verify()? == entries)
+    let mut book = opened_after(alloc, tables, stop)?;
+    Ok(Some(shows(alloc, &mut book, who, want)? && book.verify()? == entries))
 }
 
 // Whether a book of version 1, of so many entries, shows these rows after a stop at each call of its
@@ -113,12 +111,9 @@ fn each_call(
     stop: Stop,
 ) -> Result<(), Fail> {
     for calls in 0..MOST {
-        match opened_again(alloc, laid(alloc, rows)?, calls, stop)? {
-            Some(mut book) => {
-                if !is_kept(alloc, &mut book, entries, want)? {
-                    return Err("another book after a stop".into());
-                }
-            }
+        match is_kept(alloc, laid(alloc, rows)?, (calls, stop), entries, want)? {
+            Some(true) => {}
+            Some(false) => return Err("another book after a stop".into()),
             None => return if calls == CALLS.saturating_add(entries) {
                 Ok(())
             } else {
@@ -155,39 +150,61 @@ fn a_carrying_over_crashes_at_each_call(rt: HostRuntime) -> Result<(), Fail> {
     each_book(rt.alloc(), Stop::Crash)
 }
 
+// A book of version 1 that has the beginning of the day, up to its order.
+pub(super) fn begun(alloc: Global) -> Result<Tables<MemStore>, Fail> {
+    let rows = format!(in alloc; "{COUNTED}{ORDERED}")?;
+    laid(alloc, &rows)
+}
+
+// Gives the day to a book that has the beginning of it.
+pub(super) fn goes_on<S: Alter + Drop>(
+    alloc: Global,
+    tables: Tables<S>,
+    day: &[(Command<'_>, Moment)],
+) -> Result<(), Fail> {
+    let who = acme()?;
+    let mut book = opened(alloc, tables)?;
+    if answers_again(alloc, &mut book, day, ANSWERED) && is_whole(&mut book, who)? {
+        Ok(())
+    } else {
+        Err("another book".into())
+    }
+}
+
 // A day that began under version 1 goes on, and what was answered is answered so again.
 #[test]
 fn a_day_goes_on_after_a_carrying_over(rt: HostRuntime) -> Result<(), Fail> {
-    let alloc = rt.alloc();
-    let counted = ninety(alloc, SheetKind::Count)?;
-    let goods = ninety(alloc, SheetKind::Pick)?;
-    let day = commands(acme()?, &counted, &goods, morning()?);
-    let rows = format!(in alloc; "{COUNTED}{ORDERED}")?;
-    let Ok(mut book) = Book::open_from(alloc, laid(alloc, &rows)?) else {
-        return Err("a book".into());
-    };
-    let again = run(alloc, &mut book, &day);
-    assert!(rt; again.fault.is_none() && are_answers_again(&again.replies, ANSWERED));
-    assert!(rt; is_whole(&mut book)?);
-    Ok(())
+    on_day(rt.alloc(), Trial::GoesOn)
+}
+
+// Whether a day answered so many commands from a place on, of those that a book of version 1 had answered and of the others.
+fn is_led(told: &Result<Outcome, Fault>, from: usize, count: usize) -> bool {
+    match told {
+        Ok(day) => {
+            day.fault.is_none()
+                && day.replies.len() == count
+                && are_answers_from(&day.replies, from, ANSWERED)
+        }
+        Err(_) => false,
+    }
+}
+
+// Gives the day as two days to a book that has the beginning of it.
+pub(super) fn are_led<S: Alter + Reopen + Drop>(
+    alloc: Global,
+    tables: Tables<S>,
+    day: &[(Command<'_>, Moment)],
+) -> Result<(), Fail> {
+    let (told, all_came, _) = days(alloc, tables.into_inner().into_store(), day, &[4, 5]);
+    match told.as_slice() {
+        [first, second] if all_came && is_led(first, 0, 4) && is_led(second, 4, 5) => Ok(()),
+        _ => Err("two other days".into()),
+    }
 }
 
 // Two days over a book of version 1: the first carries it over, and stops after four commands; the second opens what that left.
 // Each command is answered as on one day, and what version 1 answered is answered so again.
 #[test]
 fn days_follow_a_carrying_over(rt: HostRuntime) -> Result<(), Fail> {
-    let alloc = rt.alloc();
-    let counted = ninety(alloc, SheetKind::Count)?;
-    let goods = ninety(alloc, SheetKind::Pick)?;
-    let day = commands(acme()?, &counted, &goods, morning()?);
-    let rows = format!(in alloc; "{COUNTED}{ORDERED}")?;
-    let store = laid(alloc, &rows)?.into_inner().into_store();
-    let (told, all_came, _) = days(alloc, store, &day, &[4, 5]);
-    let [Ok(first), Ok(second)] = told.as_slice() else {
-        return Err("two days".into());
-    };
-    assert!(rt; all_came && first.fault.is_none() && second.fault.is_none());
-    assert!(rt; are_answers_from(&first.replies, 0, ANSWERED) && first.replies.len() == 4);
-    assert!(rt; are_answers_from(&second.replies, 4, ANSWERED) && second.replies.len() == 5);
-    Ok(())
+    on_day(rt.alloc(), Trial::Days)
 }

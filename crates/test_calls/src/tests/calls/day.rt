@@ -1,7 +1,16 @@
 //! A worked day of ZZ ACME: an advice, resends of it, its count, an order, its pick, the acknowledgment
 //! of that, and the count once more. It makes six entries.
-use super::worked::{ADVICE, ANSWER, DUPLICATE, OTHER, RECEIPT, count, is_accepted, is_stored};
-use store::{Act, Command, DocumentState, Moment, OutKind, OutRow, Reply, Sheet, StockRow, Who};
+use super::stopped::Stop;
+use super::worked::{
+    ADVICE, ANSWER, DUPLICATE, OTHER, RECEIPT, acme, count, fresh, is_accepted, is_stored, morning,
+    ninety,
+};
+use super::{carried, in_tables, stopped, want};
+use std::alloc::Global;
+use std::test::Fail;
+use store::{
+    Act, Command, DocumentState, Moment, OutKind, OutRow, Reply, Sheet, SheetKind, StockRow, Who,
+};
 
 // An order of 120 BOLT under control number 2, and its answer under number 3.
 const ORDER: &[u8] =
@@ -28,17 +37,22 @@ pub(crate) enum Want {
     Refused(u8),
 }
 
-// Whether the reply is the one that is wanted, with this text.
-pub(crate) fn is_wanted(reply: &Reply, want: Want, text: &[u8]) -> bool {
-    match want {
-        Want::Enrolled | Want::Accepted => is_accepted(reply, text),
-        Want::Stored => is_stored(reply, text),
-        Want::Refused(number) => match reply {
-            Reply::Refused { refusal, answer } => {
-                refusal.number() == number && answer.as_slice() == text
-            }
-            _ => false,
-        },
+// Whether the reply is the one that is wanted, with its text. A command that was answered before is given again: it is answered as
+// it was, and an enrolment is refused.
+pub(crate) fn is_wanted(reply: &Reply, wanted: &(&[u8], Want), was_answered: bool) -> bool {
+    let (text, want) = wanted;
+    let number = match want {
+        Want::Enrolled if was_answered => 35,
+        Want::Accepted if was_answered => return is_stored(reply, text),
+        Want::Enrolled | Want::Accepted => return is_accepted(reply, text),
+        Want::Stored => return is_stored(reply, text),
+        Want::Refused(number) => *number,
+    };
+    match reply {
+        Reply::Refused { refusal, answer } => {
+            refusal.number() == number && answer.as_slice() == *text
+        }
+        _ => false,
     }
 }
 
@@ -52,7 +66,7 @@ fn pick<'a>(who: Who, ticket: &'a [u8], order: &'a [u8], sheet: &'a Sheet) -> Co
 }
 
 // The commands of the day, at one moment.
-pub(crate) fn commands<'a>(
+fn commands<'a>(
     acme: Who,
     counted: &'a Sheet,
     goods: &'a Sheet,
@@ -109,10 +123,58 @@ pub(crate) fn is_sent(rows: &[OutRow]) -> bool {
     }
 }
 
-// Whether the stock after the day is one lot, all of it shipped.
-pub(crate) fn is_shipped(rows: &[StockRow]) -> bool {
+// Whether the goods are where the first answers of the day leave them.
+pub(crate) fn are_goods(rows: &[StockRow], answered: usize) -> bool {
+    let (expected, on_hand, reserved, shipped) = match answered {
+        0 | 1 => return rows.is_empty(),
+        2..=4 => (100, 0, 0, 0),
+        5 => (0, 90, 0, 0),
+        6 => (0, 90, 90, 0),
+        _ => (0, 0, 0, 90),
+    };
     match rows {
-        [lot] => { lot.expected == 0 && lot.on_hand == 0 && lot.reserved == 0 && lot.shipped == 90 }
+        [lot] => {
+            lot.expected == expected
+                && lot.on_hand == on_hand
+                && lot.reserved == reserved
+                && lot.shipped == shipped
+        }
         _ => false,
+    }
+}
+
+// What is tried on the day.
+#[derive(Drop)]
+pub(crate) enum Trial {
+    // no memory for one allocation
+    WantOfMemory,
+    // the book is opened for each command
+    OpenedForEach,
+    // a call that is refused, and a book that is closed and opened again
+    Closing,
+    // a call that is refused, and a crash
+    Crash,
+    // a call that is refused of an opening after the day
+    Opening,
+    // a book of version 1 that has the beginning of the day
+    GoesOn,
+    // the same, and a second day
+    Days,
+}
+
+// Tries something on the day.
+pub(crate) fn on_day(alloc: Global, trial: Trial) -> Result<(), Fail> {
+    let (acme, moment) = (acme()?, morning()?);
+    let counted = ninety(alloc, SheetKind::Count)?;
+    let goods = ninety(alloc, SheetKind::Pick)?;
+    let day = commands(acme, &counted, &goods, moment);
+    match trial {
+        Trial::WantOfMemory => want::loses_nothing(alloc, fresh(alloc)?, &day),
+        Trial::OpenedForEach => in_tables::opened_for_each(alloc, fresh(alloc)?, &day),
+        Trial::Closing => stopped::each_day(alloc, &day, Stop::Closing),
+        Trial::Crash => stopped::each_day(alloc, &day, Stop::Crash),
+        Trial::Opening => stopped::each_opening(alloc, &day),
+        Trial::GoesOn => carried::goes_on(alloc, carried::begun(alloc)?, &day),
+        Trial::Days => carried::are_led(alloc, carried::begun(alloc)?, &day),
     }
 }

@@ -1,32 +1,58 @@
 //! A book in SQLite tables, as SQL shows it.
-use super::day::{Want, answers, commands, is_sent, is_shipped, is_wanted};
-use super::worked::{acme, announces, counts, house, morning, ninety};
-use books::{Book, Tables};
+use super::day::{Trial, Want, answers, is_wanted, on_day};
+use super::stopped::shows_whole;
+use super::worked::{acme, counts, created, enrols, fresh, morning, ninety, opened, takes};
+use books::Tables;
 use sqlite::types::ValueRef;
 use sqlite::{Alter, Connection};
-use sqlite_trees::memory::MemStore;
 use std::alloc::Global;
 use std::test::Fail;
-use store::{Command, Keeper, Moment, SheetKind, Who, outbox, stock, submit};
+use store::{Command, Keeper, Moment, SheetKind, Who, submit};
 
 // The tables of a new book in which ZZ ACME announced goods.
-pub(crate) fn announced(alloc: Global, who: Who, moment: Moment) -> Result<Tables<MemStore>, Fail> {
-    let tables = Tables::new(Connection::open_in_memory(alloc)?);
-    let Ok(mut book) = Book::create(alloc, tables, house()?) else {
-        return Err("a new book".into());
-    };
-    if announces(alloc, &mut book, who, moment) {
+pub(crate) fn announced<S: Alter + Drop>(
+    alloc: Global,
+    tables: Tables<S>,
+    who: Who,
+    moment: Moment,
+) -> Result<Tables<S>, Fail> {
+    let mut book = created(alloc, tables)?;
+    if enrols(alloc, &mut book, who, moment) && takes(alloc, &mut book, moment) {
         Ok(book.close())
     } else {
         Err("an advice".into())
     }
 }
 
-// The number that a query of one depositor shows.
-pub(crate) fn shown<S: Alter>(conn: &mut Connection<S>, sql: &str) -> Option<u64> {
-    match conn.query_row(sql, &[ValueRef::Text(b"ZZ-ACME")]) {
-        Ok(row) => row.get::<u64>(0).ok(),
-        Err(_) => None,
+// The connection to a book in which the advice is counted then. None of its calls of the store was refused.
+pub(crate) fn counted<S: Alter + Drop>(
+    alloc: Global,
+    tables: Tables<S>,
+    who: Who,
+    moment: Moment,
+) -> Result<Connection<S>, Fail> {
+    let sheet = ninety(alloc, SheetKind::Count)?;
+    let mut book = opened(alloc, tables)?;
+    let is_counted = counts(alloc, &mut book, who, &sheet, moment);
+    let tables = book.close();
+    if is_counted && tables.refused() == 0 {
+        Ok(tables.into_inner())
+    } else {
+        Err("a count".into())
+    }
+}
+
+// Fails if a query of one depositor shows another number.
+pub(crate) fn must_show<S: Alter>(
+    conn: &mut Connection<S>,
+    sql: &str,
+    want: u64,
+) -> Result<(), Fail> {
+    let row = conn.query_row(sql, &[ValueRef::Text(b"ZZ-ACME")])?;
+    if row.get::<u64>(0)? == want {
+        Ok(())
+    } else {
+        Err(Fail::new(format_args!("{sql}")))
     }
 }
 
@@ -51,20 +77,33 @@ const QUERIES: &[(&str, u64)] = &[
     ),
 ];
 
-#[test]
-fn a_count_is_in_the_tables(rt: HostRuntime) -> Result<(), Fail> {
-    let alloc = rt.alloc();
+// Counts the advice in new tables, and looks at them.
+fn shows_count<S: Alter + Drop>(alloc: Global, tables: Tables<S>) -> Result<(), Fail> {
     let (acme, moment) = (acme()?, morning()?);
-    let sheet = ninety(alloc, SheetKind::Count)?;
-    let Ok(mut book) = Book::open_from(alloc, announced(alloc, acme, moment)?) else {
-        return Err("a book".into());
-    };
-    assert!(rt; counts(alloc, &mut book, acme, &sheet, moment));
-    let mut conn = book.close().into_inner();
+    let tables = announced(alloc, tables, acme, moment)?;
+    let mut conn = counted(alloc, tables, acme, moment)?;
     for (sql, want) in QUERIES {
-        assert_eq!(rt; shown(&mut conn, sql), Some(*want), "{sql}");
+        must_show(&mut conn, sql, *want)?;
     }
     Ok(())
+}
+
+#[test]
+fn a_count_is_in_the_tables(rt: HostRuntime) -> Result<(), Fail> {
+    shows_count(rt.alloc(), fresh(rt.alloc())?)
+}
+
+// Whether a book answers a command as it is wanted.
+fn is_answered<K: Keeper>(
+    alloc: Global,
+    book: &mut K,
+    given: &(Command<'_>, Moment),
+    wanted: &(&[u8], Want),
+) -> bool {
+    match submit(alloc, book, &given.0, given.1) {
+        Ok(reply) => is_wanted(&reply, wanted, false),
+        Err(_) => false,
+    }
 }
 
 // Opens a book, gives it a command, and closes it. None of its calls of the store was refused.
@@ -74,14 +113,8 @@ fn opened_for<S: Alter + Drop>(
     given: &(Command<'_>, Moment),
     wanted: &(&[u8], Want),
 ) -> Result<Tables<S>, Fail> {
-    let Ok(mut book) = Book::open_from(alloc, tables) else {
-        return Err("a book".into());
-    };
-    let (text, want) = wanted;
-    let is_answered = match submit(alloc, &mut book, &given.0, given.1) {
-        Ok(reply) => is_wanted(&reply, *want, text),
-        Err(_) => false,
-    };
+    let mut book = opened(alloc, tables)?;
+    let is_answered = is_answered(alloc, &mut book, given, wanted);
     let tables = book.close();
     if is_answered && tables.refused() == 0 {
         Ok(tables)
@@ -90,27 +123,26 @@ fn opened_for<S: Alter + Drop>(
     }
 }
 
-#[test]
-fn a_book_may_be_opened_for_each_command(rt: HostRuntime) -> Result<(), Fail> {
-    let alloc = rt.alloc();
-    let counted = ninety(alloc, SheetKind::Count)?;
-    let goods = ninety(alloc, SheetKind::Pick)?;
-    let day = commands(acme()?, &counted, &goods, morning()?);
-    let Ok(book) = Book::create(
-        alloc,
-        Tables::new(Connection::open_in_memory(alloc)?),
-        house()?,
-    ) else {
-        return Err("a new book".into());
-    };
-    let mut tables = book.close();
+// Makes a book, and opens it for each command of the day.
+pub(super) fn opened_for_each<S: Alter + Drop>(
+    alloc: Global,
+    tables: Tables<S>,
+    day: &[(Command<'_>, Moment)],
+) -> Result<(), Fail> {
+    let who = acme()?;
+    let mut tables = created(alloc, tables)?.close();
     for (given, wanted) in day.iter().zip(answers().iter()) {
         tables = opened_for(alloc, tables, given, wanted)?;
     }
-    let Ok(mut book) = Book::open_from(alloc, tables) else {
-        return Err("a book".into());
-    };
-    assert!(rt; is_sent(&outbox(&mut book, acme()?)?.ok_or("a depositor")?));
-    assert!(rt; is_shipped(&stock(&mut book, acme()?)?.ok_or("a depositor")?));
-    Ok(())
+    let mut book = opened(alloc, tables)?;
+    if shows_whole(&mut book, who)? {
+        Ok(())
+    } else {
+        Err("another book".into())
+    }
+}
+
+#[test]
+fn a_book_may_be_opened_for_each_command(rt: HostRuntime) -> Result<(), Fail> {
+    on_day(rt.alloc(), Trial::OpenedForEach)
 }

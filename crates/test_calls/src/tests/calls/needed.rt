@@ -1,12 +1,10 @@
 //! What a book in tables hands out of a depositor's page: just what a command names, whatever else
 //! stands in the book.
-use super::worked::{ADVICE, acme, count, enrols, house, morning, ninety};
-use books::{Book, Tables};
+use super::worked::{ADVICE, acme, count, created, enrols, fresh, morning, ninety};
 use profile::Rules;
-use sqlite::Connection;
 use std::alloc::{AllocError, Global};
 use std::test::Fail;
-use store::{Act, Command, Keeper, Line, Moment, Need, Reply, Sheet, SheetKind, Who, need, submit};
+use store::{Act, Command, Keeper, Line, Moment, Reply, Sheet, SheetKind, Who, need, submit};
 
 // A 940 of 6 BOLT under control number 5.
 const ORDER: &[u8] =
@@ -109,61 +107,58 @@ fn stores<K: Keeper>(
     )
 }
 
-// How many pairs the page has that a book hands out for a need.
-fn pairs<K: Keeper>(book: &mut K, who: Who, need: &Need) -> Result<u64, Fail> {
-    match book.load(who, need) {
-        Ok(Some(page)) => Ok(page.pairs()),
-        _ => Err("a page".into()),
-    }
-}
-
-// The same for an interchange.
-fn pairs_for<K: Keeper>(alloc: Global, book: &mut K, who: Who, text: &[u8]) -> Result<u64, Fail> {
-    let need = need(alloc, &Command::Interchange(text))?;
-    pairs(book, who, &need)
-}
-
-// The same for the count of the worked advice.
-fn pairs_counted<K: Keeper>(
+// How many pairs the page has that a book hands out for a command.
+fn pairs<K: Keeper>(
     alloc: Global,
     book: &mut K,
     who: Who,
-    sheet: &Sheet,
+    command: &Command<'_>,
 ) -> Result<u64, Fail> {
-    let need = need(alloc, &count(who, b"T1", sheet))?;
-    pairs(book, who, &need)
+    let need = need(alloc, command)?;
+    match book.load(who, &need)? {
+        Some(page) => Ok(page.pairs()),
+        None => Err("a page".into()),
+    }
+}
+
+// Enrols, stores other goods and the worked advice's, and orders some of these: how many pairs are found.
+fn pairs_ordered<K: Keeper>(alloc: Global, book: &mut K) -> Result<u64, Fail> {
+    let (acme, moment) = (acme()?, morning()?);
+    let sheet = ninety(alloc, SheetKind::Count)?;
+    let are_stored = enrols(alloc, book, acme, moment)
+        && stores(alloc, book, acme, (b'A', b'2'), moment)?
+        && stores(alloc, book, acme, (b'B', b'3'), moment)?
+        && stores(alloc, book, acme, (b'C', b'4'), moment)?
+        && takes(alloc, book, ADVICE, moment)
+        && takes_count(alloc, book, acme, b"SHP1", &sheet, moment);
+    if are_stored {
+        pairs(alloc, book, acme, &Command::Interchange(ORDER))
+    } else {
+        Err("goods".into())
+    }
 }
 
 #[test]
 fn an_order_finds_the_lots_of_its_items_alone(rt: HostRuntime) -> Result<(), Fail> {
-    let alloc = rt.alloc();
-    let (acme, moment) = (acme()?, morning()?);
-    let tables = Tables::new(Connection::open_in_memory(alloc)?);
-    let Ok(mut book) = Book::create(alloc, tables, house()?) else {
-        return Err("a new book".into());
-    };
-    assert!(rt; enrols(alloc, &mut book, acme, moment));
-    for named in [(b'A', b'2'), (b'B', b'3'), (b'C', b'4')] {
-        assert!(rt; stores(alloc, &mut book, acme, named, moment)?);
-    }
-    assert!(rt; takes(alloc, &mut book, ADVICE, moment));
-    let sheet = ninety(alloc, SheetKind::Count)?;
-    assert!(rt; takes_count(alloc, &mut book, acme, b"SHP1", &sheet, moment));
-    assert_eq!(rt; pairs_for(alloc, &mut book, acme, ORDER)?, 1);
+    let mut book = created(rt.alloc(), fresh(rt.alloc())?)?;
+    assert!(rt; pairs_ordered(rt.alloc(), &mut book)? == 1);
     Ok(())
+}
+
+// Enrols, announces two items and counts one: how many pairs are found.
+fn pairs_counted<K: Keeper>(alloc: Global, book: &mut K) -> Result<u64, Fail> {
+    let (acme, moment) = (acme()?, morning()?);
+    let sheet = ninety(alloc, SheetKind::Count)?;
+    if enrols(alloc, book, acme, moment) && takes(alloc, book, BOLT_AND_NUT, moment) {
+        pairs(alloc, book, acme, &count(acme, b"T1", &sheet))
+    } else {
+        Err("an advice".into())
+    }
 }
 
 #[test]
 fn a_count_finds_what_its_sheet_leaves_out(rt: HostRuntime) -> Result<(), Fail> {
-    let alloc = rt.alloc();
-    let (acme, moment) = (acme()?, morning()?);
-    let tables = Tables::new(Connection::open_in_memory(alloc)?);
-    let Ok(mut book) = Book::create(alloc, tables, house()?) else {
-        return Err("a new book".into());
-    };
-    assert!(rt; enrols(alloc, &mut book, acme, moment));
-    assert!(rt; takes(alloc, &mut book, BOLT_AND_NUT, moment));
-    let sheet = ninety(alloc, SheetKind::Count)?;
-    assert_eq!(rt; pairs_counted(alloc, &mut book, acme, &sheet)?, 2);
+    let mut book = created(rt.alloc(), fresh(rt.alloc())?)?;
+    assert!(rt; pairs_counted(rt.alloc(), &mut book)? == 2);
     Ok(())
 }

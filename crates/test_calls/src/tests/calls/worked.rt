@@ -1,6 +1,9 @@
 //! The worked example that the calls have in common: ZZ ACME announces 100 BOLT to ZZ WHSE1 on
 //! 2025-03-04, and 90 are counted.
+use books::{Book, Tables};
 use profile::Rules;
+use sqlite::{Alter, Connection};
+use sqlite_trees::memory::MemStore;
 use std::alloc::Global;
 use std::test::Fail;
 use store::{
@@ -45,6 +48,36 @@ pub(crate) fn morning() -> Result<Moment, Fail> {
 // A book in memory, of which nobody is a depositor.
 pub(crate) fn empty(alloc: Global) -> Result<ReplayBook, Fail> {
     Ok(ReplayBook::new(alloc, house()?))
+}
+
+// New tables in memory.
+pub(crate) fn fresh(alloc: Global) -> Result<Tables<MemStore>, Fail> {
+    Ok(Tables::new(Connection::open_in_memory(alloc)?))
+}
+
+// The tables of a connection, which is to be in no transaction.
+pub(crate) fn settled<S: Alter + Drop>(conn: Connection<S>) -> Result<Tables<S>, Fail> {
+    if conn.is_autocommit() {
+        Ok(Tables::new(conn))
+    } else {
+        Err("an open transaction".into())
+    }
+}
+
+// A new book in tables.
+pub(crate) fn created<S: Alter + Drop>(alloc: Global, tables: Tables<S>) -> Result<Book<S>, Fail> {
+    match Book::create(alloc, tables, house()?) {
+        Ok(book) => Ok(book),
+        Err((fault, _)) => Err(fault.into()),
+    }
+}
+
+// The book in tables that have one.
+pub(crate) fn opened<S: Alter + Drop>(alloc: Global, tables: Tables<S>) -> Result<Book<S>, Fail> {
+    match Book::open_from(alloc, tables) {
+        Ok(book) => Ok(book),
+        Err((fault, _)) => Err(fault.into()),
+    }
 }
 
 // A sheet of one line: 90 of BOLT, L1.
@@ -112,11 +145,6 @@ pub(crate) fn enrols<K: Keeper>(alloc: Global, book: &mut K, who: Who, moment: M
 // Whether a book takes the advice, and answers it.
 pub(crate) fn takes<K: Keeper>(alloc: Global, book: &mut K, moment: Moment) -> bool {
     accepts(alloc, book, &Command::Interchange(ADVICE), moment, ANSWER)
-}
-
-// Whether a book that nobody is a depositor of enrols ZZ ACME and takes its advice.
-pub(crate) fn announces<K: Keeper>(alloc: Global, book: &mut K, who: Who, moment: Moment) -> bool {
-    enrols(alloc, book, who, moment) && takes(alloc, book, moment)
 }
 
 // Whether a book takes the count of the advice, and sends the receipt.

@@ -102,6 +102,14 @@ fn heard(rt: &HostRuntime, client: &mut TcpStream) -> Result<Vec<u8>, Fail> {
     Ok(whole)
 }
 
+// Whether a line says something.
+fn says(line: Option<&str>, what: &str) -> bool {
+    match line {
+        Some(line) => line.contains(what),
+        None => false,
+    }
+}
+
 // Whether a line tells of a connection of this machine at the moment, and of what it asked for and was answered.
 fn tells(line: Option<&str>, what: &str) -> bool {
     match line {
@@ -124,7 +132,9 @@ fn each_connection_is_told(rt: HostRuntime) -> Result<(), Fail> {
     let _second = asked(&rt, &listener, b"POST /x12 HTTP/1.1\r\n\r\n")?;
     let told = served(&rt, &listener, &mut book, moment, true, false)?;
     assert!(rt; told.out.as_slice() == b"404\n411\n".as_slice());
-    assert!(rt; told.err.contains(" GET /stock/ZZ-NONE - 404 "));
+    let mut lines = told.err.lines();
+    assert!(rt; says(lines.next(), " GET /stock/ZZ-NONE - 404 "));
+    assert!(rt; says(lines.next(), " POST /x12 - 411 ") && lines.next().is_none());
     let (first, changed) = (posted(&rt, ADVICE)?, posted(&rt, CHANGED)?);
     let response = format!(in rt.alloc(); "{HEAD}{}", ANSWER.trim_end())?;
     let mut third = asked(&rt, &listener, first.as_bytes())?;
