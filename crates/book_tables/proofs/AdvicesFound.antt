@@ -34,7 +34,6 @@ use Rattle.book_tables.specs.Showing.{advice_shown, line_shown}
 use Rattle.book_tables.specs.Standing.{Advice, AdviceLine, Stands, AreOrdered, filled}
 use Rattle.book_tables.proofs.Asked.{found}
 use Rattle.book_tables.proofs.Finding.{no_row, first_row, one_key, second_of}
-use Rattle.book_tables.proofs.FoundRows.{sound_layout}
 use Rattle.book_tables.proofs.HoldsLemmas.{are_keyed}
 use Rattle.book_tables.proofs.NeedTexts.{advice_text, advice_columns, advice_is, advice_reads, advice_lines_text, advice_lines_is, advice_lines_reads, line_columns, line_order}
 use Rattle.book_tables.proofs.Ordered.{all_ordered, advices_rise, advised_cells}
@@ -116,7 +115,7 @@ advised_found W L who shipment db rows partner sound stands h =
     (lines_under W L who shipment stands.legal partner) db.trees (held.keyed AdviceLine) rows (read.answer value.Null)
     nat_lt (λ (p : ℕ × Line). p.0) 3 (numbers_rise 1 (its_lines L who shipment)) (λ a b. numbers_ranked a.0 b.0)
     (λ a b t. let same = number_is a.0 b.0 t in λ i. value.Text (who_text who) ∷ value.Text shipment ∷ value.Int (pos (same i)) ∷ [])
-    (only_row lies.others advice_line_layout.name 10 3 advice_line_layout.checks advice_line_layout.columns db.trees (inr (inr (inr (inr (inr (inl refl)))))) (sound_layout db stands.schema sound)
+    (only_row db.schema lies advice_line_layout.name 10 3 advice_line_layout.checks advice_line_layout.columns db.trees (inr (inr (inr (inr (inr (inl refl)))))) sound
     (are_keyed advice_line_schema 3 (advice_line_table L) (db.trees 10) (ordered.keyed AdviceLine) (held.keyed AdviceLine)))
     ∙ second_of line_shown 1 (its_lines L who shipment)
 

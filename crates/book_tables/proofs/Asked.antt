@@ -1,9 +1,13 @@
 -- What a text that only reads leaves of the tables, and what it finds.
-use Rattle.std.proofs.Common.{◌≡◌, inl, inr, ℕ, List, [], None, Some, Option, false, IsTrue, sym, ap, subst, subst₂, ◌∙◌, arith, append-nil}
+use Rattle.std.proofs.Common.{◌≡◌, inl, inr, ℕ, List, [], None, Some, Option, false, IsTrue, refl, sym, ap, subst, subst₂, ◌∙◌, arith, append-nil}
 use Rattle.sqlite.specs.Order.{Row}
 use Rattle.sqlite.specs.Tree.{Trees}
 use Rattle.sqlite.specs.Schema.{Schema}
 use Rattle.sqlite.specs.Command.{Command}
+use Rattle.sqlite.specs.Command.TheVariants.{Select}
+use Rattle.sqlite.specs.Query.{Query, IsAnswer}
+use Rattle.sqlite.specs.Program.{overlay}
+use Rattle.sqlite.specs.declared.types.Value.TheVariants.{Null}
 use Rattle.sqlite.specs.Effect.{Database, Reads}
 use Rattle.sqlite.specs.State.{State, Shown, ShowsRows, IsUnchanged, IsRolledBack, FailsToQuery, FailsToShow, IsNotRun, Survives, CommitsShowing, HasCleanDisk}
 use Rattle.sqlite.specs.Clock.{timed}
@@ -12,9 +16,11 @@ use Rattle.sqlite.specs.declared.error.Error.{Error}
 use Rattle.sqlite_schema.specs.declared.command.Returning.{Returning}
 use Rattle.sqlite.proofs.StateLemmas.{survives_then}
 use Rattle.sqlite.proofs.Callers.{command_of}
-use Rattle.book_tables.specs.Layout.{Others, beside, IsLayout}
+use Rattle.book_tables.specs.Layout.{Others, beside, IsLayout, IsFirstLayout, tree_in, book_trees}
 use Rattle.book_tables.specs.Exits.{IsAsBefore}
 use Rattle.book_tables.specs.Asking.{Finds, IsAsked, OnlyReads}
+use Rattle.book_tables.proofs.PlacedAnswers.{from_tree, answer_moved}
+use Rattle.book_tables.proofs.Values.{overlay_lies}
 
 unchanged_before : (old new : State) → IsUnchanged old new → IsAsBefore old new
 unchanged_before old new h = record { was_open = λ _. h.0.was_open; now = λ _. h.0.now_is; committed = λ _. h.0.committed_is }
@@ -109,6 +115,20 @@ pub found : (sql : List ℕ) (params : Row) (db : Database) (rows : List Row) (c
     → ((others : Others) → (command_of (understood (beside others) sql) ≡ command) × (reads_listing (beside others) sql ≡ false))
     → Finds sql params db rows → Reads command db params rows
 found sql params db rows command lies reads text_is = found_in (beside lies.others) sql params db rows command lies.is reads (text_is lies.others)
+
+-- and under that of a book of version 1
+pub found_first : (sql : List ℕ) (params : Row) (db : Database) (rows : List Row) (command : Command) → IsFirstLayout db.schema → OnlyReads sql
+    → ((others : Others) → (command_of (understood (beside others) sql) ≡ command) × (reads_listing (beside others) sql ≡ false))
+    → Finds sql params db rows → Reads command db params rows
+found_first sql params db rows command lies reads text_is = found_in (beside lies.others) sql params db rows command lies.is reads (text_is lies.others)
+
+-- of a table of version 2, wherever it stands, the rows are those of the tree with its number
+pub found_placed : (sql : List ℕ) (params : Row) (db : Database) (rows : List Row) (q : Query) (names : List (List ℕ)) (n : ℕ) → OnlyReads sql
+    → (command_of (understood db.schema sql) ≡ Select (record { lets = []; body = from_tree (tree_in db.schema n) q }) names) × (reads_listing db.schema sql ≡ false)
+    → Finds sql params db rows → IsAnswer (from_tree n q) (overlay (book_trees db) []) params rows
+found_placed sql params db rows q names n reads text_is h =
+    let read = found_in db.schema sql params db rows (Select (record { lets = []; body = from_tree (tree_in db.schema n) q }) names) refl reads text_is h in
+    answer_moved q (tree_in db.schema n) n (overlay db.trees []) (overlay (book_trees db) []) (overlay_lies db.trees (tree_in db.schema n) ∙ sym (overlay_lies (book_trees db) n)) Null params rows (read.answer Null)
 
 -- two queries, one after the other
 pub asked_twice : (old mid new : State) → IsAsked old mid → IsAsked mid new → IsAsked old new

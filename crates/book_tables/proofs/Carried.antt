@@ -5,7 +5,7 @@ use Rattle.std.proofs.Math.Seq.{take-length, take-suc}
 use Rattle.std.proofs.lemmas.List.{length-take-le, take-append-drop}
 use Rattle.std.proofs.lemmas.List.Folds.{list_all-append}
 use Rattle.sqlite.specs.declared.types.Value.TheVariants as value
-use Rattle.sqlite.specs.Effect.{Database}
+use Rattle.sqlite.specs.Effect.{Database, IsDatabase}
 use Rattle.sqlite.specs.State.{State, HasCleanDisk, Executes}
 use Rattle.profile.specs.declared.rules.Rules.{Rules}
 use Rattle.profile.specs.declared.rules.Rules.TheVariants.{One, Two}
@@ -104,11 +104,11 @@ first_ordered W L =
     let all = all_ordered W L in
     record { entry = all.entry; outgoing = all.outgoing; keyed = all.keyed; rules = λ row none. absurd none }
 
-pub carried_over : (entries : ℕ) (old b c new : State) → IsTrue old.is_open → Widens old.now b.now → GivesRules entries b.now c.now → SetsVersion c.now new.now → CarriesOver entries old new
-carried_over entries old b c new opened wide ruled versioned W L count while_open =
+pub carried_over : (entries : ℕ) (old b c new : State) → IsDatabase old.now → IsTrue old.is_open → Widens old.now b.now → GivesRules entries b.now c.now → SetsVersion c.now new.now → CarriesOver entries old new
+carried_over entries old b c new sound opened wide ruled versioned W L count while_open =
     let stands = while_open opened in
     let first = legal-first W L stands.legal in
-    let kept : KeepsFirst (first_filled W L) old.now = record { schema = stands.schema; rows = stands.rows; dates = lot_expiry-first L first; rules = refl; ordered = first_ordered W L } in
+    let kept : KeepsFirst (first_filled W L) old.now = record { schema = stands.schema; sound = sound; rows = stands.rows; dates = lot_expiry-first L first; rules = refl; ordered = first_ordered W L } in
     let two = ruled L (first_filled W L) first count (wide (first_filled W L) kept) in
     let three : Keeps (filled W L) new.now = versioned W (filled W L) two in
     record {

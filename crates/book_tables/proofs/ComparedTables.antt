@@ -13,10 +13,9 @@ use Rattle.book_tables.specs.declared.comparing.TableName.{TableName}
 use Rattle.book_tables.specs.declared.comparing.TableName.TheVariants as name
 use Rattle.book_tables.specs.Comparing.{AreTables, FindBoth, IsLaid, Compares, whole_text}
 use Rattle.book_tables.specs.Exits.{StandsWhileOpen}
-use Rattle.book_tables.specs.Layout.{IsLayout}
+use Rattle.book_tables.specs.Layout.{IsLayout, book_trees}
 use Rattle.book_tables.specs.Standing.{BookTable, Outgoing, Stock, Advice, AdviceLine, Orders, OrderLine, Reservation, LotExpiry, Stands, AreHeld, filled, rows_of}
 use Rattle.book_tables.proofs.Found.{entries_rise, rules_rise}
-use Rattle.book_tables.proofs.FoundRows.{sound_layout}
 use Rattle.book_tables.proofs.Ordered.{all_ordered}
 use Rattle.book_tables.proofs.WholeBook.{book_same, book_shown, entries_same, entries_shown, rules_same, rules_shown}
 use Rattle.book_tables.proofs.WholeFound.{whole_found}
@@ -36,34 +35,32 @@ keyed_is LotExpiry = refl
 
 module _ (one two : Database) (lies : IsLayout one.schema) (its : IsLayout two.schema) (sound : IsDatabase one) (its_sound : IsDatabase two) where
   -- the answers that both give
-  answer : (t : TableName) (same : Bool) (f : FindBoth (whole_text t) one two same) → IsAnswer (whole_query t) (overlay one.trees []) [] f.rows
+  answer : (t : TableName) (same : Bool) (f : FindBoth (whole_text t) one two same) → IsAnswer (whole_query t) (overlay (book_trees one) []) [] f.rows
   answer t same f = whole_found t one f.rows lies f.finds
 
-  its_answer : (t : TableName) (same : Bool) (f : FindBoth (whole_text t) one two same) → IsAnswer (whole_query t) (overlay two.trees []) [] f.others
+  its_answer : (t : TableName) (same : Bool) (f : FindBoth (whole_text t) one two same) → IsAnswer (whole_query t) (overlay (book_trees two) []) [] f.others
   its_answer t same f = whole_found t two f.others its f.other_finds
 
-  same_answer : (t : TableName) (f : FindBoth (whole_text t) one two true) → IsAnswer (whole_query t) (overlay two.trees []) [] f.rows
-  same_answer t f = subst (λ (rows : List Row). IsAnswer (whole_query t) (overlay two.trees []) [] rows) (sym (f.told.0 refl)) (its_answer t true f)
+  same_answer : (t : TableName) (f : FindBoth (whole_text t) one two true) → IsAnswer (whole_query t) (overlay (book_trees two) []) [] f.rows
+  same_answer t f = subst (λ (rows : List Row). IsAnswer (whole_query t) (overlay (book_trees two) []) [] rows) (sym (f.told.0 refl)) (its_answer t true f)
 
   -- all are the same: what the one stands for, the other stands for
-  pub stands_too : (W : Who) (L : List Entry) → AreTables one.trees → Stands W L two → ((t : TableName) → FindBoth (whole_text t) one two true) → Stands W L one
+  pub stands_too : (W : Who) (L : List Entry) → AreTables one → Stands W L two → ((t : TableName) → FindBoth (whole_text t) one two true) → Stands W L one
   stands_too W L tables stands same =
       let held = stands.rows in
-      let mine = sound_layout one lies sound in
-      let its_own = sound_layout two its its_sound in
-      let up : IsTable (one.trees 1) = tables.1.0.0 in
-      let its_up : IsTable (two.trees 1) = subst IsTable (sym held.entry) (entries_rise [] L) in
-      let rules_up : IsTable (one.trees 18) = tables.1.1.1.1.1.1.1.1.1.0.0 in
-      let its_rules_up : IsTable (two.trees 18) = subst IsTable (sym held.rules) (rules_rise [] L) in
-      let rows : AreHeld (filled W L) one.trees = record {
-        book = book_same lies.others its.others one.trees two.trees mine its_own _ (answer name.Book true (same name.Book)) (same_answer name.Book (same name.Book)) _ held.book;
-        entry = entries_same lies.others its.others one.trees two.trees mine its_own _ up its_up (answer name.Entry true (same name.Entry)) (same_answer name.Entry (same name.Entry)) ∙ held.entry;
+      let up : IsTable (book_trees one 1) = tables.1.0.0 in
+      let its_up : IsTable (book_trees two 1) = subst IsTable (sym held.entry) (entries_rise [] L) in
+      let rules_up : IsTable (book_trees one 18) = tables.1.1.1.1.1.1.1.1.1.0.0 in
+      let its_rules_up : IsTable (book_trees two 18) = subst IsTable (sym held.rules) (rules_rise [] L) in
+      let rows : AreHeld (filled W L) (book_trees one) = record {
+        book = book_same one two lies its sound its_sound _ (answer name.Book true (same name.Book)) (same_answer name.Book (same name.Book)) _ held.book;
+        entry = entries_same one two lies its sound its_sound _ up its_up (answer name.Entry true (same name.Entry)) (same_answer name.Entry (same name.Entry)) ∙ held.entry;
         keyed = λ t.
             let f = same (keyed_name t) in
-            holds_too t lies.others its.others one.trees two.trees mine its_own tables f.rows
-            (subst (λ (q : Query). IsAnswer q (overlay one.trees []) [] f.rows) (keyed_is t) (answer (keyed_name t) true f))
-            (subst (λ (q : Query). IsAnswer q (overlay two.trees []) [] f.rows) (keyed_is t) (same_answer (keyed_name t) f)) (rows_of W L t) (held.keyed t);
-        rules = rules_same lies.others its.others one.trees two.trees mine its_own _ rules_up its_rules_up (answer name.EntryRules true (same name.EntryRules)) (same_answer name.EntryRules (same name.EntryRules)) ∙ held.rules;
+            holds_too t one two lies its sound its_sound tables f.rows
+            (subst (λ (q : Query). IsAnswer q (overlay (book_trees one) []) [] f.rows) (keyed_is t) (answer (keyed_name t) true f))
+            (subst (λ (q : Query). IsAnswer q (overlay (book_trees two) []) [] f.rows) (keyed_is t) (same_answer (keyed_name t) f)) (rows_of W L t) (held.keyed t);
+        rules = rules_same one two lies its sound its_sound _ rules_up its_rules_up (answer name.EntryRules true (same name.EntryRules)) (same_answer name.EntryRules (same name.EntryRules)) ∙ held.rules;
       } in
       record { legal = stands.legal; schema = lies; rows = rows }
 
@@ -73,31 +70,31 @@ module _ (one two : Database) (lies : IsLayout one.schema) (its : IsLayout two.s
         let held = stands.rows in
         let its_held = its_stands.rows in
         let ordered = all_ordered W L in
-        same_shown t lies.others its.others one.trees two.trees (sound_layout one lies sound) (sound_layout two its its_sound) (rows_of W L t) (ordered.keyed t) (held.keyed t) (its_held.keyed t) f.rows f.others
-        (subst (λ (q : Query). IsAnswer q (overlay one.trees []) [] f.rows) (keyed_is t) (answer (keyed_name t) same f))
-        (subst (λ (q : Query). IsAnswer q (overlay two.trees []) [] f.others) (keyed_is t) (its_answer (keyed_name t) same f))
+        same_shown t one two lies its sound its_sound (rows_of W L t) (ordered.keyed t) (held.keyed t) (its_held.keyed t) f.rows f.others
+        (subst (λ (q : Query). IsAnswer q (overlay (book_trees one) []) [] f.rows) (keyed_is t) (answer (keyed_name t) same f))
+        (subst (λ (q : Query). IsAnswer q (overlay (book_trees two) []) [] f.others) (keyed_is t) (its_answer (keyed_name t) same f))
 
     book_alike : (same : Bool) (f : FindBoth (whole_text name.Book) one two same) → f.rows ≡ f.others
     book_alike same f =
         let held = stands.rows in
         let its_held = its_stands.rows in
-        book_shown one.trees f.rows (answer name.Book same f) _ held.book ∙ sym (book_shown two.trees f.others (its_answer name.Book same f) _ its_held.book)
+        book_shown (book_trees one) f.rows (answer name.Book same f) _ held.book ∙ sym (book_shown (book_trees two) f.others (its_answer name.Book same f) _ its_held.book)
 
     entry_alike : (same : Bool) (f : FindBoth (whole_text name.Entry) one two same) → f.rows ≡ f.others
     entry_alike same f =
         let held = stands.rows in
         let its_held = its_stands.rows in
-        let up : IsTable (one.trees 1) = subst IsTable (sym held.entry) (entries_rise [] L) in
-        let its_up : IsTable (two.trees 1) = subst IsTable (sym its_held.entry) (entries_rise [] L) in
-        entries_shown one.trees f.rows up (answer name.Entry same f) ∙ ap (map _) (held.entry ∙ sym its_held.entry) ∙ sym (entries_shown two.trees f.others its_up (its_answer name.Entry same f))
+        let up : IsTable (book_trees one 1) = subst IsTable (sym held.entry) (entries_rise [] L) in
+        let its_up : IsTable (book_trees two 1) = subst IsTable (sym its_held.entry) (entries_rise [] L) in
+        entries_shown (book_trees one) f.rows up (answer name.Entry same f) ∙ ap (map _) (held.entry ∙ sym its_held.entry) ∙ sym (entries_shown (book_trees two) f.others its_up (its_answer name.Entry same f))
 
     rules_alike : (same : Bool) (f : FindBoth (whole_text name.EntryRules) one two same) → f.rows ≡ f.others
     rules_alike same f =
         let held = stands.rows in
         let its_held = its_stands.rows in
-        let up : IsTable (one.trees 18) = subst IsTable (sym held.rules) (rules_rise [] L) in
-        let its_up : IsTable (two.trees 18) = subst IsTable (sym its_held.rules) (rules_rise [] L) in
-        rules_shown one.trees f.rows up (answer name.EntryRules same f) ∙ ap (map _) (held.rules ∙ sym its_held.rules) ∙ sym (rules_shown two.trees f.others its_up (its_answer name.EntryRules same f))
+        let up : IsTable (book_trees one 18) = subst IsTable (sym held.rules) (rules_rise [] L) in
+        let its_up : IsTable (book_trees two 18) = subst IsTable (sym its_held.rules) (rules_rise [] L) in
+        rules_shown (book_trees one) f.rows up (answer name.EntryRules same f) ∙ ap (map _) (held.rules ∙ sym its_held.rules) ∙ sym (rules_shown (book_trees two) f.others its_up (its_answer name.EntryRules same f))
 
     -- both stand for one register: no table differs
     pub shown_too : (t : TableName) (same : Bool) → FindBoth (whole_text t) one two same → IsTrue same
@@ -121,7 +118,7 @@ opened one two true h = let s = h name.Book in (s.is_open, s.other_open)
 opened one two false h = let s = h.1 in (s.is_open, s.other_open)
 
 module _ (one two : State) (live : IsLive one) (its_live : IsLive two) where
-  pub compared_stands : (W : Who) (L : List Entry) → IsLaid one → AreTables (let db = one.now in db.trees) → StandsWhileOpen two W L → (same : Bool) → Compares same one two → IsTrue same → Stands W L one.now
+  pub compared_stands : (W : Who) (L : List Entry) → IsLaid one → AreTables one.now → StandsWhileOpen two W L → (same : Bool) → Compares same one two → IsTrue same → Stands W L one.now
   compared_stands W L laid tables stands true h _ =
       let s = h name.Book in
       let here = stands s.other_open in

@@ -1,5 +1,5 @@
 -- What making the tables does.
-use Rattle.std.proofs.Common.{◌≡◌, ℕ, pos, List, [], ◌∷◌, map, false, None, Ok, refl, sym, ap, subst, ◌∙◌}
+use Rattle.std.proofs.Common.{◌≡◌, codes, inl, inr, ℕ, pos, List, [], ◌∷◌, map, false, None, Ok, refl, sym, ap, subst, ◌∙◌}
 use Rattle.sqlite.specs.declared.types.Value.TheVariants as value
 use Rattle.sqlite.specs.Table.{Table}
 use Rattle.sqlite.specs.Schema.{Schema}
@@ -15,21 +15,30 @@ use Rattle.sqlite.specs.Command.TheVariants.{CreateTable}
 use Rattle.sqlite.specs.Change.{created}
 use Rattle.sqlite.specs.Does.{Tally, lacks_sequence}
 use Rattle.sqlite.specs.Effect.{Database, IsDatabase}
-use Rattle.sqlite.specs.State.{State, Writes, Executes}
+use Rattle.sqlite.specs.State.{State, Writes, ExecutesIn, Executes}
 use Rattle.sqlite.specs.Listing.{understood}
 use Rattle.sqlite.specs.Given.{IsPlain}
 use Rattle.sqlite.specs.Compile.{table_defined_by}
 use Rattle.sqlite_catalog.specs.Calls.{CreatesTable}
+use Rattle.sqlite_catalog.specs.Change.{next_tree, is_used}
+use Rattle.sqlite_catalog.specs.Listing.{IsSound}
+use Rattle.sqlite_resolve.specs.declared.compiled.Compiled.{Compiled}
+use Rattle.sqlite_rules.specs.Lists.{Has}
+use Rattle.sqlite_rules.proofs.ListLemmas.{all_has}
+use Rattle.profile.specs.Tables.{TableRow}
 use Rattle.sqlite.proofs.Callers.{command_of, statement_of, runs_as}
 use Rattle.book_tables.specs.Layout.{book_text, entry_text, outgoing_text, stock_text, advice_text, advice_line_text, orders_text, order_line_text, reservation_text, entry_rules_text, lot_expiry_text}
 use Rattle.book_tables.specs.Layout.{book_layout, entry_layout, outgoing_layout, stock_layout, advice_layout, advice_line_layout, orders_layout, order_line_layout, reservation_layout, entry_rules_layout, lot_expiry_layout}
-use Rattle.book_tables.specs.Layout.{first_layouts}
+use Rattle.book_tables.specs.Layout.{first_layouts, first_tables, book_trees, rules_tree, expiry_tree, entry_rules_at, lot_expiry_at, IsLayout}
 use Rattle.book_tables.specs.Making.{HasMade, HasBook}
 use Rattle.book_tables.specs.Carrying.{AreHeldFirst, Widens}
 use Rattle.book_tables.proofs.MakingTexts.{at_first}
 use Rattle.book_tables.proofs.MakingTexts.{book_is, book_runs, book_plain, entry_is, entry_runs, entry_plain, outgoing_is, outgoing_runs, outgoing_plain, stock_is, stock_runs, stock_plain, advice_is, advice_runs, advice_plain, advice_line_is, advice_line_runs, advice_line_plain, orders_is, orders_runs, orders_plain, order_line_is, order_line_runs, order_line_plain, reservation_is, reservation_runs, reservation_plain, entry_rules_is, entry_rules_runs, entry_rules_plain, lot_expiry_is, lot_expiry_runs, lot_expiry_plain}
 use Rattle.book_tables.proofs.WritingTexts.{insert_book_text}
-use Rattle.book_tables.proofs.Beside.{lies_alone}
+use Rattle.book_tables.proofs.Beside.{lies_alone, rules_alone, expiry_alone, has_first}
+use Rattle.book_tables.proofs.ListsGrown.{has_last}
+use Rattle.book_tables.proofs.Widening.{rules_tree_is, expiry_tree_is, widened_layout, still_counted}
+use Rattle.book_tables.proofs.MakingAnywhere.{MakesTable, entry_rules_made, lot_expiry_made}
 use Rattle.book_tables.proofs.Inserts.{inserts_book}
 use Rattle.book_tables.proofs.LeadsLemmas.{apart}
 use Rattle.sqlite.specs.Edit.{next_rowid}
@@ -111,44 +120,68 @@ made_fourth a b c m n was p q =
 holds_none : Holds [] []
 holds_none = record { rise = tt; sound = λ row none. absurd none; complete = λ cells none. absurd none }
 
--- the two tables that version 2 has come to those of version 1, whatever these hold
+-- the same under any schema
+creates_any : (sql : List ℕ) (table : Table) (old new : State) (count : ℕ) → ((c : Compiled) → understood old.now.schema sql ≡ Ok c → MakesTable old.now.schema sql table.name c)
+    → table_defined_by sql ≡ Ok table → lacks_sequence (created old.now.schema table) ≡ false → Executes sql [] old new (Ok count)
+    → IsDatabase new.now × (new.now.schema ≡ created old.now.schema table) × CreatesTable old.now.schema sql old.now.trees (created old.now.schema table) new.now.trees × (is_used old.now.schema table.name ≡ false)
+unfolding ExecutesIn
+creates_any sql table old new count meant defined lone h =
+    let before = old.now.schema in
+    let is = meant h.0 h.1.is in
+    let known : understood before sql ≡ Ok h.0 = h.1.is in
+    let made = creates sql before (created before table) table old new count refl (ap command_of known ∙ is.0, ap (statement_of sql) known ∙ is.3) (subst IsPlain (sym known) (is.1, is.2)) defined refl lone h in
+    (made.0, made.1, made.2, is.4)
+
+-- the two tables that version 2 has come to those of version 1, whatever these hold and whatever stands after them
 pub widened : (a b c : State) (m n : ℕ) → Executes entry_rules_text [] a b (Ok m) → Executes lot_expiry_text [] b c (Ok n) → Widens a.now c.now
 widened a b c m n p q f was =
-    let x = creates entry_rules_text (first_layouts 9 9) (first_layouts 10 9) (at_first entry_rules_layout) a b m was.schema entry_rules_runs entry_rules_plain entry_rules_is refl refl p in
-    let y = creates lot_expiry_text (first_layouts 10 9) (first_layouts 11 10) (at_first lot_expiry_layout) b c n x.1 lot_expiry_runs lot_expiry_plain lot_expiry_is refl refl q in
+    let lies = was.schema in
+    let s = a.now.schema in
+    let one = created s (entry_rules_at 0) in
+    let lone = still_counted s (entry_rules_at 0) refl lies.counted in
+    let x = creates_any entry_rules_text (entry_rules_at 0) a b m (entry_rules_made s) entry_rules_is lone p in
+    let lone_too = subst (λ (z : Schema). lacks_sequence (created z (lot_expiry_at 0)) ≡ false) (sym x.1) (still_counted one (lot_expiry_at 0) refl lone) in
+    let y = creates_any lot_expiry_text (lot_expiry_at 0) b c n (lot_expiry_made b.now.schema) lot_expiry_is lone_too q in
+    let two = created one (lot_expiry_at 0) in
+    let last : c.now.schema ≡ two = y.1 ∙ ap (λ (z : Schema). created z (lot_expiry_at 0)) x.1 in
+    let free_too = subst (λ (z : Schema). is_used z (codes "lot_expiry") ≡ false) x.1 y.3 in
+    let sound_after : IsSound two c.now.trees = subst (λ (z : Schema). IsSound z c.now.trees) last y.0 in
+    let layout = widened_layout s lies a.now.trees was.sound x.3 free_too c.now.trees sound_after in
+    let kept : (t : Table) → Has s.tables t → c.now.trees t.tree ≡ a.now.trees t.tree = λ t h.
+    all_has (λ (u : Table). c.now.trees u.tree ≡ b.now.trees u.tree) b.now.schema.tables t (let made = y.2 in made.others) (subst (λ (z : Schema). Has z.tables t) (sym x.1) (has_first s.tables (entry_rules_at (next_tree s) ∷ []) t h))
+    ∙ all_has (λ (u : Table). b.now.trees u.tree ≡ a.now.trees u.tree) s.tables t (let made = x.2 in made.others) h in
+    let first : (t : Table) → Has first_tables t → c.now.trees t.tree ≡ a.now.trees t.tree = λ t h. kept t (let others = lies.others in subst (λ (z : Schema). Has z.tables t) (sym lies.is) (has_first first_tables others.tables t h)) in
+    let rules_empty : c.now.trees (next_tree s) ≡ [] =
+    all_has (λ (u : Table). c.now.trees u.tree ≡ b.now.trees u.tree) b.now.schema.tables (entry_rules_at (next_tree s)) (let made = y.2 in made.others) (subst (λ (z : Schema). Has z.tables (entry_rules_at (next_tree s))) (sym x.1) (has_last s.tables (entry_rules_at (next_tree s) ∷ []) (entry_rules_at (next_tree s)) (inl refl)))
+    ∙ (let made = x.2 in made.empty) in
+    let dates_empty : c.now.trees (next_tree one) ≡ [] = subst (λ (z : Schema). c.now.trees (next_tree z) ≡ []) x.1 (let made = y.2 in made.empty) in
+    let rules_at : rules_tree c.now.schema ≡ next_tree s = ap rules_tree last ∙ rules_tree_is s lies a.now.trees was.sound x.3 free_too c.now.trees sound_after in
+    let dates_at : expiry_tree c.now.schema ≡ next_tree one = ap expiry_tree last ∙ expiry_tree_is s lies a.now.trees was.sound x.3 free_too c.now.trees sound_after in
     let held = was.rows in
-    let keyed = held.keyed in
-    let into : (t : BookTable) → c.now.trees (tree_of t) ≡ a.now.trees (tree_of t) → Holds (f.keyed t) (a.now.trees (tree_of t)) → Holds (f.keyed t) (c.now.trees (tree_of t)) = λ t same h. subst (Holds (f.keyed t)) (sym same) h in
-    let both : (t : BookTable) → Holds (f.keyed t) (c.now.trees (tree_of t)) = λ t. by t f a.now c.now into
-    (y.2.others.1.1.0 ∙ x.2.others.1.1.0) (y.2.others.1.1.1.0 ∙ x.2.others.1.1.1.0) (y.2.others.1.1.1.1.0 ∙ x.2.others.1.1.1.1.0) (y.2.others.1.1.1.1.1.0 ∙ x.2.others.1.1.1.1.1.0)
-    (y.2.others.1.1.1.1.1.1.0 ∙ x.2.others.1.1.1.1.1.1.0) (y.2.others.1.1.1.1.1.1.1.0 ∙ x.2.others.1.1.1.1.1.1.1.0) (y.2.others.1.1.1.1.1.1.1.1.0 ∙ x.2.others.1.1.1.1.1.1.1.1.0)
-    held (subst (λ rows. Holds rows (c.now.trees 19)) (sym was.dates) (subst (Holds []) (sym y.2.empty) holds_none)) in
     record {
-      schema = lies_alone c.now.schema y.1;
+      schema = subst IsLayout (sym last) layout;
       sound = y.0;
       rows = record {
-        book = y.2.others.0 ∙ x.2.others.0 ∙ held.book;
-        entry = y.2.others.1.0 ∙ x.2.others.1.0 ∙ held.entry;
-        keyed = both;
-        rules = y.2.others.1.1.1.1.1.1.1.1.1.0 ∙ x.2.empty ∙ sym (ap (map entry_values) was.rules);
+        book = first book_layout (inl refl) ∙ held.book;
+        entry = first entry_layout (inr (inl refl)) ∙ held.entry;
+        keyed = λ t. by t f a.now c.now first held (subst (λ rows. Holds rows (c.now.trees (expiry_tree c.now.schema))) (sym was.dates) (subst (Holds []) (sym (ap c.now.trees dates_at ∙ dates_empty)) holds_none));
+        rules = ap c.now.trees rules_at ∙ rules_empty ∙ sym (ap (map entry_values) was.rules);
       };
       ordered = was.ordered;
     }
   where
-    Same : BookTable → Database → Database → Type 0
-    Same t a c = c.trees (tree_of t) ≡ a.trees (tree_of t)
+    into : (t : BookTable) (rows : List TableRow) (a c : Database) → c.trees (tree_of t) ≡ a.trees (tree_of t) → Holds rows (a.trees (tree_of t)) → Holds rows (c.trees (tree_of t))
+    into t rows a c same h = subst (Holds rows) (sym same) h
 
-    by : (t : BookTable) (f : Filled) (a c : Database) → ((t : BookTable) → Same t a c → Holds (f.keyed t) (a.trees (tree_of t)) → Holds (f.keyed t) (c.trees (tree_of t)))
-        → Same Outgoing a c → Same Stock a c → Same Advice a c → Same AdviceLine a c → Same Orders a c → Same OrderLine a c → Same Reservation a c
-        → AreHeldFirst f a.trees → Holds (f.keyed LotExpiry) (c.trees 19) → Holds (f.keyed t) (c.trees (tree_of t))
-    by Outgoing f a c into o s d e r l v held dates = into Outgoing o (let k = held.keyed in k.0)
-    by Stock f a c into o s d e r l v held dates = into Stock s (let k = held.keyed in k.1.0)
-    by Advice f a c into o s d e r l v held dates = into Advice d (let k = held.keyed in k.1.1.0)
-    by AdviceLine f a c into o s d e r l v held dates = into AdviceLine e (let k = held.keyed in k.1.1.1.0)
-    by Orders f a c into o s d e r l v held dates = into Orders r (let k = held.keyed in k.1.1.1.1.0)
-    by OrderLine f a c into o s d e r l v held dates = into OrderLine l (let k = held.keyed in k.1.1.1.1.1.0)
-    by Reservation f a c into o s d e r l v held dates = into Reservation v (let k = held.keyed in k.1.1.1.1.1.1.0)
-    by LotExpiry f a c into o s d e r l v held dates = dates
+    by : (t : BookTable) (f : Filled) (a c : Database) → ((t : Table) → Has first_tables t → c.trees t.tree ≡ a.trees t.tree) → AreHeldFirst f a.trees → Holds (f.keyed LotExpiry) (c.trees (expiry_tree c.schema)) → Holds (f.keyed t) (book_trees c (tree_of t))
+    by Outgoing f a c first held dates = into Outgoing (f.keyed Outgoing) a c (first outgoing_layout (inr (inr (inl refl)))) (let k = held.keyed in k.0)
+    by Stock f a c first held dates = into Stock (f.keyed Stock) a c (first stock_layout (inr (inr (inr (inl refl))))) (let k = held.keyed in k.1.0)
+    by Advice f a c first held dates = into Advice (f.keyed Advice) a c (first advice_layout (inr (inr (inr (inr (inl refl)))))) (let k = held.keyed in k.1.1.0)
+    by AdviceLine f a c first held dates = into AdviceLine (f.keyed AdviceLine) a c (first advice_line_layout (inr (inr (inr (inr (inr (inl refl))))))) (let k = held.keyed in k.1.1.1.0)
+    by Orders f a c first held dates = into Orders (f.keyed Orders) a c (first orders_layout (inr (inr (inr (inr (inr (inr (inl refl)))))))) (let k = held.keyed in k.1.1.1.1.0)
+    by OrderLine f a c first held dates = into OrderLine (f.keyed OrderLine) a c (first order_line_layout (inr (inr (inr (inr (inr (inr (inr (inl refl))))))))) (let k = held.keyed in k.1.1.1.1.1.0)
+    by Reservation f a c first held dates = into Reservation (f.keyed Reservation) a c (first reservation_layout (inr (inr (inr (inr (inr (inr (inr (inr (inl refl)))))))))) (let k = held.keyed in k.1.1.1.1.1.1.0)
+    by LotExpiry f a c first held dates = dates
 
 -- the row of `book`
 pub made_book : (a b : State) (m : ℕ) (qualifier id : List ℕ) → HasMade 11 10 a.now → Executes insert_book_text (value.Int (pos 2) ∷ value.Text qualifier ∷ value.Text id ∷ []) a b (Ok m) → HasBook qualifier id b.now
@@ -158,7 +191,7 @@ made_book a b m qualifier id was h =
       schema = it.schema ∙ was.schema;
       sound = it.sound;
       book = it.rows ∙ ap (λ (rows : List Row). put_row (value.Int (next_rowid rows) ∷ value.Int (pos 2) ∷ value.Text qualifier ∷ value.Text id ∷ []) rows) (let all = was.empty in all.0);
-      empty = (it.others.1.0 (apart 1 0 refl) ∙ was.empty.1.0, (it.others.1.1.0 (apart 4 0 refl) ∙ was.empty.1.1.0, (it.others.1.1.1.0 (apart 6 0 refl) ∙ was.empty.1.1.1.0, (it.others.1.1.1.1.0 (apart 8 0 refl) ∙ was.empty.1.1.1.1.0, (it.others.1.1.1.1.1.0 (apart 10 0 refl) ∙ was.empty.1.1.1.1.1.0, (it.others.1.1.1.1.1.1.0 (apart 12 0 refl) ∙ was.empty.1.1.1.1.1.1.0, (it.others.1.1.1.1.1.1.1.0 (apart 14 0 refl) ∙ was.empty.1.1.1.1.1.1.1.0, (it.others.1.1.1.1.1.1.1.1.0 (apart 16 0 refl) ∙ was.empty.1.1.1.1.1.1.1.1.0, (it.others.1.1.1.1.1.1.1.1.1.0 (apart 18 0 refl) ∙ was.empty.1.1.1.1.1.1.1.1.1.0, (it.others.1.1.1.1.1.1.1.1.1.1.0 (apart 19 0 refl) ∙ was.empty.1.1.1.1.1.1.1.1.1.1.0, tt))))))))));
+      empty = (it.others.1.0 (apart 1 0 refl) ∙ was.empty.1.0, (it.others.1.1.0 (apart 4 0 refl) ∙ was.empty.1.1.0, (it.others.1.1.1.0 (apart 6 0 refl) ∙ was.empty.1.1.1.0, (it.others.1.1.1.1.0 (apart 8 0 refl) ∙ was.empty.1.1.1.1.0, (it.others.1.1.1.1.1.0 (apart 10 0 refl) ∙ was.empty.1.1.1.1.1.0, (it.others.1.1.1.1.1.1.0 (apart 12 0 refl) ∙ was.empty.1.1.1.1.1.1.0, (it.others.1.1.1.1.1.1.1.0 (apart 14 0 refl) ∙ was.empty.1.1.1.1.1.1.1.0, (it.others.1.1.1.1.1.1.1.1.0 (apart 16 0 refl) ∙ was.empty.1.1.1.1.1.1.1.1.0, (it.others.1.1.1.1.1.1.1.1.1.0 (apart 18 0 refl) ∙ rules_alone a.now.schema a.now.trees was.schema ∙ was.empty.1.1.1.1.1.1.1.1.1.0, (it.others.1.1.1.1.1.1.1.1.1.1.0 (apart 19 0 refl) ∙ expiry_alone a.now.schema a.now.trees was.schema ∙ was.empty.1.1.1.1.1.1.1.1.1.1.0, tt))))))))));
     }
 
 -- the tables of an empty register
@@ -166,10 +199,10 @@ made_book a b m qualifier id was h =
 is_by_key_none : (s : profile.Schema) (k : ℕ) → AreByKey s k []
 is_by_key_none s k = record { by_key = refl; each = λ row none. absurd none }
 
-holds_empty : (t : BookTable) (qualifier id : List ℕ) (db : Database) → HasBook qualifier id db → Holds [] (db.trees (tree_of t))
+holds_empty : (t : BookTable) (qualifier id : List ℕ) (db : Database) → HasBook qualifier id db → Holds [] (book_trees db (tree_of t))
 holds_empty t qualifier id db h = subst (Holds []) (sym (empty t)) holds_none
   where
-    empty : (t : BookTable) → db.trees (tree_of t) ≡ []
+    empty : (t : BookTable) → book_trees db (tree_of t) ≡ []
     empty Outgoing = h.empty.1.0
     empty Stock = h.empty.1.1.0
     empty Advice = h.empty.1.1.1.0
@@ -198,7 +231,7 @@ stands_empty W s legal h =
         rows = record {
           book = h.book;
           entry = let rows = h.empty in rows.0;
-          keyed = λ t. subst (λ rows. Holds rows (s.now.trees (tree_of t))) (sym (no_rows W t)) (holds_empty t W.qualifier W.id s.now h);
+          keyed = λ t. subst (λ rows. Holds rows (book_trees s.now (tree_of t))) (sym (no_rows W t)) (holds_empty t W.qualifier W.id s.now h);
           rules = let rows = h.empty in rows.1.1.1.1.1.1.1.1.0;
         };
       };

@@ -23,11 +23,11 @@ use Rattle.profile.specs.Header.{Who, is_partner}
 use Rattle.profile.specs.Register.{Entry}
 use Rattle.profile.specs.Tables.{entries_on, entry_table, entry_rules_on, book_table}
 use Rattle.book_tables.specs.Held.{entry_values, first_row}
-use Rattle.book_tables.specs.Carrying.{first_layout, StandsAs}
+use Rattle.book_tables.specs.Carrying.{StandsAs}
 use Rattle.book_tables.specs.Asking.{Finds, house_text}
 use Rattle.book_tables.specs.Recorded.{IsHouse}
-use Rattle.book_tables.proofs.Asked.{found, found_in}
-use Rattle.book_tables.proofs.ReadingTexts.{count_text, count_query, count_is, count_reads, count_first, house_query, house_is, house_reads, house_first}
+use Rattle.book_tables.proofs.Asked.{found, found_first}
+use Rattle.book_tables.proofs.ReadingTexts.{count_text, count_query, count_is, count_reads, house_query, house_is, house_reads}
 
 pub flat_map-cond : {A B : Type 0} (t : A → Bool) (f : A → B) (xs : List A) → flat_map (λ x. cond (t x) (f x ∷ []) []) xs ≡ map f (filter t xs)
 flat_map-cond t f [] = refl
@@ -77,7 +77,7 @@ count_read L db rows entries read =
     ∙ ap length (passing (db.trees 1) ∙ entries) ∙ length-map (entry_table L) entry_values ∙ entries_long [] L
 
 pub count_found : (q : Rules) (W : Who) (L : List Entry) (db : Database) (rows : List Row) → StandsAs q W L db → Finds count_text [] db rows → length rows ≡ length L
-count_found One W L db rows stands h = count_read L db rows (let r = stands.rows in r.entry) (found_in first_layout count_text [] db rows _ stands.schema count_reads count_first h)
+count_found One W L db rows stands h = count_read L db rows (let r = stands.rows in r.entry) (found_first count_text [] db rows _ stands.schema count_reads count_is h)
 count_found Two W L db rows stands h = count_read L db rows (let r = stands.rows in r.entry) (found count_text [] db rows _ stands.schema count_reads count_is h)
 
 -- The warehouse.
@@ -94,7 +94,7 @@ house_read q W db rows partner book read =
 
 pub house_found : (q : Rules) (W : Who) (L : List Entry) (db : Database) (rows : List Row) → StandsAs q W L db → Finds house_text [] db rows → IsHouse q rows W
 house_found One W L db rows stands h =
-    house_read One W db rows (let legal = stands.legal in legal.of_a_partner) (let r = stands.rows in r.book) (found_in first_layout house_text [] db rows _ stands.schema house_reads house_first h)
+    house_read One W db rows (let legal = stands.legal in legal.of_a_partner) (let r = stands.rows in r.book) (found_first house_text [] db rows _ stands.schema house_reads house_is h)
 house_found Two W L db rows stands h =
     house_read Two W db rows (let legal = stands.legal in legal.of_a_partner) (let r = stands.rows in r.book) (found house_text [] db rows _ stands.schema house_reads house_is h)
 

@@ -5,49 +5,46 @@ use Rattle.sqlite_rules.specs.Lists.{Has}
 use Rattle.sqlite.specs.State.{State, IsLive}
 use Rattle.sqlite.specs.declared.types.Value.TheVariants as value
 use Rattle.sqlite.specs.Order.{Row}
-use Rattle.sqlite.specs.Schema.{Schema}
 use Rattle.sqlite.specs.Effect.{Database, IsDatabase}
-use Rattle.sqlite_catalog.specs.Listing.{IsSound}
 use Rattle.profile.specs.Header.{Who, is_partner, who_text}
 use Rattle.profile.specs.Register.{Entry, own}
 use Rattle.profile.specs.History.{events}
 use Rattle.profile.specs.Rows.{LotRow, StockRow, OutRow, shown_row, running_rows, stock_rows, outgoing_rows, outbox_rows}
 use Rattle.stock.specs.Keyed.{rises_by, row_key, key_before as pairs_in_order}
 use Rattle.book_tables.specs.Asking.{Finds}
-use Rattle.book_tables.specs.Layout.{beside, IsLayout}
+use Rattle.book_tables.specs.Layout.{expiry_tree}
 use Rattle.book_tables.specs.Exits.{StandsWhileOpen}
 use Rattle.book_tables.specs.Dated.{date_shown, dates_of}
 use Rattle.book_tables.specs.Showing.{stock_shown, out_shown, IsSent}
 use Rattle.book_tables.specs.Standing.{Stock, LotExpiry, Outgoing, Stands}
-use Rattle.book_tables.proofs.Asked.{found}
+use Rattle.book_tables.proofs.Asked.{found, found_placed}
 use Rattle.book_tables.proofs.Ordered.{lots_rise}
 use Rattle.book_tables.proofs.Sendings.{legal_sent}
-use Rattle.book_tables.proofs.ShowingTexts.{stock_rows_text, stock_rows_is, stock_rows_reads, all_dates_text, all_dates_is, all_dates_reads, outbox_text, outbox_is, outbox_reads}
+use Rattle.book_tables.proofs.ShowingTexts.{stock_rows_text, stock_rows_is, stock_rows_reads, all_dates_text, all_dates_query, all_dates_names, all_dates_reads, outbox_text, outbox_is, outbox_reads}
+use Rattle.book_tables.proofs.ExpiryReads.{all_dates_is}
 use Rattle.book_tables.proofs.ShownRows.{stock_rows_shown, dates_shown, outgoing_rows_shown}
-
-pub sound_layout : (db : Database) (lies : IsLayout db.schema) → IsDatabase db → IsSound (beside lies.others) db.trees
-sound_layout db lies sound = subst (λ (s : Schema). IsSound s db.trees) lies.is sound
 
 stock_found : (W : Who) (L : List Entry) (who : Who) (db : Database) (rows : List Row) → is_partner who ≡ true → IsDatabase db → Stands W L db
     → Finds stock_rows_text (value.Text (who_text who) ∷ []) db rows → rows ≡ map (λ r. stock_shown (shown_row r)) (running_rows (events (own L who)))
 stock_found W L who db rows partner sound stands h =
     let read = found stock_rows_text (value.Text (who_text who) ∷ []) db rows _ stands.schema stock_rows_reads stock_rows_is h in
     let held = stands.rows in
-    stock_rows_shown (let lies = stands.schema in lies.others) W L who db.trees rows stands.legal partner (sound_layout db stands.schema sound) (held.keyed Stock) (read.answer value.Null)
+    stock_rows_shown db.schema stands.schema W L who db.trees rows stands.legal partner sound (held.keyed Stock) (read.answer value.Null)
 
 dates_found : (W : Who) (L : List Entry) (who : Who) (db : Database) (rows : List Row) → is_partner who ≡ true → IsDatabase db → Stands W L db
     → Finds all_dates_text (value.Text (who_text who) ∷ []) db rows → rows ≡ map date_shown (dates_of (running_rows (events (own L who))))
 dates_found W L who db rows partner sound stands h =
-    let read = found all_dates_text (value.Text (who_text who) ∷ []) db rows _ stands.schema all_dates_reads all_dates_is h in
+    let lies = stands.schema in
     let held = stands.rows in
-    dates_shown (let lies = stands.schema in lies.others) W L who db.trees rows stands.legal partner (sound_layout db stands.schema sound) (held.keyed LotExpiry) (read.answer value.Null)
+    dates_shown db.schema lies W L who db.trees rows stands.legal partner sound (held.keyed LotExpiry)
+    (found_placed all_dates_text (value.Text (who_text who) ∷ []) db rows all_dates_query all_dates_names 19 all_dates_reads (all_dates_is db.schema lies.expiry_place (expiry_tree db.schema) lies.expiry) h)
 
 outgoing_found : (W : Who) (L : List Entry) (who : Who) (db : Database) (rows : List Row) → is_partner who ≡ true → IsDatabase db → Stands W L db
     → Finds outbox_text (value.Text (who_text who) ∷ []) db rows → rows ≡ map out_shown (outgoing_rows W (own L who))
 outgoing_found W L who db rows partner sound stands h =
     let read = found outbox_text (value.Text (who_text who) ∷ []) db rows _ stands.schema outbox_reads outbox_is h in
     let held = stands.rows in
-    outgoing_rows_shown (let lies = stands.schema in lies.others) W L who db.trees rows stands.legal partner (sound_layout db stands.schema sound) (held.keyed Outgoing) (read.answer value.Null)
+    outgoing_rows_shown db.schema stands.schema W L who db.trees rows stands.legal partner sound (held.keyed Outgoing) (read.answer value.Null)
 
 -- Rows that are read back of tables that stand while they are open.
 

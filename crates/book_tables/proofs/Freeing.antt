@@ -14,6 +14,8 @@ use Rattle.sqlite.specs.Does.{Tally, Does}
 use Rattle.sqlite.specs.Rows.{Written}
 use Rattle.sqlite.specs.Tree.{Trees, IsTable, rowid, has_rowid, without_rowid}
 use Rattle.sqlite.specs.Table.{Table}
+use Rattle.sqlite.specs.Schema.{Schema}
+use Rattle.std.specs.List.{AllByRecursion}
 use Rattle.sqlite.specs.Listing.{understood}
 use Rattle.sqlite.specs.Effect.{Database}
 use Rattle.sqlite.specs.Query.{IsAnswer, output}
@@ -24,13 +26,13 @@ use Rattle.sqlite_rules.proofs.ListLemmas.{has_filtered}
 use Rattle.sqlite_rules.proofs.TableLemmas.{without_all_has}
 use Rattle.sqlite_rules.proofs.PlaceLemmas.{left_or_taken, row_at_is}
 use Rattle.sqlite_rules.proofs.ProbeLemmas.{has_mapped, mapped_has}
-use Rattle.book_tables.specs.Layout.{beside, IsLayout, book_tables, reservation_layout}
+use Rattle.book_tables.specs.Layout.{beside, IsLayout, reservation_layout}
 use Rattle.book_tables.specs.Steps.{WritesInto, TakenByKey, AreKeyed, key_of}
 use Rattle.book_tables.proofs.WritingTexts.{free_text, free_query, free_is, free_plain}
 use Rattle.book_tables.proofs.PutLemmas.{filter_table}
 use Rattle.book_tables.proofs.KeyLemmas.{itself}
 use Rattle.book_tables.proofs.Passing.{flat_map-cond, from_row, to_row, fewer, whose, whose_key, key_whose}
-use Rattle.book_tables.proofs.Beside.{all_first, one_write}
+use Rattle.book_tables.proofs.Beside.{one_write, as_beside, into_book}
 use Rattle.book_tables.proofs.Values.{went, same_value}
 
 without_table : (ids : List ℤ) (rows : List Row) → IsTable rows → IsTable (without_all rows ids)
@@ -119,10 +121,10 @@ module _ (who order : List ℕ) where
       let written = went asked.2 in
       let trees : new.now.trees ≡ written.0 = ap (λ (d : Database). d.trees) now ∙ ap (λ (it : Written). it.trees) (same_value written.2) in
       let step : Edit = edit_of db reservation_layout (ids_of asked.0) Given 0 [] in
-      let applied = subst (Applies (beside others) (mode_of old).keys db step) (sym trees) (one_write others lies.apart _ db written.0 step (inr (inr (inr (inr (inr (inr (inr (inr (inl refl))))))))) written.1) in
-      record {
+      let applied = subst (Applies (beside others) (mode_of old).keys db step) (sym trees) (one_write (beside others) (as_beside old.now.schema lies) _ db written.0 step (inr (inr (inr (inr (inr (inr (inr (inr (inl refl))))))))) written.1) in
+      into_book 16 refl (TakenByKey 2 params) old.now new.now lies (record {
         sound = w.sound;
         schema = ap (λ (d : Database). d.schema) now ∙ sym has;
-        others = all_first (λ (t : Table). t.tree ≢ 16 → new.now.trees t.tree ≡ db t.tree) book_tables others.tables applied.tables;
+        others = subst (λ (s : Schema). AllByRecursion (λ (t : Table). t.tree ≢ 16 → new.now.trees t.tree ≡ db t.tree) s.tables) (sym has) applied.tables;
         rows = subst (TakenByKey 2 params (db 16)) (sym applied.rows) (found db tidy asked.0 (let a = asked.1 in a.answer Null));
-      }
+      })

@@ -1,5 +1,6 @@
 -- The inserts into `book`, `entry`, `entry_rules` and `outgoing`.
-use Rattle.std.proofs.Common.{◌≡◌, ◌≢◌, inl, inr, ℕ, ℤ, List, [], ◌∷◌, None, Ok, refl, sym, ap, subst, ◌∙◌}
+use Rattle.std.proofs.Common.{◌≡◌, ◌≢◌, inl, inr, ℕ, ℤ, List, [], ◌∷◌, None, Some, Ok, refl, sym, ap, subst, ◌∙◌}
+use Rattle.std.specs.Prelude.{slice_get}
 use Rattle.sqlite.specs.declared.types.Value.TheVariants.{Null, Int, Text, Blob}
 use Rattle.sqlite.specs.Order.{Row}
 use Rattle.sqlite.specs.Command.TheVariants.{Insert}
@@ -7,21 +8,25 @@ use Rattle.sqlite.specs.Source.TheVariants.{Values}
 use Rattle.sqlite.specs.Edit.{edit_of, edited, next_rowid}
 use Rattle.sqlite_rules.specs.Edit.{Applies}
 use Rattle.sqlite.specs.Rowids.TheVariants.{Chosen}
-use Rattle.sqlite.specs.Does.{Tally, Does}
+use Rattle.sqlite.specs.Does.{Tally, Does, AtPlace, OnRows}
 use Rattle.sqlite.specs.Rows.{Written}
 use Rattle.sqlite.specs.Table.{Table}
+use Rattle.sqlite.specs.Schema.{Schema}
+use Rattle.std.specs.List.{AllByRecursion}
 use Rattle.sqlite.specs.Tree.{put_row}
 use Rattle.sqlite.specs.Listing.{understood}
 use Rattle.sqlite.specs.Effect.{Database}
 use Rattle.sqlite.specs.State.{State, mode_of, Executes}
-use Rattle.sqlite.proofs.Callers.{statement_of, runs_as}
-use Rattle.book_tables.specs.Layout.{beside, IsLayout, book_tables, book_layout, entry_layout, entry_rules_layout, outgoing_layout}
+use Rattle.sqlite.specs.Given.{IsPlain}
+use Rattle.sqlite.proofs.Callers.{command_of, statement_of, runs_as}
+use Rattle.book_tables.specs.Layout.{beside, IsLayout, book_layout, entry_layout, entry_rules_at, rules_tree, outgoing_layout}
 use Rattle.book_tables.specs.Steps.{WritesInto, PutByKey, AreKeyed}
-use Rattle.book_tables.proofs.WritingTexts.{source, columns_of, insert_book_text, insert_book_is, insert_book_plain, insert_entry_text, insert_entry_is, insert_entry_plain, insert_rules_text, insert_rules_is, insert_rules_plain, insert_outgoing_text, insert_outgoing_is, insert_outgoing_plain}
+use Rattle.book_tables.proofs.WritingTexts.{source, columns_of, insert_book_text, insert_book_is, insert_book_plain, insert_entry_text, insert_entry_is, insert_entry_plain, insert_rules_text, insert_outgoing_text, insert_outgoing_is, insert_outgoing_plain}
 use Rattle.sqlite.specs.Term.{lit, col}
 use Rattle.book_tables.proofs.UpsertLemmas.{IsUpsert}
 use Rattle.book_tables.proofs.KeyedInserts.{inserts}
-use Rattle.book_tables.proofs.Beside.{all_first, one_write}
+use Rattle.book_tables.proofs.Beside.{one_write, as_beside, into_book, under}
+use Rattle.book_tables.proofs.RulesTexts.{insert_rules_is, insert_rules_plain}
 use Rattle.book_tables.proofs.Values.{cast_int, cast_null, went, same_value}
 
 module _ (version : ℤ) (qualifier id : List ℕ) where
@@ -43,14 +48,14 @@ module _ (version : ℤ) (qualifier id : List ℕ) where
       let written = went (went given.2).2 in
       let counted = went written.2 in
       let trees : new.now.trees ≡ written.0 = ap (λ (d : Database). d.trees) now ∙ ap (λ (it : Written). it.trees) (same_value counted.2) ∙ same_value counted.1 in
-      let applied = subst (Applies (beside others) (mode_of old).keys db (edit_of db book_layout [] Chosen 0 given.0)) (sym trees) (one_write others lies.apart _ db written.0 (edit_of db book_layout [] Chosen 0 given.0) (inl refl) written.1) in
+      let applied = subst (Applies (beside others) (mode_of old).keys db (edit_of db book_layout [] Chosen 0 given.0)) (sym trees) (one_write (beside others) (as_beside old.now.schema lies) _ db written.0 (edit_of db book_layout [] Chosen 0 given.0) (inl refl) written.1) in
       let edit : edited db (edit_of db book_layout [] Chosen 0 given.0) ≡ put_row (Int (next_rowid (db 0)) ∷ book_cells) (db 0) = ap (λ all. edited db (edit_of db book_layout [] Chosen 0 all)) given.1.1 ∙ rw (cast_null, cast_int version) refl in
-      record {
+      into_book 0 refl (λ before after. after ≡ put_row (Int (next_rowid before) ∷ book_cells) before) old.now new.now lies (record {
         sound = w.sound;
         schema = ap (λ (d : Database). d.schema) now ∙ sym has;
-        others = all_first (λ (t : Table). t.tree ≢ 0 → new.now.trees t.tree ≡ db t.tree) book_tables others.tables applied.tables;
+        others = subst (λ (s : Schema). AllByRecursion (λ (t : Table). t.tree ≢ 0 → new.now.trees t.tree ≡ db t.tree) s.tables) (sym has) applied.tables;
         rows = applied.rows ∙ edit;
-      }
+      })
 
 module _ (seq : ℤ) (who mark : List ℕ) (n : ℤ) (moment body : List ℕ) where
   abbrev entry_params : Row
@@ -74,14 +79,14 @@ module _ (seq : ℤ) (who mark : List ℕ) (n : ℤ) (moment body : List ℕ) wh
       let written = went (went given.2).2 in
       let counted = went written.2 in
       let trees : new.now.trees ≡ written.0 = ap (λ (d : Database). d.trees) now ∙ ap (λ (it : Written). it.trees) (same_value counted.2) ∙ same_value counted.1 in
-      let applied = subst (Applies (beside others) (mode_of old).keys db (edit_of db entry_layout [] Chosen 0 given.0)) (sym trees) (one_write others lies.apart _ db written.0 (edit_of db entry_layout [] Chosen 0 given.0) (inr (inl refl)) written.1) in
+      let applied = subst (Applies (beside others) (mode_of old).keys db (edit_of db entry_layout [] Chosen 0 given.0)) (sym trees) (one_write (beside others) (as_beside old.now.schema lies) _ db written.0 (edit_of db entry_layout [] Chosen 0 given.0) (inr (inl refl)) written.1) in
       let edit : edited db (edit_of db entry_layout [] Chosen 0 given.0) ≡ put_row entry_cells (db 1) = ap (λ all. edited db (edit_of db entry_layout [] Chosen 0 all)) given.1.1 ∙ rw (cast_int seq, cast_null, cast_int n) refl in
-      record {
+      into_book 1 refl (λ before after. after ≡ put_row entry_cells before) old.now new.now lies (record {
         sound = w.sound;
         schema = ap (λ (d : Database). d.schema) now ∙ sym has;
-        others = all_first (λ (t : Table). t.tree ≢ 1 → new.now.trees t.tree ≡ db t.tree) book_tables others.tables applied.tables;
+        others = subst (λ (s : Schema). AllByRecursion (λ (t : Table). t.tree ≢ 1 → new.now.trees t.tree ≡ db t.tree) s.tables) (sym has) applied.tables;
         rows = applied.rows ∙ edit;
-      }
+      })
 
 module _ (seq rules : ℤ) where
   abbrev rules_params : Row
@@ -93,26 +98,28 @@ module _ (seq rules : ℤ) where
   pub inserts_rules : (old new : State) (count : ℕ) → IsLayout old.now.schema → Executes insert_rules_text rules_params old new (Ok count)
       → WritesInto 18 (λ before after. after ≡ put_row rules_cells before) old.now new.now
   inserts_rules old new count lies h =
-      let others = lies.others in
-      let has = lies.is in
+      let schema = old.now.schema in
+      let place = lies.rules in
+      let tree = rules_tree schema in
+      let table = entry_rules_at tree in
       let db = old.now.trees in
-      let command = Insert 9 (Values (col 0 0 ∷ lit Null ∷ columns_of 0 1 1) 3) in
-      let w = runs_as insert_rules_text rules_params old new (beside others) has command (insert_rules_is others) (insert_rules_plain others) count h in
-      let text = statement_of insert_rules_text (understood (beside others) insert_rules_text) in
-      let done = went (subst (λ s. Does old.step_limit (mode_of old) rules_params (record old.now { schema = s }) text None command (Ok (w.tally, new.now))) has w.changed) in
+      let keys = (mode_of old).keys in
+      let command = Insert lies.rules_place (Values (col 0 0 ∷ lit Null ∷ columns_of 0 1 1) 3) in
+      let w = runs_as insert_rules_text rules_params old new schema refl command (insert_rules_is schema lies.rules_place tree place) (insert_rules_plain schema lies.rules_place tree place) count h in
+      let done = went (subst (λ t. AtPlace (λ table. OnRows (record { limit = old.step_limit; keys = keys; schema = schema; table = table; params = rules_params }) (mode_of old) None command db) t (Ok (w.tally, new.now))) place.there w.changed) in
       let now = ap (λ (p : Tally × Database). p.1) (same_value (went (went done.2).2).2) in
       let given = went done.1 in
       let written = went (went given.2).2 in
       let counted = went written.2 in
       let trees : new.now.trees ≡ written.0 = ap (λ (d : Database). d.trees) now ∙ ap (λ (it : Written). it.trees) (same_value counted.2) ∙ same_value counted.1 in
-      let applied = subst (Applies (beside others) (mode_of old).keys db (edit_of db entry_rules_layout [] Chosen 0 given.0)) (sym trees) (one_write others lies.apart _ db written.0 (edit_of db entry_rules_layout [] Chosen 0 given.0) (inr (inr (inr (inr (inr (inr (inr (inr (inr (inl refl)))))))))) written.1) in
-      let edit : edited db (edit_of db entry_rules_layout [] Chosen 0 given.0) ≡ put_row rules_cells (db 18) = ap (λ all. edited db (edit_of db entry_rules_layout [] Chosen 0 all)) given.1.1 ∙ rw (cast_int seq, cast_null, cast_int rules) refl in
-      record {
+      let applied = subst (Applies schema keys db (edit_of db table [] Chosen 0 given.0)) (sym trees) (one_write schema lies keys db written.0 (edit_of db table [] Chosen 0 given.0) (inr (inr (inr (inr (inr (inr (inr (inr (inr (inl refl)))))))))) written.1) in
+      let edit : edited db (edit_of db table [] Chosen 0 given.0) ≡ put_row rules_cells (db tree) = ap (λ all. edited db (edit_of db table [] Chosen 0 all)) given.1.1 ∙ rw (cast_int seq, cast_null, cast_int rules) refl in
+      into_book 18 refl (λ before after. after ≡ put_row rules_cells before) old.now new.now lies (record {
         sound = w.sound;
-        schema = ap (λ (d : Database). d.schema) now ∙ sym has;
-        others = all_first (λ (t : Table). t.tree ≢ 18 → new.now.trees t.tree ≡ db t.tree) book_tables others.tables applied.tables;
+        schema = ap (λ (d : Database). d.schema) now;
+        others = applied.tables;
         rows = applied.rows ∙ edit;
-      }
+      })
 
 module _ (who : List ℕ) (n : ℤ) (kind content state : List ℕ) where
   abbrev outgoing_row : Row
@@ -120,8 +127,6 @@ module _ (who : List ℕ) (n : ℤ) (kind content state : List ℕ) where
 
   pub outgoing_known : IsUpsert outgoing_layout.name 2 outgoing_layout.tree 2 5 outgoing_layout.checks outgoing_layout.columns outgoing_row
   outgoing_known = record {
-    spot = λ more. refl;
-    listed = inr (inr (inl refl));
     guarded = λ new r. refl;
     read = λ db. refl;
     is_key = refl;
@@ -133,4 +138,8 @@ module _ (who : List ℕ) (n : ℤ) (kind content state : List ℕ) where
 
   pub inserts_outgoing : (old new : State) (count : ℕ) → IsLayout old.now.schema → AreKeyed 2 (old.now.trees 4) → Executes insert_outgoing_text outgoing_row old new (Ok count)
       → WritesInto 4 (PutByKey 2 outgoing_row) old.now new.now
-  inserts_outgoing = inserts outgoing_layout.name 2 outgoing_layout.tree 2 5 outgoing_layout.checks outgoing_layout.columns outgoing_row outgoing_known insert_outgoing_text insert_outgoing_is insert_outgoing_plain
+  inserts_outgoing old new count lies tidy h =
+      let schema = old.now.schema in
+      into_book 4 refl (PutByKey 2 outgoing_row) old.now new.now lies (inserts outgoing_layout.name 2 outgoing_layout.tree 2 5 outgoing_layout.checks outgoing_layout.columns outgoing_row outgoing_known insert_outgoing_text
+      old new count lies (inr (inr (inl refl))) (under (λ s. slice_get s.tables 2 ≡ Some outgoing_layout) schema lies (λ others. refl))
+      (under (λ s. command_of (understood s insert_outgoing_text) ≡ Insert 2 (Values (source 5) 6)) schema lies insert_outgoing_is) (under (λ s. IsPlain (understood s insert_outgoing_text)) schema lies insert_outgoing_plain) tidy h)

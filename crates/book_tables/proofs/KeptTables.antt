@@ -10,15 +10,13 @@ use Rattle.sqlite_catalog.specs.Listing.{IsSound}
 use Rattle.sqlite_catalog.proofs.LayoutLemmas.{objects_rise, table_shape}
 use Rattle.sqlite_rules.proofs.ListLemmas.{all_from}
 use Rattle.book_tables.specs.Comparing.{AreTables}
-use Rattle.book_tables.specs.Layout.{IsLayout, book_tables}
-use Rattle.book_tables.proofs.Beside.{has_first}
-use Rattle.book_tables.proofs.FoundRows.{sound_layout}
+use Rattle.book_tables.specs.Layout.{IsLayout, book_tables, placed, tree_in}
+use Rattle.book_tables.proofs.Beside.{ours_listed, as_ours}
 
-pub are_tables : (v : View) (schema : Schema) → IsListed (v.trees catalog_tree) v.shape v.reals → IsOrdered v.shape v.trees → IsSound schema v.trees → IsLayout schema → AreTables v.trees
+pub are_tables : (v : View) (schema : Schema) → IsListed (v.trees catalog_tree) v.shape v.reals → IsOrdered v.shape v.trees → IsSound schema v.trees → IsLayout schema → AreTables (record { schema = schema; trees = v.trees })
 are_tables v schema listed ordered sound lies =
-    let mine = sound_layout (record { schema = schema; trees = v.trees }) lies sound in
-    let others = lies.others in
-    all_from (λ (t : Table). IsShaped shape.Table (v.trees t.tree)) book_tables (λ t there.
-    let lists = mine.lists in
-    let at = (table_shape listed (objects_rise v listed ordered).0 lists.listed t (has_first book_tables others.tables t there)).0 in
-    subst (λ (s : Shape). IsShaped s (v.trees t.tree)) at (ordered t.tree))
+    all_from (λ (t : Table). IsShaped shape.Table (placed schema v.trees t.tree)) book_tables (λ t there.
+    let mine = ours_listed schema lies (record t { tree = tree_in schema t.tree }) (as_ours schema t there) in
+    let lists = sound.lists in
+    let at = (table_shape listed (objects_rise v listed ordered).0 lists.listed (record t { tree = tree_in schema t.tree }) mine).0 in
+    subst (λ (s : Shape). IsShaped s (v.trees (tree_in schema t.tree))) at (ordered (tree_in schema t.tree)))

@@ -1,5 +1,6 @@
 -- What an INSERT does to a table whose first columns are its key.
-use Rattle.std.proofs.Common.{◌≡◌, ◌≢◌, ◌+◌, inl, inr, ℕ, List, [], ◌∷◌, take, ◌&&◌, not, Bool, true, false, None, Option, Ok, refl, sym, ap, subst, ◌∙◌}
+use Rattle.std.proofs.Common.{◌≡◌, ◌≢◌, ◌+◌, inl, inr, ℕ, List, [], ◌∷◌, take, ◌&&◌, not, Bool, true, false, None, Some, Option, Ok, refl, sym, ap, subst, ◌∙◌}
+use Rattle.std.specs.Prelude.{slice_get}
 use Rattle.std.specs.Ordering.{is_eq}
 use Rattle.std.specs.declared.cmp.Ordering.TheVariants.{Equal}
 use Rattle.std.proofs.lemmas.Bool.{cases_Bool}
@@ -17,7 +18,7 @@ use Rattle.sqlite.specs.Cast.{cast_row}
 use Rattle.sqlite.specs.Rowids.TheVariants.{Chosen}
 use Rattle.sqlite_rules.specs.Edit.{Applies, Edit, is_taken}
 use Rattle.sqlite_rules.proofs.TableLemmas.{has_put, put_all_keeps}
-use Rattle.sqlite.specs.Does.{Tally, Does, AtPlace, OnRows}
+use Rattle.sqlite.specs.Does.{Tally, AtPlace, OnRows}
 use Rattle.sqlite_schema.specs.declared.schema.Keys.{Keys}
 use Rattle.sqlite.specs.Rows.{Task, Written, Inserts}
 use Rattle.sqlite.specs.Table.{Table}
@@ -31,13 +32,13 @@ use Rattle.sqlite_rules.proofs.ListLemmas.{some_from}
 use Rattle.sqlite_catalog.proofs.AlterLemmas.{keys_are_unique}
 use Rattle.sqlite.specs.State.{State, mode_of, Executes}
 use Rattle.sqlite_catalog.specs.Listing.{IsSound}
-use Rattle.sqlite.proofs.Callers.{command_of, statement_of, runs_as}
-use Rattle.book_tables.specs.Layout.{keyed, beside, book_tables, Others, AreApart, IsLayout}
-use Rattle.book_tables.specs.Steps.{PutByKey, AreKeyed, WritesInto, key_of}
+use Rattle.sqlite.proofs.Callers.{command_of, runs_as}
+use Rattle.book_tables.specs.Layout.{keyed, ours, IsLayout}
+use Rattle.book_tables.specs.Steps.{PutByKey, AreKeyed, WritesAt, key_of}
 use Rattle.book_tables.proofs.PutLemmas.{put_free}
 use Rattle.book_tables.proofs.KeyLemmas.{places, keys_agree, not_ne, differ_ints}
 use Rattle.book_tables.proofs.WritingTexts.{source}
-use Rattle.book_tables.proofs.Beside.{all_first, has_first, one_write}
+use Rattle.book_tables.proofs.Beside.{ours_listed, one_write}
 use Rattle.book_tables.proofs.Values.{cast_null, went, same_value}
 use Rattle.book_tables.proofs.UpsertLemmas.{IsUpsert}
 
@@ -45,10 +46,7 @@ module _ (name : List ℕ) (at tree k n : ℕ) (checks : List Term) (columns : L
   abbrev table : Table
   table = keyed name tree (places 1 k) checks columns
 
-  module _ (others : Others) (apart : AreApart others) (known : IsUpsert name at tree k n checks columns cells) (limit : Option ℕ) (keys : Keys) (db : Trees) where
-    abbrev schema : Schema
-    schema = beside others
-
+  module _ (schema : Schema) (lies : IsLayout schema) (listed : Has (ours schema) table) (known : IsUpsert name at tree k n checks columns cells) (limit : Option ℕ) (keys : Keys) (db : Trees) where
     abbrev task : Task
     task = record { limit = limit; keys = keys; schema = schema; table = table; params = cells }
 
@@ -71,7 +69,7 @@ module _ (name : List ℕ) (at tree k n : ℕ) (checks : List Term) (columns : L
         let written = went counter.2 in
         let counted = went written.2 in
         let trees : w.trees ≡ written.0 = ap (λ (it : Written). it.trees) (same_value counted.2) ∙ same_value counted.1 in
-        let applied = one_write others apart keys db written.0 (edit_of db table [] Chosen 0 given.0) known.listed written.1 in
+        let applied = one_write schema lies keys db written.0 (edit_of db table [] Chosen 0 given.0) listed written.1 in
         let edit : edit_of db table [] Chosen 0 given.0 ≡ step =
         ap (edit_of db table [] Chosen 0) (given.1.1 ∙ known.given) ∙ ap (λ (r : Row). record { table = table; gone = []; news = r ∷ [] }) stored in
         subst (Applies schema keys db step) (sym trees) (subst (λ e. Applies schema keys db e written.0) edit applied)
@@ -84,7 +82,7 @@ module _ (name : List ℕ) (at tree k n : ℕ) (checks : List Term) (columns : L
         let still : Has (next tree) r = subst (λ rs. Has rs r) (sym done.rows) (put_all_keeps (new ∷ []) rows r done.fresh there) in
         let alike : agree plain (places 1 k) r (places 1 k) new ≡ true =
         rw it.2 (keys_agree k (Int it.0) (Int (next_rowid rows)) it.1 cells it.3 known.is_key (sym (ap (key_of k) it.2) ∙ same)) in
-        let clear = keys_are_unique schema next table 0 (places 1 k) new sound (has_first book_tables others.tables _ known.listed) refl here in
+        let clear = keys_are_unique schema next table 0 (places 1 k) new sound (ours_listed schema lies table listed) refl here in
         elim (cases_Bool (differ (rowid r) (rowid new))) [
           | inl apart ↦
               let e = some_from (λ other. agree plain (places 1 k) other (places 1 k) new && differ (rowid other) (rowid new)) (next tree) r still (rw (alike, apart) refl) in
@@ -101,28 +99,25 @@ module _ (name : List ℕ) (at tree k n : ℕ) (checks : List Term) (columns : L
         never_fresh true h k = let e : ◌≡◌ {A = Bool} false true = k in cc
         never_fresh false h k = let e : ◌≡◌ {A = Bool} false true = h in cc
 
-  pub inserts : IsUpsert name at tree k n checks columns cells → (sql : List ℕ) → ((others : Others) → command_of (understood (beside others) sql) ≡ Insert at (Values (source n) (n + 1))) → ((others : Others) → IsPlain (understood (beside others) sql))
-      → (old new : State) (count : ℕ) → IsLayout old.now.schema → AreKeyed k (old.now.trees tree) → Executes sql cells old new (Ok count) → WritesInto tree (PutByKey k cells) old.now new.now
-  inserts known sql text_is plain_text old new count lies tidy h =
-      let others = lies.others in
-      let apart = lies.apart in
-      let has = lies.is in
+  pub inserts : IsUpsert name at tree k n checks columns cells → (sql : List ℕ) (old new : State) (count : ℕ) → IsLayout old.now.schema → Has (ours old.now.schema) table → slice_get old.now.schema.tables at ≡ Some table
+      → command_of (understood old.now.schema sql) ≡ Insert at (Values (source n) (n + 1)) → IsPlain (understood old.now.schema sql)
+      → AreKeyed k (old.now.trees tree) → Executes sql cells old new (Ok count) → WritesAt tree (PutByKey k cells) old.now new.now
+  inserts known sql old new count lies listed spot text_is plain_text tidy h =
+      let schema = old.now.schema in
       let db = old.now.trees in
       let keys = (mode_of old).keys in
       let command = Insert at (Values (source n) (n + 1)) in
-      let w = runs_as sql cells old new (beside others) has command (text_is others) (plain_text others) count h in
-      let text = statement_of sql (understood (beside others) sql) in
-      let made = subst (λ s. Does old.step_limit (mode_of old) cells (record old.now { schema = s }) text None command (Ok (w.tally, new.now))) has w.changed in
-      let done = went (subst (λ t. AtPlace (λ table. OnRows (record { limit = old.step_limit; keys = keys; schema = beside others; table = table; params = cells }) (mode_of old) None command db) t (Ok (w.tally, new.now))) (known.spot others.tables) made) in
+      let w = runs_as sql cells old new schema refl command text_is plain_text count h in
+      let done = went (subst (λ t. AtPlace (λ table. OnRows (record { limit = old.step_limit; keys = keys; schema = schema; table = table; params = cells }) (mode_of old) None command db) t (Ok (w.tally, new.now))) spot w.changed) in
       let now = ap (λ (p : Tally × Database). p.1) (same_value (went (went done.2).2).2) in
       let trees : new.now.trees ≡ done.0.trees = ap (λ (d : Database). d.trees) now in
-      let did : Applies (beside others) keys db (step others apart known old.step_limit keys db) new.now.trees = subst (Applies (beside others) keys db (step others apart known old.step_limit keys db)) (sym trees) (inserted others apart known old.step_limit keys db done.0 done.1) in
-      let schema : new.now.schema ≡ beside others = ap (λ (d : Database). d.schema) now in
-      let sound : IsSound (beside others) new.now.trees = subst (λ s. IsSound s new.now.trees) schema w.sound in
+      let did : Applies schema keys db (step schema lies listed known old.step_limit keys db) new.now.trees = subst (Applies schema keys db (step schema lies listed known old.step_limit keys db)) (sym trees) (inserted schema lies listed known old.step_limit keys db done.0 done.1) in
+      let same : new.now.schema ≡ schema = ap (λ (d : Database). d.schema) now in
+      let sound : IsSound schema new.now.trees = subst (λ s. IsSound s new.now.trees) same w.sound in
       record {
         sound = w.sound;
-        schema = schema ∙ sym has;
-        others = all_first (λ (t : Table). t.tree ≢ tree → new.now.trees t.tree ≡ db t.tree) book_tables others.tables did.tables;
+        schema = same;
+        others = did.tables;
         rows = subst (PutByKey k cells (db tree)) (sym did.rows)
-            (put_free k cells (db tree) tidy.rise (next_rowid (db tree)) did.fresh (was_free others apart known old.step_limit keys db new.now.trees tidy sound did));
+            (put_free k cells (db tree) tidy.rise (next_rowid (db tree)) did.fresh (was_free schema lies listed known old.step_limit keys db new.now.trees tidy sound did));
       }

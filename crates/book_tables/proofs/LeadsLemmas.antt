@@ -14,6 +14,7 @@ use Rattle.profile.specs.Schema.{outgoing_schema, entry_schema, entry_rules_sche
 use Rattle.profile.specs.Changes.{changed_by, Puts, SetsState as Sets, Frees, with_state, is_reserved_for}
 use Rattle.profile.specs.Rows.{state_text}
 use Rattle.book_tables.specs.Held.{values, entry_values, Holds}
+use Rattle.book_tables.specs.Layout.{book_trees}
 use Rattle.book_tables.specs.Leading.{Keeps}
 use Rattle.book_tables.specs.Standing.{BookTable, Outgoing, Stock, Advice, AdviceLine, Orders, OrderLine, Reservation, LotExpiry, schema_of, name_of, tree_of, width_of}
 use Rattle.book_tables.specs.Standing.{Filled, with_rows, named, HasKey, AreByKey, IsOutgoing, IsBySeq}
@@ -32,7 +33,7 @@ are_one : (m n : ℕ) → nat_eq m n ≡ true → m ≡ n
 are_one m n h = grind (arith, nat_tests, h)
 
 -- a statement on one table leaves each other one as it was
-pub spared : (t : BookTable) (tree : ℕ) (old new : Database) → Spares tree old new → tree_of t ≢ tree → new.trees (tree_of t) ≡ old.trees (tree_of t)
+pub spared : (t : BookTable) (tree : ℕ) (old new : Database) → Spares tree old new → tree_of t ≢ tree → book_trees new (tree_of t) ≡ book_trees old (tree_of t)
 spared Outgoing tree old new others other = others.1.1.0 other
 spared Stock tree old new others other = others.1.1.1.0 other
 spared Advice tree old new others other = others.1.1.1.1.0 other
@@ -105,7 +106,7 @@ other_way m n h e = apart m n h (sym e)
 
 -- the rows of one table are replaced
 module _ (t : BookTable) (rows : List TableRow) (Rows : List Row → List Row → Type 0) (f : Filled) (old new : Database) (k : Keeps f old) (did : WritesInto (tree_of t) Rows old new) where
-  pub keeps_with : Holds rows (new.trees (tree_of t)) → AreByKey (schema_of t) (width_of t) rows
+  pub keeps_with : Holds rows (book_trees new (tree_of t)) → AreByKey (schema_of t) (width_of t) rows
       → ((row : TableRow) → Has (let g = with_rows t rows f in g.keyed Outgoing) row → IsOutgoing row) → Keeps (with_rows t rows f) new
   keeps_with held sorted outgoing = record {
     schema = still_lies old.schema new.schema did.schema k.schema;
@@ -113,7 +114,7 @@ module _ (t : BookTable) (rows : List TableRow) (Rows : List Row → List Row �
     rows = record {
       book = did.others.0 (apart 0 (tree_of t) (not_book t)) ∙ k.rows.book;
       entry = did.others.1.0 (apart 1 (tree_of t) (not_entry t)) ∙ k.rows.entry;
-      keyed = each_table (λ u us. Holds us (new.trees (tree_of u))) t rows f held
+      keyed = each_table (λ u us. Holds us (book_trees new (tree_of u))) t rows f held
           (λ u other. subst (Holds (f.keyed u)) (sym (spared u (tree_of t) old new did.others (other_way (tree_of t) (tree_of u) other))) (k.rows.keyed u));
       rules = did.others.1.1.1.1.1.1.1.1.1.0 (apart 18 (tree_of t) (not_rules t)) ∙ k.rows.rules;
     };
@@ -160,7 +161,7 @@ leads_put t row f old new has is k did =
       with_rows t (schema.put_row (schema_of t) row rows) f,
       put_named t row f,
       keeps_with t (schema.put_row (schema_of t) row rows) (PutByKey (width_of t) (values row)) f old new k did
-          (put_holds (schema_of t) (width_of t) row rows sorted has (old.trees (tree_of t)) (new.trees (tree_of t)) (k.rows.keyed t) did.rows)
+          (put_holds (schema_of t) (width_of t) row rows sorted has (book_trees old (tree_of t)) (book_trees new (tree_of t)) (k.rows.keyed t) did.rows)
           (put_ordered (schema_of t) (width_of t) row rows sorted has) (put_outgoing t row f is k.ordered.outgoing),
     )
 
@@ -221,7 +222,7 @@ leads_state who n said f old new k did =
       with_rows Outgoing (map (with_state who n (state_text said)) rows) f,
       refl,
       keeps_with Outgoing (map (with_state who n (state_text said)) rows) (SetsState who (pos n) (state_text said)) f old new k did
-          (stated_holds who n (state_text said) rows each sorted (old.trees 4) (new.trees 4) (k.rows.keyed Outgoing) did.rows)
+          (stated_holds who n (state_text said) rows each sorted (book_trees old 4) (book_trees new 4) (k.rows.keyed Outgoing) did.rows)
           (stated_ordered who n (state_text said) rows each sorted) (stated_each who n (state_text said) rows each sorted),
     )
 
@@ -232,6 +233,6 @@ leads_free who order f old new k did =
       with_rows Reservation (filter (λ row. not (is_reserved_for who order row)) rows) f,
       refl,
       keeps_with Reservation (filter (λ row. not (is_reserved_for who order row)) rows) (TakenByKey 2 (value.Text who ∷ value.Text order ∷ [])) f old new k did
-          (freed_holds who order rows (old.trees 16) (new.trees 16) (k.rows.keyed Reservation) did.rows)
+          (freed_holds who order rows (book_trees old 16) (book_trees new 16) (k.rows.keyed Reservation) did.rows)
           (freed_ordered who order rows (k.ordered.keyed Reservation)) k.ordered.outgoing,
     )

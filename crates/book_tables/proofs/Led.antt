@@ -10,6 +10,7 @@ use Rattle.profile.specs.Page.{PageOrder}
 use Rattle.profile.specs.Tables.{Number, Text, Blob, TableRow, flag, text_or_null, address_cells, stock_cells, orders_cells}
 use Rattle.profile.specs.Changes.{Puts, SetsState as Sets, Frees}
 use Rattle.book_tables.specs.Held.{values, value_of}
+use Rattle.book_tables.specs.Layout.{book_trees}
 use Rattle.book_tables.specs.Leading.{Leads, Keeps}
 use Rattle.book_tables.specs.Standing.{BookTable, Outgoing, Stock, Advice, AdviceLine, Orders, OrderLine, Reservation, LotExpiry, schema_of, tree_of, width_of, Filled}
 use Rattle.book_tables.specs.Steps.{AreOutgoing, AreKeyed}
@@ -23,8 +24,8 @@ use Rattle.book_tables.proofs.LeadsLemmas.{leads_put, leads_entry, leads_rules, 
 
 module _ (old new : State) (count : ℕ) where
   -- a table's rows as they are stored
-  keyed : (t : BookTable) (f : Filled) → Keeps f old.now → AreKeyed (width_of t) (old.now.trees (tree_of t))
-  keyed t f k = are_keyed (schema_of t) (width_of t) (f.keyed t) (old.now.trees (tree_of t)) (k.ordered.keyed t) (k.rows.keyed t)
+  keyed : (t : BookTable) (f : Filled) → Keeps f old.now → AreKeyed (width_of t) (book_trees old.now (tree_of t))
+  keyed t f k = are_keyed (schema_of t) (width_of t) (f.keyed t) (book_trees old.now (tree_of t)) (k.ordered.keyed t) (k.rows.keyed t)
 
   pub stock_led : (who : List ℕ) (r : LotRow) → Executes put_stock_text (values (Text who ∷ stock_cells r)) old new (Ok count)
       → Leads (Puts (codes "stock") (Text who ∷ stock_cells r) ∷ []) old.now new.now

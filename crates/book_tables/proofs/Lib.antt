@@ -84,3 +84,16 @@ mod EnrolledOnce
 pub mod EnrolledFound
 pub mod KeptTables
 mod OpenedAnew
+mod TextSteps
+mod RulesTexts
+mod MakingAnywhere
+mod SelectedTexts
+mod SelectedViews
+mod SelectedColumns
+mod SelectedParts
+mod RulesReads
+mod ExpiryReads
+mod ExpiryTexts
+mod PlacedAnswers
+mod Widening
+mod ListsGrown

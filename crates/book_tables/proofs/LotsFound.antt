@@ -22,15 +22,15 @@ use Rattle.rules.proofs.Fits.{page_fits}
 use Rattle.stock.proofs.Keys.{all_filter}
 use Rattle.book_tables.specs.Asking.{Finds}
 use Rattle.book_tables.specs.Exits.{StandsWhileOpen}
-use Rattle.book_tables.specs.Layout.{stock_layout, lot_expiry_layout}
+use Rattle.book_tables.specs.Layout.{stock_layout, lot_expiry_layout, book_trees, expiry_tree}
 use Rattle.book_tables.specs.Dated.{Dated, date_shown, dates_of}
 use Rattle.book_tables.specs.Showing.{lot_shown}
 use Rattle.book_tables.specs.Standing.{Stock, LotExpiry, Stands, AreOrdered, filled}
-use Rattle.book_tables.proofs.Asked.{found}
+use Rattle.book_tables.proofs.Asked.{found, found_placed}
 use Rattle.book_tables.proofs.Finding.{rises_kept}
-use Rattle.book_tables.proofs.FoundRows.{sound_layout}
 use Rattle.book_tables.proofs.HoldsLemmas.{are_keyed}
-use Rattle.book_tables.proofs.NeedTexts.{lots_text, lots_columns, pair_order, lots_is, lots_reads, dates_text, dates_columns, dates_is, dates_reads}
+use Rattle.book_tables.proofs.NeedTexts.{lots_text, lots_columns, pair_order, lots_is, lots_reads, dates_text, dates_columns, dates_query, dates_names, dates_reads}
+use Rattle.book_tables.proofs.ExpiryReads.{dates_is}
 use Rattle.book_tables.proofs.Ordered.{all_ordered, lots_rise}
 use Rattle.book_tables.proofs.DateLemmas.{date_cells, date_key, dates_in, dates_rise}
 use Rattle.book_tables.proofs.ShownRows.{pairs_ranked, both_equal, text_is}
@@ -67,7 +67,7 @@ lots_found W L who item db rows partner sound stands h =
     let its = text_is a.item b.item both.0 in
     let lot = text_is a.lot b.lot both.1 in
     λ i. value.Text (who_text who) ∷ value.Text (its i) ∷ value.Text (lot i) ∷ [])
-    (only_row lies.others stock_layout.name 6 3 stock_layout.checks stock_layout.columns db.trees (inr (inr (inr (inl refl)))) (sound_layout db stands.schema sound) (are_keyed stock_schema 3 (stock_table L) (db.trees 6) (ordered.keyed Stock) (held.keyed Stock)))
+    (only_row db.schema lies stock_layout.name 6 3 stock_layout.checks stock_layout.columns db.trees (inr (inr (inr (inl refl)))) sound (are_keyed stock_schema 3 (stock_table L) (db.trees 6) (ordered.keyed Stock) (held.keyed Stock)))
 
 -- The dates of the item's lots.
 
@@ -108,13 +108,13 @@ dates_under W L who item legal partner =
 pub dates_found : (W : Who) (L : List Entry) (who : Who) (item : List ℕ) (db : Database) (rows : List Row) → is_partner who ≡ true → IsDatabase db → Stands W L db
     → Finds dates_text (value.Text (who_text who) ∷ value.Text item ∷ []) db rows → rows ≡ map date_shown (dates_of (filter (λ r. bytes_eq r.item item) (page_of (own L who)).rows))
 dates_found W L who item db rows partner sound stands h =
-    let read = found dates_text (value.Text (who_text who) ∷ value.Text item ∷ []) db rows _ stands.schema dates_reads dates_is h in
     let held = stands.rows in
     let lies = stands.schema in
+    let answer = found_placed dates_text (value.Text (who_text who) ∷ value.Text item ∷ []) db rows dates_query dates_names 19 dates_reads (dates_is db.schema lies.expiry_place (expiry_tree db.schema) lies.expiry) h in
     let ordered : AreOrdered (filled W L) = all_ordered W L in
     let lots = running_rows (events (own L who)) in
     all_rows 2 (λ (d : Dated). Text (who_text who) ∷ date_cells d) 19 dates_columns pair_order date_out (value.Text (who_text who)) (value.Text item) (lot_expiry_table L) (of_item item lots)
-    (dates_under W L who item stands.legal partner) db.trees (held.keyed LotExpiry) rows (read.answer value.Null)
+    (dates_under W L who item stands.legal partner) (book_trees db) (held.keyed LotExpiry) rows answer
     pairs_in_order date_key 3 (rises_kept pairs_in_order date_key (λ d. bytes_eq d.item item) (dates_of lots) (dates_rise lots (lots_rise (events (own L who)))))
     (λ a b. pairs_ranked a.item a.lot b.item b.lot)
     (λ a b t.
@@ -122,8 +122,8 @@ dates_found W L who item db rows partner sound stands h =
     let its = text_is a.item b.item both.0 in
     let lot = text_is a.lot b.lot both.1 in
     λ i. value.Text (who_text who) ∷ value.Text (its i) ∷ value.Text (lot i) ∷ [])
-    (only_row lies.others lot_expiry_layout.name 19 3 lot_expiry_layout.checks lot_expiry_layout.columns db.trees (inr (inr (inr (inr (inr (inr (inr (inr (inr (inr (inl refl))))))))))) (sound_layout db stands.schema sound)
-    (are_keyed lot_expiry_schema 3 (lot_expiry_table L) (db.trees 19) (ordered.keyed LotExpiry) (held.keyed LotExpiry)))
+    (only_row db.schema lies lot_expiry_layout.name (expiry_tree db.schema) 3 [] lot_expiry_layout.columns db.trees (inr (inr (inr (inr (inr (inr (inr (inr (inr (inr (inl refl))))))))))) sound
+    (are_keyed lot_expiry_schema 3 (lot_expiry_table L) (book_trees db 19) (ordered.keyed LotExpiry) (held.keyed LotExpiry)))
     ∙ ap (map date_shown) (dates_kept item lots)
 
 -- what rows were read as, of tables that stand while they are open

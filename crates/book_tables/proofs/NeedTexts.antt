@@ -72,9 +72,8 @@ dates_columns = col 1 2 ∷ col 1 3 ∷ col 1 4 ∷ []
 abbrev pub dates_names : List (List ℕ)
 dates_names = codes "item" ∷ codes "lot" ∷ codes "expiry" ∷ []
 
-pub dates_is : (others : Others) → Reads dates_text (under_where 19 dates_columns pair_order) dates_names others
-unfolding understood everything
-dates_is others = (refl, refl)
+abbrev pub dates_query : Query
+dates_query = under_where 19 dates_columns pair_order
 
 pub dates_reads : OnlyReads dates_text
 unfolding everything

@@ -41,10 +41,11 @@ use Rattle.store.specs.Replayed.{written_on, all_written}
 use Rattle.book_tables.specs.Asking.{OnlyReads, Finds}
 use Rattle.book_tables.specs.Exits.{StandsWhileOpen}
 use Rattle.book_tables.specs.Held.{entry_values}
-use Rattle.book_tables.specs.Layout.{Others, beside}
+use Rattle.book_tables.specs.Layout.{Others, beside, book_trees, rules_tree}
 use Rattle.book_tables.specs.Recorded.{numbered_shown, numbered_text, rules_shown, rules_text, written_at, IsRecorded, IsOfPartner}
 use Rattle.book_tables.specs.Standing.{Stands}
-use Rattle.book_tables.proofs.Asked.{found}
+use Rattle.book_tables.proofs.Asked.{found, found_placed}
+use Rattle.book_tables.proofs.RulesReads.{rules_is}
 use Rattle.book_tables.proofs.Found.{flat_map-cond, map-both}
 use Rattle.book_tables.proofs.KeyLemmas.{int_itself, same_int}
 use Rattle.book_tables.proofs.OwnEntries.{each_recorded}
@@ -71,9 +72,8 @@ numbered_reads = query_reads numbered_text (λ schema base. refl)
 abbrev pub rules_query : Query
 rules_query = ordered_from 18 (op2 (Compare Eq Binary) (col 1 0) (col 0 0) ∷ []) (col 1 2 ∷ []) []
 
-pub rules_is : (others : Others) → (command_of (understood (beside others) rules_text) ≡ Select (record { lets = []; body = rules_query }) (codes "rules" ∷ [])) × (reads_listing (beside others) rules_text ≡ false)
-unfolding understood everything
-rules_is others = (refl, refl)
+abbrev pub rules_names : List (List ℕ)
+rules_names = codes "rules" ∷ []
 
 pub rules_reads : OnlyReads rules_text
 unfolding everything
@@ -189,12 +189,13 @@ module _ (seq : ℕ) where
 
   pub rules_found : (W : Who) (L : List Entry) (db : Database) (rows : List Row) → Stands W L db → Finds rules_text (value.Int (pos seq) ∷ []) db rows → rows ≡ map rules_shown (listed (written_at (all_written L) seq))
   rules_found W L db rows stands h =
-      let read = found rules_text (value.Int (pos seq) ∷ []) db rows _ stands.schema rules_reads rules_is h in
-      let a : IsAnswer rules_query (overlay db.trees []) (value.Int (pos seq) ∷ []) rows = read.answer value.Null in
+      let lies = stands.schema in
+      let a : IsAnswer rules_query (overlay (book_trees db) []) (value.Int (pos seq) ∷ []) rows = found_placed rules_text (value.Int (pos seq) ∷ []) db rows rules_query rules_names 18 rules_reads (rules_is db.schema lies.rules_place (rules_tree db.schema) lies.rules) h in
+      let stored : List Row = book_trees db 18 in
       let rules = let r = stands.rows in r.rules in
-      let is : a.kept ≡ map (output rules_query) (map env_of (filter has_number (db.trees 18))) = a.distinct ∙ ap (map (output rules_query)) (a.grouped ∙ flat_map-cond has_number env_of (db.trees 18)) in
+      let is : a.kept ≡ map (output rules_query) (map env_of (filter has_number stored)) = a.distinct ∙ ap (map (output rules_query)) (a.grouped ∙ flat_map-cond has_number env_of stored) in
       let all : map (λ (o : Output). o.1) a.kept ≡ map rules_shown (listed (written_at (all_written L) seq)) =
-      ap (map (λ (o : Output). o.1)) is ∙ map-both (output rules_query) (λ (o : Output). o.1) (map env_of (filter has_number (db.trees 18))) ∙ map-both env_of (λ e. (output rules_query e).1) (filter has_number (db.trees 18))
+      ap (map (λ (o : Output). o.1)) is ∙ map-both (output rules_query) (λ (o : Output). o.1) (map env_of (filter has_number stored)) ∙ map-both env_of (λ e. (output rules_query e).1) (filter has_number stored)
       ∙ ap (λ src. map shows_rules (filter has_number src)) rules ∙ rules_told [] L ∙ ap (map rules_shown) (picked_is seq (all_written L)) in
       a.shown ∙ in_any_order rules_shown (written_at (all_written L) seq) a.kept a.ordered a.same all
 

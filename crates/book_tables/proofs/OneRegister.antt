@@ -1,7 +1,10 @@
 -- Trees stand for one register alone, of one warehouse.
-use Rattle.std.proofs.Common.{◌≡◌, pos, List, ℕ, [], ◌∷◌, map, refl, sym, ◌∙◌}
+use Rattle.std.proofs.Common.{◌≡◌, pos, List, ℕ, [], ◌∷◌, map, refl, sym, ap, ◌∙◌}
 use Rattle.sqlite.specs.Order.{Row}
 use Rattle.sqlite.specs.Tree.{Trees}
+use Rattle.sqlite.specs.Schema.{Schema}
+use Rattle.sqlite_trees.specs.Objects.{catalog_tree}
+use Rattle.sqlite_catalog.proofs.ReadLemmas.{lists_once}
 use Rattle.profile.specs.declared.rules.Rules.TheVariants.{Two}
 use Rattle.profile.specs.Header.{Who}
 use Rattle.profile.specs.Register.{Entry}
@@ -10,6 +13,7 @@ use Rattle.profile.proofs.RegisterLaws.{entry_table-determines}
 use Rattle.sqlite.specs.declared.types.Value.{Value}
 use Rattle.sqlite.specs.declared.types.Value.TheVariants as value
 use Rattle.book_tables.specs.Held.{value_of, values, first_row, entry_values}
+use Rattle.book_tables.specs.Layout.{placed}
 use Rattle.book_tables.specs.Standing.{StandsIn}
 use Rattle.book_tables.proofs.HoldsLemmas.{same_cells, same_cell}
 
@@ -39,11 +43,22 @@ same_house W V e = let both = parts W.qualifier W.id V.qualifier V.id e in λ i.
     parts : (a b c d : List ℕ) → ◌≡◌ {A = List Row} ((value.Int (pos 1) ∷ value.Int (pos 2) ∷ value.Text a ∷ value.Text b ∷ []) ∷ []) ((value.Int (pos 1) ∷ value.Int (pos 2) ∷ value.Text c ∷ value.Text d ∷ []) ∷ []) → (a ≡ c) × (b ≡ d)
     parts a b c d e = (cc, cc)
 
+-- trees list one schema
+one_schema : {W V : Who} {db : Trees} {L M : List Entry} (p : StandsIn W L db) (q : StandsIn V M db) → p.0 ≡ q.0
+one_schema {W} {V} {db} {L} {M} p q = let a = p.1 in let b = q.1 in lists_once (db catalog_tree) p.0 q.0 a.lists b.lists
+
+one_rules : {W V : Who} {db : Trees} {L M : List Entry} (p : StandsIn W L db) (q : StandsIn V M db) → map entry_values (entry_rules_table L) ≡ map entry_values (entry_rules_table M)
+one_rules {W} {V} {db} {L} {M} p q =
+    let a = p.2.rows in
+    let b = q.2.rows in
+    let same : placed p.0 db 18 ≡ placed q.0 db 18 = ap (λ (s : Schema). placed s db 18) (one_schema p q) in
+    sym a.rules ∙ same ∙ b.rules
+
 pub stands_for_one : (W V : Who) (db : Trees) (L M : List Entry) → StandsIn W L db → StandsIn V M db → (W ≡ V) × (L ≡ M)
 stands_for_one W V db L M p q = (
   same_house W V (let a = p.2.rows in let b = q.2.rows in sym a.book ∙ b.book),
   entry_table-determines W V L M p.2.legal q.2.legal (same_entries (entry_table L) (entry_table M) (let a = p.2.rows in let b = q.2.rows in sym a.entry ∙ b.entry))
-      (same_entries (entry_rules_table L) (entry_rules_table M) (let a = p.2.rows in let b = q.2.rows in sym a.rules ∙ b.rules)),
+      (same_entries (entry_rules_table L) (entry_rules_table M) (one_rules p q)),
 )
 
 -- of one warehouse

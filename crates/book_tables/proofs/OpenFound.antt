@@ -35,7 +35,6 @@ use Rattle.book_tables.specs.Standing.{Advice, Orders, Stands, AreOrdered, fille
 use Rattle.book_tables.proofs.Asked.{found}
 use Rattle.book_tables.proofs.Finding.{rises_kept}
 use Rattle.book_tables.proofs.Found.{map-both}
-use Rattle.book_tables.proofs.FoundRows.{sound_layout}
 use Rattle.book_tables.proofs.HoldsLemmas.{are_keyed}
 use Rattle.book_tables.proofs.KeyLemmas.{equal_numbers}
 use Rattle.book_tables.proofs.OpenTexts.{name_columns, name_order, shipments_text, shipments_is, shipments_reads, numbers_text, numbers_is, numbers_reads}
@@ -82,7 +81,7 @@ shipments_found W L who db rows partner sound stands h =
     comes_before shipment_of 2 (rises_kept comes_before shipment_of (λ (a : PageAdvice). a.is_open) (page_advices (events (own L who))) (advices_rise (events (own L who))))
     (λ a b. texts_ranked a.shipment b.shipment)
     (λ a b t. let same = text_is a.shipment b.shipment (one_equal (value_cmp (value.Text a.shipment) (value.Text b.shipment)) t) in λ i. value.Text (who_text who) ∷ value.Text (same i) ∷ [])
-    (only_row lies.others advice_layout.name 8 2 advice_layout.checks advice_layout.columns db.trees (inr (inr (inr (inr (inl refl))))) (sound_layout db stands.schema sound)
+    (only_row db.schema lies advice_layout.name 8 2 advice_layout.checks advice_layout.columns db.trees (inr (inr (inr (inr (inl refl))))) sound
     (are_keyed advice_schema 2 (advice_table L) (db.trees 8) (ordered.keyed Advice) (held.keyed Advice)))
     ∙ sym (map-both shipment_of name_shown (open_advices L who))
 
@@ -118,7 +117,7 @@ numbers_found W L who db rows partner sound stands h =
     comes_before number_of 2 (rises_kept comes_before number_of (λ (o : PageOrder). o.is_open) (page_orders (events (own L who))) (orders_rise (events (own L who))))
     (λ a b. texts_ranked a.number b.number)
     (λ a b t. let same = text_is a.number b.number (one_equal (value_cmp (value.Text a.number) (value.Text b.number)) t) in λ i. value.Text (who_text who) ∷ value.Text (same i) ∷ [])
-    (only_row lies.others orders_layout.name 12 2 orders_layout.checks orders_layout.columns db.trees (inr (inr (inr (inr (inr (inr (inl refl))))))) (sound_layout db stands.schema sound)
+    (only_row db.schema lies orders_layout.name 12 2 orders_layout.checks orders_layout.columns db.trees (inr (inr (inr (inr (inr (inr (inl refl))))))) sound
     (are_keyed orders_schema 2 (orders_table L) (db.trees 12) (ordered.keyed Orders) (held.keyed Orders)))
     ∙ sym (map-both number_of name_shown (open_orders L who))
 

@@ -37,7 +37,6 @@ use Rattle.book_tables.specs.Showing.{order_shown, order_line_shown, line_shown}
 use Rattle.book_tables.specs.Standing.{Orders, OrderLine, Reservation, Stands, AreOrdered, filled}
 use Rattle.book_tables.proofs.Asked.{found}
 use Rattle.book_tables.proofs.Finding.{no_row, first_row, one_key, second_of}
-use Rattle.book_tables.proofs.FoundRows.{sound_layout}
 use Rattle.book_tables.proofs.HoldsLemmas.{are_keyed}
 use Rattle.book_tables.proofs.NeedTexts.{order_text, order_columns, order_is, order_reads, order_lines_text, order_lines_is, order_lines_reads, line_columns, line_order, reserved_text, reserved_columns, reserved_order, reserved_is, reserved_reads, under_where}
 use Rattle.book_tables.proofs.Ordered.{all_ordered, orders_rise, ordered_cells, reserved_cells, reserved_rise, line_pair}
@@ -126,7 +125,7 @@ ordered_found W L who number db rows partner sound stands h =
     (lines_under W L who number stands.legal partner) db.trees (held.keyed OrderLine) rows (read.answer value.Null)
     nat_lt (λ (p : ℕ × PageLine). p.0) 3 (numbers_rise 1 (its_lines L who number)) (λ a b. numbers_ranked a.0 b.0)
     (λ a b t. let same = number_is a.0 b.0 t in λ i. value.Text (who_text who) ∷ value.Text number ∷ value.Int (pos (same i)) ∷ [])
-    (only_row lies.others order_line_layout.name 14 3 order_line_layout.checks order_line_layout.columns db.trees (inr (inr (inr (inr (inr (inr (inr (inl refl)))))))) (sound_layout db stands.schema sound)
+    (only_row db.schema lies order_line_layout.name 14 3 order_line_layout.checks order_line_layout.columns db.trees (inr (inr (inr (inr (inr (inr (inr (inl refl)))))))) sound
     (are_keyed order_line_schema 3 (order_line_table L) (db.trees 14) (ordered.keyed OrderLine) (held.keyed OrderLine)))
     ∙ second_of order_line_shown 1 (its_lines L who number)
 
@@ -176,7 +175,7 @@ reserved_found W L who number db rows partner sound stands h =
     let its = text_is a.item b.item both.0 in
     let lot = text_is a.lot b.lot both.1 in
     λ i. value.Text (who_text who) ∷ value.Text number ∷ value.Text (its i) ∷ value.Text (lot i) ∷ [])
-    (only_row lies.others reservation_layout.name 16 4 reservation_layout.checks reservation_layout.columns db.trees (inr (inr (inr (inr (inr (inr (inr (inr (inl refl))))))))) (sound_layout db stands.schema sound)
+    (only_row db.schema lies reservation_layout.name 16 4 reservation_layout.checks reservation_layout.columns db.trees (inr (inr (inr (inr (inr (inr (inr (inr (inl refl))))))))) sound
     (are_keyed reservation_schema 4 (reservation_table L) (db.trees 16) (ordered.keyed Reservation) (held.keyed Reservation)))
 
 pub reserved_read : (old : State) (W : Who) (L : List Entry) (who : Who) (number : List ℕ) → IsTrue (is_partner who) → IsLive old → StandsWhileOpen old W L → (rows : List Row)

@@ -10,7 +10,6 @@ use Rattle.sqlite.specs.Listing.{understood, reads_listing}
 use Rattle.sqlite.proofs.Callers.{command_of}
 use Rattle.book_tables.specs.Layout.{Others, beside}
 use Rattle.book_tables.specs.Asking.{OnlyReads, house_text}
-use Rattle.book_tables.specs.Carrying.{first_layout}
 use Rattle.book_tables.proofs.Selects.{query_reads}
 
 -- the rows of a table that pass, as these terms, in an order
@@ -43,10 +42,6 @@ pub count_reads : OnlyReads count_text
 unfolding everything
 count_reads = query_reads count_text (λ schema base. refl)
 
-pub count_first : (command_of (understood first_layout count_text) ≡ Select (record { lets = []; body = count_query }) (codes "seq" ∷ [])) × (reads_listing first_layout count_text ≡ false)
-unfolding understood everything
-count_first = (refl, refl)
-
 -- The warehouse.
 
 abbrev pub house_query : Query
@@ -59,7 +54,3 @@ house_is others = (refl, refl)
 pub house_reads : OnlyReads house_text
 unfolding everything
 house_reads = query_reads house_text (λ schema base. refl)
-
-pub house_first : (command_of (understood first_layout house_text) ≡ Select (record { lets = []; body = house_query }) (codes "version" ∷ codes "qualifier" ∷ codes "id" ∷ [])) × (reads_listing first_layout house_text ≡ false)
-unfolding understood everything
-house_first = (refl, refl)

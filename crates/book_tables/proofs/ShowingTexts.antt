@@ -74,10 +74,6 @@ all_dates_query = shown_where 19 all_dates_columns stock_order
 abbrev pub all_dates_names : List (List ℕ)
 all_dates_names = codes "item" ∷ codes "lot" ∷ codes "expiry" ∷ []
 
-pub all_dates_is : (others : Others) → (command_of (understood (beside others) all_dates_text) ≡ Select (record { lets = []; body = all_dates_query }) all_dates_names) × (reads_listing (beside others) all_dates_text ≡ false)
-unfolding understood everything
-all_dates_is others = (refl, refl)
-
 pub all_dates_reads : OnlyReads all_dates_text
 unfolding everything
 all_dates_reads = query_reads all_dates_text (λ schema base. refl)

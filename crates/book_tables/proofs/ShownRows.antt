@@ -28,7 +28,8 @@ use Rattle.stock.specs.Keyed.{row_key, key_before as pairs_in_order}
 use Rattle.stock.proofs.KeyLemmas.{numbers_strict}
 use Rattle.rules.proofs.Blocks.{prefixed}
 use Rattle.book_tables.specs.Held.{Holds}
-use Rattle.book_tables.specs.Layout.{Others, beside, stock_layout, lot_expiry_layout, outgoing_layout}
+use Rattle.sqlite.specs.Schema.{Schema}
+use Rattle.book_tables.specs.Layout.{IsLayout, placed, expiry_tree, stock_layout, lot_expiry_layout, outgoing_layout}
 use Rattle.book_tables.specs.Dated.{Dated, date_shown, dates_of}
 use Rattle.book_tables.specs.Showing.{stock_shown, out_shown}
 use Rattle.book_tables.specs.Standing.{Stock, LotExpiry, Outgoing, AreOrdered, filled}
@@ -105,12 +106,12 @@ stock_is W L who legal partner = record {
 }
 
 -- the answer of a partner's stock is its stock rows, but for their dates
-pub stock_rows_shown : (others : Others) (W : Who) (L : List Entry) (who : Who) (db : Trees) (rows : List Row) → IsLegal Two W L → is_partner who ≡ true → IsSound (beside others) db → Holds (stock_table L) (db 6)
+pub stock_rows_shown : (schema : Schema) (lies : IsLayout schema) (W : Who) (L : List Entry) (who : Who) (db : Trees) (rows : List Row) → IsLegal Two W L → is_partner who ≡ true → IsSound schema db → Holds (stock_table L) (db 6)
     → IsAnswer stock_rows_query (overlay db []) (value.Text (who_text who) ∷ []) rows → rows ≡ map (λ r. stock_shown (shown_row r)) (running_rows (events (own L who)))
-stock_rows_shown others W L who db rows legal partner sound held a =
+stock_rows_shown schema lies W L who db rows legal partner sound held a =
     let ordered : AreOrdered (filled W L) = all_ordered W L in
     shown_rows pairs_in_order row_key stock_cells 6 3 stock_columns stock_order stock_out (who_text who) (stock_table L) (running_rows (events (own L who))) (stock_is W L who legal partner) db held
-    (only_row others stock_layout.name 6 3 stock_layout.checks stock_layout.columns db (inr (inr (inr (inl refl)))) sound (are_keyed stock_schema 3 (stock_table L) (db 6) (ordered.keyed Stock) held)) rows a
+    (only_row schema lies stock_layout.name 6 3 stock_layout.checks stock_layout.columns db (inr (inr (inr (inl refl)))) sound (are_keyed stock_schema 3 (stock_table L) (db 6) (ordered.keyed Stock) held)) rows a
 
 -- Dates.
 
@@ -134,13 +135,13 @@ dates_are W L who legal partner = record {
 }
 
 -- the answer of a partner's dates is those of its running rows
-pub dates_shown : (others : Others) (W : Who) (L : List Entry) (who : Who) (db : Trees) (rows : List Row) → IsLegal Two W L → is_partner who ≡ true → IsSound (beside others) db → Holds (lot_expiry_table L) (db 19)
-    → IsAnswer all_dates_query (overlay db []) (value.Text (who_text who) ∷ []) rows → rows ≡ map date_shown (dates_of (running_rows (events (own L who))))
-dates_shown others W L who db rows legal partner sound held a =
+pub dates_shown : (schema : Schema) (lies : IsLayout schema) (W : Who) (L : List Entry) (who : Who) (db : Trees) (rows : List Row) → IsLegal Two W L → is_partner who ≡ true → IsSound schema db → Holds (lot_expiry_table L) (placed schema db 19)
+    → IsAnswer all_dates_query (overlay (placed schema db) []) (value.Text (who_text who) ∷ []) rows → rows ≡ map date_shown (dates_of (running_rows (events (own L who))))
+dates_shown schema lies W L who db rows legal partner sound held a =
     let ordered : AreOrdered (filled W L) = all_ordered W L in
-    shown_rows pairs_in_order date_key date_cells 19 3 all_dates_columns stock_order date_out (who_text who) (lot_expiry_table L) (dates_of (running_rows (events (own L who)))) (dates_are W L who legal partner) db held
-    (only_row others lot_expiry_layout.name 19 3 lot_expiry_layout.checks lot_expiry_layout.columns db (inr (inr (inr (inr (inr (inr (inr (inr (inr (inr (inl refl))))))))))) sound
-    (are_keyed lot_expiry_schema 3 (lot_expiry_table L) (db 19) (ordered.keyed LotExpiry) held)) rows a
+    shown_rows pairs_in_order date_key date_cells 19 3 all_dates_columns stock_order date_out (who_text who) (lot_expiry_table L) (dates_of (running_rows (events (own L who)))) (dates_are W L who legal partner) (placed schema db) held
+    (only_row schema lies lot_expiry_layout.name (expiry_tree schema) 3 [] lot_expiry_layout.columns db (inr (inr (inr (inr (inr (inr (inr (inr (inr (inr (inl refl))))))))))) sound
+    (are_keyed lot_expiry_schema 3 (lot_expiry_table L) (placed schema db 19) (ordered.keyed LotExpiry) held)) rows a
 
 -- What went out.
 
@@ -176,9 +177,9 @@ outgoing_is W L who legal partner = record {
 }
 
 -- the answer of what went out to a partner is all of its outgoing rows
-pub outgoing_rows_shown : (others : Others) (W : Who) (L : List Entry) (who : Who) (db : Trees) (rows : List Row) → IsLegal Two W L → is_partner who ≡ true → IsSound (beside others) db → Holds (outgoing_table W L) (db 4)
+pub outgoing_rows_shown : (schema : Schema) (lies : IsLayout schema) (W : Who) (L : List Entry) (who : Who) (db : Trees) (rows : List Row) → IsLegal Two W L → is_partner who ≡ true → IsSound schema db → Holds (outgoing_table W L) (db 4)
     → IsAnswer outbox_query (overlay db []) (value.Text (who_text who) ∷ []) rows → rows ≡ map out_shown (outgoing_rows W (own L who))
-outgoing_rows_shown others W L who db rows legal partner sound held a =
+outgoing_rows_shown schema lies W L who db rows legal partner sound held a =
     let ordered : AreOrdered (filled W L) = all_ordered W L in
     shown_rows nat_lt (λ (r : OutRow). r.n) outgoing_cells 4 2 outbox_columns outbox_order out_out (who_text who) (outgoing_table W L) (outgoing_rows W (own L who)) (outgoing_is W L who legal partner) db held
-    (only_row others outgoing_layout.name 4 2 outgoing_layout.checks outgoing_layout.columns db (inr (inr (inl refl))) sound (are_keyed outgoing_schema 2 (outgoing_table W L) (db 4) (ordered.keyed Outgoing) held)) rows a
+    (only_row schema lies outgoing_layout.name 4 2 outgoing_layout.checks outgoing_layout.columns db (inr (inr (inl refl))) sound (are_keyed outgoing_schema 2 (outgoing_table W L) (db 4) (ordered.keyed Outgoing) held)) rows a

@@ -17,6 +17,8 @@ use Rattle.sqlite.specs.Does.{Tally, Does}
 use Rattle.sqlite.specs.Rows.{Written}
 use Rattle.sqlite.specs.Tree.{Trees, rowid}
 use Rattle.sqlite.specs.Table.{Table}
+use Rattle.sqlite.specs.Schema.{Schema}
+use Rattle.std.specs.List.{AllByRecursion}
 use Rattle.sqlite.specs.Listing.{understood}
 use Rattle.sqlite.specs.Effect.{Database, IsDatabase}
 use Rattle.sqlite.specs.Query.{IsAnswer, output, Output, page}
@@ -25,14 +27,14 @@ use Rattle.sqlite.specs.Program.{overlay}
 use Rattle.sqlite_catalog.specs.Listing.{IsSound}
 use Rattle.sqlite.specs.State.{State, mode_of, Executes}
 use Rattle.sqlite.proofs.Callers.{statement_of, runs_as, one_permutation}
-use Rattle.book_tables.specs.Layout.{beside, Others, IsLayout, book_tables, outgoing_layout}
+use Rattle.book_tables.specs.Layout.{beside, IsLayout, outgoing_layout}
 use Rattle.book_tables.specs.Steps.{WritesInto, SetsState, AreOutgoing, AreKeyed, PutByKey, key_of, outgoing_cells}
 use Rattle.book_tables.proofs.WritingTexts.{set_state_text, set_state_query, set_state_is, set_state_plain}
 use Rattle.book_tables.proofs.PutLemmas.{put_over}
 use Rattle.book_tables.proofs.KeyLemmas.{itself, is_equal}
 use Rattle.book_tables.proofs.UpsertLemmas.{no_match, one_match, only_row}
 use Rattle.book_tables.proofs.Passing.{find_row, whose, whose_key, key_whose}
-use Rattle.book_tables.proofs.Beside.{all_first, one_write}
+use Rattle.book_tables.proofs.Beside.{one_write, as_beside, into_book}
 use Rattle.book_tables.proofs.Values.{cast_int, went, same_value}
 
 empty_permutation : (ys : List Output) → IsPermutation [] ys → ys ≡ []
@@ -49,7 +51,7 @@ module _ (who : List ℕ) (n : ℤ) (state : List ℕ) where
   abbrev test : Row → Bool
   test = whose (Text who) (Int n)
 
-  module _ (others : Others) (db : Trees) (live : IsSound (beside others) db) (tidy : AreKeyed 2 (db 4)) (shaped : AreOutgoing (db 4)) (out : List Row) (a : IsAnswer set_state_query (overlay db []) params out) where
+  module _ (schema : Schema) (lies : IsLayout schema) (db : Trees) (live : IsSound schema db) (tidy : AreKeyed 2 (db 4)) (shaped : AreOutgoing (db 4)) (out : List Row) (a : IsAnswer set_state_query (overlay db []) params out) where
     abbrev rows : List Row
     rows = db 4
 
@@ -69,7 +71,7 @@ module _ (who : List ℕ) (n : ℤ) (state : List ℕ) where
         (λ r has h.
         let it = shaped r has in
         let key : key_of 2 r ≡ Text who ∷ Int n ∷ [] = subst (λ (x : Row). key_of 2 x ≡ Text who ∷ Int n ∷ []) (sym it.6) (whose_key (Int it.0) (Text who) (Int n) (outgoing_cells it.1 it.2 it.3 it.4 it.5) refl refl (subst (λ (x : Row). test x ≡ true) it.6 h)) in
-        let same = only_row others outgoing_layout.name 4 2 outgoing_layout.checks outgoing_layout.columns db (inr (inr (inl refl))) live tidy r r0 has there key in
+        let same = only_row schema lies outgoing_layout.name 4 2 outgoing_layout.checks outgoing_layout.columns db (inr (inr (inl refl))) live tidy r r0 has there key in
         subst (λ (v : Value). value_cmp v (Int id) ≡ Equal) (sym (ap rowid same)) (tied (Int id))) in
         let o : Output = ([], eval_all set_state_query.project (params ∷ r0 ∷ [])) in
         let kept : a.kept ≡ o ∷ [] = a.distinct ∙ ap (map (output set_state_query)) staged in
@@ -79,12 +81,12 @@ module _ (who : List ℕ) (n : ℤ) (state : List ℕ) where
         tied v = is_equal _ (itself v)
 
   -- what the step leaves
-  stated : (others : Others) (keys : Keys) (db next : Trees) → IsSound (beside others) db → AreKeyed 2 (db 4) → AreOutgoing (db 4) → (out : List Row) → IsAnswer set_state_query (overlay db []) params out
-      → Applies (beside others) keys db (edit_of db outgoing_layout (ids_of out) Given 1 out) next → SetsState who n state (db 4) (next 4)
-  stated others keys db next live tidy shaped out a applied = elim (find_row test (db 4)) [
+  stated : (schema : Schema) → IsLayout schema → (keys : Keys) (db next : Trees) → IsSound schema db → AreKeyed 2 (db 4) → AreOutgoing (db 4) → (out : List Row) → IsAnswer set_state_query (overlay db []) params out
+      → Applies schema keys db (edit_of db outgoing_layout (ids_of out) Given 1 out) next → SetsState who n state (db 4) (next 4)
+  stated schema lies keys db next live tidy shaped out a applied = elim (find_row test (db 4)) [
     | inl found ↦ some found.0 found.1 found.2
     | inr none ↦
-        let shown = none_shown others db live tidy shaped out a none in
+        let shown = none_shown schema lies db live tidy shaped out a none in
         inl (
           λ row there same.
               let it = shaped row there in
@@ -101,11 +103,11 @@ module _ (who : List ℕ) (n : ℤ) (state : List ℕ) where
           let names = key_names it.1 who it.2 n (sym (ap (key_of 2) it.6) ∙ key) in
           let is : row ≡ Int it.0 ∷ outgoing_cells who n it.3 it.4 it.5 = it.6 ∙ (λ i. Int it.0 ∷ outgoing_cells (names.0 i) (names.1 i) it.3 it.4 it.5) in
           let here = subst (Has (db 4)) is there in
-          let shown = one_shown others db live tidy shaped out a it.0 it.3 it.4 it.5 here in
+          let shown = one_shown schema lies db live tidy shaped out a it.0 it.3 it.4 it.5 here in
           let shows : List Row = (Int it.0 ∷ Int it.0 ∷ outgoing_cells who n it.3 it.4 state) ∷ [] in
           let step : Edit = record { table = outgoing_layout; gone = it.0 ∷ []; news = (Int it.0 ∷ outgoing_cells who n it.3 it.4 state) ∷ [] } in
           let cast : edit_of db outgoing_layout (ids_of shows) Given 1 shows ≡ step = rw (cast_int it.0, cast_int n) refl in
-          let done = subst (λ e. Applies (beside others) keys db e next) (ap (λ rs. edit_of db outgoing_layout (ids_of rs) Given 1 rs) shown ∙ cast) applied in
+          let done = subst (λ e. Applies schema keys db e next) (ap (λ rs. edit_of db outgoing_layout (ids_of rs) Given 1 rs) shown ∙ cast) applied in
           let r0 : Row = Int it.0 ∷ outgoing_cells who n it.3 it.4 it.5 in
           inr (
             it.0,
@@ -115,7 +117,7 @@ module _ (who : List ℕ) (n : ℤ) (state : List ℕ) where
             here,
             subst (PutByKey 2 (outgoing_cells who n it.3 it.4 state) (db 4)) (sym done.rows)
                 (put_over 2 (outgoing_cells who n it.3 it.4 state) (db 4) tidy.rise it.0 r0 here refl refl
-                (λ r has met. only_row others outgoing_layout.name 4 2 outgoing_layout.checks outgoing_layout.columns db (inr (inr (inl refl))) live tidy r r0 has here met) done.fresh (itself (Int it.0))),
+                (λ r has met. only_row schema lies outgoing_layout.name 4 2 outgoing_layout.checks outgoing_layout.columns db (inr (inr (inl refl))) live tidy r r0 has here met) done.fresh (itself (Int it.0))),
           )
 
   pub sets_state : (old new : State) (count : ℕ) → IsLayout old.now.schema → IsDatabase old.now → AreKeyed 2 (old.now.trees 4) → AreOutgoing (old.now.trees 4) → Executes set_state_text params old new (Ok count)
@@ -134,10 +136,10 @@ module _ (who : List ℕ) (n : ℤ) (state : List ℕ) where
       let written = went asked.2 in
       let trees : new.now.trees ≡ written.0 = ap (λ (d : Database). d.trees) now ∙ ap (λ (it : Written). it.trees) (same_value written.2) in
       let step : Edit = edit_of db outgoing_layout (ids_of asked.0) Given 1 asked.0 in
-      let applied = subst (Applies (beside others) keys db step) (sym trees) (one_write others lies.apart _ db written.0 step (inr (inr (inl refl))) written.1) in
-      record {
+      let applied = subst (Applies (beside others) keys db step) (sym trees) (one_write (beside others) (as_beside old.now.schema lies) _ db written.0 step (inr (inr (inl refl))) written.1) in
+      into_book 4 refl (SetsState who n state) old.now new.now lies (record {
         sound = w.sound;
         schema = ap (λ (d : Database). d.schema) now ∙ sym has;
-        others = all_first (λ (t : Table). t.tree ≢ 4 → new.now.trees t.tree ≡ db t.tree) book_tables others.tables applied.tables;
-        rows = stated others keys db new.now.trees (subst (λ s. IsSound s db) has live) tidy shaped asked.0 (let a = asked.1 in a.answer Null) applied;
-      }
+        others = subst (λ (s : Schema). AllByRecursion (λ (t : Table). t.tree ≢ 4 → new.now.trees t.tree ≡ db t.tree) s.tables) (sym has) applied.tables;
+        rows = stated (beside others) (as_beside old.now.schema lies) keys db new.now.trees (subst (λ s. IsSound s db) has live) tidy shaped asked.0 (let a = asked.1 in a.answer Null) applied;
+      })

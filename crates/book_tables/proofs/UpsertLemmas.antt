@@ -23,7 +23,7 @@ use Rattle.sqlite.specs.Cast.{cast_row, cast_all}
 use Rattle.sqlite.specs.Rowids.TheVariants.{Chosen, Given}
 use Rattle.std.specs.List.{AllByRecursion}
 use Rattle.sqlite_rules.specs.Edit.{Applies}
-use Rattle.sqlite.specs.Does.{Tally, Does, AtPlace, OnRows}
+use Rattle.sqlite.specs.Does.{Tally, AtPlace, OnRows}
 use Rattle.sqlite_schema.specs.declared.schema.Keys.{Keys}
 use Rattle.sqlite.specs.Rows.{Task, Written, InsertsOr, Tries, TriesEach, Upserts, Meets, Clears, Edited, Then, Gives, count_of, nothing, shown}
 use Rattle.sqlite_rules.specs.Calls.{ids_of}
@@ -41,13 +41,13 @@ use Rattle.sqlite_rules.proofs.PlaceLemmas.{tied_same}
 use Rattle.sqlite_catalog.proofs.AlterLemmas.{keys_are_unique}
 use Rattle.sqlite.specs.State.{State, mode_of, Executes}
 use Rattle.sqlite_catalog.specs.Listing.{IsSound}
-use Rattle.sqlite.proofs.Callers.{command_of, statement_of, runs_as, one_permutation}
-use Rattle.book_tables.specs.Layout.{keyed, beside, book_tables, book_indexes, Others, AreApart, IsLayout}
-use Rattle.book_tables.specs.Steps.{PutByKey, AreKeyed, WritesInto, has_key, key_of}
+use Rattle.sqlite.proofs.Callers.{command_of, runs_as, one_permutation}
+use Rattle.book_tables.specs.Layout.{keyed, ours, indexes_of, IsLayout}
+use Rattle.book_tables.specs.Steps.{PutByKey, AreKeyed, WritesAt, has_key, key_of}
 use Rattle.book_tables.proofs.PutLemmas.{put_free, put_over}
 use Rattle.book_tables.proofs.KeyLemmas.{places, keys_same, keys_agree, equal_ints, itself, is_equal, irreflexive, not_ne, differ_ints}
 use Rattle.book_tables.proofs.WritingTexts.{source, renewed, update_query, on_conflict}
-use Rattle.book_tables.proofs.Beside.{all_first, has_first, one_write, same_conflicts}
+use Rattle.book_tables.proofs.Beside.{ours_listed, one_write, same_conflicts}
 use Rattle.book_tables.proofs.Values.{cast_int, cast_null, went, same_value, and_true}
 
 -- ---- lists of rows
@@ -80,15 +80,15 @@ or_false true h = refl
 or_false false h = h
 
 -- no two rows of a table have one key
-pub only_row : (others : Others) (name : List ℕ) (tree k : ℕ) (checks : List Term) (columns : List Column) (db : Trees) → Has book_tables (keyed name tree (places 1 k) checks columns)
-    → IsSound (beside others) db → AreKeyed k (db tree) → (a b : Row) → Has (db tree) a → Has (db tree) b → key_of k a ≡ key_of k b → a ≡ b
-only_row others name tree k checks columns db listed live tidy a b p q same =
+pub only_row : (schema : Schema) → IsLayout schema → (name : List ℕ) (tree k : ℕ) (checks : List Term) (columns : List Column) (db : Trees) → Has (ours schema) (keyed name tree (places 1 k) checks columns)
+    → IsSound schema db → AreKeyed k (db tree) → (a b : Row) → Has (db tree) a → Has (db tree) b → key_of k a ≡ key_of k b → a ≡ b
+only_row schema lies name tree k checks columns db listed live tidy a b p q same =
     let rows = db tree in
     let x = tidy.each a p in
     let y = tidy.each b q in
     let alike : agree plain (places 1 k) a (places 1 k) b ≡ true =
     rw (x.2, y.2) (keys_agree k (Int x.0) (Int y.0) x.1 y.1 x.3 y.3 (sym (ap (key_of k) x.2) ∙ same ∙ ap (key_of k) y.2)) in
-    let clear = keys_are_unique (beside others) db (keyed name tree (places 1 k) checks columns) 0 (places 1 k) b live (has_first book_tables others.tables _ listed) refl q in
+    let clear = keys_are_unique schema db (keyed name tree (places 1 k) checks columns) 0 (places 1 k) b live (ours_listed schema lies (keyed name tree (places 1 k) checks columns) listed) refl q in
     tied_same rows a b tidy.rise p q (elim (cases_Bool (differ (rowid a) (rowid b))) [
       | inl apart ↦ absurd (let e = some_from (λ other. agree plain (places 1 k) other (places 1 k) b && differ (rowid other) (rowid b)) rows a p (rw (alike, apart) refl) in
           let f : ◌≡◌ {A = Bool} true false = sym e ∙ clear in cc)
@@ -110,9 +110,7 @@ module _ (name : List ℕ) (at tree k n : ℕ) (checks : List Term) (columns : L
 
   -- what is known of the texts' terms by computing
   pub record IsUpsert : Type 0 where
-    pub spot : (more : List Table) → slice_get (book_tables ++ more) at ≡ Some table
-    pub listed : Has book_tables table
-    pub guarded : (new r : Row) → conflicts (Some (places 1 k)) book_indexes table new r ≡ (agree plain (places 1 k) r (places 1 k) new || false)
+    pub guarded : (new r : Row) → conflicts (Some (places 1 k)) (indexes_of table) table new r ≡ (agree plain (places 1 k) r (places 1 k) new || false)
     pub read : (db : Trees) → overlay db [] tree ≡ db tree
     pub is_key : has_key k cells ≡ true
     pub cast : cast_all columns cells ≡ cells
@@ -120,10 +118,7 @@ module _ (name : List ℕ) (at tree k n : ℕ) (checks : List Term) (columns : L
     pub named : (id : Value) (more : Row) → column (cells ++ id ∷ more) n ≡ id
     pub projects : (id : ℤ) (param : Value) (rest more : Row) → eval_all (renewed k n) ((cells ++ param ∷ more) ∷ (Int id ∷ take k cells ++ rest) ∷ []) ≡ Int id ∷ Int id ∷ cells
 
-  module _ (others : Others) (apart : AreApart others) (known : IsUpsert) (limit : Option ℕ) (keys : Keys) (db : Trees) where
-    abbrev schema : Schema
-    schema = beside others
-
+  module _ (schema : Schema) (lies : IsLayout schema) (listed : Has (ours schema) table) (known : IsUpsert) (limit : Option ℕ) (keys : Keys) (db : Trees) where
     abbrev task : Task
     task = record { limit = limit; keys = keys; schema = schema; table = table; params = cells }
 
@@ -168,7 +163,7 @@ module _ (name : List ℕ) (at tree k n : ℕ) (checks : List Term) (columns : L
 
     module _ (live : IsSound schema db) (tidy : AreKeyed k rows) where
       guarded : (r : Row) → conflicts (Some (places 1 k)) schema.indexes table new r ≡ (agree plain (places 1 k) r (places 1 k) new || false)
-      guarded r = same_conflicts others (Some (places 1 k)) table new r apart known.listed ∙ known.guarded new r
+      guarded r = same_conflicts schema lies (Some (places 1 k)) table new r listed ∙ known.guarded new r
 
       -- the row with the key is met
       met : (r : Row) → Has rows r → key_of k r ≡ take k cells → conflicts (Some (places 1 k)) schema.indexes table new r ≡ true
@@ -207,13 +202,13 @@ module _ (name : List ℕ) (at tree k n : ℕ) (checks : List Term) (columns : L
           a.shown ∙ ap (λ xs. page update (given there) (map (λ (p : Output). p.1) xs)) ordered ∙ ap (λ (r : Row). r ∷ []) line
 
       abbrev Did : Trees → Type 0
-      Did next = AllByRecursion (λ (t : Table). t.tree ≢ tree → next t.tree ≡ db t.tree) book_tables × PutByKey k cells rows (next tree)
+      Did next = AllByRecursion (λ (t : Table). t.tree ≢ tree → next t.tree ≡ db t.tree) schema.tables × PutByKey k cells rows (next tree)
 
       -- a step's rows, where it wrote this row
       rewrote : (one : Written) (gone : List ℤ) (left : List Row) (id : ℤ) (next : Trees) → Applies schema keys db (record { table = table; gone = gone; news = (Int id ∷ cells) ∷ [] }) next
           → (one.trees ≡ next) → PutByKey k cells rows (edited db (record { table = table; gone = gone; news = (Int id ∷ cells) ∷ [] })) → Did one.trees
       rewrote one gone left id next done same put =
-          subst Did (sym same) (all_first (λ (t : Table). t.tree ≢ tree → next t.tree ≡ db t.tree) book_tables others.tables done.tables, subst (PutByKey k cells rows) (sym done.rows) put)
+          subst Did (sym same) (done.tables, subst (PutByKey k cells rows) (sym done.rows) put)
 
       tried : (one : Written) → Tries task Abort (clause ∷ []) new db (Ok one) → Did one.trees
       tried one h = let it = judged one h in go it.0 it.1 it.2
@@ -221,7 +216,7 @@ module _ (name : List ℕ) (at tree k n : ℕ) (checks : List Term) (columns : L
           go : (found : List Row) → AreConflicts (Some (places 1 k)) schema.indexes table rows new found → Meets task (Upserts task Abort new db []) new db clause found (Ok one) → Did one.trees
           go [] are otherwise =
               let put = cleared otherwise.0 one otherwise.2 in
-              let done = one_write others apart keys db put.0 (edit_of db table [] Given 0 (new ∷ [])) known.listed put.1 in
+              let done = one_write schema lies keys db put.0 (edit_of db table [] Given 0 (new ∷ [])) listed put.1 in
               let news : edit_of db table [] Given 0 (new ∷ []) ≡ record { table = table; gone = []; news = new ∷ [] } = rw (cast_int (next_rowid rows), known.cast) refl in
               let done_is = subst (λ e. Applies schema keys db e put.0) news done in
               rewrote one [] rows (next_rowid rows) put.0 done_is put.2
@@ -237,33 +232,31 @@ module _ (name : List ℕ) (at tree k n : ℕ) (checks : List Term) (columns : L
               let shows : List Row = (Int id ∷ Int id ∷ cells) ∷ [] in
               let v = went (subst (λ rs. Then (Edited schema keys db (edit_of db table (ids_of rs) Given 1 rs))
               (λ next. Gives (record { trees = next; rows = (edit_of db table (ids_of rs) Given 1 rs).news; last = None })) (Ok one)) out u.2) in
-              let done = one_write others apart keys db v.0 (edit_of db table (ids_of shows) Given 1 shows) known.listed v.1 in
+              let done = one_write schema lies keys db v.0 (edit_of db table (ids_of shows) Given 1 shows) listed v.1 in
               let edit : edit_of db table (ids_of shows) Given 1 shows ≡ record { table = table; gone = id ∷ []; news = (Int id ∷ cells) ∷ [] } = rw (cast_int id, known.cast) refl in
               let done_is = subst (λ e. Applies schema keys db e v.0) edit done in
               rewrote one (id ∷ []) rows id v.0 done_is (ap (λ (w : Written). w.trees) (same_value v.2))
-              (put_over k cells rows tidy.rise id s.0 s.1 (ap rowid it.2) key (λ r has met. only_row others name tree k checks columns db known.listed live tidy r s.0 has s.1 (met ∙ sym key)) done_is.fresh
+              (put_over k cells rows tidy.rise id s.0 s.1 (ap rowid it.2) key (λ r has met. only_row schema lies name tree k checks columns db listed live tidy r s.0 has s.1 (met ∙ sym key)) done_is.fresh
               (subst (λ (v : Value). is_eq (value_cmp v (Int id)) ≡ true) (sym (ap rowid it.2)) (itself (Int id))))
 
-  pub puts : IsUpsert → (sql : List ℕ) → ((others : Others) → command_of (understood (beside others) sql) ≡ InsertOr at Abort (Values (source n) (n + 1)) (clause ∷ [])) → ((others : Others) → IsPlain (understood (beside others) sql))
-      → (old new : State) (count : ℕ) → IsLayout old.now.schema → IsDatabase old.now → AreKeyed k (old.now.trees tree) → Executes sql cells old new (Ok count) → WritesInto tree (PutByKey k cells) old.now new.now
-  puts known sql text_is plain_text old new count lies live rows h =
-      let others = lies.others in
-      let apart = lies.apart in
-      let has = lies.is in
+  pub puts : IsUpsert → (sql : List ℕ) (old new : State) (count : ℕ) → IsLayout old.now.schema → Has (ours old.now.schema) table → slice_get old.now.schema.tables at ≡ Some table
+      → command_of (understood old.now.schema sql) ≡ InsertOr at Abort (Values (source n) (n + 1)) (clause ∷ []) → IsPlain (understood old.now.schema sql)
+      → IsDatabase old.now → AreKeyed k (old.now.trees tree) → Executes sql cells old new (Ok count) → WritesAt tree (PutByKey k cells) old.now new.now
+  puts known sql old new count lies listed spot text_is plain_text live rows h =
+      let schema = old.now.schema in
       let db = old.now.trees in
+      let keys = (mode_of old).keys in
       let command = InsertOr at Abort (Values (source n) (n + 1)) (clause ∷ []) in
-      let w = runs_as sql cells old new (beside others) has command (text_is others) (plain_text others) count h in
-      let text = statement_of sql (understood (beside others) sql) in
-      let made = subst (λ s. Does old.step_limit (mode_of old) cells (record old.now { schema = s }) text None command (Ok (w.tally, new.now))) has w.changed in
-      let done = went (subst (λ t. AtPlace (λ table. OnRows (record { limit = old.step_limit; keys = (mode_of old).keys; schema = beside others; table = table; params = cells }) (mode_of old) None command db) t (Ok (w.tally, new.now))) (known.spot others.tables) made) in
+      let w = runs_as sql cells old new schema refl command text_is plain_text count h in
+      let done = went (subst (λ t. AtPlace (λ table. OnRows (record { limit = old.step_limit; keys = keys; schema = schema; table = table; params = cells }) (mode_of old) None command db) t (Ok (w.tally, new.now))) spot w.changed) in
       let now = ap (λ (p : Tally × Database). p.1) (same_value (went (went done.2).2).2) in
-      let one = inserted others apart known old.step_limit (mode_of old).keys db done.0 done.1 in
-      let put = tried others apart known old.step_limit (mode_of old).keys db (subst (λ s. IsSound s db) has live) rows one.0 one.1 in
+      let one = inserted schema lies listed known old.step_limit keys db done.0 done.1 in
+      let put = tried schema lies listed known old.step_limit keys db live rows one.0 one.1 in
       let trees : new.now.trees ≡ one.0.trees = ap (λ (d : Database). d.trees) now ∙ one.2 in
-      let did = subst (Did others apart known old.step_limit (mode_of old).keys db (subst (λ s. IsSound s db) has live) rows) (sym trees) put in
+      let did = subst (Did schema lies listed known old.step_limit keys db live rows) (sym trees) put in
       record {
         sound = w.sound;
-        schema = ap (λ (d : Database). d.schema) now ∙ sym has;
+        schema = ap (λ (d : Database). d.schema) now;
         others = did.0;
         rows = did.1;
       }

@@ -13,6 +13,8 @@ use Rattle.sqlite.specs.Does.{Tally, Does}
 use Rattle.sqlite.specs.Rows.{Written}
 use Rattle.sqlite.specs.Tree.{Trees}
 use Rattle.sqlite.specs.Table.{Table}
+use Rattle.sqlite.specs.Schema.{Schema}
+use Rattle.std.specs.List.{AllByRecursion}
 use Rattle.sqlite.specs.Listing.{understood}
 use Rattle.sqlite.specs.Effect.{Database}
 use Rattle.sqlite.specs.Query.{IsAnswer, output, Output, page}
@@ -20,11 +22,11 @@ use Rattle.sqlite.specs.Term.{eval_all}
 use Rattle.sqlite.specs.Program.{overlay}
 use Rattle.sqlite.specs.State.{State, mode_of, Executes}
 use Rattle.sqlite.proofs.Callers.{statement_of, runs_as, one_permutation}
-use Rattle.book_tables.specs.Layout.{beside, IsLayout, book_tables, book_layout}
+use Rattle.book_tables.specs.Layout.{beside, IsLayout, book_layout}
 use Rattle.book_tables.specs.Steps.{WritesInto}
 use Rattle.book_tables.proofs.WritingTexts.{set_version_text, set_version_query, set_version_is, set_version_plain}
 use Rattle.book_tables.proofs.KeyLemmas.{itself, is_equal}
-use Rattle.book_tables.proofs.Beside.{all_first, one_write}
+use Rattle.book_tables.proofs.Beside.{one_write, as_beside, into_book}
 use Rattle.book_tables.proofs.Found.{flat_map-cond}
 use Rattle.book_tables.proofs.Values.{cast_int, went, same_value}
 
@@ -64,15 +66,15 @@ module _ (version before : ℤ) (qualifier id : List ℕ) where
       let written = went asked.2 in
       let trees : new.now.trees ≡ written.0 = ap (λ (d : Database). d.trees) now ∙ ap (λ (it : Written). it.trees) (same_value written.2) in
       let step : Edit = edit_of db book_layout (ids_of asked.0) Given 1 asked.0 in
-      let applied = subst (Applies (beside others) keys db step) (sym trees) (one_write others lies.apart _ db written.0 step (inl refl) written.1) in
+      let applied = subst (Applies (beside others) keys db step) (sym trees) (one_write (beside others) (as_beside old.now.schema lies) _ db written.0 step (inl refl) written.1) in
       let shows : List Row = (Int (pos 1) ∷ row_with version) ∷ [] in
       let shown = one_shown db book asked.0 (let a = asked.1 in a.answer Null) in
       let only : Edit = record { table = book_layout; gone = pos 1 ∷ []; news = row_with version ∷ [] } in
       let cast : edit_of db book_layout (ids_of shows) Given 1 shows ≡ only = rw (cast_int (pos 1), cast_int version) refl in
-      record {
+      into_book 0 refl (λ _ after. after ≡ row_with version ∷ []) old.now new.now lies (record {
         sound = w.sound;
         schema = ap (λ (d : Database). d.schema) now ∙ sym has;
-        others = all_first (λ (t : Table). t.tree ≢ 0 → new.now.trees t.tree ≡ db t.tree) book_tables others.tables applied.tables;
+        others = subst (λ (s : Schema). AllByRecursion (λ (t : Table). t.tree ≢ 0 → new.now.trees t.tree ≡ db t.tree) s.tables) (sym has) applied.tables;
         rows = applied.rows ∙ ap (λ rs. edited db (edit_of db book_layout (ids_of rs) Given 1 rs)) shown ∙ ap (edited db) cast
             ∙ ap (λ (rows : List Row). put_all (without_all rows (pos 1 ∷ [])) (row_with version ∷ [])) book ∙ replaced;
-      }
+      })

@@ -16,9 +16,10 @@ use Rattle.sqlite_sql.specs.Ops.{is_null}
 use Rattle.sqlite_trees.specs.Tree.{IsAscending}
 use Rattle.sqlite_trees.proofs.ListLemmas.{ascending-map, ascending_weaker}
 use Rattle.sqlite.proofs.Callers.{one_permutation}
-use Rattle.sqlite_catalog.specs.Listing.{IsSound}
 use Rattle.sqlite_rules.specs.Lists.{Has}
-use Rattle.book_tables.specs.Layout.{Others, beside, book_tables, text, number, blob, book_layout, entry_layout, entry_rules_layout}
+use Rattle.sqlite.specs.Schema.{Schema}
+use Rattle.sqlite.specs.Effect.{Database, IsDatabase}
+use Rattle.book_tables.specs.Layout.{IsLayout, ours, book_trees, rules_tree, entry_rules_at, text, number, blob, book_layout, entry_layout, entry_rules_layout}
 use Rattle.book_tables.proofs.InOrder.{in_order}
 use Rattle.book_tables.proofs.KeyLemmas.{places}
 use Rattle.book_tables.proofs.Values.{and_true}
@@ -33,9 +34,9 @@ use Rattle.book_tables.proofs.WholeTexts.{columns_at, rising_at, book_query, ent
 abbrev book_out : Row → Output
 book_out = out 0 (columns_at (places 0 4)) []
 
-book_full : (others : Others) (db : Trees) → IsSound (beside others) db → (row : Row) → Has (db 0) row → (book_out row).1 ≡ row
-book_full others db sound row there =
-    columns_out row (places 0 4) ∙ all_columns row 4 (row_full others db book_layout (inl refl) sound row there 2 (text (codes "id")) refl refl refl refl refl)
+book_full : (base : Database) → IsLayout base.schema → IsDatabase base → (row : Row) → Has (book_trees base 0) row → (book_out row).1 ≡ row
+book_full base lies sound row there =
+    columns_out row (places 0 4) ∙ all_columns row 4 (row_full base.schema lies base.trees book_layout (inl refl) sound row there 2 (text (codes "id")) refl refl refl refl refl)
 
 -- one row is shown where there is one
 pub book_shown : (db : Trees) (rows : List Row) (a : IsAnswer book_query (overlay db []) [] rows) (row : Row) → db 0 ≡ row ∷ [] → rows ≡ (book_out row).1 ∷ []
@@ -49,9 +50,11 @@ only_one [] h = absurd (omega (arith, h))
 only_one (x ∷ []) h = (x, refl)
 only_one (x ∷ y ∷ xs) h = absurd (omega (arith, h))
 
-pub book_same : (one two : Others) (db its : Trees) → IsSound (beside one) db → IsSound (beside two) its → (rows : List Row) → IsAnswer book_query (overlay db []) [] rows → IsAnswer book_query (overlay its []) [] rows
-    → (row : Row) → its 0 ≡ row ∷ [] → db 0 ≡ row ∷ []
-book_same one two db its sound its_sound rows a b row is =
+pub book_same : (one two : Database) → IsLayout one.schema → IsLayout two.schema → IsDatabase one → IsDatabase two → (rows : List Row) → IsAnswer book_query (overlay (book_trees one) []) [] rows → IsAnswer book_query (overlay (book_trees two) []) [] rows
+    → (row : Row) → book_trees two 0 ≡ row ∷ [] → book_trees one 0 ≡ row ∷ []
+book_same one two lies its_lies sound its_sound rows a b row is =
+    let db : Trees = book_trees one in
+    let its : Trees = book_trees two in
     let alone = book_shown its rows b row is in
     let count : length (db 0) ≡ 1 =
     sym (ap length (kept_is 0 (columns_at (places 0 4)) [] (λ _. refl) db rows a) ∙ length-map (db 0) book_out) ∙ sym (length_permutation a.kept a.ordered a.same) ∙ sym (length-map a.ordered (λ (o : Output). o.1)) ∙ sym (ap length a.shown) ∙ ap length alone in
@@ -60,7 +63,7 @@ book_same one two db its sound its_sound rows a b row is =
     let its_there : Has (its 0) row = subst (λ (rs : List Row). Has rs row) (sym is) (inl refl) in
     let listed = subst (λ (rs : List Row). Has rs (book_out mine.0).1) alone (stored_shown 0 (columns_at (places 0 4)) [] (λ _. refl) db rows a mine.0 there) in
     let same : (book_out mine.0).1 ≡ (book_out row).1 = elim listed [ inl e ↦ e | inr none ↦ absurd none ] in
-    mine.1 ∙ ap (λ (r : Row). r ∷ []) (sym (book_full one db sound mine.0 there) ∙ same ∙ book_full two its its_sound row its_there)
+    mine.1 ∙ ap (λ (r : Row). r ∷ []) (sym (book_full one lies sound mine.0 there) ∙ same ∙ book_full two its_lies its_sound row its_there)
 
 -- A table whose first column is its rowid, which shows that and so many columns more, in the order of its numbers.
 
@@ -102,15 +105,15 @@ module _ (tree n : ℕ) (lies : (db : Trees) → overlay db [] tree ≡ db tree)
       map_map f g (x ∷ xs) = ap (λ ys. g (f x) ∷ ys) (map_map f g xs)
 
   module _ (table : Table) (first_null : (v : Value) (vs : Row) → are_typed table.key 0 table.columns (v ∷ vs) ≡ true → is_null v ≡ true)
-      (full : (others : Others) (db : Trees) → IsSound (beside others) db → (row : Row) → Has (db tree) row → (length row ≡ suc (suc n)) × (are_typed table.key 0 table.columns (drop 1 row) ≡ true)) where
+      (full : (base : Database) → IsLayout base.schema → IsDatabase base → (row : Row) → Has (book_trees base tree) row → (length row ≡ suc (suc n)) × (are_typed table.key 0 table.columns (drop 1 row) ≡ true)) where
     second_null : (row : Row) → are_typed table.key 0 table.columns (drop 1 row) ≡ true → length row ≡ suc (suc n) → value.Null ≡ column row 1
     second_null [] h long = absurd (omega (arith, long))
     second_null (x ∷ []) h long = absurd (omega (arith, long))
     second_null (x ∷ v ∷ row) h long = null_is v (first_null v row h)
 
-    seq_whole : (others : Others) (db : Trees) → IsSound (beside others) db → (row : Row) → Has (db tree) row → unshown (seq_row row) ≡ row
-    seq_whole others db sound row there =
-        let it = full others db sound row there in
+    seq_whole : (base : Database) → IsLayout base.schema → IsDatabase base → (row : Row) → Has (book_trees base tree) row → unshown (seq_row row) ≡ row
+    seq_whole base lies sound row there =
+        let it = full base lies sound row there in
         let null = second_null row it.1 it.0 in
         ap unshown (columns_out row shown) ∙ ap (λ (v : Value). column row 0 ∷ v ∷ map (column row) (places 2 n)) null ∙ all_columns row (suc (suc n)) it.0
 
@@ -118,22 +121,24 @@ module _ (tree n : ℕ) (lies : (db : Trees) → overlay db [] tree ≡ db tree)
     undone [] h = refl
     undone (x ∷ xs) h = λ i. h x (inl refl) i ∷ undone xs (λ r there. h r (inr there)) i
 
-    seqs_same : (one two : Others) (db its : Trees) → IsSound (beside one) db → IsSound (beside two) its → (rows : List Row) → IsTable (db tree) → IsTable (its tree) → IsAnswer seq_query (overlay db []) [] rows
-        → IsAnswer seq_query (overlay its []) [] rows → db tree ≡ its tree
-    seqs_same one two db its sound its_sound rows up its_up a b =
-        sym (undone (db tree) (seq_whole one db sound)) ∙ ap (map unshown) (sym (seqs_shown db rows up a) ∙ seqs_shown its rows its_up b) ∙ undone (its tree) (seq_whole two its its_sound)
+    seqs_same : (one two : Database) → IsLayout one.schema → IsLayout two.schema → IsDatabase one → IsDatabase two → (rows : List Row) → IsTable (book_trees one tree) → IsTable (book_trees two tree)
+        → IsAnswer seq_query (overlay (book_trees one) []) [] rows → IsAnswer seq_query (overlay (book_trees two) []) [] rows → book_trees one tree ≡ book_trees two tree
+    seqs_same one two lies its_lies sound its_sound rows up its_up a b =
+        let db : Trees = book_trees one in
+        let its : Trees = book_trees two in
+        sym (undone (db tree) (seq_whole one lies sound)) ∙ ap (map unshown) (sym (seqs_shown db rows up a) ∙ seqs_shown its rows its_up b) ∙ undone (its tree) (seq_whole two its_lies its_sound)
 
 -- `entry`.
 
 pub entries_shown : (db : Trees) (rows : List Row) → IsTable (db 1) → IsAnswer entry_query (overlay db []) [] rows → rows ≡ map (seq_row 1 5 (λ _. refl)) (db 1)
 entries_shown = seqs_shown 1 5 (λ _. refl)
 
-pub entries_same : (one two : Others) (db its : Trees) → IsSound (beside one) db → IsSound (beside two) its → (rows : List Row) → IsTable (db 1) → IsTable (its 1) → IsAnswer entry_query (overlay db []) [] rows
-    → IsAnswer entry_query (overlay its []) [] rows → db 1 ≡ its 1
+pub entries_same : (one two : Database) → IsLayout one.schema → IsLayout two.schema → IsDatabase one → IsDatabase two → (rows : List Row) → IsTable (book_trees one 1) → IsTable (book_trees two 1)
+    → IsAnswer entry_query (overlay (book_trees one) []) [] rows → IsAnswer entry_query (overlay (book_trees two) []) [] rows → book_trees one 1 ≡ book_trees two 1
 entries_same = seqs_same 1 5 (λ _. refl) entry_layout (λ v vs h. (and_true _ _ h).0)
-    (λ others db sound row there. (
-      row_full others db entry_layout (inr (inl refl)) sound row there 5 (blob (codes "body")) refl refl refl refl refl,
-      row_typed others db entry_layout (inr (inl refl)) sound row there,
+    (λ base lies sound row there. (
+      row_full base.schema lies base.trees entry_layout (inr (inl refl)) sound row there 5 (blob (codes "body")) refl refl refl refl refl,
+      row_typed base.schema lies base.trees entry_layout (inr (inl refl)) sound row there,
     ))
 
 -- `entry_rules`.
@@ -141,13 +146,13 @@ entries_same = seqs_same 1 5 (λ _. refl) entry_layout (λ v vs h. (and_true _ _
 pub rules_shown : (db : Trees) (rows : List Row) → IsTable (db 18) → IsAnswer rules_query (overlay db []) [] rows → rows ≡ map (seq_row 18 1 (λ _. refl)) (db 18)
 rules_shown = seqs_shown 18 1 (λ _. refl)
 
-rules_listed : Has book_tables entry_rules_layout
-rules_listed = inr (inr (inr (inr (inr (inr (inr (inr (inr (inl refl)))))))))
+rules_listed : (schema : Schema) → Has (ours schema) (entry_rules_at (rules_tree schema))
+rules_listed schema = inr (inr (inr (inr (inr (inr (inr (inr (inr (inl refl)))))))))
 
-pub rules_same : (one two : Others) (db its : Trees) → IsSound (beside one) db → IsSound (beside two) its → (rows : List Row) → IsTable (db 18) → IsTable (its 18) → IsAnswer rules_query (overlay db []) [] rows
-    → IsAnswer rules_query (overlay its []) [] rows → db 18 ≡ its 18
+pub rules_same : (one two : Database) → IsLayout one.schema → IsLayout two.schema → IsDatabase one → IsDatabase two → (rows : List Row) → IsTable (book_trees one 18) → IsTable (book_trees two 18)
+    → IsAnswer rules_query (overlay (book_trees one) []) [] rows → IsAnswer rules_query (overlay (book_trees two) []) [] rows → book_trees one 18 ≡ book_trees two 18
 rules_same = seqs_same 18 1 (λ _. refl) entry_rules_layout (λ v vs h. (and_true _ _ h).0)
-    (λ others db sound row there. (
-      row_full others db entry_rules_layout rules_listed sound row there 1 (number (codes "rules")) refl refl refl refl refl,
-      row_typed others db entry_rules_layout rules_listed sound row there,
+    (λ base lies sound row there. (
+      row_full base.schema lies base.trees (entry_rules_at (rules_tree base.schema)) (rules_listed base.schema) sound row there 1 (number (codes "rules")) refl refl refl refl refl,
+      row_typed base.schema lies base.trees (entry_rules_at (rules_tree base.schema)) (rules_listed base.schema) sound row there,
     ))

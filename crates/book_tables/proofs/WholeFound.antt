@@ -1,7 +1,6 @@
 -- What the whole of a table shows: each row once, and where it is keyed in the order of its keys.
 use Rattle.std.proofs.Common.{◌≡◌, ℕ, List, [], ◌∷◌, map, flat_map, refl, sym, ap, subst, ◌∙◌}
 use Rattle.std.proofs.lemmas.List.Sorted.{Contains-permutation, IsPermutation-sym}
-use Rattle.sqlite.specs.declared.types.Value.TheVariants as value
 use Rattle.sqlite.specs.Order.{Row}
 use Rattle.sqlite.specs.Query.{Query, IsAnswer, output, Output}
 use Rattle.sqlite.specs.Program.{overlay}
@@ -15,13 +14,15 @@ use Rattle.sqlite_rules.proofs.ProbeLemmas.{has_mapped, mapped_has}
 use Rattle.book_tables.specs.declared.comparing.TableName.{TableName}
 use Rattle.book_tables.specs.Asking.{Finds}
 use Rattle.book_tables.specs.Comparing.{whole_text}
-use Rattle.book_tables.specs.Layout.{IsLayout}
-use Rattle.book_tables.proofs.Asked.{found}
+use Rattle.book_tables.specs.Layout.{IsLayout, book_trees}
+use Rattle.book_tables.proofs.Asked.{found_placed}
 use Rattle.book_tables.proofs.ReadingTexts.{ordered_from}
-use Rattle.book_tables.proofs.WholeTexts.{whole_query, whole_command, whole_is, whole_reads}
+use Rattle.book_tables.proofs.WholeTexts.{whole_query, whole_names, number_of, over_its_tree, whole_is, whole_reads}
 
-pub whole_found : (t : TableName) (db : Database) (rows : List Row) → IsLayout db.schema → Finds (whole_text t) [] db rows → IsAnswer (whole_query t) (overlay db.trees []) [] rows
-whole_found t db rows lies h = let read = found (whole_text t) [] db rows (whole_command t) lies (whole_reads t) (whole_is t) h in read.answer value.Null
+pub whole_found : (t : TableName) (db : Database) (rows : List Row) → IsLayout db.schema → Finds (whole_text t) [] db rows → IsAnswer (whole_query t) (overlay (book_trees db) []) [] rows
+whole_found t db rows lies h =
+    subst (λ (q : Query). IsAnswer q (overlay (book_trees db) []) [] rows) (over_its_tree t)
+    (found_placed (whole_text t) [] db rows (whole_query t) (whole_names t) (number_of t) (whole_reads t) (whole_is t db.schema lies) h)
 
 singles : {A B : Type 0} (f : A → B) (xs : List A) → flat_map (λ x. f x ∷ []) xs ≡ map f xs
 singles f [] = refl

@@ -16,7 +16,9 @@ use Rattle.sqlite_rules.proofs.ListLemmas.{all_has}
 use Rattle.profile.specs.Tables.{TableRow}
 use Rattle.book_tables.specs.Comparing.{AreTables}
 use Rattle.book_tables.specs.Held.{values, Holds}
-use Rattle.book_tables.specs.Layout.{Others, beside, book_tables, text, number, outgoing_layout, stock_layout, advice_layout, advice_line_layout, orders_layout, order_line_layout, reservation_layout, lot_expiry_layout}
+use Rattle.sqlite.specs.Schema.{Schema}
+use Rattle.sqlite.specs.Effect.{Database, IsDatabase}
+use Rattle.book_tables.specs.Layout.{IsLayout, book_tables, book_trees, placed, expiry_tree, lot_expiry_at, text, number, outgoing_layout, stock_layout, advice_layout, advice_line_layout, orders_layout, order_line_layout, reservation_layout}
 use Rattle.book_tables.specs.Standing.{BookTable, Outgoing, Stock, Advice, AdviceLine, Orders, OrderLine, Reservation, LotExpiry, layout_of, tree_of, width_of}
 use Rattle.book_tables.proofs.KeyLemmas.{places}
 use Rattle.book_tables.proofs.WholeFound.{row_stored, stored_shown}
@@ -60,22 +62,28 @@ module _ (t : BookTable) where
   abbrev pub shown : Row → Row
   shown r = (output (keyed_query t) ([] ∷ r ∷ [])).1
 
-pub keyed_full : (t : BookTable) (others : Others) (db : Trees) → IsSound (beside others) db → (row : Row) → Has (db (tree_of t)) row → length row ≡ columns_of t + 1
-keyed_full Outgoing others db sound row there = row_full others db outgoing_layout (keyed_listed Outgoing) sound row there 4 (text (codes "state")) refl refl refl refl refl
-keyed_full Stock others db sound row there = row_full others db stock_layout (keyed_listed Stock) sound row there 7 (number (codes "shipped")) refl refl refl refl refl
-keyed_full Advice others db sound row there = row_full others db advice_layout (keyed_listed Advice) sound row there 3 (number (codes "is_open")) refl refl refl refl refl
-keyed_full AdviceLine others db sound row there = row_full others db advice_line_layout (keyed_listed AdviceLine) sound row there 5 (number (codes "quantity")) refl refl refl refl refl
-keyed_full Orders others db sound row there = row_full others db orders_layout (keyed_listed Orders) sound row there 6 (text (codes "to_place")) refl refl refl refl refl
-keyed_full OrderLine others db sound row there = row_full others db order_line_layout (keyed_listed OrderLine) sound row there 5 (number (codes "quantity")) refl refl refl refl refl
-keyed_full Reservation others db sound row there = row_full others db reservation_layout (keyed_listed Reservation) sound row there 4 (number (codes "quantity")) refl refl refl refl refl
-keyed_full LotExpiry others db sound row there = row_full others db lot_expiry_layout (keyed_listed LotExpiry) sound row there 3 (text (codes "expiry")) refl refl refl refl refl
+pub keyed_full : (t : BookTable) (schema : Schema) → IsLayout schema → (db : Trees) → IsSound schema db → (row : Row) → Has (placed schema db (tree_of t)) row → length row ≡ columns_of t + 1
+keyed_full Outgoing schema lies db sound row there = row_full schema lies db outgoing_layout (inr (inr (inl refl))) sound row there 4 (text (codes "state")) refl refl refl refl refl
+keyed_full Stock schema lies db sound row there = row_full schema lies db stock_layout (inr (inr (inr (inl refl)))) sound row there 7 (number (codes "shipped")) refl refl refl refl refl
+keyed_full Advice schema lies db sound row there = row_full schema lies db advice_layout (inr (inr (inr (inr (inl refl))))) sound row there 3 (number (codes "is_open")) refl refl refl refl refl
+keyed_full AdviceLine schema lies db sound row there = row_full schema lies db advice_line_layout (inr (inr (inr (inr (inr (inl refl)))))) sound row there 5 (number (codes "quantity")) refl refl refl refl refl
+keyed_full Orders schema lies db sound row there = row_full schema lies db orders_layout (inr (inr (inr (inr (inr (inr (inl refl))))))) sound row there 6 (text (codes "to_place")) refl refl refl refl refl
+keyed_full OrderLine schema lies db sound row there = row_full schema lies db order_line_layout (inr (inr (inr (inr (inr (inr (inr (inl refl)))))))) sound row there 5 (number (codes "quantity")) refl refl refl refl refl
+keyed_full Reservation schema lies db sound row there = row_full schema lies db reservation_layout (inr (inr (inr (inr (inr (inr (inr (inr (inl refl))))))))) sound row there 4 (number (codes "quantity")) refl refl refl refl refl
+keyed_full LotExpiry schema lies db sound row there = row_full schema lies db (lot_expiry_at (expiry_tree schema)) (inr (inr (inr (inr (inr (inr (inr (inr (inr (inr (inl refl))))))))))) sound row there 3 (text (codes "expiry")) refl refl refl refl refl
 
 -- what is shown of a row is all but its rowid
-pub shown_is : (t : BookTable) (others : Others) (db : Trees) → IsSound (beside others) db → (row : Row) → Has (db (tree_of t)) row → shown t row ≡ drop 1 row
-shown_is t others db sound row there = columns_out row (places 1 (columns_of t)) ∙ later_columns row (columns_of t) (keyed_full t others db sound row there)
+pub shown_is : (t : BookTable) (schema : Schema) → IsLayout schema → (db : Trees) → IsSound schema db → (row : Row) → Has (placed schema db (tree_of t)) row → shown t row ≡ drop 1 row
+shown_is t schema lies db sound row there = columns_out row (places 1 (columns_of t)) ∙ later_columns row (columns_of t) (keyed_full t schema lies db sound row there)
 
-module _ (t : BookTable) (one two : Others) (db its : Trees) (sound : IsSound (beside one) db) (its_sound : IsSound (beside two) its) (tables : AreTables db) (rows : List Row)
-    (answer : IsAnswer (keyed_query t) (overlay db []) [] rows) (its_answer : IsAnswer (keyed_query t) (overlay its []) [] rows) (cells : List TableRow) (held : Holds cells (its (tree_of t))) where
+module _ (t : BookTable) (one two : Database) (lies : IsLayout one.schema) (its_lies : IsLayout two.schema) (sound : IsDatabase one) (its_sound : IsDatabase two) (tables : AreTables one) (rows : List Row)
+    (answer : IsAnswer (keyed_query t) (overlay (book_trees one) []) [] rows) (its_answer : IsAnswer (keyed_query t) (overlay (book_trees two) []) [] rows) (cells : List TableRow) (held : Holds cells (book_trees two (tree_of t))) where
+  abbrev db : Trees
+  db = book_trees one
+
+  abbrev its : Trees
+  its = book_trees two
+
   shaped : IsShaped shape.Table (db (tree_of t))
   shaped = all_has (λ (u : Table). IsShaped shape.Table (db u.tree)) book_tables (layout_of t) tables (keyed_listed t)
 
@@ -91,7 +99,7 @@ module _ (t : BookTable) (one two : Others) (db its : Trees) (sound : IsSound (b
       let listed = stored_shown (tree_of t) project order (keyed_lies t) db rows answer row there in
       let other = row_stored (tree_of t) project order (keyed_lies t) its rows its_answer (shown t row) listed in
       let it = held.sound other.0 other.1 in
-      let same : drop 1 row ≡ values it.1 = sym (shown_is t one db sound row there) ∙ other.2 ∙ shown_is t two its its_sound other.0 other.1 ∙ ap (drop 1) it.3 in
+      let same : drop 1 row ≡ values it.1 = sym (shown_is t one.schema lies one.trees sound row there) ∙ other.2 ∙ shown_is t two.schema its_lies two.trees its_sound other.0 other.1 ∙ ap (drop 1) it.3 in
       (mine.0, it.1, it.2, mine.1 ∙ ap (λ (r : Row). value.Int mine.0 ∷ r) same)
 
   to_stored : (c : TableRow) → Has cells c → (id : ℤ) × Has (db (tree_of t)) (value.Int id ∷ values c)
@@ -101,7 +109,7 @@ module _ (t : BookTable) (one two : Others) (db its : Trees) (sound : IsSound (b
       let listed = stored_shown (tree_of t) project order (keyed_lies t) its rows its_answer its_row other.1 in
       let mine = row_stored (tree_of t) project order (keyed_lies t) db rows answer (shown t its_row) listed in
       let row = numbered_row (db (tree_of t)) shaped mine.0 mine.1 in
-      let same : drop 1 mine.0 ≡ values c = sym (shown_is t one db sound mine.0 mine.1) ∙ sym mine.2 ∙ shown_is t two its its_sound its_row other.1 in
+      let same : drop 1 mine.0 ≡ values c = sym (shown_is t one.schema lies one.trees sound mine.0 mine.1) ∙ sym mine.2 ∙ shown_is t two.schema its_lies two.trees its_sound its_row other.1 in
       (row.0, subst (Has (db (tree_of t))) (row.1 ∙ ap (λ (r : Row). value.Int row.0 ∷ r) same) mine.1)
 
   pub holds_too : Holds cells (db (tree_of t))

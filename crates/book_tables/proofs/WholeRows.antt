@@ -16,8 +16,9 @@ use Rattle.sqlite_sql.specs.Ops.{is_null}
 use Rattle.sqlite_catalog.specs.Listing.{IsSound}
 use Rattle.sqlite_rules.specs.Lists.{Has}
 use Rattle.sqlite_rules.proofs.ListLemmas.{all_has}
-use Rattle.book_tables.specs.Layout.{Others, beside, book_tables}
-use Rattle.book_tables.proofs.Beside.{has_first}
+use Rattle.sqlite.specs.Schema.{Schema}
+use Rattle.book_tables.specs.Layout.{IsLayout, ours}
+use Rattle.book_tables.proofs.Beside.{ours_listed}
 use Rattle.book_tables.proofs.KeyLemmas.{places}
 use Rattle.book_tables.proofs.Values.{and_true}
 
@@ -54,18 +55,18 @@ exact : (row : Row) (n : ℕ) → length (drop 1 row) ≤ n + 1 → n + 1 < leng
 exact [] n up low = absurd (omega (arith, low))
 exact (v ∷ row) n up low = omega (arith, up, low)
 
-module _ (others : Others) (db : Trees) (table : Table) (listed : Has book_tables table) (sound : IsSound (beside others) db) (row : Row) (there : Has (db table.tree) row) where
+module _ (schema : Schema) (lies : IsLayout schema) (db : Trees) (table : Table) (listed : Has (ours schema) table) (sound : IsSound schema db) (row : Row) (there : Has (db table.tree) row) where
   pub row_typed : are_typed table.key 0 table.columns (drop 1 row) ≡ true
   row_typed =
       let o = sound.obeys in
-      let each = all_has (λ (t : Table). AllByRecursion (λ (r : Row). passes Datatype (beside others) db t r ≡ true) (db t.tree)) (book_tables ++ others.tables) table (o.rules Datatype) (has_first book_tables others.tables table listed) in
-      (and_true _ _ (all_has (λ (r : Row). passes Datatype (beside others) db table r ≡ true) (db table.tree) row each there)).0
+      let each = all_has (λ (t : Table). AllByRecursion (λ (r : Row). passes Datatype schema db t r ≡ true) (db t.tree)) schema.tables table (o.rules Datatype) (ours_listed schema lies table listed) in
+      (and_true _ _ (all_has (λ (r : Row). passes Datatype schema db table r ≡ true) (db table.tree) row each there)).0
 
   row_present : are_present table.key 0 table.columns row ≡ true
   row_present =
       let o = sound.obeys in
-      let each = all_has (λ (t : Table). AllByRecursion (λ (r : Row). passes NotNull (beside others) db t r ≡ true) (db t.tree)) (book_tables ++ others.tables) table (o.rules NotNull) (has_first book_tables others.tables table listed) in
-      all_has (λ (r : Row). passes NotNull (beside others) db table r ≡ true) (db table.tree) row each there
+      let each = all_has (λ (t : Table). AllByRecursion (λ (r : Row). passes NotNull schema db t r ≡ true) (db t.tree)) schema.tables table (o.rules NotNull) (ours_listed schema lies table listed) in
+      all_has (λ (r : Row). passes NotNull schema db table r ≡ true) (db table.tree) row each there
 
   -- a table whose last column is NOT NULL: each row has all values
   pub row_full : (n : ℕ) (c : Column) → table.columns ≡ take n table.columns ++ c ∷ [] → length (take n table.columns) ≡ n → length table.columns ≡ n + 1 → is_key table.key n ≡ false → c.not_null ≡ true

@@ -1,5 +1,5 @@
 -- Two keyed tables that hold one set of rows show the same rows.
-use Rattle.std.proofs.Common.{◌≡◌, ℕ, zero, suc, List, [], ◌∷◌, map, filter, take, Bool, true, false, Ordering, Less, Equal, Greater, codes, refl, sym, ap, subst, ◌∙◌}
+use Rattle.std.proofs.Common.{◌≡◌, inl, inr, ℕ, zero, suc, List, [], ◌∷◌, map, filter, take, Bool, true, false, Ordering, Less, Equal, Greater, codes, refl, sym, ap, subst, ◌∙◌}
 use Rattle.std.specs.List.{IsDistinct}
 use Rattle.std.specs.List.Sorted.{IsStrictlySortedBy}
 use Rattle.std.specs.Ordering.{is_eq, ordering_then, ordering_reverse, eq_by_cmp}
@@ -22,7 +22,9 @@ use Rattle.sqlite_rules.specs.Lists.{Has}
 use Rattle.sqlite_rules.proofs.ProbeLemmas.{has_mapped, mapped_has}
 use Rattle.profile.specs.Tables.{TableRow}
 use Rattle.book_tables.specs.Held.{values, Holds}
-use Rattle.book_tables.specs.Layout.{Others, beside}
+use Rattle.sqlite.specs.Schema.{Schema}
+use Rattle.sqlite.specs.Effect.{Database, IsDatabase}
+use Rattle.book_tables.specs.Layout.{IsLayout, book_trees, placed, expiry_tree}
 use Rattle.book_tables.specs.Standing.{BookTable, Outgoing, Stock, Advice, AdviceLine, Orders, OrderLine, Reservation, LotExpiry, AreByKey, schema_of, tree_of, width_of}
 use Rattle.book_tables.specs.Steps.{AreKeyed, has_key, key_of}
 use Rattle.book_tables.proofs.HoldsLemmas.{are_keyed}
@@ -30,7 +32,7 @@ use Rattle.book_tables.proofs.KeyLemmas.{places, same_text, same_int, equal_text
 use Rattle.book_tables.proofs.Sorts.{sorted_apart, sorted_same, shown_apart}
 use Rattle.book_tables.proofs.UpsertLemmas.{only_row}
 use Rattle.book_tables.proofs.WholeFound.{out, kept_is, into, back}
-use Rattle.book_tables.proofs.WholeKeyed.{keyed_listed, keyed_lies, columns_out, sorted_out}
+use Rattle.book_tables.proofs.WholeKeyed.{keyed_lies, columns_out, sorted_out}
 use Rattle.book_tables.proofs.WholeRows.{columns_later}
 use Rattle.book_tables.proofs.WholeTexts.{columns_at, rising_at, columns_of, keyed_query}
 
@@ -82,16 +84,16 @@ tied_keys (suc k) at (x ∷ a) (y ∷ b) p q h =
     (λ i. first.0 i ∷ rest i)
 
 -- no two rows of a keyed table have one key
-one_row : (t : BookTable) (others : Others) (db : Trees) → IsSound (beside others) db → AreKeyed (width_of t) (db (tree_of t)) → (a b : Row) → Has (db (tree_of t)) a → Has (db (tree_of t)) b
+one_row : (t : BookTable) (schema : Schema) → IsLayout schema → (db : Trees) → IsSound schema db → AreKeyed (width_of t) (placed schema db (tree_of t)) → (a b : Row) → Has (placed schema db (tree_of t)) a → Has (placed schema db (tree_of t)) b
     → key_of (width_of t) a ≡ key_of (width_of t) b → a ≡ b
-one_row Outgoing others db = only_row others (codes "outgoing") 4 2 _ _ db (keyed_listed Outgoing)
-one_row Stock others db = only_row others (codes "stock") 6 3 _ _ db (keyed_listed Stock)
-one_row Advice others db = only_row others (codes "advice") 8 2 _ _ db (keyed_listed Advice)
-one_row AdviceLine others db = only_row others (codes "advice_line") 10 3 _ _ db (keyed_listed AdviceLine)
-one_row Orders others db = only_row others (codes "orders") 12 2 _ _ db (keyed_listed Orders)
-one_row OrderLine others db = only_row others (codes "order_line") 14 3 _ _ db (keyed_listed OrderLine)
-one_row Reservation others db = only_row others (codes "reservation") 16 4 _ _ db (keyed_listed Reservation)
-one_row LotExpiry others db = only_row others (codes "lot_expiry") 19 3 _ _ db (keyed_listed LotExpiry)
+one_row Outgoing schema lies db = only_row schema lies (codes "outgoing") 4 2 _ _ db (inr (inr (inl refl)))
+one_row Stock schema lies db = only_row schema lies (codes "stock") 6 3 _ _ db (inr (inr (inr (inl refl))))
+one_row Advice schema lies db = only_row schema lies (codes "advice") 8 2 _ _ db (inr (inr (inr (inr (inl refl)))))
+one_row AdviceLine schema lies db = only_row schema lies (codes "advice_line") 10 3 _ _ db (inr (inr (inr (inr (inr (inl refl))))))
+one_row Orders schema lies db = only_row schema lies (codes "orders") 12 2 _ _ db (inr (inr (inr (inr (inr (inr (inl refl)))))))
+one_row OrderLine schema lies db = only_row schema lies (codes "order_line") 14 3 _ _ db (inr (inr (inr (inr (inr (inr (inr (inl refl))))))))
+one_row Reservation schema lies db = only_row schema lies (codes "reservation") 16 4 _ _ db (inr (inr (inr (inr (inr (inr (inr (inr (inl refl)))))))))
+one_row LotExpiry schema lies db = only_row schema lies (codes "lot_expiry") (expiry_tree schema) 3 _ _ db (inr (inr (inr (inr (inr (inr (inr (inr (inr (inr (inl refl)))))))))))
 
 flipped : (o p : Ordering) → o ≡ ordering_reverse p → is_eq o ≡ is_eq p
 flipped o Less e = ap is_eq e
@@ -116,8 +118,8 @@ module _ (t : BookTable) where
   key_out i r = sorted_out (i ∷ r) (places 1 (width_of t)) ∙ columns_later i r (width_of t) 0
 
   -- rows that tie are one
-  one_out : (others : Others) (db : Trees) → IsSound (beside others) db → AreKeyed (width_of t) (db (tree_of t)) → (a b : Row) → Has (db (tree_of t)) a → Has (db (tree_of t)) b → eq_by_cmp cmp (put a) (put b) ≡ true → a ≡ b
-  one_out others db sound keyed a b here there alike =
+  one_out : (schema : Schema) → IsLayout schema → (db : Trees) → IsSound schema db → AreKeyed (width_of t) (placed schema db (tree_of t)) → (a b : Row) → Has (placed schema db (tree_of t)) a → Has (placed schema db (tree_of t)) b → eq_by_cmp cmp (put a) (put b) ≡ true → a ≡ b
+  one_out schema lies db sound keyed a b here there alike =
       let k = width_of t in
       let x = keyed.each a here in
       let y = keyed.each b there in
@@ -125,16 +127,19 @@ module _ (t : BookTable) where
       let right = ap (λ (r : Row). (put r).0) y.2 ∙ key_out (value.Int y.0) y.1 in
       let tie = sym (λ i. is_eq (key_cmp 0 (keys_at (places 1 k)) (left i) (right i))) ∙ alike in
       let same = tied_keys k 1 x.1 y.1 x.3 y.3 tie in
-      one_row t others db sound keyed a b here there (ap (key_of k) x.2 ∙ same ∙ sym (ap (key_of k) y.2))
+      one_row t schema lies db sound keyed a b here there (ap (key_of k) x.2 ∙ same ∙ sym (ap (key_of k) y.2))
 
-  module _ (others : Others) (db : Trees) (sound : IsSound (beside others) db) (cells : List TableRow) (by_key : AreByKey (schema_of t) (width_of t) cells) (held : Holds cells (db (tree_of t))) (rows : List Row)
-      (a : IsAnswer (keyed_query t) (overlay db []) [] rows) where
+  module _ (base : Database) (lies : IsLayout base.schema) (sound : IsDatabase base) (cells : List TableRow) (by_key : AreByKey (schema_of t) (width_of t) cells) (held : Holds cells (book_trees base (tree_of t))) (rows : List Row)
+      (a : IsAnswer (keyed_query t) (overlay (book_trees base) []) [] rows) where
+    abbrev db : Trees
+    db = book_trees base
+
     strictly : IsStrictlySortedBy cmp a.ordered
     strictly =
         let total = output_cmp_total (keyed_query t) in
         let flips : (x y : Output) → eq_by_cmp cmp x y ≡ eq_by_cmp cmp y x = λ x y. flipped (cmp x y) (cmp y x) (total.antisymm x y) in
         let keyed = are_keyed (schema_of t) (width_of t) cells (db (tree_of t)) by_key held in
-        let apart : IsDistinct (eq_by_cmp cmp) (map put (db (tree_of t))) = stored_apart (db (tree_of t)) held.rise (one_out others db sound keyed) in
+        let apart : IsDistinct (eq_by_cmp cmp) (map put (db (tree_of t))) = stored_apart (db (tree_of t)) held.rise (one_out base.schema lies base.trees sound keyed) in
         let kept = subst (IsDistinct (eq_by_cmp cmp)) (sym (kept_is (tree_of t) (columns_at (places 1 (columns_of t))) (rising_at (places 1 (width_of t))) (keyed_lies t) db rows a)) apart in
         sorted_apart cmp total a.ordered ([], []) a.sorted (IsDistinct-IsPermutation (eq_by_cmp cmp) flips a.kept a.ordered a.same kept)
       where
@@ -160,11 +165,11 @@ module _ (t : BookTable) where
         let listed = subst (λ (os : List Output). Has os (put (value.Int other.0 ∷ values it.1))) (sym (kept_is (tree_of t) project order (keyed_lies t) its its_rows b)) (mapped_has put (its (tree_of t)) (value.Int other.0 ∷ values it.1) other.1) in
         subst (Has b.ordered) (sym same) (into (tree_of t) project order (keyed_lies t) its its_rows b (put (value.Int other.0 ∷ values it.1)) listed)
 
-  pub same_shown : (one two : Others) (db its : Trees) → IsSound (beside one) db → IsSound (beside two) its → (cells : List TableRow) → AreByKey (schema_of t) (width_of t) cells
-      → Holds cells (db (tree_of t)) → Holds cells (its (tree_of t)) → (rows its_rows : List Row)
-      → IsAnswer (keyed_query t) (overlay db []) [] rows → IsAnswer (keyed_query t) (overlay its []) [] its_rows → rows ≡ its_rows
-  same_shown one two db its sound its_sound cells by_key held its_held rows its_rows a b =
+  pub same_shown : (one two : Database) → IsLayout one.schema → IsLayout two.schema → IsDatabase one → IsDatabase two → (cells : List TableRow) → AreByKey (schema_of t) (width_of t) cells
+      → Holds cells (book_trees one (tree_of t)) → Holds cells (book_trees two (tree_of t)) → (rows its_rows : List Row)
+      → IsAnswer (keyed_query t) (overlay (book_trees one) []) [] rows → IsAnswer (keyed_query t) (overlay (book_trees two) []) [] its_rows → rows ≡ its_rows
+  same_shown one two lies its_lies sound its_sound cells by_key held its_held rows its_rows a b =
       let ordered : a.ordered ≡ b.ordered = sorted_same cmp (output_cmp_total (keyed_query t)) a.ordered b.ordered
-      (strictly one db sound cells by_key held rows a) (strictly two its its_sound cells by_key its_held its_rows b)
-      (moved one db sound cells by_key held rows a its its_held its_rows b) (moved two its its_sound cells by_key its_held its_rows b db held rows a) in
+      (strictly one lies sound cells by_key held rows a) (strictly two its_lies its_sound cells by_key its_held its_rows b)
+      (moved one lies sound cells by_key held rows a (book_trees two) its_held its_rows b) (moved two its_lies its_sound cells by_key its_held its_rows b (book_trees one) held rows a) in
       a.shown ∙ ap (map (λ (o : Output). o.1)) ordered ∙ sym b.shown

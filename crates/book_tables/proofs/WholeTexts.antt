@@ -1,6 +1,6 @@
 -- The texts that ask for all of a table, and what they mean.
 use Rattle.std.proofs.Common.{◌≡◌, codes, ℕ, List, [], ◌∷◌, map, length, refl, false}
-use Rattle.sqlite.specs.Command.{Command}
+use Rattle.sqlite.specs.Schema.{Schema}
 use Rattle.sqlite.specs.Command.TheVariants.{Select}
 use Rattle.sqlite.specs.Term.{Term, col}
 use Rattle.sqlite.specs.Table.{Table}
@@ -16,11 +16,15 @@ use Rattle.book_tables.specs.Asking.{OnlyReads}
 use Rattle.book_tables.specs.declared.comparing.TableName.{TableName}
 use Rattle.book_tables.specs.declared.comparing.TableName.TheVariants.{Book, Entry, Outgoing, Stock, Advice, AdviceLine, Orders, OrderLine, Reservation, EntryRules, LotExpiry}
 use Rattle.book_tables.specs.Comparing.{whole_text}
-use Rattle.book_tables.specs.Layout.{Others, beside}
+use Rattle.book_tables.specs.Layout.{Others, beside, IsLayout, tree_in, rules_tree, expiry_tree}
 use Rattle.book_tables.specs.Standing as keyed
 use Rattle.book_tables.specs.Standing.{BookTable, layout_of, width_of, tree_of}
 use Rattle.book_tables.proofs.KeyLemmas.{places}
 use Rattle.book_tables.proofs.ReadingTexts.{ordered_from}
+use Rattle.book_tables.proofs.Beside.{under}
+use Rattle.book_tables.proofs.ExpiryReads.{whole_dates_is}
+use Rattle.book_tables.proofs.PlacedAnswers.{from_tree}
+use Rattle.book_tables.proofs.RulesReads.{all_rules_is}
 use Rattle.book_tables.proofs.Selects.{query_reads}
 
 abbrev pub columns_at : List ℕ → List Term
@@ -85,22 +89,69 @@ whole_query Reservation = keyed_query keyed.Reservation
 whole_query EntryRules = rules_query
 whole_query LotExpiry = keyed_query keyed.LotExpiry
 
-abbrev pub whole_command : TableName → Command
-whole_command t = Select (record { lets = []; body = whole_query t }) (whole_names t)
+-- a table of version 1
+abbrev IsFirst : TableName → Type 0
+IsFirst EntryRules = ⊥
+IsFirst LotExpiry = ⊥
+IsFirst _ = Unit {0}
 
-pub whole_is : (t : TableName) (others : Others) → (command_of (understood (beside others) (whole_text t)) ≡ whole_command t) × (reads_listing (beside others) (whole_text t) ≡ false)
+-- the number of a table's tree
+abbrev pub number_of : TableName → ℕ
+number_of Book = 0
+number_of Entry = 1
+number_of Outgoing = tree_of keyed.Outgoing
+number_of Stock = tree_of keyed.Stock
+number_of Advice = tree_of keyed.Advice
+number_of AdviceLine = tree_of keyed.AdviceLine
+number_of Orders = tree_of keyed.Orders
+number_of OrderLine = tree_of keyed.OrderLine
+number_of Reservation = tree_of keyed.Reservation
+number_of EntryRules = 18
+number_of LotExpiry = 19
+
+pub over_its_tree : (t : TableName) → from_tree (number_of t) (whole_query t) ≡ whole_query t
+over_its_tree Book = refl
+over_its_tree Entry = refl
+over_its_tree Outgoing = refl
+over_its_tree Stock = refl
+over_its_tree Advice = refl
+over_its_tree AdviceLine = refl
+over_its_tree Orders = refl
+over_its_tree OrderLine = refl
+over_its_tree Reservation = refl
+over_its_tree EntryRules = refl
+over_its_tree LotExpiry = refl
+
+-- the text of a table asks for its tree
+abbrev IsWhole : TableName → Schema → Type 0
+IsWhole t schema = (command_of (understood schema (whole_text t)) ≡ Select (record { lets = []; body = from_tree (tree_in schema (number_of t)) (whole_query t) }) (whole_names t)) × (reads_listing schema (whole_text t) ≡ false)
+
+first_whole : (t : TableName) → IsFirst t → (others : Others) → IsWhole t (beside others)
 unfolding understood everything
-whole_is Book others = (refl, refl)
-whole_is Entry others = (refl, refl)
-whole_is Outgoing others = (refl, refl)
-whole_is Stock others = (refl, refl)
-whole_is Advice others = (refl, refl)
-whole_is AdviceLine others = (refl, refl)
-whole_is Orders others = (refl, refl)
-whole_is OrderLine others = (refl, refl)
-whole_is Reservation others = (refl, refl)
-whole_is EntryRules others = (refl, refl)
-whole_is LotExpiry others = (refl, refl)
+first_whole Book first others = (refl, refl)
+first_whole Entry first others = (refl, refl)
+first_whole Outgoing first others = (refl, refl)
+first_whole Stock first others = (refl, refl)
+first_whole Advice first others = (refl, refl)
+first_whole AdviceLine first others = (refl, refl)
+first_whole Orders first others = (refl, refl)
+first_whole OrderLine first others = (refl, refl)
+first_whole Reservation first others = (refl, refl)
+first_whole EntryRules first others = absurd first
+first_whole LotExpiry first others = absurd first
+
+pub whole_is : (t : TableName) (schema : Schema) → IsLayout schema → IsWhole t schema
+whole_is Book schema lies = under (IsWhole Book) schema lies (first_whole Book tt)
+whole_is Entry schema lies = under (IsWhole Entry) schema lies (first_whole Entry tt)
+whole_is Outgoing schema lies = under (IsWhole Outgoing) schema lies (first_whole Outgoing tt)
+whole_is Stock schema lies = under (IsWhole Stock) schema lies (first_whole Stock tt)
+whole_is Advice schema lies = under (IsWhole Advice) schema lies (first_whole Advice tt)
+whole_is AdviceLine schema lies = under (IsWhole AdviceLine) schema lies (first_whole AdviceLine tt)
+whole_is Orders schema lies = under (IsWhole Orders) schema lies (first_whole Orders tt)
+whole_is OrderLine schema lies = under (IsWhole OrderLine) schema lies (first_whole OrderLine tt)
+whole_is Reservation schema lies = under (IsWhole Reservation) schema lies (first_whole Reservation tt)
+whole_is EntryRules schema lies = all_rules_is schema lies.rules_place (rules_tree schema) lies.rules
+whole_is LotExpiry schema lies = whole_dates_is schema lies.expiry_place (expiry_tree schema) lies.expiry
 
 pub whole_reads : (t : TableName) → OnlyReads (whole_text t)
 unfolding everything

@@ -126,14 +126,6 @@ put_reservation_plain others = (refl, refl)
 abbrev pub put_expiry_text : List ℕ
 put_expiry_text = codes "INSERT INTO lot_expiry (who, item, lot, expiry) VALUES (?1, ?2, ?3, ?4) ON CONFLICT (who, item, lot) DO UPDATE SET expiry = ?4"
 
-pub put_expiry_is : (others : Others) → command_of (understood (beside others) put_expiry_text) ≡ InsertOr 10 Abort (Values (source 4) 5) (on_conflict (1 ∷ 2 ∷ 3 ∷ []) (update_query 19 3 4) ∷ [])
-unfolding understood everything
-put_expiry_is others = refl
-
-pub put_expiry_plain : (others : Others) → IsPlain (understood (beside others) put_expiry_text)
-unfolding understood everything
-put_expiry_plain others = (refl, refl)
-
 -- Inserts.
 
 abbrev pub insert_book_text : List ℕ
@@ -171,14 +163,6 @@ insert_outgoing_plain others = (refl, refl)
 
 abbrev pub insert_rules_text : List ℕ
 insert_rules_text = codes "INSERT INTO entry_rules (seq, rules) VALUES (?1, ?2)"
-
-pub insert_rules_is : (others : Others) → command_of (understood (beside others) insert_rules_text) ≡ Insert 9 (Values (col 0 0 ∷ lit Null ∷ columns_of 0 1 1) 3)
-unfolding understood everything
-insert_rules_is others = refl
-
-pub insert_rules_plain : (others : Others) → IsPlain (understood (beside others) insert_rules_text)
-unfolding understood everything
-insert_rules_plain others = (refl, refl)
 
 -- An update and a delete.
 

@@ -1,9 +1,9 @@
--- A book of version 1 in SQLite: nine tables and nothing else; and what carrying it over makes of them.
+-- A book of version 1 in SQLite: nine tables, and others after them; and what carrying it over makes of them.
 use Rattle.std.specs.Prelude.{◌≡◌, ◌⊎◌, ℕ, true, List, [], IsTrue, length, map}
 use Rattle.std.specs.List.{AllByRecursion, list_all}
 use Rattle.sqlite.specs.Tree.{Trees}
 use Rattle.sqlite.specs.Schema as sqlite
-use Rattle.sqlite.specs.Effect.{Database}
+use Rattle.sqlite.specs.Effect.{Database, IsDatabase}
 use Rattle.sqlite.specs.State.{State}
 use Rattle.sqlite_catalog.specs.Listing.{IsSound}
 use Rattle.profile.specs.declared.rules.Rules.{Rules}
@@ -12,15 +12,11 @@ use Rattle.profile.specs.Header.{Who}
 use Rattle.profile.specs.Register.{Entry, is_first}
 use Rattle.profile.specs.Accepted.{IsLegal}
 use Rattle.profile.specs.Tables.{TableRow, book_table, entry_table, entry_rules_table}
-use Rattle.book_tables.specs.Layout.{first_layouts}
+use Rattle.book_tables.specs.Layout.{IsFirstLayout}
 use Rattle.book_tables.specs.Held.{Holds, first_row, entry_values}
 use Rattle.book_tables.specs.Standing.{BookTable, LotExpiry, keyed_tables, tree_of, rows_of, Filled, AreOrdered, Stands, StandsIn}
 use Rattle.book_tables.specs.Leading.{Keeps}
 use Rattle.book_tables.specs.Exits.{HasGrown}
-
--- the nine tables of version 1, and nothing else
-abbrev pub first_layout : sqlite.Schema
-first_layout = first_layouts 9 9
 
 -- the rows of a register's tables in version 1
 abbrev pub first_filled : Who → List Entry → Filled
@@ -35,7 +31,7 @@ pub record AreHeldFirst (f : Filled) (db : Trees) : Type 0 where
 -- the register is legal under the first rules, and the nine tables hold the rows that the warehouse's register has
 pub record StandsFirst (W : Who) (L : List Entry) (db : Database) : Type 0 where
   pub legal : IsLegal One W L
-  pub schema : db.schema ≡ first_layout
+  pub schema : IsFirstLayout db.schema
   pub rows : AreHeldFirst (first_filled W L) db.trees
 
 -- a database of the version stands for the register; and the same of trees that a crash leaves, and while a store is open
@@ -53,7 +49,8 @@ StandsOpenAs q s W L = IsTrue s.is_open → StandsAs q W L s.now
 
 -- the nine tables hold these rows; none are to be held by the two that are to come
 pub record KeepsFirst (f : Filled) (db : Database) : Type 0 where
-  pub schema : db.schema ≡ first_layout
+  pub schema : IsFirstLayout db.schema
+  pub sound : IsDatabase db
   pub rows : AreHeldFirst f db.trees
   pub dates : f.keyed LotExpiry ≡ []
   pub rules : f.rules ≡ []

@@ -5,13 +5,12 @@ use Rattle.sqlite.specs.Effect.{Database}
 use Rattle.sqlite.specs.Order.{Row}
 use Rattle.sqlite.specs.State.{State}
 use Rattle.sqlite.specs.Table.{Table}
-use Rattle.sqlite.specs.Tree.{Trees}
 use Rattle.sqlite_trees.specs.declared.store.Shape.TheVariants as shape
 use Rattle.sqlite_trees.specs.View.{IsShaped}
 use Rattle.book_tables.specs.declared.comparing.TableName.{TableName}
 use Rattle.book_tables.specs.declared.comparing.TableName.TheVariants.{Book, Entry, Outgoing, Stock, Advice, AdviceLine, Orders, OrderLine, Reservation, EntryRules, LotExpiry}
 use Rattle.book_tables.specs.Asking.{Finds}
-use Rattle.book_tables.specs.Layout.{IsLayout, book_tables}
+use Rattle.book_tables.specs.Layout.{IsLayout, book_tables, book_trees}
 
 -- the text that asks for all that a table has, in the order of its keys
 abbrev pub whole_text : TableName → List ℕ
@@ -65,5 +64,5 @@ Compares true one two = (t : TableName) → ShowBoth (whole_text t) one two true
 Compares false one two = (t : TableName) × ShowBoth (whole_text t) one two false
 
 -- the rows of the book's tables stand in the order of their rowids, which are integers, as a store keeps the rows of any table
-abbrev pub AreTables : Trees → Type 0
-AreTables db = AllByRecursion (λ (t : Table). IsShaped shape.Table (db t.tree)) book_tables
+abbrev pub AreTables : Database → Type 0
+AreTables db = AllByRecursion (λ (t : Table). IsShaped shape.Table (book_trees db t.tree)) book_tables

@@ -1,6 +1,6 @@
 -- The tables of the book in SQLite, version 2, and the texts that make them.
-use Rattle.std.specs.Prelude.{◌≡◌, Bool, true, false, [], ◌∷◌, ◌++◌, ◌==◌, Option, Some, None, codes, List, ℕ, take, ◌+◌, pos}
-use Rattle.std.specs.List.{list_any}
+use Rattle.std.specs.Prelude.{◌≡◌, Bool, true, false, [], ◌∷◌, ◌++◌, ◌||◌, ◌==◌, if◌then◌else◌, Option, Some, None, option_map, option_and_then, unwrap_or, slice_get, find, codes, List, ℕ, take, filter, ◌+◌, ◌<◌, pos}
+use Rattle.std.specs.List.{AllByRecursion, list_any}
 use Rattle.sqlite.specs.Collation.TheVariants.{Binary}
 use Rattle.sqlite.specs.declared.types.Value.TheVariants as value
 use Rattle.sqlite.specs.Table.{Table}
@@ -11,11 +11,17 @@ use Rattle.sqlite_schema.specs.declared.schema.Column.{Column}
 use Rattle.sqlite_schema.specs.declared.schema.Kind.{Kind}
 use Rattle.sqlite_schema.specs.declared.schema.Index.{Index}
 use Rattle.sqlite_schema.specs.declared.schema.View.{View}
+use Rattle.sqlite_schema.specs.declared.schema.Reference.{Reference}
+use Rattle.sqlite_schema.specs.Names.{same_name, table_named}
 use Rattle.sqlite_schema.specs.Rules.{ParentKey, parent_key}
 use Rattle.sqlite.specs.Schema.{Schema}
+use Rattle.sqlite.specs.Tree.{Trees}
+use Rattle.sqlite.specs.Effect.{Database}
+use Rattle.sqlite.specs.Does.{lacks_sequence}
 use Rattle.sqlite.specs.Kind.TheVariants.{Integer, Text, Blob}
 use Rattle.sqlite_value.specs.Keys.{plain}
 use Rattle.sqlite_catalog.specs.Listing.{automatic}
+use Rattle.sqlite_catalog.specs.Change.{automatics}
 
 -- The texts.
 
@@ -161,10 +167,12 @@ abbrev pub reservation_layout : Table
 reservation_layout = keyed (codes "reservation") 16 (1 ∷ 2 ∷ 3 ∷ 4 ∷ []) []
     (text (codes "who") ∷ text (codes "ord") ∷ text (codes "item") ∷ text (codes "lot") ∷ number (codes "quantity") ∷ [])
 
-abbrev pub entry_rules_layout : Table
-entry_rules_layout = record {
+-- The two tables that version 2 has beside those of version 1 may stand anywhere after these, and so their rows in any tree.
+
+abbrev pub entry_rules_at : ℕ → Table
+entry_rules_at tree = record {
   name = codes "entry_rules";
-  tree = 18;
+  tree = tree;
   columns = column_of false Integer (codes "seq") ∷ number (codes "rules") ∷ [];
   key = Some 0;
   primary = 0 ∷ [];
@@ -177,12 +185,24 @@ entry_rules_layout = record {
   is_counted = false;
 }
 
-abbrev pub lot_expiry_layout : Table
-lot_expiry_layout = keyed (codes "lot_expiry") 19 (1 ∷ 2 ∷ 3 ∷ []) []
+abbrev pub lot_expiry_at : ℕ → Table
+lot_expiry_at tree = keyed (codes "lot_expiry") tree (1 ∷ 2 ∷ 3 ∷ []) []
     (text (codes "who") ∷ text (codes "item") ∷ text (codes "lot") ∷ text (codes "expiry") ∷ [])
+
+abbrev pub entry_rules_layout : Table
+entry_rules_layout = entry_rules_at 18
+
+abbrev pub lot_expiry_layout : Table
+lot_expiry_layout = lot_expiry_at 19
 
 -- The schema.
 
+-- the tables of version 1
+abbrev pub first_tables : List Table
+first_tables = book_layout ∷ entry_layout ∷ outgoing_layout ∷ stock_layout ∷ advice_layout ∷ advice_line_layout
+    ∷ orders_layout ∷ order_line_layout ∷ reservation_layout ∷ []
+
+-- those of version 2, as they stand in a book by itself
 abbrev pub book_tables : List Table
 book_tables = book_layout ∷ entry_layout ∷ outgoing_layout ∷ stock_layout ∷ advice_layout ∷ advice_line_layout
     ∷ orders_layout ∷ order_line_layout ∷ reservation_layout ∷ entry_rules_layout ∷ lot_expiry_layout ∷ []
@@ -190,6 +210,11 @@ book_tables = book_layout ∷ entry_layout ∷ outgoing_layout ∷ stock_layout 
 -- the index of a table's key, whose tree follows the table's
 abbrev pub key_index : Table → Index
 key_index t = automatic t 0 t.primary (t.tree + 1)
+
+abbrev pub first_indexes : List Index
+first_indexes = automatic entry_layout 0 (2 ∷ 3 ∷ []) 2 ∷ automatic entry_layout 1 (2 ∷ 4 ∷ []) 3
+    ∷ key_index outgoing_layout ∷ key_index stock_layout ∷ key_index advice_layout ∷ key_index advice_line_layout
+    ∷ key_index orders_layout ∷ key_index order_line_layout ∷ key_index reservation_layout ∷ []
 
 abbrev pub book_indexes : List Index
 book_indexes = automatic entry_layout 0 (2 ∷ 3 ∷ []) 2 ∷ automatic entry_layout 1 (2 ∷ 4 ∷ []) 3
@@ -209,35 +234,97 @@ layout = record { tables = book_tables; indexes = book_indexes; views = [] }
 
 -- Others beside them.
 
--- tables that stand after the book's in a schema, with their indexes, and views
+-- tables that stand after those of version 1 in a schema, with their indexes, and views
 pub record Others : Type 0 where
   pub tables : List Table
   pub indexes : List Index
   pub views : List View
 
--- the eleven tables, and then these
+-- the nine tables of version 1, and then these
 abbrev pub beside : Others → Schema
-beside others = record { tables = book_tables ++ others.tables; indexes = book_indexes ++ others.indexes; views = others.views }
+beside others = record { tables = first_tables ++ others.tables; indexes = first_indexes ++ others.indexes; views = others.views }
 
--- the tree is a table's of the book
-abbrev pub is_of_book : ℕ → Bool
-is_of_book tree = list_any (λ (t : Table). t.tree == tree) book_tables
+-- the tree of the table with a name
+abbrev pub tree_named : Schema → List ℕ → ℕ
+tree_named schema name = unwrap_or (option_map (λ (t : Table). t.tree) (option_and_then (slice_get schema.tables) (table_named schema name))) 0
 
-abbrev pub is_key_of_book : Option ParentKey → Bool
-is_key_of_book None = false
-is_key_of_book (Some key) = is_of_book key.0
+abbrev pub rules_tree : Schema → ℕ
+rules_tree schema = tree_named schema (codes "entry_rules")
 
--- a foreign key of the table refers to a table of the book
-abbrev pub refers_to_book : List Table → Table → Bool
-refers_to_book tables child = list_any (λ ref. is_key_of_book (parent_key tables ref)) child.references
+abbrev pub expiry_tree : Schema → ℕ
+expiry_tree schema = tree_named schema (codes "lot_expiry")
 
--- none of their indexes is on a table of the book, and none of their foreign keys refers to one
-pub record AreApart (others : Others) : Type 0 where
-  pub indexes : list_any (λ (i : Index). is_of_book i.table) others.indexes ≡ false
-  pub references : list_any (refers_to_book (book_tables ++ others.tables)) others.tables ≡ false
+-- The book's tables are told apart by the numbers of their trees in a book by itself. This is the tree in which the one with a number stands.
+abbrev pub tree_in : Schema → ℕ → ℕ
+tree_in schema number = if number == 18 then rules_tree schema else (if number == 19 then expiry_tree schema else number)
 
--- the schema is the book's eleven tables, after which others may stand
+-- the trees of a schema's tables, by these numbers
+abbrev pub placed : Schema → Trees → Trees
+placed schema db = λ number. db (tree_in schema number)
+
+abbrev pub book_trees : Database → Trees
+book_trees db = placed db.schema db.trees
+
+-- a table stands at this place of the schema, where its name and its tree lead to it
+pub record StandsAt (schema : Schema) (at : ℕ) (t : Table) : Type 0 where
+  pub found : table_named schema t.name ≡ Some at
+  pub there : slice_get schema.tables at ≡ Some t
+  pub low : t.tree < 65536
+  pub first : find (λ (u : Table). u.tree == t.tree) schema.tables ≡ Some t
+
+-- the book's tables as they stand in a schema
+abbrev pub ours : Schema → List Table
+ours schema = book_layout ∷ entry_layout ∷ outgoing_layout ∷ stock_layout ∷ advice_layout ∷ advice_line_layout
+    ∷ orders_layout ∷ order_line_layout ∷ reservation_layout ∷ entry_rules_at (rules_tree schema) ∷ lot_expiry_at (expiry_tree schema) ∷ []
+
+-- the indexes on a table
+abbrev pub indexes_on : Schema → ℕ → List Index
+indexes_on schema tree = filter (λ (i : Index). i.table == tree) schema.indexes
+
+-- those of the table's keys
+abbrev pub indexes_of : Table → List Index
+indexes_of t = automatics t 0 (t.tree + 1) t.uniques
+
+-- the tree is that of one of these tables
+abbrev pub is_of : List Table → ℕ → Bool
+is_of ts tree = list_any (λ (t : Table). t.tree == tree) ts
+
+abbrev pub is_key_of : List Table → Option ParentKey → Bool
+is_key_of ts None = false
+is_key_of ts (Some key) = is_of ts key.0
+
+-- a foreign key of the table refers to one of these
+abbrev pub refers_to : List Table → List Table → Table → Bool
+refers_to ts tables child = list_any (λ ref. is_key_of ts (parent_key tables ref)) child.references
+
+-- These tables have no indexes but those of their keys, and no foreign key refers to one.
+pub record AreApart (ts : List Table) (schema : Schema) : Type 0 where
+  pub indexes : AllByRecursion (λ (t : Table). indexes_on schema t.tree ≡ indexes_of t) ts
+  pub references : list_any (refers_to ts schema.tables) schema.tables ≡ false
+
+-- the schema is the nine tables of version 1, and after them, among whatever others, the two of version 2, in trees of their own
 pub record IsLayout (schema : Schema) : Type 0 where
   pub others : Others
   pub is : schema ≡ beside others
-  pub apart : AreApart others
+  pub rules_place : ℕ
+  pub rules : StandsAt schema rules_place (entry_rules_at (rules_tree schema))
+  pub expiry_place : ℕ
+  pub expiry : StandsAt schema expiry_place (lot_expiry_at (expiry_tree schema))
+  pub own_rules : is_of first_tables (rules_tree schema) ≡ false
+  pub own_expiry : is_of (entry_rules_at (rules_tree schema) ∷ first_tables) (expiry_tree schema) ≡ false
+  pub apart : AreApart (ours schema) schema
+
+-- A book of version 1.
+
+-- a foreign key of the table names one of the two tables that version 2 has besides
+abbrev pub names_new : Table → Bool
+names_new child = list_any (λ (ref : Reference). same_name (codes "entry_rules") ref.parent || same_name (codes "lot_expiry") ref.parent) child.references
+
+-- The schema is the nine tables of version 1, and after them whatever others. No foreign key of these names a table that is to come, and
+-- where one counts its rowids, the table that SQLite keeps for that is there.
+pub record IsFirstLayout (schema : Schema) : Type 0 where
+  pub others : Others
+  pub is : schema ≡ beside others
+  pub apart : AreApart first_tables schema
+  pub unnamed : list_any names_new schema.tables ≡ false
+  pub counted : lacks_sequence schema ≡ false

@@ -8,7 +8,7 @@ use Rattle.sqlite.specs.Effect.{Database, IsDatabase}
 use Rattle.profile.specs.declared.rules.Rules.TheVariants.{Two}
 use Rattle.profile.specs.Header.{Who}
 use Rattle.profile.specs.Accepted.{IsLegal}
-use Rattle.book_tables.specs.Layout.{book_tables, first_layouts, layout, no_layout}
+use Rattle.book_tables.specs.Layout.{book_tables, book_trees, first_layouts, layout, no_layout}
 use Rattle.book_tables.specs.Exits.{HasGrown}
 
 -- the first tables are there, with so many indexes, and empty
@@ -21,7 +21,7 @@ pub record HasBook (qualifier id : List ℕ) (db : Database) : Type 0 where
   pub schema : db.schema ≡ layout
   pub sound : IsDatabase db
   pub book : db.trees 0 ≡ (Int (pos 1) ∷ Int (pos 2) ∷ Text qualifier ∷ Text id ∷ []) ∷ []
-  pub empty : AllByRecursion (λ (t : Table). db.trees t.tree ≡ []) (drop 1 book_tables)
+  pub empty : AllByRecursion (λ (t : Table). book_trees db t.tree ≡ []) (drop 1 book_tables)
 
 -- where there was no table, the tables stand for the empty register of the warehouse
 abbrev pub Makes : State → State → Who → Type 0

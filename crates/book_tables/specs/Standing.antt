@@ -12,7 +12,7 @@ use Rattle.profile.specs.Register.{Entry}
 use Rattle.profile.specs.Accepted.{IsLegal}
 use Rattle.profile.specs.Tables.{Null, Number, Text, Blob, TableRow, AllTables, book_table, entry_table, outgoing_table, stock_table, advice_table, advice_line_table, orders_table, order_line_table, reservation_table, entry_rules_table, lot_expiry_table}
 use Rattle.profile.specs.Schema.{Schema, is_by_key, key_in, entry_schema, outgoing_schema, stock_schema, advice_schema, advice_line_schema, orders_schema, order_line_schema, reservation_schema, entry_rules_schema, lot_expiry_schema}
-use Rattle.book_tables.specs.Layout.{IsLayout, outgoing_layout, stock_layout, advice_layout, advice_line_layout, orders_layout, order_line_layout, reservation_layout, lot_expiry_layout}
+use Rattle.book_tables.specs.Layout.{IsLayout, book_trees, outgoing_layout, stock_layout, advice_layout, advice_line_layout, orders_layout, order_line_layout, reservation_layout, lot_expiry_layout}
 use Rattle.book_tables.specs.Held.{Holds, first_row, entry_values}
 
 -- The tables that are keyed by their first columns: all but `book`, which has no key, and `entry` and `entry_rules`, whose key is
@@ -95,18 +95,18 @@ named f =
 abbrev pub filled : Who → List Entry → Filled
 filled W L = record { book = book_table Two W; entry = entry_table L; keyed = rows_of W L; rules = entry_rules_table L }
 
--- the trees of the book's tables hold these rows: `book`, `entry` and `entry_rules` as lists, each keyed table as a set
+-- the trees of the book's tables, by their numbers, hold these rows: `book`, `entry` and `entry_rules` as lists, each keyed table as a set
 pub record AreHeld (f : Filled) (db : Trees) : Type 0 where
   pub book : db 0 ≡ map first_row f.book
   pub entry : db 1 ≡ map entry_values f.entry
   pub keyed : (t : BookTable) → Holds (f.keyed t) (db (tree_of t))
   pub rules : db 18 ≡ map entry_values f.rules
 
--- the register is legal, and the schema begins with the book's eleven tables, which hold the rows that the warehouse's register has
+-- the register is legal, and the schema has the book's eleven tables, which hold the rows that the warehouse's register has
 pub record Stands (W : Who) (L : List Entry) (db : Database) : Type 0 where
   pub legal : IsLegal Two W L
   pub schema : IsLayout db.schema
-  pub rows : AreHeld (filled W L) db.trees
+  pub rows : AreHeld (filled W L) (book_trees db)
 
 -- the same of the trees that a crash leaves or an opening reads
 abbrev pub StandsIn : Who → List Entry → Trees → Type 0

@@ -8,7 +8,7 @@ use Rattle.sqlite.specs.Tree.{IsTable}
 use Rattle.sqlite.specs.Effect.{Database, IsDatabase}
 use Rattle.sqlite.specs.State.{State, Shows}
 use Rattle.sqlite_rules.specs.Lists.{Has}
-use Rattle.book_tables.specs.Layout.{book_tables}
+use Rattle.book_tables.specs.Layout.{book_tables, book_trees}
 
 -- the transaction goes on, and nothing of it is committed
 abbrev pub GoesOn : State → State → Type 0
@@ -46,15 +46,22 @@ pub record TakenByKey (k : ℕ) (key : Row) (old new : List Row) : Type 0 where
   pub sound : (row : Row) → Has new row → Has old row × (key_of k row ≢ key)
   pub kept : (row : Row) → Has old row → key_of k row ≢ key → Has new row
 
--- the book's tables but for this one are as they were
+-- the book's tables but for the one with this number are as they were
 abbrev pub Spares : ℕ → Database → Database → Type 0
-Spares tree old new = AllByRecursion (λ (t : Table). t.tree ≢ tree → new.trees t.tree ≡ old.trees t.tree) book_tables
+Spares number old new = AllByRecursion (λ (t : Table). t.tree ≢ number → book_trees new t.tree ≡ book_trees old t.tree) book_tables
 
--- a statement wrote into one table, and its rows became what `Rows` says
-pub record WritesInto (tree : ℕ) (Rows : List Row → List Row → Type 0) (old new : Database) : Type 0 where
+-- a statement wrote into one table of the book, and its rows became what `Rows` says
+pub record WritesInto (number : ℕ) (Rows : List Row → List Row → Type 0) (old new : Database) : Type 0 where
   pub sound : IsDatabase new
   pub schema : new.schema ≡ old.schema
-  pub others : Spares tree old new
+  pub others : Spares number old new
+  pub rows : Rows (book_trees old number) (book_trees new number)
+
+-- the same of a tree, whatever table's it is
+pub record WritesAt (tree : ℕ) (Rows : List Row → List Row → Type 0) (old new : Database) : Type 0 where
+  pub sound : IsDatabase new
+  pub schema : new.schema ≡ old.schema
+  pub others : AllByRecursion (λ (t : Table). t.tree ≢ tree → new.trees t.tree ≡ old.trees t.tree) old.schema.tables
   pub rows : Rows (old.trees tree) (new.trees tree)
 
 -- a row of `outgoing`

@@ -14,7 +14,7 @@ ghost use Rattle.book_tables.specs.Showing.{advice_shown};
 
 use crate::connected::Tables;
 use crate::goods::lines_in;
-use crate::reading::{number_at, text_at};
+use crate::reading::{flag_at, text_at};
 use profile::MOST_LINES_TWO;
 use rules::Who;
 use sets_in::Goods;
@@ -49,13 +49,13 @@ fn advice_in(alloc: Global, row: &Row) -> Result<Option<BareAdvice>, AllocError>
     let Some(order) = text_at(row, 1) else {
         return Ok(None);
     };
-    let Some(flag) = number_at(row, 2) else {
+    let Some(is_open) = flag_at(row, 2) else {
         return Ok(None);
     };
     Ok(Some(BareAdvice {
         shipment: Vec::from_slice(alloc, shipment)?,
         order: Vec::from_slice(alloc, order)?,
-        is_open: flag == 1,
+        is_open,
     }))
 }
 

@@ -1,5 +1,6 @@
 ghost use Rattle.std.specs.Prelude.{◌≡◌, ◌<◌, ◌^◌};
 ghost use Rattle.sqlite.specs.Held.{state};
+ghost use Rattle.sqlite.specs.State.{IsLive};
 ghost use Rattle.book_tables.specs.Carrying.{CarriesOver, GivesRules, SetsVersion};
 ghost use Rattle.book_tables.specs.Writing.{Wrote};
 
@@ -61,7 +62,7 @@ pub(crate) fn carry_all<S: Alter, T: FnMut(u64, u64)>(
     requires told { T.IsAlwaysCallable told }
     ensures same_reference { tx.new.conn.ghost_name ≡ tx.old.conn.ghost_name }
     ensures wrote { let old = state S.Store tx.old.conn.now in let new = state S.Store tx.new.conn.now in
-        Wrote (CarriesOver entries old new) old new calls.old calls.new result }
+        Wrote (IsLive old → CarriesOver entries old new) old new calls.old calls.new result }
 {
     make_fourth(tx, calls)?;
     give_first_rules(tx, calls, entries, told)?;

@@ -174,7 +174,7 @@ impl<S: Alter + Drop> Tables<S> {
     pub fn same_tables<T: Alter + Drop>(&mut self, other: &mut Tables<T>) -> Result<bool, Fault>
         ensures stands { HasCleanDisk (state S.Store self.new.conn)
             → HasCleanDisk (state T.Store other.new.conn) → IsLaid (state S.Store self.old.conn)
-            → AreTables (state S.Store self.old.conn).now.trees
+            → AreTables (state S.Store self.old.conn).now
             → (W : Partner) (L : List register.Entry) → StandsWhileOpen (state T.Store other.old.conn) W L
             → IfOk result (λ same. IsTrue same → Stands W L (state S.Store self.old.conn).now) }
         ensures same { HasCleanDisk (state S.Store self.new.conn)

@@ -250,6 +250,7 @@ impl<S: Alter + Drop> Tables<S> {
         // For the prover alone, as in `ask`.
         let settled = self.conn.is_autocommit();
         prove!(settled);
+        let _live = self.conn.schema();
         let mut tx = self.conn.transaction();
         carry_all(&mut tx, &mut self.calls, entries, told)?;
         self.calls.allow()?;

@@ -61,7 +61,7 @@ fn lot_in(alloc: Global, row: &Shown, expiry: Option<&[u8]>) -> Result<Option<Ro
 }
 
 // The lots that rows show, with the dates that rows of item, lot and expiry show of them, where both stand by item and lot; None
-// where one of them shows none.
+// where one of them shows none, or a date is of no row.
 fn lots_in(alloc: Global, rows: &[Shown], dates: &[Shown]) -> Result<Option<Vec<Row>>, AllocError>
     ensures shows { (rs : List LotRow) → list_all is_fitting_row rs ≡ true → rises_by key_before row_key rs ≡ true
         → rows.now ≡ map lot_shown rs → dates.now ≡ map date_shown (dates_of rs) → IfOk result (λ shown. option_map (λ v. v.items) shown ≡ Some rs) }
@@ -76,6 +76,10 @@ fn lots_in(alloc: Global, rows: &[Shown], dates: &[Shown]) -> Result<Option<Vec<
             return Ok(None);
         };
         shown.push(lot)?;
+    }
+    // A date of no row: these aren't a book's tables.
+    if !left.is_empty() {
+        return Ok(None);
     }
     Ok(Some(shown))
 }

@@ -19,7 +19,7 @@ impl<S: Alter + Drop> Tables<S> {
         ensures opens { IfOk result (λ t. HasCleanDisk (state S.Store t.conn) → Opens (state S.Store t.conn)
             × IsLive (state S.Store t.conn)) }
         ensures tables { IfOk result (λ t. HasCleanDisk (state S.Store t.conn) → IsLaid (state S.Store t.conn)
-            → AreTables (state S.Store t.conn).now.trees) }
+            → AreTables (state S.Store t.conn).now) }
         ensures trees { IfOk result (λ t. HasCleanDisk (state S.Store t.conn)
             → (state S.Store t.conn).now.trees ≡ (S.Store.view store).trees) }
         ensures clean { IfOk result (λ t. doubt (S.Store.view store).is_clean
@@ -42,7 +42,7 @@ impl<S: Alter + Drop> Tables<S> {
         ensures opens { IfOk result (λ t. HasCleanDisk (state S.Store t.conn) → Opens (state S.Store t.conn)
             × IsLive (state S.Store t.conn)) }
         ensures tables { IfOk result (λ t. HasCleanDisk (state S.Store t.conn) → IsLaid (state S.Store t.conn)
-            → AreTables (state S.Store t.conn).now.trees) }
+            → AreTables (state S.Store t.conn).now) }
         ensures trees { IfOk result (λ t. HasCleanDisk (state S.Store t.conn)
             → (state S.Store t.conn).now.trees ≡ (state S.Store self.conn).committed.trees) }
         ensures clean { IfOk result (λ t. doubt (state S.Store self.conn).is_clean

@@ -15,7 +15,7 @@ ghost use Rattle.book_tables.specs.Showing.{order_shown, order_line_shown};
 
 use crate::connected::Tables;
 use crate::goods::lines_in;
-use crate::reading::{number_at, small_at, text_at};
+use crate::reading::{flag_at, small_at, text_at};
 use rules::Who;
 use sets_in::{Address, Goods};
 use sqlite::{Alter, Row};
@@ -54,7 +54,7 @@ fn order_in(alloc: Global, row: &Row) -> Result<Option<KnownOrder>, AllocError>
     let Some(number) = text_at(row, 0) else {
         return Ok(None);
     };
-    let Some(flag) = number_at(row, 1) else {
+    let Some(is_open) = flag_at(row, 1) else {
         return Ok(None);
     };
     let Some(address) = address_in(alloc, row)? else {
@@ -65,7 +65,7 @@ fn order_in(alloc: Global, row: &Row) -> Result<Option<KnownOrder>, AllocError>
         address,
         lines: Vec::new(alloc),
         reserved: Vec::new(alloc),
-        is_open: flag == 1,
+        is_open,
     }))
 }
 

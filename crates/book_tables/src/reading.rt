@@ -1,13 +1,15 @@
-ghost use Rattle.std.specs.Prelude.{◌≡◌, ◌∷◌, [], ℕ, List, Some, true, false, MatchOption, IfSome, IsNone, map, option_map, All, pos, length, ◌≤◌, ◌<◌, ◌^◌};
+ghost use Rattle.std.specs.Prelude.{◌≡◌, ◌∷◌, [], ℕ, Bool, List, Some, true, false, MatchOption, IfSome, IsNone, map, option_map, All, pos, length, ◌≤◌, ◌<◌, ◌^◌};
 ghost use Rattle.profile.specs.Header.{Who as Partner};
 ghost use Rattle.profile.specs.Bytes as bytes;
 ghost use Rattle.profile.specs.Moments.{Moment as Parts, is_moment};
 ghost use Rattle.profile.specs.Readings as written;
 ghost use Rattle.profile.specs.Rules.{rules_number};
+ghost use Rattle.profile.specs.Tables.{flag};
 ghost use Rattle.sqlite.specs.Order.{column};
 ghost use Rattle.sqlite.specs.declared.types.Value.TheVariants.{Int, Text, Blob};
 ghost use Rattle.sqlite_value.specs.Value.{owned};
 ghost use Rattle.rules.specs.Written.{Written};
+ghost use Rattle.book_tables.specs.Held.{value_of};
 ghost use Rattle.book_tables.specs.Recorded.{IsHouse, rules_shown};
 
 use crate::texts::moment_text;
@@ -90,6 +92,18 @@ pub(crate) fn small_at(row: &Row, at: usize) -> Option<u32>
     match number_at(row, at) {
         Some(n) => u32::try_from(n).ok(),
         None => None,
+    }
+}
+
+/// The flag in a column; None where it is neither 0 nor 1.
+pub(crate) fn flag_at(row: &Row, at: usize) -> Option<bool>
+    ensures { MatchOption result ((b : Bool) → column row.now at ≡ value_of (flag b)
+        → ⊥) (λ b. column row.now at ≡ value_of (flag b)) }
+{
+    match number_at(row, at) {
+        Some(0) => Some(false),
+        Some(1) => Some(true),
+        _ => None,
     }
 }
 

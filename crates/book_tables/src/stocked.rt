@@ -58,7 +58,7 @@ fn stock_row_in(
 }
 
 /// The stock rows that rows of item, lot and the four amounts show, with the dates that rows of item, lot and expiry show of them,
-/// where both stand by item and lot; None where one of them shows none.
+/// where both stand by item and lot; None where one of them shows none, or a date is of no row.
 pub(crate) fn stock_rows_in(
     alloc: Global,
     rows: &[Row],
@@ -78,6 +78,10 @@ pub(crate) fn stock_rows_in(
             return Ok(None);
         };
         shown.push(stock)?;
+    }
+    // A date of no row: these aren't a book's tables.
+    if !left.is_empty() {
+        return Ok(None);
     }
     Ok(Some(shown))
 }

@@ -1,7 +1,7 @@
 -- A book's register, and what a crash leaves of it.
-use Rattle.std.proofs.Common.{◌≡◌, inl, inr, ℕ, ◌+◌, List, [], ◌∷◌, ◌++◌, length, length-append, Bool, false, refl, sym, ap, subst, ◌∙◌}
+use Rattle.std.proofs.Common.{◌≡◌, inl, inr, ℕ, ◌+◌, List, [], ◌∷◌, ◌++◌, length, length-append, Bool, false, Result, Ok, Err, refl, sym, ap, subst, ◌∙◌}
 use Rattle.sqlite.specs.Tree.{Trees}
-use Rattle.std.specs.Prelude.{IsTrue}
+use Rattle.std.specs.Prelude.{IsTrue, OnErr}
 use Rattle.sqlite.specs.Effect.{Database}
 use Rattle.sqlite.specs.State.{State, HasCleanDisk, IsLive, Survives}
 use Rattle.profile.specs.Header.{Who, who_text}
@@ -36,6 +36,14 @@ leaves_one_of old new W n m refused more shut L next P clean quiet commits u = r
     | inr made ↦ inr (stands_once W left.0 M next left.2 (commits left.0 made))
   ];
 }
+
+-- where a call did nothing, a crash leaves what it left before
+pub leaves_as_before : (s : State) (W : Who) (n m refused more : ℕ) (shut : Bool) (L next : List Entry) → IsUsable (standing_in s W n refused false) L → LeavesEither (standing_in s W m more shut) L next
+leaves_as_before s W n m refused more shut L next u = record { stand = u.stand; each = λ M left. inl (u.only M left) }
+
+pub on_err_always : {T E : Type 0} (r : Result T E) (P : Type 0) → P → OnErr r P
+on_err_always (Ok t) P h = tt
+on_err_always (Err e) P h = h
 
 pub length_push : (L : List Entry) (e : Entry) (n : ℕ) → n ≡ length L → n + 1 ≡ length (L ++ e ∷ [])
 length_push L e n is = ap (λ (k : ℕ). k + 1) is ∙ sym (length-append L (e ∷ []))

@@ -240,7 +240,7 @@ impl<S: Alter + Drop> Book<S> {
     pub fn verify(&mut self) -> Result<u64, Fault>
         ensures stands { (standing_of S.Store self.new).doubt ≡ 0 → IsLaid (state S.Store self.old.tables.conn)
             → (IsTrue (state S.Store self.old.tables.conn).is_open
-            → AreTables (state S.Store self.old.tables.conn).now.trees)
+            → AreTables (state S.Store self.old.tables.conn).now)
             → IfOk result (λ n. IsTrue (state S.Store self.old.tables.conn).is_open
             × StandsForMany self.old.warehouse n (state S.Store self.old.tables.conn).now) }
         ensures whole { (standing_of S.Store self.new).doubt ≡ 0 → (L : List register.Entry)
@@ -260,7 +260,7 @@ impl<S: Alter + Drop> Book<S> {
         requires told { T.IsAlwaysCallable told }
         ensures stands { (standing_of S.Store self.new).doubt ≡ 0 → IsLaid (state S.Store self.old.tables.conn)
             → (IsTrue (state S.Store self.old.tables.conn).is_open
-            → AreTables (state S.Store self.old.tables.conn).now.trees)
+            → AreTables (state S.Store self.old.tables.conn).now)
             → IfOk result (λ n. IsTrue (state S.Store self.old.tables.conn).is_open
             × StandsForMany self.old.warehouse n (state S.Store self.old.tables.conn).now) }
         ensures whole { (standing_of S.Store self.new).doubt ≡ 0 → (L : List register.Entry)
@@ -291,7 +291,7 @@ impl<S: Alter + Drop> Book<S> {
         requires told { T.IsAlwaysCallable told }
         ensures stands { (standing_of S.Store self.new).doubt ≡ 0 → IsLaid (state S.Store self.old.tables.conn)
             → (IsTrue (state S.Store self.old.tables.conn).is_open
-            → AreTables (state S.Store self.old.tables.conn).now.trees)
+            → AreTables (state S.Store self.old.tables.conn).now)
             → IfOk result (λ n. IsTrue (state S.Store self.old.tables.conn).is_open
             × StandsForMany self.old.warehouse n (state S.Store self.old.tables.conn).now) }
         ensures whole { (standing_of S.Store self.new).doubt ≡ 0 → (L : List register.Entry)

@@ -54,7 +54,8 @@ fn after_of<'a, 'b>(asked: &'a [(Command<'b>, Moment)], count: usize) -> &'a [(C
 /// commands as its count says, after those of the day before it. It opens what the stop before it left, which carries a book of
 /// version 1 over, answers its commands, and stops at its end, or at a fault. Told is what each came to: its replies, or the fault
 /// at which the book wasn't opened. What is left at last stands for one register, to which the days led: no day lost an entry that
-/// was there before it or that was answered on it, and whatever was accepted is answered by the same text when it is given again.
+/// was there before it or that was answered on it, and an interchange or an act that was accepted is answered by the same text when it is given
+/// again.
 /// Also whether all days came: they end early where no memory is left to write one more down, and after one on which the store
 /// itself wasn't opened (40, 41).
 pub fn days<S: Alter + Reopen + Drop>(

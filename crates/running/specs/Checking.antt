@@ -34,7 +34,7 @@ pub record IsReadAnew (file opened : State) : Type 0 where
   pub read : Database
   pub sound : IsDatabase read
   pub trees : read.trees ≡ (let db = file.committed in db.trees)
-  pub tables : IsLayout read.schema → (IsOfFirst read → ⊥) → IsTrue opened.is_open → (opened.now ≡ read) × AreTables read.trees
+  pub tables : IsLayout read.schema → (IsOfFirst read → ⊥) → IsTrue opened.is_open → (opened.now ≡ read) × AreTables read
 
 -- what was committed to a database is read anew with the schema that it lists; where that is a book of version 2, it stands for a register
 -- of so many entries as are printed

@@ -26,7 +26,7 @@ fn watched<S: Alter + Drop, E: io::Write>(
 ) -> Result<u64, Fault>
     ensures stands { (standing_of S.Store book.new).doubt ≡ 0 → IsLaid (state S.Store book.old.tables.conn)
         → (IsTrue (state S.Store book.old.tables.conn).is_open
-        → AreTables (state S.Store book.old.tables.conn).now.trees)
+        → AreTables (state S.Store book.old.tables.conn).now)
         → IfOk result (λ n. IsTrue (state S.Store book.old.tables.conn).is_open
         × StandsForMany book.old.warehouse n (state S.Store book.old.tables.conn).now) }
     ensures whole { (standing_of S.Store book.new).doubt ≡ 0 → (L : List Entry)
@@ -56,7 +56,7 @@ fn check<S: Alter + Drop, W: io::Write, E: io::Write>(
         (W.contents out.old) (W.contents out.new) result }
     ensures stands { (standing_of S.Store book.new).doubt ≡ 0 → IsLaid (state S.Store book.old.tables.conn)
         → (IsTrue (state S.Store book.old.tables.conn).is_open
-        → AreTables (state S.Store book.old.tables.conn).now.trees)
+        → AreTables (state S.Store book.old.tables.conn).now)
         → IfOk result (λ _. IsTrue (state S.Store book.old.tables.conn).is_open
         × TellsWhole (state S.Store book.old.tables.conn).now (W.contents out.old) (W.contents out.new)) }
 {

@@ -24,4 +24,4 @@ returns-clause-wrote g c =
     let d = state g.S.Store c.give_first_rules.new.tx.conn.now in
     let new = state g.S.Store c.set_version.new.tx.conn.now in
     wrote_on _ _ _ _ _ _ _ c.set_version.result (wrote_both _ _ _ _ _ _ _ _ c.in_ok-make_fourth.ensures.wrote c.in_ok-give_first_rules.ensures.wrote) c.set_version.ensures.wrote
-    (λ both versioned. carried_over c.args.entries old b d new both.0.1.0 both.0.1.1 both.1 versioned)
+    (λ both versioned live. carried_over c.args.entries old b d new (live both.0.1.0).0 both.0.1.0 both.0.1.1 both.1 versioned)

@@ -24,7 +24,7 @@ returns g c = record {
             let same : IsTrue opened.is_open → opened.now ≡ anew.read = λ here. (anew.tables laid second here).0 in
             let is_laid : IsLaid opened = λ here. subst (λ (d : Database). IsLayout d.schema) (sym (same here)) laid in
             let whole = c.in_ok-status.ensures.stands clean' is_laid
-            (λ here. subst (λ (d : Database). AreTables d.trees) (sym (same here)) (anew.tables laid second here).1) in
+            (λ here. subst (λ (d : Database). AreTables d) (sym (same here)) (anew.tables laid second here).1) in
             subst (λ (d : Database). TellsWhole d (g.W.Write.contents c.args.out.now) (g.W.Write.contents c.check.new.out)) (same whole.0) whole.1;
       };
 }

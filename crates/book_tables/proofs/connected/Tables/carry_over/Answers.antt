@@ -1,5 +1,5 @@
 use Rattle.std.proofs.Common.{arith, ap, subst, sym, ◌≡◌, List, length, IsTrue}
-use Rattle.sqlite.specs.State.{HasCleanDisk, Survives}
+use Rattle.sqlite.specs.State.{HasCleanDisk, IsLive, Survives}
 use Rattle.sqlite.specs.Held.{Held, state}
 use Rattle.sqlite.specs.Tree.{Trees}
 use Rattle.sqlite.proofs.Callers.{survives_begin}
@@ -18,7 +18,7 @@ returns-in-Ok-clause-ok g c = rw (← c.self.view_is) (λ clean W L count stands
     let last = state g.S.Store c.carry_all.new.tx.conn.now in
     let in_it : IsTrue begun.in_transaction = ap (λ (h : Held g.row.S.Denot). h.in_transaction) c.transaction-tx.ensures.begun in
     grown_now last (state g.S.Store c.commit.new.self.0) W L (c.in-Ok.ensures.ok clean).1.now_is
-    (c.in_ok-carry_all.ensures.wrote.done early in_it W L count (subst (λ (h : Held g.row.S.Denot). StandsOpenAs One (state g.S.Store h) W L) (sym c.transaction-tx.ensures.begun) stands)))
+    (c.in_ok-carry_all.ensures.wrote.done early in_it (subst (λ (h : Held g.row.S.Denot). IsLive (state g.S.Store h)) (sym c.transaction-tx.ensures.begun) c.schema-live.ensures.live) W L count (subst (λ (h : Held g.row.S.Denot). StandsOpenAs One (state g.S.Store h) W L) (sym c.transaction-tx.ensures.begun) stands)))
 
 pub returns-in-Ok-clause-crash : goal.returns-in-Ok-clause-crash
 returns-in-Ok-clause-crash g c = rw (← c.self.view_is) (
@@ -30,7 +30,7 @@ returns-in-Ok-clause-crash g c = rw (← c.self.view_is) (
     survives_begin g.S.Store c.self.inside.conn new P (subst (λ (h : Held g.row.S.Denot). Survives (state g.S.Store h) new P) c.transaction-tx.ensures.begun
     (crash_of begun last new P c.carry_all.ensures.wrote.survives c.commit.ensures.survives (λ clean db at W L count stands.
     let early : HasCleanDisk (state g.S.Store c.carry_all.new.tx.conn.now) = omega (arith, c.commit.ensures.survives.clean) in
-    stands_in db last W L at (c.in_ok-carry_all.ensures.wrote.done early in_it W L count (subst (λ (h : Held g.row.S.Denot). StandsOpenAs One (state g.S.Store h) W L) (sym c.transaction-tx.ensures.begun) stands))))))
+    stands_in db last W L at (c.in_ok-carry_all.ensures.wrote.done early in_it (subst (λ (h : Held g.row.S.Denot). IsLive (state g.S.Store h)) (sym c.transaction-tx.ensures.begun) c.schema-live.ensures.live) W L count (subst (λ (h : Held g.row.S.Denot). StandsOpenAs One (state g.S.Store h) W L) (sym c.transaction-tx.ensures.begun) stands))))))
 
 pub returns-in-Err-clause-crash : goal.returns-in-Err-clause-crash
 returns-in-Err-clause-crash g c = rw (← c.self.view_is) (
@@ -42,4 +42,4 @@ returns-in-Err-clause-crash g c = rw (← c.self.view_is) (
     survives_begin g.S.Store c.self.inside.conn new P (subst (λ (h : Held g.row.S.Denot). Survives (state g.S.Store h) new P) c.transaction-tx.ensures.begun
     (crash_of begun last new P c.carry_all.ensures.wrote.survives c.commit.ensures.survives (λ clean db at W L count stands.
     let early : HasCleanDisk (state g.S.Store c.carry_all.new.tx.conn.now) = omega (arith, c.commit.ensures.survives.clean) in
-    stands_in db last W L at (c.in_ok-carry_all.ensures.wrote.done early in_it W L count (subst (λ (h : Held g.row.S.Denot). StandsOpenAs One (state g.S.Store h) W L) (sym c.transaction-tx.ensures.begun) stands))))))
+    stands_in db last W L at (c.in_ok-carry_all.ensures.wrote.done early in_it (subst (λ (h : Held g.row.S.Denot). IsLive (state g.S.Store h)) (sym c.transaction-tx.ensures.begun) c.schema-live.ensures.live) W L count (subst (λ (h : Held g.row.S.Denot). StandsOpenAs One (state g.S.Store h) W L) (sym c.transaction-tx.ensures.begun) stands))))))

@@ -91,7 +91,7 @@ returns-then-branch-clause-stands g c = rw (← c.self.view_is) (λ clean laid a
     let stood : StandsWhileOpen other W copy.register = subst (λ V. StandsWhileOpen other V copy.register) copy.warehouse kept.stands in
     let opened = its.was_open clean clean' in
     let same = before.now opened in
-    let now = its.stands clean clean' laid' (subst (λ (d : Database). AreTables d.trees) (sym same) (are (before.was_open opened))) W copy.register stood c.if-branch.true in
+    let now = its.stands clean clean' laid' (subst (λ (d : Database). AreTables d) (sym same) (are (before.was_open opened))) W copy.register stood c.if-branch.true in
     (before.was_open opened, record { register = copy.register; long = sym kept.count; stands = subst (Stands W copy.register) same now }))
 
 pub returns-clause-fault : goal.returns-clause-fault

@@ -1,8 +1,10 @@
-use Rattle.std.proofs.Common.{◌≡◌, ◌+◌, [], ◌∷◌, ◌++◌, ap, ◌∙◌, refl}
+use Rattle.std.proofs.Common.{◌≡◌, ◌+◌, [], ◌∷◌, ◌++◌, ap, subst, sym, true, false, ◌∙◌, refl}
 use Rattle.profile.specs.Header.{who_text}
-use Rattle.sqlite.specs.Held.{state}
+use Rattle.sqlite.specs.Held.{Held, state}
+use Rattle.store.specs.Standing.{LeavesEither}
 use Rattle.book_tables.specs.Exits.{Extends}
-use Rattle.books.proofs.KeepingLemmas.{is_appended, usable_now, leaves_one_of, length_push}
+use Rattle.books.specs.Keeping.{standing_in}
+use Rattle.books.proofs.KeepingLemmas.{is_appended, usable_now, leaves_one_of, leaves_as_before, on_err_always, length_push}
 use Rattle.books.proofs.keeping.BookKeeper.commit.Goals as goal
 
 pub returns-in-Ok-clause-ok : goal.returns-in-Ok-clause-ok
@@ -20,3 +22,15 @@ returns-clause-left g c = rw (← c.self.view_is, c.if-self.false) (λ clean L e
     let it = is_appended (state g.S.Store b.tables.conn) b.warehouse b.entries b.tables.refused L e (b.entries + 1) c.deref.result.now c.args.entry.now c.args.changes.now c.args.outgoing.now u refl whose next in
     leaves_one_of (state g.S.Store b.tables.conn) (state g.S.Store c.append.new.self.conn) b.warehouse b.entries b.entries b.tables.refused c.append.new.self.refused _ L (L ++ e ∷ [])
     (Extends (state g.S.Store b.tables.conn) (b.entries + 1) c.deref.result.now c.args.entry.now c.args.changes.now c.args.outgoing.now) clean c.append.ensures.crash (λ db p. p b.warehouse L e it) u)
+
+pub returns-then-self-ge-GREATEST-clause-left : goal.returns-then-self-ge-GREATEST-clause-left
+returns-then-self-ge-GREATEST-clause-left g c = rw (← c.self.view_is, c.if-self.false) (λ clean L e u next.
+    let b = c.self.inside in
+    subst (λ (h : Held g.row.S.Denot). LeavesEither (standing_in (state g.S.Store h) b.warehouse b.entries c.use_up.new.self.refused true) L (L ++ e ∷ [])) (sym c.use_up.ensures.conn)
+    (leaves_as_before (state g.S.Store b.tables.conn) b.warehouse b.entries b.entries b.tables.refused c.use_up.new.self.refused true L (L ++ e ∷ []) u))
+
+pub returns-in_err-who-clause-left : goal.returns-in_err-who-clause-left
+returns-in_err-who-clause-left g c = rw (← c.self.view_is, c.if-self.false) (λ clean L e u next.
+    let b = c.self.inside in
+    on_err_always c.from_residual.result (LeavesEither (standing_in (state g.S.Store b.tables.conn) b.warehouse b.entries b.tables.refused false) L (L ++ e ∷ []))
+    (leaves_as_before (state g.S.Store b.tables.conn) b.warehouse b.entries b.entries b.tables.refused b.tables.refused false L (L ++ e ∷ []) u))
