@@ -21,7 +21,7 @@ const TOO_MANY_LINES: u8 = 33;
 pub struct BadLine {
     /// The line, from 1.
     pub line: u64,
-    /// What is wrong there, or what should stand there.
+    /// What is wrong there, or what should stand there: after the item and the lot, where both can be read.
     pub why: String,
 }
 
@@ -67,20 +67,21 @@ fn repeated_in(before: &[ByteRecord], row: &ByteRecord) -> Option<&'static str> 
         .iter()
         .any(|other| has_pair(other, field(row, 0), field(row, 1)))
     {
-        Some(" stands in a line before it")
+        Some("a line before it has this pair")
     } else {
         None
     }
 }
 
-// What is wrong with a record: of one that stands twice after its pair, which can be read.
-fn told_of(alloc: Global, row: &ByteRecord, number: u8, why: &str) -> Result<String, AllocError> {
-    if number != REPEATED_LINE {
+// What is wrong with a record, after its pair where that can be read.
+fn told_of(alloc: Global, row: &ByteRecord, why: &str) -> Result<String, AllocError> {
+    let (item, lot) = (field(row, 0), field(row, 1));
+    if Ident::new(item, MOST_ITEM).is_none() || Ident::new(lot, MOST_LOT).is_none() {
         return String::from_str(alloc, why);
     }
-    let item = str::from_utf8(field(row, 0)).unwrap_or("");
-    let lot = str::from_utf8(field(row, 1)).unwrap_or("");
-    [item, " ", lot, why].concat(alloc)
+    let item = str::from_utf8(item).unwrap_or("");
+    let lot = str::from_utf8(lot).unwrap_or("");
+    [item, " ", lot, ": ", why].concat(alloc)
 }
 
 // The line of a record. The reader tells where it began to read it, which is before the empty lines that it passes over.
@@ -131,7 +132,7 @@ pub fn first_bad(
         if let Some(why) = bad_in(kind, row, &rows[..at], number) {
             return Ok(Some(BadLine {
                 line: line_of(text, row),
-                why: told_of(alloc, row, number, why)?,
+                why: told_of(alloc, row, why)?,
             }));
         }
     }

@@ -57,7 +57,7 @@ refused 32 BadText
 ACME: a name is a qualifier of two characters, a hyphen and an id of 2 to 15, as ZZ-ACME, of A to Z, 0 to 9, - and .
 refused at line 5
 refused 31 RepeatedLine
-twice.csv line 2: BOLT L1 stands in a line before it
+twice.csv line 2: BOLT L1: a line before it has this pair
 refused at line 7
 refused 26 NotReserved
 more.csv line 2: BOLT L2: 2 picked, and 1 reserved

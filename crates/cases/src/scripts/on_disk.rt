@@ -48,6 +48,9 @@ count ZZ-ACME T1 SHP1 count.csv --at 2025-03-04T09:15
 /// Statements that make a row of the book one that can't be read, each with a line that reads it.
 pub const UNREADABLE: &str = "\
 UPDATE advice_line SET quantity = 9000000000|count ZZ-ACME T-2 SHP1 count.csv
+UPDATE advice SET is_open = 2|count ZZ-ACME T-2 SHP1 count.csv
+INSERT INTO lot_expiry (who, item, lot, expiry) VALUES ('ZZ-ACME', 'ANCHOR', 'L9', '20260630')|stock ZZ-ACME
+UPDATE entry SET who = 'x' WHERE n = 0|depositors
 UPDATE outgoing SET state = 'lost' WHERE n = 2|outbox ZZ-ACME
 UPDATE outgoing SET state = 'open', kind = '999' WHERE n = 2|outbox ZZ-ACME
 ";
@@ -85,9 +88,10 @@ text.book|init WHSE1 --explain|1|refused 32 BadText|WHSE1: a name is a qualifier
 text.book|recount ZZ-ACME R#1 no.csv --explain|1|refused 32 BadText|R#1: a ticket has 1 to 20 characters of A to Z, 0 to 9, - and .
 text.book|orders ZZ-ACME ORD#1 --explain|1|refused 32 BadText|ORD#1: a number has 1 to 22 characters of A to Z, 0 to 9, - and .
 text.book|count ZZ-ACME C-1 SHP1 item.csv --explain|1|refused 32 BadText|item.csv line 2: an item has 1 to 20 characters of A to Z, 0 to 9, - and .
-text.book|count ZZ-ACME C-1 SHP1 much.csv --explain|1|refused 30 TooMuch|much.csv line 3: a quantity is at most 999,999
-text.book|pick ZZ-ACME P-1 ORD1 twice.csv --explain|1|refused 31 RepeatedLine|twice.csv line 2: BOLT L1 stands in a line before it
-text.book|pick ZZ-ACME P-1 ORD1 none.csv --explain|1|refused 32 BadText|none.csv line 1: a picked quantity is 1 at least
+text.book|count ZZ-ACME C-1 SHP1 much.csv --explain|1|refused 30 TooMuch|much.csv line 3: BOLT L2: a quantity is at most 999,999
+text.book|recount ZZ-ACME R-1 digits.csv --explain|1|refused 32 BadText|digits.csv line 1: BOLT L1: a quantity is digits alone
+text.book|pick ZZ-ACME P-1 ORD1 twice.csv --explain|1|refused 31 RepeatedLine|twice.csv line 2: BOLT L1: a line before it has this pair
+text.book|pick ZZ-ACME P-1 ORD1 none.csv --explain|1|refused 32 BadText|none.csv line 1: BOLT L1: a picked quantity is 1 at least
 nowhere.book|serve --listen 0.0.0.0:8080 --count 1 --anyone|3|fault 44 Device
 text.book|roster text.book --explain|1|refused 32 BadText|text.book: a list is TOML with the key `depositors`, an array of names as \"ZZ-ACME\"
 ";

@@ -103,11 +103,12 @@ fn a_row_that_cannot_be_read_is_a_fault(rt: HostRuntime) -> Result<(), Fail> {
 }
 
 // Sheets that are refused, each with its name before it.
-const BAD_SHEETS: [(&str, &str); 4] = [
+const BAD_SHEETS: [(&str, &str); 5] = [
     ("item.csv", "BOLT,L1,1\nbolt,L1,2\n"),
     ("much.csv", "BOLT,L1,1\n\nBOLT,L2,1000000\n"),
     ("twice.csv", "BOLT,L1,1\nBOLT,L1,2\n"),
     ("none.csv", "BOLT,L1,00\n"),
+    ("digits.csv", "BOLT,L1,5x\n"),
 ];
 
 // Runs each line of such a text.
