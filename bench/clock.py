@@ -135,13 +135,15 @@ def server(house):
     same("a server at a bad moment", (*ended.communicate(timeout=20), ended.returncode), ("", TOLD, 2))
     first, later = (2025, 3, 4, 9, 15), (2025, 3, 4, 10, 0)
     house.set(first)
-    serving = house.serve(port, 3)
+    serving = house.serve(port, 4)
     same("the first", stamped(post(port, 3)), stamp(first))
     house.set(BAD[1])
     same("at a bad moment", stamped(post(port, 4)), stamp(first))
     house.set(later)
     same("later", stamped(post(port, 5)), stamp(later))
-    same("the server", (*serving.communicate(timeout=20), serving.returncode), ("200\n200\n200\n", "", 0))
+    house.set(BAD[0])
+    same("at a bad moment again", stamped(post(port, 6)), stamp(later))
+    same("the server", (*serving.communicate(timeout=20), serving.returncode), ("200\n" * 4, "", 0))
 
 
 def main(words):
