@@ -75,6 +75,12 @@ def watch(run):
     return sums
 
 
+def keeps():
+    """Whether this machine's `rt ci` takes over what earlier runs proved; if not, every run is from nothing, and it has no flag for that."""
+    with open("/opt/rattle/bin/rt", encoding="utf-8") as file:
+        return "--anew" in file.read()
+
+
 def main():
     words = sys.argv[1:]
     cpus = words[words.index("--cpus") + 1] if "--cpus" in words else "0,1"
@@ -85,7 +91,7 @@ def main():
         log = f"{clone}.log"
         start = time.time()
         with open(log, "w", encoding="utf-8") as out:
-            given = ["taskset", "-c", cpus, "rt", "ci", *(["--anew"] if "--anew" in words else [])]
+            given = ["taskset", "-c", cpus, "rt", "ci", *(["--anew"] if "--anew" in words and keeps() else [])]
             run = subprocess.Popen(given, cwd=clone, stdout=out, stderr=subprocess.STDOUT)
             sums = watch(run)
         wall, used = time.time() - start, resource.getrusage(resource.RUSAGE_CHILDREN)

@@ -4,7 +4,7 @@
 Usage: bench/seconds.py CRATE [--cpus 3] [--most 40] [--keep FOLDER] [FLAG ..]
        (default: processor 3, the forty dearest; further flags go to `rattle check`, as `--only CRATE::module` or `--allow-holes`)
 
-The crate is checked over the libraries that earlier runs of `rt ci` on this machine kept (the newest of each), by one job, as the gate does it. Printed
+The crate is checked over the libraries that earlier runs of `rt ci` on this machine kept (the newest of each), or that bench/libraries.py made, by one job, as the gate does it. Printed
 are rattle's last lines, and the seconds of each function: those between what was checked before it and itself, with the lemmas that it is
 the first to need. With `--keep` what is proved stays in FOLDER and the next run there does only what changed. A first function pays some
 15 seconds for the front end. Other work on the machine makes all of it dearer.
@@ -37,10 +37,14 @@ def crates():
 
 
 def lay(name, folder):
-    """Lays the newest library of the crate that a run kept into the folder, and returns its path."""
+    """Lays the newest library of the crate that a run kept into the folder, or that bench/libraries.py made, and returns its path."""
+    made = f"{TOP}/crates/{name}/out/rlib/{name}.rlib"
+    if os.path.isdir(made) and not os.path.isdir(KEPT):
+        os.symlink(made, f"{folder}/{name}.rlib")
+        return f"{folder}/{name}.rlib"
     kept = [it for it in glob.glob(f"{KEPT}/proof-{name}-*") if re.fullmatch(rf"proof-{name}-[0-9a-f]{{64}}", os.path.basename(it))]
     if not kept:
-        sys.exit(f"no run of rt ci on this machine has kept {name}: run `rt ci {name}` first")
+        sys.exit(f"no run of rt ci on this machine has kept {name}: run `rt ci {name}` or bench/libraries.py first")
     at = max(kept, key=lambda it: os.stat(f"{it}/made.json").st_mtime)
     with open(f"{at}/made.json", encoding="utf-8") as file:
         for number, (path, _) in enumerate(json.load(file)["files"]):

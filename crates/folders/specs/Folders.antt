@@ -1,5 +1,7 @@
 -- What taking the files of a folder comes to.
 use Rattle.std.specs.Prelude.{◌≡◌, ◌⊎◌, ◌∷◌, ◌++◌, [], true, false, ℕ, List, map}
+use Rattle.std.specs.declared.io.ErrorKind.{ErrorKind}
+use Rattle.std.specs.declared.io.ErrorKind.TheVariants as kinds
 use Rattle.profile.specs.declared.rules.Rules.TheVariants.{Two}
 use Rattle.profile.specs.Moments.{Moment}
 use Rattle.profile.specs.Register.{Entry, Command, Interchange}
@@ -32,6 +34,11 @@ became_of (outcomes.Refused r) = WasRefused (refusal_of r)
 -- interchanges of these texts, handed in at the moment
 abbrev pub handed : Moment → List (List ℕ) → List (Command × Moment)
 handed t texts = map (λ (text : List ℕ). (Interchange text, t)) texts
+
+-- the fault that an error of a file or a folder is: want of memory, and else one of a device
+abbrev pub fault_of_kind : ErrorKind → Fault
+fault_of_kind kinds.OutOfMemory = OutOfMemory
+fault_of_kind kind = Device
 
 -- a device that doesn't serve, or want of memory
 abbrev pub IsDeviceFault : Fault → Type 0

@@ -1,5 +1,6 @@
 ghost use Rattle.std.specs.Prelude.{◌≡◌, ◌<◌, ◌∷◌, ◌++◌, [], ℕ, List, false, map, IfOk, IfErr, IfNone, OnOk, IsSorted, codes, string_bytes, vec_len, vec_capacity};
-ghost use Rattle.folders.specs.Folders.{became, became_of, IsDeviceFault, AreTaken, IsUntaken, IsStopped};
+ghost use Rattle.std.specs.IoError.{error_kind};
+ghost use Rattle.folders.specs.Folders.{became, became_of, fault_of_kind, IsDeviceFault, AreTaken, IsUntaken, IsStopped};
 ghost use Rattle.folders.specs.Stops.{IsUnread, IsFolderStop};
 ghost use Rattle.store.specs.Runs.{told};
 ghost use Rattle.store.specs.Standing.{GoesOn, IsUnchanged};
@@ -55,12 +56,12 @@ pub struct FolderStop {
 
 // The fault that an error of a file or a folder is.
 fn fault_of(error: &io::Error) -> Fault
-    ensures { IsDeviceFault result }
+    ensures told { result ≡ fault_of_kind (error_kind error.now) }
+    ensures named { IsDeviceFault result }
 {
-    if error.kind() == io::ErrorKind::OutOfMemory {
-        Fault::OutOfMemory
-    } else {
-        Fault::Device
+    match error.kind() {
+        io::ErrorKind::OutOfMemory => Fault::OutOfMemory,
+        _ => Fault::Device,
     }
 }
 

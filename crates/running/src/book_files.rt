@@ -24,7 +24,8 @@ use store::{Fault, Warehouse};
 /// The fault of a file that can't be opened or closed as a database. One that holds anything else, or is damaged, is not this
 /// book; one that is in use, or can't be read or written, is a device that failed.
 pub fn fault(error: &Error) -> Fault
-    ensures { result ≡ meant.fault_of error.now }
+    ensures told { result ≡ meant.fault_of error.now }
+    ensures named { (result ≡ Fault.NotThisBook) ⊎ ((result ≡ Fault.OutOfMemory) ⊎ (result ≡ Fault.Device)) }
 {
     match error {
         Error::SqliteFailure(ErrorCode::OutOfMemory) => Fault::OutOfMemory,
@@ -118,6 +119,9 @@ pub fn open_anew<S: Alter + Drop, T: FnMut(u64, u64)>(
     ensures opened { IfOk result (λ b. b.shut ≡ false) }
     ensures anew { IfOk result (λ b. HasCleanDisk (state S.Store b.tables.conn)
         → IsReadAnew (state S.Store database) (state S.Store b.tables.conn)) }
+    ensures named { IfErr result (λ stop. (stop ≡ CommandError.Fault Fault.NotThisBook)
+        ⊎ ((stop ≡ CommandError.Fault Fault.OutOfMemory)
+        ⊎ ((stop ≡ CommandError.Fault Fault.Store) ⊎ (stop ≡ CommandError.Fault Fault.Device)))) }
 {
     let tables = match Tables::new(database).reopened(alloc) {
         Ok(tables) => tables,

@@ -11,6 +11,7 @@ use Rattle.profile.specs.Header.{is_delimiter, are_delimiters}
 use Rattle.profile.specs.Moments.{Moment, date6, date8, time4}
 use Rattle.profile.specs.Texts.{own_delims, difference}
 use Rattle.profile.proofs.TextLaws.{both_parts, differs, all_in, all_both, between}
+use Rattle.profile.proofs.WrittenLaws.{data_inside}
 use Rattle.sets_out.specs.Inside.{IsInside, IsOwn}
 
 -- identifier bytes and spaces, which are no delimiters
@@ -47,15 +48,7 @@ inside_identifier d g text h = inside_plain d g text (all_in is_identifier_byte 
 
 -- data
 pub inside_data : (d : Delims) (text : List ℕ) → list_all (is_data d) text ≡ true → IsInside d text
-inside_data d text h = all_in (is_data d) (is_inside d) byte text h
-  where
-    by_tests : (s c t : Bool) → not (s || c || t) ≡ true → not (s || t) ≡ true
-    by_tests true c t k = absurd (cc)
-    by_tests false true t k = absurd (cc)
-    by_tests false false t k = k
-
-    byte : (b : ℕ) → is_data d b ≡ true → is_inside d b ≡ true
-    byte b k = by_tests (b == d.separator) (b == d.component) (b == d.terminator) (both_parts (is_between 32 126 b) _ k).1
+inside_data d text h = data_inside d text h
 
 -- Digits.
 

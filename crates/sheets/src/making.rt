@@ -129,14 +129,6 @@ impl Sheet {
         self.lines.is_empty()
     }
 
-    /// Its lines as they were read, by item and then lot.
-    pub fn raw_lines(&self) -> &[Line]
-        ensures lines { map clerk.line_of result.now ≡ self.now }
-        ensures sheet { clerk.is_sheet Two clerk.RecountSheet self.now ≡ true }
-    {
-        &self.lines
-    }
-
     /// Its lines, by item and then lot, with quantities as numbers. The one error is want of memory.
     pub fn lines(&self, alloc: Global) -> Result<Vec<sets_in::Goods>, AllocError>
         ensures lines { IfOk result (λ v. v.items ≡ self.now) }

@@ -47,6 +47,8 @@ count ZZ-ACME T1 SHP1 count.csv --at 2025-03-04T09:15
 
 /// Statements that make a row of the book one that can't be read, each with a line that reads it.
 pub const UNREADABLE: &str = "\
+INSERT INTO orders (who, ord, is_open, to_name, to_one, to_two, to_place) VALUES ('ZZ-ACME', 'ORD9', 1, NULL, '', '', ''); INSERT INTO order_line (who, ord, line, item, lot, quantity) VALUES ('ZZ-ACME', 'ORD9', 1, 'BOLT', NULL, 9000000000)|orders ZZ-ACME ORD9
+UPDATE order_line SET quantity = 5; UPDATE stock SET reserved = 5; INSERT INTO reservation (who, ord, item, lot, quantity) VALUES ('ZZ-ACME', 'ORD9', 'BOLT', 'L1', 9000000000)|orders ZZ-ACME ORD9
 UPDATE advice_line SET quantity = 9000000000|count ZZ-ACME T-2 SHP1 count.csv
 UPDATE advice SET is_open = 2|count ZZ-ACME T-2 SHP1 count.csv
 INSERT INTO lot_expiry (who, item, lot, expiry) VALUES ('ZZ-ACME', 'ANCHOR', 'L9', '20260630')|stock ZZ-ACME

@@ -141,6 +141,16 @@ fn run_lines(rt: &HostRuntime, book: &str, text: &str) -> Result<Ran, Fail> {
     Ran::new(rt, status, &out, &err)
 }
 
+// Runs lines of the same kind, each of which is to be done.
+fn do_lines(rt: &HostRuntime, book: &str, text: &str) -> Result<(), Fail> {
+    let ran = run_lines(rt, book, text)?;
+    if ran.status == 0 && ran.err.is_empty() {
+        Ok(())
+    } else {
+        Err(Fail::new(format_args!("{text}: status {}, told {}", ran.status, ran.err)))
+    }
+}
+
 // Removes a file, if it is there.
 fn remove(rt: &HostRuntime, file: &str) -> Result<(), Fail> {
     if fs::exists(rt, file)? {
@@ -164,7 +174,7 @@ fn play_batch(rt: &HostRuntime, name: &str, script: &str, wanted: &Wanted<'_>) -
         return Ok(());
     }
     remove_book(rt, "case.book", "case.book-wal")?;
-    run_lines(rt, "case.book", first)?;
+    do_lines(rt, "case.book", first)?;
     fs::write(rt, "case.batch", rest)?;
     run(rt, &["batch", "case.batch", "--book", "case.book"])?.compare(name, wanted)
 }
@@ -191,7 +201,7 @@ fn play_explained(
     asked::play_asked(rt, name, script, explains, wanted)?;
     let (first, rest) = script.split_once('\n').ok_or("a line")?;
     remove_book(rt, "case.book", "case.book-wal")?;
-    run_lines(rt, "case.book", first)?;
+    do_lines(rt, "case.book", first)?;
     fs::write(rt, "case.batch", format!(in rt.alloc(); "\n{rest}")?)?;
     run(
         rt,

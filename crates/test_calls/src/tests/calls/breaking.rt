@@ -18,7 +18,7 @@ const ACCEPTANCE: &[u8] =
 
 // A book in memory whose store refuses the commit after so many, before or after the entry got in.
 #[derive(Drop)]
-struct BreakingBook {
+pub(super) struct BreakingBook {
     book: ReplayBook,
     commits_left: u32,
     gets_in: bool,
@@ -27,7 +27,7 @@ struct BreakingBook {
 }
 
 impl BreakingBook {
-    fn new(book: ReplayBook, commits_left: u32, gets_in: bool) -> BreakingBook {
+    pub(super) fn new(book: ReplayBook, commits_left: u32, gets_in: bool) -> BreakingBook {
         BreakingBook {
             book,
             commits_left,

@@ -2,6 +2,7 @@
 //! fails.
 mod texts;
 
+use super::breaking::BreakingBook;
 use super::worked::{acme, counts, empty, enrols, morning, ninety};
 use cases::clerks::{deeds, looks, request_of, response_of, strays};
 use cases::sections::section_of;
@@ -233,6 +234,23 @@ fn requests_are_answered(rt: HostRuntime) -> Result<(), Fail> {
     all_answered(alloc, &mut book, moment, BEFORE_THE_COUNT)?;
     assert!(rt; counts(alloc, &mut book, acme, &sheet, moment));
     all_answered(alloc, &mut book, moment, AFTER_THE_COUNT)
+}
+
+const AFTER_THE_FAULT: &[(&[u8], &[u8])] = &[
+    (REQUEST, STORE_FAULT),
+    (REQUEST, REOPEN_FAULT),
+    (b"GET /stock/ZZ-ACME HTTP/1.1\r\n\r\n", REOPEN_FAULT),
+    (b"GET /outbox/ZZ-ACME HTTP/1.1\r\n\r\n", REOPEN_FAULT),
+    (b"GET /outbox/ZZ-ACME/1 HTTP/1.1\r\n\r\n", REOPEN_FAULT),
+    (b"GET /x12 HTTP/1.1\r\n\r\n", NO_GET),
+];
+
+// A commit that fails in the store is answered with 41, and what asks the book after it with 42.
+#[test]
+fn a_fault_is_answered_by_its_number(rt: HostRuntime) -> Result<(), Fail> {
+    let moment = morning()?;
+    let mut book = BreakingBook::new(enrolled(rt.alloc(), moment)?, 0, false);
+    all_answered(rt.alloc(), &mut book, moment, AFTER_THE_FAULT)
 }
 
 // Whether a server that takes clerks' requests too writes this in response to one.

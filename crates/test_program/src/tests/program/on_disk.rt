@@ -81,7 +81,7 @@ fn stock_is_read_from_its_rows(rt: HostRuntime) -> Result<(), Fail> {
     fs::write(&rt, "advice.x12", ADVICE)?;
     fs::write(&rt, "count.csv", "BOLT,L1,90\n")?;
     remove_book(&rt, "case.book", "case.book-wal")?;
-    run_lines(&rt, "case.book", COUNTED)?;
+    do_lines(&rt, "case.book", COUNTED)?;
     over_database(&rt, "case.book", "UPDATE stock SET on_hand = 89", "")?;
     run_lines(&rt, "case.book", "stock ZZ-ACME --csv")?.compare("89", &LESS)?;
     run_lines(&rt, "case.book", "verify")?.compare("verify", &NOT_THIS)
@@ -93,7 +93,7 @@ fn a_row_that_cannot_be_read_is_a_fault(rt: HostRuntime) -> Result<(), Fail> {
     fs::write(&rt, "advice.x12", ADVICE)?;
     fs::write(&rt, "count.csv", "BOLT,L1,90\n")?;
     remove_book(&rt, "case.book", "case.book-wal")?;
-    run_lines(&rt, "case.book", COUNTED)?;
+    do_lines(&rt, "case.book", COUNTED)?;
     for row in UNREADABLE.lines() {
         let (sql, line) = row.split_once('|').ok_or("a line")?;
         over_database(&rt, "case.book", sql, "")?;

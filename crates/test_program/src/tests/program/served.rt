@@ -191,7 +191,7 @@ fn an_address_in_use_is_a_fault(rt: HostRuntime) -> Result<(), Fail> {
     let at = listener.local_addr()?;
     let line = format!(in rt.alloc(); "serve --listen {at} --count 1")?;
     remove_book(&rt, "served.book", "served.book-wal")?;
-    run_lines(&rt, "served.book", "init ZZ-WHSE1")?;
+    do_lines(&rt, "served.book", "init ZZ-WHSE1")?;
     run_lines(&rt, "served.book", &line)?.compare("in use", &IN_USE)?;
     Ok(())
 }

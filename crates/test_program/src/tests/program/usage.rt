@@ -76,7 +76,7 @@ fn a_batch_says_where_it_stopped(rt: HostRuntime) -> Result<(), Fail> {
     fs::write(&rt, "stop.x12", ADVICE)?;
     fs::write(&rt, "stop.batch", STOPS.split_once('\n').ok_or("a line")?.1)?;
     remove_book(&rt, "case.book", "case.book-wal")?;
-    run_lines(&rt, "case.book", "init ZZ-WHSE1")?;
+    do_lines(&rt, "case.book", "init ZZ-WHSE1")?;
     let told = "refused 35 AlreadyEnrolled\nstopped at line 4\n";
     let words = ["batch", "stop.batch", "--book", "case.book"];
     run(&rt, &words)?.is_unread("ship", ANSWER, told)?;

@@ -36,6 +36,13 @@ pub const ACKNOWLEDGMENT: &[u8] =
 
 pub const EMPTY: &[u8] = b"HTTP/1.1 204 No Content\r\nConnection: close\r\n\r\n";
 
+// What is answered where the store failed, and by a book that has to be opened again.
+pub const STORE_FAULT: &[u8] =
+    b"HTTP/1.1 503 Service Unavailable\r\nContent-Type: text/plain\r\nContent-Length: 9\r\nConnection: close\r\n\r\n41 Store\n";
+
+pub const REOPEN_FAULT: &[u8] =
+    b"HTTP/1.1 503 Service Unavailable\r\nContent-Type: text/plain\r\nContent-Length: 10\r\nConnection: close\r\n\r\n42 Reopen\n";
+
 // What there is after a count of 90.
 pub const STOCK: &[u8] =
     b"HTTP/1.1 200 OK\r\nContent-Type: text/plain\r\nContent-Length: 214\r\nConnection: close\r\n\r\nitem                 lot          expiry          expected         on hand        reserved         shipped\nBOLT                 L1                                  0              90               0               0\n";
