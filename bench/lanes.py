@@ -1,15 +1,15 @@
 #!/usr/bin/env python3
 """Reckons how long the gate takes from the seconds of each crate, and what it waits for. Not part of the gate.
 
-Usage: bench/lanes.py [--processors N] [--memory GIGABYTES] [--tasks] [NAME=PROOF,TESTS,BODIES,NEED ..]
+Usage: bench/lanes.py [--processors N] [--memory GIGABYTES] [--tasks] [--in-turn] [NAME=PROOF,TESTS,BODIES,NEED ..]
        (default: 2 processors and 18.7 GB, which is 0.85 of what a machine of 24 GB has free)
 
 `rt ci` runs a crate's proof once those below it are proved, and its tests beside that: first the tasks with the longest chain of others after
 them, one a processor, and each only beside others whose memory it takes to be free. What proofs leave free goes to wrong bodies: first the
 check that a crate's begin with, a whole proof again, and after the crate's own proof and tests each wrong body by itself. This plays the same
 order over the table of docs/PLAN.md ("The gate's time": processor seconds of one job) and the sources' sizes. NAME=.. tries other
-numbers of a crate, the last in GB; one that is left out stays. `--tasks` lists when each task begins and ends. Where two jobs share a
-proof it guesses.
+numbers of a crate, the last in GB; one that is left out stays. `--tasks` lists when each task begins and ends. `--in-turn` is for an `rt` that tries
+a crate's wrong bodies in turn, as one task after the crate's proof. Where two jobs share a proof it guesses.
 """
 import collections
 import os
@@ -92,13 +92,16 @@ def read(changes):
     return found
 
 
-def play(crates, lanes, memory):
+def play(crates, lanes, memory, in_turn):
     """The tasks as they run: when each begins and ends, and with how many jobs."""
     tasks = {}
     for name, crate in crates.items():
         waits = [(below, "proof") for below in crate.below]
         tasks[name, "proof"] = waits, crate.lines, crate.need, crate.proof
         tasks[name, "tests"] = waits, crate.lines if crate.tests else 0, crate.need, crate.tests
+        if in_turn:
+            tasks[name, "bodies"] = [(name, "proof"), (name, "tests")], crate.lines if crate.bodies else 0, crate.need, crate.edits
+            continue
         begun = min(crate.proof, crate.edits) if crate.bodies else 0
         if crate.bodies:
             tasks[name, "seed"] = waits, 0, crate.need, begun
@@ -111,7 +114,7 @@ def play(crates, lanes, memory):
         for it in tasks[key][0]:
             after[it] = max(after[it], after[key])
     # wrong bodies fill what the proofs leave free
-    fills = lambda it: it[1] not in ("proof", "tests")
+    fills = lambda it: not in_turn and it[1] not in ("proof", "tests")
     left, running, done, now, ran = sorted(tasks, key=lambda it: (fills(it), -after[it])), {}, set(), 0.0, []
     while left or running:
         ready = [it for it in left if all(below in done for below in tasks[it][0])]
@@ -125,7 +128,7 @@ def play(crates, lanes, memory):
             if idle > 0 and (not running or need <= room):
                 left.remove(key)
                 others = len(proofs) - proofs.index(key) if key in proofs else 1
-                spare = 1 if fills(key) else min(4, idle // others, 1 + int((room / need - 1) / 0.6))
+                spare = 1 if fills(key) or key[1] == "bodies" else min(4, idle // others, 1 + int((room / need - 1) / 0.6))
                 jobs = max(1, spare)
                 running[key] = now + seconds / SHARED[jobs], need * (1 + 0.6 * (jobs - 1)), jobs, now
             else:
@@ -143,7 +146,7 @@ def main():
     memory = float(words[words.index("--memory") + 1]) if "--memory" in words else 18.7
     changes = {name: rest.split(",") for name, _, rest in (word.partition("=") for word in words if re.match(r"\w+=", word))}
     crates = read(changes)
-    ran = play(crates, lanes, memory)
+    ran = play(crates, lanes, memory, "--in-turn" in words)
     if "--tasks" in words:
         for began, ended, (name, kind), jobs in sorted(ran):
             if ended - began > 20:

@@ -13,17 +13,18 @@ use remote::{Answer, Request, Unanswered, read_answer, write_request};
 use std::alloc::Global;
 use std::io::Write;
 use std::net::{Ipv4Addr, SocketAddr, SocketAddrV4};
-use store::{Fault, Moment, ReplayBook, Warehouse, Who};
+use store::{Fault, Keeper, Moment, ReplayBook, Warehouse, Who};
 
-// A server of a book in memory that takes clerks' requests too, at one moment.
+// A server of a book that takes clerks' requests too, at one moment. All that goes over it is over any book and any writer, which
+// costs the prover less than one that is named.
 #[derive(Drop)]
-struct InMemory<'b> {
+struct InMemory<'b, K> {
     alloc: Global,
-    book: &'b mut ReplayBook,
+    book: &'b mut K,
     moment: Moment,
 }
 
-impl InMemory<'_> {
+impl<K: Keeper> InMemory<'_, K> {
     // The bytes of the response to a request.
     fn response(&mut self, request: &[u8]) -> Result<Vec<u8>, Unanswered> {
         let (alloc, moment) = (self.alloc, self.moment);
@@ -38,7 +39,7 @@ impl InMemory<'_> {
     }
 }
 
-impl Courier for InMemory<'_> {
+impl<K: Keeper> Courier for InMemory<'_, K> {
     fn carry(&mut self, request: &Request<'_>) -> Result<Answer, Unanswered> {
         let mut bytes = Vec::new(self.alloc);
         if write_request(&mut bytes, "127.0.0.1:8080", request).is_err() {
@@ -51,14 +52,14 @@ impl Courier for InMemory<'_> {
 }
 
 // Has a server of the book do what it is asked for, and tells why it is refused, where that is asked for.
-fn carry(
+fn carry<K: Keeper, W: Write, E: Write>(
     rt: &HostRuntime,
-    book: &mut ReplayBook,
+    book: &mut K,
     moment: Moment,
     errand: &Errand<'_>,
     verbosity: Verbosity,
-    out: &mut Vec<u8>,
-    err: &mut Vec<u8>,
+    out: &mut W,
+    err: &mut E,
 ) -> Result<ExitStatus, CommandError> {
     let alloc = rt.alloc();
     let server = SocketAddr::V4(SocketAddrV4::new(Ipv4Addr::LOCALHOST, 8080));
@@ -75,13 +76,13 @@ fn carry(
 }
 
 // Asks a server of the book for what a line says.
-fn ask_for(
+fn ask_for<K: Keeper, W: Write, E: Write>(
     rt: &HostRuntime,
-    book: &mut ReplayBook,
+    book: &mut K,
     task: &Task<'_>,
     verbosity: Verbosity,
-    out: &mut Vec<u8>,
-    err: &mut Vec<u8>,
+    out: &mut W,
+    err: &mut E,
 ) -> Result<ExitStatus, CommandError> {
     let moment = match task {
         Task::Act {
@@ -100,13 +101,13 @@ fn ask_for(
 const ASKED: &str = "send count pick recount stock orders outbox open depositors";
 
 // Plays a line of a script: through a server of the book, if one takes it.
-fn play_line(
+fn play_line<K: Keeper, W: Write, E: Write>(
     rt: &HostRuntime,
-    book: &mut ReplayBook,
+    book: &mut K,
     row: &str,
     verbosity: Verbosity,
-    out: &mut Vec<u8>,
-    err: &mut Vec<u8>,
+    out: &mut W,
+    err: &mut E,
 ) -> Result<ExitStatus, CommandError> {
     let first = row.split(' ').next().unwrap_or("");
     if !ASKED.split(' ').any(|name| name == first) {
@@ -120,9 +121,9 @@ fn play_line(
 }
 
 // Plays the lines after the first of a script that no fault ends, which makes the book.
-fn play_lines(
+fn play_lines<K: Keeper>(
     rt: &HostRuntime,
-    book: &mut ReplayBook,
+    book: &mut K,
     rest: &str,
     verbosity: Verbosity,
 ) -> Result<Ran, Fail> {

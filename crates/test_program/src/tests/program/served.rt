@@ -48,10 +48,10 @@ struct Told {
 }
 
 // Serves two connections, and has each of them told.
-fn served(
+fn served<K: Keeper>(
     rt: &HostRuntime,
     listener: &TcpListener,
-    book: &mut ReplayBook,
+    book: &mut K,
     moment: Moment,
     has_clock: bool,
     clerks: bool,
