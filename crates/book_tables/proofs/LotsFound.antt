@@ -15,11 +15,11 @@ use Rattle.profile.specs.Page.{page_of}
 use Rattle.profile.specs.Rows.{LotRow, running_rows}
 use Rattle.profile.specs.Tables.{Text, TableRow, stock_cells, stock_table, expiry_cells, lot_expiry_table}
 use Rattle.profile.specs.Schema.{stock_schema, lot_expiry_schema}
-use Rattle.stock.specs.Keyed.{rises_by, row_key, key_before as pairs_in_order}
+use Rattle.goods.specs.Keyed.{rises_by, row_key, key_before as pairs_in_order}
 use Rattle.std.specs.List.{list_all}
 use Rattle.rules.specs.Fitting.{is_fitting_row}
 use Rattle.rules.proofs.Fits.{page_fits}
-use Rattle.stock.proofs.Keys.{all_filter}
+use Rattle.goods.proofs.Keys.{all_filter}
 use Rattle.book_tables.specs.Asking.{Finds}
 use Rattle.book_tables.specs.Exits.{StandsWhileOpen}
 use Rattle.book_tables.specs.Layout.{stock_layout, lot_expiry_layout, book_trees, expiry_tree}

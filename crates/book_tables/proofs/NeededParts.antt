@@ -13,7 +13,7 @@ use Rattle.profile.specs.History.{History, history}
 use Rattle.profile.specs.Need.{Need, is_number_of, part}
 use Rattle.profile.specs.Page.{page_of}
 use Rattle.profile.specs.Register.{Entry, own}
-use Rattle.stock.specs.Pages.{IsSound, PageFacts}
+use Rattle.goods.specs.Pages.{IsSound, PageFacts}
 use Rattle.stock.specs.Parts.{Named}
 use Rattle.stock.proofs.PageLemmas.{blank_sound}
 use Rattle.stock.proofs.PartLaws.{part_is_part, part_sound}

@@ -18,7 +18,7 @@ use Rattle.profile.proofs.RegisterLaws.{legal-entries}
 use Rattle.rules.specs.Written.{Written, written, written_as}
 use Rattle.rules.proofs.Registers.{who_is, same_who, own_more, own_without}
 use Rattle.rules.proofs.Depositors.{partner_of}
-use Rattle.stock.proofs.Keys.{all_filter}
+use Rattle.goods.proofs.Keys.{all_filter}
 use Rattle.store.specs.Replayed.{written_on, all_written}
 
 -- Taking the own entries.

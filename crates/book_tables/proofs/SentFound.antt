@@ -16,8 +16,8 @@ use Rattle.profile.specs.History.{events}
 use Rattle.profile.specs.Page.{page_of}
 use Rattle.profile.specs.Rows.{OutRow, outgoing_rows, outbox_rows}
 use Rattle.profile.specs.Tables.{Text, TableRow, outgoing_cells, outgoing_table}
-use Rattle.stock.specs.Pages.{document_at}
-use Rattle.stock.proofs.KeyLemmas.{numbers_strict}
+use Rattle.goods.specs.Pages.{document_at}
+use Rattle.goods.proofs.KeyLemmas.{numbers_strict}
 use Rattle.book_tables.specs.Asking.{Finds}
 use Rattle.book_tables.specs.Contents.{IsContent}
 use Rattle.book_tables.specs.Exits.{StandsWhileOpen}

@@ -26,8 +26,8 @@ use Rattle.profile.specs.Reply.{out}
 use Rattle.profile.specs.Rows.{OutRow, out_row, outgoing_on, outgoing_rows}
 use Rattle.profile.specs.Tables.{Text, TableRow, outgoing_cells, outgoing_table}
 use Rattle.profile.proofs.TextLaws.{same_text}
-use Rattle.stock.specs.Keyed.{rises_by}
-use Rattle.stock.proofs.KeyLemmas.{numbers_strict}
+use Rattle.goods.specs.Keyed.{rises_by}
+use Rattle.goods.proofs.KeyLemmas.{numbers_strict}
 use Rattle.book_tables.specs.Asking.{Finds}
 use Rattle.book_tables.specs.Contents.{IsContent}
 use Rattle.book_tables.specs.Held.{values, Holds}

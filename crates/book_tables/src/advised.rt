@@ -6,7 +6,7 @@ ghost use Rattle.profile.specs.Page.{PageAdvice, page_of};
 ghost use Rattle.profile.specs.Register as register;
 ghost use Rattle.sqlite.specs.Held.{state};
 ghost use Rattle.sqlite.specs.State.{HasCleanDisk};
-ghost use Rattle.stock.specs.Pages.{advice_at};
+ghost use Rattle.goods.specs.Pages.{advice_at};
 ghost use Rattle.book_tables.specs.Asking.{Asked};
 ghost use Rattle.book_tables.specs.Exits.{StandsWhileOpen};
 ghost use Rattle.book_tables.specs.Looking.{bare_advice, lines_advised};

@@ -7,7 +7,7 @@ ghost use Rattle.profile.specs.Register as register;
 ghost use Rattle.profile.specs.Rows.{LotRow};
 ghost use Rattle.sqlite.specs.Held.{state};
 ghost use Rattle.sqlite.specs.State.{HasCleanDisk};
-ghost use Rattle.stock.specs.Keyed.{key_before, rises_by, row_key};
+ghost use Rattle.goods.specs.Keyed.{key_before, rises_by, row_key};
 ghost use Rattle.rules.specs.Fitting.{is_fitting_row};
 ghost use Rattle.book_tables.specs.Asking.{Asked};
 ghost use Rattle.book_tables.specs.Exits.{StandsWhileOpen};

@@ -11,7 +11,7 @@ ghost use Rattle.profile.specs.Register as register;
 ghost use Rattle.profile.specs.Page.{page_of};
 ghost use Rattle.sqlite.specs.Held.{state};
 ghost use Rattle.sqlite.specs.State.{HasCleanDisk};
-ghost use Rattle.stock.specs.Keyed.{put_row};
+ghost use Rattle.goods.specs.Keyed.{put_row};
 ghost use Rattle.rules.specs.Decided.{IsHeldAtRest};
 ghost use Rattle.rules.specs.Naming.{facts_of, named_of};
 ghost use Rattle.book_tables.specs.Asking.{Asked, Went};

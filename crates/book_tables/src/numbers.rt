@@ -5,7 +5,7 @@ ghost use Rattle.profile.specs.Register as register;
 ghost use Rattle.profile.specs.Rows.{OutRow, state_text};
 ghost use Rattle.sqlite.specs.Held.{state};
 ghost use Rattle.sqlite.specs.State.{HasCleanDisk};
-ghost use Rattle.stock.specs.Pages.{document_at};
+ghost use Rattle.goods.specs.Pages.{document_at};
 ghost use Rattle.book_tables.specs.Asking.{Asked};
 ghost use Rattle.book_tables.specs.Exits.{StandsWhileOpen};
 ghost use Rattle.book_tables.specs.Looking.{function_as, IsRowOf};

@@ -4,7 +4,7 @@ ghost use Rattle.profile.specs.Header.{Who as Partner};
 ghost use Rattle.profile.specs.Register as register;
 ghost use Rattle.sqlite.specs.Held.{state};
 ghost use Rattle.sqlite.specs.State.{HasCleanDisk};
-ghost use Rattle.stock.specs.Keyed.{number_of, shipment_of};
+ghost use Rattle.goods.specs.Keyed.{number_of, shipment_of};
 ghost use Rattle.store.specs.Open.{open_of, open_on, open_work};
 ghost use Rattle.book_tables.specs.Asking.{Asked};
 ghost use Rattle.book_tables.specs.Exits.{StandsWhileOpen};

@@ -6,7 +6,7 @@ ghost use Rattle.profile.specs.Page.{PageLine, PageOrder, page_of};
 ghost use Rattle.profile.specs.Register as register;
 ghost use Rattle.sqlite.specs.Held.{state};
 ghost use Rattle.sqlite.specs.State.{HasCleanDisk};
-ghost use Rattle.stock.specs.Pages.{order_at};
+ghost use Rattle.goods.specs.Pages.{order_at};
 ghost use Rattle.rules.specs.Fitting.{is_fitting_ordered};
 ghost use Rattle.book_tables.specs.Asking.{Asked};
 ghost use Rattle.book_tables.specs.Exits.{StandsWhileOpen};

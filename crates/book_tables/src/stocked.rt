@@ -7,7 +7,7 @@ ghost use Rattle.sqlite.specs.Held.{state};
 ghost use Rattle.sqlite.specs.State.{HasCleanDisk};
 ghost use Rattle.book_tables.specs.Asking.{Asked};
 ghost use Rattle.book_tables.specs.Exits.{StandsWhileOpen};
-ghost use Rattle.stock.specs.Keyed.{key_before, rises_by, row_key};
+ghost use Rattle.goods.specs.Keyed.{key_before, rises_by, row_key};
 ghost use Rattle.book_tables.specs.Dated.{date_shown, dates_of};
 ghost use Rattle.book_tables.specs.Showing.{stock_shown};
 

@@ -15,7 +15,7 @@ use Rattle.reports.specs.Open.{open_report}
 use Rattle.reports.specs.Picking.{Explains}
 use Rattle.reports.specs.declared.picking.NoSheet.{NoSheet}
 use Rattle.reports.specs.declared.picking.NoSheet.TheVariants.{UnknownOrder, OrderClosed, OutOfMemory}
-use Rattle.stock.specs.Pages.{PageFacts}
+use Rattle.goods.specs.Pages.{PageFacts}
 use Rattle.store.specs.Held.{IsHeld}
 use Rattle.store.specs.Open.{OpenWork, open_on}
 use Rattle.store.specs.Standing.{Standing, IsQueryFault}

@@ -13,7 +13,7 @@ use Rattle.profile.specs.Reports.{pick_lines, pick_sheet, pick_list}
 use Rattle.profile.proofs.NeedLaws.{alone}
 use Rattle.profile.proofs.TextLaws.{text_is}
 use Rattle.sheets.proofs.PairLaws.{before_through, one_pair}
-use Rattle.stock.specs.Pages.{PageFacts, order_at}
+use Rattle.goods.specs.Pages.{PageFacts, order_at}
 use Rattle.stock.specs.Shows.{Shows}
 use Rattle.rules.specs.Decided.{IsHeldPart}
 use Rattle.reports.specs.Picking.{held_of, order_lines, order_sheet, listed}

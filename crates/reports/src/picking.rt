@@ -3,7 +3,7 @@ ghost use Rattle.profile.specs.History.{History};
 ghost use Rattle.profile.specs.Need.{need_of_number};
 ghost use Rattle.profile.specs.Reports as meant;
 ghost use Rattle.reports.specs.Picking.{held_of, held_lines, short_of as meant_short_of, short_line, address_line, order_lines, order_sheet, listed, Explains};
-ghost use Rattle.stock.specs.Pages.{order_at};
+ghost use Rattle.goods.specs.Pages.{order_at};
 ghost use Rattle.rules.specs.Decided.{IsHeldPart};
 
 use crate::columns::{append_left, append_right};

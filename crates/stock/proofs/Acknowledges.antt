@@ -13,17 +13,17 @@ use Rattle.profile.specs.Page.{PageAdvice, PageOrder, PageDocument}
 use Rattle.profile.specs.Events.{Event, Acknowledged, count_naming, date_naming}
 use Rattle.profile.specs.Movements.{OnHand, Expected, Reservation}
 use Rattle.stock.specs.declared.steps.Change.TheVariants as change
-use Rattle.stock.specs.Told.{told, told_date, one, amount, since, named_by, positive}
-use Rattle.stock.specs.Keyed.{rises_by, key_before, row_key, shipment_of, number_of, entry_of}
-use Rattle.stock.specs.Pages.{PageFacts, is_document, advice_at, order_at, document_at, awaited, held, IsSound, AreSorted, is_in_lines}
+use Rattle.goods.specs.Told.{told, told_date, one, amount, since, named_by, positive}
+use Rattle.goods.specs.Keyed.{rises_by, key_before, row_key, shipment_of, number_of, entry_of}
+use Rattle.goods.specs.Pages.{PageFacts, is_document, advice_at, order_at, document_at, awaited, held, IsSound, AreSorted, is_in_lines}
 use Rattle.stock.specs.Puts.{put}
 use Rattle.stock.specs.Parts.{Named, IsPart}
 use Rattle.stock.specs.Shows.{Shows, sent_if, sent_under, document_of, is_numbered_within}
-use Rattle.stock.specs.Steps.{decides, heard, said_of_found, IsAcknowledged}
+use Rattle.goods.specs.Steps.{decides, heard, said_of_found, IsAcknowledged}
 use Rattle.stock.specs.Stops.{document_changes}
-use Rattle.stock.proofs.Finds.{first_found_push, found_says}
-use Rattle.stock.proofs.Keys.{find_above}
-use Rattle.stock.proofs.KeyLemmas.{numbers_strict, document_test, document_put, said_sorted, sorted_distinct, advices_once, orders_once, documents_once}
+use Rattle.goods.proofs.Finds.{first_found_push, found_says}
+use Rattle.goods.proofs.Keys.{find_above}
+use Rattle.goods.proofs.KeyLemmas.{numbers_strict, document_test, document_put, said_sorted, sorted_distinct, advices_once, orders_once, documents_once}
 use Rattle.stock.proofs.Moves.{came_push, went_push}
 use Rattle.stock.proofs.PageLemmas.{all_numbered_same, own_number}
 use Rattle.stock.proofs.Events.{found_kept, all_push, advice_kept, order_kept, shares_kept, counted_kept, picked_kept}

@@ -14,19 +14,19 @@ use Rattle.profile.specs.Page.{PageAdvice, PageOrder, page_advice}
 use Rattle.profile.specs.Events.{Event, Advised, quantity_of, advice_if, advice_under, counts, count_naming, date_naming, is_other_date, is_redated, trade_fault, fault_where, repeated_pair, sooner, wrong_advice_total, advice_fault, advice_fault_where}
 use Rattle.profile.specs.Movements.{Expected, OnHand, Reservation}
 use Rattle.sets_in.specs.Limits.{HasFewLines}
-use Rattle.stock.specs.Told.{told, told_date, amount, named_by, date_of, positive}
-use Rattle.stock.specs.Pages.{PageFacts, advice_at, order_at, document_at, awaited, held, IsSound, AreSorted, is_in_lines}
+use Rattle.goods.specs.Told.{told, told_date, amount, named_by, date_of, positive}
+use Rattle.goods.specs.Pages.{PageFacts, advice_at, order_at, document_at, awaited, held, IsSound, AreSorted, is_in_lines}
 use Rattle.stock.specs.Parts.{Named, IsPart, NamesAdvice, are_items}
 use Rattle.stock.specs.Shows.{Shows, is_numbered_within}
-use Rattle.stock.specs.Steps.{opened, IsAnnounced}
-use Rattle.stock.proofs.Sums.{named_append}
+use Rattle.goods.specs.Steps.{opened, IsAnnounced}
+use Rattle.goods.proofs.Sums.{named_append}
 use Rattle.profile.specs.Bytes.{comes_before}
-use Rattle.stock.specs.Keyed.{rises_by, number_of, entry_of}
-use Rattle.stock.proofs.Dates.{dates_told}
-use Rattle.stock.proofs.Keys.{was}
-use Rattle.stock.proofs.KeyLemmas.{sorted_distinct, advice_sum, advice_put_new, advices_put_sorted, advices_once, orders_once, documents_once}
+use Rattle.goods.specs.Keyed.{rises_by, number_of, entry_of}
+use Rattle.goods.proofs.Dates.{dates_told}
+use Rattle.goods.proofs.Keys.{was}
+use Rattle.goods.proofs.KeyLemmas.{sorted_distinct, advice_sum, advice_put_new, advices_put_sorted, advices_once, orders_once, documents_once}
 use Rattle.stock.proofs.Moves.{came_push, went_push, came_comes, went_comes, given_le, quantity_le, advised_le}
-use Rattle.stock.proofs.Finds.{first_found_push}
+use Rattle.goods.proofs.Finds.{first_found_push}
 use Rattle.stock.proofs.PageLemmas.{all_numbered_same}
 use Rattle.stock.proofs.Views.{advice_seen, uncounted, advice_view}
 use Rattle.stock.proofs.Events.{found_kept, any_kept, all_push, order_kept, document_kept, shares_kept, counted_kept, picked_kept}

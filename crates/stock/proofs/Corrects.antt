@@ -13,18 +13,18 @@ use Rattle.profile.specs.Clerk.{recounted, on_hand_now}
 use Rattle.profile.specs.Page.{PageAdvice, PageOrder}
 use Rattle.profile.specs.Events.{Event, Recounted, is_pair, quantity_of, count_naming, date_naming, since as since_events}
 use Rattle.profile.specs.Movements.{Column, Expected, OnHand, Reservation, Shipped, comes, goes, balance}
-use Rattle.stock.specs.Told.{told, one, amount, since, given, named_by, positive}
-use Rattle.stock.specs.Moved.{set_by}
+use Rattle.goods.specs.Told.{told, one, amount, since, given, named_by, positive}
+use Rattle.goods.specs.Moved.{set_by}
 use Rattle.profile.specs.Bytes.{comes_before}
-use Rattle.stock.specs.Keyed.{rises_by, shipment_of, number_of}
-use Rattle.stock.specs.Pages.{PageFacts, advice_at, order_at, awaited, held, IsSound, AreSorted, is_in_lines}
-use Rattle.stock.proofs.KeyLemmas.{sorted_distinct, sent_sorted, advices_once, orders_once, documents_once}
+use Rattle.goods.specs.Keyed.{rises_by, shipment_of, number_of}
+use Rattle.goods.specs.Pages.{PageFacts, advice_at, order_at, awaited, held, IsSound, AreSorted, is_in_lines}
+use Rattle.goods.proofs.KeyLemmas.{sorted_distinct, sent_sorted, advices_once, orders_once, documents_once}
 use Rattle.stock.specs.Shows.{Shows, is_numbered_within}
-use Rattle.stock.specs.Steps.{is_unknown, is_below, is_on_hand, IsRecounted}
-use Rattle.stock.proofs.Tells.{pair_is, told_absent}
+use Rattle.goods.specs.Steps.{is_unknown, is_below, is_on_hand, IsRecounted}
+use Rattle.goods.proofs.Tells.{pair_is, told_absent}
 use Rattle.stock.proofs.Moves.{came_push, went_push, came_append, went_append, came_comes, went_comes, came_goes, went_goes}
 use Rattle.stock.proofs.PageLemmas.{all_numbered_same, own_number}
-use Rattle.stock.proofs.Pairs.{IsSheet, count_yes, count_no, quantity_yes, quantity_no, quantity_none}
+use Rattle.goods.proofs.Pairs.{IsSheet, count_yes, count_no, quantity_yes, quantity_no, quantity_none}
 use Rattle.stock.proofs.Events.{found_kept, all_push, advice_kept, order_kept, shares_kept, counted_kept, picked_kept}
 use Rattle.stock.proofs.Receives.{sent_shown}
 use Rattle.stock.proofs.Ships.{any_same}

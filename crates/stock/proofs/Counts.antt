@@ -5,8 +5,8 @@ use Rattle.profile.specs.Rows.{LotRow}
 use Rattle.profile.specs.Means.{Line}
 use Rattle.profile.specs.Events.{is_pair}
 use Rattle.profile.specs.Movements.{Expected, OnHand}
-use Rattle.stock.specs.Told.{first_number}
-use Rattle.stock.specs.Moved.{IsAdded, IsTaken, IsMarked, IsCounted}
+use Rattle.goods.specs.Told.{first_number}
+use Rattle.goods.specs.Moved.{IsAdded, IsTaken, IsMarked, IsCounted}
 
 pub counted_made : (n : ℕ) (expected sheet : List Line) (r0 r1 r2 r3 : List LotRow)
     → IsTaken Expected expected r0 r1 → IsAdded OnHand sheet r1 r2 → IsMarked n sheet r2 r3 → IsCounted n expected sheet r0 r3

@@ -7,14 +7,14 @@ use Rattle.profile.specs.Rows.{LotRow}
 use Rattle.profile.specs.Means.{Line, AdviceLine}
 use Rattle.profile.specs.Events.{is_pair, date_given}
 use Rattle.profile.specs.Movements.{Column, Expected, OnHand, Reservation, Shipped}
-use Rattle.stock.specs.Keyed.{IsSorted}
-use Rattle.stock.specs.Moved.{IsPlace, IsAdded, IsDated, IsAdvised}
-use Rattle.stock.specs.Told.{is_row, told, told_date, one, since, amount, named_by, date_of, dated}
-use Rattle.stock.proofs.Dates.{date_set, date_here}
-use Rattle.stock.proofs.Finds.{or_else_none, or_else_assoc, first_found-append}
-use Rattle.stock.proofs.KeyLemmas.{sorted_kept}
+use Rattle.goods.specs.Keyed.{IsSorted}
+use Rattle.goods.specs.Moved.{IsPlace, IsAdded, IsDated, IsAdvised}
+use Rattle.goods.specs.Told.{is_row, told, told_date, one, since, amount, named_by, date_of, dated}
+use Rattle.goods.proofs.Dates.{date_set, date_here}
+use Rattle.goods.proofs.Finds.{or_else_none, or_else_assoc, first_found-append}
+use Rattle.goods.proofs.KeyLemmas.{sorted_kept}
 use Rattle.stock.proofs.Marks.{named_own}
-use Rattle.stock.proofs.Tells.{told_kept, row_at, row_as_line}
+use Rattle.goods.proofs.Tells.{told_kept, row_at, row_as_line}
 
 amount_dated : (c : Column) (date : Option (List ℕ)) (r : LotRow) → amount c (dated date r) ≡ amount c r
 amount_dated Expected date r = refl

@@ -10,7 +10,7 @@ use Rattle.profile.specs.Rows.{acknowledges}
 use Rattle.profile.specs.Page.{page_advice, page_order}
 use Rattle.profile.specs.Events.{Event, advice_if, advice_under, Reserved, order_if, order_under, counts, picks}
 use Rattle.stock.specs.Shows.{sent_if, sent_under, document_of, NamesEachOnce}
-use Rattle.stock.proofs.Finds.{first_found_push, or_else_none}
+use Rattle.goods.proofs.Finds.{first_found_push, or_else_none}
 use Rattle.stock.proofs.Views.{advice_seen, order_seen, uncounted, unpicked, advice_view, order_view}
 
 pub or_false : (v : Bool) → (v || false) ≡ v

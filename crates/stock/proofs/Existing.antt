@@ -7,11 +7,11 @@ use Rattle.profile.specs.Events.{is_pair}
 use Rattle.profile.specs.Means.{Line}
 use Rattle.profile.specs.Movements.{Column, Expected, OnHand, Reservation, Shipped}
 use Rattle.profile.specs.Rows.{LotRow}
-use Rattle.stock.specs.Keyed.{IsSorted, put_row}
-use Rattle.stock.specs.Told.{told, told_date, one, since, amount, is_row, named_by}
-use Rattle.stock.proofs.Dates.{date_put}
-use Rattle.stock.proofs.KeyLemmas.{put_sorted, told_put, sorted_distinct}
-use Rattle.stock.proofs.Tells.{pair_is, told_cons, part_yes, part_no}
+use Rattle.goods.specs.Keyed.{IsSorted, put_row}
+use Rattle.goods.specs.Told.{told, told_date, one, since, amount, is_row, named_by}
+use Rattle.goods.proofs.Dates.{date_put}
+use Rattle.goods.proofs.KeyLemmas.{put_sorted, told_put, sorted_distinct}
+use Rattle.goods.proofs.Tells.{pair_is, told_cons, part_yes, part_no}
 
 -- the row of a pair with a date, a number and amounts
 abbrev row_for : (List ℕ → List ℕ → Option (List ℕ)) → (List ℕ → List ℕ → ℕ) → (Column → List ℕ → List ℕ → ℕ) → List ℕ → List ℕ → LotRow

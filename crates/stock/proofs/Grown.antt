@@ -33,10 +33,11 @@ use Rattle.sets_in.proofs.Most.{few_goods}
 use Rattle.sets_in.proofs.Places.{from_yes, from_no}
 use Rattle.sets_in.proofs.Sound.{goods_amounts}
 use Rattle.sets_in.proofs.Values.{amount_bound}
-use Rattle.stock.specs.Pages.{PageFacts, IsSound}
+use Rattle.goods.specs.Pages.{PageFacts, IsSound}
 use Rattle.stock.specs.Shows.{Shows}
-use Rattle.stock.proofs.OneMore.{IsOneMore, announced_more, ordered_more, acknowledged_more, counted_more, picked_more, recounted_more}
-use Rattle.stock.proofs.Pairs.{IsSheet, sheet_facts}
+use Rattle.stock.proofs.OneAct.{counted_more, picked_more, recounted_more}
+use Rattle.stock.proofs.OneMore.{IsOneMore, announced_more, ordered_more, acknowledged_more}
+use Rattle.goods.proofs.Pairs.{IsSheet, sheet_facts}
 
 -- What an advice without a fault says is little.
 

@@ -6,15 +6,15 @@ use Rattle.std.specs.Prelude.{nat_le}
 use Rattle.profile.specs.Events.{is_pair, quantity_of}
 use Rattle.profile.specs.Means.{Line}
 use Rattle.profile.specs.Rows.{LotRow}
-use Rattle.stock.specs.Keyed.{IsSorted}
+use Rattle.goods.specs.Keyed.{IsSorted}
 use Rattle.stock.specs.Left.{IsLeft, IsLess}
-use Rattle.stock.specs.Moved.{IsPlace}
-use Rattle.stock.specs.Told.{blank, is_row, one, told}
-use Rattle.stock.proofs.KeyLemmas.{sorted_distinct}
-use Rattle.stock.proofs.Pairs.{quantity_no, quantity_yes}
+use Rattle.goods.specs.Moved.{IsPlace}
+use Rattle.goods.specs.Told.{blank, is_row, one, told}
+use Rattle.goods.proofs.KeyLemmas.{sorted_distinct}
+use Rattle.goods.proofs.Pairs.{quantity_no, quantity_yes}
 use Rattle.stock.proofs.SoundLaws.{all_open, at_most, every_open, open_pass, opens, taken_next, taken_sum}
-use Rattle.stock.proofs.Sums.{own_pair, quantity_as, share}
-use Rattle.stock.proofs.Tells.{part_no, part_yes, pair_is, row_as_line, told_absent, told_cons, told_here, told_there}
+use Rattle.goods.proofs.Sums.{own_pair, quantity_as, share}
+use Rattle.goods.proofs.Tells.{part_no, part_yes, pair_is, row_as_line, told_absent, told_cons, told_here, told_there}
 
 -- a pair that is told of has a row
 pub place_found : (a b : List ℕ) (rows : List LotRow) → 1 ≤ told one a b rows → (i : ℕ) × IsPlace a b rows i

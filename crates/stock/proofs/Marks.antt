@@ -9,13 +9,13 @@ use Rattle.profile.specs.Rows.{LotRow}
 use Rattle.profile.specs.Means.{Line}
 use Rattle.profile.specs.Events.{is_pair}
 use Rattle.profile.specs.Movements.{Column, Expected, OnHand, Reservation, Shipped}
-use Rattle.stock.specs.Told.{is_row, told, one, since, amount, named_by, marked, positive, first_number}
-use Rattle.stock.specs.Keyed.{IsSorted}
-use Rattle.stock.specs.Moved.{IsPlace, IsMarked}
-use Rattle.stock.proofs.Dates.{date_kept}
-use Rattle.stock.proofs.KeyLemmas.{sorted_distinct, sorted_kept}
-use Rattle.stock.proofs.Tells.{part, part_yes, part_no, told_set, told_kept, told_here, row_at, row_as_line}
-use Rattle.stock.proofs.Sums.{own_pair}
+use Rattle.goods.specs.Told.{is_row, told, one, since, amount, named_by, marked, positive, first_number}
+use Rattle.goods.specs.Keyed.{IsSorted}
+use Rattle.goods.specs.Moved.{IsPlace, IsMarked}
+use Rattle.goods.proofs.Dates.{date_kept}
+use Rattle.goods.proofs.KeyLemmas.{sorted_distinct, sorted_kept}
+use Rattle.goods.proofs.Tells.{part, part_yes, part_no, told_set, told_kept, told_here, row_at, row_as_line}
+use Rattle.goods.proofs.Sums.{own_pair}
 
 pub first_no : (n x : ℕ) → first_number n false x ≡ x
 first_no n x = elim (cases_Bool (eqb x 0)) [ inl e ↦ rw e (sym (eqb-true x 0 e)) | inr e ↦ rw e refl ]

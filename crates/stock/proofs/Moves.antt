@@ -11,9 +11,9 @@ use Rattle.profile.specs.Means.{Line, AdviceLine, Advice, advised, OrderLine}
 use Rattle.profile.specs.Limits.{most_lines, most_quantity}
 use Rattle.profile.specs.Events.{Event, is_pair, quantity_of}
 use Rattle.profile.specs.Movements.{Column, column_eq, Movement, comes, goes, moves, came_to, went_from}
-use Rattle.stock.specs.Told.{given}
+use Rattle.goods.specs.Told.{given}
 use Rattle.sets_in.specs.Limits.{HasFewLines, HasFewOrderLines}
-use Rattle.stock.proofs.Sums.{share, quantity_as}
+use Rattle.goods.proofs.Sums.{share, quantity_as}
 
 pub sum_by-filter : {X : Type 0} (f : X → ℕ) (p : X → Bool) (xs : List X) → sum_by f (filter p xs) ≡ sum_by (λ x. cond (p x) (f x) 0) xs
 sum_by-filter f p [] = refl

@@ -10,9 +10,9 @@ use Rattle.profile.specs.Means.{Line, Advice}
 use Rattle.profile.specs.Movements.{Column, OnHand, Reservation, IsCovered, balance}
 use Rattle.profile.specs.Refusals.{UnknownAdvice, AdviceClosed, UnknownOrder, OrderClosed}
 use Rattle.profile.proofs.EventsLaws.{expiry-append}
-use Rattle.stock.specs.Pages.{PageFacts, IsSound}
+use Rattle.goods.specs.Pages.{PageFacts, IsSound}
 use Rattle.stock.specs.Shows.{Shows}
-use Rattle.stock.specs.Told.{told, told_date, amount}
+use Rattle.goods.specs.Told.{told, told_date, amount}
 
 pub balance_told : (p : PageFacts) (es : List Event) → Shows p es → (c : Column) (a b : List ℕ) → told (amount c) a b p.rows ≡ balance es c a b
 balance_told p es shows c a b = omega (arith, shows.amounts c a b)

@@ -6,8 +6,8 @@ use Rattle.std.specs.Prelude.{nat_le, nat_lt}
 use Rattle.profile.specs.Limits.{most_entries}
 use Rattle.profile.specs.Events.{Event, Enrolment, Advised, Ordered, Acknowledged, Counted, Picked, Recounted}
 use Rattle.profile.specs.Movements.{OnHand, balance}
-use Rattle.stock.specs.Told.{told, amount}
-use Rattle.stock.specs.Pages.{PageFacts, IsSound, next_entry}
+use Rattle.goods.specs.Told.{told, amount}
+use Rattle.goods.specs.Pages.{PageFacts, IsSound, next_entry}
 use Rattle.stock.specs.Shows.{Shows, is_numbered_within}
 
 pub blank_sound : IsSound (record { rows = []; advices = []; orders = []; documents = []; entries = 0; recent = 0 })

@@ -10,16 +10,16 @@ use Rattle.profile.specs.Means.{Line}
 use Rattle.profile.specs.Movements.{Expected, OnHand, Reservation}
 use Rattle.profile.specs.Page.{PageAdvice, PageOrder, PageDocument}
 use Rattle.profile.specs.Rows.{LotRow}
-use Rattle.stock.specs.Keyed.{row_key, key_before, shipment_of, number_of, entry_of}
+use Rattle.goods.specs.Keyed.{row_key, key_before, shipment_of, number_of, entry_of}
 use Rattle.profile.specs.Bytes.{comes_before}
 use Rattle.std.specs.Prelude.{nat_lt}
-use Rattle.stock.specs.Pages.{PageFacts, IsSound, AreSorted, is_in_lines, is_shipment, is_number, is_document, awaited, held}
+use Rattle.goods.specs.Pages.{PageFacts, IsSound, AreSorted, is_in_lines, is_shipment, is_number, is_document, awaited, held}
 use Rattle.stock.specs.Parts.{Named, IsPart, IsClosed, part_of, are_items}
-use Rattle.stock.specs.Told.{is_row, told, amount}
-use Rattle.stock.proofs.Keys.{all_filter, filter_rises}
-use Rattle.stock.proofs.KeyLemmas.{pairs_strict, texts_strict, numbers_strict, sorted_distinct, advices_once, orders_once, documents_once}
-use Rattle.stock.proofs.Pairs.{quantity_no}
-use Rattle.stock.proofs.Tells.{told_cons, part_no}
+use Rattle.goods.specs.Told.{is_row, told, amount}
+use Rattle.goods.proofs.Keys.{all_filter, filter_rises}
+use Rattle.goods.proofs.KeyLemmas.{pairs_strict, texts_strict, numbers_strict, sorted_distinct, advices_once, orders_once, documents_once}
+use Rattle.goods.proofs.Pairs.{quantity_no}
+use Rattle.goods.proofs.Tells.{told_cons, part_no}
 
 -- what is told of a pair whose item is named
 told_kept : (q : List ℕ → Bool) (f : LotRow → ℕ) (a b : List ℕ) (rows : List LotRow) → q a ≡ true → told f a b (filter (λ r. q r.item) rows) ≡ told f a b rows

@@ -12,23 +12,23 @@ use Rattle.profile.specs.Rows.{LotRow}
 use Rattle.profile.specs.Page.{PageAdvice, PageOrder, PageDocument, reserved_lines}
 use Rattle.stock.specs.declared.steps.Change.{Change}
 use Rattle.stock.specs.declared.steps.Change.TheVariants as change
-use Rattle.stock.specs.Functions.{function_text}
-use Rattle.stock.specs.Pages.{PageFacts, AreSorted, document_at, is_document}
+use Rattle.goods.specs.Functions.{function_text}
+use Rattle.goods.specs.Pages.{PageFacts, AreSorted, document_at, is_document}
 use Rattle.stock.specs.Parts.{Named, all_named, IsPart, are_items, NamesAdvice}
 use Rattle.stock.specs.Puts.{put, put_change}
-use Rattle.stock.specs.declared.documents.Function.TheVariants.{Receipt, Shipment, Adjustment}
-use Rattle.stock.specs.Moved.{IsAdded, IsAdvised, IsCounted, IsShipped, IsSet}
-use Rattle.stock.specs.Steps.{opened, opened_order, closed_advice, closed_order, with_said, said_of_found, is_unknown, is_below, is_on_hand, IsAnnounced, IsReserved, IsReceived, IsPicked, IsRecounted}
+use Rattle.goods.specs.declared.documents.Function.TheVariants.{Receipt, Shipment, Adjustment}
+use Rattle.goods.specs.Moved.{IsAdded, IsAdvised, IsCounted, IsShipped, IsSet}
+use Rattle.goods.specs.Steps.{opened, opened_order, closed_advice, closed_order, with_said, said_of_found, is_unknown, is_below, is_on_hand, IsAnnounced, IsReserved, IsReceived, IsPicked, IsRecounted}
 use Rattle.stock.specs.Stops.{row_changes, advice_changes, order_changes}
-use Rattle.stock.specs.Told.{is_row, told, told_date, one, since, amount, same_row, changed_rows}
+use Rattle.goods.specs.Told.{is_row, told, told_date, one, since, amount, same_row, changed_rows}
 use Rattle.stock.specs.Touched.{IsTouched}
 use Rattle.stock.proofs.ChangeLaws.{same_is}
-use Rattle.stock.proofs.Dates.{dates_told}
-use Rattle.stock.proofs.KeyLemmas.{told_put, advice_put, order_put, document_put, sent_found}
-use Rattle.stock.proofs.Finds.{found_says}
+use Rattle.goods.proofs.Dates.{dates_told}
+use Rattle.goods.proofs.KeyLemmas.{told_put, advice_put, order_put, document_put, sent_found}
+use Rattle.goods.proofs.Finds.{found_says}
 use Rattle.stock.proofs.Leads.{touched_none, not_named, among_second}
 use Rattle.stock.proofs.Steppings.{Makes, change_sorted, announced_put, reserved_put, received_put, picked_put, recounted_put}
-use Rattle.stock.proofs.Tells.{told_cons, part_yes, part_no}
+use Rattle.goods.proofs.Tells.{told_cons, part_yes, part_no}
 
 -- a page is a part of itself
 pub part_of_self : (n : Named) (p : PageFacts) → AreSorted p → IsPart n p p

@@ -15,16 +15,16 @@ use Rattle.profile.proofs.TextLaws.{same_text}
 use Rattle.profile.proofs.NeedLaws.{or_left, or_right}
 use Rattle.std.specs.Prelude.{bytes_eq}
 use Rattle.std.specs.Cmp.Derive.{both_true}
-use Rattle.stock.specs.Lots.{ranks_of, free_in, shares_in, all_shares_in}
-use Rattle.stock.specs.Pages.{PageFacts, is_in_lines}
+use Rattle.goods.specs.Lots.{ranks_of, free_in, shares_in, all_shares_in}
+use Rattle.goods.specs.Pages.{PageFacts, is_in_lines}
 use Rattle.stock.specs.Parts.{Named, IsPart, all_named, are_items}
-use Rattle.stock.specs.Steps.{opened_order}
-use Rattle.stock.specs.Told.{amount, IsDistinct}
+use Rattle.goods.specs.Steps.{opened_order}
+use Rattle.goods.specs.Told.{amount, IsDistinct}
 use Rattle.stock.proofs.Allots.{is_given, all_in_order}
-use Rattle.stock.proofs.Keys.{all_filter}
-use Rattle.stock.proofs.KeyLemmas.{sorted_distinct}
-use Rattle.stock.proofs.LotLemmas.{ranks_same}
-use Rattle.stock.proofs.Shares.{map_same}
+use Rattle.goods.proofs.Keys.{all_filter}
+use Rattle.goods.proofs.KeyLemmas.{sorted_distinct}
+use Rattle.goods.proofs.LotLemmas.{ranks_same}
+use Rattle.goods.proofs.Shares.{map_same}
 
 free_part : (n : Named) (p P : PageFacts) (item lot : List ℕ) → IsPart n p P → n.items item ≡ true → free_in p.rows item lot ≡ free_in P.rows item lot
 free_part n p P item lot part is = omega (arith, part.rows (amount OnHand) item lot is, part.rows (amount Reservation) item lot is)

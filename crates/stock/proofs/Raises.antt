@@ -7,13 +7,13 @@ use Rattle.profile.specs.Rows.{LotRow}
 use Rattle.profile.specs.Means.{Line}
 use Rattle.profile.specs.Events.{is_pair, quantity_of}
 use Rattle.profile.specs.Movements.{Column, Expected, OnHand, Reservation, Shipped, column_eq}
-use Rattle.stock.specs.Told.{is_row, told, one, since, amount, named_by, raised, with_on_hand, IsDistinct}
-use Rattle.stock.specs.Keyed.{IsSorted}
-use Rattle.stock.proofs.Dates.{date_kept}
-use Rattle.stock.proofs.KeyLemmas.{sorted_distinct, sorted_kept}
-use Rattle.stock.specs.Moved.{IsPlace, IsTaken, IsRaised, IsShipped, IsSet, set_by}
-use Rattle.stock.proofs.Tells.{part, part_yes, part_no, told_set, told_kept, told_here, IsRowAt, row_at, row_as_line, told_named, placed_there, added_at, given_one, told_absent}
-use Rattle.stock.proofs.Sums.{given_append, given_here, quantity_next}
+use Rattle.goods.specs.Told.{is_row, told, one, since, amount, named_by, raised, with_on_hand, IsDistinct}
+use Rattle.goods.specs.Keyed.{IsSorted}
+use Rattle.goods.proofs.Dates.{date_kept}
+use Rattle.goods.proofs.KeyLemmas.{sorted_distinct, sorted_kept}
+use Rattle.goods.specs.Moved.{IsPlace, IsTaken, IsRaised, IsShipped, IsSet, set_by}
+use Rattle.goods.proofs.Tells.{part, part_yes, part_no, told_set, told_kept, told_here, IsRowAt, row_at, row_as_line, told_named, placed_there, added_at, given_one, told_absent}
+use Rattle.goods.proofs.Sums.{given_append, given_here, quantity_next}
 use Rattle.stock.proofs.Marks.{named_own}
 
 pub raised_at : (k : Column) (line : Line) (rows : List LotRow) (i : ℕ) (r : LotRow) → IsSorted rows → IsPlace line.item line.lot rows i → r ≡ get_or rows i r

@@ -15,19 +15,19 @@ use Rattle.profile.specs.Clerk.{counted}
 use Rattle.profile.specs.Page.{PageAdvice, PageOrder, PageDocument, page_advice}
 use Rattle.profile.specs.Events.{Event, Enrolment, Advised, Ordered, Acknowledged, Counted, Picked, Recounted, is_pair, quantity_of, advice_if, advice_under, counts, is_advice_open, count_naming, date_naming}
 use Rattle.profile.specs.Movements.{Column, Expected, OnHand, Reservation, column_eq, comes, goes}
-use Rattle.stock.specs.Told.{told, amount, since, given, named_by, positive}
+use Rattle.goods.specs.Told.{told, amount, since, given, named_by, positive}
 use Rattle.profile.specs.Bytes.{comes_before}
-use Rattle.stock.specs.Keyed.{rises_by, number_of, put_advice}
-use Rattle.stock.specs.Pages.{PageFacts, is_shipment, advice_at, order_at, document_at, awaited, held, IsSound, AreSorted, is_in_lines}
+use Rattle.goods.specs.Keyed.{rises_by, number_of, put_advice}
+use Rattle.goods.specs.Pages.{PageFacts, is_shipment, advice_at, order_at, document_at, awaited, held, IsSound, AreSorted, is_in_lines}
 use Rattle.stock.specs.Shows.{Shows, sent_if, sent_under, document_of, is_numbered_within}
-use Rattle.stock.specs.Steps.{closed_advice, with_sent, IsReceived}
-use Rattle.stock.proofs.Keys.{was}
-use Rattle.stock.proofs.KeyLemmas.{sorted_distinct, advice_sum, advice_put, advices_put_sorted, sent_sorted, sent_found, advices_once, orders_once, documents_once}
-use Rattle.stock.proofs.Sums.{named_append}
+use Rattle.goods.specs.Steps.{closed_advice, with_sent, IsReceived}
+use Rattle.goods.proofs.Keys.{was}
+use Rattle.goods.proofs.KeyLemmas.{sorted_distinct, advice_sum, advice_put, advices_put_sorted, sent_sorted, sent_found, advices_once, orders_once, documents_once}
+use Rattle.goods.proofs.Sums.{named_append}
 use Rattle.stock.proofs.Moves.{came_push, went_push, came_append, went_append, came_comes, went_comes, came_goes, went_goes}
-use Rattle.stock.proofs.Finds.{first_found_push, found_says, found_le, map_some, map_none}
+use Rattle.goods.proofs.Finds.{first_found_push, found_says, found_le, map_some, map_none}
 use Rattle.stock.proofs.PageLemmas.{all_numbered_same, own_number}
-use Rattle.stock.proofs.Pairs.{IsSheet}
+use Rattle.goods.proofs.Pairs.{IsSheet}
 use Rattle.stock.proofs.Views.{advice_seen, uncounted, advice_view, advice_found_under}
 use Rattle.stock.proofs.Events.{found_kept, any_push, all_push, order_kept, shares_kept, picked_kept}
 use Rattle.stock.proofs.Marks.{first_positive}

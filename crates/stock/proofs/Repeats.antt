@@ -8,14 +8,14 @@ use Rattle.std.specs.List.{list_any}
 use Rattle.profile.specs.Means.{Line, AdviceLine, OrderLine}
 use Rattle.profile.specs.Bytes.{is_one_of}
 use Rattle.profile.specs.Page.{PageLine}
-use Rattle.stock.specs.Soundness.{item_alone}
+use Rattle.goods.specs.Soundness.{item_alone}
 use Rattle.profile.specs.Events.{is_pair, repeated, same_advice_pair, same_order_item}
 use Rattle.profile.specs.Rows.{LotRow}
-use Rattle.stock.specs.Keyed.{IsSorted}
-use Rattle.stock.specs.Told.{told, one, named_by, AreRowsOf}
-use Rattle.stock.specs.Moved.{IsPlace, IsPlaced}
-use Rattle.stock.proofs.Sums.{named_append}
-use Rattle.stock.proofs.Tells.{told_there}
+use Rattle.goods.specs.Keyed.{IsSorted}
+use Rattle.goods.specs.Told.{told, one, named_by, AreRowsOf}
+use Rattle.goods.specs.Moved.{IsPlace, IsPlaced}
+use Rattle.goods.proofs.Sums.{named_append}
+use Rattle.goods.proofs.Tells.{told_there}
 
 -- no row of a pair: none of the lines is of it
 pub none_among : (item lot : List ℕ) (lines : List Line) (rows : List LotRow) → AreRowsOf lines rows

@@ -11,16 +11,16 @@ use Rattle.profile.specs.Rows.{named}
 use Rattle.profile.specs.Page.{PageAdvice, PageOrder, page_order, reserved_lines}
 use Rattle.profile.specs.Events.{Event, Ordered, quantity_of, order_if, order_under, Reserved, picks, count_naming, date_naming, order_fault, order_fault_where, repeated, same_order_item, repeated_item, wrong_order_total}
 use Rattle.profile.specs.Movements.{Column, Expected, OnHand, Reservation, Shipped}
-use Rattle.stock.specs.Told.{told, amount, given, named_by, positive}
-use Rattle.stock.specs.Pages.{PageFacts, advice_at, order_at, document_at, awaited, held, IsSound, AreSorted, is_in_lines}
+use Rattle.goods.specs.Told.{told, amount, given, named_by, positive}
+use Rattle.goods.specs.Pages.{PageFacts, advice_at, order_at, document_at, awaited, held, IsSound, AreSorted, is_in_lines}
 use Rattle.stock.specs.Shows.{Shows, is_numbered_within, NamesEachOnce}
-use Rattle.stock.specs.Steps.{opened_order, IsReserved}
+use Rattle.goods.specs.Steps.{opened_order, IsReserved}
 use Rattle.stock.proofs.Moves.{came_push, went_push, came_comes, went_comes}
-use Rattle.stock.proofs.Finds.{first_found_push, map_none}
+use Rattle.goods.proofs.Finds.{first_found_push, map_none}
 use Rattle.profile.specs.Bytes.{comes_before}
-use Rattle.stock.specs.Keyed.{rises_by, shipment_of, entry_of}
-use Rattle.stock.proofs.Keys.{was}
-use Rattle.stock.proofs.KeyLemmas.{sorted_distinct, order_sum, orders_put_in_lines, order_put_new, orders_put_sorted, advices_once, orders_once, documents_once}
+use Rattle.goods.specs.Keyed.{rises_by, shipment_of, entry_of}
+use Rattle.goods.proofs.Keys.{was}
+use Rattle.goods.proofs.KeyLemmas.{sorted_distinct, order_sum, orders_put_in_lines, order_put_new, orders_put_sorted, advices_once, orders_once, documents_once}
 use Rattle.stock.proofs.PageLemmas.{all_numbered_same}
 use Rattle.stock.proofs.Views.{order_seen, unpicked, order_view}
 use Rattle.stock.proofs.Events.{found_kept, or_else_left, any_kept, all_push, advice_kept, document_kept, counted_kept, picked_kept}

@@ -12,16 +12,16 @@ use Rattle.profile.specs.Means.{Line}
 use Rattle.profile.specs.Movements.{Column, Expected, OnHand, Reservation, Shipped}
 use Rattle.profile.specs.Page.{PageAdvice, PageOrder}
 use Rattle.profile.specs.Rows.{LotRow}
-use Rattle.stock.specs.Pages.{AreSorted, IsSound, PageFacts, awaited, held, is_in_lines}
-use Rattle.stock.specs.Soundness.{all_expected, all_reserved, is_expected, is_kept, is_reserved, is_within, most_of}
-use Rattle.stock.specs.Told.{IsDistinct, amount, is_row, one, told}
+use Rattle.goods.specs.Pages.{AreSorted, IsSound, PageFacts, awaited, held, is_in_lines}
+use Rattle.goods.specs.Soundness.{all_expected, all_reserved, is_expected, is_kept, is_reserved, is_within, most_of}
+use Rattle.goods.specs.Told.{IsDistinct, amount, is_row, one, told}
 use Rattle.profile.proofs.TextLaws.{same_text}
-use Rattle.stock.proofs.Keys.{all_at}
-use Rattle.stock.proofs.KeyLemmas.{advices_once, documents_once, orders_once, sorted_distinct}
-use Rattle.stock.proofs.LotLemmas.{told_has}
-use Rattle.stock.proofs.Orders.{Has}
-use Rattle.stock.proofs.Pairs.{quantity_no, quantity_yes}
-use Rattle.stock.proofs.Tells.{pair_is, part_no, part_yes, told_absent, told_cons}
+use Rattle.goods.proofs.Keys.{all_at}
+use Rattle.goods.proofs.KeyLemmas.{advices_once, documents_once, orders_once, sorted_distinct}
+use Rattle.goods.proofs.LotLemmas.{told_has}
+use Rattle.goods.proofs.Orders.{Has}
+use Rattle.goods.proofs.Pairs.{quantity_no, quantity_yes}
+use Rattle.goods.proofs.Tells.{pair_is, part_no, part_yes, told_absent, told_cons}
 
 -- what stands before a place, and what stands there
 pub taken_sum : {X : Type 0} (f : X → ℕ) (xs : List X) (i : ℕ) (d : X) → i < length xs → sum_by f (take i xs) + f (get_or xs i d) ≤ sum_by f xs

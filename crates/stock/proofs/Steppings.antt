@@ -9,21 +9,21 @@ use Rattle.profile.specs.Page.{PageAdvice, PageOrder, reserved_lines}
 use Rattle.profile.specs.Rows.{LotRow}
 use Rattle.stock.specs.declared.steps.Change.{Change}
 use Rattle.stock.specs.declared.steps.Change.TheVariants as change
-use Rattle.stock.specs.declared.documents.Function.TheVariants.{Receipt, Shipment, Adjustment}
-use Rattle.stock.specs.Functions.{function_text}
-use Rattle.stock.specs.Keyed.{put_advice, put_order, IsSorted}
-use Rattle.stock.specs.Moved.{IsAdded, IsAdvised, IsCounted, IsShipped, IsSet}
-use Rattle.stock.specs.Pages.{PageFacts, AreSorted, advice_at, order_at}
+use Rattle.goods.specs.declared.documents.Function.TheVariants.{Receipt, Shipment, Adjustment}
+use Rattle.goods.specs.Functions.{function_text}
+use Rattle.goods.specs.Keyed.{put_advice, put_order, IsSorted}
+use Rattle.goods.specs.Moved.{IsAdded, IsAdvised, IsCounted, IsShipped, IsSet}
+use Rattle.goods.specs.Pages.{PageFacts, AreSorted, advice_at, order_at}
 use Rattle.stock.specs.Puts.{put, put_change}
-use Rattle.stock.specs.Steps.{opened, opened_order, closed_advice, closed_order, with_sent, IsAnnounced, IsReserved, IsReceived, IsPicked, IsRecounted}
+use Rattle.goods.specs.Steps.{opened, opened_order, closed_advice, closed_order, with_sent, IsAnnounced, IsReserved, IsReceived, IsPicked, IsRecounted}
 use Rattle.stock.specs.Stops.{row_changes, advice_changes, order_changes}
-use Rattle.stock.specs.Told.{changed_rows}
+use Rattle.goods.specs.Told.{changed_rows}
 use Rattle.stock.specs.Touched.{IsTouched}
-use Rattle.stock.proofs.Keys.{put_rises}
-use Rattle.stock.proofs.KeyLemmas.{advice_put, order_put, put_sorted, texts_strict, said_sorted, sent_sorted}
+use Rattle.goods.proofs.Keys.{put_rises}
+use Rattle.goods.proofs.KeyLemmas.{advice_put, order_put, put_sorted, texts_strict, said_sorted, sent_sorted}
 use Rattle.stock.proofs.Leads.{put_rows, rows_exact, added_led, advised_led, counted_led, shipped_led, set_led}
 use Rattle.profile.specs.Bytes.{comes_before}
-use Rattle.stock.specs.Keyed.{shipment_of, number_of}
+use Rattle.goods.specs.Keyed.{shipment_of, number_of}
 
 pub stock_puts : (cs : List LotRow) (p : PageFacts) → fold put_change p (map change.Stock cs) ≡ record p { rows = put_rows cs p.rows }
 stock_puts [] p = refl

@@ -1,8 +1,8 @@
 -- What is left of an amount of each row, as lines are taken from it.
 use Rattle.std.specs.Prelude.{ℕ, ◌+◌, ◌≤◌, ◌≡◌, Bool, true, false, List, length, slice_index_or}
 use Rattle.profile.specs.Rows.{LotRow}
-use Rattle.stock.specs.Moved.{IsPlace}
-use Rattle.stock.specs.Told.{one, told}
+use Rattle.goods.specs.Moved.{IsPlace}
+use Rattle.goods.specs.Told.{one, told}
 
 -- beside each row stands what is left of its amount after what was taken of its pair, and of a pair without a row nothing was taken
 pub record IsLeft (f : LotRow → ℕ) (taken : List ℕ → List ℕ → ℕ) (rows : List LotRow) (left : List ℕ) : Type 0 where

@@ -6,8 +6,8 @@ use Rattle.profile.specs.Events.{Event, Acknowledged, Counted, Picked, Recounted
 use Rattle.profile.specs.Movements.{Column, came_to, went_from}
 use Rattle.profile.specs.Rows.{named, said_of}
 use Rattle.profile.specs.Page.{PageDocument, reserved_lines, page_advice, page_order}
-use Rattle.stock.specs.Told.{told, told_date, one, since, amount, named_by, positive}
-use Rattle.stock.specs.Pages.{PageFacts, advice_at, order_at, document_at}
+use Rattle.goods.specs.Told.{told, told_date, one, since, amount, named_by, positive}
+use Rattle.goods.specs.Pages.{PageFacts, advice_at, order_at, document_at}
 
 -- the functional identifier of the document that a clerk's event sent under a number
 abbrev pub sent_if : ℕ → Event → Option (List ℕ)

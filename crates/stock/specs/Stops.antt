@@ -12,9 +12,9 @@ use Rattle.stock.specs.declared.steps.ActStop.{ActStop}
 use Rattle.stock.specs.declared.steps.ActStop.TheVariants as acts
 use Rattle.stock.specs.declared.steps.Change.{Change}
 use Rattle.stock.specs.declared.steps.Change.TheVariants.{Stock, Advice, Order, Document}
-use Rattle.stock.specs.Told.{changed_rows}
-use Rattle.stock.specs.Pages.{PageFacts, advice_at, order_at}
-use Rattle.stock.specs.Steps.{decides}
+use Rattle.goods.specs.Told.{changed_rows}
+use Rattle.goods.specs.Pages.{PageFacts, advice_at, order_at}
+use Rattle.goods.specs.Steps.{decides}
 
 -- a set's trade fault, or want of memory
 abbrev pub StopsFor : Option SetFault → SetStop → Type 0

@@ -4,8 +4,8 @@ use Rattle.std.specs.List.{list_any}
 use Rattle.profile.specs.Events.{is_pair}
 use Rattle.profile.specs.Means.{Line}
 use Rattle.profile.specs.Rows.{LotRow}
-use Rattle.stock.specs.Keyed.{IsSorted}
-use Rattle.stock.specs.Told.{told, one}
+use Rattle.goods.specs.Keyed.{IsSorted}
+use Rattle.goods.specs.Told.{told, one}
 
 -- the rows of the pairs that lines name, as they are
 pub record IsTouched (lines : List Line) (rows touched : List LotRow) : Type 0 where

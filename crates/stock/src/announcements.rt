@@ -3,20 +3,21 @@ ghost use Rattle.profile.specs.declared.rules.Rules.TheVariants.{Two};
 ghost use Rattle.profile.specs.Limits.{most_lines, most_sets};
 ghost use Rattle.profile.specs.Events.{Event, Advised, advice_fault};
 ghost use Rattle.profile.specs.Means.{advised as meant_lines};
-ghost use Rattle.stock.specs.Pages.{PageFacts, IsSound, advice_at};
+ghost use Rattle.goods.specs.Pages.{PageFacts, IsSound, advice_at};
 ghost use Rattle.stock.specs.Parts.{Named, IsPart, NamesAdvice};
 ghost use Rattle.stock.specs.Puts.{put};
 ghost use Rattle.stock.specs.Shows.{Shows};
-ghost use Rattle.stock.specs.Steps.{IsAnnounced, opened};
+ghost use Rattle.goods.specs.Steps.{IsAnnounced, opened};
 ghost use Rattle.stock.specs.Stops.{StopsFor, advice_changes};
 
 use crate::changes::row_changes;
+use crate::copies::advised;
 use crate::faults::advice_fault;
-use crate::known_advices::KnownAdvice;
-use crate::lines::advised;
 use crate::page::Page;
-use crate::rows::{Column, add_lines, date_lines, touched};
+use crate::places::touched;
+use crate::postings::{add_lines, date_lines};
 use crate::steps::{Change, SetStop, Step};
+use goods::{Column, KnownAdvice};
 use sets_in::{Advice, Goods};
 use std::alloc::{AllocError, Global};
 

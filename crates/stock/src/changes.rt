@@ -1,10 +1,11 @@
 ghost use Rattle.std.specs.Prelude.{◌≡◌, IfOk, map};
-ghost use Rattle.stock.specs.Keyed.{IsSorted};
-ghost use Rattle.stock.specs.Told.{changed_rows};
+ghost use Rattle.goods.specs.Keyed.{IsSorted};
+ghost use Rattle.goods.specs.Told.{changed_rows};
 ghost use Rattle.stock.specs.declared.steps.Change.TheVariants.{Stock};
 
-use crate::rows::{Row, has_row};
+use crate::places::has_row;
 use crate::steps::Change;
+use goods::Row;
 use std::alloc::{AllocError, Global};
 
 /// The rows of pairs that aren't those of the page.

@@ -1,17 +1,15 @@
 ghost use Rattle.std.specs.Prelude.{◌≡◌, IfOk, MatchOption};
-ghost use Rattle.stock.specs.Keyed.{put_row, put_advice, put_order, put_document};
-ghost use Rattle.stock.specs.Pages.{PageFacts, AreSorted, IsSound};
+ghost use Rattle.goods.specs.Keyed.{put_row, put_advice, put_order, put_document};
+ghost use Rattle.goods.specs.Pages.{PageFacts, AreSorted, IsSound};
 ghost use Rattle.stock.specs.Puts.{nothing_yet, put_change};
 ghost use Rattle.stock.specs.declared.steps.Change.TheVariants as changed;
 
-use crate::documents::{Function, KnownDocument};
-use crate::known_advices::KnownAdvice;
-use crate::known_orders::KnownOrder;
 use crate::page::Page;
-use crate::rows::{Row, put_row};
+use crate::places::put_row;
 use crate::searches::{put_advice, put_document, put_order, put_said, send};
 use crate::sound::is_kept;
 use crate::steps::Change;
+use goods::{Function, KnownAdvice, KnownDocument, KnownOrder, Row};
 use std::alloc::{AllocError, Global};
 use std::marker::Model;
 

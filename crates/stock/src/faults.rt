@@ -1,13 +1,13 @@
 ghost use Rattle.std.specs.Prelude.{◌≡◌, ◌<◌, ◌-◌, ◌^◌, IfOk, IfSome, List, [], sum_by, Option, find, option_map};
 ghost use Rattle.profile.specs.Means as meant;
 ghost use Rattle.profile.specs.Events as events;
-ghost use Rattle.stock.specs.Keyed.{IsSorted};
-ghost use Rattle.stock.specs.Told.{told_date};
+ghost use Rattle.goods.specs.Keyed.{IsSorted};
+ghost use Rattle.goods.specs.Told.{told_date};
 ghost use Rattle.sets_in.specs.Limits.{HasFewLines, HasFewOrderLines};
 ghost use Rattle.tables.specs.Judged.{told};
 
-use crate::lots::new_line;
-use crate::rows::{Row, is_among, is_redated, placed};
+use crate::places::{is_among, is_redated, placed};
+use goods::{Row, new_line};
 use sets_in::{Advice, AdviceLine, Order, OrderLine};
 use std::alloc::{AllocError, Global};
 use tables::SetFault;

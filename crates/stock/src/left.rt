@@ -1,15 +1,13 @@
 //! What is left of rows' amounts as lines are taken from them: each line is looked up once.
 ghost use Rattle.std.specs.Prelude.{◌≡◌, ◌∷◌, [], IfOk, length, map};
 ghost use Rattle.profile.specs.Events as events;
-ghost use Rattle.stock.specs.Columns.{column_of};
-ghost use Rattle.stock.specs.Keyed.{IsSorted};
+ghost use Rattle.goods.specs.Columns.{column_of};
+ghost use Rattle.goods.specs.Keyed.{IsSorted};
 ghost use Rattle.stock.specs.Left.{IsLess};
-ghost use Rattle.stock.specs.Pages as pages;
-ghost use Rattle.stock.specs.Told.{amount};
+ghost use Rattle.goods.specs.Pages as pages;
+ghost use Rattle.goods.specs.Told.{amount};
 
-use crate::known_advices::KnownAdvice;
-use crate::known_orders::KnownOrder;
-use crate::rows::{Column, Row, place_of};
+use goods::{Column, KnownAdvice, KnownOrder, Row, place_of};
 use sets_in::Goods;
 use std::alloc::{AllocError, Global};
 

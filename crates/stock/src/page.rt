@@ -2,19 +2,16 @@ ghost use Rattle.std.specs.Prelude.{length, ◌≡◌, ◌<◌, ◌+◌, List, [
 ghost use Rattle.profile.specs.Limits.{most_entries};
 ghost use Rattle.profile.specs.Events.{Event, Enrolment};
 ghost use Rattle.profile.specs.Movements.{OnHand, balance};
-ghost use Rattle.stock.specs.Pages.{PageFacts, IsSound, advice_at, order_at, document_at, next_entry};
+ghost use Rattle.goods.specs.Pages.{PageFacts, IsSound, advice_at, order_at, document_at, next_entry};
 ghost use Rattle.stock.specs.Parts.{Named, IsPart};
 ghost use Rattle.stock.specs.Puts.{put};
 ghost use Rattle.stock.specs.Shows.{Shows};
-ghost use Rattle.stock.specs.Told.{told, amount};
+ghost use Rattle.goods.specs.Told.{told, amount};
 
-use crate::documents::KnownDocument;
 use crate::drafts::Draft;
-use crate::known_advices::KnownAdvice;
-use crate::known_orders::KnownOrder;
-use crate::rows::{Column, Row, amount_of};
 use crate::searches::{place_of_advice, place_of_document, place_of_order};
 use crate::steps::Step;
+use goods::{Column, KnownAdvice, KnownDocument, KnownOrder, Row, amount_of};
 use std::alloc::{AllocError, Global};
 use std::marker::Model;
 

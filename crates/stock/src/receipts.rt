@@ -2,22 +2,22 @@ ghost use Rattle.std.specs.Prelude.{◌≡◌, ◌<◌, ◌+◌, ◌++◌, [], �
 ghost use Rattle.profile.specs.Limits.{most_sets};
 ghost use Rattle.profile.specs.Clerk.{counted};
 ghost use Rattle.profile.specs.Events.{Event};
-ghost use Rattle.stock.specs.Pages.{PageFacts, IsSound, advice_at};
+ghost use Rattle.goods.specs.Pages.{PageFacts, IsSound, advice_at};
 ghost use Rattle.stock.specs.Parts.{Named, IsPart, NamesCount, are_items};
 ghost use Rattle.stock.specs.Puts.{put};
 ghost use Rattle.stock.specs.Shows.{Shows};
-ghost use Rattle.stock.specs.Steps.{IsReceived};
+ghost use Rattle.goods.specs.Steps.{IsReceived};
 ghost use Rattle.stock.specs.Stops.{StopsAct, advice_changes};
-ghost use Rattle.stock.specs.declared.documents.Function.TheVariants.{Receipt};
+ghost use Rattle.goods.specs.declared.documents.Function.TheVariants.{Receipt};
 ghost use Rattle.stock.specs.declared.steps.Change.TheVariants.{Sent};
 
 use crate::changes::row_changes;
-use crate::documents::Function;
-use crate::known_advices::KnownAdvice;
-use crate::lines::joined;
+use crate::copies::joined;
 use crate::page::Page;
-use crate::rows::{count, touched};
+use crate::places::touched;
+use crate::postings::count;
 use crate::steps::{ActStop, Change, Step};
+use goods::{Function, KnownAdvice};
 use sheets::Sheet;
 use std::alloc::{AllocError, Global};
 

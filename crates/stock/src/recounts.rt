@@ -1,81 +1,25 @@
 ghost use Rattle.std.specs.Prelude.{◌≡◌, ◌<◌, ◌+◌, ◌++◌, [], ◌∷◌, List, Ok, IfOk, IfErr, true, false};
-ghost use Rattle.std.specs.List.{list_any, list_all};
+ghost use Rattle.std.specs.List.{list_any};
 ghost use Rattle.profile.specs.Limits.{most_sets};
 ghost use Rattle.profile.specs.Clerk.{recounted};
 ghost use Rattle.profile.specs.Events.{Event};
-ghost use Rattle.stock.specs.Keyed.{IsSorted};
-ghost use Rattle.stock.specs.Pages.{PageFacts, IsSound};
+ghost use Rattle.goods.specs.Pages.{PageFacts, IsSound};
 ghost use Rattle.stock.specs.Parts.{Named, IsPart, are_items};
 ghost use Rattle.stock.specs.Puts.{put};
 ghost use Rattle.stock.specs.Shows.{Shows};
-ghost use Rattle.stock.specs.Steps.{IsRecounted, is_unknown, is_below, is_on_hand};
+ghost use Rattle.goods.specs.Steps.{IsRecounted, is_unknown, is_below};
 ghost use Rattle.stock.specs.Stops.{StopsAct, row_changes};
-ghost use Rattle.stock.specs.declared.documents.Function.TheVariants.{Adjustment};
+ghost use Rattle.goods.specs.declared.documents.Function.TheVariants.{Adjustment};
 ghost use Rattle.stock.specs.declared.steps.Change.TheVariants.{Sent};
 
 use crate::changes::row_changes;
-use crate::documents::Function;
 use crate::page::Page;
-use crate::rows::{Column, Row, amount_of, set_lines, since_of, touched};
+use crate::places::touched;
+use crate::postings::set_lines;
 use crate::steps::{ActStop, Change, Step};
-use sets_in::Goods;
+use goods::{Function, are_on_hand, has_below, has_unknown};
 use sheets::Sheet;
 use std::alloc::{AllocError, Global};
-
-// Whether no count named the pair of one of the lines.
-fn has_unknown(rows: &[Row], lines: &[Goods]) -> bool
-    requires { IsSorted rows.now }
-    ensures { result ≡ list_any (is_unknown rows.now) lines.now }
-{
-    for line in lines {
-        if since_of(rows, &line.item, &line.lot) == 0 {
-            return true;
-        }
-    }
-    false
-}
-
-// Whether a line is below what is reserved of its pair.
-fn is_below(rows: &[Row], line: &Goods) -> bool
-    requires { IsSorted rows.now }
-    ensures { result ≡ is_below rows.now line.now }
-{
-    u64::from(line.quantity) < amount_of(rows, Column::Reservation, &line.item, &line.lot)
-}
-
-// Whether one of the lines is below what is reserved of its pair.
-fn has_below(rows: &[Row], lines: &[Goods]) -> bool
-    requires { IsSorted rows.now }
-    ensures { result ≡ list_any (is_below rows.now) lines.now }
-{
-    for line in lines {
-        if is_below(rows, line) {
-            return true;
-        }
-    }
-    false
-}
-
-// Whether a line is what is on hand of its pair.
-fn is_on_hand(rows: &[Row], line: &Goods) -> bool
-    requires { IsSorted rows.now }
-    ensures { result ≡ is_on_hand rows.now line.now }
-{
-    u64::from(line.quantity) == amount_of(rows, Column::OnHand, &line.item, &line.lot)
-}
-
-// Whether each line is what is on hand of its pair.
-fn are_on_hand(rows: &[Row], lines: &[Goods]) -> bool
-    requires { IsSorted rows.now }
-    ensures { result ≡ list_all (is_on_hand rows.now) lines.now }
-{
-    for line in lines {
-        if !is_on_hand(rows, line) {
-            return false;
-        }
-    }
-    true
-}
 
 // What changes when what is on hand is as the sheet says.
 fn changes(alloc: Global, page: &Page, sheet: &Sheet) -> Result<Vec<Change>, AllocError>

@@ -1,13 +1,11 @@
 ghost use Rattle.std.specs.Prelude.{◌≡◌, None, MatchOption, OnOk, true, nat_lt};
 ghost use Rattle.profile.specs.Bytes.{comes_before};
-ghost use Rattle.stock.specs.Functions.{function_text};
-ghost use Rattle.stock.specs.Keyed.{rises_by, IsRank, shipment_of, number_of, entry_of, put_advice, put_order, put_document};
-ghost use Rattle.stock.specs.Pages.{IsAt, is_shipment, is_number, is_document, advice_at, order_at, document_at};
-ghost use Rattle.stock.specs.Steps.{with_sent, with_said};
+ghost use Rattle.goods.specs.Functions.{function_text};
+ghost use Rattle.goods.specs.Keyed.{rises_by, IsRank, shipment_of, number_of, entry_of, put_advice, put_order, put_document};
+ghost use Rattle.goods.specs.Pages.{IsAt, is_shipment, is_number, is_document, advice_at, order_at, document_at};
+ghost use Rattle.goods.specs.Steps.{with_sent, with_said};
 
-use crate::documents::{Function, KnownDocument};
-use crate::known_advices::KnownAdvice;
-use crate::known_orders::KnownOrder;
+use goods::{Function, KnownAdvice, KnownDocument, KnownOrder};
 use std::alloc::AllocError;
 
 // How many advices come before a shipment number.

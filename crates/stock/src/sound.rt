@@ -1,50 +1,21 @@
 //! Whether lists are those of a page: what is true of every page is checked of them.
-ghost use Rattle.std.specs.Prelude.{◌≡◌, ◌+◌, ◌<◌, ◌^◌, IfOk, MatchOption, map, nat_le, nat_lt, true, bytes_eq, if◌then◌else◌};
+ghost use Rattle.std.specs.Prelude.{◌≡◌, ◌+◌, ◌<◌, IfOk, MatchOption, map, nat_le, true, bytes_eq, if◌then◌else◌};
 ghost use Rattle.std.specs.List.{list_all, list_any};
-ghost use Rattle.profile.specs.Bytes.{comes_before, is_one_of};
+ghost use Rattle.profile.specs.Bytes.{is_one_of};
 ghost use Rattle.profile.specs.Events as events;
-ghost use Rattle.profile.specs.Limits.{most_entries};
-ghost use Rattle.stock.specs.Keyed.{IsSorted, entry_of, key_before, number_of, rises_by, row_key, shipment_of};
-ghost use Rattle.stock.specs.Pages as pages;
-ghost use Rattle.stock.specs.Soundness as meant;
-ghost use Rattle.stock.specs.Told.{AreRowsOf};
+ghost use Rattle.goods.specs.Keyed.{IsSorted};
+ghost use Rattle.goods.specs.Pages as pages;
+ghost use Rattle.goods.specs.Soundness as meant;
+ghost use Rattle.goods.specs.Told.{AreRowsOf};
 
-use crate::documents::KnownDocument;
-use crate::known_advices::KnownAdvice;
-use crate::known_orders::{KnownLine, KnownOrder};
 use crate::left::{amounts, take_awaited, take_held};
-use crate::lines::is_of;
-use crate::lots::new_line;
-use crate::rows::{Column, Row, amount_of, is_among, placed};
-use profile::{MOST_ENTRIES, MOST_RECOUNTED, MOST_SETS};
+use crate::places::{is_among, placed};
+use goods::{
+    Column, KnownAdvice, KnownLine, KnownOrder, Row, amount_of, are_within, is_of, new_line,
+};
+use profile::MOST_ENTRIES;
 use sets_in::Goods;
 use std::alloc::{AllocError, Global};
-
-// Whether no more is reserved of a row than is on hand, and no amount is above the most.
-fn is_within(row: &Row, most: u64) -> bool
-    ensures { result ≡ meant.is_within most row.now }
-{
-    row.reserved <= row.on_hand
-        && row.expected <= most
-        && row.on_hand <= most
-        && row.shipped <= most
-}
-
-// Whether that holds of each row.
-fn all_within(rows: &[Row], most: u64) -> bool
-    ensures { result ≡ list_all (meant.is_within most) rows.now }
-{
-    rows.iter().all(|row| is_within(row, most))
-}
-
-// Whether that holds of each row, after so many entries.
-fn are_within(rows: &[Row], entries: u32) -> bool
-    requires { entries < most_entries + 1 }
-    ensures { result ≡ list_all (meant.is_within (meant.most_of entries)) rows.now }
-{
-    let most = (u64::from(MOST_RECOUNTED) + 1) * (MOST_SETS as u64 * u64::from(entries));
-    all_within(rows, most)
-}
 
 // What is left of an amount after what lines give a pair; None where they give more.
 fn left_after(lines: &[Goods], item: &[u8], lot: &[u8], amount: u64) -> Option<u64>

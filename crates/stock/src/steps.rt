@@ -1,9 +1,6 @@
 ghost use Rattle.std.specs.Prelude.{◌≡◌};
 
-use crate::documents::Function;
-use crate::known_advices::KnownAdvice;
-use crate::known_orders::KnownOrder;
-use crate::rows::Row;
+use goods::{Function, KnownAdvice, KnownOrder, Row};
 use std::alloc::AllocError;
 use tables::SetFault;
 

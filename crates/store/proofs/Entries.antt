@@ -29,7 +29,7 @@ use Rattle.profile.specs.Reply.{out, stored}
 use Rattle.profile.proofs.TextLaws.{text_is, both_parts}
 use Rattle.profile.proofs.HistoryLaws.{history-numbered, history_snoc}
 use Rattle.profile.proofs.DecisionLaws.{out-by}
-use Rattle.stock.specs.Pages.{PageFacts, IsSound}
+use Rattle.goods.specs.Pages.{PageFacts, IsSound}
 use Rattle.profile.specs.History.{events}
 use Rattle.profile.specs.Rows.{StockRow, shown_row, stock_rows, stock_of}
 use Rattle.rules.proofs.Rowed.{rows_are}

@@ -21,7 +21,7 @@ use Rattle.std.specs.Prelude.{option_copied}
 use Rattle.profile.specs.Decision as meant
 use Rattle.profile.specs.Decision.{recalled, standing, reply_by}
 use Rattle.profile.proofs.DecisionLaws.{reply-by}
-use Rattle.stock.specs.Pages.{PageFacts}
+use Rattle.goods.specs.Pages.{PageFacts}
 use Rattle.rules.specs.Decided.{StandsFor, IsEntry, IsRecalled, IsUnder, IsGiven, IsReply, entries_of}
 use Rattle.rules.specs.Written.{Recalled}
 use Rattle.rules.specs.declared.decisions.Decision.{Decision}

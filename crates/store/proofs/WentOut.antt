@@ -17,7 +17,7 @@ use Rattle.profile.specs.Register.{Deed, Enrolled, Received, Performed, Entry, o
 use Rattle.profile.specs.Reply.{out}
 use Rattle.profile.specs.Rows.{OutRow, out_row, outgoing_on, outbox_rows, outbox_of, act_function, act_kind, state_text, said_of}
 use Rattle.profile.specs.Tables.{number_of}
-use Rattle.stock.specs.Pages.{PageFacts, document_at}
+use Rattle.goods.specs.Pages.{PageFacts, document_at}
 use Rattle.stock.specs.Shows.{document_of, sent_under}
 use Rattle.rules.specs.Decided.{IsPageOf}
 use Rattle.rules.specs.Written.{Written, written}

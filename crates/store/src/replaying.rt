@@ -9,7 +9,7 @@ ghost use Rattle.profile.specs.History.{History, history, events};
 ghost use Rattle.profile.specs.Header.{Who as Partner};
 ghost use Rattle.rules.specs.Decided.{IsHeldAtRest, IsRecalled, IsPageOf};
 ghost use Rattle.rules.specs.Written.{written};
-ghost use Rattle.stock.specs.Pages.{IsAt};
+ghost use Rattle.goods.specs.Pages.{IsAt};
 ghost use Rattle.store.specs.Held.{IsHeld, IsHeldFor};
 ghost use Rattle.store.specs.Open.{open_of, open_on, enrolled};
 ghost use Rattle.store.specs.Replayed.{all_written, is_under};

@@ -2,7 +2,7 @@ use Rattle.std.proofs.Common.{List, ap, ◌∙◌, sym, subst, arith, length}
 use Rattle.profile.specs.Texts.{Told}
 use Rattle.sets_out.specs.Headings.{heading_of}
 use Rattle.sets_out.specs.Interchanges.{answer_of}
-use Rattle.stock.specs.Pages.{PageFacts}
+use Rattle.goods.specs.Pages.{PageFacts}
 use Rattle.std.specs.Prelude.{sum_by}
 use Rattle.std.specs.List.{AllByRecursion}
 use Rattle.profile.specs.Structure.{Group, groups_of}

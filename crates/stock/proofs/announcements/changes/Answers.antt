@@ -3,9 +3,9 @@ use Rattle.std.proofs.lemmas.List.{length-map}
 use Rattle.profile.specs.Means.{AdviceLine, Line, advised}
 use Rattle.profile.specs.Movements.{Expected}
 use Rattle.stock.specs.declared.steps.Change.TheVariants as change
-use Rattle.stock.specs.Moved.{IsAdded, IsDated, IsAdvised}
-use Rattle.stock.specs.Steps.{opened}
-use Rattle.stock.specs.Told.{amount, named_by, changed_rows}
+use Rattle.goods.specs.Moved.{IsAdded, IsDated, IsAdvised}
+use Rattle.goods.specs.Steps.{opened}
+use Rattle.goods.specs.Told.{amount, named_by, changed_rows}
 use Rattle.stock.specs.Touched.{IsTouched}
 use Rattle.stock.proofs.Announces.{advised_fits, announced_sound}
 use Rattle.stock.proofs.Dated.{advised_made}

@@ -1,7 +1,7 @@
 use Rattle.std.proofs.Common.{◌≡◌, drop}
 use Rattle.std.specs.Prelude.{find}
 use Rattle.profile.specs.Events.{is_redated}
-use Rattle.stock.specs.Told.{told_date}
+use Rattle.goods.specs.Told.{told_date}
 use Rattle.stock.proofs.faults.redated_pair.Given as goal
 
 abbrev pub invariant-loop-line : goal.invariant-loop-line

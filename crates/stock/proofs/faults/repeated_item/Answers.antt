@@ -2,7 +2,7 @@ use Rattle.std.proofs.Common.{map, take, Some, ap, sym, ◌∙◌, subst}
 use Rattle.std.specs.Prelude.{option_map}
 use Rattle.profile.specs.Means.{Line, OrderLine}
 use Rattle.profile.specs.Events.{same_order_item}
-use Rattle.stock.specs.Moved.{IsPlaced}
+use Rattle.goods.specs.Moved.{IsPlaced}
 use Rattle.stock.proofs.Repeats.{item_line, items_alike, stood_again, stood_more}
 use Rattle.stock.proofs.faults.repeated_item.Goals as goal
 

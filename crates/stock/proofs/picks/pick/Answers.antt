@@ -4,13 +4,13 @@ use Rattle.std.specs.List.{list_any}
 use Rattle.profile.specs.Refusals.{UnknownOrder, OrderClosed, NotReserved}
 use Rattle.profile.specs.Events.{Picked}
 use Rattle.profile.specs.Page.{PageOrder}
-use Rattle.stock.specs.declared.documents.Function.TheVariants.{Shipment}
+use Rattle.goods.specs.declared.documents.Function.TheVariants.{Shipment}
 use Rattle.stock.specs.declared.steps.Change.TheVariants.{Sent}
-use Rattle.stock.specs.Pages.{order_at, is_number}
+use Rattle.goods.specs.Pages.{order_at, is_number}
 use Rattle.stock.specs.Puts.{put}
-use Rattle.stock.specs.Steps.{exceeds}
+use Rattle.goods.specs.Steps.{exceeds}
 use Rattle.stock.specs.Stops.{order_changes}
-use Rattle.stock.proofs.Finds.{found_says}
+use Rattle.goods.proofs.Finds.{found_says}
 use Rattle.stock.proofs.Ships.{held_fits, order_known, picked_shows, picked_unknown, picked_closed, picked_excess, picked_ok}
 use Rattle.stock.proofs.picks.pick.Goals as goal
 

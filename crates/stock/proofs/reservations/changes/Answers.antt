@@ -2,9 +2,9 @@ use Rattle.std.proofs.Common.{List, true, refl, ◌≡◌, ◌∙◌, ◌∷◌,
 use Rattle.profile.specs.Movements.{Reservation}
 use Rattle.profile.specs.Page.{reserved_lines}
 use Rattle.stock.specs.declared.steps.Change.TheVariants as change
-use Rattle.stock.specs.Moved.{IsAdded}
-use Rattle.stock.specs.Steps.{opened_order}
-use Rattle.stock.specs.Told.{amount, changed_rows}
+use Rattle.goods.specs.Moved.{IsAdded}
+use Rattle.goods.specs.Steps.{opened_order}
+use Rattle.goods.specs.Told.{amount, changed_rows}
 use Rattle.stock.specs.Touched.{IsTouched}
 use Rattle.stock.proofs.Allots.{IsAllotted, allotted}
 use Rattle.stock.proofs.Leads.{touched_less}
@@ -13,7 +13,7 @@ use Rattle.profile.specs.Means.{Line}
 use Rattle.stock.specs.Parts.{all_named, are_items}
 use Rattle.stock.proofs.PartLemmas.{reserved_whole, part_of_self, all_ordered}
 use Rattle.stock.proofs.PartShares.{opened_in_lines, reserved_items}
-use Rattle.stock.specs.Pages.{is_in_lines}
+use Rattle.goods.specs.Pages.{is_in_lines}
 use Rattle.stock.proofs.reservations.changes.Goals as goal
 
 pub add_lines-requires-clause-fits : goal.add_lines-requires-clause-fits

@@ -1,10 +1,10 @@
 use Rattle.std.proofs.Common.{sym, ap, ◌∙◌, arith}
 use Rattle.std.proofs.lemmas.List.{get_or_default}
 use Rattle.profile.specs.Bytes.{comes_before}
-use Rattle.stock.specs.Keyed.{shipment_of}
-use Rattle.stock.specs.Pages.{is_shipment}
-use Rattle.stock.proofs.Keys.{rank_at, rank_none}
-use Rattle.stock.proofs.KeyLemmas.{texts_strict, shipment_test}
+use Rattle.goods.specs.Keyed.{shipment_of}
+use Rattle.goods.specs.Pages.{is_shipment}
+use Rattle.goods.proofs.Keys.{rank_at, rank_none}
+use Rattle.goods.proofs.KeyLemmas.{texts_strict, shipment_test}
 use Rattle.stock.proofs.searches.place_of_advice.Goals as goal
 
 pub returns-then-i-advices : goal.returns-then-i-advices

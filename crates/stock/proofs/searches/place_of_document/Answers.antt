@@ -1,10 +1,10 @@
 use Rattle.std.proofs.Common.{sym, ap, ◌∙◌, arith}
 use Rattle.std.proofs.lemmas.List.{get_or_default}
 use Rattle.std.specs.Prelude.{nat_lt}
-use Rattle.stock.specs.Keyed.{entry_of}
-use Rattle.stock.specs.Pages.{is_document}
-use Rattle.stock.proofs.Keys.{rank_at, rank_none}
-use Rattle.stock.proofs.KeyLemmas.{numbers_strict, document_test}
+use Rattle.goods.specs.Keyed.{entry_of}
+use Rattle.goods.specs.Pages.{is_document}
+use Rattle.goods.proofs.Keys.{rank_at, rank_none}
+use Rattle.goods.proofs.KeyLemmas.{numbers_strict, document_test}
 use Rattle.stock.proofs.searches.place_of_document.Goals as goal
 
 pub returns-then-i-documents : goal.returns-then-i-documents

@@ -1,5 +1,5 @@
 use Rattle.std.proofs.Common.{◌∙◌}
-use Rattle.stock.proofs.KeyLemmas.{advice_set, advice_insert}
+use Rattle.goods.proofs.KeyLemmas.{advice_set, advice_insert}
 use Rattle.stock.proofs.searches.put_advice.Goals as goal
 
 pub returns-in-Some : goal.returns-in-Some

@@ -1,6 +1,6 @@
 use Rattle.std.proofs.Common.{◌∙◌, ap}
 use Rattle.profile.specs.Page.{PageDocument}
-use Rattle.stock.proofs.KeyLemmas.{document_set, document_insert}
+use Rattle.goods.proofs.KeyLemmas.{document_set, document_insert}
 use Rattle.stock.proofs.searches.put_document.Goals as goal
 
 pub returns-in-Some : goal.returns-in-Some

@@ -1,6 +1,6 @@
 use Rattle.std.proofs.Common.{◌∙◌, ap}
 use Rattle.profile.specs.Page.{PageOrder}
-use Rattle.stock.proofs.KeyLemmas.{order_set, order_insert}
+use Rattle.goods.proofs.KeyLemmas.{order_set, order_insert}
 use Rattle.stock.proofs.searches.put_order.Goals as goal
 
 pub returns-in-Some : goal.returns-in-Some

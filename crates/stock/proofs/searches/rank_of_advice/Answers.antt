@@ -1,9 +1,9 @@
 use Rattle.std.proofs.Common.{rules}
 use Rattle.std.proofs.lemmas.List.Sorted.{IsPartitionPoint-from_clause}
 use Rattle.profile.specs.Bytes.{comes_before}
-use Rattle.stock.specs.Keyed.{shipment_of}
-use Rattle.stock.proofs.Keys.{parted, ranked}
-use Rattle.stock.proofs.KeyLemmas.{texts_strict}
+use Rattle.goods.specs.Keyed.{shipment_of}
+use Rattle.goods.proofs.Keys.{parted, ranked}
+use Rattle.goods.proofs.KeyLemmas.{texts_strict}
 use Rattle.stock.proofs.searches.rank_of_advice.Goals as goal
 
 pub returns : goal.returns

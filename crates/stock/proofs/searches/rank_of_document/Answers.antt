@@ -1,9 +1,9 @@
 use Rattle.std.proofs.Common.{rules}
 use Rattle.std.proofs.lemmas.List.Sorted.{IsPartitionPoint-from_clause}
 use Rattle.std.specs.Prelude.{nat_lt}
-use Rattle.stock.specs.Keyed.{entry_of}
-use Rattle.stock.proofs.Keys.{parted, ranked}
-use Rattle.stock.proofs.KeyLemmas.{numbers_strict}
+use Rattle.goods.specs.Keyed.{entry_of}
+use Rattle.goods.proofs.Keys.{parted, ranked}
+use Rattle.goods.proofs.KeyLemmas.{numbers_strict}
 use Rattle.stock.proofs.searches.rank_of_document.Goals as goal
 
 pub returns : goal.returns

@@ -1,6 +1,6 @@
 use Rattle.std.proofs.Common.{◌∙◌}
-use Rattle.stock.specs.Functions.{function_text}
-use Rattle.stock.proofs.KeyLemmas.{sent_there, sent_insert}
+use Rattle.goods.specs.Functions.{function_text}
+use Rattle.goods.proofs.KeyLemmas.{sent_there, sent_insert}
 use Rattle.stock.proofs.searches.send.Goals as goal
 
 pub returns-in-Some : goal.returns-in-Some

@@ -1,6 +1,6 @@
 use Rattle.std.proofs.Common.{◌≡◌, take, true}
 use Rattle.std.specs.List.{list_all}
-use Rattle.stock.specs.Soundness.{is_expected}
+use Rattle.goods.specs.Soundness.{is_expected}
 use Rattle.stock.proofs.sound.are_expected.Given as goal
 
 -- all lines so far pass

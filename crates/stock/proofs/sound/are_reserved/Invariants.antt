@@ -1,6 +1,6 @@
 use Rattle.std.proofs.Common.{◌≡◌, take, true}
 use Rattle.std.specs.List.{list_all}
-use Rattle.stock.specs.Soundness.{is_reserved}
+use Rattle.goods.specs.Soundness.{is_reserved}
 use Rattle.stock.proofs.sound.are_reserved.Given as goal
 
 -- all lines so far pass

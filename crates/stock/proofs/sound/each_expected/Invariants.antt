@@ -1,5 +1,5 @@
 use Rattle.std.proofs.Common.{◌≡◌, take, true}
-use Rattle.stock.specs.Soundness.{all_expected}
+use Rattle.goods.specs.Soundness.{all_expected}
 use Rattle.stock.proofs.sound.each_expected.Given as goal
 
 -- all advices so far pass

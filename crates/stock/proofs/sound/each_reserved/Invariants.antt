@@ -1,5 +1,5 @@
 use Rattle.std.proofs.Common.{◌≡◌, take, true}
-use Rattle.stock.specs.Soundness.{all_reserved}
+use Rattle.goods.specs.Soundness.{all_reserved}
 use Rattle.stock.proofs.sound.each_reserved.Given as goal
 
 -- all orders so far pass

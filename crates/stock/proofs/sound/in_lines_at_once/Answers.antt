@@ -4,7 +4,7 @@ use Rattle.std.proofs.lemmas.List.Folds.{list_all_at, list_all_more}
 use Rattle.profile.specs.Bytes.{is_one_of}
 use Rattle.profile.specs.Means.{Line}
 use Rattle.profile.specs.Page.{PageOrder}
-use Rattle.stock.specs.Soundness.{item_alone}
+use Rattle.goods.specs.Soundness.{item_alone}
 use Rattle.stock.proofs.Repeats.{item_among}
 use Rattle.stock.proofs.sound.in_lines_at_once.Goals as goal
 

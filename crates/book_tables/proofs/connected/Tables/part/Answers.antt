@@ -3,7 +3,7 @@ use Rattle.sqlite.specs.Held.{state}
 use Rattle.profile.specs.Header.{Who}
 use Rattle.profile.specs.Page.{page_of}
 use Rattle.profile.specs.Register.{Entry, own}
-use Rattle.stock.specs.Pages.{IsSound, PageFacts}
+use Rattle.goods.specs.Pages.{IsSound, PageFacts}
 use Rattle.stock.specs.Puts.{nothing_yet}
 use Rattle.stock.proofs.Gathered.{nothing_part}
 use Rattle.rules.specs.Naming.{facts_of}

@@ -1,8 +1,8 @@
 use Rattle.std.proofs.Common.{◌≡◌, ◌∙◌, ap, sym, Some, None}
 use Rattle.profile.specs.Page.{page_of}
 use Rattle.profile.specs.Register.{own}
-use Rattle.stock.specs.Pages.{PageFacts, advice_at}
-use Rattle.stock.specs.Keyed.{put_advice}
+use Rattle.goods.specs.Pages.{PageFacts, advice_at}
+use Rattle.goods.specs.Keyed.{put_advice}
 use Rattle.stock.proofs.Gathered.{advice_absent, advice_part}
 use Rattle.rules.specs.Naming.{facts_of}
 use Rattle.rules.proofs.Defines.{page_in_order}

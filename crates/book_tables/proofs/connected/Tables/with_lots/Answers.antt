@@ -3,9 +3,9 @@ use Rattle.std.specs.Prelude.{fold}
 use Rattle.profile.specs.Page.{page_of}
 use Rattle.profile.specs.Register.{own}
 use Rattle.profile.specs.Rows.{LotRow}
-use Rattle.stock.specs.Pages.{PageFacts}
+use Rattle.goods.specs.Pages.{PageFacts}
 use Rattle.stock.specs.Parts.{part_of}
-use Rattle.stock.specs.Keyed.{put_row}
+use Rattle.goods.specs.Keyed.{put_row}
 use Rattle.stock.proofs.Gathered.{lots_part}
 use Rattle.rules.specs.Naming.{facts_of}
 use Rattle.rules.proofs.Defines.{page_in_order}

@@ -3,7 +3,7 @@ use Rattle.std.proofs.lemmas.Result.{IfOk-weaker}
 use Rattle.profile.specs.Decision.{standing}
 use Rattle.profile.specs.Register.{own}
 use Rattle.sqlite.specs.Held.{state}
-use Rattle.stock.specs.Pages.{PageFacts}
+use Rattle.goods.specs.Pages.{PageFacts}
 use Rattle.store.specs.Held.{IsHeld}
 use Rattle.books.proofs.AskedBooks.{asked_faults, asked_unchanged}
 use Rattle.book_tables.proofs.NeededParts.{held_needed}

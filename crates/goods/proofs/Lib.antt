@@ -1,0 +1,14 @@
+pub mod Orders
+pub mod Texts
+pub mod Keys
+pub mod Finds
+pub mod KeyLemmas
+pub mod Dates
+pub mod Tells
+pub mod Sums
+pub mod Pairs
+pub mod Ranks
+pub mod LotLemmas
+pub mod Shares
+pub mod Rising
+pub mod Halves

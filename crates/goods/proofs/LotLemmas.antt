@@ -1,0 +1,229 @@
+-- The lots that rows name.
+use Rattle.std.proofs.Common.{◌≡◌, ℕ, zero, suc, ◌+◌, ◌<◌, ◌≤◌, Bool, true, false, cond, ltb, List, [], ◌∷◌, ◌++◌, ◌⊎◌, refl, ap, sym, ◌∙◌, subst, inl, inr, arith, length, get_or, take, map, Option, Some}
+use Rattle.std.proofs.lemmas.Bool.{cases_Bool, both_ways, and_parts, ltb-true, lt-ltb}
+use Rattle.std.proofs.lemmas.List.{take_more, map-append, append-nil}
+use Rattle.std.proofs.lemmas.List.Elements.{filter-append}
+use Rattle.std.proofs.lemmas.Slice.Eq.{bytes_eq-Decides}
+use Rattle.std.specs.Prelude.{bytes_eq, filter, find, option_and_then}
+use Rattle.profile.specs.declared.rules.Rules.{Rules}
+use Rattle.profile.specs.Lists.{placed, in_order}
+use Rattle.profile.specs.Rows.{LotRow}
+use Rattle.profile.specs.Allotment.{Ranked, ranks_before}
+use Rattle.goods.specs.Lots.{is_lot_of, rank_of, ranks_of}
+use Rattle.profile.specs.Bytes.{comes_before}
+use Rattle.goods.proofs.Orders.{Has, AreTotal, in_order_same}
+use Rattle.goods.proofs.Texts.{texts_never}
+use Rattle.goods.proofs.Ranks.{ranks_order, ranks_total}
+use Rattle.goods.specs.Told.{is_row, told, told_date, one, since as first_count, IsDistinct}
+use Rattle.goods.proofs.Dates.{dates_same}
+use Rattle.goods.proofs.Tells.{told_cons, told_absent, part_yes, part_no, row_is}
+
+pub has_append : {X : Type 0} (z : X) (xs ys : List X) → Has z (xs ++ ys) → Has z xs ⊎ Has z ys
+has_append z [] ys h = inr h
+has_append z (x ∷ xs) ys h = elim h [ inl a ↦ inl (inl a) | inr b ↦ elim (has_append z xs ys b) [ inl a ↦ inl (inr a) | inr c ↦ inr c ] ]
+
+pub append_has : {X : Type 0} (z : X) (xs ys : List X) → Has z xs ⊎ Has z ys → Has z (xs ++ ys)
+append_has z [] ys h = elim h [ inl a ↦ absurd a | inr b ↦ b ]
+append_has z (x ∷ xs) ys h = elim h [
+  | inl a ↦ elim a [ inl b ↦ inl b | inr b ↦ inr (append_has z xs ys (inl b)) ]
+  | inr b ↦ inr (append_has z xs ys (inr b))
+]
+
+-- one rank more
+pub ranks_push : (r : Rules) (xs : List Ranked) (x : Ranked) → AreTotal (ranks_before r) (x ∷ xs)
+    → placed (ranks_before r) x (in_order (ranks_before r) xs) ≡ in_order (ranks_before r) (xs ++ x ∷ [])
+ranks_push r xs x total = in_order_same (ranks_before r) (ranks_order r) (x ∷ xs) (xs ++ x ∷ []) total
+    (λ z h. append_has z xs (x ∷ []) (elim h [ inl a ↦ inr (inl a) | inr b ↦ inl b ]))
+    (λ z h. elim (has_append z xs (x ∷ []) h) [ inl a ↦ inr a | inr b ↦ elim b [ inl c ↦ inl c | inr c ↦ absurd c ] ])
+
+pub ranks_more : (item : List ℕ) (rows : List LotRow) (i : ℕ) (r : LotRow) → i < length rows → r ≡ get_or rows i r
+    → ranks_of item (take (i + 1) rows) ≡ ranks_of item (take i rows) ++ map rank_of (cond (is_lot_of item r) (r ∷ []) [])
+ranks_more item rows i r within is =
+    ap (ranks_of item) (take_more rows i r within ∙ ap (λ (x : LotRow). take i rows ++ x ∷ []) (sym is))
+    ∙ ap (map rank_of) (filter-append (is_lot_of item) (take i rows) (r ∷ []))
+    ∙ map-append rank_of (filter (is_lot_of item) (take i rows)) (filter (is_lot_of item) (r ∷ []))
+
+pub has_map : {X Y : Type 0} (f : X → Y) (x : X) (xs : List X) → Has x xs → Has (f x) (map f xs)
+has_map f x [] h = h
+has_map f x (y ∷ ys) h = elim h [ inl a ↦ inl (ap f a) | inr b ↦ inr (has_map f x ys b) ]
+
+pub map_has : {X Y : Type 0} (f : X → Y) (z : Y) (xs : List X) → Has z (map f xs) → (x : X) × Has x xs × (z ≡ f x)
+map_has f z [] h = absurd h
+map_has f z (y ∷ ys) h = elim h [ inl a ↦ (y, inl refl, a) | inr b ↦ let m = map_has f z ys b in (m.0, inr m.1, m.2) ]
+
+pub has_filter : {X : Type 0} (p : X → Bool) (x : X) (xs : List X) → Has x xs → p x ≡ true → Has x (filter p xs)
+has_filter p x [] h e = h
+has_filter {X} p x (y ∷ ys) h e = elim (cases_Bool (p y)) [
+  | inl f ↦ rw f (elim h [ inl a ↦ inl a | inr b ↦ inr (has_filter p x ys b e) ])
+  | inr f ↦ rw f (elim h [ inl a ↦ absurd (both_ways (p y) f (subst (λ (w : X). p w ≡ true) a e)) | inr b ↦ has_filter p x ys b e ])
+]
+
+pub filter_has : {X : Type 0} (p : X → Bool) (x : X) (xs : List X) → Has x (filter p xs) → Has x xs × (p x ≡ true)
+filter_has p x [] h = absurd h
+filter_has {X} p x (y ∷ ys) h = elim (cases_Bool (p y)) [
+  | inl f ↦ let g : (x ≡ y) ⊎ Has x (filter p ys) = rw f at h in
+      elim g [ inl a ↦ (inl a, subst (λ (w : X). p w ≡ true) (sym a) f) | inr b ↦ let m = filter_has p x ys b in (inr m.0, m.1) ]
+  | inr f ↦ let g : Has x (filter p ys) = rw f at h in let m = filter_has p x ys g in (inr m.0, m.1)
+]
+
+-- a row that is there is told of
+pub told_some : (a b : List ℕ) (rows : List LotRow) (r : LotRow) → Has r rows → is_row a b r ≡ true → told one a b rows ≡ 0 → ⊥
+told_some a b [] r h e none = h
+told_some a b (x ∷ xs) r h e none = elim h [
+  | inl same ↦ let here : is_row a b x ≡ true = ap (is_row a b) (sym same) ∙ e in absurd (omega (arith, told_cons one a b x xs, part_yes one a b x here))
+  | inr later ↦ told_some a b xs r later e (omega (arith, told_cons one a b x xs))
+]
+
+-- a row that is there is what is told of its pair
+pub told_has : (f : LotRow → ℕ) (a b : List ℕ) (rows : List LotRow) (r : LotRow) → Has r rows → is_row a b r ≡ true → told one a b rows ≤ 1 → told f a b rows ≡ f r
+told_has f a b [] r h e few = absurd h
+told_has f a b (x ∷ xs) r h e few = elim h [
+  | inl same ↦ let here : is_row a b x ≡ true = ap (is_row a b) (sym same) ∙ e in
+      let none : told one a b xs ≡ 0 = omega (arith, told_cons one a b x xs, part_yes one a b x here) in
+      omega (arith, told_cons f a b x xs, part_yes f a b x here, told_absent f a b xs none, ap f same)
+  | inr later ↦ elim (cases_Bool (is_row a b x)) [
+    | inl here ↦
+        let none : told one a b xs ≡ 0 = omega (arith, told_cons one a b x xs, part_yes one a b x here) in
+        absurd (told_some a b xs r later e none)
+    | inr other ↦ omega (
+      arith,
+      told_cons f a b x xs,
+      part_no f a b x other,
+      told_has f a b xs r later e (omega (arith, told_cons one a b x xs, part_no one a b x other)),
+    )
+  ]
+]
+
+-- the date of a row is what is told of its pair
+pub date_has : (a b : List ℕ) (rows : List LotRow) (r : LotRow) → Has r rows → is_row a b r ≡ true → told one a b rows ≤ 1 → told_date a b rows ≡ r.expiry
+date_has a b [] r h e few = absurd h
+date_has a b (x ∷ xs) r h e few = elim h [
+  | inl same ↦ ap date_if (ap (is_row a b) (sym same) ∙ e) ∙ ap (λ (y : LotRow). y.expiry) (sym same)
+  | inr later ↦ elim (cases_Bool (is_row a b x)) [
+    | inl here ↦
+        let none : told one a b xs ≡ 0 = omega (arith, told_cons one a b x xs, part_yes one a b x here) in
+        absurd (told_some a b xs r later e none)
+    | inr other ↦ ap date_if other ∙ date_has a b xs r later e (omega (arith, told_cons one a b x xs, part_no one a b x other))
+  ]
+]
+  where
+    date_if : Bool → Option (List ℕ)
+    date_if v = option_and_then (λ (y : LotRow). y.expiry) (cond v (Some x) (find (is_row a b) xs))
+
+-- a page has each lot of an item once
+pub ranks_once : (r : Rules) (item : List ℕ) (rows : List LotRow) → IsDistinct rows → AreTotal (ranks_before r) (ranks_of item rows)
+ranks_once r item rows distinct = ranks_total r (λ lot. told_date item lot rows) (ranks_of item rows) (λ x h.
+    let m = map_has rank_of x (filter (is_lot_of item) rows) h in
+    let g = filter_has (is_lot_of item) m.0 rows m.1 in
+    let q = and_parts (bytes_eq m.0.item item) (ltb 0 m.0.since) g.1 in
+    let here : is_row item m.0.lot m.0 ≡ true = rw (q.0, (bytes_eq-Decides m.0.lot m.0.lot).1 refl) refl in
+    ap (λ (k : Ranked). k.expiry) m.2 ∙ sym (date_has item m.0.lot rows m.0 g.0 here (distinct item m.0.lot))
+    ∙ ap (λ (k : Ranked). told_date item k.lot rows) (sym m.2))
+
+has_at : (rows : List LotRow) (i : ℕ) (x : LotRow) → i < length rows → x ≡ get_or rows i x → Has x rows
+has_at [] i x within is = absurd (omega arith)
+has_at (y ∷ ys) zero x within is = inl is
+has_at (y ∷ ys) (suc i) x within is = inr (has_at ys i x (omega arith) is)
+
+take_has : (x : LotRow) (i : ℕ) (rows : List LotRow) → Has x (take i rows) → Has x rows
+take_has x zero rows h = absurd h
+take_has x (suc i) [] h = absurd h
+take_has x (suc i) (y ∷ ys) h = elim h [ inl a ↦ inl a | inr b ↦ inr (take_has x i ys b) ]
+
+pub lots_step_yes : (r : Rules) (item : List ℕ) (rows : List LotRow) (i : ℕ) (x : LotRow) (before after : List Ranked) → IsDistinct rows → i < length rows → x ≡ get_or rows i x
+    → before ≡ in_order (ranks_before r) (ranks_of item (take i rows)) → is_lot_of item x ≡ true → after ≡ placed (ranks_before r) (rank_of x) before
+    → after ≡ in_order (ranks_before r) (ranks_of item (take (i + 1) rows))
+lots_step_yes r item rows i x before after distinct within is inv holds made =
+    made ∙ ap (placed (ranks_before r) (rank_of x)) inv ∙ ranks_push r (ranks_of item (take i rows)) (rank_of x) total
+    ∙ ap (in_order (ranks_before r)) (ap (λ (v : Bool). ranks_of item (take i rows) ++ map rank_of (cond v (x ∷ []) [])) (sym holds) ∙ sym (ranks_more item rows i x within is))
+  where
+    there : (z : Ranked) → Has z (rank_of x ∷ ranks_of item (take i rows)) → Has z (ranks_of item rows)
+    there z h = elim h [
+      | inl a ↦ subst (λ (w : Ranked). Has w (ranks_of item rows)) (sym a) (has_map rank_of x (filter (is_lot_of item) rows) (has_filter (is_lot_of item) x rows (has_at rows i x within is) holds))
+      | inr b ↦
+          let m = map_has rank_of z (filter (is_lot_of item) (take i rows)) b in
+          let g = filter_has (is_lot_of item) m.0 (take i rows) m.1 in
+          subst (λ (w : Ranked). Has w (ranks_of item rows)) (sym m.2) (has_map rank_of m.0 (filter (is_lot_of item) rows) (has_filter (is_lot_of item) m.0 rows (take_has m.0 i rows g.0) g.1))
+    ]
+
+    total : AreTotal (ranks_before r) (rank_of x ∷ ranks_of item (take i rows))
+    total = λ v w p q. ranks_once r item rows distinct v w (there v p) (there w q)
+
+pub lots_step_no : (r : Rules) (item : List ℕ) (rows : List LotRow) (i : ℕ) (x : LotRow) (before : List Ranked) → i < length rows → x ≡ get_or rows i x
+    → before ≡ in_order (ranks_before r) (ranks_of item (take i rows)) → is_lot_of item x ≡ false
+    → before ≡ in_order (ranks_before r) (ranks_of item (take (i + 1) rows))
+lots_step_no r item rows i x before within is inv fails =
+    inv ∙ ap (in_order (ranks_before r)) (sym (append-nil (ranks_of item (take i rows))) ∙ ap (λ (v : Bool). ranks_of item (take i rows) ++ map rank_of (cond v (x ∷ []) [])) (sym fails) ∙ sym (ranks_more item rows i x within is))
+
+-- a pair that something is told of has a row
+pub told_find : (f : LotRow → ℕ) (a b : List ℕ) (rows : List LotRow) → 0 < told f a b rows → (r : LotRow) × Has r rows × (is_row a b r ≡ true)
+told_find f a b [] h = absurd (omega arith)
+told_find f a b (x ∷ xs) h = elim (cases_Bool (is_row a b x)) [
+  | inl e ↦ (x, inl refl, e)
+  | inr e ↦ let m = told_find f a b xs (omega (arith, told_cons f a b x xs, part_no f a b x e)) in (m.0, inr m.1, m.2)
+]
+
+-- rows that tell the same of an item have the same lots of it
+
+ranks_among : (item : List ℕ) (ps qs : List LotRow) → IsDistinct ps → IsDistinct qs → ((f : LotRow → ℕ) (lot : List ℕ) → told f item lot ps ≡ told f item lot qs)
+    → (z : Ranked) → Has z (ranks_of item ps) → Has z (ranks_of item qs)
+ranks_among item ps qs once only same z h =
+    let m = map_has rank_of z (filter (is_lot_of item) ps) h in
+    let g = filter_has (is_lot_of item) m.0 ps m.1 in
+    let q = and_parts (bytes_eq m.0.item item) (ltb 0 m.0.since) g.1 in
+    let here : is_row item m.0.lot m.0 ≡ true = rw (q.0, (bytes_eq-Decides m.0.lot m.0.lot).1 refl) refl in
+    let t : told first_count item m.0.lot ps ≡ m.0.since = told_has first_count item m.0.lot ps m.0 g.0 here (once item m.0.lot) in
+    let r = told_find first_count item m.0.lot qs (omega (arith, t, same first_count m.0.lot, ltb-true 0 m.0.since q.1)) in
+    let keys = row_is item m.0.lot r.0 r.2 in
+    let u : told first_count item m.0.lot qs ≡ r.0.since = told_has first_count item m.0.lot qs r.0 r.1 r.2 (only item m.0.lot) in
+    let number : m.0.since ≡ r.0.since = sym t ∙ same first_count m.0.lot ∙ u in
+    let lot : is_lot_of item r.0 ≡ true = rw ((bytes_eq-Decides r.0.item item).1 keys.0, lt-ltb 0 r.0.since (omega (arith, number, ltb-true 0 m.0.since q.1))) refl in
+    let date : m.0.expiry ≡ r.0.expiry = dates_same m.0 r.0 (λ f. sym (told_has f item m.0.lot ps m.0 g.0 here (once item m.0.lot)) ∙ same f m.0.lot
+    ∙ told_has f item m.0.lot qs r.0 r.1 r.2 (only item m.0.lot)) in
+    subst (λ (w : Ranked). Has w (ranks_of item qs))
+    ((λ i. record { expiry = sym date i; since = sym number i; lot = keys.1 i }) ∙ sym m.2)
+    (has_map rank_of r.0 (filter (is_lot_of item) qs) (has_filter (is_lot_of item) r.0 qs r.1 lot))
+
+pub ranks_same : (r : Rules) (item : List ℕ) (ps qs : List LotRow) → IsDistinct ps → IsDistinct qs → ((f : LotRow → ℕ) (lot : List ℕ) → told f item lot ps ≡ told f item lot qs)
+    → in_order (ranks_before r) (ranks_of item ps) ≡ in_order (ranks_before r) (ranks_of item qs)
+ranks_same r item ps qs once only same = in_order_same (ranks_before r) (ranks_order r) (ranks_of item ps) (ranks_of item qs) (ranks_once r item ps once)
+    (ranks_among item ps qs once only same) (ranks_among item qs ps only once (λ f lot. sym (same f lot)))
+
+-- Only the rows of an item have its lots.
+
+pub lots_none_before : (item : List ℕ) (rows : List LotRow) (i : ℕ) → ((k : ℕ) (d : LotRow) → k < i → comes_before (get_or rows k d).item item ≡ true) → ranks_of item (take i rows) ≡ []
+lots_none_before item rows zero before = refl
+lots_none_before item [] (suc i) before = refl
+lots_none_before item (r ∷ rows) (suc i) before =
+    let apart : is_lot_of item r ≡ false = no_lot item r (before 0 r (omega arith)) in
+    rw apart (lots_none_before item rows i (λ k d lt. before (suc k) d (omega arith)))
+  where
+    no_lot : (item : List ℕ) (r : LotRow) → comes_before r.item item ≡ true → is_lot_of item r ≡ false
+    no_lot item r h = elim (cases_Bool (bytes_eq r.item item)) [
+      | inl e ↦
+          let same = (bytes_eq-Decides r.item item).0 e in
+          let g : true ≡ false = sym h ∙ ap (comes_before r.item) (sym same) ∙ texts_never r.item in
+          absurd (cc)
+      | inr e ↦ rw e refl
+    ]
+
+pub lots_none_behind : (item : List ℕ) (rows : List LotRow) (i : ℕ) → ((k : ℕ) (d : LotRow) → i ≤ k → k < length rows → comes_before item (get_or rows k d).item ≡ true)
+    → ranks_of item (take i rows) ≡ ranks_of item rows
+lots_none_behind item [] zero behind = refl
+lots_none_behind item (r ∷ rows) zero behind =
+    let apart : is_lot_of item r ≡ false = no_lot item r (behind 0 r (omega arith) (omega arith)) in
+    rw apart (lots_none_behind item rows zero (λ k d le within. behind (suc k) d (omega arith) (omega arith)))
+  where
+    no_lot : (item : List ℕ) (r : LotRow) → comes_before item r.item ≡ true → is_lot_of item r ≡ false
+    no_lot item r h = elim (cases_Bool (bytes_eq r.item item)) [
+      | inl e ↦
+          let same = (bytes_eq-Decides r.item item).0 e in
+          let g : true ≡ false = sym h ∙ ap (comes_before item) same ∙ texts_never item in
+          absurd (cc)
+      | inr e ↦ rw e refl
+    ]
+lots_none_behind item [] (suc i) behind = refl
+lots_none_behind item (r ∷ rows) (suc i) behind = elim (cases_Bool (is_lot_of item r)) [
+  | inl e ↦ rw e (ap (λ (rs : List Ranked). rank_of r ∷ rs) (lots_none_behind item rows i (λ k d le within. behind (suc k) d (omega arith) (omega arith))))
+  | inr e ↦ rw e (lots_none_behind item rows i (λ k d le within. behind (suc k) d (omega arith) (omega arith)))
+]

@@ -1,0 +1,14 @@
+use Rattle.std.proofs.Common.{arith, sym, ap}
+use Rattle.profile.specs.Means.{Line}
+use Rattle.goods.proofs.Sums.{pair_next}
+use Rattle.goods.proofs.lines.sum_of.Goals as goal
+
+pub overflow_add-quantity : goal.overflow_add-quantity
+overflow_add-quantity c = omega (
+  arith,
+  c.requires,
+  c.loop-line.invariant,
+  c.from-quantity.ensures,
+  ap (λ (l : Line). l.quantity) c.line.view_is,
+  pair_next c.args.lines.now c.loop-line.line-index c.line-item.result c.args.item.now c.args.lot.now c.loop-line-test.true c.line-item.is (sym c.if-is_of.ensures),
+)

@@ -1,0 +1,10 @@
+pub mod Told
+pub mod Columns
+pub mod Keyed
+pub mod Moved
+pub mod Pages
+pub mod Soundness
+pub mod Steps
+pub mod Lots
+pub mod Functions
+pub mod Pairs

@@ -1,0 +1,34 @@
+-- The lots of an item that a page has, and what a line of an order is given of them.
+use Rattle.std.specs.Prelude.{ℕ, ◌-◌, Bool, ◌&&◌, List, map, filter, flat_map, bytes_eq, nat_lt, Option}
+use Rattle.profile.specs.declared.rules.Rules.{Rules}
+use Rattle.profile.specs.Rows.{LotRow}
+use Rattle.profile.specs.Allotment.{Ranked, ranks_before, may_have, shares_from}
+use Rattle.profile.specs.Lists.{in_order}
+use Rattle.profile.specs.Means.{Line, OrderLine}
+use Rattle.profile.specs.Movements.{OnHand, Reservation}
+use Rattle.goods.specs.Told.{told, amount}
+
+abbrev pub is_lot_of : List ℕ → LotRow → Bool
+is_lot_of item r = bytes_eq r.item item && nat_lt 0 r.since
+
+abbrev pub rank_of : LotRow → Ranked
+rank_of r = record { expiry = r.expiry; since = r.since; lot = r.lot }
+
+abbrev pub ranks_of : List ℕ → List LotRow → List Ranked
+ranks_of item rows = map rank_of (filter (is_lot_of item) rows)
+
+-- what is free of a pair
+abbrev pub free_in : List LotRow → List ℕ → List ℕ → ℕ
+free_in rows item lot = told (amount OnHand) item lot rows - told (amount Reservation) item lot rows
+
+-- what is given of the lots of an item, where so much is still wanted
+abbrev pub shares_left : List LotRow → List ℕ → Option (List ℕ) → List (List ℕ) → ℕ → List Line
+shares_left rows item pin lots left = shares_from item (filter (may_have pin) lots) (free_in rows item) left
+
+-- what a line is given
+abbrev pub shares_in : Rules → List LotRow → OrderLine → List Line
+shares_in r rows l = shares_left rows l.item l.pin (map (λ k. k.lot) (in_order (ranks_before r) (ranks_of l.item rows))) l.quantity
+
+-- what the lines of an order are given
+abbrev pub all_shares_in : Rules → List LotRow → List OrderLine → List Line
+all_shares_in r rows lines = flat_map (shares_in r rows) lines

@@ -1,0 +1,120 @@
+ghost use Rattle.std.specs.Prelude.{◌≡◌, ◌≤◌, length, sum_by, IfOk};
+ghost use Rattle.profile.specs.declared.rules.Rules.TheVariants.{Two};
+ghost use Rattle.profile.specs.Bytes.{comes_before};
+ghost use Rattle.profile.specs.Limits.{most_lines};
+ghost use Rattle.profile.specs.Page.{PageAdvice};
+ghost use Rattle.goods.specs.Pages.{is_shipment};
+ghost use Rattle.goods.specs.Steps.{closed_advice};
+
+use sets_in::Goods;
+use std::alloc::AllocError;
+use std::marker::Model;
+
+/// An advice as a page has it.
+#[derive(Clone, Debug, Drop)]
+pub struct KnownAdvice {
+    shipment: Vec<u8>,
+    order: Vec<u8>,
+    lines: Vec<Goods>,
+    is_open: bool,
+}
+
+impl Model for KnownAdvice {
+    ghost Value = { PageAdvice };
+
+    ghost view = { λ k. record { shipment = k.shipment.items; order = k.order.items; lines = k.lines.items; is_open = k.is_open } };
+
+    ghost invariant = { λ k. length k.lines.items ≤ most_lines Two };
+}
+
+impl KnownAdvice {
+    /// An advice of these numbers and at most 999 lines; it is open until it is counted.
+    pub fn new(shipment: Vec<u8>, order: Vec<u8>, lines: Vec<Goods>, is_open: bool) -> KnownAdvice
+        requires { length lines.items ≤ most_lines Two }
+        ensures { result ≡ record { shipment = shipment.items; order = order.items; lines = lines.items; is_open = is_open } }
+    {
+        KnownAdvice {
+            shipment,
+            order,
+            lines,
+            is_open,
+        }
+    }
+
+    /// A copy of it; want of memory is the one error.
+    pub fn copy(&self) -> Result<KnownAdvice, AllocError>
+        ensures { IfOk result (λ known. known ≡ self.now) }
+    {
+        self.clone()
+    }
+
+    /// Its shipment number, 1 to 22 bytes.
+    pub fn shipment(&self) -> &[u8]
+        ensures { result.now ≡ self.now.shipment }
+    {
+        &self.shipment
+    }
+
+    /// The number of the order that it belongs to.
+    pub fn order(&self) -> &[u8]
+        ensures { result.now ≡ self.now.order }
+    {
+        &self.order
+    }
+
+    /// Whether it is under this shipment number.
+    pub fn is_under(&self, shipment: &[u8]) -> bool
+        ensures { result ≡ is_shipment shipment.now self.now }
+    {
+        self.shipment.as_slice() == shipment
+    }
+
+    /// Whether it comes before a shipment number.
+    pub fn is_before(&self, shipment: &[u8]) -> bool
+        ensures { result ≡ comes_before self.now.shipment shipment.now }
+    {
+        self.shipment.as_slice().cmp(&shipment).is_lt()
+    }
+
+    /// What is advised, in the order of its set.
+    pub fn lines(&self) -> &[Goods]
+        ensures { result.now ≡ self.now.lines }
+    {
+        &self.lines
+    }
+
+    /// A copy of it that is closed; want of memory is the one error.
+    pub fn closed(&self) -> Result<KnownAdvice, AllocError>
+        ensures { IfOk result (λ known. known ≡ closed_advice self.now) }
+    {
+        let mut known = self.copy()?;
+        known.is_open = false;
+        Ok(known)
+    }
+
+    /// Whether it hasn't been counted yet.
+    pub fn is_open(&self) -> bool
+        ensures { result ≡ self.now.is_open }
+    {
+        self.is_open
+    }
+
+    /// The sum of what is advised, in the unit EA.
+    pub fn total(&self) -> u64
+        ensures { result ≡ sum_by (λ l. l.quantity) self.now.lines }
+    {
+        total(&self.lines)
+    }
+}
+
+// The sum of the quantities of lines.
+fn total(lines: &[Goods]) -> u64
+    requires { length lines.now ≤ most_lines Two }
+    ensures { result ≡ sum_by (λ l. l.quantity) lines.now }
+{
+    let mut total: u64 = 0;
+    for line in lines {
+        total += u64::from(line.quantity);
+    }
+    total
+}

@@ -1,0 +1,80 @@
+ghost use Rattle.std.specs.Prelude.{◌≡◌, IfOk, option_map};
+ghost use Rattle.profile.specs.Bytes.{comes_before};
+ghost use Rattle.profile.specs.Page.{PageLine, PageOrder};
+ghost use Rattle.goods.specs.Pages.{is_number};
+ghost use Rattle.goods.specs.Steps.{closed_order};
+
+use sets_in::{Address, Goods};
+use std::alloc::AllocError;
+use std::marker::Model;
+
+/// A line of an order as a page has it.
+#[derive(Clone, Debug, Drop)]
+pub struct KnownLine {
+    /// Its item.
+    pub item: Vec<u8>,
+    /// The lot that it is pinned to, if there is one.
+    pub pin: Option<Vec<u8>>,
+    /// How much is ordered, in the unit EA.
+    pub quantity: u32,
+}
+
+impl Model for KnownLine {
+    ghost Value = { PageLine };
+
+    ghost view = { λ l. record { item = l.item.items; pin = option_map (λ v. v.items) l.pin; quantity = l.quantity } };
+}
+
+/// An order as a page has it.
+#[derive(Clone, Debug, Drop)]
+pub struct KnownOrder {
+    /// Its number, 1 to 22 bytes.
+    pub number: Vec<u8>,
+    /// Where it goes, if its set said so.
+    pub address: Option<Address>,
+    /// Its lines, in the order of its set.
+    pub lines: Vec<KnownLine>,
+    /// What is reserved for it, by item and lot, each above 0; nothing where it was picked.
+    pub reserved: Vec<Goods>,
+    /// Whether it hasn't been picked yet.
+    pub is_open: bool,
+}
+
+impl Model for KnownOrder {
+    ghost Value = { PageOrder };
+
+    ghost view = { λ k. record { number = k.number.items; address = k.address; lines = k.lines.items; reserved = k.reserved.items; is_open = k.is_open } };
+}
+
+impl KnownOrder {
+    /// A copy of it; want of memory is the one error.
+    pub fn copy(&self) -> Result<KnownOrder, AllocError>
+        ensures { IfOk result (λ known. known ≡ self.now) }
+    {
+        self.clone()
+    }
+
+    /// Whether it is under this number.
+    pub fn is_under(&self, number: &[u8]) -> bool
+        ensures { result ≡ is_number number.now self.now }
+    {
+        self.number.as_slice() == number
+    }
+
+    /// Whether it comes before a number.
+    pub fn is_before(&self, number: &[u8]) -> bool
+        ensures { result ≡ comes_before self.now.number number.now }
+    {
+        self.number.as_slice().cmp(&number).is_lt()
+    }
+
+    /// A copy of it that is closed: nothing is reserved for it any more. Want of memory is the one error.
+    pub fn closed(&self) -> Result<KnownOrder, AllocError>
+        ensures { IfOk result (λ known. known ≡ closed_order self.now) }
+    {
+        let mut known = self.copy()?;
+        known.reserved.clear();
+        known.is_open = false;
+        Ok(known)
+    }
+}

@@ -1,0 +1,20 @@
+//! What a page is made of: rows of lots, advices, orders and documents. Each is told by itself here, and what rows and lines tell of a pair.
+#![tactic(auto)]
+
+mod bounds;
+mod corrections;
+mod documents;
+mod known_advices;
+mod known_orders;
+mod lines;
+mod lots;
+mod rows;
+
+pub use bounds::are_within;
+pub use corrections::{are_on_hand, has_below, has_unknown};
+pub use documents::{Function, KnownDocument};
+pub use known_advices::KnownAdvice;
+pub use known_orders::{KnownLine, KnownOrder};
+pub use lines::{comes_before, exceeds, is_of, pairs_order, quantity_of, rises};
+pub use lots::{all_shares, new_line};
+pub use rows::{Column, Row, amount_of, place_of, rank_of};

@@ -1,0 +1,13 @@
+use Rattle.goods.specs.Columns.{column_of}
+use Rattle.goods.proofs.Sums.{added_more, next_fits}
+use Rattle.stock.proofs.postings.add_lines.Goals as goal
+
+pub add_line-requires-clause-fits : goal.add_line-requires-clause-fits
+add_line-requires-clause-fits c =
+    next_fits (column_of c.args.column) c.args.lines.now c.loop-line.line-index c.line-item.result c.args.rows.now.items c.loop-line.rows.items _
+    c.loop-line-test.true c.line-item.is c.loop-line.invariant c.requires.fits
+
+pub loop-line-preserved : goal.loop-line-preserved
+loop-line-preserved c =
+    added_more (column_of c.args.column) c.args.lines.now c.loop-line.line-index c.line-item.result c.args.rows.now.items c.loop-line.rows.items _
+    c.loop-line-test.true c.line-item.is c.loop-line.invariant c.in_ok-add_line.ensures

@@ -1,0 +1,10 @@
+use Rattle.stock.proofs.Raises.{set_more, next_set}
+use Rattle.stock.proofs.postings.set_lines.Goals as goal
+
+pub set_line-requires-clause-there : goal.set_line-requires-clause-there
+set_line-requires-clause-there c = next_set c.args.lines.now c.loop-line.line-index c.line-item.result c.args.rows.now.items c.loop-line.rows.items
+    c.loop-line-test.true c.line-item.is c.loop-line.invariant c.requires.there
+
+pub loop-line-preserved : goal.loop-line-preserved
+loop-line-preserved c = set_more c.args.lines.now c.loop-line.line-index c.line-item.result c.args.rows.now.items c.loop-line.rows.items _
+    c.loop-line-test.true c.line-item.is c.loop-line.invariant c.set_line.ensures

@@ -1,0 +1,27 @@
+use Rattle.std.proofs.Common.{arith, ap}
+use Rattle.profile.specs.Means.{Line}
+use Rattle.goods.specs.Told.{amount}
+use Rattle.goods.specs.Columns.{column_of}
+use Rattle.goods.proofs.Tells.{taken_at, taken_none, amount_here}
+use Rattle.stock.proofs.postings.take_line.Goals as goal
+
+pub take-requires : goal.take-requires
+take-requires c =
+    (omega (
+      arith,
+      c.requires.there,
+      ap (λ (l : Line). l.quantity) c.line.view_is,
+      amount_here (amount (column_of c.args.column)) c.args.line.now.item c.args.line.now.lot c.args.rows.now.items c.in-Some.i c.index_mut-row.result.now c.requires.sorted (rw (c.deref.ensures.value, c.deref-2.ensures.value, c.deref-3.ensures.value, ap (λ (l : Line). l.item) c.line.view_is, ap (λ (l : Line). l.lot) c.line.view_is) at c.in-Some.ensures) c.index_mut-row.ensures.value,
+    ))
+
+pub returns-in-Some : goal.returns-in-Some
+returns-in-Some c = rw (c.take.ensures, ap (λ (l : Line). l.quantity) c.line.view_is)
+    (taken_at (column_of c.args.column) c.args.line.now c.args.rows.now.items c.in-Some.i c.index_mut-row.result.now c.requires.sorted (rw (c.deref.ensures.value, c.deref-2.ensures.value, c.deref-3.ensures.value, ap (λ (l : Line). l.item) c.line.view_is, ap (λ (l : Line). l.lot) c.line.view_is) at c.in-Some.ensures) c.index_mut-row.ensures.value
+    (omega (
+      arith,
+      c.requires.there,
+      amount_here (amount (column_of c.args.column)) c.args.line.now.item c.args.line.now.lot c.args.rows.now.items c.in-Some.i c.index_mut-row.result.now c.requires.sorted (rw (c.deref.ensures.value, c.deref-2.ensures.value, c.deref-3.ensures.value, ap (λ (l : Line). l.item) c.line.view_is, ap (λ (l : Line). l.lot) c.line.view_is) at c.in-Some.ensures) c.index_mut-row.ensures.value,
+    )))
+
+pub returns-in_default : goal.returns-in_default
+returns-in_default c = taken_none _ _ _ c.requires.sorted (rw (c.deref.ensures.value, c.deref-2.ensures.value, c.deref-3.ensures.value, ap (λ (l : Line). l.item) c.line.view_is, ap (λ (l : Line). l.lot) c.line.view_is) at c.in_default.ensures) c.requires.there
