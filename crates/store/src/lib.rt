@@ -11,7 +11,7 @@ mod serving;
 
 pub use fault::Fault;
 pub use keeping::Keeper;
-pub use leaving::what_is_kept_is_left;
+pub use leaving::{memory_is_never_in_doubt, what_is_kept_is_left};
 pub use replaying::ReplayBook;
 pub use rows::{DocumentState, OutRow, StockRow};
 pub use rules::{
