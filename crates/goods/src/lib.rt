@@ -1,4 +1,5 @@
-//! What a page is made of: rows of lots, advices, orders and documents. Each is told by itself here, and what rows and lines tell of a pair.
+//! What a page is made of: rows of pairs, advices, orders and documents, and what rows and lines tell of a pair. Nothing here
+//! knows a page.
 #![tactic(auto)]
 
 mod bounds;
