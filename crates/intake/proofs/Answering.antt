@@ -14,18 +14,20 @@ use Rattle.store.specs.Faults.{fault_of}
 use Rattle.store.specs.Standing.{Standing}
 use Rattle.store.specs.declared.fault.Fault.TheVariants.{OutOfMemory}
 use Rattle.store.proofs.Changes.{unchanged_refl}
+use Rattle.intake.specs.Asking.{target_asks, IsShutAnswer}
 use Rattle.intake.specs.Fields.{head_of}
 use Rattle.intake.specs.Lines.{IsLineAt, TellsOf, HasLine, TellsSender, sender_in}
 use Rattle.intake.specs.declared.audience.Audience.{Audience}
 use Rattle.intake.specs.declared.audience.Audience.TheVariants.{Partners, Clerks}
 use Rattle.intake.specs.declared.served.RequestLine.{RequestLine}
-use Rattle.intake.specs.Requests.{IsInput, HasNoHead}
+use Rattle.intake.specs.Requests.{most_head, most_fields, IsInput, HasNoHead}
 use Rattle.intake.specs.Serving.{IsAnswered, IsExchange, IsExchangeBehind, command_in, answer_of}
 use Rattle.intake.specs.Targets.{Target, target_of, target_command, target_resp, has_body, asked_with, command_with}
 use Rattle.intake.proofs.Heads.{head_within}
 use Rattle.intake.proofs.Filling.{own_input, had_input, more_input}
 use Rattle.intake.proofs.Aimed.{submits, to_request}
 use Rattle.intake.proofs.Answered.{no_memory}
+use Rattle.intake.proofs.Asked.{unasked, starved, asked_by}
 
 -- what is asked for, by each of the tests
 module _ (h : Head) (to : Target) (rest : List ℕ) where
@@ -73,6 +75,7 @@ module _ (audience : Audience) (known : Option (List ℕ)) (t : Moment) (h : Req
       is_input = i;
       sent = sent_with (start ++ input) (Err status) q none;
       answered = to_request s s t r audience h (start ++ input) (Err status) q (at_error s t (bare status) r is);
+      shut = asked_by s r audience h (start ++ input) (Err status) q (unasked s false r refl);
     }
 
     pub encoded : (head_of h).is_encoded ≡ true → r ≡ bare 501 → sender ≡ None → IsExchangeBehind audience s s known t h start r sender
@@ -95,6 +98,7 @@ module _ (audience : Audience) (known : Option (List ℕ)) (t : Moment) (h : Req
       is_input = own_input known;
       sent = inr (none, is);
       answered = no_memory s t _ _ r is;
+      shut = starved s _ r is;
     }
 
   -- by the book
@@ -104,13 +108,17 @@ module _ (audience : Audience) (known : Option (List ℕ)) (t : Moment) (h : Req
     Told body = IsAnswered old new t (target_command (head_of h).method (target_of audience h.target) body)
         (λ L. target_resp old.warehouse L (head_of h).method (target_of audience h.target) body t) r
 
+    -- as a book that has to be opened again does
+    abbrev pub Shut : List ℕ → Type 0
+    Shut body = IsShutAnswer old (target_asks (head_of h).method (target_of audience h.target) body) r
+
     -- and its sender is told
     abbrev pub Sent : List ℕ → Type 0
     Sent body = sender ≡ sender_in (target_command (head_of h).method (target_of audience h.target) body)
 
-    pub queried : (head_of h).is_encoded ≡ false → has_body (head_of h).method (target_of audience h.target) ≡ false → Told [] → Sent []
+    pub queried : (head_of h).is_encoded ≡ false → has_body (head_of h).method (target_of audience h.target) ≡ false → Told [] → Shut [] → Sent []
         → IsExchangeBehind audience old new known t h start r sender
-    queried e x is from =
+    queried e x is shut from =
         let rest : List ℕ = start ++ unwrap_or known [] in
         let q : asked_with (head_of h) (target_of audience h.target) rest ≡ Ok [] = asked_else (head_of h) _ rest e x in
         record {
@@ -118,12 +126,13 @@ module _ (audience : Audience) (known : Option (List ℕ)) (t : Moment) (h : Req
           is_input = own_input known;
           sent = sent_with rest (Ok []) q from;
           answered = to_request old new t r audience h rest (Ok []) q is;
+          shut = asked_by old r audience h rest (Ok []) q shut;
         }
 
     pub handed : (n : ℕ) (input body tail : List ℕ) → tail ≡ start → IsInput known input → (head_of h).is_encoded ≡ false
         → has_body (head_of h).method (target_of audience h.target) ≡ true → stated_length (head_of h).lengths ≡ Ok n
-        → n ≤ length (tail ++ input) → body ≡ take n (tail ++ input) → Told body → Sent body → IsExchangeBehind audience old new known t h start r sender
-    handed n input body tail same i e x l fits b is from =
+        → n ≤ length (tail ++ input) → body ≡ take n (tail ++ input) → Told body → Shut body → Sent body → IsExchangeBehind audience old new known t h start r sender
+    handed n input body tail same i e x l fits b is shut from =
         let q : asked_with (head_of h) (target_of audience h.target) (start ++ input) ≡ Ok body =
         asked_whole (head_of h) _ (start ++ input) n e x l (subst (λ (k : List ℕ). n ≤ length (k ++ input)) same fits)
         ∙ ap (λ (k : List ℕ). Ok k) (sym (b ∙ ap (λ (k : List ℕ). take n (k ++ input)) same)) in
@@ -132,6 +141,7 @@ module _ (audience : Audience) (known : Option (List ℕ)) (t : Moment) (h : Req
           is_input = i;
           sent = sent_with (start ++ input) (Ok body) q from;
           answered = to_request old new t r audience h (start ++ input) (Ok body) q is;
+          shut = asked_by old r audience h (start ++ input) (Ok body) q shut;
         }
 
 -- an answer by a method and a target is one by those of the head
@@ -159,7 +169,7 @@ told_of (Some line) got fields spans h at copied = (h, refl, (copied.0 ∙ at.me
 
 -- what a reader began with has that line, where it then failed
 pub line_read : (line : Option RequestLine) (known mid : Option (List ℕ)) (got : List ℕ) (fields : List HeaderSpan) (spans : RequestSpans) (h : RequestHead)
-    → length got ≤ 8192 → length fields ≤ 32 → IsRequestWithin got fields spans → IsRequestAt got fields spans h → Consumes known mid got → IfSome line (IsLineAt got spans)
+    → length got ≤ most_head → length fields ≤ most_fields → IsRequestWithin got fields spans → IsRequestAt got fields spans h → Consumes known mid got → IfSome line (IsLineAt got spans)
     → IfSome line (HasLine known)
 line_read None known mid got fields spans h room many within at bytes copied = tt
 line_read (Some line) known mid got fields spans h room many within at bytes copied = record {
@@ -173,7 +183,7 @@ line_read (Some line) known mid got fields spans h room many within at bytes cop
 
 -- the answer to a head is the answer to the input that begins with it
 pub whole_answer : (audience : Audience) (old new : Standing) (t : Moment) (known mid : Option (List ℕ)) (got : List ℕ) (fields : List HeaderSpan) (spans : RequestSpans) (h : RequestHead) (r : Response) (line : Option RequestLine) (sender : Option Who)
-    → length got ≤ 8192 → length fields ≤ 32 → IsRequestWithin got fields spans → IsRequestAt got fields spans h → Consumes known mid got → IfSome line (IsLineAt got spans)
+    → length got ≤ most_head → length fields ≤ most_fields → IsRequestWithin got fields spans → IsRequestAt got fields spans h → Consumes known mid got → IfSome line (IsLineAt got spans)
     → IsExchangeBehind audience old new mid t h (drop spans.len got) r sender → IsExchange audience old new known t r line sender
 whole_answer audience old new t known mid got fields spans h r line sender room many within at bytes copied answer = record {
   input = got ++ answer.input;
@@ -184,6 +194,7 @@ whole_answer audience old new t known mid got fields spans h r line sender room 
   told = told_of line got fields spans h at copied;
   sent = answer.sent;
   answered = answer.answered;
+  shut = answer.shut;
 }
 
 -- no head, whoever is served: nothing is handed in
@@ -207,4 +218,5 @@ headless_answer audience s t known mid got r sender bytes none is unsent = recor
   told = tt;
   sent = unsent_by audience r sender unsent;
   answered = headless audience s t r is;
+  shut = unasked s false r refl;
 }

@@ -6,7 +6,7 @@ use Rattle.std.proofs.KnownBytes.{Consumes-trans}
 use Rattle.std.specs.Io.KnownBytes.{Consumes, IsAtEnd}
 use Rattle.httparse.specs.Grammar.{RequestHead, ReadsRequest, HasNoRequest, print_request}
 use Rattle.httparse.specs.Spans.{RequestOverflows}
-use Rattle.intake.specs.Requests.{HasHead, HasNoHead}
+use Rattle.intake.specs.Requests.{most_head, most_fields, HasHead, HasNoHead}
 use Rattle.httparse.specs.Spans.{IsRequestWithin, IsRequestAt}
 use Rattle.httparse.specs.declared.spans.HeaderSpan.{HeaderSpan}
 use Rattle.httparse.specs.declared.spans.RequestSpans.{RequestSpans}
@@ -28,7 +28,7 @@ none_in_nothing h rest reads =
     let some = some_bytes h in
     absurd (omega arith)
 
-pub none_refused : (got more : List ℕ) → RequestOverflows 32 got → HasNoHead (got ++ more)
+pub none_refused : (got more : List ℕ) → RequestOverflows most_fields got → HasNoHead (got ++ more)
 none_refused got more over h rest found =
     let many = over more h rest found.reads in
     let few = found.fields in
@@ -41,7 +41,7 @@ within_read got more h rest fits reads =
     let front : take (length p) got ≡ p = sym (take-append-le (length p) got more fits) ∙ ap (take (length p)) reads.1 ∙ take-append_seam p rest in
     (reads.0, sym (take-append-drop (length p) got) ∙ ap (λ l. l ++ drop (length p) got) front)
 
-pub none_too_large : (got more : List ℕ) → length got ≡ 8192 → HasNoRequest got → HasNoHead (got ++ more)
+pub none_too_large : (got more : List ℕ) → length got ≡ most_head → HasNoRequest got → HasNoHead (got ++ more)
 none_too_large got more full none h rest found =
     let size = found.size in
     none h _ (within_read got more h rest (omega arith) found.reads)
@@ -51,7 +51,7 @@ none_cut_off got None none end h rest found = none h rest (rw (append-nil got) a
 none_cut_off got (Some more) none end h rest found = none h rest (rw (end, append-nil got) at found.reads)
 
 -- the head that the spans cover is one of an input that begins with those bytes
-pub head_within : (got more : List ℕ) (fields : List HeaderSpan) (spans : RequestSpans) (h : RequestHead) → length got ≤ 8192 → length fields ≤ 32
+pub head_within : (got more : List ℕ) (fields : List HeaderSpan) (spans : RequestSpans) (h : RequestHead) → length got ≤ most_head → length fields ≤ most_fields
     → IsRequestWithin got fields spans → IsRequestAt got fields spans h → HasHead (got ++ more) h (drop spans.len got ++ more)
 head_within got more fields spans h room many within at =
     let fits = within.section.len_fits in

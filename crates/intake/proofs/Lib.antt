@@ -10,6 +10,7 @@ pub mod Found
 pub mod Posted
 pub mod Answered
 pub mod Aimed
+pub mod Asked
 pub mod Sent
 pub mod Answering
 pub mod Called

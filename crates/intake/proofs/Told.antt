@@ -1,18 +1,47 @@
 -- one more connection
-use Rattle.std.proofs.Common.{◌≡◌, ℕ, ◌+◌, List, [], ◌∷◌, ◌++◌, map, sym, subst, ap, ◌∙◌}
+use Rattle.std.proofs.Common.{◌≡◌, ◌⊎◌, ℕ, ◌+◌, List, [], ◌∷◌, ◌++◌, Option, Some, None, IfOk, OnErr, MatchOption, map, sym, subst, ap, ◌∙◌}
 use Rattle.std.specs.List.{FoldsTo}
 use Rattle.std.proofs.lemmas.Fn.{FoldsTo-push}
 use Rattle.std.proofs.lemmas.List.{length_push, map-append}
 use Rattle.std.proofs.lemmas.List.Elements.{All-push}
 use Rattle.profile.specs.Moments.{Moment}
+use Rattle.store.specs.Standing.{Standing, IsUnchanged}
+use Rattle.intake.specs.declared.audience.Audience.{Audience}
 use Rattle.intake.specs.declared.served.Connection.{Connection}
-use Rattle.intake.specs.Connections.{HasTold, IsOutcome, moment_of}
+use Rattle.intake.specs.Connections.{HasTold, IsConnection, IsNotAccepted, IsOutcome, IsServedOn, moment_of}
+use Rattle.intake.specs.Serving.{IsWritten, IsUnread, IsUnwritten}
 
-pub told_more : {C T : Type 0} (gives : C → Moment → C → Type 0) (takes : T → Connection → T → Type 0) (clock after next : C) (told last more : T) (count : ℕ) (t : Moment) (c : Connection)
-    → HasTold gives takes clock after told last count → gives after t next → takes last c more → c.moment ≡ t → IsOutcome c
-    → HasTold gives takes clock next told more (count + 1)
-told_more gives takes clock after next told last more count t c so_far given taken e outcome = record {
+-- by what its reader and its writer have, and what became of them
+pub served_on : (audience : Audience) (old new : Standing) (c : Connection) (known before behind : Option (List ℕ)) (unread still unwritten more : ℕ)
+    → IfOk c.served.outcome (λ status. IsWritten audience old new known c.moment before behind status c.served.line c.served.sender c.served.bytes)
+    → OnErr c.served.outcome (IsUnread old new known before behind unread still c.served.line c.served.sender c.served.bytes
+    ⊎ IsUnwritten audience old new known c.moment before behind unwritten more c.served.line c.served.sender c.served.bytes)
+    → IsServedOn audience old new c
+served_on audience old new c known before behind unread still unwritten more written stopped = record {
+  known = known;
+  before = before;
+  behind = behind;
+  reads = (unread, still);
+  writes = (unwritten, more);
+  written = written;
+  stopped = stopped;
+}
+
+-- with a peer, and with none
+pub accepted : {P : Type 0} (audience : Audience) (old new : Standing) (c : Connection) (peer : P) (found : Option P) → found ≡ Some peer → IsServedOn audience old new c
+    → MatchOption found (IsUnchanged old new × IsNotAccepted c) (λ p. IsServedOn audience old new c)
+accepted audience old new c peer found e is = subst (λ o. MatchOption o (IsUnchanged old new × IsNotAccepted c) (λ p. IsServedOn audience old new c)) (sym e) is
+
+pub not_accepted : {P : Type 0} (audience : Audience) (old new : Standing) (c : Connection) (found : Option P) → found ≡ None → IsUnchanged old new → IsNotAccepted c
+    → MatchOption found (IsUnchanged old new × IsNotAccepted c) (λ p. IsServedOn audience old new c)
+not_accepted audience old new c found e same is = subst (λ o. MatchOption o (IsUnchanged old new × IsNotAccepted c) (λ p. IsServedOn audience old new c)) (sym e) (same, is)
+
+pub told_more : {K C T : Type 0} (serves : K → Connection → K → Type 0) (gives : C → Moment → C → Type 0) (takes : T → Connection → T → Type 0) (book left since : K) (clock after next : C) (told last more : T) (count : ℕ) (t : Moment) (c : Connection)
+    → HasTold serves gives takes book left clock after told last count → serves left c since → gives after t next → takes last c more → c.moment ≡ t → IsOutcome c
+    → HasTold serves gives takes book since clock next told more (count + 1)
+told_more serves gives takes book left since clock after next told last more count t c so_far served given taken e outcome = record {
   connections = so_far.connections ++ c ∷ [];
+  served = FoldsTo-push serves book so_far.connections left c since so_far.served served;
   asked = subst (λ (moments : List Moment). FoldsTo gives clock moments next) (sym (map-append moment_of so_far.connections (c ∷ [])))
       (FoldsTo-push gives clock (map moment_of so_far.connections) after (c.moment) next so_far.asked (subst (λ (m : Moment). gives after m next) (sym e) given));
   handed = FoldsTo-push takes told so_far.connections last c more so_far.handed taken;

@@ -8,5 +8,6 @@ pub mod Told
 pub mod Calls
 pub mod Targets
 pub mod Slips
+pub mod Asking
 pub mod Serving
 pub mod Connections

@@ -12,6 +12,7 @@ use Rattle.store.specs.Standing.{Standing, IsUsable, IsUnchanged, IsFault, Leave
 use Rattle.store.specs.declared.fault.Fault.{Fault}
 use Rattle.std.specs.Io.KnownBytes.{Appends}
 use Rattle.intake.specs.Gauges.{Grew, AppendsBeginning}
+use Rattle.intake.specs.Asking.{asks_in, IsShutAnswer}
 use Rattle.intake.specs.Requests.{HasHead, HasNoHead, IsInput}
 use Rattle.intake.specs.Fields.{head_of}
 use Rattle.intake.specs.Lines.{TellsOf, HasLine, TellsSender}
@@ -72,7 +73,8 @@ abbrev pub BeginsWith : List ℕ → Option RequestHead → List ℕ → Type 0
 BeginsWith input None rest = HasNoHead input
 BeginsWith input (Some h) rest = HasHead input h rest
 
--- the response to what a reader has, with what became of the book, and what is told of the head and of the sender
+-- the response to what a reader has, with what became of the book, and what is told of the head and of the sender; a book that has
+-- to be opened again answers as `IsShutAnswer` says
 pub record IsExchange (audience : Audience) (old new : Standing) (known : Option (List ℕ)) (t : Moment) (r : Response) (line : Option RequestLine) (sender : Option Who) : Type 0 where
   pub input : List ℕ
   pub is_input : IsInput known input
@@ -82,6 +84,7 @@ pub record IsExchange (audience : Audience) (old new : Standing) (known : Option
   pub told : TellsOf line head
   pub sent : TellsSender sender (command_in audience head rest) r
   pub answered : IsAnswered old new t (command_in audience head rest) (λ L. answer_of audience old.warehouse L head rest t) r
+  pub shut : IsShutAnswer old (asks_in audience head rest) r
 
 -- the same of a request whose head was read, with the first bytes of what is after it
 pub record IsExchangeBehind (audience : Audience) (old new : Standing) (known : Option (List ℕ)) (t : Moment) (h : RequestHead) (start : List ℕ) (r : Response) (sender : Option Who) : Type 0 where
@@ -89,6 +92,7 @@ pub record IsExchangeBehind (audience : Audience) (old new : Standing) (known : 
   pub is_input : IsInput known input
   pub sent : TellsSender sender (command_in audience (Some h) (start ++ input)) r
   pub answered : IsAnswered old new t (command_in audience (Some h) (start ++ input)) (λ L. answer_of audience old.warehouse L (Some h) (start ++ input) t) r
+  pub shut : IsShutAnswer old (asks_in audience (Some h) (start ++ input)) r
 
 -- A response was written: it was that to what the reader had. What is told is its status, the line of the request, who sent the
 -- interchange that was handed in, and how many bytes the response has.

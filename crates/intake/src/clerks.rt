@@ -1,10 +1,11 @@
 //! What clerks are answered.
-ghost use Rattle.std.specs.Prelude.{Some};
+ghost use Rattle.std.specs.Prelude.{◌≡◌, Some, true};
 ghost use Rattle.profile.specs.declared.rules.Rules.TheVariants.{Two};
 ghost use Rattle.profile.specs.Accepted.{reply_to};
 ghost use Rattle.profile.specs.Response.{Get, Post};
 ghost use Rattle.store.specs.Standing.{GoesOn};
 ghost use Rattle.intake.specs.Answers.{seen};
+ghost use Rattle.intake.specs.Asking.{call_asks, IsResponseOf, IsShutAnswer};
 ghost use Rattle.intake.specs.Calls.{deed_reply, call_command, call_resp};
 ghost use Rattle.intake.specs.Fields.{seen_method};
 ghost use Rattle.intake.specs.Serving.{IsAnswered};
@@ -26,6 +27,7 @@ fn performed<K: Keeper>(alloc: Global, keeper: &mut K, slip: &Slip<'_>, moment: 
         IsAnswered (K.standing keeper.old) (K.standing keeper.new) moment (Some c)
         (λ L. deed_reply (reply_to Two (K.standing keeper.old).warehouse L c moment)) (seen result) }
     ensures goes { GoesOn (K.standing keeper.old) (K.standing keeper.new) }
+    ensures shut { (K.standing keeper.old).shut ≡ true → IsResponseOf Fault.Reopen (seen result) }
 {
     match submit(alloc, keeper, &command(slip), moment) {
         Ok(reply) => of_deed(reply),
@@ -45,6 +47,7 @@ fn deed_at<K: Keeper>(
         (call_command Post (seen_deed deed.now) body.now)
         (λ L. call_resp (K.standing keeper.old).warehouse L Post (seen_deed deed.now) body.now moment) (seen result) }
     ensures goes { GoesOn (K.standing keeper.old) (K.standing keeper.new) }
+    ensures shut { IsShutAnswer (K.standing keeper.old) (call_asks Post (seen_deed deed.now) body.now) (seen result) }
 {
     let Ok(made) = slip_of(alloc, deed, body) else {
         return of_fault(Fault::OutOfMemory);
@@ -67,6 +70,7 @@ fn posted_to<K: Keeper>(
         (call_command Post (seen_call call.now) body.now)
         (λ L. call_resp (K.standing keeper.old).warehouse L Post (seen_call call.now) body.now moment) (seen result) }
     ensures goes { GoesOn (K.standing keeper.old) (K.standing keeper.new) }
+    ensures shut { IsShutAnswer (K.standing keeper.old) (call_asks Post (seen_call call.now) body.now) (seen result) }
 {
     match *call {
         Call::Deed(deed) => deed_at(alloc, keeper, &deed, body, moment),
@@ -86,6 +90,7 @@ fn got_from<K: Keeper>(
         (call_command Get (seen_call call.now) body.now)
         (λ L. call_resp (K.standing keeper.old).warehouse L Get (seen_call call.now) body.now moment) (seen result) }
     ensures goes { GoesOn (K.standing keeper.old) (K.standing keeper.new) }
+    ensures shut { IsShutAnswer (K.standing keeper.old) (call_asks Get (seen_call call.now) body.now) (seen result) }
 {
     match looked_at(alloc, keeper, call) {
         Ok(response) => response,
@@ -108,6 +113,8 @@ pub(crate) fn called<K: Keeper>(
         (λ L. call_resp (K.standing keeper.old).warehouse L (seen_method method) (seen_call call.now) body.now moment)
         (seen result) }
     ensures goes { GoesOn (K.standing keeper.old) (K.standing keeper.new) }
+    ensures shut { IsShutAnswer (K.standing keeper.old)
+        (call_asks (seen_method method) (seen_call call.now) body.now) (seen result) }
 {
     match method {
         MethodKind::Get => got_from(alloc, keeper, call, body, moment),

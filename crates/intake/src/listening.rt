@@ -1,6 +1,6 @@
 ghost use Rattle.std.specs.Prelude.{◌≡◌, ◌⊎◌, ◌≤◌, ℕ, Some, None, true, false, OnOk, OnErr, IfErr, IsErrOf};
 ghost use Rattle.store.specs.Standing.{GoesOn};
-ghost use Rattle.intake.specs.Connections.{HasTold, IsOutcome};
+ghost use Rattle.intake.specs.Connections.{HasTold, IsConnection, IsNotAccepted, IsOutcome, IsServedOn};
 
 use crate::audience::Audience;
 use crate::gauge::Gauge;
@@ -8,7 +8,7 @@ use crate::patience::{Patience, Patient, Standing};
 use crate::served::{Connection, Served};
 use crate::serving::serve_telling;
 use std::alloc::Global;
-use std::io::Read;
+use std::io::{self, Read};
 use std::net::{Shutdown, SocketAddr, TcpListener, TcpStream};
 use std::rt::Clock;
 use std::time::{Duration, Instant};
@@ -57,6 +57,7 @@ fn serve_on<K: Keeper, Q: Clock>(
     ensures moment { result.moment ≡ moment }
     ensures peer { result.peer ≡ Some peer }
     ensures outcome { IsOutcome result }
+    ensures served { IsServedOn audience (K.standing keeper.old) (K.standing keeper.new) result }
     ensures goes { GoesOn (K.standing keeper.old) (K.standing keeper.new) }
 {
     let begun = Instant::now(patience.timer).ok();
@@ -80,6 +81,7 @@ fn not_accepted(moment: Moment) -> Connection
     ensures moment { result.moment ≡ moment }
     ensures peer { result.peer ≡ None }
     ensures outcome { IsOutcome result }
+    ensures served { IsNotAccepted result }
 {
     Connection {
         moment,
@@ -94,6 +96,27 @@ fn not_accepted(moment: Moment) -> Connection
     }
 }
 
+// Serves a connection, if it was accepted.
+#[tactic(auto, using(crate::proofs::Told::accepted, crate::proofs::Told::not_accepted, store::proofs::Changes::unchanged_refl,))]
+fn serve_next<K: Keeper, Q: Clock>(
+    alloc: Global,
+    accepted: io::Result<(TcpStream, SocketAddr)>,
+    keeper: &mut K,
+    audience: Audience,
+    moment: Moment,
+    patience: &Patience<'_, Q>,
+) -> Connection
+    ensures moment { result.moment ≡ moment }
+    ensures outcome { IsOutcome result }
+    ensures served { IsConnection audience (K.standing keeper.old) (K.standing keeper.new) result }
+    ensures goes { GoesOn (K.standing keeper.old) (K.standing keeper.new) }
+{
+    match accepted {
+        Ok((stream, peer)) => serve_on(alloc, &stream, peer, keeper, audience, moment, patience),
+        Err(_) => not_accepted(moment),
+    }
+}
+
 /// Serves that many connections to that audience, one after the other, each at the moment that `clock`
 /// gives once it is accepted, and hands each to `told` with what became of its request: the status
 /// that was answered, or Device (44). A request or a response that takes longer than the patience is Device too. An
@@ -103,6 +126,10 @@ fn not_accepted(moment: Moment) -> Connection
 /// asked before anything of a connection is read, says no; that connection is closed without an
 /// answer, and isn't told. It is Reopen (42) where the book has to be opened again. Else `told` is
 /// handed exactly that many.
+///
+/// So the book goes from connection to connection, of the very ones that are told, in their order: each
+/// is as `IsConnection` says of its book before and after. Whatever ends it, the book is as the last of
+/// them left it.
 pub fn serve_within<
     K: Keeper,
     C: FnMut() -> Moment,
@@ -129,9 +156,11 @@ pub fn serve_within<
     ensures opened { OnOk result ((K.standing keeper.new).shut ≡ false) }
     ensures shut { IsErrOf result Fault.Reopen → (K.standing keeper.new).shut ≡ true }
     ensures served { OnOk result ((after : C) × (last : T)
-        × HasTold C.step (λ p x q. T.step p x tt q) clock after told last count) }
+        × HasTold (λ book c left. IsConnection audience (K.standing book) (K.standing left) c)
+        C.step (λ p x q. T.step p x tt q) keeper.old keeper.new clock after told last count) }
     ensures ended { OnErr result ((n : ℕ) × (n ≤ count) × ((after : C) × (last : T)
-        × HasTold C.step (λ p x q. T.step p x tt q) clock after told last n)) }
+        × HasTold (λ book c left. IsConnection audience (K.standing book) (K.standing left) c)
+        C.step (λ p x q. T.step p x tt q) keeper.old keeper.new clock after told last n)) }
 {
     for _ in 0..count {
         let accepted = listener.accept();
@@ -139,15 +168,10 @@ pub fn serve_within<
             return Err(Fault::Device);
         }
         let moment = clock();
-        let connection = match accepted {
-            Ok((stream, peer)) => serve_on(
-                alloc, &stream, peer, keeper, audience, moment, patience,
-            ),
-            Err(_) => not_accepted(moment),
-        };
+        let connection = serve_next(alloc, accepted, keeper, audience, moment, patience);
         told(connection);
         if keeper.must_reopen() {
-            break;
+            return Err(Fault::Reopen);
         }
     }
     if keeper.must_reopen() {
@@ -173,9 +197,11 @@ pub fn serve_count<K: Keeper, C: FnMut() -> Moment, T: FnMut(Connection)>(
     ensures opened { OnOk result ((K.standing keeper.new).shut ≡ false) }
     ensures shut { OnErr result ((K.standing keeper.new).shut ≡ true) }
     ensures served { OnOk result ((after : C) × (last : T)
-        × HasTold C.step (λ p x q. T.step p x tt q) clock after told last count) }
+        × HasTold (λ book c left. IsConnection Audience.Partners (K.standing book) (K.standing left) c)
+        C.step (λ p x q. T.step p x tt q) keeper.old keeper.new clock after told last count) }
     ensures ended { OnErr result ((n : ℕ) × (n ≤ count) × ((after : C) × (last : T)
-        × HasTold C.step (λ p x q. T.step p x tt q) clock after told last n)) }
+        × HasTold (λ book c left. IsConnection Audience.Partners (K.standing book) (K.standing left) c)
+        C.step (λ p x q. T.step p x tt q) keeper.old keeper.new clock after told last n)) }
 {
     let patience = Patience {
         timer: &Standing,

@@ -1,5 +1,5 @@
 //! What clerks are shown: the picking sheet of an order, the export of a depositor's stock, what it has open, and who is enrolled.
-ghost use Rattle.std.specs.Prelude.{◌≡◌, ℕ, List, Result, IfOk, IfErr};
+ghost use Rattle.std.specs.Prelude.{◌≡◌, ◌⊎◌, ℕ, List, Result, true, IfOk, IfErr, IsErrOf, is_some};
 ghost use Rattle.profile.specs.declared.rules.Rules.TheVariants.{Two};
 ghost use Rattle.profile.specs.Header.{Who as Partner, who_of};
 ghost use Rattle.profile.specs.Moments.{Moment as Minute};
@@ -11,6 +11,7 @@ ghost use Rattle.profile.specs.Rows.{stock_of};
 ghost use Rattle.reports.specs.Picking.{Explains};
 ghost use Rattle.store.specs.Standing.{IsUnchanged, IsQueryFault, OfKept};
 ghost use Rattle.intake.specs.Answers.{seen};
+ghost use Rattle.intake.specs.Asking.{call_asks};
 ghost use Rattle.intake.specs.Calls.{owner_of, order_response, sheet_response, open_response, depositors_response, call_resp};
 ghost use Rattle.intake.specs.Targets.{seen_call};
 
@@ -29,6 +30,8 @@ fn export_at<K: Keeper>(alloc: Global, keeper: &mut K, who: &[u8]) -> Result<Res
         (reports.stock_csv Two rows)))) }
     ensures same { IsUnchanged (K.standing keeper.old) (K.standing keeper.new) }
     ensures fault { IfErr result (λ fault. IsQueryFault fault (K.standing keeper.old) (K.standing keeper.new)) }
+    ensures shut { (K.standing keeper.old).shut ≡ true → is_some (who_of who.now) ≡ true
+        → IsErrOf result Fault.Reopen }
 {
     let Some(who) = Who::new(who) else {
         return Ok(bare_response(Status::NotFound));
@@ -70,6 +73,8 @@ fn order_at<K: Keeper>(
         (λ L. IfOk result (λ r. seen r ≡ order_response L (owner_of who.now number.now) number.now)) }
     ensures same { IsUnchanged (K.standing keeper.old) (K.standing keeper.new) }
     ensures fault { IfErr result (λ fault. IsQueryFault fault (K.standing keeper.old) (K.standing keeper.new)) }
+    ensures shut { (K.standing keeper.old).shut ≡ true → is_some (owner_of who.now number.now) ≡ true
+        → IsErrOf result Fault.Reopen ⊎ IsErrOf result Fault.OutOfMemory }
 {
     let Some(who) = owner(who, number) else {
         return Ok(bad_part());
@@ -90,6 +95,8 @@ fn open_at<K: Keeper>(alloc: Global, keeper: &mut K, who: &[u8]) -> Result<Respo
         (λ L. IfOk result (λ r. seen r ≡ open_response L (who_of who.now))) }
     ensures same { IsUnchanged (K.standing keeper.old) (K.standing keeper.new) }
     ensures fault { IfErr result (λ fault. IsQueryFault fault (K.standing keeper.old) (K.standing keeper.new)) }
+    ensures shut { (K.standing keeper.old).shut ≡ true → is_some (who_of who.now) ≡ true
+        → IsErrOf result Fault.Reopen }
 {
     let Some(who) = Who::new(who) else {
         return Ok(bad_part());
@@ -106,6 +113,7 @@ fn depositors_at<K: Keeper>(alloc: Global, keeper: &mut K) -> Result<Response, F
         (λ L. IfOk result (λ r. seen r ≡ depositors_response L)) }
     ensures same { IsUnchanged (K.standing keeper.old) (K.standing keeper.new) }
     ensures fault { IfErr result (λ fault. IsQueryFault fault (K.standing keeper.old) (K.standing keeper.new)) }
+    ensures shut { (K.standing keeper.old).shut ≡ true → IsErrOf result Fault.Reopen }
 {
     let whos = keeper.depositors()?;
     Ok(with_text(
@@ -127,6 +135,9 @@ pub(crate) fn looked_at<K: Keeper>(
         (K.standing keeper.old).warehouse L Get (seen_call call.now) body t)) }
     ensures same { IsUnchanged (K.standing keeper.old) (K.standing keeper.new) }
     ensures fault { IfErr result (λ fault. IsQueryFault fault (K.standing keeper.old) (K.standing keeper.new)) }
+    ensures shut { (body : List ℕ) → (K.standing keeper.old).shut ≡ true
+        → call_asks Get (seen_call call.now) body ≡ true
+        → IsErrOf result Fault.Reopen ⊎ IsErrOf result Fault.OutOfMemory }
 {
     match *call {
         Call::Deed(_) => Ok(not_allowed_response(Allow::Post)),

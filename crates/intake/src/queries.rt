@@ -1,7 +1,7 @@
-ghost use Rattle.std.specs.Prelude.{◌≡◌, ◌==◌, ℕ, List, Some, None, IfOk, IfErr, if◌then◌else◌, find, option_map, unwrap_or};
+ghost use Rattle.std.specs.Prelude.{◌≡◌, ◌==◌, ◌&&◌, ℕ, List, Some, None, true, IfOk, IfErr, IsErrOf, if◌then◌else◌, find, is_some, option_map, unwrap_or};
 ghost use Rattle.profile.specs.declared.rules.Rules.TheVariants.{Two};
 ghost use Rattle.profile.specs.Bytes.{value};
-ghost use Rattle.profile.specs.Header.{Who as Partner};
+ghost use Rattle.profile.specs.Header.{Who as Partner, who_of};
 ghost use Rattle.profile.specs.Moments.{Moment as Minute};
 ghost use Rattle.profile.specs.Register.{Entry};
 ghost use Rattle.profile.specs.Reports as reports;
@@ -9,6 +9,7 @@ ghost use Rattle.profile.specs.Response.{Get, OtherMethod, is_plain_number, cont
 ghost use Rattle.profile.specs.Rows.{stock_of, outbox_of};
 ghost use Rattle.store.specs.Standing.{IsUnchanged, IsQueryFault, OfKept};
 ghost use Rattle.intake.specs.Answers.{seen, told_text};
+ghost use Rattle.intake.specs.Asking.{route_asks};
 ghost use Rattle.intake.specs.Routes.{seen_route};
 
 use crate::replies::with_text;
@@ -26,6 +27,8 @@ fn stock_at<K: Keeper>(alloc: Global, keeper: &mut K, who: &str) -> Result<Respo
         (reports.stock_report Two rows)))) }
     ensures same { IsUnchanged (K.standing keeper.old) (K.standing keeper.new) }
     ensures fault { IfErr result (λ fault. IsQueryFault fault (K.standing keeper.old) (K.standing keeper.new)) }
+    ensures shut { (K.standing keeper.old).shut ≡ true → is_some (who_of who.now) ≡ true
+        → IsErrOf result Fault.Reopen }
 {
     let Some(who) = Who::new(who.as_bytes()) else {
         return Ok(bare_response(Status::NotFound));
@@ -43,6 +46,8 @@ fn outbox_at<K: Keeper>(alloc: Global, keeper: &mut K, who: &str) -> Result<Resp
         (λ rows. with_body 200 plain_type (reports.outbox_list rows)))) }
     ensures same { IsUnchanged (K.standing keeper.old) (K.standing keeper.new) }
     ensures fault { IfErr result (λ fault. IsQueryFault fault (K.standing keeper.old) (K.standing keeper.new)) }
+    ensures shut { (K.standing keeper.old).shut ≡ true → is_some (who_of who.now) ≡ true
+        → IsErrOf result Fault.Reopen }
 {
     let Some(who) = Who::new(who.as_bytes()) else {
         return Ok(bare_response(Status::NotFound));
@@ -80,6 +85,8 @@ fn content_at<K: Keeper>(keeper: &mut K, who: &str, n: &str) -> Result<Response,
         (content_response n.now))) }
     ensures same { IsUnchanged (K.standing keeper.old) (K.standing keeper.new) }
     ensures fault { IfErr result (λ fault. IsQueryFault fault (K.standing keeper.old) (K.standing keeper.new)) }
+    ensures shut { (K.standing keeper.old).shut ≡ true → (is_some (who_of who.now) && is_plain_number n.now) ≡ true
+        → IsErrOf result Fault.Reopen }
 {
     let Some(who) = Who::new(who.as_bytes()) else {
         return Ok(bare_response(Status::NotFound));
@@ -101,6 +108,8 @@ pub(crate) fn got<K: Keeper>(
         (K.standing keeper.old).warehouse L Get (seen_route route.now) body t)) }
     ensures same { IsUnchanged (K.standing keeper.old) (K.standing keeper.new) }
     ensures fault { IfErr result (λ fault. IsQueryFault fault (K.standing keeper.old) (K.standing keeper.new)) }
+    ensures shut { (K.standing keeper.old).shut ≡ true → route_asks Get (seen_route route.now) ≡ true
+        → IsErrOf result Fault.Reopen }
 {
     match *route {
         Route::Stock(who) => stock_at(alloc, keeper, who),

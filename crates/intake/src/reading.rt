@@ -2,13 +2,19 @@ ghost use Rattle.std.specs.Prelude.{◌≡◌, ℕ, ◌+◌, ◌<◌, ◌≤◌,
 ghost use Rattle.std.specs.Io.KnownBytes.{Consumes, IsAtEnd};
 ghost use Rattle.httparse.specs.Spans.{IsRequestWithin, IsRequestOf};
 ghost use Rattle.intake.specs.Gauges.{Grew};
-ghost use Rattle.intake.specs.Requests.{HasNoHead, IsInput, IsBody, IsFilled};
+ghost use Rattle.intake.specs.Requests.{most_head, most_fields, HasNoHead, IsInput, IsBody, IsFilled};
 
 use crate::gauge::Gauge;
 use httparse::Status;
 use httparse::spans::{HeaderSpan, RequestSpans, parse_request};
 use std::alloc::Global;
 use std::io::Read;
+
+/// The most bytes of a request's head that a server reads.
+pub(crate) const MOST_HEAD: usize = 8_192;
+
+/// The most fields of a request's head that a server reads.
+pub(crate) const MOST_FIELDS: usize = 32;
 
 /// The reader gave an error.
 #[derive(Drop)]
@@ -58,15 +64,15 @@ pub(crate) struct Beginning {
     pub head: Option<RequestSpans>,
 }
 
-/// Reads the head of a request, of at most 8,192 bytes and 32 fields, with perhaps some of what is after it. There is none where
+/// Reads the head of a request, of at most `MOST_HEAD` bytes and `MOST_FIELDS` fields, with perhaps some of what is after it. There is none where
 /// the input begins with no such head.
 pub(crate) fn read_head<R: Read>(
     reader: &mut Gauge<R>,
     buf: &mut [u8],
     fields: &mut [HeaderSpan],
 ) -> Result<Beginning, Unread>
-    requires room { length buf.old ≡ 8192 }
-    requires fields { length fields.old ≡ 32 }
+    requires room { length buf.old ≡ most_head }
+    requires fields { length fields.old ≡ most_fields }
     ensures within { IfOk result (λ read. read.filled ≤ length buf.new) }
     ensures bytes { IfOk result (λ read. Consumes (R.remaining reader.old.inner) (R.remaining reader.new.inner) (take read.filled buf.new)) }
     ensures head { IfOk result (λ read. IfSome read.head (IsRequestOf (take read.filled buf.new) fields.new)) }

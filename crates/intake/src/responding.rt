@@ -1,10 +1,11 @@
-ghost use Rattle.std.specs.Prelude.{◌≡◌, ◌⊎◌, ℕ, List, true, false, IfOk, IfErr, OnOk, OnErr};
+ghost use Rattle.std.specs.Prelude.{◌≡◌, ◌⊎◌, ℕ, List, true, false, IfOk, IfErr, IsErrOf, OnOk, OnErr};
 ghost use Rattle.profile.specs.declared.rules.Rules.TheVariants.{Two};
 ghost use Rattle.profile.specs.Accepted.{is_accepted, reply_to, after};
 ghost use Rattle.profile.specs.Register.{Entry, Interchange};
 ghost use Rattle.profile.specs.Response.{Post, is_exchange, reply_response, resp};
 ghost use Rattle.store.specs.Standing.{IsUsable, IsUnchanged, GoesOn, IsFault, LeavesEither, OfKept};
 ghost use Rattle.intake.specs.Answers.{seen};
+ghost use Rattle.intake.specs.Asking.{route_asks, IsResponseOf, IsShutAnswer};
 ghost use Rattle.intake.specs.Fields.{seen_method, method_of};
 ghost use Rattle.intake.specs.Routes.{seen_route, route_of};
 ghost use Rattle.intake.specs.Serving.{IsAnswered};
@@ -41,6 +42,7 @@ fn hand_in<K: Keeper>(
     ensures opened { OnOk result ((K.standing keeper.new).shut ≡ false) }
     ensures fault { IfErr result (λ fault. IsFault fault (K.standing keeper.old) (K.standing keeper.new)) }
     ensures goes { GoesOn (K.standing keeper.old) (K.standing keeper.new) }
+    ensures shut { (K.standing keeper.old).shut ≡ true → IsErrOf result Fault.Reopen }
 {
     let reply = submit(alloc, keeper, &Command::Interchange(body), moment)?;
     Ok(of_reply(reply))
@@ -75,6 +77,8 @@ fn posted<K: Keeper>(
         → OnOk result ((K.standing keeper.new).shut ≡ false) }
     ensures fault { IfErr result (λ fault. IsFault fault (K.standing keeper.old) (K.standing keeper.new)) }
     ensures goes { GoesOn (K.standing keeper.old) (K.standing keeper.new) }
+    ensures shut { (K.standing keeper.old).shut ≡ true → route_asks Post (seen_route route.now) ≡ true
+        → IsErrOf result Fault.Reopen }
 {
     if !is_handed_in(MethodKind::Post, route) {
         return Ok(not_served(route));
@@ -112,6 +116,8 @@ fn answered<K: Keeper>(
         → OnOk result ((K.standing keeper.new).shut ≡ false) }
     ensures fault { IfErr result (λ fault. IsFault fault (K.standing keeper.old) (K.standing keeper.new)) }
     ensures goes { GoesOn (K.standing keeper.old) (K.standing keeper.new) }
+    ensures shut { (K.standing keeper.old).shut ≡ true
+        → route_asks (seen_method method) (seen_route route.now) ≡ true → IsErrOf result Fault.Reopen }
 {
     match method {
         MethodKind::Get => got(alloc, keeper, route),
@@ -134,6 +140,8 @@ pub(crate) fn respond_at<K: Keeper>(
         (λ L. resp Two (K.standing keeper.old).warehouse L (seen_method method) (seen_route route.now) body.now
         moment) (seen result) }
     ensures goes { GoesOn (K.standing keeper.old) (K.standing keeper.new) }
+    ensures shut { (K.standing keeper.old).shut ≡ true
+        → route_asks (seen_method method) (seen_route route.now) ≡ true → IsResponseOf Fault.Reopen (seen result) }
 {
     match answered(alloc, keeper, method, route, body, moment) {
         Ok(response) => response,
@@ -144,7 +152,8 @@ pub(crate) fn respond_at<K: Keeper>(
 /// The response to a request, by its method, its path and its body: an interchange is posted to `/x12`; `/stock/{who}`,
 /// `/outbox/{who}` and `/outbox/{who}/{n}` show what a depositor has, what went out to it, and one text of that. The path is taken
 /// as it is, and has no route where it isn't UTF-8. The book is left as the interchange leaves it, and as it was by any other
-/// request. A fault inside (40 to 43) is answered 503, with the book as it was, or to be opened again.
+/// request. A fault inside (40 to 43) is answered 503, with the book as it was, or to be opened again. A book that has to be opened again
+/// answers 42 to whatever asks it for anything, or 40 where memory for the path is wanting.
 pub fn respond<K: Keeper>(
     alloc: Global,
     keeper: &mut K,
@@ -158,6 +167,8 @@ pub fn respond<K: Keeper>(
         (λ L. resp Two (K.standing keeper.old).warehouse L (method_of method.now) (route_of path.now) body.now
         moment) (seen result) }
     ensures goes { GoesOn (K.standing keeper.old) (K.standing keeper.new) }
+    ensures shut { IsShutAnswer (K.standing keeper.old)
+        (route_asks (method_of method.now) (route_of path.now)) (seen result) }
 {
     match find_route(alloc, path) {
         Ok(route) => {

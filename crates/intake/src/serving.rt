@@ -11,7 +11,7 @@ ghost use Rattle.intake.specs.Serving.{IsExchange, IsExchangeBehind, IsWritten, 
 use crate::audience::Audience;
 use crate::gauge::Gauge;
 use crate::heading::{is_among, length_of, read_method, values_of};
-use crate::reading::{Content, Unread, read_body, read_head};
+use crate::reading::{Content, MOST_FIELDS, MOST_HEAD, Unread, read_body, read_head};
 use crate::replies::of_fault;
 use crate::response::{Status, bare_response};
 use crate::senders::{Replied, answer_at, unsent};
@@ -121,8 +121,8 @@ fn receive<R: Read, K: Keeper>(
     ensures count { OnErr result.replied (Grew reader.old.errors reader.new.errors) }
     ensures goes { GoesOn (K.standing keeper.old) (K.standing keeper.new) }
 {
-    let mut buf = [0u8; 8192];
-    let mut fields = [EMPTY_HEADER_SPAN; 32];
+    let mut buf = [0u8; MOST_HEAD];
+    let mut fields = [EMPTY_HEADER_SPAN; MOST_FIELDS];
     let begun = match read_head(reader, &mut buf, &mut fields) {
         Ok(begun) => begun,
         Err(unread) => return Received {

@@ -2,6 +2,7 @@
 ghost use Rattle.std.specs.Prelude.{◌≡◌, IfOk, option_map};
 ghost use Rattle.store.specs.Standing.{GoesOn};
 ghost use Rattle.intake.specs.Answers.{seen};
+ghost use Rattle.intake.specs.Asking.{target_asks, IsShutAnswer};
 ghost use Rattle.intake.specs.Calls as meant;
 ghost use Rattle.intake.specs.Fields.{seen_method};
 ghost use Rattle.intake.specs.Serving.{IsAnswered};
@@ -97,6 +98,8 @@ pub(crate) fn respond_to<K: Keeper>(
         (λ L. target_resp (K.standing keeper.old).warehouse L (seen_method method) (seen_target target.now) body.now
         moment) (seen result) }
     ensures goes { GoesOn (K.standing keeper.old) (K.standing keeper.new) }
+    ensures shut { IsShutAnswer (K.standing keeper.old)
+        (target_asks (seen_method method) (seen_target target.now) body.now) (seen result) }
 {
     match *target {
         Target::Route(route) => respond_at(alloc, keeper, method, &route, body, moment),

@@ -2,6 +2,7 @@ use Rattle.std.proofs.Common.{arith, ◌≤◌, ◌∙◌, ap, length, take}
 use Rattle.std.proofs.lemmas.Grind.{common_steps}
 use Rattle.std.proofs.lemmas.Result.{IfOk-weaker}
 use Rattle.intake.specs.Answers.{seen}
+use Rattle.intake.specs.Requests.{most_head, most_fields}
 use Rattle.intake.proofs.Sends.{on_err}
 use Rattle.intake.proofs.Answering.{whole_answer, headless_answer, line_read}
 use Rattle.intake.proofs.serving.receive.Goals as goal
@@ -11,8 +12,8 @@ returns-clause-answered g c =
     let e = c.in-Ok.ensures in
     let found = rw c.in-Some.is at e.head in
     let within = rw c.in-Some.is at e.spans in
-    let room : length (take c.in-Ok.begun.filled c.read_head.new.buf) ≤ 8192 = grind (arith, common_steps) in
-    let many : length c.read_head.new.fields ≤ 32 = grind (arith, common_steps) in
+    let room : length (take c.in-Ok.begun.filled c.read_head.new.buf) ≤ most_head = grind (arith, common_steps) in
+    let many : length c.read_head.new.fields ≤ most_fields = grind (arith, common_steps) in
     IfOk-weaker c.answer-replied.result _ _
     (λ replied answered. whole_answer _ _ _ _ _ _ _ _ _ found.0 _ _ _ room many within found.1 e.bytes c.copied_line-line.ensures (answered found.0 found.1))
     c.answer-replied.ensures.answered
@@ -22,8 +23,8 @@ returns-clause-line g c =
     let e = c.in-Ok.ensures in
     let found = rw c.in-Some.is at e.head in
     let within = rw c.in-Some.is at e.spans in
-    let room : length (take c.in-Ok.begun.filled c.read_head.new.buf) ≤ 8192 = grind (arith, common_steps) in
-    let many : length c.read_head.new.fields ≤ 32 = grind (arith, common_steps) in
+    let room : length (take c.in-Ok.begun.filled c.read_head.new.buf) ≤ most_head = grind (arith, common_steps) in
+    let many : length c.read_head.new.fields ≤ most_fields = grind (arith, common_steps) in
     on_err c.answer-replied.result (line_read _ _ _ _ _ _ found.0 room many within found.1 e.bytes c.copied_line-line.ensures)
 
 pub returns-in-None-clause-answered : goal.returns-in-None-clause-answered
