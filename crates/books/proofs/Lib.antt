@@ -1,10 +1,6 @@
 mod KeepingLemmas
 mod AskedBooks
-mod StopLemmas
-mod CrossLemmas
-mod AgainLemmas
 mod GivenLemmas
 mod RulesLemmas
 mod OpeningLemmas
-mod DaysLemmas
 mod RamLaws

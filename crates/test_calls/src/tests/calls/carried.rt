@@ -4,7 +4,7 @@ use super::super::laying::lay;
 use super::day::{Trial, on_day};
 use super::stopped::{Stop, answers_again, are_answers_from, is_whole};
 use super::worked::{acme, opened, settled};
-use books::{Book, Tables, days};
+use books::{Book, Tables};
 use cases::version1::{BESIDE, COUNTED, DATED, ORDERED, TABLES, hundred_lines, with_lines};
 use reports::{outbox_list, stock_csv};
 use sqlite::{Alter, Connection};
@@ -12,7 +12,8 @@ use sqlite_trees::memory::MemStore;
 use sqlite_trees::store::Reopen;
 use std::alloc::Global;
 use std::test::Fail;
-use store::{Command, Fault, Keeper, Moment, Outcome, Who, outbox, stock};
+use stops::{Answered, days};
+use store::{Command, Fault, Keeper, Moment, Who, outbox, stock};
 
 // More calls than an opening makes of its store.
 const MOST: u64 = 100;
@@ -178,12 +179,13 @@ fn a_day_goes_on_after_a_carrying_over(rt: HostRuntime) -> Result<(), Fail> {
 }
 
 // Whether a day answered so many commands from a place on, of those that a book of version 1 had answered and of the others.
-fn is_led(told: &Result<Outcome, Fault>, from: usize, count: usize) -> bool {
+fn is_led(told: &Result<Answered, Fault>, from: usize, count: usize) -> bool {
     match told {
         Ok(day) => {
-            day.fault.is_none()
-                && day.replies.len() == count
-                && are_answers_from(&day.replies, from, ANSWERED)
+            !day.must_reopen
+                && day.outcome.fault.is_none()
+                && day.outcome.replies.len() == count
+                && are_answers_from(&day.outcome.replies, from, ANSWERED)
         }
         Err(_) => false,
     }

@@ -2,11 +2,12 @@
 //! whole, and given all commands again.
 use super::day::{Trial, answers, are_goods, is_sent, is_wanted, on_day};
 use super::worked::{acme, fresh, house, opened};
-use books::{Book, Tables, across};
+use books::{Book, Tables};
 use sqlite::Alter;
 use sqlite_trees::store::Reopen;
 use std::alloc::Global;
 use std::test::Fail;
+use stops::across;
 use store::{
     Command, Fault, Keeper, Key, Moment, Need, Outcome, Reply, Warehouse, Who, outbox, run, stock,
     submit,
@@ -166,7 +167,7 @@ fn after_stop<S: Alter + Reopen + Drop>(
 ) -> Result<(Outcome, Book<S>), Fail> {
     match stop {
         Stop::Crash => match across(alloc, book, day, &[]) {
-            (before, Ok((_, book))) => Ok((before, book)),
+            (before, Ok((_, book))) => Ok((before.outcome, book)),
             _ => Err("a book that isn't there after a crash".into()),
         },
         Stop::Closing => {

@@ -1,0 +1,5 @@
+mod StopLemmas
+mod LeftLemmas
+mod CrossLemmas
+mod AgainLemmas
+mod DaysLemmas

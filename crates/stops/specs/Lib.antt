@@ -1,0 +1,3 @@
+pub mod Stopped
+pub mod Days
+pub mod Faults
