@@ -38,7 +38,8 @@ impl Model for BareAdvice {
     ghost view = { λ a. record { shipment = a.shipment.items; order = a.order.items; lines = []; is_open = a.is_open } };
 }
 
-// The advice that a row of shipment, ord and is_open shows, but for its lines; None where it shows none.
+// The advice that a row of shipment, ord and is_open shows, but for its lines; None where it shows
+// none.
 fn advice_in(alloc: Global, row: &Row) -> Result<Option<BareAdvice>, AllocError>
     ensures { (a : PageAdvice) → row.now ≡ advice_shown a
         → IfOk result (λ shown. shown ≡ Some (bare_advice a)) }
@@ -71,7 +72,8 @@ fn with_lines(bare: BareAdvice, lines: Vec<Goods>) -> Result<Option<KnownAdvice>
 }
 
 impl<S: Alter + Drop> Tables<S> {
-    // A depositor's advice under a shipment number, but for its lines; None where there is none. 43 where its row shows none.
+    // A depositor's advice under a shipment number, but for its lines; None where there is none. 43
+    // where its row shows none.
     fn bare_advice(
         &mut self,
         alloc: Global,
@@ -99,7 +101,8 @@ impl<S: Alter + Drop> Tables<S> {
         }
     }
 
-    // The lines of a depositor's advice under a shipment number; nothing where there is none. 43 where a row shows no line.
+    // The lines of a depositor's advice under a shipment number; nothing where there is none. 43
+    // where a row shows no line.
     fn advice_lines(
         &mut self,
         alloc: Global,
@@ -124,7 +127,8 @@ impl<S: Alter + Drop> Tables<S> {
         }
     }
 
-    /// A depositor's advice under a shipment number; None where there is none. 43 where a row shows none.
+    /// A depositor's advice under a shipment number; None where there is none. 43 where a row shows
+    /// none.
     pub(crate) fn advice_under(
         &mut self,
         alloc: Global,

@@ -40,7 +40,8 @@ fn insert_sent<'a, S: Alter>(
     insert_outgoing(tx, calls, who, entry.number(), kind, outgoing, state_text)
 }
 
-/// Adds an entry under the next number, with its rules, the text that goes out for it and the changes that its command makes.
+/// Adds an entry under the next number, with its rules, the text that goes out for it and the
+/// changes that its command makes.
 pub(crate) fn write_entry<'a, S: Alter>(
     tx: &mut Transaction<'_, S>,
     calls: &mut Calls,

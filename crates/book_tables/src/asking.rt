@@ -18,8 +18,8 @@ use sqlite::Alter;
 use store::Fault;
 
 impl<S: Alter + Drop> Tables<S> {
-    /// The version and the warehouse of the book. 43 where `book` hasn't one row, or that row has no version that is read or no
-    /// warehouse.
+    /// The version and the warehouse of the book. 43 where `book` hasn't one row, or that row has
+    /// no version that is read or no warehouse.
     #[tactic(auto, using(crate::proofs::Limited::spends_both, crate::proofs::Limited::spends_same))]
     pub(crate) fn house(&mut self) -> Result<(Rules, Warehouse), Fault>
         ensures house { HasCleanDisk (state S.Store self.new.conn)

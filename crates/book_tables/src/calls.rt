@@ -47,7 +47,8 @@ impl Calls {
         self.limit = left;
     }
 
-    /// A call may be made, which is counted, and one fewer after it; or, where none is left, it is refused unmade, which counts.
+    /// A call may be made, which is counted, and one fewer after it; or, where none is left, it is
+    /// refused unmade, which counts.
     #[tactic(auto, using(crate::proofs::Limited::spends_same, crate::proofs::Limited::spent_one))]
     pub(crate) fn allow(&mut self) -> Result<(), Fault>
         ensures ok { OnOk result (self.new.refused ≡ self.old.refused) }

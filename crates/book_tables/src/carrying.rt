@@ -13,7 +13,8 @@ use sqlite::types::ValueRef;
 use sqlite::{Alter, Transaction};
 use store::Fault;
 
-/// Gives each entry, of so many, the first rules. After each, `told` is handed how many have them of how many.
+/// Gives each entry, of so many, the first rules. After each, `told` is handed how many have them
+/// of how many.
 pub(crate) fn give_first_rules<S: Alter, T: FnMut(u64, u64)>(
     tx: &mut Transaction<'_, S>,
     calls: &mut Calls,
@@ -50,8 +51,9 @@ pub(crate) fn set_version<S: Alter>(
     )
 }
 
-/// Carries the tables of a book of version 1, with so many entries, over to version 2: makes the two tables that are new in it, gives
-/// every entry the first rules, of which `told` is handed how many have them of how many, and sets the version.
+/// Carries the tables of a book of version 1, with so many entries, over to version 2: makes the
+/// two tables that are new in it, gives every entry the first rules, of which `told` is handed how
+/// many have them of how many, and sets the version.
 pub(crate) fn carry_all<S: Alter, T: FnMut(u64, u64)>(
     tx: &mut Transaction<'_, S>,
     calls: &mut Calls,

@@ -125,7 +125,8 @@ fn apply_advice<'a, S: Alter>(
     }
 }
 
-/// Puts an order: where it is opened with its lines and what is reserved for it, else nothing is reserved for it any more.
+/// Puts an order: where it is opened with its lines and what is reserved for it, else nothing is
+/// reserved for it any more.
 fn apply_order<'a, S: Alter>(
     tx: &mut Transaction<'_, S>,
     calls: &mut Calls,

@@ -130,8 +130,8 @@ fn are_same_rows(rows: &[Row], others: &[Row]) -> bool
 }
 
 impl<S: Alter + Drop> Tables<S> {
-    // Whether a text that only reads the book's tables answers the same rows there. A fault of the other tables is 40, and no
-    // call of these is counted for it.
+    // Whether a text that only reads the book's tables answers the same rows there. A fault of the
+    // other tables is 40, and no call of these is counted for it.
     #[tactic(auto, using(crate::proofs::Limited::spends_same))]
     fn shows_the_same<T: Alter + Drop>(
         &mut self,
@@ -169,8 +169,9 @@ impl<S: Alter + Drop> Tables<S> {
         Ok(true)
     }
 
-    /// Whether these tables hold the same rows as others, which stand for a register. Both are only read. A fault of the others is
-    /// 40, so they are best in memory; and 41 where a call of these is refused.
+    /// Whether these tables hold the same rows as others, which stand for a register. Both are only
+    /// read. A fault of the others is 40, so they are best in memory; and 41 where a call of these
+    /// is refused.
     pub fn same_tables<T: Alter + Drop>(&mut self, other: &mut Tables<T>) -> Result<bool, Fault>
         ensures stands { HasCleanDisk (state S.Store self.new.conn)
             → HasCleanDisk (state T.Store other.new.conn) → IsLaid (state S.Store self.old.conn)

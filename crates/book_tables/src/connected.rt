@@ -26,7 +26,8 @@ use sqlite_schema::schema::Schema;
 use std::marker::Model;
 use store::Fault;
 
-/// A connection to the tables of a book, with the counts of its calls that were refused and of those that were made.
+/// A connection to the tables of a book, with the counts of its calls that were refused and of
+/// those that were made.
 #[derive(Drop)]
 pub struct Tables<S: Alter + Drop> {
     conn: Connection<S>,
@@ -47,7 +48,8 @@ impl<S: Alter + Drop> Model for Tables<S> {
 }
 
 impl<S: Alter + Drop> Tables<S> {
-    /// The tables of a connection that is in no transaction. No call is refused yet, and any number may be made.
+    /// The tables of a connection that is in no transaction. No call is refused yet, and any number
+    /// may be made.
     pub fn new(conn: Connection<S>) -> Tables<S>
         requires { conn.in_transaction ≡ false }
         ensures conn { result.conn ≡ conn }
@@ -75,7 +77,8 @@ impl<S: Alter + Drop> Tables<S> {
         self.calls.made
     }
 
-    /// After that many more calls each, but the giving up of a transaction, is refused unmade and counted; None lifts that.
+    /// After that many more calls each, but the giving up of a transaction, is refused unmade and
+    /// counted; None lifts that.
     pub fn limit_calls(&mut self, limit: Option<u64>)
         ensures conn { self.new.conn ≡ self.old.conn }
         ensures refused { self.new.refused ≡ self.old.refused }
@@ -100,7 +103,8 @@ impl<S: Alter + Drop> Tables<S> {
         self.conn.schema()
     }
 
-    /// Runs nothing. The connection is in no transaction, so what it shows is what was committed last; and that obeys its schema.
+    /// Runs nothing. The connection is in no transaction, so what it shows is what was committed
+    /// last; and that obeys its schema.
     pub fn settle(&self)
         ensures rest { IsTrue (state S.Store self.now.conn).is_open
             → (state S.Store self.now.conn).now ≡ (state S.Store self.now.conn).committed }
@@ -122,8 +126,8 @@ impl<S: Alter + Drop> Tables<S> {
         self.calls.refuse()
     }
 
-    /// The rows that a text answers which only reads, under any schema: the tables are as they were. A refused call is 40 or 41, and
-    /// counts.
+    /// The rows that a text answers which only reads, under any schema: the tables are as they
+    /// were. A refused call is 40 or 41, and counts.
     #[tactic(auto, using(crate::proofs::Limited::spends_both, crate::proofs::Limited::spends_same))]
     pub(crate) fn ask(&mut self, sql: &str, params: &[ValueRef<'_>]) -> Result<Vec<Row>, Fault>
         requires { OnlyReads sql.now }
@@ -140,7 +144,8 @@ impl<S: Alter + Drop> Tables<S> {
         ensures twice { OnOk result (Spent 2 self.old.made self.new.made self.old.limit self.new.limit) }
         ensures allowed { OnOk result (self.old.limit ≢ Some 0) }
     {
-        // For the prover alone: in no transaction, what is there is the last commit; and while the store is open, it is a database.
+        // For the prover alone: in no transaction, what is there is the last commit; and while the
+        // store is open, it is a database.
         let settled = self.conn.is_autocommit();
         prove!(settled);
         let _live = self.conn.schema();
@@ -156,7 +161,8 @@ impl<S: Alter + Drop> Tables<S> {
         }
     }
 
-    /// Appends an entry under the next number, with what its command changes and what goes out for it, in one transaction.
+    /// Appends an entry under the next number, with what its command changes and what goes out for
+    /// it, in one transaction.
     #[tactic(auto, using(crate::proofs::Limited::spends_both, crate::proofs::Limited::spends_same))]
     pub fn append<'a>(
         &mut self,
@@ -196,7 +202,8 @@ impl<S: Alter + Drop> Tables<S> {
         }
     }
 
-    /// Makes the tables of an empty register of the warehouse, of a book of version 2, in one transaction.
+    /// Makes the tables of an empty register of the warehouse, of a book of version 2, in one
+    /// transaction.
     #[tactic(auto, using(crate::proofs::Limited::spends_both, crate::proofs::Limited::spends_same))]
     pub fn make(&mut self, warehouse: &Warehouse) -> Result<(), Fault>
         ensures ok { HasCleanDisk (state S.Store self.new.conn)
@@ -226,8 +233,8 @@ impl<S: Alter + Drop> Tables<S> {
         }
     }
 
-    /// Carries a book of version 1, which has so many entries, over to version 2, in one transaction. Of its entries `told` is
-    /// handed how many were gone over of how many.
+    /// Carries a book of version 1, which has so many entries, over to version 2, in one
+    /// transaction. Of its entries `told` is handed how many were gone over of how many.
     #[tactic(auto, using(crate::proofs::Limited::spends_both, crate::proofs::Limited::spends_same))]
     pub fn carry_over<T: FnMut(u64, u64)>(&mut self, entries: u64, told: T) -> Result<(), Fault>
         requires few { entries < 2 ^ 63 }

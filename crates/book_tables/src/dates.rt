@@ -39,8 +39,9 @@ fn date_in<'a>(row: &Row, date: &'a Row) -> Option<&'a [u8]>
     }
 }
 
-/// The date of the pair that a row begins with, if rows of item, lot and expiry begin with it, and those after it. Where the rows
-/// of lots and those of dates stand by item and lot, each date is met at the row of its pair.
+/// The date of the pair that a row begins with, if rows of item, lot and expiry begin with it, and
+/// those after it. Where the rows of lots and those of dates stand by item and lot, each date is
+/// met at the row of its pair.
 pub(crate) fn next_date<'a>(row: &Row, dates: &'a [Row]) -> (Option<&'a [u8]>, &'a [Row])
     ensures { (r : LotRow) (rs : List LotRow) → rises_by key_before row_key (r ∷ rs) ≡ true
         → column row.now 0 ≡ Text r.item → column row.now 1 ≡ Text r.lot

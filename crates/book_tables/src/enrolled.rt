@@ -1,5 +1,5 @@
-//! Whether a depositor is enrolled, and who is: the enrolments are looked up one after the other, by the texts of the names, and
-//! no other entry is read.
+//! Whether a depositor is enrolled, and who is: the enrolments are looked up one after the other,
+//! by the texts of the names, and no other entry is read.
 ghost use Rattle.std.specs.Prelude.{◌≡◌, ◌∷◌, [], ◌++◌, not, ◌==◌, true, List, Some, IfOk, IsTrue, OnOk, length, map};
 ghost use Rattle.std.specs.List.Sorted.{IsPermutation, IsSortedByKey};
 ghost use Rattle.std.specs.Ordering.{nat_cmp};
@@ -101,8 +101,9 @@ impl<S: Alter + Drop> Tables<S> {
         Ok(!rows.is_empty())
     }
 
-    // The row of the first enrolment from a text on. `entry` has an index by who and n, in which an enrolment, whose n is 0, is the
-    // first entry of its depositor: so one row is read, and none of the depositor's other entries.
+    // The row of the first enrolment from a text on. `entry` has an index by who and n, in which an
+    // enrolment, whose n is 0, is the first entry of its depositor: so one row is read, and none of
+    // the depositor's other entries.
     fn enrolment_rows(&mut self, text: &[u8]) -> Result<Vec<Row>, Fault>
         ensures finds { HasCleanDisk (state S.Store self.new.conn)
             → IfOk result (λ rows. IsTrue (state S.Store self.old.conn).is_open
@@ -116,8 +117,8 @@ impl<S: Alter + Drop> Tables<S> {
         )
     }
 
-    // The first enrolment of those whose depositors' texts don't come before this one; None where there is none. 43 where its row
-    // shows none.
+    // The first enrolment of those whose depositors' texts don't come before this one; None where
+    // there is none. 43 where its row shows none.
     fn enrolment_from(&mut self, text: &[u8]) -> Result<Option<Enrolment>, Fault>
         ensures first { HasCleanDisk (state S.Store self.new.conn) → (W : Partner) (L : List register.Entry)
             → StandsWhileOpen (state S.Store self.old.conn) W L
@@ -136,8 +137,8 @@ impl<S: Alter + Drop> Tables<S> {
         }
     }
 
-    // All enrolments. Each look-up asks for the text that comes next after the last one found, and not for all after that one: the
-    // index would go through the entries of its depositor first.
+    // All enrolments. Each look-up asks for the text that comes next after the last one found, and
+    // not for all after that one: the index would go through the entries of its depositor first.
     fn enrolments(&mut self, alloc: Global) -> Result<Vec<Enrolment>, Fault>
         ensures all { HasCleanDisk (state S.Store self.new.conn) → (W : Partner) (L : List register.Entry)
             → StandsWhileOpen (state S.Store self.old.conn) W L
@@ -156,8 +157,8 @@ impl<S: Alter + Drop> Tables<S> {
         Err(Fault::OutOfMemory)
     }
 
-    /// The depositors, in the order in which they were enrolled: those of the entries without a number. 43 where such an entry's row
-    /// names no partner.
+    /// The depositors, in the order in which they were enrolled: those of the entries without a
+    /// number. 43 where such an entry's row names no partner.
     pub fn depositors(&mut self, alloc: Global) -> Result<Vec<Who>, Fault>
         ensures whole { HasCleanDisk (state S.Store self.new.conn) → (W : Partner) (L : List register.Entry)
             → StandsWhileOpen (state S.Store self.old.conn) W L

@@ -1,5 +1,5 @@
-//! The SQLite tables of a warehouse's book: an entry and what it changes are written in one transaction,
-//! and what a command needs is read back by keys.
+//! The SQLite tables of a warehouse's book: an entry and what it changes are written in one
+//! transaction, and what a command needs is read back by keys.
 #![tactic(auto)]
 
 mod advised;

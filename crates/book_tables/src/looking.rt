@@ -29,7 +29,8 @@ fn number_params<'a>(who: &'a [u8], n: u32) -> [ValueRef<'a>; 2]
 }
 
 impl<S: Alter + Drop> Tables<S> {
-    /// The rows that a text answers which reads the book's tables, where its parameter is a depositor.
+    /// The rows that a text answers which reads the book's tables, where its parameter is a
+    /// depositor.
     pub(crate) fn of_depositor(
         &mut self,
         alloc: Global,

@@ -22,7 +22,8 @@ use sqlite::{Alter, Row as Shown};
 use std::alloc::{AllocError, Global};
 use store::Fault;
 
-// The lot that a row of item, lot, since and the four amounts shows, with its date if it has one; None where it shows none.
+// The lot that a row of item, lot, since and the four amounts shows, with its date if it has one;
+// None where it shows none.
 fn lot_in(alloc: Global, row: &Shown, expiry: Option<&[u8]>) -> Result<Option<Row>, AllocError>
     ensures { (r : LotRow) → r.since < 2 ^ 32 → row.now ≡ lot_shown r
         → option_map (λ (date : Bor (List ℕ)). date.now) expiry.entry ≡ r.expiry → IfOk result (λ shown. shown ≡ Some r) }
@@ -60,8 +61,8 @@ fn lot_in(alloc: Global, row: &Shown, expiry: Option<&[u8]>) -> Result<Option<Ro
     }))
 }
 
-// The lots that rows show, with the dates that rows of item, lot and expiry show of them, where both stand by item and lot; None
-// where one of them shows none, or a date is of no row.
+// The lots that rows show, with the dates that rows of item, lot and expiry show of them, where
+// both stand by item and lot; None where one of them shows none, or a date is of no row.
 fn lots_in(alloc: Global, rows: &[Shown], dates: &[Shown]) -> Result<Option<Vec<Row>>, AllocError>
     ensures shows { (rs : List LotRow) → list_all is_fitting_row rs ≡ true → rises_by key_before row_key rs ≡ true
         → rows.now ≡ map lot_shown rs → dates.now ≡ map date_shown (dates_of rs) → IfOk result (λ shown. option_map (λ v. v.items) shown ≡ Some rs) }
@@ -85,7 +86,8 @@ fn lots_in(alloc: Global, rows: &[Shown], dates: &[Shown]) -> Result<Option<Vec<
 }
 
 impl<S: Alter + Drop> Tables<S> {
-    /// What a depositor has of an item, by lot, with the dates; nothing of a stranger. 43 where a row shows no lot.
+    /// What a depositor has of an item, by lot, with the dates; nothing of a stranger. 43 where a
+    /// row shows no lot.
     pub(crate) fn lots_of(
         &mut self,
         alloc: Global,

@@ -1,5 +1,5 @@
-//! The part of a depositor's page that is needed, from the running rows: what is named is looked up by keys, and nothing else is
-//! read.
+//! The part of a depositor's page that is needed, from the running rows: what is named is looked up
+//! by keys, and nothing else is read.
 ghost use Rattle.std.specs.Prelude.{◌≡◌, ◌++◌, ℕ, fold, flat_map, map, IfOk, List};
 ghost use Rattle.std.specs.Cmp.Lexicographic.{slice_cmp};
 ghost use Rattle.std.specs.List.Sorted.{IsStrictlyIncreasing, IsStrictlySortedBy};
@@ -128,7 +128,8 @@ fn texts_of(alloc: Global, names: &[Name]) -> Result<Vec<&[u8]>, AllocError>
     Ok(texts)
 }
 
-// The bytes of names in their order, each once: an interchange can name one item in each of its lines.
+// The bytes of names in their order, each once: an interchange can name one item in each of its
+// lines.
 fn once(alloc: Global, names: &[Name]) -> Result<Vec<&[u8]>, AllocError>
     ensures same { IfOk result (λ texts. (t : List ℕ)
         → is_one_of (map (λ s. s.now) texts.items) t ≡ is_one_of names.now t) }
@@ -339,7 +340,8 @@ impl<S: Alter + Drop> Tables<S> {
         self.gather(alloc, who, draft, Sought::Lots, &items)
     }
 
-    // Just what is needed of the page of a depositor that is enrolled. 43 where the rows make no page.
+    // Just what is needed of the page of a depositor that is enrolled. 43 where the rows make no
+    // page.
     fn part(&mut self, alloc: Global, who: Who, need: &Need) -> Result<Page, Fault>
         ensures part { HasCleanDisk (state S.Store self.new.conn) → (W : Partner) (L : List register.Entry)
             → StandsWhileOpen (state S.Store self.old.conn) W L
@@ -357,7 +359,8 @@ impl<S: Alter + Drop> Tables<S> {
         }
     }
 
-    /// Just what is needed of a depositor's page; None of a stranger. 43 where the rows make no page.
+    /// Just what is needed of a depositor's page; None of a stranger. 43 where the rows make no
+    /// page.
     pub fn page_for(&mut self, alloc: Global, who: Who, need: &Need) -> Result<Option<Page>, Fault>
         ensures part { HasCleanDisk (state S.Store self.new.conn) → (W : Partner) (L : List register.Entry)
             → StandsWhileOpen (state S.Store self.old.conn) W L

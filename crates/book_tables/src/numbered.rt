@@ -28,7 +28,8 @@ fn seq_params(seq: u64) -> [ValueRef<'static>; 1]
     [ValueRef::Int(seq as i64)]
 }
 
-// The entry under these rules that a row of who, mark, n, moment and body shows; None where it shows none.
+// The entry under these rules that a row of who, mark, n, moment and body shows; None where it
+// shows none.
 fn numbered_entry_in(alloc: Global, row: &Row, rules: Rules) -> Result<Option<Entry>, AllocError>
     ensures { (w : Written) → IsOfPartner w → row.now ≡ numbered_shown w
         → IfOk result (λ entry. entry ≡ Some (record w { rules = rules })) }
@@ -93,7 +94,8 @@ impl<S: Alter + Drop> Tables<S> {
         )
     }
 
-    // The rules of the entry under a number; None where there is none. 43 where their row shows none.
+    // The rules of the entry under a number; None where there is none. 43 where their row shows
+    // none.
     fn rules_at(&mut self, seq: u64) -> Result<Option<Rules>, Fault>
         requires { seq < 2 ^ 63 }
         ensures rules { HasCleanDisk (state S.Store self.new.conn) → (W : Partner) (L : List register.Entry)
@@ -111,8 +113,9 @@ impl<S: Alter + Drop> Tables<S> {
         }
     }
 
-    /// The entry under a number, of all depositors' from 1 on, as it is written down; None where there is none. 43 where its row or
-    /// that of its rules shows none, 40 where there is no memory for it, and 41 where a call is refused.
+    /// The entry under a number, of all depositors' from 1 on, as it is written down; None where
+    /// there is none. 43 where its row or that of its rules shows none, 40 where there is no memory
+    /// for it, and 41 where a call is refused.
     pub fn entry_at(&mut self, alloc: Global, seq: u64) -> Result<Option<Entry>, Fault>
         requires { seq < 2 ^ 63 }
         ensures entry { HasCleanDisk (state S.Store self.new.conn) → (W : Partner) (L : List register.Entry)

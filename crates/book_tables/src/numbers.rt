@@ -47,7 +47,8 @@ fn said_in(word: &[u8]) -> Option<Option<bool>>
     }
 }
 
-// The document under a number that a row of kind and state shows, which is none where an answer went out; None where it shows none.
+// The document under a number that a row of kind and state shows, which is none where an answer
+// went out; None where it shows none.
 fn document_in(n: u32, row: &Row) -> Option<Option<KnownDocument>>
     ensures { (r : OutRow) (d : Maybe PageDocument) → IsRowOf n r d → row.now ≡ sent_shown r → result ≡ Some d }
 {
@@ -60,7 +61,8 @@ fn document_in(n: u32, row: &Row) -> Option<Option<KnownDocument>>
 }
 
 impl<S: Alter + Drop> Tables<S> {
-    /// The document that went out to a depositor under a number; None where there is none. 43 where its row shows none.
+    /// The document that went out to a depositor under a number; None where there is none. 43 where
+    /// its row shows none.
     pub(crate) fn document_under(
         &mut self,
         alloc: Global,
@@ -87,8 +89,8 @@ impl<S: Alter + Drop> Tables<S> {
         }
     }
 
-    /// The text that went out to a depositor under a number, but for an empty one; None where there is none. 43 where its row
-    /// shows none.
+    /// The text that went out to a depositor under a number, but for an empty one; None where there
+    /// is none. 43 where its row shows none.
     pub(crate) fn text_under(
         &mut self,
         alloc: Global,
@@ -116,9 +118,9 @@ impl<S: Alter + Drop> Tables<S> {
         }
     }
 
-    /// How many numbered entries a depositor has. Each of them has its row in `outgoing`, also where nothing went out for it, and
-    /// the key of that table ends in the number: so the last row under the depositor tells, and no other is read. 43 where it
-    /// shows no number.
+    /// How many numbered entries a depositor has. Each of them has its row in `outgoing`, also
+    /// where nothing went out for it, and the key of that table ends in the number: so the last row
+    /// under the depositor tells, and no other is read. 43 where it shows no number.
     pub(crate) fn last_number(&mut self, alloc: Global, who: Who) -> Result<u32, Fault>
         ensures number { HasCleanDisk (state S.Store self.new.conn) → (W : Partner) (L : List register.Entry)
             → StandsWhileOpen (state S.Store self.old.conn) W L

@@ -1,4 +1,5 @@
-//! What a depositor has open: the names of what is open by two queries, and then the part of its page that they name.
+//! What a depositor has open: the names of what is open by two queries, and then the part of its
+//! page that they name.
 ghost use Rattle.std.specs.Prelude.{◌≡◌, ℕ, List, Some, IfOk, map, option_map, length, IfSome, ◌≤◌};
 ghost use Rattle.profile.specs.Header.{Who as Partner};
 ghost use Rattle.profile.specs.Register as register;
@@ -38,7 +39,8 @@ fn names_in(alloc: Global, rows: &[Row]) -> Result<Option<Vec<Name>>, AllocError
 }
 
 impl<S: Alter + Drop> Tables<S> {
-    // The shipment numbers of a depositor's open advices, in their order. 43 where a row shows none.
+    // The shipment numbers of a depositor's open advices, in their order. 43 where a row shows
+    // none.
     fn open_shipments(&mut self, alloc: Global, who: Who) -> Result<Vec<Name>, Fault>
         ensures names { HasCleanDisk (state S.Store self.new.conn) → (W : Partner) (L : List register.Entry)
             → StandsWhileOpen (state S.Store self.old.conn) W L
@@ -95,8 +97,9 @@ impl<S: Alter + Drop> Tables<S> {
         }
     }
 
-    /// The part of a depositor's page that has what is open, and no other advice or order, as the running rows say; None of a
-    /// stranger. 43 where a row shows no name, or where the rows make no page.
+    /// The part of a depositor's page that has what is open, and no other advice or order, as the
+    /// running rows say; None of a stranger. 43 where a row shows no name, or where the rows make
+    /// no page.
     pub fn open_of(&mut self, alloc: Global, who: Who) -> Result<Option<Page>, Fault>
         ensures work { HasCleanDisk (state S.Store self.new.conn) → (W : Partner) (L : List register.Entry)
             → StandsWhileOpen (state S.Store self.old.conn) W L

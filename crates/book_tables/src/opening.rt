@@ -12,8 +12,8 @@ use sqlite_trees::store::Store;
 use std::alloc::Global;
 
 impl<S: Alter + Drop> Tables<S> {
-    /// The tables of a store that was just opened: `Connection::over`, and then `new`. The rows of each table rise by their rowids,
-    /// so these can be compared with others.
+    /// The tables of a store that was just opened: `Connection::over`, and then `new`. The rows of
+    /// each table rise by their rowids, so these can be compared with others.
     pub fn over(alloc: Global, store: S) -> Result<Tables<S>, (Error, S)>
         requires { IsClean (S.Store.view store) → IsFresh (S.Store.view store) }
         ensures opens { IfOk result (λ t. HasCleanDisk (state S.Store t.conn) → Opens (state S.Store t.conn)
@@ -36,8 +36,9 @@ impl<S: Alter + Drop> Tables<S> {
         }
     }
 
-    /// The same tables, opened anew over their store, so that the rows of each are known to rise by their rowids. An error hands
-    /// the store back: `Closed` where it could not be rolled back, or what `over` tells.
+    /// The same tables, opened anew over their store, so that the rows of each are known to rise by
+    /// their rowids. An error hands the store back: `Closed` where it could not be rolled back, or
+    /// what `over` tells.
     pub fn reopened(self, alloc: Global) -> Result<Tables<S>, (Error, S)>
         ensures opens { IfOk result (λ t. HasCleanDisk (state S.Store t.conn) → Opens (state S.Store t.conn)
             × IsLive (state S.Store t.conn)) }

@@ -23,7 +23,8 @@ use std::alloc::{AllocError, Global};
 use stock::{KnownLine, KnownOrder};
 use store::Fault;
 
-// The address in the last four columns of a row of an order: none where the name is NULL, or another than a text.
+// The address in the last four columns of a row of an order: none where the name is NULL, or
+// another than a text.
 fn address_in(alloc: Global, row: &Row) -> Result<Option<Option<Address>>, AllocError>
     ensures { (o : PageOrder) → row.now ≡ order_shown o → IfOk result (λ shown. shown ≡ Some o.address) }
 {
@@ -47,7 +48,8 @@ fn address_in(alloc: Global, row: &Row) -> Result<Option<Option<Address>>, Alloc
     })))
 }
 
-// The order that a row of ord, is_open and the address shows, but for its lines and what is reserved; None where it shows none.
+// The order that a row of ord, is_open and the address shows, but for its lines and what is
+// reserved; None where it shows none.
 fn order_in(alloc: Global, row: &Row) -> Result<Option<KnownOrder>, AllocError>
     ensures { (o : PageOrder) → row.now ≡ order_shown o → IfOk result (λ shown. shown ≡ Some (bare_order o)) }
 {
@@ -116,8 +118,8 @@ fn order_lines_in(alloc: Global, rows: &[Row]) -> Result<Option<Vec<KnownLine>>,
 }
 
 impl<S: Alter + Drop> Tables<S> {
-    // A depositor's order under a number, but for its lines and what is reserved for it; None where there is none. 43 where its
-    // row shows none.
+    // A depositor's order under a number, but for its lines and what is reserved for it; None where
+    // there is none. 43 where its row shows none.
     fn bare_order(
         &mut self,
         alloc: Global,
@@ -145,7 +147,8 @@ impl<S: Alter + Drop> Tables<S> {
         }
     }
 
-    // The lines of a depositor's order under a number; nothing where there is none. 43 where a row shows no line.
+    // The lines of a depositor's order under a number; nothing where there is none. 43 where a row
+    // shows no line.
     fn order_lines(
         &mut self,
         alloc: Global,
@@ -170,7 +173,8 @@ impl<S: Alter + Drop> Tables<S> {
         }
     }
 
-    // What is reserved for a depositor's order under a number; nothing where there is none. 43 where a row shows no line.
+    // What is reserved for a depositor's order under a number; nothing where there is none. 43
+    // where a row shows no line.
     fn reserved_lines(
         &mut self,
         alloc: Global,

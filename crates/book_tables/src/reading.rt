@@ -178,7 +178,8 @@ pub(crate) fn moment_of(text: &[u8]) -> Option<Moment>
     }
 }
 
-/// The rules whose number stands in the first column, as in rows of `entry_rules` and `book`; None where another stands there.
+/// The rules whose number stands in the first column, as in rows of `entry_rules` and `book`; None
+/// where another stands there.
 pub(crate) fn rules_in(row: &Row) -> Option<Rules>
     ensures shows { (w : Written) → row.now ≡ rules_shown w → result ≡ Some w.rules }
     ensures only { IfSome result (λ q. column row.now 0 ≡ Int (pos (rules_number q))) }
@@ -201,8 +202,8 @@ fn house_in(row: &Row) -> Option<(Rules, Warehouse)>
     Some((version, Warehouse::new(who)))
 }
 
-/// The version and the warehouse that the rows of `book` name; None where there isn't one row, or it has another version than 1
-/// and 2, or no partner.
+/// The version and the warehouse that the rows of `book` name; None where there isn't one row, or
+/// it has another version than 1 and 2, or no partner.
 pub(crate) fn house_of(rows: &[Row]) -> Option<(Rules, Warehouse)>
     ensures { MatchOption result ((q : Rules) (W : Partner) → IsHouse q rows.now W
         → ⊥) (λ h. IsHouse h.0 rows.now h.1) }

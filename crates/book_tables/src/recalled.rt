@@ -18,7 +18,8 @@ use sqlite::{Alter, Row};
 use std::alloc::{AllocError, Global};
 use store::Fault;
 
-/// The content that rows show, which is that of the first, and empty where there is none; None where it shows none.
+/// The content that rows show, which is that of the first, and empty where there is none; None
+/// where it shows none.
 pub(crate) fn content_in(alloc: Global, rows: &[Row]) -> Result<Option<Vec<u8>>, AllocError>
     ensures { (content : List ℕ) → IsContent rows.now content
         → IfOk result (λ shown. option_map (λ v. v.items) shown ≡ Some content) }
@@ -33,7 +34,8 @@ pub(crate) fn content_in(alloc: Global, rows: &[Row]) -> Result<Option<Vec<u8>>,
 }
 
 impl<S: Alter + Drop> Tables<S> {
-    /// A depositor's entry under a key, as it is written down. 43 where its row shows no number, or the entry under it isn't one.
+    /// A depositor's entry under a key, as it is written down. 43 where its row shows no number, or
+    /// the entry under it isn't one.
     fn entry_under(&mut self, alloc: Global, who: Who, key: &[u8]) -> Result<Option<Entry>, Fault>
         ensures entry { HasCleanDisk (state S.Store self.new.conn) → (W : Partner) (L : List register.Entry)
             → StandsWhileOpen (state S.Store self.old.conn) W L
@@ -77,7 +79,8 @@ impl<S: Alter + Drop> Tables<S> {
         }
     }
 
-    /// A depositor's entry under a key, with its number and the text that went out for it; None where there is none.
+    /// A depositor's entry under a key, with its number and the text that went out for it; None
+    /// where there is none.
     pub fn known_of(&mut self, alloc: Global, who: Who, key: &[u8]) -> Result<Option<Known>, Fault>
         ensures known { HasCleanDisk (state S.Store self.new.conn) → (W : Partner) (L : List register.Entry)
             → StandsWhileOpen (state S.Store self.old.conn) W L

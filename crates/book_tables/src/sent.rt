@@ -83,7 +83,8 @@ fn out_row_in(alloc: Global, row: &Row) -> Result<Option<OutRow>, AllocError>
     }))
 }
 
-/// The texts that rows of n, kind, content and state show, but for the empty ones; None where one of them shows none.
+/// The texts that rows of n, kind, content and state show, but for the empty ones; None where one
+/// of them shows none.
 pub(crate) fn out_rows_in(alloc: Global, rows: &[Row]) -> Result<Option<Vec<OutRow>>, AllocError>
     ensures shows { (rs : List meant.OutRow) → ((r : meant.OutRow) → Has rs r → IsSent r)
         → rows.now ≡ map out_shown rs
@@ -104,8 +105,8 @@ pub(crate) fn out_rows_in(alloc: Global, rows: &[Row]) -> Result<Option<Vec<OutR
 }
 
 impl<S: Alter + Drop> Tables<S> {
-    /// The texts that went out to a depositor, by number, as the rows of `outgoing` say, but for the empty ones; nothing of a
-    /// stranger. 43 where a row shows no text.
+    /// The texts that went out to a depositor, by number, as the rows of `outgoing` say, but for
+    /// the empty ones; nothing of a stranger. 43 where a row shows no text.
     pub(crate) fn sent_rows(&mut self, alloc: Global, who: Who) -> Result<Vec<OutRow>, Fault>
         ensures rows { HasCleanDisk (state S.Store self.new.conn) → (W : Partner) (L : List register.Entry)
             → StandsWhileOpen (state S.Store self.old.conn) W L

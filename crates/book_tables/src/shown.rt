@@ -31,8 +31,8 @@ impl<S: Alter + Drop> Tables<S> {
         }
     }
 
-    /// The texts that went out to a depositor, by number, but for the empty ones, as the rows of `outgoing` say; None of a
-    /// stranger.
+    /// The texts that went out to a depositor, by number, but for the empty ones, as the rows of
+    /// `outgoing` say; None of a stranger.
     pub fn outbox_of(&mut self, alloc: Global, who: Who) -> Result<Option<Vec<OutRow>>, Fault>
         ensures rows { HasCleanDisk (state S.Store self.new.conn) → (W : Partner) (L : List register.Entry)
             → StandsWhileOpen (state S.Store self.old.conn) W L
@@ -48,8 +48,8 @@ impl<S: Alter + Drop> Tables<S> {
         }
     }
 
-    /// The text that went out to a depositor under a number, as its row of `outgoing` says; None of a stranger, and Some(None)
-    /// where nothing went out under it.
+    /// The text that went out to a depositor under a number, as its row of `outgoing` says; None of
+    /// a stranger, and Some(None) where nothing went out under it.
     pub fn text_of(
         &mut self,
         alloc: Global,

@@ -19,7 +19,8 @@ use sqlite::{Alter, Row};
 use std::alloc::{AllocError, Global};
 use store::{Fault, StockRow};
 
-// The stock row that a row of item, lot and the four amounts shows, with its date if it has one; None where it shows none.
+// The stock row that a row of item, lot and the four amounts shows, with its date if it has one;
+// None where it shows none.
 fn stock_row_in(
     alloc: Global,
     row: &Row,
@@ -57,8 +58,9 @@ fn stock_row_in(
     }))
 }
 
-/// The stock rows that rows of item, lot and the four amounts show, with the dates that rows of item, lot and expiry show of them,
-/// where both stand by item and lot; None where one of them shows none, or a date is of no row.
+/// The stock rows that rows of item, lot and the four amounts show, with the dates that rows of
+/// item, lot and expiry show of them, where both stand by item and lot; None where one of them
+/// shows none, or a date is of no row.
 pub(crate) fn stock_rows_in(
     alloc: Global,
     rows: &[Row],
@@ -87,8 +89,8 @@ pub(crate) fn stock_rows_in(
 }
 
 impl<S: Alter + Drop> Tables<S> {
-    /// What a depositor has, by item and lot, with the dates, as its running rows say; nothing of a stranger. 43 where a row shows no
-    /// stock.
+    /// What a depositor has, by item and lot, with the dates, as its running rows say; nothing of a
+    /// stranger. 43 where a row shows no stock.
     pub(crate) fn stock_rows(&mut self, alloc: Global, who: Who) -> Result<Vec<StockRow>, Fault>
         ensures rows { HasCleanDisk (state S.Store self.new.conn) → (W : Partner) (L : List register.Entry)
             → StandsWhileOpen (state S.Store self.old.conn) W L

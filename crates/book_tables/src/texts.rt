@@ -50,7 +50,8 @@ pub(crate) fn moment_text(moment: Moment) -> [u8; 12]
     ]
 }
 
-/// The state of a text that has just gone out for an entry with this key: open where it is a document.
+/// The state of a text that has just gone out for an entry with this key: open where it is a
+/// document.
 pub(crate) fn new_state_text(key: &[u8]) -> &'static [u8]
     ensures { (deed : Deed) → key.now ≡ deed_mark deed → result.now ≡ first_state deed }
 {

@@ -23,8 +23,8 @@ pub fn is_blank<S: Alter + Drop>(database: &Connection<S>) -> bool
     schema.tables.len() == 0 && schema.indexes.len() == 0 && schema.views.len() == 0
 }
 
-// An empty database whose file and log are in memory. A row there costs what it costs in a file, wherever it belongs: rows stand in trees of
-// pages.
+// An empty database whose file and log are in memory. A row there costs what it costs in a file,
+// wherever it belongs: rows stand in trees of pages.
 fn in_memory(alloc: Global) -> Result<Connection<FileStore<RamDisk>>, AllocError>
     ensures empty { IfOk result (λ c. (state over_ram c).now.schema ≡ no_layout) }
     ensures free { IfOk result (λ c. c.in_transaction ≡ false) }

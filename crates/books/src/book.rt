@@ -63,8 +63,8 @@ impl<S: Alter + Drop> Model for Book<S> {
     ghost view = { λ b. record { tables = b.tables; warehouse = b.warehouse; entries = b.entries; shut = b.shut } };
 }
 
-// Carries tables of version 1, which have so many entries, over to version 2; those of version 2 stay. Of the entries `told` is
-// handed how many were gone over of how many.
+// Carries tables of version 1, which have so many entries, over to version 2; those of version 2
+// stay. Of the entries `told` is handed how many were gone over of how many.
 #[tactic(auto, using(book_tables::proofs::Limited::spends_both, book_tables::proofs::Limited::spends_same))]
 fn bring_up<S: Alter + Drop, T: FnMut(u64, u64)>(
     tables: &mut Tables<S>,
@@ -87,8 +87,9 @@ fn bring_up<S: Alter + Drop, T: FnMut(u64, u64)>(
 }
 
 impl<S: Alter + Drop> Book<S> {
-    /// Makes the tables of an empty register of the warehouse. A fault hands the tables back: 43 where the store has a table with
-    /// the name of a table of the book already, which leaves it as it is, and 40 or 41 where a call was refused.
+    /// Makes the tables of an empty register of the warehouse. A fault hands the tables back: 43
+    /// where the store has a table with the name of a table of the book already, which leaves it as
+    /// it is, and 40 or 41 where a call was refused.
     #[tactic(auto, using(book_tables::proofs::Limited::spends_both, book_tables::proofs::Limited::spends_same))]
     pub fn create(
         alloc: Global,
@@ -130,10 +131,11 @@ impl<S: Alter + Drop> Book<S> {
         }
     }
 
-    /// Opens the book that tables hold. One of version 1 is carried over to version 2 first, in one transaction, which keeps every
-    /// entry under the rules that it was judged by. A fault hands the tables back, which stand for the same register: 40 or 41
-    /// where a call was refused, 43 where `book` hasn't one row, or that row has another version than 1 and 2 or no warehouse, which
-    /// leaves the tables as they were, whatever they are.
+    /// Opens the book that tables hold. One of version 1 is carried over to version 2 first, in one
+    /// transaction, which keeps every entry under the rules that it was judged by. A fault hands
+    /// the tables back, which stand for the same register: 40 or 41 where a call was refused, 43
+    /// where `book` hasn't one row, or that row has another version than 1 and 2 or no warehouse,
+    /// which leaves the tables as they were, whatever they are.
     #[tactic(auto, using(book_tables::proofs::Limited::spends_both, book_tables::proofs::Limited::spends_same))]
     pub fn open_from(alloc: Global, tables: Tables<S>) -> Result<Book<S>, (Fault, Tables<S>)>
         ensures usable { IfOk result (λ b. HasCleanDisk (state S.Store b.tables.conn)
@@ -172,8 +174,8 @@ impl<S: Alter + Drop> Book<S> {
         Book::open_from_telling(alloc, tables, |_, _| {})
     }
 
-    /// The same as `open_from`; and while a book of version 1 is carried over, `told` is handed, after each of its entries, how many
-    /// were gone over and how many there are.
+    /// The same as `open_from`; and while a book of version 1 is carried over, `told` is handed,
+    /// after each of its entries, how many were gone over and how many there are.
     #[tactic(auto, using(book_tables::proofs::Limited::spends_both, book_tables::proofs::Limited::spends_same))]
     pub fn open_from_telling<T: FnMut(u64, u64)>(
         alloc: Global,
@@ -233,9 +235,10 @@ impl<S: Alter + Drop> Book<S> {
         })
     }
 
-    /// How many entries the register has, where every table is what comes of giving their commands again, one after another, to an
-    /// empty book in memory; 43 where one of them isn't. Nothing is written. 40 and 41 are those of a query, 42 that of a book
-    /// that has to be opened again. It holds a second book in memory for as long as it runs.
+    /// How many entries the register has, where every table is what comes of giving their commands
+    /// again, one after another, to an empty book in memory; 43 where one of them isn't. Nothing is
+    /// written. 40 and 41 are those of a query, 42 that of a book that has to be opened again. It
+    /// holds a second book in memory for as long as it runs.
     #[tactic(auto, using(book_tables::proofs::Limited::spends_both, book_tables::proofs::Limited::spends_same))]
     pub fn verify(&mut self) -> Result<u64, Fault>
         ensures stands { (standing_of S.Store self.new).doubt ≡ 0 → IsLaid (state S.Store self.old.tables.conn)
@@ -254,7 +257,8 @@ impl<S: Alter + Drop> Book<S> {
         self.verify_telling(|_, _| {})
     }
 
-    /// The same as `verify`; and `told` is handed, after each entry, how many were given again and how many there are.
+    /// The same as `verify`; and `told` is handed, after each entry, how many were given again and
+    /// how many there are.
     #[tactic(auto, using(book_tables::proofs::Limited::spends_both, book_tables::proofs::Limited::spends_same))]
     pub fn verify_telling<T: FnMut(u64, u64)>(&mut self, told: T) -> Result<u64, Fault>
         requires told { T.IsAlwaysCallable told }
@@ -278,7 +282,8 @@ impl<S: Alter + Drop> Book<S> {
         self.check_by(copy, told)
     }
 
-    // How many entries the register has, where every table is what comes of giving their commands again to this empty book.
+    // How many entries the register has, where every table is what comes of giving their commands
+    // again to this empty book.
     #[tactic(auto, using(book_tables::proofs::Limited::spends_both, book_tables::proofs::Limited::spends_same))]
     fn check_by<C: Alter + Drop, T: FnMut(u64, u64)>(
         &mut self,

@@ -29,7 +29,8 @@ impl<S: Alter + Drop> Keeper for Book<S> {
         self.warehouse
     }
 
-    /// Just the part that is needed of a depositor's page, from the running rows; None for a stranger.
+    /// Just the part that is needed of a depositor's page, from the running rows; None for a
+    /// stranger.
     #[tactic(auto, using(book_tables::proofs::Limited::spends_both, book_tables::proofs::Limited::spends_same))]
     fn load(&mut self, who: Who, need: &Need) -> Result<Option<Page>, Fault>
         ensures page { OfKept (standing_of S.Store self.old) (standing_of S.Store self.new)
@@ -74,8 +75,9 @@ impl<S: Alter + Drop> Keeper for Book<S> {
         self.tables.known_of(self.alloc, who, &mark)
     }
 
-    /// Appends an entry, with the rows that it changes and the text that goes out for it, in one transaction. After a fault of
-    /// the store the book has to be opened again, and answers 42 until then. 41 where the numbers that SQLite has for entries are used up.
+    /// Appends an entry, with the rows that it changes and the text that goes out for it, in one
+    /// transaction. After a fault of the store the book has to be opened again, and answers 42
+    /// until then. 41 where the numbers that SQLite has for entries are used up.
     #[tactic(auto, using(book_tables::proofs::Limited::spends_both, book_tables::proofs::Limited::spends_same))]
     fn commit(&mut self, entry: &Entry, changes: &[Change], outgoing: &[u8]) -> Result<(), Fault>
         ensures ok { (standing_of S.Store self.new).doubt ≡ 0 → (L : List register.Entry) (e : register.Entry)

@@ -29,8 +29,9 @@ fn may_follow(last: Rules, rules: Rules) -> bool
     !matches!((last, rules), (Rules::Two, Rules::One))
 }
 
-// Gives a copy the command of an entry again, under the entry's rules: these, or None where no command made the entry, or its
-// rules fall below the last ones. What the copy's store lacks is memory.
+// Gives a copy the command of an entry again, under the entry's rules: these, or None where no
+// command made the entry, or its rules fall below the last ones. What the copy's store lacks is
+// memory.
 fn give<K: Keeper>(
     alloc: Global,
     copy: &mut K,
@@ -61,9 +62,10 @@ fn give<K: Keeper>(
     }
 }
 
-// Gives a copy the command of the entry after so many again: the entry's rules, or None where there is no entry that a command
-// made under rules that may follow the last ones. 40 where the copy lacks memory, as it would for more entries than SQLite has
-// numbers, and 41 where a call of these tables is refused.
+// Gives a copy the command of the entry after so many again: the entry's rules, or None where there
+// is no entry that a command made under rules that may follow the last ones. 40 where the copy
+// lacks memory, as it would for more entries than SQLite has numbers, and 41 where a call of these
+// tables is refused.
 fn give_entry<S: Alter + Drop, C: Alter + Drop>(
     alloc: Global,
     tables: &mut Tables<S>,
@@ -89,8 +91,9 @@ fn give_entry<S: Alter + Drop, C: Alter + Drop>(
     }
 }
 
-/// An empty book of the warehouse, to which the commands of so many entries were given again, in their order, each under the rules of its
-/// entry; None where one is missing, no command made it, or the rules fall. After each, `told` is handed how many were given of how many.
+/// An empty book of the warehouse, to which the commands of so many entries were given again, in
+/// their order, each under the rules of its entry; None where one is missing, no command made it,
+/// or the rules fall. After each, `told` is handed how many were given of how many.
 pub(crate) fn replayed<S: Alter + Drop, C: Alter + Drop, T: FnMut(u64, u64)>(
     alloc: Global,
     tables: &mut Tables<S>,

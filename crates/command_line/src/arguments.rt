@@ -1,4 +1,5 @@
-//! The arguments of subcommands, and how a subcommand is put together of them and joined to the others.
+//! The arguments of subcommands, and how a subcommand is put together of them and joined to the
+//! others.
 ghost use Rattle.std.specs.Prelude.{◌≡◌, ◌∷◌, IfOk, true, []};
 ghost use Rattle.clap.specs.Simple.{App, Shape, app_of, new_shape, with_subcommand};
 ghost use Rattle.clap.specs.Walk.{Rule};
@@ -103,7 +104,8 @@ pub(crate) fn at<'a>(alloc: Global) -> Arg<'a>
     )
 }
 
-/// A command of this name with its texts: what it does, how it is used, and what its help ends with.
+/// A command of this name with its texts: what it does, how it is used, and what its help ends
+/// with.
 pub(crate) fn described<'a>(
     alloc: Global,
     name: &'a str,
@@ -119,8 +121,9 @@ pub(crate) fn described<'a>(
         .after_help(help)
 }
 
-/// A command of this name with its first argument. The functions after it take a command or the error of the step before, which they
-/// hand on. So what puts commands together has no branch: at each of them every command that is alive would be let go, which is dear to prove.
+/// A command of this name with its first argument. The functions after it take a command or the
+/// error of the step before, which they hand on. So what puts commands together has no branch: at
+/// each of them every command that is alive would be let go, which is dear to prove.
 pub(crate) fn subcommand<'a>(
     alloc: Global,
     name: &'a str,
@@ -241,7 +244,8 @@ fn with_book<'a>(
     with_wait(alloc, command)
 }
 
-// With the file of the book and how long it is waited for, or the address of a server that has the book.
+// With the file of the book and how long it is waited for, or the address of a server that has the
+// book.
 fn with_either<'a>(
     alloc: Global,
     command: Result<Command<'a>, AllocError>,
@@ -277,7 +281,8 @@ pub(crate) fn join_at<'a>(
     }
 }
 
-/// With a subcommand more, as it stands at the place: a running server may be asked for the program's too.
+/// With a subcommand more, as it stands at the place: a running server may be asked for the
+/// program's too.
 pub(crate) fn join_either_at<'a>(
     alloc: Global,
     place: Place,

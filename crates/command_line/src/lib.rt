@@ -1,5 +1,5 @@
-//! A line of words as the program and its scripts take it: what may stand in it, as `clap` reads it, and what it asks for. `line` reads
-//! one; what is done then is for the crates above.
+//! A line of words as the program and its scripts take it: what may stand in it, as `clap` reads
+//! it, and what it asks for. `line` reads one; what is done then is for the crates above.
 #![tactic(auto)]
 
 mod arguments;

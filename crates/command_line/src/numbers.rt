@@ -8,7 +8,8 @@ use segments::{all_digits, value_up_to};
 /// How far digits are read: no entry's number, no quantity and no count of connections reaches it.
 pub(crate) const MILLION: u64 = 1_000_000;
 
-// The most connections that a server may be told to serve, and the most seconds that something may be told to wait.
+// The most connections that a server may be told to serve, and the most seconds that something may
+// be told to wait.
 const MOST_CONNECTIONS: u32 = 65_535;
 
 // The number from 1 to a limit that the text writes: digits alone, with zeros in front or without;
@@ -26,8 +27,8 @@ fn number_to(most: u32, text: &[u8]) -> Option<u32>
     }
 }
 
-/// How many connections the text writes: digits alone, with zeros in front or without; None where it is another text, 0, or
-/// over 65535.
+/// How many connections the text writes: digits alone, with zeros in front or without; None where
+/// it is another text, 0, or over 65535.
 pub fn count_of(text: &[u8]) -> Option<u16>
     ensures { result ≡ written.count_of text.now }
 {
@@ -37,8 +38,8 @@ pub fn count_of(text: &[u8]) -> Option<u16>
     }
 }
 
-/// For how many seconds a book that is in use is waited for: digits alone, with zeros in front or without, to 65535; None where it is
-/// another text.
+/// For how many seconds a book that is in use is waited for: digits alone, with zeros in front or
+/// without, to 65535; None where it is another text.
 pub fn wait_of(text: &[u8]) -> Option<u16>
     ensures { result ≡ written.wait_of text.now }
 {
@@ -50,8 +51,8 @@ pub fn wait_of(text: &[u8]) -> Option<u16>
     }
 }
 
-/// The number of an entry that the text writes: digits alone, with zeros in front or without; None where it is another text,
-/// or a number that no entry has.
+/// The number of an entry that the text writes: digits alone, with zeros in front or without; None
+/// where it is another text, or a number that no entry has.
 pub fn number_of(text: &[u8]) -> Option<u32>
     ensures { result ≡ written.number_of text.now }
 {

@@ -129,7 +129,8 @@ fn show_of<'a>(
     Ok(Some(show))
 }
 
-// What a subcommand changes of a book or shows of it with its values, at the moment that its line says.
+// What a subcommand changes of a book or shows of it with its values, at the moment that its line
+// says.
 fn part_task_of<'a>(
     alloc: Global,
     name: &str,
@@ -234,8 +235,8 @@ fn remote<'a>(
     Ok(Words::Remote { server, task })
 }
 
-// What a subcommand asks for with its values: a script, something of a running server, or something over a
-// book.
+// What a subcommand asks for with its values: a script, something of a running server, or something
+// over a book.
 fn asked<'a>(
     alloc: Global,
     place: Place,
@@ -264,10 +265,12 @@ fn stands_first(words: &[&str], name: &str) -> bool
     }
 }
 
-/// Reads one line of words, without a program's name in front, as it stands at a place: what it asks for. The errors are `Usage`, a line
-/// that can't be read, with the text to show; `Help`, one that asks for help, with that text; and `OutOfMemory`.
+/// Reads one line of words, without a program's name in front, as it stands at a place: what it
+/// asks for. The errors are `Usage`, a line that can't be read, with the text to show; `Help`, one
+/// that asks for help, with that text; and `OutOfMemory`.
 pub fn line<'a>(alloc: Global, place: Place, words: &'a [&'a str]) -> Result<Words<'a>, LineFault>
-    // The first word names the subcommand, and its values are those that `clap` defines for a simple command.
+    // The first word names the subcommand, and its values are those that `clap` defines for a
+    // simple command.
     ensures { IfOk result (λ asked. (f : meant.Found) × (meant.found_at place (map (λ w. w.now) words.now) ≡ Some f)
         × (meant.stands_first f.0 (map (λ w. w.now) words.now) ≡ true) × meant.Says place f asked) }
 {

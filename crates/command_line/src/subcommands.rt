@@ -1,4 +1,5 @@
-//! What may stand in a line of words: the subcommands, and the help that each shows. Those that only look stand in shows.rt.
+//! What may stand in a line of words: the subcommands, and the help that each shows. Those that
+//! only look stand in shows.rt.
 ghost use Rattle.std.specs.Prelude.{◌≡◌, ◌∷◌, IfOk, true, [], codes};
 ghost use Rattle.clap.specs.Simple.{App, app_of};
 ghost use Rattle.command_line.specs.Lines as meant;

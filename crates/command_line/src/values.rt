@@ -113,8 +113,8 @@ fn patience(alloc: Global, values: &ArgMatches<'_>) -> Result<Option<u16>, LineF
     }
 }
 
-// The address that a line says, if it may be listened at: other machines know a depositor by its ISA alone, so one that they reach
-// wants a word more.
+// The address that a line says, if it may be listened at: other machines know a depositor by its
+// ISA alone, so one that they reach wants a word more.
 fn guarded_address(alloc: Global, values: &ArgMatches<'_>) -> Result<SocketAddr, LineFault>
     ensures { IfOk result (meant.SaysAddress (rows_of (found_of values.now)) (codes "listen")) }
 {
@@ -168,8 +168,8 @@ pub(crate) fn server(
     Ok(Some(address))
 }
 
-/// The file with a book that a line names. A line of the program that asks no server names one; a script
-/// has a book of its own.
+/// The file with a book that a line names. A line of the program that asks no server names one; a
+/// script has a book of its own.
 pub(crate) fn book_of<'a>(
     alloc: Global,
     place: Place,

@@ -24,7 +24,8 @@ pub enum Words<'a> {
     Over {
         /// The file with the book; None in a script, which has a book of its own.
         book: Option<&'a str>,
-        /// For how many seconds a book that is in use is waited for, 0 to 65535, if the line says it.
+        /// For how many seconds a book that is in use is waited for, 0 to 65535, if the line says
+        /// it.
         wait: Option<u16>,
         /// What is done.
         task: Task<'a>,
@@ -33,8 +34,8 @@ pub enum Words<'a> {
     Remote {
         /// The IP address and port that it listens at.
         server: SocketAddr,
-        /// What is done, at no moment that the line says: `send`, `count`, `pick`, `recount`, `stock`,
-        /// `open`, `orders`, `outbox` or `depositors`.
+        /// What is done, at no moment that the line says: `send`, `count`, `pick`, `recount`,
+        /// `stock`, `open`, `orders`, `outbox` or `depositors`.
         task: Task<'a>,
     },
 }
@@ -79,7 +80,8 @@ pub struct Service {
     pub address: SocketAddr,
     /// How many connections are served, 1 to 65535.
     pub count: u16,
-    /// How many seconds a request is waited for, and again its response, 1 to 65535, if the line says it.
+    /// How many seconds a request is waited for, and again its response, 1 to 65535, if the line
+    /// says it.
     pub patience: Option<u16>,
     /// Whether clerks' requests are taken too.
     pub clerks: bool,

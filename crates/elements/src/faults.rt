@@ -53,8 +53,9 @@ const IEA: &[ElementRow] = &[
     must!(Kind::Digits, CONTROL_DIGITS, CONTROL_DIGITS),
 ];
 
-/// The least faulty element of a segment by its rows: its place, from 1, and its code (AK401 and AK403). An element
-/// beyond the last row, empty or not, has code 3; None where no element is faulty.
+/// The least faulty element of a segment by its rows: its place, from 1, and its code (AK401 and
+/// AK403). An element beyond the last row, empty or not, has code 3; None where no element is
+/// faulty.
 pub fn faulty_element(
     delims: &Delims,
     rows: &[ElementRow],
@@ -88,8 +89,8 @@ fn control_rows(id: &[u8]) -> Option<&'static [ElementRow]>
     }
 }
 
-/// Whether the segment is well formed where it is one of GS, GE, ST, SE and IEA: it has exactly the elements of its rows,
-/// all mandatory. Any other segment is.
+/// Whether the segment is well formed where it is one of GS, GE, ST, SE and IEA: it has exactly the
+/// elements of its rows, all mandatory. Any other segment is.
 pub fn is_well_formed(delims: &Delims, segment: &Segment<'_>) -> bool
     ensures { result ≡ meant.is_well_formed delims.now segment.now.elements }
 {

@@ -128,9 +128,9 @@ fn value_fault(kind: &Kind, element: &[u8]) -> Option<u8>
     }
 }
 
-/// The code of the element's fault by its row (AK403), the first that holds of: 1 mandatory and missing, 5 too long, 4
-/// too short, 6 a wrong character, 7 a wrong code or a quantity of 0, 8 no date (or time); None where it has none. An
-/// optional element that is empty has no fault.
+/// The code of the element's fault by its row (AK403), the first that holds of: 1 mandatory and
+/// missing, 5 too long, 4 too short, 6 a wrong character, 7 a wrong code or a quantity of 0, 8 no
+/// date (or time); None where it has none. An optional element that is empty has no fault.
 pub fn element_fault(delims: &Delims, row: &ElementRow, element: &[u8]) -> Option<u8>
     ensures { result ≡ meant.element_fault delims.now (row_of row.now) element.now }
 {

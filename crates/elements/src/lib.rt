@@ -1,4 +1,5 @@
-//! Elements judged by their rows: the one meaning of an element row, for control segments and for the segments of sets.
+//! Elements judged by their rows: the one meaning of an element row, for control segments and for
+//! the segments of sets.
 #![tactic(auto)]
 
 mod faults;

@@ -51,8 +51,8 @@ fn have_ids(segments: &[Segment<'_>]) -> bool
     are_named(segments)
 }
 
-/// Whether the segments alone make the content invalid: a malformed GS, GE, ST or SE, an id of another shape, a second
-/// ISA, a TA1, or a segment outside its place.
+/// Whether the segments alone make the content invalid: a malformed GS, GE, ST or SE, an id of
+/// another shape, a second ISA, a TA1, or a segment outside its place.
 pub(crate) fn are_segments_invalid(delims: &Delims, segments: &[Segment<'_>]) -> bool
     ensures { result ≡ conditions.are_segments_invalid delims.now (cuts.segments_of segments.now) }
 {
@@ -95,7 +95,8 @@ fn has_empty(groups: &[Group<'_>]) -> bool
     groups.iter().any(|g| is_empty(g))
 }
 
-/// Whether the groups make the content invalid: one has no set, or there are over 100 groups or over 1,000 sets.
+/// Whether the groups make the content invalid: one has no set, or there are over 100 groups or
+/// over 1,000 sets.
 pub(crate) fn are_groups_invalid(groups: &[Group<'_>]) -> bool
     ensures { result ≡ conditions.are_held_invalid groups.now }
 {

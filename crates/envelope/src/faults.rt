@@ -55,8 +55,9 @@ fn stands_in(sets: &[Set<'_>], number: &[u8]) -> bool
 }
 
 impl<'a> Group<'a> {
-    /// The code of its fault (AK905), the first that holds of: 1 GS01 isn't OW, AR or FA; 2 GS07 isn't X or GS08 isn't
-    /// 004010; 3 it has no GE; 4 GE02 isn't GS06; 5 GE01 isn't the number of its sets.
+    /// The code of its fault (AK905), the first that holds of: 1 GS01 isn't OW, AR or FA; 2 GS07
+    /// isn't X or GS08 isn't 004010; 3 it has no GE; 4 GE02 isn't GS06; 5 GE01 isn't the number of
+    /// its sets.
     pub fn fault(&self) -> Option<u8>
         ensures { result ≡ meant.group_fault self.now.group }
     {
@@ -103,9 +104,9 @@ impl<'a> Group<'a> {
         None
     }
 
-    /// The codes of the faults of its sets' envelopes (AK502), in the sets' order, each the first that holds of: 2 the set
-    /// has no SE; 1 ST01 isn't the set that belongs to GS01; 7 ST02 stood before in this group; 3 SE02 isn't ST02; 4 SE01
-    /// isn't the number of its segments.
+    /// The codes of the faults of its sets' envelopes (AK502), in the sets' order, each the first
+    /// that holds of: 2 the set has no SE; 1 ST01 isn't the set that belongs to GS01; 7 ST02 stood
+    /// before in this group; 3 SE02 isn't ST02; 4 SE01 isn't the number of its segments.
     pub fn set_faults(&self, alloc: Global) -> Result<Vec<Option<u8>>, AllocError>
         ensures { IfOk result (λ v. v.items ≡ meant.envelope_faults self.now.group) }
     {

@@ -8,8 +8,8 @@ use profile::ISA_PLACES;
 use segments::{Delims, Who};
 use std::marker::Model;
 
-/// The text is no interchange that can be read: it has under 106 or over 1,048,576 bytes, doesn't begin with ISA, names
-/// delimiters that it may not, or has a byte where that byte may not stand.
+/// The text is no interchange that can be read: it has under 106 or over 1,048,576 bytes, doesn't
+/// begin with ISA, names delimiters that it may not, or has a byte where that byte may not stand.
 #[derive(Drop)]
 pub struct Unreadable;
 
@@ -49,8 +49,8 @@ pub(crate) fn element(text: &[u8], n: usize) -> &[u8]
 }
 
 impl<'a> Isa<'a> {
-    /// The element at a place, as received, of ISA01 to ISA16; 0 is the id. ISA05 and ISA06 are the sender's qualifier and
-    /// id, ISA13 is the control number.
+    /// The element at a place, as received, of ISA01 to ISA16; 0 is the id. ISA05 and ISA06 are the
+    /// sender's qualifier and id, ISA13 is the control number.
     pub fn element(&self, n: usize) -> &'a [u8]
         requires { n < 17 }
         ensures value { result.now ≡ meant.isa self.now n }
@@ -67,7 +67,8 @@ impl<'a> Isa<'a> {
         self.delims
     }
 
-    /// The sender, by ISA05 and by ISA06 without the spaces at its end; None where they can't name a partner.
+    /// The sender, by ISA05 and by ISA06 without the spaces at its end; None where they can't name
+    /// a partner.
     pub fn sender(&self) -> Option<Who>
         ensures { result ≡ (if meant.is_partner (meant.sender self.now) then Some (meant.sender self.now) else None) }
     {

@@ -1,5 +1,5 @@
-//! The envelope of an interchange: its header ISA, its functional groups and their sets, what is wrong with them, and the
-//! note that halts it.
+//! The envelope of an interchange: its header ISA, its functional groups and their sets, what is
+//! wrong with them, and the note that halts it.
 #![tactic(auto)]
 
 mod bytes;

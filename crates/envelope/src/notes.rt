@@ -78,9 +78,10 @@ fn late_note(isa: &Isa<'_>) -> Option<u8>
     None
 }
 
-/// The note of the first condition on the header that holds, if one does: 9 the receiver (ISA07 and ISA08) isn't the
-/// warehouse, 10 to 13 the authorization and security elements (ISA01 to ISA04), 14 the date (ISA09), 15 the time (ISA10),
-/// 2 the standard (ISA11), 3 the version (ISA12), 19 the request for a TA1 (ISA14), 20 the usage indicator (ISA15).
+/// The note of the first condition on the header that holds, if one does: 9 the receiver (ISA07 and
+/// ISA08) isn't the warehouse, 10 to 13 the authorization and security elements (ISA01 to ISA04),
+/// 14 the date (ISA09), 15 the time (ISA10), 2 the standard (ISA11), 3 the version (ISA12), 19 the
+/// request for a TA1 (ISA14), 20 the usage indicator (ISA15).
 pub fn header_note(isa: &Isa<'_>, warehouse: &Who) -> Option<u8>
     ensures { result ≡ meant.first_note (header_notes warehouse.now isa.now) }
 {

@@ -6,8 +6,8 @@ ghost use Rattle.envelope.specs.Parts as held;
 use segments::{Delims, Segment};
 use std::marker::Model;
 
-/// A set: ST, what stands after it, and SE if it is closed. A set that is not closed ends before the next ST, GE, GS or
-/// IEA.
+/// A set: ST, what stands after it, and SE if it is closed. A set that is not closed ends before
+/// the next ST, GE, GS or IEA.
 #[derive(Drop)]
 pub struct Set<'a> {
     delims: Delims,
@@ -74,8 +74,8 @@ impl<'a> Set<'a> {
         }
     }
 
-    /// Its segments: ST first and, if it is closed, SE last. All have the delimiters of the interchange, and they are no
-    /// more than an interchange has bytes.
+    /// Its segments: ST first and, if it is closed, SE last. All have the delimiters of the
+    /// interchange, and they are no more than an interchange has bytes.
     pub fn segments(&self) -> &[Segment<'a>]
         ensures elements { segments_of result.now ≡ self.now.set.segments }
         ensures same { AreOf self.now.delims result.now }

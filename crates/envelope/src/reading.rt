@@ -116,8 +116,8 @@ fn read(text: &[u8]) -> Option<Delims>
     }
 }
 
-/// The header of a text, which is read whole for it: Unreadable exactly where the text is no interchange that can be
-/// read. It takes no memory.
+/// The header of a text, which is read whole for it: Unreadable exactly where the text is no
+/// interchange that can be read. It takes no memory.
 pub fn isa(text: &[u8]) -> Result<Isa<'_>, Unreadable>
     ensures { MatchResult result (λ i. (meant.is_unreadable text.now ≡ false) × (i ≡ text.now)) (λ _. meant.is_unreadable text.now ≡ true) }
 {

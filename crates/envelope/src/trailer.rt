@@ -46,9 +46,9 @@ fn is_trailer_wrong(delims: &Delims, segments: &[Segment<'_>]) -> bool
     !ends_with_trailer(segments)
 }
 
-/// The note of the first condition on the cut and the trailer that holds, before the content is looked at: 23 the text
-/// has a rest or no IEA, 22 an IEA is malformed or the first isn't the last segment, 1 IEA02 isn't ISA13, which is
-/// given, 21 IEA01 isn't the number of GS.
+/// The note of the first condition on the cut and the trailer that holds, before the content is
+/// looked at: 23 the text has a rest or no IEA, 22 an IEA is malformed or the first isn't the last
+/// segment, 1 IEA02 isn't ISA13, which is given, 21 IEA01 isn't the number of GS.
 pub(crate) fn trailer_note(
     delims: &Delims,
     segments: &[Segment<'_>],

@@ -21,8 +21,9 @@ fn is_some_left(rest: &[u8]) -> bool
     !rest.is_empty()
 }
 
-/// The groups of a text that can be read, whose header is given. Note: the first condition on the segments that holds;
-/// OutOfMemory: memory couldn't be had. The time is linear in the bytes of the text.
+/// The groups of a text that can be read, whose header is given. Note: the first condition on the
+/// segments that holds; OutOfMemory: memory couldn't be had. The time is linear in the bytes of the
+/// text.
 pub fn structure<'a>(alloc: Global, text: &'a [u8], isa: &Isa<'a>) -> Result<Interchange<'a>, Halt>
     requires { isa.now ≡ text.now }
     ensures { MatchResult result

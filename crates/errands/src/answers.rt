@@ -145,8 +145,9 @@ fn heard_note(text: &[u8]) -> Answered
     }
 }
 
-/// What the answer to a command comes to, by its status, by whether its body is an interchange, and by its body. An interchange
-/// that is too large (413) is refused as one that can't be read, as it is over a book in a file.
+/// What the answer to a command comes to, by its status, by whether its body is an interchange, and
+/// by its body. An interchange that is too large (413) is refused as one that can't be read, as it
+/// is over a book in a file.
 pub fn heard(status: u16, is_interchange: bool, body: &[u8]) -> Answered
     ensures { result ≡ meant.heard status is_interchange body.now }
 {
@@ -161,7 +162,8 @@ pub fn heard(status: u16, is_interchange: bool, body: &[u8]) -> Answered
     }
 }
 
-/// What the answer to a query comes to. A server says `404 Not Found` of a depositor whom it doesn't know.
+/// What the answer to a query comes to. A server says `404 Not Found` of a depositor whom it
+/// doesn't know.
 pub fn heard_report(status: u16, is_interchange: bool, body: &[u8]) -> Answered
     ensures { result ≡ meant.heard_report status is_interchange body.now }
 {
@@ -173,8 +175,8 @@ pub fn heard_report(status: u16, is_interchange: bool, body: &[u8]) -> Answered
     }
 }
 
-/// What the answer to a query of what clerks alone are shown comes to. A server that takes their requests says by number what it refuses one for; a 404 without a
-/// number is another's.
+/// What the answer to a query of what clerks alone are shown comes to. A server that takes their
+/// requests says by number what it refuses one for; a 404 without a number is another's.
 pub fn heard_look(status: u16, is_interchange: bool, body: &[u8]) -> Answered
     ensures { result ≡ meant.heard_look status is_interchange body.now }
 {

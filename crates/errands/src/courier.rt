@@ -9,15 +9,18 @@ pub trait Courier {
     ghost use Rattle.remote.specs.declared.answers.Answer.{Answer};
     ghost use Rattle.remote.specs.declared.requests.Verb.{Verb};
 
-    // Relates what it is, the verb, the path and the body of a request, its answer, and what it is then. Of a network nothing is said.
+    // Relates what it is, the verb, the path and the body of a request, its answer, and what it is
+    // then. Of a network nothing is said.
     ghost brings: { Self → Verb → List ℕ → List ℕ → Answer → Self → Type 0 } = { λ _ _ _ _ _ _. ⊤ };
 
-    /// The answer to a request. Device where none comes: what was asked for may be done all the same.
+    /// The answer to a request. Device where none comes: what was asked for may be done all the
+    /// same.
     fn carry(&mut self, request: &Request<'_>) -> Result<Answer, Unanswered>
         ensures { IfOk result (λ answer. brings self.old request.now.verb request.now.path.now request.now.body.now answer self.new) };
 }
 
-// How many seconds a server is waited for, in each call. It may have another's large interchange in hand.
+// How many seconds a server is waited for, in each call. It may have another's large interchange in
+// hand.
 const PATIENCE: u64 = 60;
 
 /// A connection to a server for each request, of which each call waits 60 seconds at most.

@@ -9,7 +9,8 @@ use profile::MOST_BYTES;
 use std::rt::Files;
 use store::Refusal;
 
-/// What a server is asked for, its words tested and its files read, so that only the server can keep it from being done.
+/// What a server is asked for, its words tested and its files read, so that only the server can
+/// keep it from being done.
 #[derive(Drop)]
 pub enum Errand<'a> {
     /// Take an interchange.
@@ -20,9 +21,10 @@ pub enum Errand<'a> {
     Look(Show<'a>),
 }
 
-/// What a line asks of a server, made ready as it is over a book in a file: refused are 1, an interchange of more than 1,048,576 bytes, 32, a word that can't be read or a sheet that
-/// is too long, and what keeps a sheet from being one (30 to 33); a file that can't be read is Device (44). A usage fault is a line
-/// that no server takes.
+/// What a line asks of a server, made ready as it is over a book in a file: refused are 1, an
+/// interchange of more than 1,048,576 bytes, 32, a word that can't be read or a sheet that is too
+/// long, and what keeps a sheet from being one (30 to 33); a file that can't be read is Device
+/// (44). A usage fault is a line that no server takes.
 pub fn errand_of<'a, R: Files + AllocGlobal>(
     rt: &R,
     task: &Task<'a>,

@@ -1,4 +1,5 @@
-//! Laws, of which nothing runs: a server finds what a command asks, and what it did is told as it is over the book in its file.
+//! Laws, of which nothing runs: a server finds what a command asks, and what it did is told as it
+//! is over the book in its file.
 ghost use Rattle.std.specs.Prelude.{◌≡◌, true, Some};
 ghost use Rattle.profile.specs.Header.{Who as Partner};
 ghost use Rattle.profile.specs.Response.{reply_response};
@@ -26,7 +27,8 @@ pub fn an_interchange_is_told_as_over_the_book(reply: &Reply)
     let _ = reply;
 }
 
-/// A server finds a clerk's act, of words that can be read, at the path to which its sheet is posted.
+/// A server finds a clerk's act, of words that can be read, at the path to which its sheet is
+/// posted.
 pub fn an_act_is_asked_where_it_is_taken(told: &ClerkWords<'_>)
     ensures { (who : Partner) → depositor_of told.now ≡ Some who
         → call_of (deed_path told.now) ≡ Some (deed_call told.now.deed told.now.who.now told.now.ticket.now
@@ -35,7 +37,8 @@ pub fn an_act_is_asked_where_it_is_taken(told: &ClerkWords<'_>)
     let _ = told;
 }
 
-/// A server finds a picking sheet, the stock as CSV, what is open, and who is enrolled at the paths at which a command asks for them.
+/// A server finds a picking sheet, the stock as CSV, what is open, and who is enrolled at the paths
+/// at which a command asks for them.
 pub fn what_clerks_look_at_is_asked_where_it_is_shown(show: &Show<'_>)
     ensures { is_readable show.now ≡ true → (call : Call) → show_call show.now ≡ Some call
         → call_of (look_path show.now) ≡ Some call }

@@ -1,4 +1,5 @@
-//! What a command asks of a running server, and what it prints of the answer: the same as over the book in its file.
+//! What a command asks of a running server, and what it prints of the answer: the same as over the
+//! book in its file.
 #![tactic(auto)]
 
 mod answers;

@@ -1,5 +1,5 @@
-//! Why a book at a server refuses what a clerk did, for people. A server says the number of a refusal alone, so it is asked for what its book
-//! has of the sheet's pairs.
+//! Why a book at a server refuses what a clerk did, for people. A server says the number of a
+//! refusal alone, so it is asked for what its book has of the sheet's pairs.
 use crate::answers::{Answered, heard};
 use crate::courier::Courier;
 use crate::errand::Errand;
@@ -12,7 +12,8 @@ use std::io;
 use std::net::SocketAddr;
 use store::Refusal;
 
-/// Carries requests as another courier does, and keeps what the last answer came to, as that to a command.
+/// Carries requests as another courier does, and keeps what the last answer came to, as that to a
+/// command.
 #[derive(Drop)]
 pub struct Listening<C: Courier> {
     inner: C,
@@ -47,7 +48,8 @@ impl<C: Courier> Courier for Listening<C> {
 // The shortest line of a picking sheet that has a pair: its columns are 20, 12 and 6 wide.
 const HELD_LINE: usize = 40;
 
-// A pair of item and lot, and how much of it is reserved, in a line of a picking sheet; None of another line.
+// A pair of item and lot, and how much of it is reserved, in a line of a picking sheet; None of
+// another line.
 fn held_in(line: &str) -> Option<Kept<'_>> {
     if line.len() < HELD_LINE || line.starts_with(' ') {
         return None;
@@ -65,8 +67,9 @@ fn held_in(line: &str) -> Option<Kept<'_>> {
     })
 }
 
-// A pair of item and lot, and how much of it is reserved, in a record of the stock as CSV; None of its headings. That a count named the
-// pair is known where something is on hand, reserved or shipped.
+// A pair of item and lot, and how much of it is reserved, in a record of the stock as CSV; None of
+// its headings. That a count named the pair is known where something is on hand, reserved or
+// shipped.
 fn stocked_in(record: &str) -> Option<Kept<'_>> {
     let mut fields = record.split(',');
     let (item, lot) = (fields.next()?, fields.next()?);
@@ -116,8 +119,9 @@ fn shown_for<'a>(refusal: Refusal, told: &ClerkWords<'a>) -> Option<Show<'a>> {
     }
 }
 
-/// Tells why the book at a server refused what a clerk did (26 to 28), by one more request, for the order's picking sheet or the stock.
-/// Nothing is told where no line of the sheet is the reason, or the server doesn't show it.
+/// Tells why the book at a server refused what a clerk did (26 to 28), by one more request, for the
+/// order's picking sheet or the stock. Nothing is told where no line of the sheet is the reason, or
+/// the server doesn't show it.
 pub fn tell_reason_there<C: Courier, E: io::Write>(
     alloc: Global,
     courier: &mut Listening<C>,

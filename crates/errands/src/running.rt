@@ -31,7 +31,8 @@ fn tell_heard<E: io::Write>(
     }
 }
 
-/// Tells the answer to a command: its document, or the interchange that refuses another, and a refusal.
+/// Tells the answer to a command: its document, or the interchange that refuses another, and a
+/// refusal.
 pub fn tell_document<W: io::Write, E: io::Write>(
     alloc: Global,
     answer: &Answer,
@@ -116,7 +117,8 @@ fn ask_server<C: Courier>(
     }
 }
 
-// The fault that an answer tells, with what is said of it; Device (44) of an answer that no such server gives.
+// The fault that an answer tells, with what is said of it; Device (44) of an answer that no such
+// server gives.
 fn about_stop(alloc: Global, server: &SocketAddr, fault: Fault) -> CommandError {
     let said = match fault {
         Fault::Device => " gives another answer: is it whx12, started with --clerks?",
@@ -239,8 +241,8 @@ fn clerks_look<C: Courier, W: io::Write, E: io::Write>(
     }
 }
 
-// Asks for the stock as CSV, and tells it. A server without `--clerks` says 404 of every depositor there, so the stock itself tells
-// whether this one is unknown.
+// Asks for the stock as CSV, and tells it. A server without `--clerks` says 404 of every depositor
+// there, so the stock itself tells whether this one is unknown.
 fn export<C: Courier, W: io::Write, E: io::Write>(
     alloc: Global,
     courier: &mut C,
@@ -264,8 +266,9 @@ fn export<C: Courier, W: io::Write, E: io::Write>(
     tell_report(alloc, &answer, out, err)
 }
 
-// Asks for a text that went out, and tells it. A server says 404 of a number without a text and of a stranger alike, so the list of what
-// went out tells which it is: a stranger is refused, and of a missing text only the status tells.
+// Asks for a text that went out, and tells it. A server says 404 of a number without a text and of
+// a stranger alike, so the list of what went out tells which it is: a stranger is refused, and of a
+// missing text only the status tells.
 fn content<C: Courier, W: io::Write, E: io::Write>(
     alloc: Global,
     courier: &mut C,
@@ -319,9 +322,10 @@ fn look<C: Courier, W: io::Write, E: io::Write>(
     }
 }
 
-/// Has a running server do what it is asked for, and prints what a command over the book in its file prints. Device (44) where no answer is
-/// brought, or where the answer is none that such a server gives; else a fault is the one that the
-/// server tells. Where the answer to a command is lost on the way, the command may be done: given again, it gets its first answer.
+/// Has a running server do what it is asked for, and prints what a command over the book in its
+/// file prints. Device (44) where no answer is brought, or where the answer is none that such a
+/// server gives; else a fault is the one that the server tells. Where the answer to a command is
+/// lost on the way, the command may be done: given again, it gets its first answer.
 pub fn carry_out<C: Courier, W: io::Write, E: io::Write>(
     alloc: Global,
     courier: &mut C,

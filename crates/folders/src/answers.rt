@@ -22,8 +22,8 @@ fn write_new<R: Files>(rt: &R, path: &str, bytes: &[u8]) -> io::Result<()> {
     file.sync_all()
 }
 
-// Writes a file under a name of its own and gives it the name that it is to have. What stands under that name is replaced, and
-// never opened.
+// Writes a file under a name of its own and gives it the name that it is to have. What stands under
+// that name is replaced, and never opened.
 fn replace<R: Files>(rt: &R, made: &str, path: &str, bytes: &[u8]) -> io::Result<()> {
     clear(rt, made)?;
     write_new(rt, made, bytes)?;
@@ -44,9 +44,10 @@ fn new_of(alloc: Global, path: &str) -> Result<String, AllocError>
     [path, ".new"].concat(alloc)
 }
 
-/// Writes the answer to the interchange in a file to the file's name with `.ans` added. It is written to the name with `.new`
-/// added first, then renamed: so no link is followed, and a stop at any place leaves the answer that was there or the whole new
-/// one. What an earlier stop left under the name with `.new` is removed.
+/// Writes the answer to the interchange in a file to the file's name with `.ans` added. It is
+/// written to the name with `.new` added first, then renamed: so no link is followed, and a stop at
+/// any place leaves the answer that was there or the whole new one. What an earlier stop left under
+/// the name with `.new` is removed.
 pub fn write_answer<R: Files + AllocGlobal>(rt: &R, path: &str, answer: &[u8]) -> io::Result<()> {
     let made = new_of(rt.alloc(), path)?;
     let beside = answer_of(rt.alloc(), path)?;

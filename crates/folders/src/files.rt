@@ -22,8 +22,8 @@ pub fn read_first<R: Files + AllocGlobal>(rt: &R, path: &str, most: u64) -> io::
     first_of(rt.alloc(), fs::open(rt, path)?, most)
 }
 
-/// The bytes of an interchange in a file. Of a file with more bytes than an interchange may have (1,048,576) it is one byte more
-/// than those, which is unreadable too.
+/// The bytes of an interchange in a file. Of a file with more bytes than an interchange may have
+/// (1,048,576) it is one byte more than those, which is unreadable too.
 pub fn read_interchange<R: Files + AllocGlobal>(rt: &R, path: &str) -> io::Result<Vec<u8>> {
     read_first(rt, path, MOST_BYTES as u64 + 1)
 }

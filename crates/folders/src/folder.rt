@@ -39,7 +39,8 @@ pub struct Taken {
 pub struct TakenFolder {
     /// Its interchanges, in the order in which they were handed in: that of their names' bytes.
     pub files: Vec<Taken>,
-    /// What may be meant as an interchange and was passed over, in the same order; first what has no name.
+    /// What may be meant as an interchange and was passed over, in the same order; first what has
+    /// no name.
     pub passed: Vec<PassedOver>,
 }
 
@@ -143,7 +144,8 @@ fn path_in<'a, R: AllocGlobal>(rt: &R, dir: &'a str, name: &'a str) -> Result<St
     [dir, "/", name].concat(rt.alloc())
 }
 
-// Takes the file of this name once there is room to tell what became of it, so that nothing can fail after it is taken.
+// Takes the file of this name once there is room to tell what became of it, so that nothing can
+// fail after it is taken.
 fn take_named<R: Files + AllocGlobal, K: Keeper>(
     rt: &R,
     dir: &str,
@@ -164,16 +166,19 @@ fn take_named<R: Files + AllocGlobal, K: Keeper>(
     take_file(rt, &path, keeper, moment)
 }
 
-/// Submits each interchange of a folder, the regular files whose names end `.x12` and links to such files, in the order of their
-/// names' bytes, and writes a nonempty answer to the name with `.ans` added, as a file of its own that replaces what stands there.
-/// A file whose answer is there already is submitted again, and its answer written anew: so taking the folder again mends a stop
+/// Submits each interchange of a folder, the regular files whose names end `.x12` and links to such
+/// files, in the order of their names' bytes, and writes a nonempty answer to the name with `.ans`
+/// added, as a file of its own that replaces what stands there. A file whose answer is there
+/// already is submitted again, and its answer written anew: so taking the folder again mends a stop
 /// at any place. After each file `told` is handed how many were taken of how many.
 ///
-/// Passed over, and told, is what may be meant as an interchange: an entry of another kind whose name ends `.x12`, a file with such
-/// a name of more than 251 bytes, and each entry whose name isn't UTF-8. Other entries are no interchanges.
+/// Passed over, and told, is what may be meant as an interchange: an entry of another kind whose
+/// name ends `.x12`, a file with such a name of more than 251 bytes, and each entry whose name
+/// isn't UTF-8. Other entries are no interchanges.
 ///
-/// Faults are those of `submit`, want of memory, and Device (44) where the folder can't be read, a file can't be read or an answer
-/// can't be written. After a fault the files before it are taken; what became of each isn't told.
+/// Faults are those of `submit`, want of memory, and Device (44) where the folder can't be read, a
+/// file can't be read or an answer can't be written. After a fault the files before it are taken;
+/// what became of each isn't told.
 pub fn take_folder_telling<R: Files + AllocGlobal + Clone + Drop, K: Keeper, T: FnMut(u64, u64)>(
     rt: &R,
     dir: &str,
@@ -208,7 +213,8 @@ pub fn take_folder_telling<R: Files + AllocGlobal + Clone + Drop, K: Keeper, T: 
     Ok(TakenFolder { files, passed })
 }
 
-/// The same, where nobody is told more than what became of the files: not what was passed over, nor where it stopped.
+/// The same, where nobody is told more than what became of the files: not what was passed over, nor
+/// where it stopped.
 pub fn take_folder<R: Files + AllocGlobal + Clone + Drop, K: Keeper>(
     rt: &R,
     dir: &str,

@@ -60,8 +60,9 @@ fn write_outcome<W: io::Write>(out: &mut W, outcome: FileOutcome) -> io::Result<
 }
 
 impl Taken {
-    /// Writes the line that tells of it, as `a.x12 accepted`, `a.x12 stored`, `a.x12 refused 025`, with the three digits of a
-    /// note's code or the number of another refusal, or `a.x12 unreadable`, with LF at its end. The one error is the writer's.
+    /// Writes the line that tells of it, as `a.x12 accepted`, `a.x12 stored`, `a.x12 refused 025`,
+    /// with the three digits of a note's code or the number of another refusal, or `a.x12
+    /// unreadable`, with LF at its end. The one error is the writer's.
     pub fn write_line<W: io::Write>(&self, out: &mut W) -> io::Result<()>
         ensures { OnOk result (Appends (W.contents out.old) (W.contents out.new)
             (taken_line (string_bytes self.now.name) (became_of self.now.outcome))) }

@@ -62,10 +62,11 @@ fn place<R: Files + AllocGlobal + Drop>(
     Ok(())
 }
 
-/// What is in a folder: the names of the interchanges, which are the regular files that end `.x12` and links to such files, and
-/// what ends so and is passed over: a folder, a pipe, a socket, a device, a link that leads to no file, and a name of more than
-/// 251 bytes, to which `.ans` can't be added. An entry whose name isn't UTF-8 is passed over too, however it ends. Other entries
-/// are no interchanges, and nothing is said of them.
+/// What is in a folder: the names of the interchanges, which are the regular files that end `.x12`
+/// and links to such files, and what ends so and is passed over: a folder, a pipe, a socket, a
+/// device, a link that leads to no file, and a name of more than 251 bytes, to which `.ans` can't
+/// be added. An entry whose name isn't UTF-8 is passed over too, however it ends. Other entries are
+/// no interchanges, and nothing is said of them.
 pub fn listed<R: Files + AllocGlobal + Clone + Drop>(rt: &R, dir: &str) -> io::Result<Listing>
     ensures sorted { IfOk result (λ listing. IsSorted ⟦<String as Ord>⟧.cmp listing.names.items) }
 {

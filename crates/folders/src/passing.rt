@@ -7,7 +7,8 @@ ghost use Rattle.folders.specs.Passing as meant;
 pub enum WhyPassed {
     /// It is a folder, a pipe, a socket, a device, or a link that leads to no regular file.
     NoFile,
-    /// Its name isn't UTF-8. Paths are text here, so it can't be opened, and its name can't be told.
+    /// Its name isn't UTF-8. Paths are text here, so it can't be opened, and its name can't be
+    /// told.
     NoText,
     /// Its name has more than 251 bytes, so that there is no room for `.ans` after it.
     LongName,

@@ -24,7 +24,8 @@ fn all_within(rows: &[Row], most: u64) -> bool
     rows.iter().all(|row| is_within(row, most))
 }
 
-/// Whether no more is reserved of a row than is on hand and no amount is above the most that so many entries can bring, of each row.
+/// Whether no more is reserved of a row than is on hand and no amount is above the most that so
+/// many entries can bring, of each row.
 pub fn are_within(rows: &[Row], entries: u32) -> bool
     requires { entries < most_entries + 1 }
     ensures { result ≡ list_all (meant.is_within (meant.most_of entries)) rows.now }

@@ -68,7 +68,8 @@ impl KnownOrder {
         self.number.as_slice().cmp(&number).is_lt()
     }
 
-    /// A copy of it that is closed: nothing is reserved for it any more. Want of memory is the one error.
+    /// A copy of it that is closed: nothing is reserved for it any more. Want of memory is the one
+    /// error.
     pub fn closed(&self) -> Result<KnownOrder, AllocError>
         ensures { IfOk result (λ known. known ≡ closed_order self.now) }
     {

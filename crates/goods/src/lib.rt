@@ -1,5 +1,5 @@
-//! What a page is made of: rows of pairs, advices, orders and documents, and what rows and lines tell of a pair. Nothing here
-//! knows a page.
+//! What a page is made of: rows of pairs, advices, orders and documents, and what rows and lines
+//! tell of a pair. Nothing here knows a page.
 #![tactic(auto)]
 
 mod bounds;

@@ -55,8 +55,8 @@ fn rank_of(lines: &[Goods], item: &[u8], lot: &[u8]) -> usize
     lines.partition_point(|line| is_before(line, item, lot))
 }
 
-/// The quantity that lines give a pair, where each line stands before the next, as those of a sheet do: the pair is found by
-/// halves.
+/// The quantity that lines give a pair, where each line stands before the next, as those of a sheet
+/// do: the pair is found by halves.
 pub fn quantity_of(lines: &[Goods], item: &[u8], lot: &[u8]) -> u64
     requires { is_ascending lines.now ≡ true }
     ensures { result ≡ quantity_of lines.now item.now lot.now }
@@ -86,8 +86,8 @@ fn sum_of(lines: &[Goods], item: &[u8], lot: &[u8]) -> u64
     quantity
 }
 
-// The quantity that lines give a pair. What events reserve stands in order, and a pair is found there by halves; no clause says
-// so of the orders of a page, so it is asked first.
+// The quantity that lines give a pair. What events reserve stands in order, and a pair is found
+// there by halves; no clause says so of the orders of a page, so it is asked first.
 fn given(lines: &[Goods], rises: bool, item: &[u8], lot: &[u8]) -> u64
     requires fits { quantity_of lines.now item.now lot.now < 2 ^ 64 }
     requires asked { rises ≡ is_ascending lines.now }

@@ -68,7 +68,8 @@ impl Ranked {
         self.since < other.since
     }
 
-    // Whether it is given before another: under rules 1 by its count, under rules 2 by its date before that.
+    // Whether it is given before another: under rules 1 by its count, under rules 2 by its date
+    // before that.
     fn comes_before(&self, other: &Ranked, rules: Rules) -> bool
         ensures { result ≡ ranks_before rules self.now other.now }
     {

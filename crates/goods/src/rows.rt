@@ -32,7 +32,8 @@ pub struct Row {
     pub item: Vec<u8>,
     /// The lot, 1 to 12 bytes.
     pub lot: Vec<u8>,
-    /// The date on which it expires, eight digits CCYYMMDD: that in the first advice that gave the pair one.
+    /// The date on which it expires, eight digits CCYYMMDD: that in the first advice that gave the
+    /// pair one.
     pub expiry: Option<Vec<u8>>,
     /// The number of the first count that named the pair, or 0.
     pub since: u32,

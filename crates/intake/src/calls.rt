@@ -23,7 +23,8 @@ pub(crate) struct Deed<'p> {
 /// What a path calls for, with its parts.
 #[derive(Clone, Copy)]
 pub(crate) enum Call<'p> {
-    /// `/count/{who}/{ticket}/{shipment}`, `/pick/{who}/{ticket}/{order}` or `/recount/{who}/{ticket}`
+    /// `/count/{who}/{ticket}/{shipment}`, `/pick/{who}/{ticket}/{order}` or
+    /// `/recount/{who}/{ticket}`
     Deed(Deed<'p>),
     /// `/orders/{who}/{order}`
     Order(&'p [u8], &'p [u8]),

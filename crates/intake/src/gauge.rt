@@ -5,8 +5,8 @@ ghost use Rattle.intake.specs.Gauges.{CountsError, CountsWrite};
 
 use std::io::{self, Read, Write};
 
-/// A reader or a writer, with the count of its errors and of the writes that took 0 bytes. At its greatest number the count
-/// stays there.
+/// A reader or a writer, with the count of its errors and of the writes that took 0 bytes. At its
+/// greatest number the count stays there.
 #[derive(Drop)]
 pub struct Gauge<T> {
     inner: T,

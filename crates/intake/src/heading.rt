@@ -100,8 +100,8 @@ fn length_value(text: &[u8]) -> Result<usize, Status>
     Ok(size as usize)
 }
 
-/// The length of a body that these values of Content-Length state, or the status that refuses them: 411 for none, 400 for more
-/// than one or no digits, 413 for too much.
+/// The length of a body that these values of Content-Length state, or the status that refuses them:
+/// 411 for none, 400 for more than one or no digits, 413 for too much.
 pub(crate) fn length_of(values: &Values<'_>) -> Result<usize, Status>
     ensures { (texts : List (List ℕ)) → IsValues values.now texts → MatchResult result (λ n. stated_length texts ≡ Ok n) (λ status. stated_length texts ≡ Err (number status)) }
 {

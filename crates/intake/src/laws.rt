@@ -12,15 +12,15 @@ ghost use Rattle.intake.specs.Serving.{BeginsWith, command_in, answer_of};
 ghost use Rattle.intake.specs.declared.audience.Audience.{Audience};
 ghost use Rattle.intake.specs.declared.audience.Audience.TheVariants.{Partners, Clerks};
 
-/// An input asks for one thing: no two readings of its beginning differ in what they ask for, and so in the response or in the
-/// interchange that is handed in.
+/// An input asks for one thing: no two readings of its beginning differ in what they ask for, and
+/// so in the response or in the interchange that is handed in.
 pub fn an_input_asks_for_one_thing()
     ensures { (input : List ℕ) (g h : Option RequestHead) (r s : List ℕ) → BeginsWith input g r → BeginsWith input h s
         → asked (option_map head_of g) r ≡ asked (option_map head_of h) s }
 {}
 
-/// Whoever is served, an input has one answer: no two readings of its beginning differ in the command
-/// that is submitted, nor in the response.
+/// Whoever is served, an input has one answer: no two readings of its beginning differ in the
+/// command that is submitted, nor in the response.
 pub fn an_input_has_one_answer()
     ensures commands { (audience : Audience) (input : List ℕ) (g h : Option RequestHead) (r s : List ℕ)
         → BeginsWith input g r → BeginsWith input h s → command_in audience g r ≡ command_in audience h s }
@@ -29,8 +29,9 @@ pub fn an_input_has_one_answer()
         → answer_of audience W L g r t ≡ answer_of audience W L h s t }
 {}
 
-/// The routes that are always served stay what they are where clerks are served too: a path that leads
-/// to one of them calls for nothing, and a request to it is answered, and submits a command, as before.
+/// The routes that are always served stay what they are where clerks are served too: a path that
+/// leads to one of them calls for nothing, and a request to it is answered, and submits a command,
+/// as before.
 pub fn the_routes_stay()
     ensures calls { (path : List ℕ) → route_of path ≢ Nowhere → call_of path ≡ None }
     ensures commands { (h : RequestHead) (rest : List ℕ) → route_of h.target ≢ Nowhere

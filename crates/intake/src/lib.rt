@@ -1,5 +1,5 @@
-//! How interchanges come in: over HTTP on loopback, one request a connection, from a folder, and from
-//! a file; and how clerks are served over HTTP.
+//! How interchanges come in: over HTTP on loopback, one request a connection, from a folder, and
+//! from a file; and how clerks are served over HTTP.
 #![tactic(auto)]
 
 mod audience;

@@ -17,13 +17,14 @@ use store::{Fault, Keeper, Moment};
 // How many seconds a peer is waited for in a call, where nobody says otherwise.
 const CALL_SECONDS: u64 = 30;
 
-// How many seconds what a peer still sends after its response is read for, and how often: some 2 MiB.
+// How many seconds what a peer still sends after its response is read for, and how often: some 2
+// MiB.
 const REST_SECONDS: u64 = 1;
 
 const REST_READS: u32 = 128;
 
-// Reads what a peer still sends after its response. A connection that is closed with bytes unread is reset, and then the peer
-// may lose the response (RFC 9112, 9.6). What can't be read is left.
+// Reads what a peer still sends after its response. A connection that is closed with bytes unread
+// is reset, and then the peer may lose the response (RFC 9112, 9.6). What can't be read is left.
 fn read_the_rest<Q: Clock>(stream: &TcpStream, timer: &Q) {
     if stream.shutdown(Shutdown::Write).is_err() {
         return;
@@ -43,8 +44,8 @@ fn millis_since<Q: Clock>(timer: &Q, begun: Option<Instant>) -> Option<u64> {
     Some(u64::try_from(took.as_millis()).unwrap_or(u64::MAX))
 }
 
-// Serves the request of a connection. What its peer still sends after the response is no part of the
-// time that it took.
+// Serves the request of a connection. What its peer still sends after the response is no part of
+// the time that it took.
 fn serve_on<K: Keeper, Q: Clock>(
     alloc: Global,
     stream: &TcpStream,
@@ -117,19 +118,20 @@ fn serve_next<K: Keeper, Q: Clock>(
     }
 }
 
-/// Serves that many connections to that audience, one after the other, each at the moment that `clock`
-/// gives once it is accepted, and hands each to `told` with what became of its request: the status
-/// that was answered, or Device (44). A request or a response that takes longer than the patience is Device too. An
-/// accept that fails is Device at the moment that `clock` gives then, and counts as a connection.
+/// Serves that many connections to that audience, one after the other, each at the moment that
+/// `clock` gives once it is accepted, and hands each to `told` with what became of its request: the
+/// status that was answered, or Device (44). A request or a response that takes longer than the
+/// patience is Device too. An accept that fails is Device at the moment that `clock` gives then,
+/// and counts as a connection.
 ///
-/// A fault ends it, and no more connections are served then. It is Device (44) where `admits`, which is
-/// asked before anything of a connection is read, says no; that connection is closed without an
-/// answer, and isn't told. It is Reopen (42) where the book has to be opened again. Else `told` is
-/// handed exactly that many.
+/// A fault ends it, and no more connections are served then. It is Device (44) where `admits`,
+/// which is asked before anything of a connection is read, says no; that connection is closed
+/// without an answer, and isn't told. It is Reopen (42) where the book has to be opened again. Else
+/// `told` is handed exactly that many.
 ///
-/// So the book goes from connection to connection, of the very ones that are told, in their order: each
-/// is as `IsConnection` says of its book before and after. Whatever ends it, the book is as the last of
-/// them left it.
+/// So the book goes from connection to connection, of the very ones that are told, in their order:
+/// each is as `IsConnection` says of its book before and after. Whatever ends it, the book is as
+/// the last of them left it.
 pub fn serve_within<
     K: Keeper,
     C: FnMut() -> Moment,
@@ -180,8 +182,8 @@ pub fn serve_within<
     Ok(())
 }
 
-/// The same for partners alone, where each connection is admitted, and nobody measures its time: each
-/// of its reads and writes waits 30 seconds, and 0 milliseconds are told.
+/// The same for partners alone, where each connection is admitted, and nobody measures its time:
+/// each of its reads and writes waits 30 seconds, and 0 milliseconds are told.
 pub fn serve_count<K: Keeper, C: FnMut() -> Moment, T: FnMut(Connection)>(
     alloc: Global,
     listener: &TcpListener,

@@ -1,4 +1,5 @@
-//! What clerks are shown: the picking sheet of an order, the export of a depositor's stock, what it has open, and who is enrolled.
+//! What clerks are shown: the picking sheet of an order, the export of a depositor's stock, what it
+//! has open, and who is enrolled.
 ghost use Rattle.std.specs.Prelude.{◌≡◌, ◌⊎◌, ℕ, List, Result, true, IfOk, IfErr, IsErrOf, is_some};
 ghost use Rattle.profile.specs.declared.rules.Rules.TheVariants.{Two};
 ghost use Rattle.profile.specs.Header.{Who as Partner, who_of};

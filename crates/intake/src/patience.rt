@@ -14,7 +14,8 @@ pub struct Patience<'a, Q> {
     pub limit: Duration,
 }
 
-/// A timer that stands still. Patience by it is for each call of a connection, and not for all of them together.
+/// A timer that stands still. Patience by it is for each call of a connection, and not for all of
+/// them together.
 #[derive(Drop)]
 pub(crate) struct Standing;
 
@@ -28,8 +29,8 @@ impl Clock for Standing {
     }
 }
 
-/// A connection whose calls have a deadline together, which begins with the first of them. Each waits for what is left of it;
-/// after it, and where the timer can't be read, a call is an error.
+/// A connection whose calls have a deadline together, which begins with the first of them. Each
+/// waits for what is left of it; after it, and where the timer can't be read, a call is an error.
 #[derive(Drop)]
 pub(crate) struct Patient<'a, Q> {
     stream: &'a TcpStream,
@@ -49,7 +50,8 @@ impl<'a, Q: Clock> Patient<'a, Q> {
         }
     }
 
-    // How long the next call may wait. No time is left after the deadline, which a socket refuses to be given.
+    // How long the next call may wait. No time is left after the deadline, which a socket refuses
+    // to be given.
     fn left(&mut self) -> io::Result<Duration> {
         let now = Instant::now(self.timer)?;
         let begun = match self.begun {

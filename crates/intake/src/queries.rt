@@ -78,7 +78,8 @@ fn content_of(text: Option<Option<Vec<u8>>>) -> Response
     }
 }
 
-// The text that went out under the number that a part of a path names, to the depositor that another names.
+// The text that went out under the number that a part of a path names, to the depositor that
+// another names.
 fn content_at<K: Keeper>(keeper: &mut K, who: &str, n: &str) -> Result<Response, Fault>
     ensures response { OfKept (K.standing keeper.old) (K.standing keeper.new)
         (λ L. IfOk result (λ r. seen r ≡ found_for who.now (outbox_of (K.standing keeper.old).warehouse L)
@@ -97,7 +98,8 @@ fn content_at<K: Keeper>(keeper: &mut K, who: &str, n: &str) -> Result<Response,
     Ok(content_of(store::text(keeper, who, number)?))
 }
 
-/// The response to a request by GET. The book is as before. A fault is that of the query, or want of memory for the response.
+/// The response to a request by GET. The book is as before. A fault is that of the query, or want
+/// of memory for the response.
 pub(crate) fn got<K: Keeper>(
     alloc: Global,
     keeper: &mut K,

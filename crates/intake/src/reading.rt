@@ -36,7 +36,8 @@ fn read_more<R: Read>(reader: &mut Gauge<R>, buf: &mut [u8], filled: usize) -> R
     }
 }
 
-// Reads until the buffer is full or the reader is at its end. The result is how many bytes were read.
+// Reads until the buffer is full or the reader is at its end. The result is how many bytes were
+// read.
 fn fill<R: Read>(reader: &mut Gauge<R>, buf: &mut [u8]) -> Result<usize, Unread>
     ensures within { IfOk result (λ n. n ≤ length buf.new) }
     ensures bytes { IfOk result (λ n. Consumes (R.remaining reader.old.inner) (R.remaining reader.new.inner) (take n buf.new)) }
@@ -64,8 +65,8 @@ pub(crate) struct Beginning {
     pub head: Option<RequestSpans>,
 }
 
-/// Reads the head of a request, of at most `MOST_HEAD` bytes and `MOST_FIELDS` fields, with perhaps some of what is after it. There is none where
-/// the input begins with no such head.
+/// Reads the head of a request, of at most `MOST_HEAD` bytes and `MOST_FIELDS` fields, with perhaps
+/// some of what is after it. There is none where the input begins with no such head.
 pub(crate) fn read_head<R: Read>(
     reader: &mut Gauge<R>,
     buf: &mut [u8],
@@ -111,7 +112,8 @@ pub(crate) enum Content {
     NoMemory,
 }
 
-// Fills the buffer with these bytes and then those of the reader, and says whether there were enough.
+// Fills the buffer with these bytes and then those of the reader, and says whether there were
+// enough.
 fn fill_after<R: Read>(reader: &mut Gauge<R>, buf: &mut [u8], start: &[u8]) -> Result<bool, Unread>
     ensures whole { IfOk result (λ is_full. (input : List ℕ) × IsInput (R.remaining reader.old.inner) input × IsFilled is_full buf.new (start.now ++ input)) }
     ensures count { OnErr result (Grew reader.old.errors reader.new.errors) }

@@ -78,8 +78,8 @@ fn refusal_text(refusal: Refusal) -> &'static [u8]
     }
 }
 
-/// The response to a refused interchange, with the interchange that answers it; what else is refused
-/// has no answer.
+/// The response to a refused interchange, with the interchange that answers it; what else is
+/// refused has no answer.
 pub(crate) fn refused(refusal: Refusal, answer: Vec<u8>) -> Response
     ensures { seen result ≡ refused_response (refusal_of refusal) answer.items }
 {

@@ -126,7 +126,8 @@ fn answered<K: Keeper>(
     }
 }
 
-/// The response to a request whose route is found. A fault inside is answered 503, and is told in the response alone.
+/// The response to a request whose route is found. A fault inside is answered 503, and is told in
+/// the response alone.
 pub(crate) fn respond_at<K: Keeper>(
     alloc: Global,
     keeper: &mut K,
@@ -149,11 +150,13 @@ pub(crate) fn respond_at<K: Keeper>(
     }
 }
 
-/// The response to a request, by its method, its path and its body: an interchange is posted to `/x12`; `/stock/{who}`,
-/// `/outbox/{who}` and `/outbox/{who}/{n}` show what a depositor has, what went out to it, and one text of that. The path is taken
-/// as it is, and has no route where it isn't UTF-8. The book is left as the interchange leaves it, and as it was by any other
-/// request. A fault inside (40 to 43) is answered 503, with the book as it was, or to be opened again. A book that has to be opened again
-/// answers 42 to whatever asks it for anything, or 40 where memory for the path is wanting.
+/// The response to a request, by its method, its path and its body: an interchange is posted to
+/// `/x12`; `/stock/{who}`, `/outbox/{who}` and `/outbox/{who}/{n}` show what a depositor has, what
+/// went out to it, and one text of that. The path is taken as it is, and has no route where it
+/// isn't UTF-8. The book is left as the interchange leaves it, and as it was by any other request.
+/// A fault inside (40 to 43) is answered 503, with the book as it was, or to be opened again. A
+/// book that has to be opened again answers 42 to whatever asks it for anything, or 40 where memory
+/// for the path is wanting.
 pub fn respond<K: Keeper>(
     alloc: Global,
     keeper: &mut K,

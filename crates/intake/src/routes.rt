@@ -37,7 +37,8 @@ pub(crate) enum Route<'p> {
     Nowhere,
 }
 
-// The routes that are served. None of them conflicts with another, so that the one error is want of memory.
+// The routes that are served. None of them conflicts with another, so that the one error is want of
+// memory.
 fn router(alloc: Global) -> Result<Router<RouteKind>, InsertError>
     ensures table { IfOk result (λ router. router ≡ table) }
     ensures short { IfErr result (λ error. error ≡ InsertError.OutOfMemory) }

@@ -47,8 +47,8 @@ fn named_in(command: &Command<'_>) -> Option<Who>
     Some(named.0)
 }
 
-/// Answers a request with this body whose target is found. A fault inside is answered 503, and is told
-/// in the response alone.
+/// Answers a request with this body whose target is found. A fault inside is answered 503, and is
+/// told in the response alone.
 pub(crate) fn answer_at<K: Keeper>(
     alloc: Global,
     keeper: &mut K,

@@ -12,7 +12,8 @@ pub(crate) struct Unwritten {
     pub sent: u64,
 }
 
-// Writes all of the bytes, or a beginning of them. No call is made again, an interrupted one neither.
+// Writes all of the bytes, or a beginning of them. No call is made again, an interrupted one
+// neither.
 fn send<W: Write>(writer: &mut Gauge<W>, bytes: &[u8]) -> Result<(), Unwritten>
     ensures whole { OnOk result (Appends (W.contents writer.old.inner) (W.contents writer.new.inner) bytes.now) }
     ensures beginning { IfErr result (λ stop.
@@ -31,8 +32,8 @@ fn send<W: Write>(writer: &mut Gauge<W>, bytes: &[u8]) -> Result<(), Unwritten>
     Ok(())
 }
 
-/// Writes these pieces one after the other, or a beginning of them. The result is how many bytes were
-/// written. No call is made again, an interrupted one neither.
+/// Writes these pieces one after the other, or a beginning of them. The result is how many bytes
+/// were written. No call is made again, an interrupted one neither.
 pub(crate) fn send_pieces<W: Write>(
     writer: &mut Gauge<W>,
     pieces: &[&[u8]],

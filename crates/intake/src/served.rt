@@ -25,16 +25,16 @@ pub struct Served {
     /// Its method and its path. None where no head was read, and where there was no memory for a
     /// copy.
     pub line: Option<RequestLine>,
-    /// The depositor of the interchange that was handed in: the sender that its ISA05 and ISA06 name,
-    /// enrolled or not. None of any other request, where the interchange can't be read or these two
-    /// can be no partner, and where there was no memory to read it.
+    /// The depositor of the interchange that was handed in: the sender that its ISA05 and ISA06
+    /// name, enrolled or not. None of any other request, where the interchange can't be read or
+    /// these two can be no partner, and where there was no memory to read it.
     pub sender: Option<Who>,
     /// How many bytes of the response were written, its head among them.
     pub bytes: u64,
 }
 
-/// Writes who sent an interchange, as a line tells it: `QQ-ID`, or `-` where nobody is told. An error is
-/// the writer's, which then may have a beginning of it.
+/// Writes who sent an interchange, as a line tells it: `QQ-ID`, or `-` where nobody is told. An
+/// error is the writer's, which then may have a beginning of it.
 pub fn write_sender<W: io::Write>(out: &mut W, sender: &Option<Who>) -> io::Result<()>
     ensures { OnOk result (Appends (W.contents out.old) (W.contents out.new) (sender_text sender.now)) }
 {

@@ -143,20 +143,20 @@ fn receive<R: Read, K: Keeper>(
     Received { replied, line }
 }
 
-/// Reads one request, writes its response, and tells what became of them. The tests of a request come
-/// in this order: a head that is refused, cut off or too large, over 8,192 bytes or 32 fields, is 400;
-/// a Transfer-Encoding field 501; no route 404; another method 405; for an interchange no
-/// Content-Length 411, more than one, an empty one or not all digits 400, above 1,048,576 413, and a
-/// body that is cut off 400. Where clerks are served too, a deed with its sheet is tested as an
-/// interchange, and then: a part of its path that can't be read is 404, a text that is no sheet 422.
-/// A growth that is refused gives the 503 of 40; where only the copy of the method and the path is,
-/// these aren't told, and the answer is the same. Of an interchange that is handed in, its sender is
-/// told, also where it is refused.
+/// Reads one request, writes its response, and tells what became of them. The tests of a request
+/// come in this order: a head that is refused, cut off or too large, over 8,192 bytes or 32 fields,
+/// is 400; a Transfer-Encoding field 501; no route 404; another method 405; for an interchange no
+/// Content-Length 411, more than one, an empty one or not all digits 400, above 1,048,576 413, and
+/// a body that is cut off 400. Where clerks are served too, a deed with its sheet is tested as an
+/// interchange, and then: a part of its path that can't be read is 404, a text that is no sheet
+/// 422. A growth that is refused gives the 503 of 40; where only the copy of the method and the
+/// path is, these aren't told, and the answer is the same. Of an interchange that is handed in, its
+/// sender is told, also where it is refused.
 ///
 /// The one fault is Device (44): the reader or the writer gave an error, or took 0 bytes. Where the
-/// reader did, nothing was written and the book is as it was; where the writer did, a beginning of the
-/// response was, and the book is as the request left it. No call is made again, an interrupted one
-/// neither.
+/// reader did, nothing was written and the book is as it was; where the writer did, a beginning of
+/// the response was, and the book is as the request left it. No call is made again, an interrupted
+/// one neither.
 pub fn serve_telling<R: Read, W: Write, K: Keeper>(
     alloc: Global,
     reader: &mut Gauge<R>,

@@ -54,7 +54,8 @@ fn refusal_of(number: u8) -> Refusal
     }
 }
 
-/// The sheet of a kind in a text, or why it makes none (30 to 33). The outer error is want of memory.
+/// The sheet of a kind in a text, or why it makes none (30 to 33). The outer error is want of
+/// memory.
 pub fn sheet_in(
     alloc: Global,
     kind: SheetKind,
@@ -71,8 +72,8 @@ pub fn sheet_in(
     }
 }
 
-/// What a deed and its sheet come to: a slip, or the response that refuses it. The outer error is want
-/// of memory.
+/// What a deed and its sheet come to: a slip, or the response that refuses it. The outer error is
+/// want of memory.
 pub(crate) fn slip_of<'p>(
     alloc: Global,
     deed: &Deed<'p>,
@@ -96,7 +97,8 @@ pub(crate) fn slip_of<'p>(
     }
 }
 
-/// The act of a sheet's kind, about the advice or the order of this number, which a recount doesn't have.
+/// The act of a sheet's kind, about the advice or the order of this number, which a recount doesn't
+/// have.
 pub fn act_of<'a>(kind: SheetKind, number: &'a [u8], sheet: &'a Sheet) -> Act<'a>
     ensures { asked_act result ≡ meant.act_of (kind_of kind) number.now sheet.now }
 {

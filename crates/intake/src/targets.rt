@@ -83,8 +83,8 @@ pub(crate) fn hands_in(method: MethodKind, target: &Target<'_>) -> bool
     }
 }
 
-/// The response to a request whose target is found. A fault inside is answered 503, and is told in the
-/// response alone.
+/// The response to a request whose target is found. A fault inside is answered 503, and is told in
+/// the response alone.
 pub(crate) fn respond_to<K: Keeper>(
     alloc: Global,
     keeper: &mut K,

@@ -81,8 +81,8 @@ fn pieces<'a>(response: &'a Response, code: &'a [u8], digits: &'a [u8]) -> [&'a 
     ]
 }
 
-/// Writes a response, or a beginning of it where the writer fails. The result is how many bytes were
-/// written. It takes no memory.
+/// Writes a response, or a beginning of it where the writer fails. The result is how many bytes
+/// were written. It takes no memory.
 pub(crate) fn write_response<W: Write>(
     writer: &mut Gauge<W>,
     response: &Response,

@@ -1,4 +1,5 @@
-//! Widths, in bytes, of what stands in texts. Where an element of X12 is meant, its data element number stands after it.
+//! Widths, in bytes, of what stands in texts. Where an element of X12 is meant, its data element
+//! number stands after it.
 
 use crate::limits::MOST_PARTNER;
 

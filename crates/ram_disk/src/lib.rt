@@ -9,7 +9,8 @@ use sqlite_disk::{Disk, Tally, digest_of};
 use std::alloc::{AllocError, Global};
 use std::io;
 
-/// A file in memory. What is written stays, and nothing outlives the process, so there is nothing to sync.
+/// A file in memory. What is written stays, and nothing outlives the process, so there is nothing
+/// to sync.
 #[derive(Drop)]
 pub struct RamDisk {
     bytes: Vec<u8>,

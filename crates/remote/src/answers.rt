@@ -27,9 +27,10 @@ pub enum Unanswered {
     Device,
 }
 
-/// Reads one response. Device where the reader fails, where there is no head within 8,192 bytes and 32 fields, where the body is
-/// in chunks, is cut off, or states more than one length, one that isn't digits, or one above 16,777,216; OutOfMemory where
-/// there is no memory for a body of its length.
+/// Reads one response. Device where the reader fails, where there is no head within 8,192 bytes and
+/// 32 fields, where the body is in chunks, is cut off, or states more than one length, one that
+/// isn't digits, or one above 16,777,216; OutOfMemory where there is no memory for a body of its
+/// length.
 pub fn read_answer<R: Read>(alloc: Global, reader: &mut R) -> Result<Answer, Unanswered>
     ensures { IfOk result (IsAnswer (R.remaining reader.old)) }
 {

@@ -7,8 +7,8 @@ use std::io;
 use std::net::{Net, OpenStream, SocketAddr, TcpStream};
 use std::time::Duration;
 
-// A connection to the server, each call of which waits so long at most. What is written goes out at once, so that no piece of
-// a request waits for the server to acknowledge the one before it.
+// A connection to the server, each call of which waits so long at most. What is written goes out at
+// once, so that no piece of a request waits for the server to acknowledge the one before it.
 fn connect<N: Net>(net: &N, server: &SocketAddr, patience: Duration) -> io::Result<N::Stream> {
     let stream = TcpStream::connect_timeout(net, server, patience)?;
     stream.set_read_timeout(Some(patience))?;
@@ -17,9 +17,10 @@ fn connect<N: Net>(net: &N, server: &SocketAddr, patience: Duration) -> io::Resu
     Ok(stream)
 }
 
-/// Asks a server, over a connection of its own, and reads what it answers. Device where no connection can be made, where the
-/// connection, a write or a read takes longer than the patience or fails, and where what came is no whole response. The server
-/// may have done what was asked for even then.
+/// Asks a server, over a connection of its own, and reads what it answers. Device where no
+/// connection can be made, where the connection, a write or a read takes longer than the patience
+/// or fails, and where what came is no whole response. The server may have done what was asked for
+/// even then.
 pub fn call<N: Net + AllocGlobal>(
     rt: &N,
     server: &SocketAddr,

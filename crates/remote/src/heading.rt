@@ -111,7 +111,8 @@ pub(crate) struct Told {
     pub size: usize,
 }
 
-/// What these fields say, or Device where the body is in chunks, or its length isn't one that is read.
+/// What these fields say, or Device where the body is in chunks, or its length isn't one that is
+/// read.
 pub(crate) fn told_of(buf: &[u8], fields: &[HeaderSpan]) -> Result<Told, Unanswered>
     requires { All (IsHeaderWithin (length buf.now)) fields.now }
     ensures { IfOk result (Says (map (header_bytes buf.now) fields.now)) }

@@ -3,8 +3,8 @@ ghost use Rattle.remote.specs.Requests.{path_bytes};
 
 use std::alloc::{AllocError, Global};
 
-/// The path of these parts, with `/` before each. They stand in it as they are, so they are to be visible bytes without `/`.
-/// The one error is want of memory.
+/// The path of these parts, with `/` before each. They stand in it as they are, so they are to be
+/// visible bytes without `/`. The one error is want of memory.
 pub fn path_of(alloc: Global, parts: &[&str]) -> Result<String, AllocError>
     ensures { IfOk result (λ path. string_bytes path ≡ path_bytes parts.now) }
 {

@@ -46,8 +46,8 @@ pub(crate) struct Beginning {
     pub spans: ResponseSpans,
 }
 
-/// Reads the head of a response, of at most 8,192 bytes and 32 fields, with perhaps some of what is after it. Device where the
-/// reader fails, or begins with no such head.
+/// Reads the head of a response, of at most 8,192 bytes and 32 fields, with perhaps some of what is
+/// after it. Device where the reader fails, or begins with no such head.
 pub(crate) fn read_head<R: Read>(
     reader: &mut R,
     buf: &mut [u8],
@@ -90,8 +90,8 @@ fn fill_after<R: Read>(reader: &mut R, buf: &mut [u8], start: &[u8]) -> Result<(
     }
 }
 
-/// Reads the rest of a body of so many bytes, which begins with those that are there. Device where the reader fails, or is at
-/// its end before.
+/// Reads the rest of a body of so many bytes, which begins with those that are there. Device where
+/// the reader fails, or is at its end before.
 pub(crate) fn read_body<R: Read>(
     alloc: Global,
     reader: &mut R,

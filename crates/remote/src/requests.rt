@@ -60,9 +60,9 @@ fn write_pieces<W: Write>(writer: &mut W, pieces: &[&[u8]]) -> io::Result<()>
     Ok(())
 }
 
-/// Writes a request to the host of that name. A server reads it as it is meant where the path and the host have visible bytes
-/// alone (`laws::a_server_reads_what_is_asked`). The error is the writer's; a beginning of the request may have been written
-/// then.
+/// Writes a request to the host of that name. A server reads it as it is meant where the path and
+/// the host have visible bytes alone (`laws::a_server_reads_what_is_asked`). The error is the
+/// writer's; a beginning of the request may have been written then.
 pub fn write_request<W: Write>(writer: &mut W, host: &str, request: &Request<'_>) -> io::Result<()>
     ensures { OnOk result (Appends (W.contents writer.old) (W.contents writer.new)
         (request_bytes request.now.verb request.now.path.now host.now request.now.body.now)) }

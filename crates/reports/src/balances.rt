@@ -63,9 +63,10 @@ fn append_row(out: &mut Vec<u8>, row: &StockRow) -> Result<(), AllocError>
     )
 }
 
-/// The stock report of these rows: a line of headings and a line for each row, in the order given, each with the item left in
-/// 20, the lot left in 12, its expiry left in 8, blank where it has none, and expected, on hand, reserved and shipped, in the unit
-/// EA, right in 15, with a space between each two columns and LF at its end. What is longer than its column widens it. The one
+/// The stock report of these rows: a line of headings and a line for each row, in the order given,
+/// each with the item left in 20, the lot left in 12, its expiry left in 8, blank where it has
+/// none, and expected, on hand, reserved and shipped, in the unit EA, right in 15, with a space
+/// between each two columns and LF at its end. What is longer than its column widens it. The one
 /// error is want of memory.
 pub fn stock_report(alloc: Global, rows: &[StockRow]) -> Result<Vec<u8>, AllocError>
     ensures { IfOk result (λ text. text.items ≡ meant.stock_report Two rows.now) }

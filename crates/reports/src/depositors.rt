@@ -18,8 +18,8 @@ fn append_who(out: &mut Vec<u8>, who: &Who) -> Result<(), AllocError>
     Ok(())
 }
 
-/// The list of these depositors, in the order given: `QQ-ID`, qualifier and id, and LF for each; nothing where there are none. The one
-/// error is want of memory.
+/// The list of these depositors, in the order given: `QQ-ID`, qualifier and id, and LF for each;
+/// nothing where there are none. The one error is want of memory.
 pub fn depositor_list(alloc: Global, whos: &[Who]) -> Result<Vec<u8>, AllocError>
     ensures { IfOk result (λ text. text.items ≡ meant.depositor_list whos.now) }
 {

@@ -49,9 +49,11 @@ fn write_rows(writer: &mut Writer<Vec<u8>>, rows: &[StockRow]) -> Result<(), Err
     Ok(())
 }
 
-/// The stock export of these rows: CSV, the record `item,lot,expiry,expected,on_hand,reserved,shipped` and then a record for each
-/// row, in the order given, with amounts in the unit EA, and nothing for an expiry where a lot has none. Nothing is quoted, since no identifier and no number needs it. The one error
-/// is want of memory, the only one that a writer into a vector has.
+/// The stock export of these rows: CSV, the record
+/// `item,lot,expiry,expected,on_hand,reserved,shipped` and then a record for each row, in the order
+/// given, with amounts in the unit EA, and nothing for an expiry where a lot has none. Nothing is
+/// quoted, since no identifier and no number needs it. The one error is want of memory, the only
+/// one that a writer into a vector has.
 pub fn stock_csv(alloc: Global, rows: &[StockRow]) -> Result<Vec<u8>, AllocError>
     ensures { IfOk result (λ text. text.items ≡ meant.stock_csv Two rows.now) }
 {

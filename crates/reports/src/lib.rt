@@ -1,5 +1,5 @@
-//! What people look at: the stock report and its export, the list of what went out, picking sheets, what a depositor has open, and the list of
-//! depositors.
+//! What people look at: the stock report and its export, the list of what went out, picking sheets,
+//! what a depositor has open, and the list of depositors.
 #![tactic(auto)]
 
 mod balances;

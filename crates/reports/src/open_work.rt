@@ -153,13 +153,16 @@ fn append_orders(out: &mut Vec<u8>, orders: &[KnownOrder]) -> Result<(), AllocEr
     Ok(())
 }
 
-/// The report of what a depositor has open, by a page, or a part of it, that has that: a line of headings, and a line for each advice that isn't
-/// counted, by the bytes of its shipment number, with that number left in 22, how many lines it has right in 5, the pieces announced, in the
-/// unit EA, right in 15, and the number of its order; then a line of headings, and a line for each order that isn't picked, by the bytes
-/// of its number, with that number left in 22, how many lines it has right in 5, and the name that it goes to. `-` stands for an
-/// order's number or a name where there is none. After an order stands, for each of its lines of which not all is reserved, what is
-/// short of it, as the picking sheet says it, after two spaces. There is a space between each two columns, and LF at the end of a
-/// line; what is longer than its column widens it. The one error is want of memory.
+/// The report of what a depositor has open, by a page, or a part of it, that has that: a line of
+/// headings, and a line for each advice that isn't counted, by the bytes of its shipment number,
+/// with that number left in 22, how many lines it has right in 5, the pieces announced, in the unit
+/// EA, right in 15, and the number of its order; then a line of headings, and a line for each order
+/// that isn't picked, by the bytes of its number, with that number left in 22, how many lines it
+/// has right in 5, and the name that it goes to. `-` stands for an order's number or a name where
+/// there is none. After an order stands, for each of its lines of which not all is reserved, what
+/// is short of it, as the picking sheet says it, after two spaces. There is a space between each
+/// two columns, and LF at the end of a line; what is longer than its column widens it. The one
+/// error is want of memory.
 pub fn open_report(alloc: Global, page: &Page) -> Result<Vec<u8>, AllocError>
     ensures { IfOk result (λ text. text.items ≡ meant.open_report (open_on page.now)) }
 {

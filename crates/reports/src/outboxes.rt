@@ -21,8 +21,8 @@ fn append_row(out: &mut Vec<u8>, row: &OutRow) -> Result<(), AllocError>
     Ok(())
 }
 
-/// The list of what went out: for each row, in the order given, the number right in 6, the kind and the state, with a space
-/// between each two and LF after. The one error is want of memory.
+/// The list of what went out: for each row, in the order given, the number right in 6, the kind and
+/// the state, with a space between each two and LF after. The one error is want of memory.
 pub fn outbox_list(alloc: Global, rows: &[OutRow]) -> Result<Vec<u8>, AllocError>
     ensures { IfOk result (λ text. text.items ≡ meant.outbox_list rows.now) }
 {

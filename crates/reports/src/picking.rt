@@ -100,7 +100,8 @@ fn append_held(out: &mut Vec<u8>, reserved: &[Goods], item: &[u8]) -> Result<(),
     Ok(())
 }
 
-/// How much is short of a line of an order with these reservations: what is ordered, less what is reserved of its item.
+/// How much is short of a line of an order with these reservations: what is ordered, less what is
+/// reserved of its item.
 pub(crate) fn short_of(reserved: &[Goods], line: &KnownLine) -> u32
     ensures { result ≡ meant_short_of reserved.now line.now }
 {
@@ -170,9 +171,10 @@ fn sheet_on(alloc: Global, page: &Page, number: &[u8]) -> Result<Vec<u8>, NoShee
     }
 }
 
-/// The picking sheet of an open order, by a page that has the order: its number, where it goes, and for each of its lines what is reserved, by lot
-/// bytes, and what is short. UnknownOrder (24) and OrderClosed (25) are answered exactly where the order is unknown or closed,
-/// OutOfMemory (40) where a growth was refused.
+/// The picking sheet of an open order, by a page that has the order: its number, where it goes, and
+/// for each of its lines what is reserved, by lot bytes, and what is short. UnknownOrder (24) and
+/// OrderClosed (25) are answered exactly where the order is unknown or closed, OutOfMemory (40)
+/// where a growth was refused.
 pub fn pick_list(alloc: Global, page: &Page, number: &[u8]) -> Result<Vec<u8>, NoSheet>
     // Of the history of which the page has the part that is needed.
     ensures ok { IfOk result (λ text. (h : History) → IsHeldPart (need_of_number number.now) page.now h → meant.pick_list h.events number.now ≡ Ok text.items) }

@@ -44,8 +44,9 @@ fn listed(alloc: Global, table: &Table) -> Result<Option<Vec<Who>>, AllocError>
     }
 }
 
-/// The depositors that a list names, in its order: a TOML text whose key `depositors` is an array of partners as `ZZ-ACME`;
-/// its other keys say nothing. None where it is another text. The one error is want of memory.
+/// The depositors that a list names, in its order: a TOML text whose key `depositors` is an array
+/// of partners as `ZZ-ACME`; its other keys say nothing. None where it is another text. The one
+/// error is want of memory.
 pub fn depositors(alloc: Global, text: &[u8]) -> Result<Option<Vec<Who>>, AllocError>
     ensures { IfOk result (λ found. meant.IsRead text.now (option_map (λ v. v.items) found)) }
 {

@@ -188,9 +188,10 @@ pub(crate) fn again(alloc: Global, known: &Known, act: &Act<'_>) -> Result<Decis
     Ok(Decision::Refused(Refusal::TicketUsed, Vec::new(alloc)))
 }
 
-/// What a clerk's act comes to under the rules of the day: it is refused where the depositor isn't enrolled, where its ticket is
-/// known of another act, at the first of its own refusals, and where the numbers are used up. A known act is answered with its
-/// document. Want of memory is the one error.
+/// What a clerk's act comes to under the rules of the day: it is refused where the depositor isn't
+/// enrolled, where its ticket is known of another act, at the first of its own refusals, and where
+/// the numbers are used up. A known act is answered with its document. Want of memory is the one
+/// error.
 pub(crate) fn clerk(
     alloc: Global,
     envelope: &Envelope,

@@ -24,7 +24,8 @@ fn heading<'a>(header: &Isa<'a>) -> Heading<'a>
     }
 }
 
-/// The answer to an interchange that is accepted, with what its groups are told. Want of memory is the one error.
+/// The answer to an interchange that is accepted, with what its groups are told. Want of memory is
+/// the one error.
 pub(crate) fn answer(
     alloc: Global,
     envelope: Envelope,

@@ -44,7 +44,8 @@ pub enum Command<'a> {
     Clerk {
         /// The depositor whose goods they are.
         who: Who,
-        /// The ticket, by which the act is known when it is told again: an identifier of 1 to 20 bytes.
+        /// The ticket, by which the act is known when it is told again: an identifier of 1 to 20
+        /// bytes.
         ticket: &'a [u8],
         /// The act.
         act: Act<'a>,
@@ -102,8 +103,8 @@ impl<'a> Act<'a> {
         }
     }
 
-    /// The canonical text, by which an act is the same as another: what was done, LF, and a line `ITEM,LOT,QUANTITY` with LF
-    /// for each of the sheet. Want of memory is the one error.
+    /// The canonical text, by which an act is the same as another: what was done, LF, and a line
+    /// `ITEM,LOT,QUANTITY` with LF for each of the sheet. Want of memory is the one error.
     pub fn canonical(&self, alloc: Global) -> Result<Vec<u8>, AllocError>
         ensures { IfOk result (λ text. text.items ≡ canonical (act_of self.now)) }
     {
@@ -117,7 +118,8 @@ impl<'a> Act<'a> {
     }
 }
 
-// The sender of an interchange by its header, if ISA05 and ISA06 name a partner, and the key of its entry.
+// The sender of an interchange by its header, if ISA05 and ISA06 name a partner, and the key of its
+// entry.
 fn named<'a>(header: &Isa<'a>) -> Option<(Who, Key<'a>)>
     ensures { MatchOption result (sender_named header.now ≡ None) (λ p. (sender_named header.now ≡ Some p.0) × (mark_of p.1 ≡ interchange_mark (meant_isa header.now 13))) }
 {
@@ -137,8 +139,8 @@ fn sender_of(text: &[u8]) -> Option<(Who, Key<'_>)>
     }
 }
 
-/// The depositor that a command names, and the key of the entry that it makes; None where an interchange can't be read, or
-/// its ISA05 and ISA06 can be no partner. It takes no memory.
+/// The depositor that a command names, and the key of the entry that it makes; None where an
+/// interchange can't be read, or its ISA05 and ISA06 can be no partner. It takes no memory.
 pub fn subject<'a>(command: &Command<'a>) -> Option<(Who, Key<'a>)>
     ensures { MatchOption result (meant.subject (asked command.now) ≡ None) (λ p. meant.subject (asked command.now) ≡ Some (p.0, mark_of p.1)) }
 {

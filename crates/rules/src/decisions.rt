@@ -108,10 +108,11 @@ fn perform(
     clerk(alloc, &envelope, page, known, ticket, act, rules)
 }
 
-/// What a command comes to under the rules of the day, by the page of the depositor that it names, if that is enrolled, and what
-/// is known under its key: the defined reply, with the entry that is to be recorded, which has these rules, and the changes that
-/// lead from the tables of every legal register with that page to those with the entry. The page may be a part of the whole one
-/// that has what the command names. Only want of memory keeps it from being decided.
+/// What a command comes to under the rules of the day, by the page of the depositor that it names,
+/// if that is enrolled, and what is known under its key: the defined reply, with the entry that is
+/// to be recorded, which has these rules, and the changes that lead from the tables of every legal
+/// register with that page to those with the entry. The page may be a part of the whole one that
+/// has what the command names. Only want of memory keeps it from being decided.
 pub fn decide(
     alloc: Global,
     warehouse: &Warehouse,

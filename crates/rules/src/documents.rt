@@ -354,8 +354,8 @@ fn adjustment(
     written(alloc, envelope, &document)
 }
 
-/// The text of the document of an act that is performed over a page, under the number of the next entry. Want of memory is
-/// the one error.
+/// The text of the document of an act that is performed over a page, under the number of the next
+/// entry. Want of memory is the one error.
 pub(crate) fn document(
     alloc: Global,
     envelope: &Envelope,

@@ -13,8 +13,8 @@ use std::marker::Model;
 pub struct Entry {
     /// The depositor that it is of.
     pub who: Who,
-    /// Its key among the depositor's entries: `E` of an enrolment, `X` and ISA13 of an interchange, `T` and the ticket of an
-    /// act.
+    /// Its key among the depositor's entries: `E` of an enrolment, `X` and ISA13 of an interchange,
+    /// `T` and the ticket of an act.
     pub key: Vec<u8>,
     /// Its number among the depositor's entries, from 1; 0 of an enrolment.
     pub n: u32,

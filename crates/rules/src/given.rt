@@ -26,7 +26,8 @@ enum Deed<'a> {
     Performed { ticket: &'a [u8], act: ReadAct<'a> },
 }
 
-/// A command that can be given again under the rules of its entry: the one that an entry is of, with what it borrows.
+/// A command that can be given again under the rules of its entry: the one that an entry is of,
+/// with what it borrows.
 #[derive(Drop)]
 pub struct Given<'a> {
     who: Who,
@@ -67,7 +68,8 @@ impl<'a> Given<'a> {
     }
 }
 
-// A clerk's act under a ticket, where the one is a ticket and the other the canonical text of an act under the rules.
+// A clerk's act under a ticket, where the one is a ticket and the other the canonical text of an
+// act under the rules.
 fn performed<'a>(
     alloc: Global,
     who: Who,
@@ -88,10 +90,11 @@ fn performed<'a>(
     Ok(Some(Given { who, deed, rules }))
 }
 
-/// The command that an entry is of, with the entry's rules, by its key: `E` is the depositor's enrolment, `X` and more the
-/// interchange that the body is, and `T` and a ticket the act of which the body is the canonical text. None where the entry is
-/// of no command that can be given under its rules: of another key, an enrolment with a body, a ticket that is none, or a text
-/// that is no act's under them. Want of memory is the one error.
+/// The command that an entry is of, with the entry's rules, by its key: `E` is the depositor's
+/// enrolment, `X` and more the interchange that the body is, and `T` and a ticket the act of which
+/// the body is the canonical text. None where the entry is of no command that can be given under
+/// its rules: of another key, an enrolment with a body, a ticket that is none, or a text that is no
+/// act's under them. Want of memory is the one error.
 pub fn command_of(alloc: Global, entry: &Entry) -> Result<Option<Given<'_>>, AllocError>
     ensures { IfOk result (λ o. (n : ℕ) (e : register.Entry) → entry.now ≡ written_as n e → is_entry e ≡ true
         → o ≡ Some (ruled_by e)) }

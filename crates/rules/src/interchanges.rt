@@ -47,8 +47,8 @@ fn noted(
     Ok(Decision::Refused(Refusal::Note(code), answer))
 }
 
-/// What an interchange comes to whose control number is known: the stored text where its bytes are the same, whatever else
-/// is said of them; else it is refused as a duplicate.
+/// What an interchange comes to whose control number is known: the stored text where its bytes are
+/// the same, whatever else is said of them; else it is refused as a duplicate.
 pub(crate) fn again(
     alloc: Global,
     warehouse: &Warehouse,
@@ -99,7 +99,8 @@ fn entry(
     })
 }
 
-// What an interchange comes to that no condition halts: it is accepted under the next number, if there is one.
+// What an interchange comes to that no condition halts: it is accepted under the next number, if
+// there is one.
 fn accepted(
     alloc: Global,
     envelope: Envelope,
@@ -227,9 +228,10 @@ fn readable(
     }
 }
 
-/// What an interchange comes to under the rules of the day: it is refused where it can't be read; where its sender isn't
-/// enrolled; where its control number is known of other bytes; at the first condition on its header and its segments that holds;
-/// where the numbers are used up. A known interchange is answered with what was sent for it. Want of memory is the one error.
+/// What an interchange comes to under the rules of the day: it is refused where it can't be read;
+/// where its sender isn't enrolled; where its control number is known of other bytes; at the first
+/// condition on its header and its segments that holds; where the numbers are used up. A known
+/// interchange is answered with what was sent for it. Want of memory is the one error.
 pub(crate) fn interchange(
     alloc: Global,
     warehouse: &Warehouse,

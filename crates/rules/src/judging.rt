@@ -139,8 +139,8 @@ fn settled<'a>(alloc: Global, page: &Page, set: &Checked<'a>) -> Result<Verdict<
     }
 }
 
-/// What a set of a kind comes to by the rules over a page: it passes, or is rejected for its first segment in error. Want of
-/// memory is the one error.
+/// What a set of a kind comes to by the rules over a page: it passes, or is rejected for its first
+/// segment in error. Want of memory is the one error.
 pub(crate) fn judged<'a>(
     alloc: Global,
     page: &Page,

@@ -1,5 +1,5 @@
-//! The rules of the house: what each command comes to, given a depositor's page and the entry that is known under the
-//! command's key. No store and no clock are asked here.
+//! The rules of the house: what each command comes to, given a depositor's page and the entry that
+//! is known under the command's key. No store and no clock are asked here.
 #![tactic(auto)]
 
 mod acts;

@@ -7,7 +7,8 @@ use sets_in::Goods;
 use std::alloc::{AllocError, Global};
 use std::marker::Model;
 
-/// A name that a command says: an item, the shipment number of an advice or the number of an order, by its bytes.
+/// A name that a command says: an item, the shipment number of an advice or the number of an order,
+/// by its bytes.
 #[derive(Drop)]
 pub struct Name {
     bytes: Vec<u8>,
@@ -37,8 +38,8 @@ impl Name {
     }
 }
 
-/// What is named of a depositor's page: items, shipment numbers of advices, numbers of orders and numbers of documents, as
-/// often as they are named.
+/// What is named of a depositor's page: items, shipment numbers of advices, numbers of orders and
+/// numbers of documents, as often as they are named.
 #[derive(Drop)]
 pub struct Need {
     /// Items, whose lots are needed.

@@ -11,8 +11,8 @@ use segments::{Delims, Segment, cut};
 use std::alloc::{AllocError, Global};
 use stock::Sheet;
 
-// Puts after a need what a segment names: W04 and W01 an item, W06 a shipment number, W05 the number of an order, AK1 that
-// of a document.
+// Puts after a need what a segment names: W04 and W01 an item, W06 a shipment number, W05 the
+// number of an order, AK1 that of a document.
 fn with_segment(alloc: Global, need: Need, segment: &Segment<'_>) -> Result<Need, AllocError>
     ensures { IfOk result (λ all. all ≡ meant.together need (meant.need_of_segment segment.now.elements)) }
 {
@@ -89,8 +89,9 @@ fn of_act(alloc: Global, act: &Act<'_>) -> Result<Need, AllocError>
     Ok(need)
 }
 
-/// What a command needs of its depositor's page: all that it names, whether it passes or not. With the part of the page that
-/// has this, the decision is that with the whole page. Want of memory is the one error.
+/// What a command needs of its depositor's page: all that it names, whether it passes or not. With
+/// the part of the page that has this, the decision is that with the whole page. Want of memory is
+/// the one error.
 pub fn need(alloc: Global, command: &Command<'_>) -> Result<Need, AllocError>
     ensures { IfOk result (λ need. need ≡ meant.need_of (asked command.now)) }
 {

@@ -161,7 +161,8 @@ fn likely<'a>(
     Ok(made(head, lines(alloc, rest)?, rules))
 }
 
-/// The act under the rules of which the text is the canonical one, if there is one. Want of memory is the one error.
+/// The act under the rules of which the text is the canonical one, if there is one. Want of memory
+/// is the one error.
 pub(crate) fn read<'a>(
     alloc: Global,
     text: &'a [u8],

@@ -116,7 +116,8 @@ impl Refusal {
         }
     }
 
-    /// Its name, a note's with the code in three digits, as `Note(006)`. Want of memory is the one error.
+    /// Its name, a note's with the code in three digits, as `Note(006)`. Want of memory is the one
+    /// error.
     pub fn name(&self, alloc: Global) -> Result<Vec<u8>, AllocError>
         ensures { IfOk result (λ name. name.items ≡ meant.refusal_name (refusal_of self.now)) }
     {

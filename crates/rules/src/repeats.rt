@@ -37,8 +37,9 @@ fn interchange_again(
     }
 }
 
-/// What a command of an enrolled depositor comes to whose key is known: the text that went out then, where it says the same, and else
-/// its refusal, as `decide` has it. It looks at no page of the depositor. Only want of memory keeps it from being decided.
+/// What a command of an enrolled depositor comes to whose key is known: the text that went out
+/// then, where it says the same, and else its refusal, as `decide` has it. It looks at no page of
+/// the depositor. Only want of memory keeps it from being decided.
 pub fn decide_again(
     alloc: Global,
     warehouse: &Warehouse,

@@ -285,8 +285,9 @@ fn numbered(
     })
 }
 
-/// What an entry of the register came to by its own rules, over the page that its depositor had before it; an enrolment has none
-/// before it. An entry that no command can have made adds nothing but its number. Want of memory is the one error.
+/// What an entry of the register came to by its own rules, over the page that its depositor had
+/// before it; an enrolment has none before it. An entry that no command can have made adds nothing
+/// but its number. Want of memory is the one error.
 pub fn replay(
     alloc: Global,
     warehouse: &Warehouse,

@@ -1,4 +1,5 @@
-//! What the sets of a group, and the groups of an interchange, come to one after another, by the rules of their entry.
+//! What the sets of a group, and the groups of an interchange, come to one after another, by the
+//! rules of their entry.
 ghost use Rattle.std.specs.Prelude.{◌≡◌, ◌≤◌, ◌<◌, ◌+◌, ◌++◌, [], ◌∷◌, true, Some, None, IfOk, OnOk, length, sum_by};
 ghost use Rattle.std.specs.List.{AllByRecursion};
 ghost use Rattle.profile.specs.Limits.{most_sets};
@@ -215,8 +216,8 @@ fn tell<'a>(
     Ok(())
 }
 
-/// Groups that were taken, one after another: the page after them, the rows that changed, and what is told of each that is
-/// answered.
+/// Groups that were taken, one after another: the page after them, the rows that changed, and what
+/// is told of each that is answered.
 #[derive(Drop)]
 pub(crate) struct TakenGroups<'a> {
     /// The page.

@@ -1,5 +1,5 @@
-//! The book in a file, and its log beside it. A book is opened and closed over any store, and a database closed over any disk, since what
-//! owns a store on disk is dear to prove.
+//! The book in a file, and its log beside it. A book is opened and closed over any store, and a
+//! database closed over any disk, since what owns a store on disk is dear to prove.
 
 ghost use Rattle.std.specs.Prelude.{◌≡◌, ◌≢◌, ◌⊎◌, [], List, true, false, IfOk, IfErr, IsErrOf};
 ghost use Rattle.profile.specs.declared.rules.Rules.{Rules};
@@ -21,8 +21,9 @@ use sqlite_disk::Disk;
 use std::alloc::Global;
 use store::{Fault, Warehouse};
 
-/// The fault of a file that can't be opened or closed as a database. One that holds anything else, or is damaged, is not this
-/// book; one that is in use, or can't be read or written, is a device that failed.
+/// The fault of a file that can't be opened or closed as a database. One that holds anything else,
+/// or is damaged, is not this book; one that is in use, or can't be read or written, is a device
+/// that failed.
 pub fn fault(error: &Error) -> Fault
     ensures told { result ≡ meant.fault_of error.now }
     ensures named { (result ≡ Fault.NotThisBook) ⊎ ((result ≡ Fault.OutOfMemory) ⊎ (result ≡ Fault.Device)) }
@@ -43,8 +44,8 @@ pub fn is_in_use(error: &Error) -> bool
     matches!(error, Error::SqliteFailure(ErrorCode::DatabaseBusy))
 }
 
-/// Closes a database: its log is copied into the file. Where that fails (40, 43 or 44), the log still holds what isn't copied, and
-/// the next opening finds it there.
+/// Closes a database: its log is copied into the file. Where that fails (40, 43 or 44), the log
+/// still holds what isn't copied, and the next opening finds it there.
 pub fn disconnect<D: Disk + Drop>(database: Connection<FileStore<D>>) -> Result<(), CommandError> {
     match database.close() {
         Ok(()) => Ok(()),
@@ -52,8 +53,9 @@ pub fn disconnect<D: Disk + Drop>(database: Connection<FileStore<D>>) -> Result<
     }
 }
 
-/// Makes the book of a warehouse in a database that is in no transaction. NotThisBook (43) where the database holds anything already, a
-/// book or tables of somebody else, which stays as it is. What is left at a fault can be given to `make` again.
+/// Makes the book of a warehouse in a database that is in no transaction. NotThisBook (43) where
+/// the database holds anything already, a book or tables of somebody else, which stays as it is.
+/// What is left at a fault can be given to `make` again.
 pub fn make<S: Alter + Drop>(
     alloc: Global,
     database: Connection<S>,
@@ -80,9 +82,10 @@ pub fn make<S: Alter + Drop>(
     }
 }
 
-/// Opens the book in a database that is in no transaction; one of version 1 is carried over to version 2 first, and of its entries
-/// `told` is handed how many were gone over of how many. NotThisBook (43) where its tables are no book; Store (41) where they
-/// can't be read, or a book can't be carried over.
+/// Opens the book in a database that is in no transaction; one of version 1 is carried over to
+/// version 2 first, and of its entries `told` is handed how many were gone over of how many.
+/// NotThisBook (43) where its tables are no book; Store (41) where they can't be read, or a book
+/// can't be carried over.
 pub fn open<S: Alter + Drop, T: FnMut(u64, u64)>(
     alloc: Global,
     database: Connection<S>,
@@ -106,9 +109,10 @@ pub fn open<S: Alter + Drop, T: FnMut(u64, u64)>(
     }
 }
 
-/// Opens the book in a database that is in no transaction, to check it whole: its tables are read and tested against their schema anew
-/// first, so that all that `Book::verify` asks of them is known. `told` is that of `open`. Beyond the faults of `open` it is Device (44) where the
-/// file can't be read.
+/// Opens the book in a database that is in no transaction, to check it whole: its tables are read
+/// and tested against their schema anew first, so that all that `Book::verify` asks of them is
+/// known. `told` is that of `open`. Beyond the faults of `open` it is Device (44) where the file
+/// can't be read.
 pub fn open_anew<S: Alter + Drop, T: FnMut(u64, u64)>(
     alloc: Global,
     database: Connection<S>,

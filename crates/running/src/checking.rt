@@ -1,4 +1,5 @@
-//! A book in a database checked whole: its tables are read anew, and compared with what its register gives.
+//! A book in a database checked whole: its tables are read anew, and compared with what its
+//! register gives.
 ghost use Rattle.std.specs.Prelude.{◌≡◌, List, false, length, IfOk, IsTrue};
 ghost use Rattle.profile.specs.Register.{Entry};
 ghost use Rattle.sqlite.specs.Held.{state};
@@ -65,8 +66,9 @@ fn check<S: Alter + Drop, W: io::Write, E: io::Write>(
     Ok(ExitStatus::Done)
 }
 
-/// Reads the tables of the book in a database anew, says how many entries it has where every table is what its register gives, and closes it.
-/// NotThisBook (43) where one isn't, or the tables are no book; the other faults are those of an opening and of a query.
+/// Reads the tables of the book in a database anew, says how many entries it has where every table
+/// is what its register gives, and closes it. NotThisBook (43) where one isn't, or the tables are
+/// no book; the other faults are those of an opening and of a query.
 pub(crate) fn check_over<S: Alter + Drop, W: io::Write, E: io::Write>(
     alloc: Global,
     database: Connection<S>,

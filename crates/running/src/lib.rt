@@ -1,5 +1,6 @@
-//! A line of words run: over the book in its file, which is made, opened and closed for it, or as a script over a book in memory. The
-//! program calls `program`, which hands its words to `command`, and has nothing else.
+//! A line of words run: over the book in its file, which is made, opened and closed for it, or as a
+//! script over a book in memory. The program calls `program`, which hands its words to `command`,
+//! and has nothing else.
 #![tactic(auto)]
 
 mod book_files;

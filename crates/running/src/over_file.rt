@@ -1,5 +1,5 @@
-//! What a line says, done over the book in a file: words are tested and files read before the book is opened, and it is closed
-//! before the line is done.
+//! What a line says, done over the book in a file: words are tested and files read before the book
+//! is opened, and it is closed before the line is done.
 ghost use Rattle.std.specs.Prelude.{◌≡◌, ◌≤◌, false, IfOk};
 ghost use Rattle.sqlite.specs.Held.{state};
 ghost use Rattle.sqlite.specs.State.{HasCleanDisk};
@@ -35,7 +35,8 @@ pub(crate) enum Job<'a> {
     Look(Asked<'a>),
     // do what the lines of a text ask for
     Play(String),
-    // serve it over HTTP, from a first moment on, and by the clock or not, while its name leads to this file
+    // serve it over HTTP, from a first moment on, and by the clock or not, while its name leads to
+    // this file
     Listen(Service, Moment, bool, ServedFile<'a>),
     // compare every table with what the register gives
     Check,
@@ -64,7 +65,8 @@ fn work<K: Keeper, W: io::Write, E: io::Write>(
     }
 }
 
-// Opens the book in a database for a job; of a book of version 1 `told` is handed how many entries are carried over of how many.
+// Opens the book in a database for a job; of a book of version 1 `told` is handed how many entries
+// are carried over of how many.
 fn open_for<S: Alter + Drop, T: FnMut(u64, u64)>(
     alloc: Global,
     database: Connection<S>,
@@ -82,8 +84,8 @@ fn open_for<S: Alter + Drop, T: FnMut(u64, u64)>(
     }
 }
 
-/// Opens the book in a database for a job, and says to somebody who watches how far a book of version 1 is carried over. To be checked, its
-/// tables are read anew.
+/// Opens the book in a database for a job, and says to somebody who watches how far a book of
+/// version 1 is carried over. To be checked, its tables are read anew.
 pub(crate) fn open_watched<S: Alter + Drop, E: io::Write>(
     alloc: Global,
     database: Connection<S>,
@@ -132,7 +134,8 @@ fn explain<K: Keeper, E: io::Write>(alloc: Global, book: &mut K, job: &Job<'_>, 
     }
 }
 
-// Opens the book in a database, or makes it, does a job over it, and closes it; or checks it whole, which isn't for a book of any kind. At a fault the database is let go as it is: its log has all
+// Opens the book in a database, or makes it, does a job over it, and closes it; or checks it whole,
+// which isn't for a book of any kind. At a fault the database is let go as it is: its log has all
 // that was answered, and nothing more is written to a store that has just failed.
 fn work_over<S: Alter + Drop, W: io::Write, E: io::Write>(
     rt: &HostRuntime,
@@ -177,7 +180,8 @@ const WAIT: u16 = 5;
 // How often a book that is in use is looked at, in a second.
 const LOOKS_A_SECOND: u32 = 20;
 
-// How often a book is looked at while it is in use, of a line that says for how many seconds that is.
+// How often a book is looked at while it is in use, of a line that says for how many seconds that
+// is.
 fn looks_of(wait: Option<u16>) -> u32
     ensures { 1 ≤ result }
 {
@@ -188,7 +192,8 @@ fn looks_of(wait: Option<u16>) -> u32
     1 + u32::from(seconds) * LOOKS_A_SECOND
 }
 
-// Does a job over the book in a file, of which it is known whether it is there. This function alone names a database on disk.
+// Does a job over the book in a file, of which it is known whether it is there. This function alone
+// names a database on disk.
 fn over<W: io::Write, E: io::Write>(
     rt: &HostRuntime,
     file: &str,
@@ -223,8 +228,9 @@ fn about_job(alloc: Global, file: &str, job: &Job<'_>, stop: CommandError) -> Co
     }
 }
 
-// Does a job over the book in a file. NotThisBook (43) where the file holds no database; Device (44) where it can't be made, read or
-// written, is missing and isn't to be made, or is still in use after it was waited for.
+// Does a job over the book in a file. NotThisBook (43) where the file holds no database; Device
+// (44) where it can't be made, read or written, is missing and isn't to be made, or is still in use
+// after it was waited for.
 fn over_found<W: io::Write, E: io::Write>(
     rt: &HostRuntime,
     file: &str,
@@ -246,7 +252,8 @@ fn over_found<W: io::Write, E: io::Write>(
     }
 }
 
-// The file that is to be served. It is looked at before it is opened: so one that is replaced in between is noticed too.
+// The file that is to be served. It is looked at before it is opened: so one that is replaced in
+// between is noticed too.
 fn found<'a, R: Files + AllocGlobal>(
     rt: &R,
     file: &'a str,
@@ -288,8 +295,9 @@ fn job_of<'a, R: Files + Clock + AllocGlobal>(
     }
 }
 
-/// Does over the book in a file what a line says; a book that is in use is waited for, 5 seconds where the line doesn't say how long. A
-/// clock that can't be used is told before the book is opened.
+/// Does over the book in a file what a line says; a book that is in use is waited for, 5 seconds
+/// where the line doesn't say how long. A clock that can't be used is told before the book is
+/// opened.
 pub fn run_over_file<'a, W: io::Write, E: io::Write>(
     rt: &HostRuntime,
     file: &'a str,

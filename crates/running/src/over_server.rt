@@ -5,8 +5,8 @@ use errands::{Listening, Network, carry_out, errand_of, tell_reason_there};
 use std::io;
 use std::net::SocketAddr;
 
-/// Has a running server do what a line says, and prints what it prints over the book in its file. Words are tested and files read before
-/// the server is asked.
+/// Has a running server do what a line says, and prints what it prints over the book in its file.
+/// Words are tested and files read before the server is asked.
 pub fn run_over_server<W: io::Write, E: io::Write>(
     rt: &HostRuntime,
     server: &SocketAddr,

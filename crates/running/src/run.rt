@@ -49,7 +49,8 @@ fn show<W: io::Write>(out: &mut W, text: &str) -> Result<ExitStatus, CommandErro
     Ok(ExitStatus::Done)
 }
 
-// Runs one line of words: `help` is `--help`, `help count` is `count --help`, and `--version` shows the version.
+// Runs one line of words: `help` is `--help`, `help count` is `count --help`, and `--version` shows
+// the version.
 fn run_any<W: io::Write, E: io::Write>(
     rt: &HostRuntime,
     words: &[&str],
@@ -73,9 +74,10 @@ fn asks_why<'w, 'a>(words: &'w [&'a str]) -> (bool, &'w [&'a str]) {
     }
 }
 
-/// Runs one line of words, without the program's name: its output goes to `out`, its refusals and faults to `err`. Where the last word
-/// is `--explain`, and on a terminal, what a fault or a refused sheet is about is told after it. The exit status is 0 where all was
-/// done or help was shown, 1 where something was refused, 2 where the words can't be read, 3 at a fault.
+/// Runs one line of words, without the program's name: its output goes to `out`, its refusals and
+/// faults to `err`. Where the last word is `--explain`, and on a terminal, what a fault or a
+/// refused sheet is about is told after it. The exit status is 0 where all was done or help was
+/// shown, 1 where something was refused, 2 where the words can't be read, 3 at a fault.
 pub fn command<W: io::Write, E: io::Write>(
     rt: &HostRuntime,
     words: &[&str],

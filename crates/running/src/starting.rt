@@ -26,7 +26,8 @@ fn run<W: io::Write, E: io::Write>(
     Ok(command(rt, &words, out, err))
 }
 
-/// Runs the line of words that the program was started with, as `command` does. A word that isn't UTF-8 text is a usage fault.
+/// Runs the line of words that the program was started with, as `command` does. A word that isn't
+/// UTF-8 text is a usage fault.
 pub fn program<W: io::Write, E: io::Write>(rt: &HostRuntime, out: &mut W, err: &mut E) -> u8 {
     match run(rt, out, err) {
         Ok(status) => status,

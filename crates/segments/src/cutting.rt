@@ -7,7 +7,8 @@ ghost use Rattle.profile.specs.Cut as meant;
 use crate::delims::Delims;
 use std::marker::Model;
 
-/// A segment: a slice of the text that it was cut from, without its terminator, and the delimiters of that text.
+/// A segment: a slice of the text that it was cut from, without its terminator, and the delimiters
+/// of that text.
 #[derive(Drop)]
 pub struct Segment<'a> {
     text: &'a [u8],
@@ -109,7 +110,8 @@ fn same(a: &[u8], b: &[u8]) -> bool
 }
 
 impl<'a> Segment<'a> {
-    /// The element at a place, the id at 0; empty where there is none. A trailing separator makes an empty element.
+    /// The element at a place, the id at 0; empty where there is none. A trailing separator makes
+    /// an empty element.
     pub fn element(&self, n: usize) -> &'a [u8]
         ensures { result.now ≡ meant.element self.now.elements n }
     {

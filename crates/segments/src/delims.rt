@@ -5,8 +5,8 @@ ghost use Rattle.profile.specs.Header.{are_delimiters, delims_in, is_delimiter};
 use profile::{COMPONENT_AT, ISA_BYTES, SEPARATOR_AT, TERMINATOR_AT};
 use std::marker::Model;
 
-/// The three delimiters of an interchange, as ISA names them by using them: the element separator after its id, the
-/// component separator as ISA16, and the segment terminator after that.
+/// The three delimiters of an interchange, as ISA names them by using them: the element separator
+/// after its id, the component separator as ISA16, and the segment terminator after that.
 #[derive(Clone, Copy)]
 pub struct Delims {
     separator: u8,
@@ -24,7 +24,8 @@ impl Model for Delims {
     ghost inverse = { λ d. record { separator = d.separator; component = d.component; terminator = d.terminator } };
 }
 
-// Whether the byte may be a delimiter: 1C to 1F (hexadecimal), or punctuation other than `-` and `.`.
+// Whether the byte may be a delimiter: 1C to 1F (hexadecimal), or punctuation other than `-` and
+// `.`.
 fn is_allowed(b: u8) -> bool
     ensures { result ≡ is_delimiter b }
 {
@@ -32,8 +33,8 @@ fn is_allowed(b: u8) -> bool
 }
 
 impl Delims {
-    /// The bytes at offsets 3, 104 and 105 of the text, where it has 106 bytes and the three are allowed and different;
-    /// else None. The terminator may also be LF.
+    /// The bytes at offsets 3, 104 and 105 of the text, where it has 106 bytes and the three are
+    /// allowed and different; else None. The terminator may also be LF.
     pub fn of(text: &[u8]) -> Option<Delims>
         ensures { result ≡ delims_in text.now }
     {

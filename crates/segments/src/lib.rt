@@ -1,5 +1,5 @@
-//! Segments of an X12 text, cut from it and written into it, and the small values that their elements hold: delimiters,
-//! numbers, moments, identifiers and partners.
+//! Segments of an X12 text, cut from it and written into it, and the small values that their
+//! elements hold: delimiters, numbers, moments, identifiers and partners.
 #![tactic(auto)]
 
 mod begin;

@@ -35,8 +35,8 @@ pub fn is_day(year: u32, month: u32, day: u32) -> bool
 }
 
 impl Moment {
-    /// The minute with these parts, by the Gregorian calendar; None where the year isn't one of 2000 to 2099, or there
-    /// is no such day, hour or minute.
+    /// The minute with these parts, by the Gregorian calendar; None where the year isn't one of
+    /// 2000 to 2099, or there is no such day, hour or minute.
     pub fn new(year: u16, month: u8, day: u8, hour: u8, minute: u8) -> Option<Moment>
         ensures { let m : Parts = record { year = year; month = month; day = day; hour = hour; minute = minute } in
             MatchOption result (is_moment m ≡ false) (λ r. (is_moment m ≡ true) × (r ≡ m)) }

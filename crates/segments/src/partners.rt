@@ -7,8 +7,8 @@ use crate::idents::{all_alphanumeric, is_ident};
 use profile::{LEAST_PARTNER, MOST_PARTNER, QUALIFIER_BYTES};
 use std::marker::Model;
 
-/// A trading partner, as two elements of ISA name it: a qualifier of two of A to Z and 0 to 9, and an id of 2 to 15
-/// identifier bytes, which is kept filled up with spaces.
+/// A trading partner, as two elements of ISA name it: a qualifier of two of A to Z and 0 to 9, and
+/// an id of 2 to 15 identifier bytes, which is kept filled up with spaces.
 #[derive(Clone, Copy)]
 pub struct Who {
     qualifier: [u8; QUALIFIER_BYTES],
@@ -30,7 +30,8 @@ impl Model for Who {
 }
 
 impl Who {
-    /// The partner with this qualifier and id, without the spaces that fill ISA06; None where they name none.
+    /// The partner with this qualifier and id, without the spaces that fill ISA06; None where they
+    /// name none.
     pub fn of(qualifier: &[u8], id: &[u8]) -> Option<Who>
         ensures { let w : Partner = record { qualifier = qualifier.now; id = id.now } in result ≡ (if is_partner w then Some w else None) }
     {

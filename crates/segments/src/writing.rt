@@ -54,7 +54,8 @@ fn append(out: &mut Vec<u8>, delims: Delims, elements: &[&[u8]]) -> Result<(), A
     Ok(())
 }
 
-/// Appends a segment: its elements, and the terminator. After an error the vector holds what it held.
+/// Appends a segment: its elements, and the terminator. After an error the vector holds what it
+/// held.
 pub fn write_segment(
     out: &mut Vec<u8>,
     delims: Delims,

@@ -79,7 +79,8 @@ fn address_of(alloc: Global, n1: &Segment<'_>, after: &[Segment<'_>]) -> Result<
     })
 }
 
-/// Where the set says that the goods go: the first N1 with code ST, with the N3 and N4 directly after it.
+/// Where the set says that the goods go: the first N1 with code ST, with the N3 and N4 directly
+/// after it.
 pub(crate) fn ship_to(
     alloc: Global,
     segments: &[Segment<'_>],

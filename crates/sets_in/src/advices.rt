@@ -104,8 +104,8 @@ fn told(alloc: Global, segments: &[Segment<'_>]) -> Result<Advice, AllocError>
     })
 }
 
-/// What an advice that was judged says: its numbers, its lines in order, and its total, with their positions. The one
-/// error is want of memory.
+/// What an advice that was judged says: its numbers, its lines in order, and its total, with their
+/// positions. The one error is want of memory.
 pub fn advice(alloc: Global, set: &Checked<'_>) -> Result<Advice, AllocError>
     requires { set.now.kind ≡ kinds.ShipmentAdvice }
     ensures value { IfOk result (λ a. a ≡ meant.advice_of (segments_of set.now.pieces)) }

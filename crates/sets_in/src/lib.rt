@@ -1,5 +1,5 @@
-//! Sets that were judged and have no fault, as values of their own: a shipment advice (943), a shipping order (940) and
-//! a functional acknowledgment (997).
+//! Sets that were judged and have no fault, as values of their own: a shipment advice (943), a
+//! shipping order (940) and a functional acknowledgment (997).
 #![tactic(auto)]
 
 mod acks;

@@ -25,7 +25,8 @@ impl Model for Goods {
 pub struct AdviceLine {
     /// What is advised.
     pub line: Goods,
-    /// The day on which the lot expires, eight digits CCYYMMDD (element 4 of the N9 after its W04), if it is given.
+    /// The day on which the lot expires, eight digits CCYYMMDD (element 4 of the N9 after its W04),
+    /// if it is given.
     pub expiry: Option<Vec<u8>>,
     /// The position of its W04 in the set, ST at 1; its N9 stands directly after.
     pub position: u32,

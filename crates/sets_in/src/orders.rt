@@ -98,8 +98,8 @@ fn told(alloc: Global, segments: &[Segment<'_>]) -> Result<Order, AllocError>
     })
 }
 
-/// What an order that was judged says: its number, where it goes, its lines in order, and its total, with their
-/// positions. The one error is want of memory.
+/// What an order that was judged says: its number, where it goes, its lines in order, and its
+/// total, with their positions. The one error is want of memory.
 pub fn order(alloc: Global, set: &Checked<'_>) -> Result<Order, AllocError>
     requires { set.now.kind ≡ kinds.ShippingOrder }
     ensures value { IfOk result (λ o. o ≡ meant.order_of (segments_of set.now.pieces)) }

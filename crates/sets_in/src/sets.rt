@@ -61,8 +61,8 @@ impl Advice {
     }
 }
 
-/// Where an order goes: the first N1 of its set with code ST, and the N3 and N4 that belong to it. A text that isn't
-/// there is empty.
+/// Where an order goes: the first N1 of its set with code ST, and the N3 and N4 that belong to it.
+/// A text that isn't there is empty.
 #[derive(Clone, Debug, Drop)]
 pub struct Address {
     /// The name (N102).
@@ -71,7 +71,8 @@ pub struct Address {
     pub one: Vec<u8>,
     /// The second line of the street (N302).
     pub two: Vec<u8>,
-    /// City, state and postal code (N401 to N403): those that aren't empty, with a space between each two.
+    /// City, state and postal code (N401 to N403): those that aren't empty, with a space between
+    /// each two.
     pub place: Vec<u8>,
 }
 

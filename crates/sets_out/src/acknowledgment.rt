@@ -173,8 +173,9 @@ pub(crate) fn append_997(
     Ok(body + 2)
 }
 
-/// Appends 997 Functional Acknowledgment of a group, from ST to SE; `place` is its place in its own group, from 1, which
-/// ST02 and SE02 have in four digits. After an error, AllocError, the vector holds what it held.
+/// Appends 997 Functional Acknowledgment of a group, from ST to SE; `place` is its place in its own
+/// group, from 1, which ST02 and SE02 have in four digits. After an error, AllocError, the vector
+/// holds what it held.
 pub fn write_997(
     out: &mut Vec<u8>,
     delims: Delims,

@@ -93,8 +93,8 @@ fn write_set(
     }
 }
 
-/// Appends 944 Warehouse Stock Transfer Receipt Advice, from ST to SE, under its entry's moment and number. After an
-/// error, AllocError, the vector holds what it held.
+/// Appends 944 Warehouse Stock Transfer Receipt Advice, from ST to SE, under its entry's moment and
+/// number. After an error, AllocError, the vector holds what it held.
 pub fn write_944(
     out: &mut Vec<u8>,
     moment: &Moment,
@@ -108,8 +108,8 @@ pub fn write_944(
     write_set(out, moment, number, &Document::Received(receipt))
 }
 
-/// Appends 945 Warehouse Shipping Advice, from ST to SE, under its entry's moment and number. After an error,
-/// AllocError, the vector holds what it held.
+/// Appends 945 Warehouse Shipping Advice, from ST to SE, under its entry's moment and number. After
+/// an error, AllocError, the vector holds what it held.
 pub fn write_945(
     out: &mut Vec<u8>,
     moment: &Moment,
@@ -123,8 +123,9 @@ pub fn write_945(
     write_set(out, moment, number, &Document::Shipped(shipment))
 }
 
-/// Appends 947 Warehouse Inventory Adjustment Advice, from ST to SE, under its entry's moment and number: each of the
-/// lines that differs, as they stand. After an error, AllocError, the vector holds what it held.
+/// Appends 947 Warehouse Inventory Adjustment Advice, from ST to SE, under its entry's moment and
+/// number: each of the lines that differs, as they stand. After an error, AllocError, the vector
+/// holds what it held.
 pub fn write_947(
     out: &mut Vec<u8>,
     moment: &Moment,

@@ -54,8 +54,9 @@ pub(crate) fn append_ta1(
     }
 }
 
-/// Appends TA1 Interchange Acknowledgment of a received interchange: accepted, or rejected with a note code (TA105),
-/// which is written in three digits. After an error, AllocError, the vector holds what it held.
+/// Appends TA1 Interchange Acknowledgment of a received interchange: accepted, or rejected with a
+/// note code (TA105), which is written in three digits. After an error, AllocError, the vector
+/// holds what it held.
 pub fn write_ta1(
     out: &mut Vec<u8>,
     delims: Delims,

@@ -22,12 +22,13 @@ pub struct Answer<'a> {
     pub envelope: Envelope,
     /// What is repeated of the received ISA; a TA1 stands in the answer where it asks for one.
     pub heading: &'a Heading<'a>,
-    /// What each group is told that isn't one of acknowledgments, in the order received: a 997 for each, in one group.
+    /// What each group is told that isn't one of acknowledgments, in the order received: a 997 for
+    /// each, in one group.
     pub told: &'a [ToldGroup<'a>],
 }
 
-/// The interchange that refuses one: a TA1 with a note code, under control number 000000000, to ISA05 and ISA06 as they
-/// were received.
+/// The interchange that refuses one: a TA1 with a note code, under control number 000000000, to
+/// ISA05 and ISA06 as they were received.
 #[derive(Drop)]
 pub struct NoteAnswer<'a> {
     /// The delimiters that were received.
@@ -202,7 +203,8 @@ fn append_interchange(out: &mut Vec<u8>, interchange: &Outgoing<'_>) -> Result<(
     }
 }
 
-/// Appends an interchange, from ISA to IEA. After an error, AllocError, the vector holds what it held.
+/// Appends an interchange, from ISA to IEA. After an error, AllocError, the vector holds what it
+/// held.
 pub fn write_interchange(out: &mut Vec<u8>, interchange: &Outgoing<'_>) -> Result<(), AllocError>
     ensures ok { OnOk result (out.new.items ≡ out.old.items ++ interchange_text interchange.now) }
     ensures err { OnErr result (out.new.items ≡ out.old.items) }

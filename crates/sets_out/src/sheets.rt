@@ -27,7 +27,8 @@ pub struct Receipt<'a> {
     pub order: &'a [u8],
     /// The shipment of the advice, W0604.
     pub shipment: &'a [u8],
-    /// Each pair of item and lot that was advised or counted, with what was counted: 0 where nothing was.
+    /// Each pair of item and lot that was advised or counted, with what was counted: 0 where
+    /// nothing was.
     pub lines: &'a [CountedLine<'a>],
     /// The sum of what was counted.
     pub counted: u64,

@@ -21,7 +21,8 @@ const TOO_MANY_LINES: u8 = 33;
 pub struct BadLine {
     /// The line, from 1.
     pub line: u64,
-    /// What is wrong there, or what should stand there: after the item and the lot, where both can be read.
+    /// What is wrong there, or what should stand there: after the item and the lot, where both can
+    /// be read.
     pub why: String,
 }
 
@@ -84,7 +85,8 @@ fn told_of(alloc: Global, row: &ByteRecord, why: &str) -> Result<String, AllocEr
     [item, " ", lot, ": ", why].concat(alloc)
 }
 
-// The line of a record. The reader tells where it began to read it, which is before the empty lines that it passes over.
+// The line of a record. The reader tells where it began to read it, which is before the empty lines
+// that it passes over.
 fn line_of(text: &[u8], row: &ByteRecord) -> u64 {
     let Some(position) = row.position() else {
         return 1;
@@ -119,8 +121,8 @@ fn bad_in(
     }
 }
 
-/// The first line of a sheet's text for which it is refused by this number (30 to 33); None where there is none. The one error is
-/// want of memory.
+/// The first line of a sheet's text for which it is refused by this number (30 to 33); None where
+/// there is none. The one error is want of memory.
 pub fn first_bad(
     alloc: Global,
     kind: SheetKind,
@@ -139,8 +141,8 @@ pub fn first_bad(
     Ok(None)
 }
 
-/// The line of a sheet's text, from 1, at which an item and a lot stand first; None where they stand nowhere. The one error is want of
-/// memory.
+/// The line of a sheet's text, from 1, at which an item and a lot stand first; None where they
+/// stand nowhere. The one error is want of memory.
 pub fn line_of_pair(
     alloc: Global,
     text: &[u8],

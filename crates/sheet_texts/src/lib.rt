@@ -1,4 +1,5 @@
-//! Sheets as texts of CSV: their records, the sheet that these make, and where a text that makes none is wrong.
+//! Sheets as texts of CSV: their records, the sheet that these make, and where a text that makes
+//! none is wrong.
 #![tactic(auto)]
 
 mod bad;

@@ -8,7 +8,8 @@ use csv::{ByteRecord, ReaderBuilder};
 use profile::MOST_LINES_TWO;
 use std::alloc::{AllocError, Global};
 
-/// The first records of a text that has no header: all, or one more than a sheet may have. The one error is want of memory.
+/// The first records of a text that has no header: all, or one more than a sheet may have. The one
+/// error is want of memory.
 pub(crate) fn first_records(alloc: Global, text: &[u8]) -> Result<Vec<ByteRecord>, AllocError>
     ensures { IfOk result (λ rows. map fields_of rows.items ≡ take (most_lines Two + 1) (records_of text.now)) }
 {
@@ -18,7 +19,8 @@ pub(crate) fn first_records(alloc: Global, text: &[u8]) -> Result<Vec<ByteRecord
         .from_reader(alloc, text);
     let mut rows = Vec::new(alloc);
     for row in reader.into_byte_records() {
-        // A text in memory can be read, and records may have any number of fields: what is wanting is memory.
+        // A text in memory can be read, and records may have any number of fields: what is wanting
+        // is memory.
         let Ok(row) = row else {
             return Err(AllocError);
         };

@@ -54,9 +54,10 @@ fn lines_of(alloc: Global, rows: &[ByteRecord]) -> Result<Option<Vec<Line>>, All
     Ok(Some(lines))
 }
 
-/// The sheet of a text of CSV (RFC 4180) without a header: records of three fields, item, lot and quantity. The inner error is the
-/// number of the first refusal that holds: 33 over 999 records; 32 a record that hasn't three fields, or a text in one that can't
-/// be read, or a pick of 0; 30 a quantity over its limit; 31 a pair of item and lot twice. The outer one is want of memory.
+/// The sheet of a text of CSV (RFC 4180) without a header: records of three fields, item, lot and
+/// quantity. The inner error is the number of the first refusal that holds: 33 over 999 records; 32
+/// a record that hasn't three fields, or a text in one that can't be read, or a pick of 0; 30 a
+/// quantity over its limit; 31 a pair of item and lot twice. The outer one is want of memory.
 pub fn sheet(alloc: Global, kind: SheetKind, text: &[u8]) -> Result<Result<Sheet, u8>, AllocError>
     ensures ok { IfOk result (λ made. IfOk made (λ sheet. sheet_of_text Two (kind_of kind) text.now ≡ Ok sheet)) }
     ensures kind { IfOk result (λ made. IfOk made (λ sheet. is_sheet Two (kind_of kind) sheet ≡ true)) }

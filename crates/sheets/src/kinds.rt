@@ -7,9 +7,11 @@ use profile::{MOST_QUANTITY, MOST_QUANTITY_TWO, MOST_RECOUNTED, Rules};
 /// What a sheet is for.
 #[derive(Clone, Copy, Debug)]
 pub enum SheetKind {
-    /// What was found of an advice: quantities from 0 to 99,999 under rules 1, to 999,999 under rules 2.
+    /// What was found of an advice: quantities from 0 to 99,999 under rules 1, to 999,999 under
+    /// rules 2.
     Count,
-    /// What was taken for an order: quantities from 1 to 99,999 under rules 1, to 999,999 under rules 2.
+    /// What was taken for an order: quantities from 1 to 99,999 under rules 1, to 999,999 under
+    /// rules 2.
     Pick,
     /// What is on hand: quantities from 0 to 999,999,999.
     Recount,

@@ -1,4 +1,5 @@
-//! The sheets of a clerk's counts, picks and recounts: lines as they were read, tested and put in order.
+//! The sheets of a clerk's counts, picks and recounts: lines as they were read, tested and put in
+//! order.
 #![tactic(auto)]
 
 mod kinds;

@@ -66,8 +66,8 @@ impl Line {
         &self.lot
     }
 
-    /// How much, in the unit EA: the value of the quantity's digits, and 4,294,967,295 where that is greater. A line of a
-    /// sheet has at most 999,999,999.
+    /// How much, in the unit EA: the value of the quantity's digits, and 4,294,967,295 where that
+    /// is greater. A line of a sheet has at most 999,999,999.
     pub fn amount(&self) -> u32
         ensures { result ≡ min (bytes.value self.now.quantity) (2 ^ 32 - 1) }
     {

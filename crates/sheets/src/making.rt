@@ -27,8 +27,8 @@ const BAD_TEXT: u8 = 32;
 
 const TOO_MANY_LINES: u8 = 33;
 
-/// A sheet of a clerk's act: at most 99 lines under rules 1 and 999 under rules 2, of identifiers and quantities within
-/// their limits, by item and then lot bytes, each pair once.
+/// A sheet of a clerk's act: at most 99 lines under rules 1 and 999 under rules 2, of identifiers
+/// and quantities within their limits, by item and then lot bytes, each pair once.
 #[derive(Debug, Drop)]
 pub struct Sheet {
     lines: Vec<Line>,
@@ -97,9 +97,10 @@ fn ascends(lines: &[Line]) -> bool
 }
 
 impl Sheet {
-    /// The sheet of these lines under the rules, in order. It takes no memory. The error is the number of the first
-    /// refusal that holds: 33 more lines than the rules allow, 99 or 999; 32 an item, a lot or a quantity that can't be
-    /// read, or a pick of 0; 30 a quantity of more than nine digits or over its limit; 31 a pair of item and lot twice.
+    /// The sheet of these lines under the rules, in order. It takes no memory. The error is the
+    /// number of the first refusal that holds: 33 more lines than the rules allow, 99 or 999; 32 an
+    /// item, a lot or a quantity that can't be read, or a pick of 0; 30 a quantity of more than
+    /// nine digits or over its limit; 31 a pair of item and lot twice.
     pub fn new(kind: SheetKind, lines: Vec<Line>, rules: Rules) -> Result<Sheet, u8>
         ensures ok { IfOk result (λ sheet. clerk.sheet_of rules (kind_of kind) lines.items ≡ Ok sheet) }
         ensures kind { IfOk result (λ sheet. clerk.is_sheet rules (kind_of kind) sheet ≡ true) }
@@ -129,7 +130,8 @@ impl Sheet {
         self.lines.is_empty()
     }
 
-    /// Its lines, by item and then lot, with quantities as numbers. The one error is want of memory.
+    /// Its lines, by item and then lot, with quantities as numbers. The one error is want of
+    /// memory.
     pub fn lines(&self, alloc: Global) -> Result<Vec<sets_in::Goods>, AllocError>
         ensures lines { IfOk result (λ v. v.items ≡ self.now) }
         ensures sheet { clerk.is_sheet Two clerk.RecountSheet self.now ≡ true }
@@ -141,8 +143,8 @@ impl Sheet {
         Ok(lines)
     }
 
-    /// Appends the lines of an act's canonical text: ITEM,LOT,QUANTITY and LF for each, without leading zeros. After an
-    /// error, AllocError, the vector holds what it held.
+    /// Appends the lines of an act's canonical text: ITEM,LOT,QUANTITY and LF for each, without
+    /// leading zeros. After an error, AllocError, the vector holds what it held.
     pub fn write_lines(&self, out: &mut Vec<u8>) -> Result<(), AllocError>
         ensures ok { OnOk result (out.new.items ≡ out.old.items ++ flat_map line_text self.now) }
         ensures err { OnErr result (out.new.items ≡ out.old.items) }

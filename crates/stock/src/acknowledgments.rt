@@ -26,8 +26,8 @@ fn is_decisive(page: &Page, ack: &AckIn) -> bool
     }
 }
 
-/// Takes an acknowledgment that the next entry brings: it decides the document of an earlier entry that it names by number
-/// and kind, if none before it did. Want of memory is the one error.
+/// Takes an acknowledgment that the next entry brings: it decides the document of an earlier entry
+/// that it names by number and kind, if none before it did. Want of memory is the one error.
 pub fn acknowledge(alloc: Global, page: &Page, ack: &AckIn) -> Result<Step, AllocError>
     requires { page.now.recent < most_sets }
     ensures ok { IfOk result (λ step. (n : Named) (P : PageFacts) (es : List Event) → IsPart n page.now P → n.documents ack.now.document ≡ true → Shows P es

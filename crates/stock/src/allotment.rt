@@ -3,8 +3,9 @@ ghost use Rattle.profile.specs.Allotment.{allot};
 
 use std::alloc::{AllocError, Global};
 
-/// What each lot gives of a wanted amount: `free` says what is free of the lots, the first lot first, and each gives all
-/// that it has until nothing is wanted any more. Want of memory is the one error.
+/// What each lot gives of a wanted amount: `free` says what is free of the lots, the first lot
+/// first, and each gives all that it has until nothing is wanted any more. Want of memory is the
+/// one error.
 pub fn allot(alloc: Global, free: &[u64], want: u64) -> Result<Vec<u64>, AllocError>
     ensures { IfOk result (λ shares. shares.items ≡ allot free.now want) }
 {

@@ -51,9 +51,10 @@ fn changes(alloc: Global, page: &Page, advice: &Advice) -> Result<Vec<Change>, A
     Ok(changes)
 }
 
-/// Opens an advice: each of its lines is added to what is expected of its pair, and gives a pair without a date of expiry its
-/// own, if it has one. The error is the trade fault at the least position (a known shipment number, a pair that stands twice
-/// or has another date, a W03 that isn't the sum), or want of memory.
+/// Opens an advice: each of its lines is added to what is expected of its pair, and gives a pair
+/// without a date of expiry its own, if it has one. The error is the trade fault at the least
+/// position (a known shipment number, a pair that stands twice or has another date, a W03 that
+/// isn't the sum), or want of memory.
 pub fn announce(alloc: Global, page: &Page, advice: &Advice) -> Result<Step, SetStop>
     requires { page.now.recent < most_sets }
     ensures ok { IfOk result (λ step. (n : Named) (P : PageFacts) (es : List Event) → IsPart n page.now P → NamesAdvice n advice.now → Shows P es → (advice_fault es advice.now ≡ None) × Shows (put step.changes.items P) (es ++ Advised advice.now ∷ [])) }

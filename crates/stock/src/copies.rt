@@ -148,8 +148,9 @@ fn sorted(mut lines: Vec<Goods>) -> Vec<Goods>
     lines
 }
 
-// The shares above 0, by item and lot. They are sorted, since putting each in its place takes the square of their number.
-// Only shares of which two are of one pair are put in place one by one, and no order has such shares.
+// The shares above 0, by item and lot. They are sorted, since putting each in its place takes the
+// square of their number. Only shares of which two are of one pair are put in place one by one, and
+// no order has such shares.
 pub(crate) fn reserved(alloc: Global, shares: &[Goods]) -> Result<Vec<Goods>, AllocError>
     ensures { IfOk result (λ lines. lines.items ≡ reserved_lines shares.now) }
 {

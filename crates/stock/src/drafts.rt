@@ -61,9 +61,10 @@ impl Draft {
         &self.orders
     }
 
-    /// The page with what was put in, and with no event since its last entry; None where that is none: more reserved of a pair than
-    /// is on hand; what is open not expected or not reserved; something reserved for an order of an item of none of its lines;
-    /// or an amount above what so many entries can bring.
+    /// The page with what was put in, and with no event since its last entry; None where that is
+    /// none: more reserved of a pair than is on hand; what is open not expected or not reserved;
+    /// something reserved for an order of an item of none of its lines; or an amount above what so
+    /// many entries can bring.
     pub fn page(self) -> Option<Page>
         ensures { let lists : PageFacts = record self { recent = 0 } in MatchOption result (IsSound lists → ⊥) (λ page. page ≡ lists) }
     {
@@ -124,7 +125,8 @@ impl Draft {
         })
     }
 
-    /// With an advice, in the place of that of its shipment number; want of memory is the one error.
+    /// With an advice, in the place of that of its shipment number; want of memory is the one
+    /// error.
     pub fn with_advice(self, advice: KnownAdvice) -> Result<Draft, AllocError>
         ensures { IfOk result (λ draft. draft ≡ record self { advices = put_advice advice self.advices }) }
     {

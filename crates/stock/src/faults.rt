@@ -24,8 +24,8 @@ fn trade_fault(segment: &'static [u8], position: u32, place: u32) -> SetFault<'s
     }
 }
 
-// The position of the first line whose pair stood before in the set. The pairs of the lines before it are kept as rows, in
-// order, so that each is found by halves.
+// The position of the first line whose pair stood before in the set. The pairs of the lines before
+// it are kept as rows, in order, so that each is found by halves.
 fn repeated_pair(alloc: Global, lines: &[AdviceLine]) -> Result<Option<u32>, AllocError>
     requires { HasFewLines lines.now }
     ensures room { IfOk result (λ o. IfSome o (λ n. n < 2 ^ 32 - 1)) }
@@ -77,7 +77,8 @@ fn sooner(
     }
 }
 
-// The fault of a pair: it stands twice in the advice (element 2 of its N9), or has another date (element 4).
+// The fault of a pair: it stands twice in the advice (element 2 of its N9), or has another date
+// (element 4).
 fn pair_fault(
     alloc: Global,
     advice: &Advice,
@@ -105,8 +106,8 @@ fn advice_total(lines: &[AdviceLine]) -> u64
     total
 }
 
-/// The trade fault of an advice, at the least position: its shipment number is known, a pair stands twice in it or has
-/// another date in its row, or W03 isn't the sum.
+/// The trade fault of an advice, at the least position: its shipment number is known, a pair stands
+/// twice in it or has another date in its row, or W03 isn't the sum.
 pub(crate) fn advice_fault(
     alloc: Global,
     advice: &Advice,
@@ -129,8 +130,8 @@ pub(crate) fn advice_fault(
     Ok(None)
 }
 
-// The position of the first line whose item stood before in the set. The items of the lines before it are kept as rows of no
-// lot, in order, so that each is found by halves.
+// The position of the first line whose item stood before in the set. The items of the lines before
+// it are kept as rows of no lot, in order, so that each is found by halves.
 fn repeated_item(alloc: Global, lines: &[OrderLine]) -> Result<Option<u32>, AllocError>
     ensures { IfOk result (λ o. o ≡ option_map (λ (l : meant.OrderLine). l.position) (events.repeated events.same_order_item [] lines.now)) }
 {
@@ -156,8 +157,8 @@ fn order_total(lines: &[OrderLine]) -> u64
     total
 }
 
-/// The trade fault of an order, at the least position: its number is known, an item stands twice in it, or W76 isn't the
-/// sum.
+/// The trade fault of an order, at the least position: its number is known, an item stands twice in
+/// it, or W76 isn't the sum.
 pub(crate) fn order_fault(
     alloc: Global,
     order: &Order,

@@ -1,5 +1,5 @@
-//! The depositors' pages: what there is of each item and lot, what was announced and ordered, which documents were sent, and
-//! what each event makes of it.
+//! The depositors' pages: what there is of each item and lot, what was announced and ordered, which
+//! documents were sent, and what each event makes of it.
 #![tactic(auto)]
 
 mod acknowledgments;

@@ -93,8 +93,8 @@ impl Page {
         self.recent
     }
 
-    /// Its rows, one for each pair that an advice or a count named, by item and then lot bytes. On every page nothing is below 0, and no more
-    /// is reserved of a pair than is on hand.
+    /// Its rows, one for each pair that an advice or a count named, by item and then lot bytes. On
+    /// every page nothing is below 0, and no more is reserved of a pair than is on hand.
     pub fn rows(&self) -> &[Row]
         ensures rows { result.now ≡ self.now.rows }
         ensures sound { IsSound self.now }
@@ -182,8 +182,9 @@ impl Page {
         }
     }
 
-    /// The page with one event more: what the step of this page changes is put in, each row by its key. Its time grows with the
-    /// changes and, where a row is new, with what stands after its place. Want of memory is the one error; the page is given up.
+    /// The page with one event more: what the step of this page changes is put in, each row by its
+    /// key. Its time grows with the changes and, where a row is new, with what stands after its
+    /// place. Want of memory is the one error; the page is given up.
     pub fn with(self, step: &Step) -> Result<Page, AllocError>
         requires { IsSound (put step.now.changes.items self) }
         ensures { IfOk result (λ page. page ≡ put step.now.changes.items self) }

@@ -53,9 +53,10 @@ fn changes(
     Ok(changes)
 }
 
-/// Ships the goods of an order under the number of the next entry: what the sheet says goes from what is on hand, and
-/// nothing is reserved for the order any more. The error is 24 (there is no such order), 25 (it was picked), 26 (a line
-/// exceeds what is reserved for the order of its pair), each over all lines, or want of memory.
+/// Ships the goods of an order under the number of the next entry: what the sheet says goes from
+/// what is on hand, and nothing is reserved for the order any more. The error is 24 (there is no
+/// such order), 25 (it was picked), 26 (a line exceeds what is reserved for the order of its pair),
+/// each over all lines, or want of memory.
 pub fn pick(alloc: Global, page: &Page, number: &[u8], sheet: &Sheet) -> Result<Step, ActStop>
     requires { page.now.recent < most_sets }
     ensures ok { IfOk result (λ step. (n : Named) (P : PageFacts) (es : List Event) → IsPart n page.now P → NamesPick n page.now number.now sheet.now → Shows P es

@@ -57,8 +57,9 @@ fn changes(
     Ok(changes)
 }
 
-/// Counts the goods of an advice under the number of the next entry: nothing of it is expected any more, and what the sheet
-/// says is on hand. The error is 22 (there is no such advice), 23 (it was counted), or want of memory.
+/// Counts the goods of an advice under the number of the next entry: nothing of it is expected any
+/// more, and what the sheet says is on hand. The error is 22 (there is no such advice), 23 (it was
+/// counted), or want of memory.
 pub fn receive(alloc: Global, page: &Page, shipment: &[u8], sheet: &Sheet) -> Result<Step, ActStop>
     requires { page.now.recent < most_sets }
     ensures ok { IfOk result (λ step. (n : Named) (P : PageFacts) (es : List Event) → IsPart n page.now P → NamesCount n page.now shipment.now sheet.now → Shows P es

@@ -42,9 +42,9 @@ fn changes(alloc: Global, page: &Page, sheet: &Sheet) -> Result<Vec<Change>, All
     Ok(changes)
 }
 
-/// Sets what is on hand of the sheet's pairs, under the number of the next entry. The error is 27 (no count named a pair), 28
-/// (an amount is below what is reserved of its pair), 29 (no line differs from what is on hand), each over all lines, or
-/// want of memory.
+/// Sets what is on hand of the sheet's pairs, under the number of the next entry. The error is 27
+/// (no count named a pair), 28 (an amount is below what is reserved of its pair), 29 (no line
+/// differs from what is on hand), each over all lines, or want of memory.
 pub fn recount(alloc: Global, page: &Page, sheet: &Sheet) -> Result<Step, ActStop>
     requires { page.now.recent < most_sets }
     ensures ok { IfOk result (λ step. (n : Named) (P : PageFacts) (es : List Event) → IsPart n page.now P → are_items n sheet.now ≡ true → Shows P es

@@ -80,10 +80,12 @@ fn changes(
     Ok(changes)
 }
 
-/// Opens an order: each of its lines is given what is free of the lots that it may have, as far as it is wanted, and that is
-/// reserved. Under rules 1 the lot that was counted first comes before the others. Under rules 2 that is the lot that expires
-/// first, those without a date come last, and of one date the one that was counted first comes first. The error is the trade
-/// fault at the least position (a known order number, an item that stands twice, a W76 that isn't the sum), or want of memory.
+/// Opens an order: each of its lines is given what is free of the lots that it may have, as far as
+/// it is wanted, and that is reserved. Under rules 1 the lot that was counted first comes before
+/// the others. Under rules 2 that is the lot that expires first, those without a date come last,
+/// and of one date the one that was counted first comes first. The error is the trade fault at the
+/// least position (a known order number, an item that stands twice, a W76 that isn't the sum), or
+/// want of memory.
 pub fn reserve(alloc: Global, page: &Page, order: &Order, rules: Rules) -> Result<Step, SetStop>
     requires { page.now.recent < most_sets }
     ensures ok { IfOk result (λ step. (n : Named) (P : PageFacts) (es : List Event) → IsPart n page.now P → NamesOrder n order.now → Shows P es

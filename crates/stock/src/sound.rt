@@ -223,7 +223,8 @@ fn item_rows(alloc: Global, lines: &[KnownLine]) -> Result<Vec<Row>, AllocError>
     Ok(rows)
 }
 
-// Whether what is reserved for an order is of items of its lines, where there is memory for these in order.
+// Whether what is reserved for an order is of items of its lines, where there is memory for these
+// in order.
 fn in_lines_at_once(alloc: Global, order: &KnownOrder) -> Result<bool, AllocError>
     ensures { IfOk result (λ all. all ≡ pages.is_in_lines order.now) }
 {

@@ -11,7 +11,8 @@ pub enum Change {
     Stock(Row),
     /// An advice, new or closed.
     Advice(KnownAdvice),
-    /// An order, new with what is reserved for it; or closed, when nothing is reserved for it any more.
+    /// An order, new with what is reserved for it; or closed, when nothing is reserved for it any
+    /// more.
     Order(KnownOrder),
     /// A document that is sent with its entry, unless one was sent under its number.
     Sent {
@@ -32,7 +33,8 @@ pub enum Change {
 /// What one event more changes on a page: `Page::with` puts it in.
 #[derive(Drop)]
 pub struct Step {
-    /// The rows of pairs that change, in order, and after them the advice, the order and the document.
+    /// The rows of pairs that change, in order, and after them the advice, the order and the
+    /// document.
     pub changes: Vec<Change>,
 }
 

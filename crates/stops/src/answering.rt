@@ -13,7 +13,8 @@ use store::{Command, Keeper, Moment, Outcome, run};
 pub struct Answered {
     /// The replies, and the fault at which they ended.
     pub outcome: Outcome,
-    /// Whether the book had to be opened again as it was stopped. Only then may there be an entry of the command at which they ended.
+    /// Whether the book had to be opened again as it was stopped. Only then may there be an entry
+    /// of the command at which they ended.
     pub must_reopen: bool,
 }
 

@@ -15,11 +15,12 @@ use sqlite_trees::store::Reopen;
 use std::alloc::Global;
 use store::{Command, Fault, Moment, Outcome, run};
 
-/// Answers commands, stops the process, opens what is left, and answers more: these are answered on the register of those that
-/// were answered before, or, only where the book had to be opened again when it was stopped, on that one with the next command's
-/// entry. What was answered before the stop is told in any case. Where the book was not opened again, there stand beside it 40, 41
-/// or 43 and the store, as `reopened` tells them: where all was in order before it is 40 or 41, and a crash leaves of that store
-/// what the first commands left.
+/// Answers commands, stops the process, opens what is left, and answers more: these are answered on
+/// the register of those that were answered before, or, only where the book had to be opened again
+/// when it was stopped, on that one with the next command's entry. What was answered before the
+/// stop is told in any case. Where the book was not opened again, there stand beside it 40, 41 or
+/// 43 and the store, as `reopened` tells them: where all was in order before it is 40 or 41, and a
+/// crash leaves of that store what the first commands left.
 pub fn across<S: Alter + Reopen + Drop>(
     alloc: Global,
     mut book: Book<S>,

@@ -1,4 +1,5 @@
-//! What a stop leaves of a warehouse's book, and the book that is opened on it: nothing that was answered is lost.
+//! What a stop leaves of a warehouse's book, and the book that is opened on it: nothing that was
+//! answered is lost.
 #![tactic(auto)]
 
 mod answering;

@@ -17,7 +17,8 @@ use sqlite_trees::store::Reopen;
 use std::alloc::Global;
 use store::{Command, Fault, Moment};
 
-// One day: opens what a stop left, answers commands, and stops. It also says whether the store can be opened again.
+// One day: opens what a stop left, answers commands, and stops. It also says whether the store can
+// be opened again.
 fn day<S: Alter + Reopen + Drop>(
     alloc: Global,
     store: S,
@@ -54,15 +55,17 @@ fn after_of<'a, 'b>(asked: &'a [(Command<'b>, Moment)], count: usize) -> &'a [(C
     &asked[count.min(asked.len())..]
 }
 
-/// Any number of days after one another, over a store that holds a book of version 1 or of version 2. Each has as many of the
-/// commands as its count says, after those of the day before it. It opens what the stop before it left, which carries a book of
-/// version 1 over, answers its commands, and stops at its end, or at a fault. Told is what each came to: its replies, and whether
-/// the book had to be opened again as it was stopped; or the fault at which the book wasn't opened (40, 41 or 43, and never 43
-/// where the days began with a book). What is left at last stands for one register, to which the days led: no day lost an entry
-/// that was there before it or that was answered on it, and an interchange or an act that was accepted is answered by the same
-/// text when it is given again. Of the commands it is only asked that those can be given to which the days came.
-/// Also whether all days came: they end early where no memory is left to write one more down, and after one on which the store
-/// itself wasn't opened (40, 41).
+/// Any number of days after one another, over a store that holds a book of version 1 or of version
+/// 2. Each has as many of the commands as its count says, after those of the day before it. It
+/// opens what the stop before it left, which carries a book of version 1 over, answers its
+/// commands, and stops at its end, or at a fault. Told is what each came to: its replies, and
+/// whether the book had to be opened again as it was stopped; or the fault at which the book wasn't
+/// opened (40, 41 or 43, and never 43 where the days began with a book). What is left at last
+/// stands for one register, to which the days led: no day lost an entry that was there before it or
+/// that was answered on it, and an interchange or an act that was accepted is answered by the same
+/// text when it is given again. Of the commands it is only asked that those can be given to which
+/// the days came. Also whether all days came: they end early where no memory is left to write one
+/// more down, and after one on which the store itself wasn't opened (40, 41).
 pub fn days<S: Alter + Reopen + Drop>(
     alloc: Global,
     mut store: S,

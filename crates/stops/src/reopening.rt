@@ -43,9 +43,10 @@ fn open_fault(error: Error) -> Fault
     }
 }
 
-// Stops the process at this moment, as far as the store is concerned, and opens what is left, be it a book of version 1 or of
-// version 2. A fault hands the store back, of which a crash leaves the same registers, each as it was or carried over, and says
-// whether the store itself was opened: if not, nothing is known of another attempt.
+// Stops the process at this moment, as far as the store is concerned, and opens what is left, be it
+// a book of version 1 or of version 2. A fault hands the store back, of which a crash leaves the
+// same registers, each as it was or carried over, and says whether the store itself was opened: if
+// not, nothing is known of another attempt.
 pub(crate) fn opened_after<S: Alter + Reopen + Drop>(
     alloc: Global,
     mut store: S,
@@ -92,10 +93,11 @@ pub(crate) fn stopped<S: Alter + Drop>(book: Book<S>) -> S
     book.close().into_inner().into_store()
 }
 
-/// Stops the process at this moment, as far as the store is concerned, and opens what is left: a book that is usable for a
-/// register that a crash might leave. A fault hands the store back: 40 or 41 where a call of the store failed, 43 where what is
-/// left is no book. Where all that a crash might leave of the book stands for a register, and the disk is clean, it is never 43,
-/// and a crash leaves nothing of that store that it might not have left of the book.
+/// Stops the process at this moment, as far as the store is concerned, and opens what is left: a
+/// book that is usable for a register that a crash might leave. A fault hands the store back: 40 or
+/// 41 where a call of the store failed, 43 where what is left is no book. Where all that a crash
+/// might leave of the book stands for a register, and the disk is clean, it is never 43, and a
+/// crash leaves nothing of that store that it might not have left of the book.
 pub fn reopened<S: Alter + Reopen + Drop>(
     alloc: Global,
     book: Book<S>,

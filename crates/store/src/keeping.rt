@@ -14,18 +14,20 @@ use crate::fault::Fault;
 use crate::rows::{OutRow, StockRow};
 use rules::{Change, Entry, Key, Known, Need, Page, Warehouse, Who};
 
-/// A book of a warehouse: the register of what was accepted, and what it comes to. What a book keeps, and what a crash may
-/// leave of it, is told by the ghost member `standing`.
+/// A book of a warehouse: the register of what was accepted, and what it comes to. What a book
+/// keeps, and what a crash may leave of it, is told by the ghost member `standing`.
 pub trait Keeper {
-    /// How the book stands: the registers that it stands for, those that a crash may leave, how far the disk is in doubt,
-    /// how many calls the store refused, and whether the book has to be opened again.
+    /// How the book stands: the registers that it stands for, those that a crash may leave, how far
+    /// the disk is in doubt, how many calls the store refused, and whether the book has to be
+    /// opened again.
     ghost standing: { Self → Standing };
 
     /// The warehouse that keeps the book.
     fn warehouse(&self) -> Warehouse
         ensures { result ≡ (standing self.now).warehouse };
 
-    /// The part that is needed of a depositor's page, or more of it, with no event since its last entry; None for a stranger.
+    /// The part that is needed of a depositor's page, or more of it, with no event since its last
+    /// entry; None for a stranger.
     fn load(&mut self, who: Who, need: &Need) -> Result<Option<Page>, Fault>
         ensures page { OfKept (standing self.old) (standing self.new)
             (λ L. IfOk result (λ page. IsHeld need.now page (decided.standing (register.own L who)))) }
@@ -34,7 +36,8 @@ pub trait Keeper {
         ensures fault { IfErr result (λ fault. IsQueryFault fault (standing self.old) (standing self.new)) }
         ensures shut { (standing self.old).shut ≡ true → IsErrOf result Fault.Reopen };
 
-    /// A depositor's entry under a key, with its number and the text that went out for it; None where there is none.
+    /// A depositor's entry under a key, with its number and the text that went out for it; None
+    /// where there is none.
     fn known(&mut self, who: Who, key: &Key<'_>) -> Result<Option<Known>, Fault>
         ensures entry { OfKept (standing self.old) (standing self.new)
             (λ L. IfOk result (λ known. IsRecalled known (decided.recalled (standing self.old).warehouse
@@ -46,7 +49,8 @@ pub trait Keeper {
         ensures fault { IfErr result (λ fault. IsQueryFault fault (standing self.old) (standing self.new)) }
         ensures shut { (standing self.old).shut ≡ true → IsErrOf result Fault.Reopen };
 
-    /// Appends an entry, with the rows that it changes and the text that goes out for it, in one transaction.
+    /// Appends an entry, with the rows that it changes and the text that goes out for it, in one
+    /// transaction.
     fn commit(&mut self, entry: &Entry, changes: &[Change], outgoing: &[u8]) -> Result<(), Fault>
         ensures ok { (standing self.new).doubt ≡ 0 → (L : List register.Entry) (e : register.Entry)
             → IsUsable (standing self.old) L
@@ -83,7 +87,8 @@ pub trait Keeper {
         ensures fault { IfErr result (λ fault. IsQueryFault fault (standing self.old) (standing self.new)) }
         ensures shut { (standing self.old).shut ≡ true → IsErrOf result Fault.Reopen };
 
-    /// The text that went out to a depositor under a number; None for a stranger, and Some(None) where nothing went out under it.
+    /// The text that went out to a depositor under a number; None for a stranger, and Some(None)
+    /// where nothing went out under it.
     fn text(&mut self, who: Who, n: u32) -> Result<Option<Option<Vec<u8>>>, Fault>
         ensures text { OfKept (standing self.old) (standing self.new)
             (λ L. IfOk result (λ text. option_map (option_map (λ v. v.items)) text ≡ text_of
@@ -92,8 +97,8 @@ pub trait Keeper {
         ensures fault { IfErr result (λ fault. IsQueryFault fault (standing self.old) (standing self.new)) }
         ensures shut { (standing self.old).shut ≡ true → IsErrOf result Fault.Reopen };
 
-    /// A part of a depositor's page that has what is open: each advice that isn't counted and each order that isn't picked, and
-    /// perhaps more; None for a stranger.
+    /// A part of a depositor's page that has what is open: each advice that isn't counted and each
+    /// order that isn't picked, and perhaps more; None for a stranger.
     fn open(&mut self, who: Who) -> Result<Option<Page>, Fault>
         ensures work { OfKept (standing self.old) (standing self.new)
             (λ L. IfOk result (λ page. option_map open_on page ≡ open_of L who)) }

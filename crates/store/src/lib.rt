@@ -1,4 +1,5 @@
-//! A warehouse's book, whichever way it is kept: commands that are submitted to it, what they leave, and what can be asked.
+//! A warehouse's book, whichever way it is kept: commands that are submitted to it, what they
+//! leave, and what can be asked.
 #![tactic(auto)]
 
 mod fault;

@@ -23,7 +23,8 @@ use rules::{Change, Entry, Key, Known, Need, Page, Warehouse, Who, replay};
 use std::alloc::{AllocError, Global};
 use std::marker::Model;
 
-/// A book in memory, which keeps only the register and replays it. Nothing of it outlives the process.
+/// A book in memory, which keeps only the register and replays it. Nothing of it outlives the
+/// process.
 #[derive(Drop)]
 pub struct ReplayBook {
     alloc: Global,
@@ -228,8 +229,8 @@ fn depositors_of(alloc: Global, entries: &[Entry]) -> Result<Vec<Who>, AllocErro
     Ok(whos)
 }
 
-// What the entry at a place sent out, if it is a depositor's that counts, by the page of all of that depositor's entries; None
-// also where it sent nothing.
+// What the entry at a place sent out, if it is a depositor's that counts, by the page of all of
+// that depositor's entries; None also where it sent nothing.
 fn sent_at(
     alloc: Global,
     warehouse: &Warehouse,
@@ -259,7 +260,8 @@ fn sent_at(
     Ok(Some(OutRow::of(page, entry, content)))
 }
 
-// The texts that went out to a depositor with this page, by number: those of its numbered entries that aren't empty.
+// The texts that went out to a depositor with this page, by number: those of its numbered entries
+// that aren't empty.
 fn sent(
     alloc: Global,
     warehouse: &Warehouse,

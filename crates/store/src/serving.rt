@@ -36,7 +36,8 @@ pub enum Reply {
     },
 }
 
-// What a command of this depositor comes to under these rules, where nothing is known under its key: it needs a part of the depositor's page. The book is as before.
+// What a command of this depositor comes to under these rules, where nothing is known under its
+// key: it needs a part of the depositor's page. The book is as before.
 fn judge_new<K: Keeper>(
     alloc: Global,
     keeper: &mut K,
@@ -70,7 +71,8 @@ fn judge_new<K: Keeper>(
     )?)
 }
 
-// What a command comes to under these rules. What is known under its key is asked first, since that needs no page. The book is as before.
+// What a command comes to under these rules. What is known under its key is asked first, since that
+// needs no page. The book is as before.
 #[tactic(auto, using(crate::proofs::Changes::unchanged_trans, crate::proofs::Changes::unchanged_refl))]
 fn judge<K: Keeper>(
     alloc: Global,
@@ -97,10 +99,12 @@ fn judge<K: Keeper>(
     }
 }
 
-/// Answers one command under these rules, which an accepted one's entry has: those of the day, or, where a register is given again,
-/// those of its entry. An accepted command is one commit, and the reply is made before it. A refusal leaves the book as it
-/// was, and so does a fault, unless the book must be opened again after it; then a crash leaves the register as it was, or
-/// with the command's entry. The rules of a register never fall, so the register with the entry has to be legal.
+/// Answers one command under these rules, which an accepted one's entry has: those of the day, or,
+/// where a register is given again, those of its entry. An accepted command is one commit, and the
+/// reply is made before it. A refusal leaves the book as it was, and so does a fault, unless the
+/// book must be opened again after it; then a crash leaves the register as it was, or with the
+/// command's entry. The rules of a register never fall, so the register with the entry has to be
+/// legal.
 pub fn submit_under<K: Keeper>(
     alloc: Global,
     keeper: &mut K,
@@ -157,9 +161,10 @@ pub fn submit_under<K: Keeper>(
     }
 }
 
-/// Answers one command under the rules of the day: an accepted one is one commit, and the reply is made before it. A refusal leaves the book as it
-/// was, and so does a fault, unless the book must be opened again after it; then a crash leaves the register as it was, or
-/// with the command's entry.
+/// Answers one command under the rules of the day: an accepted one is one commit, and the reply is
+/// made before it. A refusal leaves the book as it was, and so does a fault, unless the book must
+/// be opened again after it; then a crash leaves the register as it was, or with the command's
+/// entry.
 pub fn submit<K: Keeper>(
     alloc: Global,
     keeper: &mut K,
@@ -214,8 +219,8 @@ pub fn outbox<K: Keeper>(keeper: &mut K, who: Who) -> Result<Option<Vec<OutRow>>
     keeper.outbox(who)
 }
 
-/// The text that went out to a depositor under a number; None for a stranger, and Some(None) where nothing went out under it. The
-/// book is as before.
+/// The text that went out to a depositor under a number; None for a stranger, and Some(None) where
+/// nothing went out under it. The book is as before.
 pub fn text<K: Keeper>(keeper: &mut K, who: Who, n: u32) -> Result<Option<Option<Vec<u8>>>, Fault>
     ensures text { OfKept (K.standing keeper.old) (K.standing keeper.new)
         (λ L. IfOk result (λ text. option_map (option_map (λ v. v.items)) text ≡ text_of
@@ -270,10 +275,11 @@ fn answer_next<K: Keeper>(
     Ok(())
 }
 
-/// Answers commands in order, and stops at the first fault. Of the commands it is only asked that those can be given that were
-/// answered, and the one at which it stopped. Without a fault there is a reply to every command, and the register
-/// is the one before with the entries of the accepted commands, in order. At a fault a crash leaves the register of the
-/// commands that were answered, or, only where the book must be opened again, that one with the next command's entry.
+/// Answers commands in order, and stops at the first fault. Of the commands it is only asked that
+/// those can be given that were answered, and the one at which it stopped. Without a fault there is
+/// a reply to every command, and the register is the one before with the entries of the accepted
+/// commands, in order. At a fault a crash leaves the register of the commands that were answered,
+/// or, only where the book must be opened again, that one with the next command's entry.
 pub fn run<K: Keeper>(alloc: Global, keeper: &mut K, commands: &[(Command<'_>, Moment)]) -> Outcome
     ensures all { IsNone result.fault → length result.replies.items ≡ length commands.now }
     ensures stopped { IsSome result.fault → length result.replies.items < length commands.now }

@@ -13,7 +13,8 @@ use profile::Rules;
 use segments::{Delims, Segment};
 use std::marker::Model;
 
-/// A set without a fault: its kind, the rules by which it was judged, and its segments from ST to SE.
+/// A set without a fault: its kind, the rules by which it was judged, and its segments from ST to
+/// SE.
 #[derive(Drop)]
 pub struct Checked<'a> {
     kind: SetKind,
@@ -97,9 +98,9 @@ fn fault_of<'a>(kind: SetKind, segments: &'a [Segment<'a>], rules: Rules) -> Opt
     }
 }
 
-/// Judges a set by the rules, whose segments were cut from one text and of which SE stands last: the set where no segment
-/// has a fault, else the fault of the first segment with one. A segment has a fault where it may not stand after those
-/// before it, or where an element of it is faulty.
+/// Judges a set by the rules, whose segments were cut from one text and of which SE stands last:
+/// the set where no segment has a fault, else the fault of the first segment with one. A segment
+/// has a fault where it may not stand after those before it, or where an element of it is faulty.
 pub fn judge<'a>(
     kind: SetKind,
     segments: &'a [Segment<'a>],

@@ -23,12 +23,13 @@ use segments::{Delims, Segment};
 /// A segment in error of a set, as AK3 and AK4 tell it.
 #[derive(Drop)]
 pub struct SetFault<'a> {
-    /// The id of the segment (AK301); where SE comes too early, of the segment that the set wants in its place.
+    /// The id of the segment (AK301); where SE comes too early, of the segment that the set wants
+    /// in its place.
     pub segment: &'a [u8],
     /// Its position in the set, ST at 1 (AK302).
     pub position: u32,
-    /// What is wrong with it (AK304): 1 its id is in no set that is read, 2 it may not stand here, 3 the set is not
-    /// complete, 6 its id is only in sets of other kinds, 8 an element is faulty.
+    /// What is wrong with it (AK304): 1 its id is in no set that is read, 2 it may not stand here,
+    /// 3 the set is not complete, 6 its id is only in sets of other kinds, 8 an element is faulty.
     pub code: u8,
     /// The element in error: its place in the segment, from 1 (AK401), and its code (AK403).
     pub element: Option<(u32, u8)>,

@@ -18,7 +18,8 @@ use profile::{
     QUANTITY_DIGITS_TWO, Rules, SET_BYTES, SETS_DIGITS, STATE_BYTES,
 };
 
-// The row of an element that must be there, with its type and its least and greatest length in bytes.
+// The row of an element that must be there, with its type and its least and greatest length in
+// bytes.
 macro_rules! must {
     ($kind:expr, $least:expr, $most:expr) => {
         ElementRow {
@@ -181,7 +182,8 @@ const AK9: &[ElementRow] = &[
 /// What a segment stands directly after, as far as it decides which rows an N9 has.
 #[derive(Clone, Copy)]
 pub(crate) enum After {
-    // W04, with the quantity and the item of an advice's line: an N9 is the line's lot, which may have an expiry
+    // W04, with the quantity and the item of an advice's line: an N9 is the line's lot, which may
+    // have an expiry
     Advised,
     // W01, with those of an order's line: an N9 is the lot that the line is pinned to
     Ordered,

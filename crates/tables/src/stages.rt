@@ -87,7 +87,8 @@ fn has(kind: SetKind, id: Id) -> bool
     }
 }
 
-/// The code of a segment out of place (AK304): 3 where it is SE, 6 where only sets of other kinds have it, else 2.
+/// The code of a segment out of place (AK304): 3 where it is SE, 6 where only sets of other kinds
+/// have it, else 2.
 pub(crate) fn misplaced(kind: SetKind, id: Id) -> u8
     ensures { (r : Rules) → result ≡ place_code r (kind_words r (kind_of kind)) (text_of id) }
 {

@@ -90,8 +90,8 @@ fn is_refused<K: Keeper>(
     }
 }
 
-// Fails at the first beginning of the advice that isn't refused: none can be read that is shorter than the header, and each other one
-// ends too early.
+// Fails at the first beginning of the advice that isn't refused: none can be read that is shorter
+// than the header, and each other one ends too early.
 fn all_refused<K: Keeper>(alloc: Global, book: &mut K, moment: Moment) -> Result<(), Fail> {
     for n in 0..ADVICE.len() {
         let want: (u8, &[u8]) = if n < 106 { (1, b"") } else { (2, ENDED) };

@@ -1,9 +1,10 @@
-//! What the program prints and tells. A case is a script with its files, and is played over a book in memory, through a server of
-//! such a book, and as a batch over a book in a file, which is opened once; most are also played line by line over such a book, which each line opens
-//! and closes.
+//! What the program prints and tells. A case is a script with its files, and is played over a book
+//! in memory, through a server of such a book, and as a batch over a book in a file, which is
+//! opened once; most are also played line by line over such a book, which each line opens and
+//! closes.
 //!
-//! Cases stand in texts (crate `cases`). A text is made of sections, each of which begins with `@`, a word and what
-//! belongs to it in the rest of the line, and ends where the next one begins:
+//! Cases stand in texts (crate `cases`). A text is made of sections, each of which begins with `@`,
+//! a word and what belongs to it in the rest of the line, and ends where the next one begins:
 //!
 //! - `file NAME` writes a file, of all that stands below the line. It stays for the cases after it.
 //! - `case NAME` begins a case.
@@ -14,8 +15,9 @@
 //! - `ends STATUS` has what is told on standard error, which may be nothing. With that the case is
 //!   played.
 //!
-//! In a file and in what is printed a part may stand in braces, after a number and a colon: it stands there that often, with
-//! 0, 1, .. in place of each `#` in it, and 0001, 0002, .. in place of each `%`.
+//! In a file and in what is printed a part may stand in braces, after a number and a colon: it
+//! stands there that often, with 0, 1, .. in place of each `#` in it, and 0001, 0002, .. in place
+//! of each `%`.
 mod asked;
 mod carried;
 mod changes;
@@ -166,8 +168,8 @@ fn remove_book(rt: &HostRuntime, book: &str, log: &str) -> Result<(), Fail> {
 }
 
 // Makes the book in a file by the first line of a script, and runs the lines after it as a batch. A
-// stop that is to come is told after the number of its line, which `compare` doesn't know; so such a
-// script isn't run.
+// stop that is to come is told after the number of its line, which `compare` doesn't know; so such
+// a script isn't run.
 fn play_batch(rt: &HostRuntime, name: &str, script: &str, wanted: &Wanted<'_>) -> Result<(), Fail> {
     let (first, rest) = script.split_once('\n').ok_or("a line")?;
     if wanted.status > 1 {
@@ -179,14 +181,16 @@ fn play_batch(rt: &HostRuntime, name: &str, script: &str, wanted: &Wanted<'_>) -
     run(rt, &["batch", "case.batch", "--book", "case.book"])?.compare(name, wanted)
 }
 
-// Plays a script over a book in memory, through a server of another one, and as a batch over a new one in a file.
+// Plays a script over a book in memory, through a server of another one, and as a batch over a new
+// one in a file.
 fn play_whole(rt: &HostRuntime, name: &str, script: &str, wanted: &Wanted<'_>) -> Result<(), Fail> {
     run_text(rt, script)?.compare(name, wanted)?;
     asked::play_asked(rt, name, script, Verbosity::QUIET, wanted)?;
     play_batch(rt, name, script, wanted)
 }
 
-// Plays a script so, and asks why lines are refused. The first line of the batch is empty, so that its lines have the same numbers.
+// Plays a script so, and asks why lines are refused. The first line of the batch is empty, so that
+// its lines have the same numbers.
 fn play_explained(
     rt: &HostRuntime,
     name: &str,

@@ -82,8 +82,8 @@ fn shows<K: Keeper>(
     Ok(stocked.as_slice() == rows.as_bytes() && sent.as_slice() == texts.as_bytes())
 }
 
-// Opens a book with so many calls, stops it, and opens it again: whether it has so many entries then, is what its register gives, and
-// shows these rows. None where no call was refused.
+// Opens a book with so many calls, stops it, and opens it again: whether it has so many entries
+// then, is what its register gives, and shows these rows. None where no call was refused.
 fn is_kept<S: Alter + Reopen + Drop>(
     alloc: Global,
     mut tables: Tables<S>,
@@ -102,8 +102,8 @@ fn is_kept<S: Alter + Reopen + Drop>(
     Ok(Some(shows(alloc, &mut book, who, want)? && book.verify()? == entries))
 }
 
-// Whether a book of version 1, of so many entries, shows these rows after a stop at each call of its
-// opening, up to the first number of calls that is enough.
+// Whether a book of version 1, of so many entries, shows these rows after a stop at each call of
+// its opening, up to the first number of calls that is enough.
 fn each_call(
     alloc: Global,
     rows: &str,
@@ -125,8 +125,8 @@ fn each_call(
     Err("a book that is never opened".into())
 }
 
-// The same of a book with an open order, also beside a table of the house's own, of one in which a date was refused, and of one in
-// which an order of 100 lines was.
+// The same of a book with an open order, also beside a table of the house's own, of one in which a
+// date was refused, and of one in which an order of 100 lines was.
 fn each_book(alloc: Global, stop: Stop) -> Result<(), Fail> {
     let rows = format!(in alloc; "{COUNTED}{ORDERED}")?;
     let reserved = "item,lot,expiry,expected,on_hand,reserved,shipped\nBOLT,L1,,0,90,90,0\n";
@@ -178,7 +178,8 @@ fn a_day_goes_on_after_a_carrying_over(rt: HostRuntime) -> Result<(), Fail> {
     on_day(rt.alloc(), Trial::GoesOn)
 }
 
-// Whether a day answered so many commands from a place on, of those that a book of version 1 had answered and of the others.
+// Whether a day answered so many commands from a place on, of those that a book of version 1 had
+// answered and of the others.
 fn is_led(told: &Result<Answered, Fault>, from: usize, count: usize) -> bool {
     match told {
         Ok(day) => {
@@ -204,8 +205,9 @@ pub(super) fn are_led<S: Alter + Reopen + Drop>(
     }
 }
 
-// Two days over a book of version 1: the first carries it over, and stops after four commands; the second opens what that left.
-// Each command is answered as on one day, and what version 1 answered is answered so again.
+// Two days over a book of version 1: the first carries it over, and stops after four commands; the
+// second opens what that left. Each command is answered as on one day, and what version 1 answered
+// is answered so again.
 #[test]
 fn days_follow_a_carrying_over(rt: HostRuntime) -> Result<(), Fail> {
     on_day(rt.alloc(), Trial::Days)

@@ -1,5 +1,5 @@
-//! A worked day of ZZ ACME: an advice, resends of it, its count, an order, its pick, the acknowledgment
-//! of that, and the count once more. It makes six entries.
+//! A worked day of ZZ ACME: an advice, resends of it, its count, an order, its pick, the
+//! acknowledgment of that, and the count once more. It makes six entries.
 use super::stopped::Stop;
 use super::worked::{
     ADVICE, ANSWER, DUPLICATE, OTHER, RECEIPT, acme, count, fresh, is_accepted, is_stored, morning,
@@ -37,8 +37,8 @@ pub(crate) enum Want {
     Refused(u8),
 }
 
-// Whether the reply is the one that is wanted, with its text. A command that was answered before is given again: it is answered as
-// it was, and an enrolment is refused.
+// Whether the reply is the one that is wanted, with its text. A command that was answered before is
+// given again: it is answered as it was, and an enrolment is refused.
 pub(crate) fn is_wanted(reply: &Reply, wanted: &(&[u8], Want), was_answered: bool) -> bool {
     let (text, want) = wanted;
     let number = match want {

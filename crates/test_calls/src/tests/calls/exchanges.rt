@@ -121,8 +121,8 @@ fn is_answered<K: Keeper>(
     comes_to(alloc, book, moment, request, (10_000, true), want)
 }
 
-// Whether a request whose reader fails after these bytes ends with a fault: how often the reader and the writer failed, and what was
-// written.
+// Whether a request whose reader fails after these bytes ends with a fault: how often the reader
+// and the writer failed, and what was written.
 fn is_broken_off<K: Keeper>(
     alloc: Global,
     book: &mut K,
@@ -306,7 +306,8 @@ fn a_path_that_is_no_text_is_not_found(rt: HostRuntime) -> Result<(), Fail> {
     Ok(())
 }
 
-// Fails at the first beginning of a request that isn't answered 400, or after which an error isn't 44 with nothing written.
+// Fails at the first beginning of a request that isn't answered 400, or after which an error isn't
+// 44 with nothing written.
 fn all_begun<K: Keeper>(alloc: Global, book: &mut K, moment: Moment) -> Result<(), Fail> {
     for k in 0..REQUEST.len() {
         let bytes = &REQUEST[..k];

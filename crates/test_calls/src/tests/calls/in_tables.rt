@@ -24,7 +24,8 @@ pub(crate) fn announced<S: Alter + Drop>(
     }
 }
 
-// The connection to a book in which the advice is counted then. None of its calls of the store was refused.
+// The connection to a book in which the advice is counted then. None of its calls of the store was
+// refused.
 pub(crate) fn counted<S: Alter + Drop>(
     alloc: Global,
     tables: Tables<S>,

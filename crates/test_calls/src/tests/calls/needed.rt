@@ -121,7 +121,8 @@ fn pairs<K: Keeper>(
     }
 }
 
-// Enrols, stores other goods and the worked advice's, and orders some of these: how many pairs are found.
+// Enrols, stores other goods and the worked advice's, and orders some of these: how many pairs are
+// found.
 fn pairs_ordered<K: Keeper>(alloc: Global, book: &mut K) -> Result<u64, Fail> {
     let (acme, moment) = (acme()?, morning()?);
     let sheet = ninety(alloc, SheetKind::Count)?;

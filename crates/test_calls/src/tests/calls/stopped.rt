@@ -1,5 +1,5 @@
-//! Books whose store refuses a call and all later ones, for each call in turn. What is left is opened, checked
-//! whole, and given all commands again.
+//! Books whose store refuses a call and all later ones, for each call in turn. What is left is
+//! opened, checked whole, and given all commands again.
 use super::day::{Trial, answers, are_goods, is_sent, is_wanted, on_day};
 use super::worked::{acme, fresh, house, opened};
 use books::{Book, Tables};
@@ -28,7 +28,8 @@ pub(super) enum Stop {
     Crash,
 }
 
-// Whether these are the answers of the day from a place on, where so many of its commands were answered before.
+// Whether these are the answers of the day from a place on, where so many of its commands were
+// answered before.
 pub(super) fn are_answers_from(replies: &[Reply], from: usize, answered: usize) -> bool {
     let wanted = answers();
     let wanted = wanted.iter().enumerate().skip(from);
@@ -120,7 +121,8 @@ pub(super) fn is_whole<S: Alter + Drop>(book: &mut Book<S>, who: Who) -> Result<
     Ok(shows_whole(book, who)? && book.verify()? == entries(ALL))
 }
 
-// Whether a book that is given the day once more answers it all, where so many commands were answered before.
+// Whether a book that is given the day once more answers it all, where so many commands were
+// answered before.
 pub(super) fn answers_again<K: Keeper>(
     alloc: Global,
     book: &mut K,
@@ -157,7 +159,8 @@ fn unlimited<S: Alter + Drop>(alloc: Global, mut tables: Tables<S>) -> Result<Bo
     opened(alloc, tables)
 }
 
-// Gives a book the day, and stops it: what was answered before, and the book that was opened after it.
+// Gives a book the day, and stops it: what was answered before, and the book that was opened after
+// it.
 fn after_stop<S: Alter + Reopen + Drop>(
     alloc: Global,
     mut book: Book<S>,
@@ -183,7 +186,8 @@ fn after_stop<S: Alter + Reopen + Drop>(
     }
 }
 
-// Whether a book may be made again after this fault: the first call too many of a limited store was refused, or there was no memory.
+// Whether a book may be made again after this fault: the first call too many of a limited store was
+// refused, or there was no memory.
 fn may_be_made(fault: Fault, refused: u64, calls: Option<u64>) -> bool {
     match calls {
         Some(_) => fault == Fault::Store && refused == 1,
@@ -191,8 +195,8 @@ fn may_be_made(fault: Fault, refused: u64, calls: Option<u64>) -> bool {
     }
 }
 
-// Makes a book, of whose calls only so many are let through; where none could be made, it is made without a limit. Also
-// whether it was made at once.
+// Makes a book, of whose calls only so many are let through; where none could be made, it is made
+// without a limit. Also whether it was made at once.
 pub(super) fn made<S: Alter + Drop>(
     alloc: Global,
     mut tables: Tables<S>,
@@ -274,7 +278,8 @@ fn day_done<S: Alter + Drop>(
     }
 }
 
-// Whether an opening of so many calls leaves the book of a day as it was; None where no call was refused.
+// Whether an opening of so many calls leaves the book of a day as it was; None where no call was
+// refused.
 fn opening_of<S: Alter + Drop>(
     alloc: Global,
     mut tables: Tables<S>,

@@ -1,6 +1,6 @@
 //! Commands over a book in tables, given again where there was no memory, after the book was opened
-//! again where it has to be: run with each allocation failing in turn (bench/allocations.py). One allocation fails in a run at
-//! most, so no more than one call may end for want of memory.
+//! again where it has to be: run with each allocation failing in turn (bench/allocations.py). One
+//! allocation fails in a run at most, so no more than one call may end for want of memory.
 use super::day::{Trial, Want, answers, is_wanted, on_day};
 use super::stopped::{is_whole, made};
 use super::worked::{acme, house, is_stored, opened};
@@ -43,8 +43,8 @@ fn given<K: Keeper>(
     }
 }
 
-// Gives a command for which there was no memory once more, over the book that is opened again where it has to be: it is
-// answered as wanted, or stored.
+// Gives a command for which there was no memory once more, over the book that is opened again where
+// it has to be: it is answered as wanted, or stored.
 fn given_again<S: Alter + Drop>(
     alloc: Global,
     mut book: Book<S>,
@@ -60,8 +60,8 @@ fn given_again<S: Alter + Drop>(
     }
 }
 
-// Gives a command, and once more where there was no memory, which may be so only where nothing went unanswered before. Also
-// whether something went unanswered by now.
+// Gives a command, and once more where there was no memory, which may be so only where nothing went
+// unanswered before. Also whether something went unanswered by now.
 fn answered<S: Alter + Drop>(
     alloc: Global,
     mut book: Book<S>,
@@ -76,7 +76,8 @@ fn answered<S: Alter + Drop>(
     }
 }
 
-// Whether a book is as the day leaves it with enough memory, looked at once more where there was none.
+// Whether a book is as the day leaves it with enough memory, looked at once more where there was
+// none.
 fn is_left<S: Alter + Drop>(book: &mut Book<S>, who: Who, is_spent: bool) -> Result<bool, Fault> {
     match is_whole(book, who) {
         Err(Fault::OutOfMemory) if !is_spent => is_whole(book, who),

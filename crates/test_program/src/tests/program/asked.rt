@@ -15,8 +15,8 @@ use std::io::Write;
 use std::net::{Ipv4Addr, SocketAddr, SocketAddrV4};
 use store::{Fault, Keeper, Moment, ReplayBook, Warehouse, Who};
 
-// A server of a book that takes clerks' requests too, at one moment. All that goes over it is over any book and any writer, which
-// costs the prover less than one that is named.
+// A server of a book that takes clerks' requests too, at one moment. All that goes over it is over
+// any book and any writer, which costs the prover less than one that is named.
 #[derive(Drop)]
 struct InMemory<'b, K> {
     alloc: Global,
@@ -51,7 +51,8 @@ impl<K: Keeper> Courier for InMemory<'_, K> {
     }
 }
 
-// Has a server of the book do what it is asked for, and tells why it is refused, where that is asked for.
+// Has a server of the book do what it is asked for, and tells why it is refused, where that is
+// asked for.
 fn carry<K: Keeper, W: Write, E: Write>(
     rt: &HostRuntime,
     book: &mut K,
@@ -144,7 +145,8 @@ fn play_lines<K: Keeper>(
     Ran::new(rt, status.code(), &out, &err)
 }
 
-// Plays a script through a server of a book in memory. One that a fault ends, or whose book isn't made, isn't played.
+// Plays a script through a server of a book in memory. One that a fault ends, or whose book isn't
+// made, isn't played.
 pub(super) fn play_asked(
     rt: &HostRuntime,
     name: &str,

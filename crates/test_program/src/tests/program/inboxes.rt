@@ -124,7 +124,8 @@ g.x12 passed over: no regular file
     status: 1,
 };
 
-// Fills the folder, with links at the names of answers, what an earlier stop left, and entries that are no files.
+// Fills the folder, with links at the names of answers, what an earlier stop left, and entries that
+// are no files.
 fn fill_oddly(rt: &HostRuntime) -> Result<(), Fail> {
     fill(rt)?;
     remove(rt, "kept.txt")?;
@@ -139,8 +140,8 @@ fn fill_oddly(rt: &HostRuntime) -> Result<(), Fail> {
     Ok(())
 }
 
-// An answer is a file of its own: a link at its name is replaced and never followed, and what an earlier stop left is removed.
-// What is no file is passed over.
+// An answer is a file of its own: a link at its name is replaced and never followed, and what an
+// earlier stop left is removed. What is no file is passed over.
 #[test]
 fn links_are_replaced(rt: HostRuntime) -> Result<(), Fail> {
     fill_oddly(&rt)?;

@@ -110,7 +110,8 @@ fn says(line: Option<&str>, what: &str) -> bool {
     }
 }
 
-// Whether a line tells of a connection of this machine at the moment, and of what it asked for and was answered.
+// Whether a line tells of a connection of this machine at the moment, and of what it asked for and
+// was answered.
 fn tells(line: Option<&str>, what: &str) -> bool {
     match line {
         Some(line) => line.starts_with("2025-03-04T09:15 127.0.0.1:") && line.contains(what),
