@@ -1,9 +1,8 @@
 -- what a book that has to be opened again answers
 use Rattle.std.proofs.Common.{◌≡◌, ◌≢◌, ℕ, List, Bool, true, false, Some, refl, sym, subst, inl, inr}
-use Rattle.std.specs.Prelude.{Result, Ok, Err, ◌⊎◌, IsErrOf}
+use Rattle.std.specs.Prelude.{Result}
 use Rattle.httparse.specs.Grammar.{RequestHead}
-use Rattle.profile.specs.Response.{Method, Post, Response, fault_response}
-use Rattle.store.specs.Faults.{fault_of}
+use Rattle.profile.specs.Response.{Method, Post, Response}
 use Rattle.store.specs.Standing.{Standing}
 use Rattle.store.specs.declared.fault.Fault.TheVariants.{OutOfMemory, Reopen}
 use Rattle.intake.specs.Asking.{asks_in, call_asks, asks_with, target_asks, IsResponseOf, IsShutAnswer}

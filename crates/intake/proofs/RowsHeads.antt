@@ -1,7 +1,7 @@
 -- Worked examples: the head of a request from its bytes, and how large one may be.
-use Rattle.std.specs.Prelude.{◌≡◌, ◌≢◌, ℕ, ◌+◌, ◌*◌, ◌<◌, ◌≤◌, Bool, true, false, Result, Err, List, [], ◌∷◌, ◌++◌, length, take, drop, codes, zero, suc, All, IsTrue}
+use Rattle.std.specs.Prelude.{◌≡◌, ◌≢◌, ℕ, ◌+◌, ◌*◌, ◌<◌, ◌≤◌, true, false, Err, List, [], ◌∷◌, ◌++◌, length, take, drop, codes, zero, suc, All, IsTrue}
 use Rattle.std.specs.List.{flat_map, list_all, repeat}
-use Rattle.std.proofs.Common.{refl, arith, sym, ap, subst, ◌∙◌, length-append, append-nil, take-append-drop, append_assoc}
+use Rattle.std.proofs.Common.{refl, arith, sym, ap, subst, ◌∙◌, length-append, append-nil, take-append-drop}
 use Rattle.std.proofs.lemmas.List.{length-take-le}
 use Rattle.std.proofs.lemmas.List.Sums.{AllPass-from_list_all}
 use Rattle.httparse.proofs.OnLiterals.{httparse_on_literals}

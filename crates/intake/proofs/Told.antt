@@ -8,7 +8,7 @@ use Rattle.profile.specs.Moments.{Moment}
 use Rattle.store.specs.Standing.{Standing, IsUnchanged}
 use Rattle.intake.specs.declared.audience.Audience.{Audience}
 use Rattle.intake.specs.declared.served.Connection.{Connection}
-use Rattle.intake.specs.Connections.{HasTold, IsConnection, IsNotAccepted, IsOutcome, IsServedOn, moment_of}
+use Rattle.intake.specs.Connections.{HasTold, IsNotAccepted, IsOutcome, IsServedOn, moment_of}
 use Rattle.intake.specs.Serving.{IsWritten, IsUnread, IsUnwritten}
 
 -- by what its reader and its writer have, and what became of them
