@@ -1,5 +1,7 @@
 -- What stops a command: a fault of the book, or one of a device.
 use Rattle.std.specs.Prelude.{◌≡◌, ◌⊎◌, false, List, Option, Some, None}
+use Rattle.std.specs.IoError.{error_kind}
+use Rattle.std.specs.declared.io.Error.{Error}
 use Rattle.profile.specs.declared.rules.Rules.TheVariants.{Two}
 use Rattle.profile.specs.Accepted.{after}
 use Rattle.profile.specs.Moments.{Moment}
@@ -7,12 +9,18 @@ use Rattle.profile.specs.Register.{Entry, Command}
 use Rattle.store.specs.Standing.{Standing, IsUsable, IsFault}
 use Rattle.store.specs.declared.fault.Fault.{Fault}
 use Rattle.store.specs.declared.fault.Fault.TheVariants as faults
+use Rattle.folders.specs.Folders.{fault_of_kind}
 use Rattle.commands.specs.declared.told.CommandError.{CommandError}
 use Rattle.commands.specs.declared.told.CommandError.TheVariants as stops
 
 -- a device that doesn't serve, or want of memory
 abbrev pub IsDeviceStop : CommandError → Type 0
 IsDeviceStop stop = (stop ≡ stops.Fault faults.OutOfMemory) ⊎ (stop ≡ stops.Fault faults.Device)
+
+-- an error of a file, a reader or a writer, by its kind: want of memory, and else a fault of the device
+pub record IsErrorStop (error : Error) (stop : CommandError) : Type 0 where
+  pub told : stop ≡ stops.Fault (fault_of_kind (error_kind error))
+  pub device : IsDeviceStop stop
 
 -- the fault by which a command was stopped, if one did; what it is about plays no part
 abbrev pub fault_in : CommandError → Option Fault

@@ -1,5 +1,7 @@
 //! What a fault or a refusal is about, for people. It is told where it is asked for, after the fault or the refusal, and changes nothing.
 ghost use Rattle.std.specs.Prelude.{◌≡◌, Some};
+ghost use Rattle.std.specs.IoError.{error_kind};
+ghost use Rattle.folders.specs.Folders.{fault_of_kind};
 ghost use Rattle.commands.specs.Stops.{fault_in, IsDeviceFault};
 
 use crate::files::{MOST_SHEET, read_within};
@@ -51,32 +53,33 @@ fn reason_of(kind: io::ErrorKind) -> &'static str {
 
 /// The fault of a file that can't be read, with its name: Device (44), or want of memory.
 pub fn about_file(alloc: Global, file: &str, error: &io::Error) -> CommandError
-    ensures { IsDeviceFault result }
+    ensures told { fault_in result ≡ Some (fault_of_kind (error_kind error.now)) }
+    ensures device { IsDeviceFault result }
 {
-    let kind = error.kind();
-    if kind == io::ErrorKind::OutOfMemory {
-        return CommandError::Fault(Fault::OutOfMemory);
+    match error.kind() {
+        io::ErrorKind::OutOfMemory => CommandError::Fault(Fault::OutOfMemory),
+        kind => caused_of(alloc, Fault::Device, file, reason_of(kind)),
     }
-    caused_of(alloc, Fault::Device, file, reason_of(kind))
 }
 
 /// The fault of a book that isn't there, with the command that makes one.
 pub fn about_missing(alloc: Global, book: &str, error: &io::Error) -> CommandError
-    ensures { IsDeviceFault result }
+    ensures told { fault_in result ≡ Some (fault_of_kind (error_kind error.now)) }
+    ensures device { IsDeviceFault result }
 {
-    if error.kind() != io::ErrorKind::NotFound {
-        return about_file(alloc, book, error);
+    match error.kind() {
+        io::ErrorKind::NotFound => caused(
+            Fault::Device,
+            [
+                book,
+                ": no such file; `whx12 init WHO --book ",
+                book,
+                "` makes a book",
+            ]
+            .concat(alloc),
+        ),
+        _ => about_file(alloc, book, error),
     }
-    caused(
-        Fault::Device,
-        [
-            book,
-            ": no such file; `whx12 init WHO --book ",
-            book,
-            "` makes a book",
-        ]
-        .concat(alloc),
-    )
 }
 
 /// The fault of a book that is in use after it was waited for.
@@ -147,7 +150,8 @@ pub fn about_book(alloc: Global, book: &str, is_made: bool, stop: CommandError) 
 
 /// The fault of an address at which nobody can listen.
 pub fn about_address(alloc: Global, address: &SocketAddr, error: io::Error) -> CommandError
-    ensures { IsDeviceFault result }
+    ensures told { fault_in result ≡ Some (fault_of_kind (error_kind error)) }
+    ensures device { IsDeviceFault result }
 {
     let CommandError::Fault(fault) = CommandError::from(error) else {
         return CommandError::Fault(Fault::Device);

@@ -89,15 +89,14 @@ impl From<LineFault> for CommandError {
 }
 
 impl From<io::Error> for CommandError {
-    ghost use Rattle.commands.specs.Stops.{IsDeviceStop};
+    ghost use Rattle.commands.specs.Stops.{IsErrorStop};
 
-    ghost from_gives = { λ _ stop. IsDeviceStop stop };
+    ghost from_gives = { λ error stop. IsErrorStop error stop };
 
     fn from(error: io::Error) -> CommandError {
-        if error.kind() == io::ErrorKind::OutOfMemory {
-            CommandError::Fault(Fault::OutOfMemory)
-        } else {
-            CommandError::Fault(Fault::Device)
+        match error.kind() {
+            io::ErrorKind::OutOfMemory => CommandError::Fault(Fault::OutOfMemory),
+            _ => CommandError::Fault(Fault::Device),
         }
     }
 }
