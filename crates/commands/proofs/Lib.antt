@@ -4,3 +4,4 @@ pub mod ActLaws
 pub mod EnrolLaws
 pub mod ClockLaws
 mod RowsEnrolled
+pub mod ServingLaws

@@ -1,9 +1,34 @@
--- Whose requests a server takes.
-use Rattle.std.specs.Prelude.{Bool, true, false}
+-- Whose requests a server takes, and when its connections come.
+use Rattle.std.specs.Prelude.{◌≡◌, ℕ, Bool, true, false, List, Option, All, length, map, unwrap_or}
+use Rattle.std.specs.List.{FoldsTo}
+use Rattle.profile.specs.Moments.{Moment}
+use Rattle.intake.specs.Connections.{moment_of}
 use Rattle.intake.specs.declared.audience.Audience.{Audience}
 use Rattle.intake.specs.declared.audience.Audience.TheVariants.{Partners, Clerks}
+use Rattle.intake.specs.declared.served.Connection.{Connection}
 
 -- clerks' only where the line says so
 abbrev pub audience_of : Bool → Audience
 audience_of true = Clerks
 audience_of false = Partners
+
+-- The next moment, and the last good one then. Where no clock is asked it is the same again; else the clock is asked once, and where it
+-- gives none, it is the last good one.
+abbrev pub NextMoment : {F : Type 0} → (F → Option Moment → F → Type 0) → Bool → F × Moment → Moment → F × Moment → Type 0
+NextMoment asks false p m q = (m ≡ p.1) × (q ≡ p)
+NextMoment asks true p m q = (found : Option Moment) × asks p.0 found q.0 × (m ≡ unwrap_or found p.1) × (q.1 ≡ m)
+
+-- So many connections were served, one after the other, each as `serves` says, and each at the moment that was next then.
+pub record Comes {F K : Type 0} (asks : F → Option Moment → F → Type 0) (serves : K → Connection → K → Type 0) (has_clock : Bool) (ask : F) (first : Moment) (book left : K) (count : ℕ) : Type 0 where
+  pub connections : List Connection
+  pub last : F × Moment
+  pub moments : FoldsTo (NextMoment asks has_clock) (ask, first) (map moment_of connections) last
+  pub served : FoldsTo serves book connections left
+  pub counted : length connections ≡ count
+
+-- The same, where nothing is known of the clock: without it each comes at the first moment.
+pub record Came {K : Type 0} (serves : K → Connection → K → Type 0) (has_clock : Bool) (first : Moment) (book left : K) (count : ℕ) : Type 0 where
+  pub connections : List Connection
+  pub moments : has_clock ≡ false → All (λ (c : Connection). c.moment ≡ first) connections
+  pub served : FoldsTo serves book connections left
+  pub counted : length connections ≡ count

@@ -25,8 +25,8 @@ use std::io;
 use std::rt::{Clock, Files};
 use store::{Command, Keeper, Moment, Refusal, Reply, Who, submit};
 
-/// What is to be done to a book, its words tested and its files read, so that only the book and the devices can keep it from
-/// being done.
+/// What is to be done to a book, its words tested and its files read, so that only the book and the
+/// devices can keep it from being done.
 #[derive(Drop)]
 pub enum Ready<'a> {
     /// Enrol a depositor.
@@ -41,10 +41,10 @@ pub enum Ready<'a> {
     Clerk(Slip<'a>),
 }
 
-// What a line says is to be done, made ready: its words are tested from left to right, then its file is read, then a sheet or
-// a list is tested. Refused are 32, a word or a list that can't be read, also one that is too long, and what keeps a sheet from
-// being one (30 to 33, of one that is too long 32);
-// a file that can't be read is Device (44).
+// What a line says is to be done, made ready: its words are tested from left to right, then its
+// file is read, then a sheet or a list is tested. Refused are 32, a word or a list that can't be
+// read, also one that is too long, and what keeps a sheet from being one (30 to 33, of one that is
+// too long 32); a file that can't be read is Device (44).
 fn make_ready<'a, R: Files + AllocGlobal>(
     rt: &R,
     act: &BookAct<'a>,
@@ -72,8 +72,8 @@ fn make_ready<'a, R: Files + AllocGlobal>(
     }
 }
 
-/// What a line says is to be done, made ready, and its moment: the one that the line says, or the clock's. A clock that can't be used
-/// is told before anything is read.
+/// What a line says is to be done, made ready, and its moment: the one that the line says, or the
+/// clock's. A clock that can't be used is told before anything is read.
 pub fn ready_at<'a, R: Files + Clock + AllocGlobal>(
     rt: &R,
     act: &BookAct<'a>,
@@ -185,8 +185,8 @@ fn tell_slip<K: Keeper, W: io::Write, E: io::Write>(
     hand_in(alloc, book, &clerk(slip), moment, out, err)
 }
 
-/// Does to a book what was made ready, prints what comes of it, and tells a refusal on standard error, and as much more as is asked
-/// for.
+/// Does to a book what was made ready, prints what comes of it, and tells a refusal on standard
+/// error, and as much more as is asked for.
 pub fn perform<R: Files + AllocGlobal + Clone + Drop, K: Keeper, W: io::Write, E: io::Write>(
     rt: &R,
     book: &mut K,

@@ -1,4 +1,5 @@
-//! What a fault or a refusal is about, for people. It is told where it is asked for, after the fault or the refusal, and changes nothing.
+//! What a fault or a refusal is about, for people. It is told where it is asked for, after the
+//! fault or the refusal, and changes nothing.
 ghost use Rattle.std.specs.Prelude.{◌≡◌, Some};
 ghost use Rattle.std.specs.IoError.{error_kind};
 ghost use Rattle.folders.specs.Folders.{fault_of_kind};
@@ -167,7 +168,8 @@ pub fn about_address(alloc: Global, address: &SocketAddr, error: io::Error) -> C
     }
 }
 
-/// The fault of a server that doesn't serve what it is asked for, with its address and what is said of it.
+/// The fault of a server that doesn't serve what it is asked for, with its address and what is said
+/// of it.
 pub fn about_server(
     alloc: Global,
     server: &SocketAddr,
@@ -182,7 +184,8 @@ pub fn about_server(
     }
 }
 
-// What is said of the file at which the taking of a folder stopped, before the count of the files that were taken before it.
+// What is said of the file at which the taking of a folder stopped, before the count of the files
+// that were taken before it.
 fn said_of_file(fault: Fault) -> &'static str {
     match fault {
         Fault::Device =>
@@ -209,8 +212,8 @@ fn at_file(
     counted(alloc, &path, said, taken)
 }
 
-/// The fault at which the taking of a folder stopped, with the file and how many were taken before it; of a folder that can't be
-/// read, with its name.
+/// The fault at which the taking of a folder stopped, with the file and how many were taken before
+/// it; of a folder that can't be read, with its name.
 pub fn about_stop(alloc: Global, dir: &str, stop: &FolderStop) -> CommandError
     ensures { fault_in result ≡ Some stop.now.fault }
 {
@@ -322,7 +325,8 @@ fn about_sheet<R: Files + AllocGlobal>(
     }
 }
 
-/// Why the words of a line, or its sheet, are refused (30 to 33), as a line without its end; None where that isn't known.
+/// Why the words of a line, or its sheet, are refused (30 to 33), as a line without its end; None
+/// where that isn't known.
 pub fn about_line<R: Files + AllocGlobal>(
     rt: &R,
     task: &Task<'_>,

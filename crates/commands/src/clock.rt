@@ -9,7 +9,8 @@ use std::rt::Clock;
 use std::time::SystemTime;
 use store::Moment;
 
-/// The moment of a command: the one that its line says, or the clock's. A clock outside the years 2000 to 2099 is a usage fault.
+/// The moment of a command: the one that its line says, or the clock's. A clock outside the years
+/// 2000 to 2099 is a usage fault.
 pub fn moment_for<R: Clock + AllocGlobal>(
     rt: &R,
     at: Option<Moment>,
@@ -25,7 +26,8 @@ pub fn moment_for<R: Clock + AllocGlobal>(
     }
 }
 
-/// The clock's moment in UTC; None where the clock can't be read, or isn't in the years 2000 to 2099.
+/// The clock's moment in UTC; None where the clock can't be read, or isn't in the years 2000 to
+/// 2099.
 pub fn now(rt: &impl Clock) -> Option<Moment> {
     let time = SystemTime::now(rt).ok()?;
     civil(Timestamp::try_from(time).ok()?)

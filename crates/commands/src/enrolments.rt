@@ -84,7 +84,8 @@ fn enrol_one<K: Keeper, W: io::Write>(
     tell_enrolment(out, &who, &reply)
 }
 
-/// Enrols depositors in order, and prints a line for each. The status is 1 where one of them was refused.
+/// Enrols depositors in order, and prints a line for each. The status is 1 where one of them was
+/// refused.
 pub fn enrol_all<K: Keeper, W: io::Write>(
     alloc: Global,
     book: &mut K,
@@ -105,8 +106,8 @@ pub fn enrol_all<K: Keeper, W: io::Write>(
     Ok(status)
 }
 
-/// The depositors of the list in a file; None where it is no such list, or has more than 1,048,576 bytes. A file that can't be
-/// read is Device (44).
+/// The depositors of the list in a file; None where it is no such list, or has more than 1,048,576
+/// bytes. A file that can't be read is Device (44).
 pub fn read_roster<R: Files + AllocGlobal>(
     rt: &R,
     file: &str,

@@ -15,8 +15,8 @@ pub const MOST_ROSTER: u32 = 1_048_576;
 /// The most bytes of a script.
 pub const MOST_SCRIPT: u32 = 16_777_216;
 
-/// The bytes of a file; None where it has more than `most`, and then one more than these is read. A file that can't be read is
-/// Device (44).
+/// The bytes of a file; None where it has more than `most`, and then one more than these is read. A
+/// file that can't be read is Device (44).
 pub fn read_within<R: Files + AllocGlobal>(
     rt: &R,
     file: &str,

@@ -1,5 +1,6 @@
-//! The program's commands, done over a book of any kind: what a line of words asks for is made ready, done and told. The book in its
-//! file, and the program's own line, are the crate's above this one.
+//! The program's commands, done over a book of any kind: what a line of words asks for is made
+//! ready, done and told. The book in its file, and the program's own line, are the crate's above
+//! this one.
 #![tactic(auto)]
 
 mod acts;

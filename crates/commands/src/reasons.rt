@@ -1,4 +1,5 @@
-//! Why words, files or the book refuse something, for people: the word, or the line of the sheet and what the book has of its pair.
+//! Why words, files or the book refuse something, for people: the word, or the line of the sheet
+//! and what the book has of its pair.
 ghost use Rattle.std.specs.Io.KnownBytes.{Appends};
 ghost use Rattle.std.specs.Prelude.{◌≡◌, ◌++◌, false, List, Ok, IfOk, OnOk, codes, count_by, find, is_some, option_copied};
 ghost use Rattle.profile.specs.declared.rules.Rules.TheVariants.{Two};
@@ -108,8 +109,8 @@ fn first_unkept<'l>(lines: &'l [Goods], kept: &[Kept<'_>]) -> Option<&'l Goods>
     lines.iter().find(|line| is_unkept(kept, line))
 }
 
-// The line whose pair no count has named: the first one of whose pair nothing is kept, or the only one of which it isn't known that a count
-// named it.
+// The line whose pair no count has named: the first one of whose pair nothing is kept, or the only
+// one of which it isn't known that a count named it.
 fn unnamed<'l>(lines: &'l [Goods], kept: &[Kept<'_>]) -> Option<&'l Goods>
     ensures { option_copied result ≡ meant.unnamed kept.now lines.now }
 {
@@ -147,8 +148,8 @@ fn first_under<'l>(lines: &'l [Goods], kept: &[Kept<'_>]) -> Option<&'l Goods>
     lines.iter().find(|line| is_under(kept, line))
 }
 
-// The line of a sheet that is the reason of a refusal, by what is kept of the pairs; None of a refusal that no line is the reason of, or
-// where it isn't known.
+// The line of a sheet that is the reason of a refusal, by what is kept of the pairs; None of a
+// refusal that no line is the reason of, or where it isn't known.
 fn blamed<'l>(refusal: Refusal, lines: &'l [Goods], kept: &[Kept<'_>]) -> Option<&'l Goods>
     ensures { option_copied result ≡ meant.blamed refusal kept.now lines.now }
 {
@@ -198,8 +199,9 @@ fn wrong_with(
     }
 }
 
-/// Why the sheet in a file, which has this text, is refused (26, 27 or 28) by a book that keeps these pairs, as a line without its end: the
-/// file's name, the line and what is wrong there. None for another refusal, or where it isn't known.
+/// Why the sheet in a file, which has this text, is refused (26, 27 or 28) by a book that keeps
+/// these pairs, as a line without its end: the file's name, the line and what is wrong there. None
+/// for another refusal, or where it isn't known.
 pub fn reason(
     alloc: Global,
     refusal: Refusal,
@@ -253,7 +255,8 @@ fn counted_of(alloc: Global, page: &Page) -> Result<Vec<Kept<'_>>, AllocError> {
     Ok(kept)
 }
 
-// Why a page refuses a recount, as far as a line of the sheet is the reason: a pair that no count has named comes first.
+// Why a page refuses a recount, as far as a line of the sheet is the reason: a pair that no count
+// has named comes first.
 fn not_recounted(
     alloc: Global,
     page: &Page,
@@ -278,7 +281,8 @@ fn not_picked(alloc: Global, page: &Page, slip: &Slip<'_>) -> Result<Option<Stri
     reason(alloc, Refusal::NotReserved, &slip.told, &slip.text, &kept)
 }
 
-// Why a page refuses what a clerk did under a new ticket, as far as a line of the sheet is the reason.
+// Why a page refuses what a clerk did under a new ticket, as far as a line of the sheet is the
+// reason.
 fn page_reason(alloc: Global, page: &Page, slip: &Slip<'_>) -> Result<Option<String>, AllocError> {
     match slip.told.deed {
         Deed::Count => Ok(None),
@@ -295,8 +299,8 @@ pub fn tell_cause<E: io::Write>(err: &mut E, cause: &str) -> io::Result<()>
     err.write_all(b"\n")
 }
 
-/// Tells why a line's words or files are refused (30 to 33), and where it is asked for which of them it is. What can't be told of that is
-/// left out: the refusal stands.
+/// Tells why a line's words or files are refused (30 to 33), and where it is asked for which of
+/// them it is. What can't be told of that is left out: the refusal stands.
 pub fn tell_unready<R: Files + AllocGlobal, E: io::Write>(
     rt: &R,
     task: &Task<'_>,
@@ -317,8 +321,8 @@ pub fn tell_unready<R: Files + AllocGlobal, E: io::Write>(
     Ok(status)
 }
 
-/// Tells why a book refuses what a clerk did, where a line of the sheet is the reason, and not the ticket, which another deed has. The
-/// book stays as it is.
+/// Tells why a book refuses what a clerk did, where a line of the sheet is the reason, and not the
+/// ticket, which another deed has. The book stays as it is.
 pub fn tell_reason<K: Keeper, E: io::Write>(
     alloc: Global,
     book: &mut K,

@@ -104,7 +104,8 @@ fn tell_why<R: Files + AllocGlobal, K: Keeper, E: io::Write>(
     }
 }
 
-// Does what a row of a script or a batch asks for, over the book. What can't be told of a refusal is left out: the refusal stands.
+// Does what a row of a script or a batch asks for, over the book. What can't be told of a refusal
+// is left out: the refusal stands.
 fn answer_row<R: Files + Clock + AllocGlobal + Clone + Drop, K: Keeper, W: io::Write, E: io::Write>(
     rt: &R,
     book: &mut K,
@@ -124,7 +125,8 @@ fn answer_row<R: Files + Clock + AllocGlobal + Clone + Drop, K: Keeper, W: io::W
     Ok(status)
 }
 
-// Says what happened at a line of a script or a batch, counted from 0. Where that can't be said, the rest is told all the same.
+// Says what happened at a line of a script or a batch, counted from 0. Where that can't be said,
+// the rest is told all the same.
 fn tell_line<E: io::Write>(err: &mut E, what: &str, line: usize) {
     let number = line.saturating_add(1);
     let _ = write!(err, "{what} at line {number}\n");
@@ -149,8 +151,8 @@ fn tell_stopped_line<E: io::Write>(err: &mut E, line: usize, is_wanted: bool) {
     }
 }
 
-// Does what the lines of a text ask for over a book, one after the other, from the one after so many on. Where a line stops it, its number is
-// told if that is wanted.
+// Does what the lines of a text ask for over a book, one after the other, from the one after so
+// many on. Where a line stops it, its number is told if that is wanted.
 fn play_from<R: Files + Clock + AllocGlobal + Clone + Drop, K: Keeper, W: io::Write, E: io::Write>(
     rt: &R,
     book: &mut K,
@@ -182,9 +184,10 @@ fn play_from<R: Files + Clock + AllocGlobal + Clone + Drop, K: Keeper, W: io::Wr
     Ok(status)
 }
 
-/// Does what the lines of a text ask for over a book, one after the other. A refusal goes on; words that can't be read, and a fault, stop
-/// it, after the number of the line is told. What was done by then stays done. Where it is asked for, the number of each line that is
-/// refused is told too, with its cause before it.
+/// Does what the lines of a text ask for over a book, one after the other. A refusal goes on; words
+/// that can't be read, and a fault, stop it, after the number of the line is told. What was done by
+/// then stays done. Where it is asked for, the number of each line that is refused is told too,
+/// with its cause before it.
 pub fn play_over<
     R: Files + Clock + AllocGlobal + Clone + Drop,
     K: Keeper,
@@ -231,8 +234,9 @@ fn made<R: Files + AllocGlobal, E: io::Write>(
     }
 }
 
-// Plays the lines of a script, the first of which makes the book. A refusal goes on, but of that line; anything else that isn't done stops it.
-// The number of such a line is told where it is asked for.
+// Plays the lines of a script, the first of which makes the book. A refusal goes on, but of that
+// line; anything else that isn't done stops it. The number of such a line is told where it is asked
+// for.
 fn play<R: Files + Clock + AllocGlobal + Clone + Drop, W: io::Write, E: io::Write>(
     rt: &R,
     text: &str,
@@ -264,8 +268,8 @@ fn play<R: Files + Clock + AllocGlobal + Clone + Drop, W: io::Write, E: io::Writ
     }
 }
 
-/// The text of a script or a batch in a file. One that is no UTF-8 text, or has more than 16,777,216 bytes, is a usage fault, a file
-/// that can't be read Device (44).
+/// The text of a script or a batch in a file. One that is no UTF-8 text, or has more than
+/// 16,777,216 bytes, is a usage fault, a file that can't be read Device (44).
 pub fn read_lines<R: Files + AllocGlobal>(rt: &R, file: &str) -> Result<String, CommandError> {
     let Some(bytes) = read_within(rt, file, MOST_SCRIPT)? else {
         return Err(usage(rt.alloc(), "a script has at most 16,777,216 bytes\n"));
@@ -276,8 +280,9 @@ pub fn read_lines<R: Files + AllocGlobal>(rt: &R, file: &str) -> Result<String, 
     }
 }
 
-/// Runs the script in a file over a new book in memory. A script that can't be read as words is a usage fault; what was printed before
-/// it, or before a fault, stays. Where it is asked for, the number of each line that is refused or stops it is told.
+/// Runs the script in a file over a new book in memory. A script that can't be read as words is a
+/// usage fault; what was printed before it, or before a fault, stays. Where it is asked for, the
+/// number of each line that is refused or stops it is told.
 pub fn run_script<R: Files + Clock + AllocGlobal + Clone + Drop, W: io::Write, E: io::Write>(
     rt: &R,
     file: &str,

@@ -27,8 +27,8 @@ impl<'a> ServedFile<'a> {
         self.name
     }
 
-    /// Whether the name still leads to it. A book that was removed, or restored over, is another file, and what is written to the one
-    /// that is open is lost with it.
+    /// Whether the name still leads to it. A book that was removed, or restored over, is another
+    /// file, and what is written to the one that is open is lost with it.
     pub fn is_there<R: Files>(&self, rt: &R) -> bool {
         match fs::metadata(rt, self.name) {
             Ok(found) => found.dev() == self.device && found.ino() == self.inode,

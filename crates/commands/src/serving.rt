@@ -1,6 +1,8 @@
 //! A book served over HTTP.
-ghost use Rattle.std.specs.Prelude.{◌≡◌, unwrap_or};
+ghost use Rattle.std.specs.Prelude.{◌≡◌, ◌≤◌, ℕ, OnOk, OnErr, unwrap_or};
+ghost use Rattle.intake.specs.Connections.{IsConnection};
 ghost use Rattle.commands.specs.Serving as meant;
+ghost use Rattle.commands.specs.Serving.{NextMoment, Comes, Came};
 
 use crate::causes::{about_address, about_replaced};
 use crate::clock::now;
@@ -79,7 +81,8 @@ fn tell_asked<E: io::Write>(err: &mut E, line: &Option<RequestLine>) -> io::Resu
     write!(err, " {path} ")
 }
 
-// Says what a connection came to: the status or the number of the fault, the bytes of the response, and the milliseconds.
+// Says what a connection came to: the status or the number of the fault, the bytes of the response,
+// and the milliseconds.
 fn tell_end<E: io::Write>(err: &mut E, connection: &Connection) -> io::Result<()> {
     let number = match &connection.served.outcome {
         Ok(status) => status.as_u16(),
@@ -93,8 +96,8 @@ fn tell_end<E: io::Write>(err: &mut E, connection: &Connection) -> io::Result<()
     }
 }
 
-// Tells of a connection on a line of its own: moment, peer, method, path, whose interchange was handed in, status or fault, bytes and
-// milliseconds, with `-` for what isn't known.
+// Tells of a connection on a line of its own: moment, peer, method, path, whose interchange was
+// handed in, status or fault, bytes and milliseconds, with `-` for what isn't known.
 fn tell_connection<E: io::Write>(err: &mut E, connection: &Connection) -> io::Result<()> {
     tell_peer(err, connection)?;
     tell_asked(err, &connection.served.line)?;
@@ -113,44 +116,55 @@ fn moment_after(found: Option<Moment>, last: Moment) -> Moment
     }
 }
 
-// The clock's moment; the last good one where the clock can't be used now.
-fn moment_behind(rt: &HostRuntime, last: Moment) -> Moment {
-    moment_after(now(rt), last)
-}
-
-/// Serves so many connections of a listener as the service says, and prints what became of each. The moment of each is `first`,
-/// or the clock's if `has_clock`; where the clock can't be used, the last good one. Device (44) where an outcome couldn't be
-/// printed, which is told at the end; Reopen (42) where the book has to be opened again. Where it is asked for, a line on standard error
-/// tells of each connection; what can't be told there is left out. Device ends it at once where `admits`, which is asked before anything of a
-/// connection is read, says no.
-pub fn serve_on<K: Keeper, A: FnMut() -> bool, W: io::Write, E: io::Write>(
+// Serves as `serve_on` does, to that audience. The clock's moment is what `ask` gives, which is
+// called once for each connection; None where the clock can't be used then.
+fn serve_asking<
+    K: Keeper,
+    F: FnMut() -> Option<Moment>,
+    A: FnMut() -> bool,
+    W: io::Write,
+    E: io::Write,
+>(
     rt: &HostRuntime,
     listener: &TcpListener,
     service: &Service,
+    audience: Audience,
     book: &mut K,
     first: Moment,
     has_clock: bool,
+    mut ask: F,
     admits: A,
     verbosity: Verbosity,
     out: &mut W,
     err: &mut E,
 ) -> Result<ExitStatus, CommandError>
+    requires asks { (f : F) → F.pre f }
     requires admits { A.IsAlwaysCallable admits }
+    ensures served { OnOk result (Comes F.step
+        (λ old c new. IsConnection audience (K.standing old) (K.standing new) c)
+        has_clock ask first book.old book.new service.now.count) }
+    ensures ended { OnErr result ((n : ℕ) × (n ≤ service.now.count) × Comes F.step
+        (λ old c new. IsConnection audience (K.standing old) (K.standing new) c)
+        has_clock ask first book.old book.new n) }
 {
     let mut last = first;
     let mut is_told = true;
+    let clock = move ||
+        requires { (f : F) → F.pre f }
+        ensures { NextMoment F.step has_clock (ask.entry, last.entry) result (ask.exit, last.exit) }
+    {
+        if has_clock {
+            last = moment_after(ask(), last);
+        }
+        last
+    };
     serve_within(
         rt.alloc(),
         listener,
         service.count,
         book,
-        audience_of(service),
-        || {
-            if has_clock {
-                last = moment_behind(rt, last);
-            }
-            last
-        },
+        audience,
+        clock,
         |connection: Connection| {
             if tell_outcome(out, &connection.served.outcome).is_err() {
                 is_told = false;
@@ -169,16 +183,59 @@ pub fn serve_on<K: Keeper, A: FnMut() -> bool, W: io::Write, E: io::Write>(
     }
 }
 
-// Says where a server listens, also where the line left the port to the system. What can't be said is left out: it is no part of what is
-// served.
+/// Serves so many connections of a listener as the service says, and prints what became of each.
+/// The moment of each is `first`, or the clock's if `has_clock`; where the clock can't be used, the
+/// last good one. Device (44) where an outcome couldn't be printed, which is told at the end;
+/// Reopen (42) where the book has to be opened again. Where it is asked for, a line on standard
+/// error tells of each connection; what can't be told there is left out. Device ends it at once
+/// where `admits`, which is asked before anything of a connection is read, says no.
+pub fn serve_on<K: Keeper, A: FnMut() -> bool, W: io::Write, E: io::Write>(
+    rt: &HostRuntime,
+    listener: &TcpListener,
+    service: &Service,
+    book: &mut K,
+    first: Moment,
+    has_clock: bool,
+    admits: A,
+    verbosity: Verbosity,
+    out: &mut W,
+    err: &mut E,
+) -> Result<ExitStatus, CommandError>
+    requires admits { A.IsAlwaysCallable admits }
+    ensures served { OnOk result (Came
+        (λ old c new. IsConnection (meant.audience_of service.now.clerks) (K.standing old) (K.standing new) c)
+        has_clock first book.old book.new service.now.count) }
+    ensures ended { OnErr result ((n : ℕ) × (n ≤ service.now.count) × Came
+        (λ old c new. IsConnection (meant.audience_of service.now.clerks) (K.standing old) (K.standing new) c)
+        has_clock first book.old book.new n) }
+{
+    serve_asking(
+        rt,
+        listener,
+        service,
+        audience_of(service),
+        book,
+        first,
+        has_clock,
+        || now(rt),
+        admits,
+        verbosity,
+        out,
+        err,
+    )
+}
+
+// Says where a server listens, also where the line left the port to the system. What can't be said
+// is left out: it is no part of what is served.
 fn tell_address<E: io::Write>(err: &mut E, listener: &TcpListener) {
     if let Ok(address) = listener.local_addr() {
         let _ = write!(err, "listening at {address}\n");
     }
 }
 
-/// Serves the book of a file at an address, and where it is asked for says where it listens. Beyond the faults of `serve_on` it is Device (44)
-/// where nobody can listen there, and where the file's name leads to another file, or to none, when a connection comes.
+/// Serves the book of a file at an address, and where it is asked for says where it listens. Beyond
+/// the faults of `serve_on` it is Device (44) where nobody can listen there, and where the file's
+/// name leads to another file, or to none, when a connection comes.
 pub fn serve<K: Keeper, W: io::Write, E: io::Write>(
     rt: &HostRuntime,
     book: &mut K,

@@ -91,7 +91,8 @@ fn stock_text(alloc: Global, rows: &[StockRow], is_csv: bool) -> Result<Vec<u8>,
     }
 }
 
-// Prints what a depositor has: the stock report, or its export as CSV. Refused is 20, an unknown depositor.
+// Prints what a depositor has: the stock report, or its export as CSV. Refused is 20, an unknown
+// depositor.
 fn stock<K: Keeper, W: io::Write, E: io::Write>(
     alloc: Global,
     book: &mut K,
@@ -158,8 +159,8 @@ fn tell_no_sheet<E: io::Write>(
     }
 }
 
-// Prints the picking sheet of an order. Refused are 20, an unknown depositor, 24, an unknown order, and 25, an order that was
-// picked.
+// Prints the picking sheet of an order. Refused are 20, an unknown depositor, 24, an unknown order,
+// and 25, an order that was picked.
 fn order<K: Keeper, W: io::Write, E: io::Write>(
     alloc: Global,
     book: &mut K,
@@ -230,8 +231,8 @@ fn tell_content<W: io::Write>(
     }
 }
 
-// Prints the text of a number that went out to a depositor, and LF. Refused is 20, an unknown depositor; where nothing went out
-// under the number nothing is told, and the status says so.
+// Prints the text of a number that went out to a depositor, and LF. Refused is 20, an unknown
+// depositor; where nothing went out under the number nothing is told, and the status says so.
 fn content<K: Keeper, W: io::Write, E: io::Write>(
     alloc: Global,
     book: &mut K,
@@ -271,8 +272,9 @@ fn depositors<K: Keeper, W: io::Write>(
     Ok(ExitStatus::Done)
 }
 
-/// Shows of a book what is asked for. Refused are 20, an unknown depositor, and of a picking sheet 24, an unknown order, and 25,
-/// one that was picked; a number without a text is told by the status alone.
+/// Shows of a book what is asked for. Refused are 20, an unknown depositor, and of a picking sheet
+/// 24, an unknown order, and 25, one that was picked; a number without a text is told by the status
+/// alone.
 pub fn show<K: Keeper, W: io::Write, E: io::Write>(
     alloc: Global,
     book: &mut K,

@@ -60,8 +60,8 @@ struct Read {
     text: Vec<u8>,
 }
 
-// Tests a clerk's words, and reads the file with their sheet. Refused is 32, a word that can't be read or a sheet that is too long; a
-// file that can't be read is Device (44).
+// Tests a clerk's words, and reads the file with their sheet. Refused is 32, a word that can't be
+// read or a sheet that is too long; a file that can't be read is Device (44).
 fn read_slip<R: Files + AllocGlobal>(
     rt: &R,
     told: &ClerkWords<'_>,
@@ -77,8 +77,9 @@ fn read_slip<R: Files + AllocGlobal>(
     }
 }
 
-/// What a clerk's words and the file with its sheet come to. Refused are 32, a word that can't be read or a sheet that is too
-/// long, and what keeps a sheet from being one (30 to 33); a file that can't be read is Device (44).
+/// What a clerk's words and the file with its sheet come to. Refused are 32, a word that can't be
+/// read or a sheet that is too long, and what keeps a sheet from being one (30 to 33); a file that
+/// can't be read is Device (44).
 pub fn slip_of<'a, R: Files + AllocGlobal>(
     rt: &R,
     told: &ClerkWords<'a>,

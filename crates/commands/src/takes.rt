@@ -51,9 +51,10 @@ fn tell_passed<E: io::Write>(err: &mut E, passed: &[PassedOver]) -> io::Result<(
     Ok(())
 }
 
-/// Submits each interchange of a folder, whose answers are written beside them, and prints what became of each: `a.x12 accepted`,
-/// `a.x12 stored`, `a.x12 refused 025` or `a.x12 unreadable`. At a fault nothing is printed, and the fault is told with the file at
-/// which it stopped. Where it is asked for, what is passed over is told on standard error, and how far the taking is.
+/// Submits each interchange of a folder, whose answers are written beside them, and prints what
+/// became of each: `a.x12 accepted`, `a.x12 stored`, `a.x12 refused 025` or `a.x12 unreadable`. At
+/// a fault nothing is printed, and the fault is told with the file at which it stopped. Where it is
+/// asked for, what is passed over is told on standard error, and how far the taking is.
 pub fn take<R: Files + AllocGlobal + Clone + Drop, K: Keeper, W: io::Write, E: io::Write>(
     rt: &R,
     book: &mut K,

@@ -167,8 +167,9 @@ fn told<E: io::Write>(err: &mut E, stop: &CommandError, explains: bool) -> io::R
     }
 }
 
-/// Tells what stopped a command on standard error: a fault as `fault 44 Device`, with what it is about on the next line where that is asked
-/// for. Where standard error fails too, the status alone tells it.
+/// Tells what stopped a command on standard error: a fault as `fault 44 Device`, with what it is
+/// about on the next line where that is asked for. Where standard error fails too, the status alone
+/// tells it.
 pub fn tell_stop<E: io::Write>(err: &mut E, stop: &CommandError, explains: bool) -> ExitStatus
     ensures { result ≡ meant.status_of stop.now }
 {
