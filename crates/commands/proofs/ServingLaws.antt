@@ -1,5 +1,5 @@
--- the moments of connections
-use Rattle.std.proofs.Common.{◌≡◌, ℕ, ◌<◌, Bool, true, false, List, [], ◌∷◌, Option, Result, Ok, Err, OnErr, All, zero, suc, arith, map, sym, subst, ap, ◌∙◌}
+-- The moments of connections.
+use Rattle.std.proofs.Common.{◌≡◌, ℕ, Bool, false, List, [], ◌∷◌, Option, Result, Ok, Err, OnErr, All, zero, suc, arith, map, subst, ap}
 use Rattle.std.specs.List.{FoldsTo}
 use Rattle.profile.specs.Moments.{Moment}
 use Rattle.intake.specs.declared.served.Connection.{Connection}

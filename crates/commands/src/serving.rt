@@ -246,7 +246,14 @@ pub fn serve<K: Keeper, W: io::Write, E: io::Write>(
     verbosity: Verbosity,
     out: &mut W,
     err: &mut E,
-) -> Result<ExitStatus, CommandError> {
+) -> Result<ExitStatus, CommandError>
+    ensures served { OnOk result (Came
+        (λ old c new. IsConnection (meant.audience_of service.now.clerks) (K.standing old) (K.standing new) c)
+        has_clock first book.old book.new service.now.count) }
+    ensures ended { OnErr result ((n : ℕ) × (n ≤ service.now.count) × Came
+        (λ old c new. IsConnection (meant.audience_of service.now.clerks) (K.standing old) (K.standing new) c)
+        has_clock first book.old book.new n) }
+{
     let listener = match TcpListener::bind(rt, service.address) {
         Ok(listener) => listener,
         Err(error) => return Err(about_address(rt.alloc(), &service.address, error)),
