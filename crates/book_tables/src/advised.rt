@@ -13,7 +13,7 @@ ghost use Rattle.book_tables.specs.Looking.{bare_advice, lines_advised};
 ghost use Rattle.book_tables.specs.Showing.{advice_shown};
 
 use crate::connected::Tables;
-use crate::lines::lines_in;
+use crate::line_rows::lines_in;
 use crate::reading::{flag_at, text_at};
 use profile::MOST_LINES_TWO;
 use rules::Who;

@@ -13,7 +13,7 @@ mod connected;
 mod dates;
 mod enrolled;
 pub mod laws;
-mod lines;
+mod line_rows;
 mod looking;
 mod lots;
 mod making;

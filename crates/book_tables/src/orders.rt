@@ -14,7 +14,7 @@ ghost use Rattle.book_tables.specs.Looking.{bare_order, lines_ordered, lines_res
 ghost use Rattle.book_tables.specs.Showing.{order_shown, order_line_shown};
 
 use crate::connected::Tables;
-use crate::lines::lines_in;
+use crate::line_rows::lines_in;
 use crate::reading::{flag_at, small_at, text_at};
 use rules::Who;
 use sets_in::{Address, Goods};

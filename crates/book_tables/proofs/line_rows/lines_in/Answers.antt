@@ -4,7 +4,7 @@ use Rattle.book_tables.specs.Showing.{line_shown}
 use Rattle.rules.specs.Fitting.{is_fitting_line}
 use Rattle.book_tables.proofs.Fits.{has_all, small_line}
 use Rattle.book_tables.proofs.Places.{at_place, one_longer, whole_taken}
-use Rattle.book_tables.proofs.lines.lines_in.Goals as goal
+use Rattle.book_tables.proofs.line_rows.lines_in.Goals as goal
 
 pub returns-in_default-clause-shows : goal.returns-in_default-clause-shows
 returns-in_default-clause-shows c rs fit is =
