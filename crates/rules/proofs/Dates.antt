@@ -35,7 +35,7 @@ abbrev pub AreDated : Dates → List LotRow → Type 0
 AreDated known [] = Unit {0}
 AreDated known (r ∷ rows) = (r.expiry ≡ known r.item r.lot) × AreDated known rows
 
-same_kept : (o : Option (List ℕ)) → KeepsDate o o
+pub same_kept : (o : Option (List ℕ)) → KeepsDate o o
 same_kept None = tt
 same_kept (Some date) = refl
 
@@ -52,7 +52,7 @@ dates_kept p es e shows item lot =
 abbrev date_found : Option LotRow → Option (List ℕ)
 date_found o = option_and_then (λ (q : LotRow). q.expiry) o
 
-date_put : (a b : List ℕ) (r : LotRow) (rows : List LotRow) → told_date a b (put_row r rows) ≡ cond (is_row a b r) r.expiry (told_date a b rows)
+pub date_put : (a b : List ℕ) (r : LotRow) (rows : List LotRow) → told_date a b (put_row r rows) ≡ cond (is_row a b r) r.expiry (told_date a b rows)
 date_put a b r rows = ap date_found (find_put key_before pairs_strict row_key (a, b) (is_row a b) (row_test a b) r rows) ∙ by (is_row a b r)
   where
     by : (v : Bool) → date_found (cond v (Some r) (find (is_row a b) rows)) ≡ cond v r.expiry (told_date a b rows)

@@ -48,3 +48,5 @@ pub mod GivenAgain
 pub mod GivenRead
 pub mod ItemLines
 pub mod Covered
+pub mod Lasts
+pub mod RowsLasting

@@ -15,3 +15,4 @@ pub mod Naming
 pub mod LegalPages
 pub mod Fitting
 pub mod Given
+pub mod Lasting

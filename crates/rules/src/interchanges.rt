@@ -14,6 +14,7 @@ ghost use Rattle.profile.specs.Structure.{groups_of};
 ghost use Rattle.envelope.specs.Conditions.{IsTold};
 ghost use Rattle.goods.specs.Pages.{PageFacts};
 ghost use Rattle.rules.specs.Needs.{HasNeeded};
+ghost use Rattle.rules.specs.Lasting.{PutsOnce};
 ghost use Rattle.rules.specs.Decided.{IsNoEntry, Makes, IsPageOf, IsEntry, IsGiven, IsReply, IsAtRest, LeadsOn, LeadsFrom, entries_of};
 
 use crate::answers::{answer, refusal};
@@ -21,6 +22,7 @@ use crate::commands::Key;
 use crate::decisions::Decision;
 use crate::entries::{Entry, Known};
 use crate::house::Warehouse;
+use crate::lasting::lasting;
 use crate::refusals::Refusal;
 use crate::taking::take_groups;
 use envelope::{Halt, Interchange, Isa, header_note, isa, structure};
@@ -100,7 +102,7 @@ fn entry(
 }
 
 // What an interchange comes to that no condition halts: it is accepted under the next number, if
-// there is one.
+// there is one. Its sets may change a row again and again; only the last value is put in.
 fn accepted(
     alloc: Global,
     envelope: Envelope,
@@ -123,6 +125,7 @@ fn accepted(
     requires whose { envelope.depositor ≡ sender text.now }
     ensures comes { IfOk result (Makes rules (register.Interchange text.now) envelope.moment) }
     ensures leads { IfOk result (LeadsOn rules page.now (register.Interchange text.now) envelope.moment) }
+    ensures once { IfOk result (PutsOnce) }
     ensures reply { IfOk result (λ d. (h : History) (P : PageFacts)
         → HasNeeded (register.Interchange text.now) page.now P → IsPageOf P h
         → IsReply rules page.now.entries (register.Interchange text.now) envelope.moment (recalled.accepted_by
@@ -132,11 +135,13 @@ fn accepted(
         return Ok(Decision::Refused(Refusal::NumbersUsedUp, Vec::new(alloc)));
     }
     let groups = take_groups(alloc, page.copy()?, interchange, rules)?;
+    let all = groups.changes;
+    let changes = lasting(alloc, &groups.page, all)?;
     let outgoing = answer(alloc, envelope, header, &groups.told)?;
     let entry = entry(alloc, &envelope, header, text, rules)?;
     Ok(Decision::Accepted {
         entry,
-        changes: groups.changes,
+        changes,
         outgoing,
     })
 }

@@ -13,6 +13,7 @@ mod house;
 mod interchanges;
 mod judging;
 mod kinds;
+mod lasting;
 pub mod laws;
 mod names;
 mod needs;

@@ -1,4 +1,7 @@
 use Rattle.std.proofs.Common.{List, ap, ◌∙◌, sym, subst, arith, length}
+use Rattle.profile.specs.History.{after_entry}
+use Rattle.profile.specs.Reply.{interchange_entry}
+use Rattle.profile.specs.Rows.{LotRow}
 use Rattle.profile.specs.Texts.{Told}
 use Rattle.sets_out.specs.Headings.{heading_of}
 use Rattle.sets_out.specs.Interchanges.{answer_of}
@@ -9,10 +12,14 @@ use Rattle.profile.specs.Structure.{Group, groups_of}
 use Rattle.profile.specs.Cut.{cut}
 use Rattle.profile.specs.Header.{delims_of}
 use Rattle.envelope.specs.Parts.{GroupsOf}
+use Rattle.stock.specs.declared.steps.Change.{Change}
+use Rattle.rules.specs.Decided.{AreLeading}
 use Rattle.rules.specs.Judging.{IsSmall, AreGroupsTaken}
+use Rattle.rules.specs.Lasting.{HaveRows}
 use Rattle.rules.proofs.Content.{content}
 use Rattle.rules.proofs.Decides.{accepted_reply}
 use Rattle.rules.proofs.Leading.{interchange_leads}
+use Rattle.rules.proofs.Lasts.{lasting_leads, rows_there}
 use Rattle.rules.proofs.interchanges.accepted.Goals as goal
 
 pub take_groups-requires-clause-room : goal.take_groups-requires-clause-room
@@ -45,4 +52,12 @@ returns-clause-leads c = λ h P has of.
     let taken : AreGroupsTaken c.args.rules (delims_of c.args.text.now) (groups_of ((cut (delims_of c.args.text.now) c.args.text.now).segments)) c.args.page.now c.in_ok-groups.groups.page cs told =
     subst (λ (i : GroupsOf). AreGroupsTaken c.args.rules i.delims i.groups c.args.page.now c.in_ok-groups.groups.page cs told) c.requires.parts
     (subst (λ (p : PageFacts). AreGroupsTaken c.args.rules c.args.interchange.now.delims c.args.interchange.now.groups p c.in_ok-groups.groups.page cs told) c.in_ok-copy.ensures c.in_ok-groups.ensures) in
-    interchange_leads c.args.rules c.args.text.now c.args.envelope.moment c.args.page.now c.in_ok-groups.groups.page P told cs h has.named taken has.part (has.names c.requires.readable c.requires.clean) of
+    let there = after_entry h (interchange_entry c.args.rules c.args.text.now c.args.envelope.moment) in
+    subst (λ (ds : List Change). AreLeading P ds there) (sym c.in_ok-changes.ensures.lasts)
+    (lasting_leads cs P there
+    (interchange_leads c.args.rules c.args.text.now c.args.envelope.moment c.args.page.now c.in_ok-groups.groups.page P told cs h has.named taken has.part (has.names c.requires.readable c.requires.clean) of))
+
+pub lasting-requires : goal.lasting-requires
+lasting-requires c =
+    let cs = c.in_ok-groups.groups.changes.items in
+    subst (λ (rows : List LotRow). HaveRows rows cs) (sym (ap (λ (p : PageFacts). p.rows) c.in_ok-groups.ensures.same)) (rows_there cs _)
