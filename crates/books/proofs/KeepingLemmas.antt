@@ -11,17 +11,21 @@ use Rattle.profile.specs.Register.{Entry}
 use Rattle.store.specs.Standing.{IsUsable, IsNext, LeavesEither}
 use Rattle.book_tables.specs.Standing.{StandsIn}
 use Rattle.book_tables.specs.Exits.{IsAppended, HasGrown, LeavesIt, StandsWhileOpen}
-use Rattle.books.specs.Keeping.{IsSettled, standing_in}
+use Rattle.books.specs.Keeping.{IsKept, IsSettled, standing_in}
 use Rattle.book_tables.proofs.Growing.{stands_in}
-use Rattle.book_tables.proofs.Ordered.{legal_ordered}
+use Rattle.book_tables.proofs.Ordered.{all_ordered}
 use Rattle.book_tables.proofs.OneRegister.{stands_once}
 
--- the tables of a register, and a crash leaves just them
+-- the tables of a register are kept
+pub kept_now : (s : State) (W : Who) (n : ℕ) (L : List Entry) → n ≡ length L → HasGrown s W L → IsKept s W n L
+kept_now s W n L count h = record { count = count; stands = λ _. h.stands }
+
+-- and a crash leaves just them
 pub usable_now : (s : State) (W : Who) (n refused : ℕ) (L : List Entry) → n ≡ length L → HasGrown s W L → LeavesIt s → IsUsable (standing_in s W n refused false) L
 usable_now s W n refused L count h only = record {
   opened = refl;
   legal = let a = h.stands in a.legal;
-  keeps = record { count = count; stands = λ _. h.stands };
+  keeps = kept_now s W n L count h;
   stand = λ db may. (L, stands_in db s W L (only db may) h);
   only = λ M left. stands_once W left.0 M L left.2 (stands_in left.0 s W L (only left.0 left.1) h);
 }
@@ -48,18 +52,16 @@ on_err_always (Err e) P h = h
 pub length_push : (L : List Entry) (e : Entry) (n : ℕ) → n ≡ length L → n + 1 ≡ length (L ++ e ∷ [])
 length_push L e n is = ap (λ (k : ℕ). k + 1) is ∙ sym (length-append L (e ∷ []))
 
--- what a usable book is given to append
-pub is_appended : (s : State) (W : Who) (n refused : ℕ) (L : List Entry) (e : Entry) (seq : ℕ) (who : List ℕ) (row : Written) (cs : List stock.Change) (text : List ℕ) → IsUsable (standing_in s W n refused false) L
+-- what a book is given to append
+pub is_appended : (s : State) (W : Who) (n : ℕ) (L : List Entry) (e : Entry) (seq : ℕ) (who : List ℕ) (row : Written) (cs : List stock.Change) (text : List ℕ) → IsKept s W n L
     → seq ≡ n + 1 → who ≡ who_text row.who → IsNext W L e row cs text → IsAppended s W L e seq who row cs text
-is_appended s W n refused L e seq who row cs text u more named next =
-    let kept = u.keeps in
-    record {
-      stood = kept.stands;
-      ordered = legal_ordered W L u.legal;
-      legal = next.legal;
-      whose = named ∙ ap (λ (w : Written). who_text w.who) next.entry;
-      appends = record { next = more ∙ ap (λ (k : ℕ). k + 1) kept.count; entry = next.entry; outgoing = next.outgoing; leads = next.leads };
-    }
+is_appended s W n L e seq who row cs text kept more named next = record {
+  stood = kept.stands;
+  ordered = all_ordered W L;
+  legal = next.legal;
+  whose = named ∙ ap (λ (w : Written). who_text w.who) next.entry;
+  appends = record { next = more ∙ ap (λ (k : ℕ). k + 1) kept.count; entry = next.entry; outgoing = next.outgoing; leads = next.leads };
+}
 
 -- an open connection at rest, whose tables stand for a register, and of which a crash leaves the last commit alone, is settled on it
 pub settled_at : (s : State) (W : Who) (L : List Entry) → IsTrue s.is_open → IsLive s → (IsTrue s.is_open → s.now ≡ s.committed) → ((db : Trees) → s.may_leave db → db ≡ s.committed.trees)

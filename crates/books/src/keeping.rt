@@ -84,6 +84,10 @@ impl<S: Alter + Drop> Keeper for Book<S> {
             → IsUsable (standing_of S.Store self.old) L
             → IsNext (standing_of S.Store self.old).warehouse L e entry.now changes.now outgoing.now
             → OnOk result (IsUsable (standing_of S.Store self.new) (L ++ e ∷ [])) }
+        ensures keeps { (standing_of S.Store self.new).doubt ≡ 0 → (L : List register.Entry) (e : register.Entry)
+            → (standing_of S.Store self.old).keeps L
+            → IsNext (standing_of S.Store self.old).warehouse L e entry.now changes.now outgoing.now
+            → OnOk result ((standing_of S.Store self.new).keeps (L ++ e ∷ [])) }
         ensures left { (standing_of S.Store self.new).doubt ≡ 0 → (L : List register.Entry) (e : register.Entry)
             → IsUsable (standing_of S.Store self.old) L
             → IsNext (standing_of S.Store self.old).warehouse L e entry.now changes.now outgoing.now

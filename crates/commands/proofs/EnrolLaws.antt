@@ -10,7 +10,7 @@ use Rattle.profile.specs.Moments.{Moment}
 use Rattle.profile.specs.Register.{Entry, Enrol}
 use Rattle.store.proofs.Changes.{clean_before, refused_after}
 use Rattle.store.proofs.Replies.{accepted_on-more, replies_on-more}
-use Rattle.store.specs.Standing.{Standing, IsUsable, GoesOn, LeavesEither, IsFault, IsRunFault}
+use Rattle.store.specs.Standing.{Standing, IsUsable, KeepsLegal, GoesOn, LeavesEither, IsFault, IsRunFault, OfKept}
 use Rattle.store.specs.declared.fault.Fault.{Fault}
 use Rattle.commands.proofs.ActLaws.{reply_more}
 use Rattle.commands.proofs.TellingLaws.{appends_nothing}
@@ -30,6 +30,7 @@ no_lines W L t = refl
 pub none_enrolled : (a : Standing) (t : Moment) (before : Option (List ℕ)) → AreEnrolled a a [] t before before Done
 none_enrolled a t before = record {
   usable = λ clean L u. u;
+  keeps = λ clean L k legal. record { keeps = k; legal = legal };
   says = λ clean L u. refl;
   printed = λ clean L u. rw (no_lines a.warehouse L t) (appends_nothing before);
 }
@@ -55,11 +56,15 @@ enrolled_more : (a b c : Standing) (xs : List Who) (who : Who) (t : Moment) (out
     → (c.doubt ≡ 0 → (L : List Entry) → b.keeps L → IsLegal Two b.warehouse L → one ≡ told.status_of (reply_to Two b.warehouse L (Enrol who) t))
     → (c.doubt ≡ 0 → (L : List Entry) → b.keeps L → IsLegal Two b.warehouse L → Appends mid behind (line_of who (reply_to Two b.warehouse L (Enrol who) t)))
     → (c.doubt ≡ 0 → (L : List Entry) → IsUsable b L → IsUsable c (after Two b.warehouse L (Enrol who, t)))
+    → OfKept b c (λ L. KeepsLegal c (after Two b.warehouse L (Enrol who, t)))
     → AreEnrolled a c (xs ++ who ∷ []) t out behind (and_then status one)
-enrolled_more a b c xs who t out mid behind status one p q before said prints goes = record {
+enrolled_more a b c xs who t out mid behind status one p q before said prints goes stays = record {
   usable = λ clean L u.
       let mid = before.usable (clean_before b c q clean) L u in
       subst (IsUsable c) (grown b.warehouse a.warehouse L xs who t p.warehouse) (goes clean _ mid);
+  keeps = λ clean L k legal.
+      let mid = before.keeps (clean_before b c q clean) L k legal in
+      subst (KeepsLegal c) (grown b.warehouse a.warehouse L xs who t p.warehouse) (stays clean _ mid.keeps mid.legal);
   says = λ clean L u.
       let early = clean_before b c q clean in
       let mid = before.usable early L u in
@@ -87,11 +92,12 @@ pub enrolled_next : (a b c : Standing) (whos : List Who) (i : ℕ) (who : Who) (
     → (c.doubt ≡ 0 → (L : List Entry) → b.keeps L → IsLegal Two b.warehouse L → one ≡ told.status_of (reply_to Two b.warehouse L (Enrol who) t))
     → (c.doubt ≡ 0 → (L : List Entry) → b.keeps L → IsLegal Two b.warehouse L → Appends mid behind (line_of who (reply_to Two b.warehouse L (Enrol who) t)))
     → (c.doubt ≡ 0 → (L : List Entry) → IsUsable b L → IsUsable c (after Two b.warehouse L (Enrol who, t)))
+    → OfKept b c (λ L. KeepsLegal c (after Two b.warehouse L (Enrol who, t)))
     → AreEnrolled a c (take (i + 1) whos) t out behind last
-enrolled_next a b c whos i who t out mid behind status one last ends lt is p q before said prints goes =
+enrolled_next a b c whos i who t out mid behind status one last ends lt is p q before said prints goes stays =
     subst (λ (s : ExitStatus). AreEnrolled a c (take (i + 1) whos) t out behind s) (sym ends)
     (subst (λ (ws : List Who). AreEnrolled a c ws t out behind (and_then status one)) (sym (one_more whos i who lt is))
-    (enrolled_more a b c (take i whos) who t out mid behind status one p q before said prints goes))
+    (enrolled_more a b c (take i whos) who t out mid behind status one p q before said prints goes stays))
 
 -- the fault of one is that of a run of them
 fault_of_run : (a b c : Standing) (ws : List Who) (t : Moment) (out mid : Option (List ℕ)) (status : ExitStatus) → GoesOn a b → GoesOn b c → a.shut ≡ b.shut
@@ -100,7 +106,7 @@ fault_of_run a b c ws t out mid status p q same before fault f = record {
   grew = λ was is. refused_after a b c p (f.broken (sym same ∙ was) is);
   store = λ h. refused_after a b c p (f.why.store h);
   reopen = λ h. same ∙ f.why.reopen h;
-  not_this = λ h given clean L u. f.why.not_this h clean _ (before.usable (clean_before b c q clean) L u).keeps;
+  not_this = λ h given clean L k legal. f.why.not_this h clean _ (before.keeps (clean_before b c q clean) L k legal).keeps;
   device = f.why.device;
 }
 

@@ -9,7 +9,7 @@ use Rattle.profile.specs.Moments.{Moment}
 use Rattle.profile.specs.Refusals.{refusal_number}
 use Rattle.profile.specs.Register.{Entry, Command, Enrol}
 use Rattle.profile.specs.Reply as replies
-use Rattle.store.specs.Standing.{Standing, IsUsable, LeavesEither, IsRunFault}
+use Rattle.store.specs.Standing.{Standing, IsUsable, KeepsLegal, LeavesEither, IsRunFault, OfKept}
 use Rattle.commands.specs.Stops.{IsDeviceStop, IsFaultThat}
 use Rattle.commands.specs.declared.told.CommandError.{CommandError}
 use Rattle.commands.specs.declared.told.ExitStatus.{ExitStatus}
@@ -41,6 +41,7 @@ lines_of W L t (who ∷ whos) = line_of who (reply_to Two W L (Enrol who) t) ++ 
 pub record AreEnrolled (old new : Standing) (whos : List Who) (t : Moment) (before behind : Option (List ℕ)) (status : ExitStatus) : Type 0 where
   pub usable : new.doubt ≡ 0 → (L : List Entry) → IsUsable old L
       → IsUsable new (accepted_on Two old.warehouse L (enrolments t whos))
+  pub keeps : OfKept old new (λ L. KeepsLegal new (accepted_on Two old.warehouse L (enrolments t whos)))
   pub says : new.doubt ≡ 0 → (L : List Entry) → IsUsable old L
       → status ≡ status_of (replies_on Two old.warehouse L (enrolments t whos))
   pub printed : new.doubt ≡ 0 → (L : List Entry) → IsUsable old L

@@ -6,7 +6,7 @@ ghost use Rattle.profile.specs.Accepted.{IsLegal, reply_to, after};
 ghost use Rattle.profile.specs.Header.{who_text};
 ghost use Rattle.profile.specs.Register.{Entry, Enrol};
 ghost use Rattle.store.specs.Runs.{told};
-ghost use Rattle.store.specs.Standing.{IsUsable, GoesOn, LeavesEither, OfKept};
+ghost use Rattle.store.specs.Standing.{IsUsable, KeepsLegal, GoesOn, LeavesEither, OfKept};
 ghost use Rattle.commands.specs.Enrolling.{AreEnrolled, AreEnrolledUntil, line_of};
 ghost use Rattle.commands.specs.Stops.{IsDeviceStop, IsStopped};
 ghost use Rattle.commands.specs.Telling.{status_of};
@@ -73,6 +73,8 @@ fn enrol_one<K: Keeper, W: io::Write>(
         (K.standing book.old).warehouse L (Enrol who) moment)))) }
     ensures done { (K.standing book.new).doubt ≡ 0 → (L : List Entry) → IsUsable (K.standing book.old) L
         → OnOk result (IsUsable (K.standing book.new) (after Two (K.standing book.old).warehouse L (Enrol who, moment))) }
+    ensures keeps { OfKept (K.standing book.old) (K.standing book.new)
+        (λ L. OnOk result (KeepsLegal (K.standing book.new) (after Two (K.standing book.old).warehouse L (Enrol who, moment)))) }
     ensures opened { OnOk result ((K.standing book.old).shut ≡ (K.standing book.new).shut) }
     ensures left { (K.standing book.new).doubt ≡ 0 → (L : List Entry) → IsUsable (K.standing book.old) L
         → OnErr result (LeavesEither (K.standing book.new) L (after Two (K.standing book.old).warehouse L (Enrol who, moment))) }

@@ -10,7 +10,7 @@ use Rattle.profile.specs.Moments.{Moment}
 use Rattle.profile.specs.Register.{Entry, Command, Interchange}
 use Rattle.profile.specs.Reply as replies
 use Rattle.profile.specs.Accepted.{accepted_on, replies_on, after, reply_to}
-use Rattle.store.specs.Standing.{Standing, IsUsable, IsFault, GoesOn, LeavesEither}
+use Rattle.store.specs.Standing.{Standing, IsUsable, KeepsLegal, IsFault, GoesOn, LeavesEither, OfKept}
 use Rattle.store.specs.declared.fault.Fault.{Fault}
 use Rattle.store.specs.declared.fault.Fault.TheVariants.{OutOfMemory, Store, Reopen, NotThisBook, Device}
 use Rattle.store.proofs.Changes.{clean_before, leaves_first, refused_after, unchanged_refl, usable_stays}
@@ -44,9 +44,15 @@ told_more W L t texts text =
 -- Nothing was taken yet.
 
 pub none_taken : (a : Standing) (t : Moment) → AreTaken a a t [] []
-none_taken a t = record { told_is = λ clean L u. refl; usable = λ clean L u. u }
+none_taken a t = record { told_is = λ clean L u. refl; usable = λ clean L u. u; keeps = λ clean L k legal. record { keeps = k; legal = legal } }
 
 -- One file more.
+
+-- the register after the one text of a file, after those that were taken
+last_behind : (a b : Standing) (t : Moment) (texts : List (List ℕ)) (last : List ℕ) (L : List Entry) → GoesOn a b
+    → after Two b.warehouse (accepted_on Two a.warehouse L (handed t texts)) (Interchange last, t) ≡ accepted_on Two a.warehouse L (handed t (texts ++ last ∷ []))
+last_behind a b t texts last L p =
+    ap (λ W. after Two W (accepted_on Two a.warehouse L (handed t texts)) (Interchange last, t)) p.warehouse ∙ sym (behind_more a.warehouse L t texts last)
 
 pub taken_more : (a b c : Standing) (t : Moment) (texts : List (List ℕ)) (text : List ℕ) (told : List Became) (one : Became) → GoesOn a b → GoesOn b c
     → AreTaken a b t texts told → AreTaken b c t (text ∷ []) (one ∷ []) → AreTaken a c t (texts ++ text ∷ []) (told ++ one ∷ [])
@@ -60,18 +66,13 @@ taken_more a b c t texts text told one p q before file = record {
       ∙ sym (told_more a.warehouse L t texts text);
   usable = λ clean L u.
       let mid = before.usable (clean_before b c q clean) L u in
-      subst (IsUsable c)
-      (ap (λ W. after Two W (accepted_on Two a.warehouse L (handed t texts)) (Interchange text, t)) p.warehouse ∙ sym (behind_more a.warehouse L t texts text))
-      (file.usable clean _ mid);
+      subst (IsUsable c) (last_behind a b t texts text L p) (file.usable clean _ mid);
+  keeps = λ clean L k legal.
+      let mid = before.keeps (clean_before b c q clean) L k legal in
+      subst (KeepsLegal c) (last_behind a b t texts text L p) (file.keeps clean _ mid.keeps mid.legal);
 }
 
 -- Stops.
-
--- the one text of a file that stopped, after those that were taken
-last_behind : (a b : Standing) (t : Moment) (texts : List (List ℕ)) (last : List ℕ) (L : List Entry) → GoesOn a b
-    → after Two b.warehouse (accepted_on Two a.warehouse L (handed t texts)) (Interchange last, t) ≡ accepted_on Two a.warehouse L (handed t (texts ++ last ∷ []))
-last_behind a b t texts last L p =
-    ap (λ W. after Two W (accepted_on Two a.warehouse L (handed t texts)) (Interchange last, t)) p.warehouse ∙ sym (behind_more a.warehouse L t texts last)
 
 pub fault_behind : (a b c : Standing) (fault : Fault) (t : Moment) (texts : List (List ℕ)) (told : List Became) → GoesOn a b → a.shut ≡ b.shut → GoesOn b c
     → AreTaken a b t texts told → IsFolderFault fault b c → IsFolderFault fault a c
@@ -79,7 +80,9 @@ fault_behind a b c fault t texts told p same q before why = record {
   grew = λ was is. refused_after a b c p (why.grew (sym same ∙ was) is);
   store = λ h. refused_after a b c p (why.store h);
   reopen = λ h. same ∙ why.reopen h;
-  not_this = λ h clean L u. why.not_this h clean _ (before.usable (clean_before b c q clean) L u);
+  not_this = λ h clean L k legal.
+      let mid = before.keeps (clean_before b c q clean) L k legal in
+      why.not_this h clean _ mid.keeps mid.legal;
 }
 
 either_usable : (s : Standing) (M first second last : List Entry) → M ≡ first → last ≡ second → IsUsable s M ⊎ IsUsable s last → IsUsable s first ⊎ IsUsable s second
@@ -109,13 +112,13 @@ device_fault fault a b same (inl h) = record {
   grew = λ was is. absurd (let k : true ≡ false = sym is ∙ same ∙ was in cc (k));
   store = λ g. absurd (let k : OutOfMemory ≡ Store = sym h ∙ g in cc (k));
   reopen = λ g. absurd (let k : OutOfMemory ≡ Reopen = sym h ∙ g in cc (k));
-  not_this = λ g clean L u. let k : OutOfMemory ≡ NotThisBook = sym h ∙ g in absurd (cc (k));
+  not_this = λ g clean L keeps legal. let k : OutOfMemory ≡ NotThisBook = sym h ∙ g in absurd (cc (k));
 }
 device_fault fault a b same (inr h) = record {
   grew = λ was is. absurd (let k : true ≡ false = sym is ∙ same ∙ was in cc (k));
   store = λ g. absurd (let k : Device ≡ Store = sym h ∙ g in cc (k));
   reopen = λ g. absurd (let k : Device ≡ Reopen = sym h ∙ g in cc (k));
-  not_this = λ g clean L u. let k : Device ≡ NotThisBook = sym h ∙ g in absurd (cc (k));
+  not_this = λ g clean L keeps legal. let k : Device ≡ NotThisBook = sym h ∙ g in absurd (cc (k));
 }
 
 -- the folder stops between two files
@@ -153,10 +156,12 @@ none_counted stop a t is = record {
 -- a reply to the text of a file
 pub file_taken : (a b : Standing) (t : Moment) (text : List ℕ) (reply : replies.Reply) (told : Became) → told ≡ became reply
     → (b.doubt ≡ 0 → (L : List Entry) → IsUsable a L → reply ≡ reply_to Two a.warehouse L (Interchange text) t)
-    → (b.doubt ≡ 0 → (L : List Entry) → IsUsable a L → IsUsable b (after Two a.warehouse L (Interchange text, t))) → AreTaken a b t (text ∷ []) (told ∷ [])
-file_taken a b t text reply told is said goes = record {
+    → (b.doubt ≡ 0 → (L : List Entry) → IsUsable a L → IsUsable b (after Two a.warehouse L (Interchange text, t)))
+    → OfKept a b (λ L. KeepsLegal b (after Two a.warehouse L (Interchange text, t))) → AreTaken a b t (text ∷ []) (told ∷ [])
+file_taken a b t text reply told is said goes keeps = record {
   told_is = λ clean L u. ap (λ (x : Became). x ∷ []) (is ∙ ap became (said clean L u));
   usable = goes;
+  keeps = keeps;
 }
 
 -- a file that can't be read
@@ -176,7 +181,7 @@ unsubmitted a b fault t text f left = record {
     usable = λ clean opened L u. inl (usable_stays a b (f.clean (opened ∙ sym u.opened)) clean L u);
     left = left;
   };
-  why = record { grew = f.broken; store = f.why.store; reopen = f.why.reopen; not_this = λ h clean L u. f.why.not_this h clean L u.keeps };
+  why = record { grew = f.broken; store = f.why.store; reopen = f.why.reopen; not_this = λ h clean L k legal. f.why.not_this h clean L k };
 }
 
 -- an answer that can't be written

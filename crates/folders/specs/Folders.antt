@@ -9,7 +9,7 @@ use Rattle.profile.specs.Reply as replies
 use Rattle.profile.specs.Refusals.{Refusal}
 use Rattle.profile.specs.Accepted.{accepted_on, replies_on}
 use Rattle.rules.specs.Told.{refusal_of}
-use Rattle.store.specs.Standing.{Standing, IsUsable, LeavesEither, Refused}
+use Rattle.store.specs.Standing.{Standing, IsUsable, KeepsLegal, LeavesEither, OfKept, Refused}
 use Rattle.store.specs.declared.fault.Fault.{Fault}
 use Rattle.store.specs.declared.fault.Fault.TheVariants.{OutOfMemory, Store, Reopen, NotThisBook, Device}
 use Rattle.folders.specs.declared.folder.FileOutcome.{FileOutcome}
@@ -48,6 +48,7 @@ IsDeviceFault fault = (fault ≡ OutOfMemory) ⊎ (fault ≡ Device)
 pub record AreTaken (old new : Standing) (t : Moment) (texts : List (List ℕ)) (told : List Became) : Type 0 where
   pub told_is : new.doubt ≡ 0 → (L : List Entry) → IsUsable old L → told ≡ map became (replies_on Two old.warehouse L (handed t texts))
   pub usable : new.doubt ≡ 0 → (L : List Entry) → IsUsable old L → IsUsable new (accepted_on Two old.warehouse L (handed t texts))
+  pub keeps : OfKept old new (λ L. KeepsLegal new (accepted_on Two old.warehouse L (handed t texts)))
 
 -- The texts were handed in, and one more perhaps. The register is the one after those, or after that one too; a crash leaves
 -- one of the two, also where the book has to be opened again.
@@ -62,7 +63,7 @@ pub record IsFolderFault (fault : Fault) (old new : Standing) : Type 0 where
   pub grew : old.shut ≡ false → new.shut ≡ true → Refused old new
   pub store : fault ≡ Store → Refused old new
   pub reopen : fault ≡ Reopen → old.shut ≡ true
-  pub not_this : fault ≡ NotThisBook → new.doubt ≡ 0 → (L : List Entry) → IsUsable old L → ⊥
+  pub not_this : fault ≡ NotThisBook → OfKept old new (λ L. ⊥)
 
 -- A file that wasn't taken.
 pub record IsUntaken (fault : Fault) (old new : Standing) (t : Moment) : Type 0 where

@@ -25,7 +25,7 @@ may_be_there old new L given None clean u g why some = absurd (cc)
 may_be_there old new L given (Some OutOfMemory) clean u g why some = inl refl
 may_be_there old new L given (Some Store) clean u g why some = inr refl
 may_be_there old new L given (Some Reopen) clean u g why some = let was : old.shut ≡ true = why.reopen refl in let is = u.opened in absurd (cc)
-may_be_there old new L given (Some NotThisBook) clean u g why some = absurd (why.not_this refl g clean L u)
+may_be_there old new L given (Some NotThisBook) clean u g why some = absurd (why.not_this refl g clean L u.keeps u.legal)
 may_be_there old new L given (Some Device) clean u g why some = absurd (why.device refl)
 
 -- whatever a crash leaves of the book stands for a register

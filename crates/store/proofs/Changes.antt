@@ -3,7 +3,7 @@ use Rattle.std.proofs.Common.{◌≡◌, ◌∙◌, sym, refl, arith, List, ◌�
 use Rattle.profile.specs.Register.{Entry}
 use Rattle.store.specs.declared.fault.Fault.{Fault}
 use Rattle.std.proofs.Common.{Result, Ok, Err, OnErr}
-use Rattle.store.specs.Standing.{Standing, IsUsable, IsUnchanged, GoesOn, LeavesEither, IsFault, IsQueryFault, Refused}
+use Rattle.store.specs.Standing.{Standing, IsUsable, KeepsLegal, IsUnchanged, GoesOn, LeavesEither, IsFault, IsQueryFault, Refused}
 
 pub goes_trans : (a b c : Standing) → GoesOn a b → GoesOn b c → GoesOn a c
 goes_trans a b c p q = record {
@@ -33,6 +33,9 @@ usable_stays a b p clean L u = record {
   stand = p.stand clean L u.keeps u.stand;
   only = λ M h. u.only M (p.no_more clean L u.keeps M h);
 }
+
+pub keeps_stays : (a b : Standing) → IsUnchanged a b → b.doubt ≡ 0 → (L : List Entry) → KeepsLegal a L → KeepsLegal b L
+keeps_stays a b p clean L k = record { keeps = p.keeps clean L k.keeps; legal = rw p.goes.warehouse k.legal }
 
 pub unchanged_refl : (a : Standing) → IsUnchanged a a
 unchanged_refl a = record {

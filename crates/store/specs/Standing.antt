@@ -37,6 +37,11 @@ pub record IsUsable (s : Standing) (L : List Entry) : Type 0 where
   pub stand : s.all_stand
   pub only : (M : List Entry) → s.left M → M ≡ L
 
+-- a book whose store stands for a legal register, whether it serves or not, and whatever a crash leaves
+pub record KeepsLegal (s : Standing) (L : List Entry) : Type 0 where
+  pub keeps : s.keeps L
+  pub legal : IsLegal Two s.warehouse L
+
 -- of the legal register that the book keeps, if the disk is in no doubt after the call
 abbrev pub OfKept : Standing → Standing → (List Entry → Type 0) → Type 0
 OfKept old new P = new.doubt ≡ 0 → (L : List Entry) → old.keeps L → IsLegal Two old.warehouse L → P L
@@ -85,7 +90,7 @@ pub record IsRunFault (fault : Fault) (given : Bool) (old new : Standing) : Type
   pub grew : old.shut ≡ false → new.shut ≡ true → Refused old new
   pub store : fault ≡ Store → Refused old new
   pub reopen : fault ≡ Reopen → old.shut ≡ true
-  pub not_this : fault ≡ NotThisBook → given ≡ true → new.doubt ≡ 0 → (L : List Entry) → IsUsable old L → ⊥
+  pub not_this : fault ≡ NotThisBook → given ≡ true → OfKept old new (λ L. ⊥)
   pub device : fault ≡ Device → ⊥
 
 -- what a book is given to append: the entry as it is written down after the register, which stays legal with it, the changes

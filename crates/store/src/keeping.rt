@@ -56,6 +56,10 @@ pub trait Keeper {
             → IsUsable (standing self.old) L
             → IsNext (standing self.old).warehouse L e entry.now changes.now outgoing.now
             → OnOk result (IsUsable (standing self.new) (L ++ e ∷ [])) }
+        ensures keeps { (standing self.new).doubt ≡ 0 → (L : List register.Entry) (e : register.Entry)
+            → (standing self.old).keeps L
+            → IsNext (standing self.old).warehouse L e entry.now changes.now outgoing.now
+            → OnOk result ((standing self.new).keeps (L ++ e ∷ [])) }
         ensures left { (standing self.new).doubt ≡ 0 → (L : List register.Entry) (e : register.Entry)
             → IsUsable (standing self.old) L
             → IsNext (standing self.old).warehouse L e entry.now changes.now outgoing.now

@@ -11,7 +11,7 @@ ghost use Rattle.rules.specs.Tabled.{LeadsInTables};
 ghost use Rattle.store.specs.Held.{IsDecided};
 ghost use Rattle.store.specs.Sent.{text_of};
 ghost use Rattle.store.specs.Runs.{told, all_asked, can_be_given, UnlessAccepted};
-ghost use Rattle.store.specs.Standing.{Standing, IsUsable, IsUnchanged, GoesOn, IsFault, IsQueryFault, IsRunFault, LeavesEither, OfKept};
+ghost use Rattle.store.specs.Standing.{Standing, IsUsable, IsUnchanged, GoesOn, IsFault, IsQueryFault, IsRunFault, KeepsLegal, LeavesEither, OfKept};
 
 use crate::fault::Fault;
 use crate::keeping::Keeper;
@@ -127,6 +127,11 @@ pub fn submit_under<K: Keeper>(
               command.now,
           moment,
         ))) }
+    ensures keeps { OfKept (K.standing keeper.old) (K.standing keeper.new)
+        (λ L. IsLegal Two (K.standing keeper.old).warehouse (after rules (K.standing keeper.old).warehouse L
+        (asked command.now, moment))
+        → OnOk result (KeepsLegal (K.standing keeper.new) (after rules (K.standing keeper.old).warehouse L
+        (asked command.now, moment)))) }
     ensures left { (K.standing keeper.new).doubt ≡ 0 → (L : List register.Entry)
         → IsUsable (K.standing keeper.old) L
         → IsLegal Two (K.standing keeper.old).warehouse (after rules (K.standing keeper.old).warehouse L (
@@ -181,6 +186,10 @@ pub fn submit<K: Keeper>(
               command.now,
           moment,
         ))) }
+    ensures keeps { OfKept (K.standing keeper.old) (K.standing keeper.new)
+        (λ L. is_command Two (asked command.now) ≡ true
+        → OnOk result (KeepsLegal (K.standing keeper.new) (after Two (K.standing keeper.old).warehouse L
+        (asked command.now, moment)))) }
     ensures left { (K.standing keeper.new).doubt ≡ 0 → (L : List register.Entry)
         → IsUsable (K.standing keeper.old) L → is_command Two (asked command.now) ≡ true
         → OnErr result (LeavesEither (K.standing keeper.new) L (after Two (K.standing keeper.old).warehouse L
@@ -259,6 +268,10 @@ fn answer_next<K: Keeper>(
               command.now,
           moment,
         ))) }
+    ensures keeps { OfKept (K.standing keeper.old) (K.standing keeper.new)
+        (λ L. is_command Two (asked command.now) ≡ true
+        → OnOk result (KeepsLegal (K.standing keeper.new) (after Two (K.standing keeper.old).warehouse L
+        (asked command.now, moment)))) }
     ensures more { OnOk result (length replies.new.items ≡ length replies.old.items + 1) }
     ensures no_more { OnErr result (replies.new.items ≡ replies.old.items) }
     ensures left { (K.standing keeper.new).doubt ≡ 0 → (L : List register.Entry)

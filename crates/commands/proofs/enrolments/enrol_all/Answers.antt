@@ -24,7 +24,7 @@ loop-who-preserved g c =
       goes = goes_trans old now new i.goes c.enrol_one.ensures.goes;
       shut = i.shut ∙ e.opened;
       enrolled = enrolled_next old now new c.args.partners.now c.loop-who.who-index c.who-item.result c.args.moment _ _ (g.W.Write.contents c.enrol_one.new.out) c.loop-who.status
-          c.in_ok-enrol_one.field-0 _ c.and-status.ensures c.loop-who-test.true c.who-item.is i.goes c.enrol_one.ensures.goes i.enrolled e.says e.printed e.done;
+          c.in_ok-enrol_one.field-0 _ c.and-status.ensures c.loop-who-test.true c.who-item.is i.goes c.enrol_one.ensures.goes i.enrolled e.says e.printed e.done e.keeps;
     }
 
 pub loop-who-init : goal.loop-who-init

@@ -31,5 +31,6 @@ pub returns-clause-taken : goal.returns-clause-taken
 returns-clause-taken g c = (
   c.deref.result.now,
   file_taken (g.K.Keeper.standing c.args.keeper.now) (g.K.Keeper.standing c.submit.new.keeper) c.args.moment c.deref.result.now _ (became_of c.outcome_of-outcome.result.0) c.outcome_of-outcome.ensures
-      (λ clean L u. c.in_ok-reply.ensures.reply clean L u.keeps u.legal) (λ clean L u. c.in_ok-reply.ensures.ok clean L u refl),
+      (λ clean L u. c.in_ok-reply.ensures.reply clean L u.keeps u.legal) (λ clean L u. c.in_ok-reply.ensures.ok clean L u refl)
+      (λ clean L k legal. c.in_ok-reply.ensures.keeps clean L k legal refl),
 )

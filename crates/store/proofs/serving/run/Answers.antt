@@ -1,10 +1,11 @@
-use Rattle.std.proofs.Common.{◌≡◌, ◌∙◌, Bool, true, false, arith, sym, refl, ap, subst, length, map, take}
+use Rattle.std.proofs.Common.{◌≡◌, ◌∙◌, Bool, List, true, false, arith, sym, refl, ap, subst, length, map, take}
 use Rattle.profile.specs.declared.rules.Rules.TheVariants.{Two}
 use Rattle.profile.specs.Accepted.{accepted_on, replies_on}
 use Rattle.store.specs.Runs.{told, all_asked}
 use Rattle.store.specs.Standing.{IsUsable}
+use Rattle.store.specs.declared.serving.Reply.{Reply}
 use Rattle.store.proofs.Changes.{clean_before, goes_trans, usable_stays, refused_after}
-use Rattle.store.proofs.Replies.{given_fewer, given_item, next_usable, next_left, next_told}
+use Rattle.store.proofs.CommandLists.{given_fewer, given_item, next_keeps, next_usable, next_left, next_told}
 use Rattle.store.proofs.serving.run.Goals as goal
 
 pub returns-in-Err-clause-left : goal.returns-in-Err-clause-left
@@ -46,11 +47,24 @@ returns-in-Err-clause-fault g c =
       grew = λ was is. refused_after old now new i.goes (f.broken (sym i.shut ∙ was) is);
       store = λ h. refused_after old now new i.goes (f.why.store h);
       reopen = λ h. i.shut ∙ f.why.reopen h;
-      not_this = λ h given clean L u.
-          f.why.not_this h clean _ (i.usable (clean_before now new c.answer_next.ensures.goes clean) L u
+      not_this = λ h given clean L k legal.
+          f.why.not_this h clean _ (i.keeps (clean_before now new c.answer_next.ensures.goes clean) L k legal
           (given_fewer c.args.commands.now _ _ (omega (arith, ap length c.in-Err.ensures.no_more, i.count)) given)).keeps;
       device = f.why.device;
     }
+
+pub returns-in-Err-clause-replies : goal.returns-in-Err-clause-replies
+returns-in-Err-clause-replies g c = λ clean L u given.
+    let i = c.loop-command.invariant in
+    let old = g.K.Keeper.standing c.args.keeper.now in
+    let now = g.K.Keeper.standing c.loop-command.keeper in
+    let new = g.K.Keeper.standing c.answer_next.new.keeper in
+    let none = c.in-Err.ensures.no_more in
+    let count = ap length none ∙ i.count in
+    let cs = c.args.commands.now in
+    let so_far = i.told (clean_before now new c.answer_next.ensures.goes clean) L u (given_fewer cs _ _ (omega (arith, count)) given) in
+    subst (λ (rs : List Reply). map told rs ≡ replies_on Two old.warehouse L (take (length rs) (all_asked cs))) (sym {A = List Reply} none)
+    (subst (λ n. map told c.loop-command.replies.items ≡ replies_on Two old.warehouse L (take n (all_asked cs))) (sym i.count) so_far)
 
 pub returns-clause-replies : goal.returns-clause-replies
 returns-clause-replies g c = λ clean L u given.
@@ -92,6 +106,10 @@ loop-command-preserved g c =
       usable = λ clean L u given.
           next_usable Two new now.warehouse old.warehouse L cs _ _ lt is i.goes.warehouse
           (e.ok clean _ (i.usable (clean_before now new e.goes clean) L u (given_fewer cs _ _ (omega arith) given)) (given_item cs _ _ _ (omega arith) given lt is));
+      keeps = λ clean L k legal given.
+          let so_far = i.keeps (clean_before now new e.goes clean) L k legal (given_fewer cs _ _ (omega arith) given) in
+          next_keeps Two new now.warehouse old.warehouse L cs _ _ lt is i.goes.warehouse
+          (e.keeps clean _ so_far.keeps so_far.legal (given_item cs _ _ _ (omega arith) given lt is));
       told = λ clean L u given.
           let early = clean_before now new e.goes clean in
           let fewer = given_fewer cs _ _ (omega arith) given in

@@ -12,6 +12,12 @@ returns-clause-ok g c = λ clean L u given.
     let timely : is_moment c.args.moment ≡ true = search rules in
     c.submit_under.ensures.ok clean L u (legal_after Two old.warehouse L (asked c.args.command.now) c.args.moment (both_true given timely) u.legal)
 
+pub returns-clause-keeps : goal.returns-clause-keeps
+returns-clause-keeps g c = λ clean L k legal given.
+    let old = g.K.Keeper.standing c.args.keeper.now in
+    let timely : is_moment c.args.moment ≡ true = search rules in
+    c.submit_under.ensures.keeps clean L k legal (legal_after Two old.warehouse L (asked c.args.command.now) c.args.moment (both_true given timely) legal)
+
 pub returns-clause-left : goal.returns-clause-left
 returns-clause-left g c = λ clean L u given.
     let old = g.K.Keeper.standing c.args.keeper.now in

@@ -1,11 +1,12 @@
 use Rattle.std.proofs.Common.{rules, subst, sym, List}
 use Rattle.profile.specs.Register.{Entry}
-use Rattle.profile.specs.Accepted.{after, entry_of}
+use Rattle.profile.specs.declared.rules.Rules.TheVariants.{Two}
+use Rattle.profile.specs.Accepted.{IsLegal, after, entry_of}
 use Rattle.rules.specs.Asked.{asked}
 use Rattle.rules.specs.Tabled.{LeadsInTables}
 use Rattle.store.specs.Held.{IsDecided}
-use Rattle.store.specs.Standing.{IsUsable, LeavesEither}
-use Rattle.store.proofs.Changes.{clean_before, usable_stays, fault_after, leaves_first, at_fault}
+use Rattle.store.specs.Standing.{IsUsable, KeepsLegal, LeavesEither}
+use Rattle.store.proofs.Changes.{clean_before, goes_trans, keeps_stays, usable_stays, fault_after, leaves_first, at_fault}
 use Rattle.store.proofs.Replies.{next_at, next_is, behind_accepted, behind_stored, behind_refused}
 use Rattle.store.proofs.serving.submit_under.Goals as goal
 
@@ -73,3 +74,39 @@ returns-in_ok-commit-in-Accepted-clause-ok g c = λ clean L u later.
     subst (IsUsable new) (behind_accepted c.args.rules old.warehouse L asking t c.in-Accepted.outgoing.items is.0)
     (c.in_ok-commit-in-Accepted.ensures.ok clean L (entry_of c.args.rules asking t) (usable_stays old mid c.judge.ensures.same early L u)
     (next_at (sym house) (sym c.deref.ensures.value) (sym c.deref-in-Accepted.ensures.value) next))
+
+pub returns-in-Stored-clause-keeps : goal.returns-in-Stored-clause-keeps
+returns-in-Stored-clause-keeps g c = λ clean L k legal later.
+    let old = g.K.Keeper.standing c.args.keeper.now in
+    let new = g.K.Keeper.standing c.judge.new.keeper in
+    let is = subst (IsDecided c.args.rules old.warehouse L (asked c.args.command.now) c.args.moment) c.in-Stored.is (c.in_ok-text.ensures.decision clean L k legal) in
+    subst (KeepsLegal new) (behind_stored c.args.rules old.warehouse L (asked c.args.command.now) c.args.moment _ is)
+    (keeps_stays old new c.judge.ensures.same clean L (record { keeps = k; legal = legal }))
+
+pub returns-in-Refused-clause-keeps : goal.returns-in-Refused-clause-keeps
+returns-in-Refused-clause-keeps g c = λ clean L k legal later.
+    let old = g.K.Keeper.standing c.args.keeper.now in
+    let new = g.K.Keeper.standing c.judge.new.keeper in
+    let is = subst (IsDecided c.args.rules old.warehouse L (asked c.args.command.now) c.args.moment) c.in-Refused.is (c.in_ok-text.ensures.decision clean L k legal) in
+    subst (KeepsLegal new) (behind_refused c.args.rules old.warehouse L (asked c.args.command.now) c.args.moment _ _ is)
+    (keeps_stays old new c.judge.ensures.same clean L (record { keeps = k; legal = legal }))
+
+pub returns-in_ok-commit-in-Accepted-clause-keeps : goal.returns-in_ok-commit-in-Accepted-clause-keeps
+returns-in_ok-commit-in-Accepted-clause-keeps g c = λ clean L k legal later.
+    let old = g.K.Keeper.standing c.args.keeper.now in
+    let mid = g.K.Keeper.standing c.judge.new.keeper in
+    let new = g.K.Keeper.standing c.commit.new.self in
+    let asking = asked c.args.command.now in
+    let t = c.args.moment in
+    let early = clean_before mid new c.commit.ensures.goes clean in
+    let is = subst (IsDecided c.args.rules old.warehouse L asking t) c.in-Accepted.is (c.in_ok-text.ensures.decision early L k legal) in
+    let next = next_is c.args.rules old.warehouse L asking t c.in-Accepted.entry c.in-Accepted.changes.items c.in-Accepted.outgoing.items legal later is.0 is.1
+    (subst (LeadsInTables c.args.rules old.warehouse L asking t) c.in-Accepted.is (c.in_ok-text.ensures.tables early L k legal)) in
+    let same = c.judge.ensures.same in
+    let goes = goes_trans old mid new same.goes c.commit.ensures.goes in
+    record {
+      keeps = subst new.keeps (behind_accepted c.args.rules old.warehouse L asking t c.in-Accepted.outgoing.items is.0)
+          (c.in_ok-commit-in-Accepted.ensures.keeps clean L (entry_of c.args.rules asking t) (same.keeps early L k)
+          (next_at (sym same.goes.warehouse) (sym c.deref.ensures.value) (sym c.deref-in-Accepted.ensures.value) next));
+      legal = subst (λ V. IsLegal Two V (after c.args.rules old.warehouse L (asking, t))) (sym goes.warehouse) later;
+    }
