@@ -1,7 +1,7 @@
 -- The book's tables among others: no foreign key acts on them, and no other index guards them.
-use Rattle.std.proofs.Common.{◌≡◌, ◌≢◌, ◌⊎◌, codes, Ok, ℕ, zero, suc, List, [], ◌∷◌, ◌++◌, filter, flat_map, ◌&&◌, ◌||◌, ◌==◌, cond, Bool, true, false, Some, None, Option, refl, sym, ap, subst, ◌∙◌, inl, inr, arith, eq-eqb, eqb-true}
+use Rattle.std.proofs.Common.{◌≡◌, ◌≢◌, ◌⊎◌, codes, Ok, ℕ, zero, suc, List, [], ◌∷◌, ◌++◌, drop, filter, flat_map, ◌&&◌, ◌||◌, ◌==◌, cond, Bool, true, false, Some, None, Option, refl, sym, ap, subst, ◌∙◌, inl, inr, arith, eq-eqb, eqb-true}
 use Rattle.std.specs.Prelude.{slice_get}
-use Rattle.std.specs.List.{list_any, filter_map}
+use Rattle.std.specs.List.{AllByRecursion, list_any, filter_map}
 use Rattle.std.proofs.lemmas.Bool.{cases_Bool}
 use Rattle.sqlite.specs.Order.{Row}
 use Rattle.sqlite.specs.Table.{Table}
@@ -60,13 +60,9 @@ pub lies_alone : (schema : Schema) → schema ≡ layout → IsLayout schema
 lies_alone schema is = subst IsLayout (sym is) alone
 
 -- by itself each of its tables is in the tree of its number
-pub rules_alone : (schema : Schema) (db : Trees) → schema ≡ layout → placed schema db 18 ≡ db 18
+pub empty_alone : (schema : Schema) (db : Trees) → schema ≡ layout → AllByRecursion (λ (t : Table). db t.tree ≡ []) (drop 1 book_tables) → AllByRecursion (λ (t : Table). placed schema db t.tree ≡ []) (drop 1 book_tables)
 unfolding everything
-rules_alone schema db is = ap (λ (s : Schema). placed s db 18) is
-
-pub expiry_alone : (schema : Schema) (db : Trees) → schema ≡ layout → placed schema db 19 ≡ db 19
-unfolding everything
-expiry_alone schema db is = ap (λ (s : Schema). placed s db 19) is
+empty_alone schema db is empty = subst (λ (s : Schema). AllByRecursion (λ (t : Table). placed s db t.tree ≡ []) (drop 1 book_tables)) (sym is) empty
 
 -- A table of the house's own, with its index, is one that may stand there: after the two tables of version 2, and before them.
 abbrev note_at : ℕ → Table

@@ -12,7 +12,7 @@ use Rattle.profile.specs.declared.rules.Rules.TheVariants.{One, Two}
 use Rattle.profile.specs.Rules.{rules_number}
 use Rattle.profile.specs.Header.{Who}
 use Rattle.profile.specs.Register.{Entry, is_first}
-use Rattle.profile.specs.Tables.{TableRow, Number, entry_rules_row, entry_rules_table}
+use Rattle.profile.specs.Tables.{TableRow, Number, book_table, entry_rules_row, entry_rules_table}
 use Rattle.profile.specs.Schema.{entry_rules_schema, put_row}
 use Rattle.profile.specs.Changes.{Puts}
 use Rattle.profile.proofs.TextLaws.{both_parts}
@@ -20,16 +20,15 @@ use Rattle.profile.proofs.RegisterLaws.{first_is, legal-first}
 use Rattle.profile.proofs.CarriedLaws.{legal-carried, lot_expiry-first}
 use Rattle.rules.proofs.SentRows.{entry_rules_put}
 use Rattle.book_tables.specs.Asking.{IsAsked, IsOfFirst}
-use Rattle.book_tables.specs.Carrying.{StandsAs, StandsOpenAs, first_filled, KeepsFirst, Widens, with_rules, GivesRules, SetsVersion, CarriesOver}
-use Rattle.book_tables.specs.Held.{Holds}
+use Rattle.book_tables.specs.Carrying.{StandsAs, StandsOpenAs, first_filled, KeepsFirst, Widens, with_rules, with_book, GivesRules, SetsVersion, CarriesOver}
 use Rattle.book_tables.specs.Leading.{Leads, Keeps}
 use Rattle.book_tables.specs.Lines.{rules_row}
 use Rattle.book_tables.specs.Recorded.{IsHouse}
-use Rattle.book_tables.specs.Standing.{Stands, Filled, AreOrdered, filled, tree_of}
+use Rattle.book_tables.specs.Standing.{Stands, Filled, AreOrdered, filled}
 use Rattle.book_tables.proofs.AppendingLemmas.{same_named}
 use Rattle.book_tables.proofs.Beside.{still_lies}
 use Rattle.book_tables.proofs.Found.{house_found, one_house}
-use Rattle.book_tables.proofs.LeadsLemmas.{apart, other_way, spared, not_book}
+use Rattle.book_tables.proofs.LeadsLemmas.{held_but, unkeyed}
 use Rattle.book_tables.proofs.Ordered.{all_ordered}
 use Rattle.book_tables.proofs.Versions.{sets_version}
 use Rattle.book_tables.proofs.WritingTexts.{set_version_text}
@@ -84,14 +83,15 @@ given_all entries a b some L f first count held =
 pub version_set : (old new : State) (count : ℕ) → Executes set_version_text (value.Int (pos 2) ∷ []) old new (Ok count) → SetsVersion old.now new.now
 version_set old new count h W f k =
     let did = sets_version (pos 2) (pos 1) W.qualifier W.id old new count k.schema k.rows.book h in
+    let but = held_but 0 (with_book (book_table One W) f) old.now new.now did.others k.rows in
     record {
       schema = still_lies old.now.schema new.now.schema did.schema k.schema;
       sound = did.sound;
       rows = record {
         book = did.rows;
-        entry = did.others.1.0 (apart 1 0 refl) ∙ k.rows.entry;
-        keyed = λ u. subst (Holds (f.keyed u)) (sym (spared u 0 old.now new.now did.others (other_way 0 (tree_of u) (not_book u)))) (k.rows.keyed u);
-        rules = did.others.1.1.1.1.1.1.1.1.1.0 (apart 18 0 refl) ∙ k.rows.rules;
+        entry = but.entry refl;
+        keyed = λ u. but.keyed u (unkeyed u).0;
+        rules = but.rules refl;
       };
       ordered = record { entry = k.ordered.entry; outgoing = k.ordered.outgoing; keyed = k.ordered.keyed; rules = k.ordered.rules };
     }

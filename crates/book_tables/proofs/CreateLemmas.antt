@@ -1,5 +1,7 @@
 -- What making the tables does.
-use Rattle.std.proofs.Common.{◌≡◌, codes, inl, inr, ℕ, pos, List, [], ◌∷◌, map, false, None, Ok, refl, sym, ap, subst, ◌∙◌}
+use Rattle.std.proofs.Common.{◌≡◌, codes, inl, inr, ℕ, pos, ◌≢◌, List, [], ◌∷◌, ◌++◌, take, drop, map, false, None, Ok, refl, sym, ap, subst, ◌∙◌}
+use Rattle.std.specs.Prelude.{nat_eq}
+use Rattle.std.specs.List.{AllByRecursion}
 use Rattle.sqlite.specs.declared.types.Value.TheVariants as value
 use Rattle.sqlite.specs.Table.{Table}
 use Rattle.sqlite.specs.Schema.{Schema}
@@ -29,20 +31,20 @@ use Rattle.profile.specs.Tables.{TableRow}
 use Rattle.sqlite.proofs.Callers.{command_of, statement_of, runs_as}
 use Rattle.book_tables.specs.Layout.{book_text, entry_text, outgoing_text, stock_text, advice_text, advice_line_text, orders_text, order_line_text, reservation_text, entry_rules_text, lot_expiry_text}
 use Rattle.book_tables.specs.Layout.{book_layout, entry_layout, outgoing_layout, stock_layout, advice_layout, advice_line_layout, orders_layout, order_line_layout, reservation_layout, entry_rules_layout, lot_expiry_layout}
-use Rattle.book_tables.specs.Layout.{first_layouts, first_tables, book_trees, rules_tree, expiry_tree, entry_rules_at, lot_expiry_at, IsLayout}
+use Rattle.book_tables.specs.Layout.{first_layouts, first_tables, book_tables, book_trees, rules_tree, expiry_tree, entry_rules_at, lot_expiry_at, IsLayout}
 use Rattle.book_tables.specs.Making.{HasMade, HasBook}
 use Rattle.book_tables.specs.Carrying.{AreHeldFirst, Widens}
 use Rattle.book_tables.proofs.MakingTexts.{at_first}
 use Rattle.book_tables.proofs.MakingTexts.{book_is, book_runs, book_plain, entry_is, entry_runs, entry_plain, outgoing_is, outgoing_runs, outgoing_plain, stock_is, stock_runs, stock_plain, advice_is, advice_runs, advice_plain, advice_line_is, advice_line_runs, advice_line_plain, orders_is, orders_runs, orders_plain, order_line_is, order_line_runs, order_line_plain, reservation_is, reservation_runs, reservation_plain, entry_rules_is, entry_rules_runs, entry_rules_plain, lot_expiry_is, lot_expiry_runs, lot_expiry_plain}
 use Rattle.book_tables.proofs.WritingTexts.{insert_book_text}
-use Rattle.book_tables.proofs.Beside.{lies_alone, rules_alone, expiry_alone, has_first}
+use Rattle.book_tables.proofs.Beside.{lies_alone, empty_alone, has_first}
 use Rattle.book_tables.proofs.ListsGrown.{has_last}
 use Rattle.book_tables.proofs.Widening.{rules_tree_is, expiry_tree_is, widened_layout, still_counted}
 use Rattle.book_tables.proofs.MakingAnywhere.{MakesTable, entry_rules_made, lot_expiry_made}
 use Rattle.book_tables.proofs.Inserts.{inserts_book}
 use Rattle.book_tables.proofs.LeadsLemmas.{apart}
 use Rattle.sqlite.specs.Edit.{next_rowid}
-use Rattle.sqlite.specs.Tree.{put_row}
+use Rattle.sqlite.specs.Tree.{Trees, put_row}
 use Rattle.book_tables.proofs.Values.{went, same_value}
 
 -- a table was made, and no other was written
@@ -66,15 +68,29 @@ creates sql before after table old new count has is plain_text defined makes lon
       subst (λ (d : Database). CreatesTable before sql old.now.trees after d.trees) (sym now) (subst (λ s. CreatesTable before sql old.now.trees s first.0.trees) schema made),
     )
 
+-- the tables that were empty are so still, and so is one more
+empty_after : (ts : List Table) (t : Table) (old new : Trees) → AllByRecursion (λ (u : Table). new u.tree ≡ old u.tree) ts → AllByRecursion (λ (u : Table). old u.tree ≡ []) ts → new t.tree ≡ []
+    → AllByRecursion (λ (u : Table). new u.tree ≡ []) (ts ++ t ∷ [])
+empty_after [] t old new same was here = (here, tt)
+empty_after (u ∷ ts) t old new same was here = (same.0 ∙ was.0, empty_after ts t old new same.1 was.1 here)
+
+-- and so are those that a write elsewhere spares
+empty_still : (ts : List Table) (n : ℕ) (old new : Trees) → AllByRecursion (λ (t : Table). nat_eq t.tree n ≡ false) ts → AllByRecursion (λ (t : Table). t.tree ≢ n → new t.tree ≡ old t.tree) ts
+    → AllByRecursion (λ (t : Table). old t.tree ≡ []) ts → AllByRecursion (λ (t : Table). new t.tree ≡ []) ts
+empty_still [] n old new others same was = tt
+empty_still (t ∷ ts) n old new others same was = (same.0 (apart t.tree n others.0) ∙ was.0, empty_still ts n old new others.1 same.1 was.1)
+
 pub made_first : (a b c d : State) (m n o : ℕ) → HasMade 0 0 a.now → Executes book_text [] a b (Ok m) → Executes entry_text [] b c (Ok n) → Executes outgoing_text [] c d (Ok o)
     → HasMade 3 3 d.now × IsDatabase d.now
 made_first a b c d m n o was p q r =
     let x = creates book_text (first_layouts 0 0) (first_layouts 1 0) (at_first book_layout) a b m was.schema book_runs book_plain book_is refl refl p in
     let y = creates entry_text (first_layouts 1 0) (first_layouts 2 2) (at_first entry_layout) b c n x.1 entry_runs entry_plain entry_is refl refl q in
-    let z = creates outgoing_text (first_layouts 2 2) (first_layouts 3 3) (at_first outgoing_layout) c d o y.1 outgoing_runs outgoing_plain outgoing_is refl refl r in (
+    let z = creates outgoing_text (first_layouts 2 2) (first_layouts 3 3) (at_first outgoing_layout) c d o y.1 outgoing_runs outgoing_plain outgoing_is refl refl r in
+    let one = empty_after (take 0 book_tables) book_layout a.now.trees b.now.trees x.2.others was.empty x.2.empty in
+    let two = empty_after (take 1 book_tables) entry_layout b.now.trees c.now.trees y.2.others one y.2.empty in (
       record {
         schema = z.1;
-        empty = (z.2.others.0 ∙ y.2.others.0 ∙ x.2.empty, (z.2.others.1.0 ∙ y.2.empty, (z.2.empty, tt)));
+        empty = empty_after (take 2 book_tables) outgoing_layout c.now.trees d.now.trees z.2.others two z.2.empty;
       },
       z.0,
     )
@@ -84,10 +100,12 @@ pub made_second : (a b c d : State) (m n o : ℕ) → HasMade 3 3 a.now → Exec
 made_second a b c d m n o was p q r =
     let x = creates stock_text (first_layouts 3 3) (first_layouts 4 4) (at_first stock_layout) a b m was.schema stock_runs stock_plain stock_is refl refl p in
     let y = creates advice_text (first_layouts 4 4) (first_layouts 5 5) (at_first advice_layout) b c n x.1 advice_runs advice_plain advice_is refl refl q in
-    let z = creates advice_line_text (first_layouts 5 5) (first_layouts 6 6) (at_first advice_line_layout) c d o y.1 advice_line_runs advice_line_plain advice_line_is refl refl r in (
+    let z = creates advice_line_text (first_layouts 5 5) (first_layouts 6 6) (at_first advice_line_layout) c d o y.1 advice_line_runs advice_line_plain advice_line_is refl refl r in
+    let one = empty_after (take 3 book_tables) stock_layout a.now.trees b.now.trees x.2.others was.empty x.2.empty in
+    let two = empty_after (take 4 book_tables) advice_layout b.now.trees c.now.trees y.2.others one y.2.empty in (
       record {
         schema = z.1;
-        empty = (z.2.others.0 ∙ y.2.others.0 ∙ x.2.others.0 ∙ was.empty.0, (z.2.others.1.0 ∙ y.2.others.1.0 ∙ x.2.others.1.0 ∙ was.empty.1.0, (z.2.others.1.1.0 ∙ y.2.others.1.1.0 ∙ x.2.others.1.1.0 ∙ was.empty.1.1.0, (z.2.others.1.1.1.0 ∙ y.2.others.1.1.1.0 ∙ x.2.empty, (z.2.others.1.1.1.1.0 ∙ y.2.empty, (z.2.empty, tt))))));
+        empty = empty_after (take 5 book_tables) advice_line_layout c.now.trees d.now.trees z.2.others two z.2.empty;
       },
       z.0,
     )
@@ -97,10 +115,12 @@ pub made_third : (a b c d : State) (m n o : ℕ) → HasMade 6 6 a.now → Execu
 made_third a b c d m n o was p q r =
     let x = creates orders_text (first_layouts 6 6) (first_layouts 7 7) (at_first orders_layout) a b m was.schema orders_runs orders_plain orders_is refl refl p in
     let y = creates order_line_text (first_layouts 7 7) (first_layouts 8 8) (at_first order_line_layout) b c n x.1 order_line_runs order_line_plain order_line_is refl refl q in
-    let z = creates reservation_text (first_layouts 8 8) (first_layouts 9 9) (at_first reservation_layout) c d o y.1 reservation_runs reservation_plain reservation_is refl refl r in (
+    let z = creates reservation_text (first_layouts 8 8) (first_layouts 9 9) (at_first reservation_layout) c d o y.1 reservation_runs reservation_plain reservation_is refl refl r in
+    let one = empty_after (take 6 book_tables) orders_layout a.now.trees b.now.trees x.2.others was.empty x.2.empty in
+    let two = empty_after (take 7 book_tables) order_line_layout b.now.trees c.now.trees y.2.others one y.2.empty in (
       record {
         schema = z.1;
-        empty = (z.2.others.0 ∙ y.2.others.0 ∙ x.2.others.0 ∙ was.empty.0, (z.2.others.1.0 ∙ y.2.others.1.0 ∙ x.2.others.1.0 ∙ was.empty.1.0, (z.2.others.1.1.0 ∙ y.2.others.1.1.0 ∙ x.2.others.1.1.0 ∙ was.empty.1.1.0, (z.2.others.1.1.1.0 ∙ y.2.others.1.1.1.0 ∙ x.2.others.1.1.1.0 ∙ was.empty.1.1.1.0, (z.2.others.1.1.1.1.0 ∙ y.2.others.1.1.1.1.0 ∙ x.2.others.1.1.1.1.0 ∙ was.empty.1.1.1.1.0, (z.2.others.1.1.1.1.1.0 ∙ y.2.others.1.1.1.1.1.0 ∙ x.2.others.1.1.1.1.1.0 ∙ was.empty.1.1.1.1.1.0, (z.2.others.1.1.1.1.1.1.0 ∙ y.2.others.1.1.1.1.1.1.0 ∙ x.2.empty, (z.2.others.1.1.1.1.1.1.1.0 ∙ y.2.empty, (z.2.empty, tt)))))))));
+        empty = empty_after (take 8 book_tables) reservation_layout c.now.trees d.now.trees z.2.others two z.2.empty;
       },
       z.0,
     )
@@ -108,10 +128,11 @@ made_third a b c d m n o was p q r =
 pub made_fourth : (a b c : State) (m n : ℕ) → HasMade 9 9 a.now → Executes entry_rules_text [] a b (Ok m) → Executes lot_expiry_text [] b c (Ok n) → HasMade 11 10 c.now × IsDatabase c.now
 made_fourth a b c m n was p q =
     let x = creates entry_rules_text (first_layouts 9 9) (first_layouts 10 9) (at_first entry_rules_layout) a b m was.schema entry_rules_runs entry_rules_plain entry_rules_is refl refl p in
-    let y = creates lot_expiry_text (first_layouts 10 9) (first_layouts 11 10) (at_first lot_expiry_layout) b c n x.1 lot_expiry_runs lot_expiry_plain lot_expiry_is refl refl q in (
+    let y = creates lot_expiry_text (first_layouts 10 9) (first_layouts 11 10) (at_first lot_expiry_layout) b c n x.1 lot_expiry_runs lot_expiry_plain lot_expiry_is refl refl q in
+    let one = empty_after (take 9 book_tables) entry_rules_layout a.now.trees b.now.trees x.2.others was.empty x.2.empty in (
       record {
         schema = y.1;
-        empty = (y.2.others.0 ∙ x.2.others.0 ∙ was.empty.0, (y.2.others.1.0 ∙ x.2.others.1.0 ∙ was.empty.1.0, (y.2.others.1.1.0 ∙ x.2.others.1.1.0 ∙ was.empty.1.1.0, (y.2.others.1.1.1.0 ∙ x.2.others.1.1.1.0 ∙ was.empty.1.1.1.0, (y.2.others.1.1.1.1.0 ∙ x.2.others.1.1.1.1.0 ∙ was.empty.1.1.1.1.0, (y.2.others.1.1.1.1.1.0 ∙ x.2.others.1.1.1.1.1.0 ∙ was.empty.1.1.1.1.1.0, (y.2.others.1.1.1.1.1.1.0 ∙ x.2.others.1.1.1.1.1.1.0 ∙ was.empty.1.1.1.1.1.1.0, (y.2.others.1.1.1.1.1.1.1.0 ∙ x.2.others.1.1.1.1.1.1.1.0 ∙ was.empty.1.1.1.1.1.1.1.0, (y.2.others.1.1.1.1.1.1.1.1.0 ∙ x.2.others.1.1.1.1.1.1.1.1.0 ∙ was.empty.1.1.1.1.1.1.1.1.0, (y.2.others.1.1.1.1.1.1.1.1.1.0 ∙ x.2.empty, (y.2.empty, tt)))))))))));
+        empty = empty_after (take 10 book_tables) lot_expiry_layout b.now.trees c.now.trees y.2.others one y.2.empty;
       },
       y.0,
     )
@@ -191,7 +212,8 @@ made_book a b m qualifier id was h =
       schema = it.schema ∙ was.schema;
       sound = it.sound;
       book = it.rows ∙ ap (λ (rows : List Row). put_row (value.Int (next_rowid rows) ∷ value.Int (pos 2) ∷ value.Text qualifier ∷ value.Text id ∷ []) rows) (let all = was.empty in all.0);
-      empty = (it.others.1.0 (apart 1 0 refl) ∙ was.empty.1.0, (it.others.1.1.0 (apart 4 0 refl) ∙ was.empty.1.1.0, (it.others.1.1.1.0 (apart 6 0 refl) ∙ was.empty.1.1.1.0, (it.others.1.1.1.1.0 (apart 8 0 refl) ∙ was.empty.1.1.1.1.0, (it.others.1.1.1.1.1.0 (apart 10 0 refl) ∙ was.empty.1.1.1.1.1.0, (it.others.1.1.1.1.1.1.0 (apart 12 0 refl) ∙ was.empty.1.1.1.1.1.1.0, (it.others.1.1.1.1.1.1.1.0 (apart 14 0 refl) ∙ was.empty.1.1.1.1.1.1.1.0, (it.others.1.1.1.1.1.1.1.1.0 (apart 16 0 refl) ∙ was.empty.1.1.1.1.1.1.1.1.0, (it.others.1.1.1.1.1.1.1.1.1.0 (apart 18 0 refl) ∙ rules_alone a.now.schema a.now.trees was.schema ∙ was.empty.1.1.1.1.1.1.1.1.1.0, (it.others.1.1.1.1.1.1.1.1.1.1.0 (apart 19 0 refl) ∙ expiry_alone a.now.schema a.now.trees was.schema ∙ was.empty.1.1.1.1.1.1.1.1.1.1.0, tt))))))))));
+      empty = empty_still (drop 1 book_tables) 0 (book_trees a.now) (book_trees b.now) (refl, (refl, (refl, (refl, (refl, (refl, (refl, (refl, (refl, (refl, tt)))))))))) it.others.1
+          (empty_alone a.now.schema a.now.trees was.schema was.empty.1);
     }
 
 -- the tables of an empty register

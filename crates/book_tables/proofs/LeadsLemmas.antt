@@ -3,7 +3,7 @@ use Rattle.std.proofs.Common.{◌≡◌, ◌≢◌, inl, inr, ℕ, pos, List, []
 use Rattle.std.specs.Prelude.{nat_eq, Option, if◌then◌else◌}
 use Rattle.std.proofs.lemmas.Bool.{cases_Bool}
 use Rattle.std.proofs.lemmas.Bool.Decides.{nat_tests}
-use Rattle.sqlite.specs.Tree.{put_row}
+use Rattle.sqlite.specs.Tree.{Trees, put_row}
 use Rattle.sqlite.specs.Effect.{Database}
 use Rattle.sqlite.specs.Order.{Row}
 use Rattle.sqlite_rules.specs.Lists.{Has}
@@ -13,11 +13,11 @@ use Rattle.profile.specs.Schema as schema
 use Rattle.profile.specs.Schema.{outgoing_schema, entry_schema, entry_rules_schema}
 use Rattle.profile.specs.Changes.{changed_by, Puts, SetsState as Sets, Frees, with_state, is_reserved_for}
 use Rattle.profile.specs.Rows.{state_text}
-use Rattle.book_tables.specs.Held.{values, entry_values, Holds}
+use Rattle.book_tables.specs.Held.{values, first_row, entry_values, Holds}
 use Rattle.book_tables.specs.Layout.{book_trees}
 use Rattle.book_tables.specs.Leading.{Keeps}
 use Rattle.book_tables.specs.Standing.{BookTable, Outgoing, Stock, Advice, AdviceLine, Orders, OrderLine, Reservation, LotExpiry, schema_of, name_of, tree_of, width_of}
-use Rattle.book_tables.specs.Standing.{Filled, with_rows, named, HasKey, AreByKey, IsOutgoing, IsBySeq}
+use Rattle.book_tables.specs.Standing.{Filled, AreHeld, with_rows, named, HasKey, AreByKey, IsOutgoing, IsBySeq}
 use Rattle.book_tables.specs.Steps.{WritesInto, Spares, PutByKey, TakenByKey, SetsState}
 use Rattle.book_tables.proofs.Beside.{still_lies}
 use Rattle.book_tables.proofs.PutRows.{put_old}
@@ -63,35 +63,32 @@ is_at LotExpiry = refl
 one_tree : (t u : BookTable) → tree_of t ≡ tree_of u → t ≡ u
 one_tree t u e = sym (is_at t) ∙ ap table_at e ∙ is_at u
 
-pub not_book : (t : BookTable) → nat_eq 0 (tree_of t) ≡ false
-not_book Outgoing = refl
-not_book Stock = refl
-not_book Advice = refl
-not_book AdviceLine = refl
-not_book Orders = refl
-not_book OrderLine = refl
-not_book Reservation = refl
-not_book LotExpiry = refl
+-- none is in the tree of `book`, of `entry` or of `entry_rules`
+pub unkeyed : (t : BookTable) → (nat_eq 0 (tree_of t) ≡ false) × (nat_eq 1 (tree_of t) ≡ false) × (nat_eq 18 (tree_of t) ≡ false)
+unkeyed Outgoing = (refl, refl, refl)
+unkeyed Stock = (refl, refl, refl)
+unkeyed Advice = (refl, refl, refl)
+unkeyed AdviceLine = (refl, refl, refl)
+unkeyed Orders = (refl, refl, refl)
+unkeyed OrderLine = (refl, refl, refl)
+unkeyed Reservation = (refl, refl, refl)
+unkeyed LotExpiry = (refl, refl, refl)
 
-not_entry : (t : BookTable) → nat_eq 1 (tree_of t) ≡ false
-not_entry Outgoing = refl
-not_entry Stock = refl
-not_entry Advice = refl
-not_entry AdviceLine = refl
-not_entry Orders = refl
-not_entry OrderLine = refl
-not_entry Reservation = refl
-not_entry LotExpiry = refl
+-- The trees hold these rows, but for one of them, of which that isn't said.
+pub record HeldBut (tree : ℕ) (f : Filled) (db : Trees) : Type 0 where
+  pub book : nat_eq 0 tree ≡ false → db 0 ≡ map first_row f.book
+  pub entry : nat_eq 1 tree ≡ false → db 1 ≡ map entry_values f.entry
+  pub keyed : (t : BookTable) → nat_eq tree (tree_of t) ≡ false → Holds (f.keyed t) (db (tree_of t))
+  pub rules : nat_eq 18 tree ≡ false → db 18 ≡ map entry_values f.rules
 
-not_rules : (t : BookTable) → nat_eq 18 (tree_of t) ≡ false
-not_rules Outgoing = refl
-not_rules Stock = refl
-not_rules Advice = refl
-not_rules AdviceLine = refl
-not_rules Orders = refl
-not_rules OrderLine = refl
-not_rules Reservation = refl
-not_rules LotExpiry = refl
+-- a statement on one table leaves the rows of the others
+pub held_but : (tree : ℕ) (f : Filled) (old new : Database) → Spares tree old new → AreHeld f (book_trees old) → HeldBut tree f (book_trees new)
+held_but tree f old new others held = record {
+  book = λ other. others.0 (apart 0 tree other) ∙ held.book;
+  entry = λ other. others.1.0 (apart 1 tree other) ∙ held.entry;
+  keyed = λ t other. subst (Holds (f.keyed t)) (sym (spared t tree old new others (λ e. apart tree (tree_of t) other (sym e)))) (held.keyed t);
+  rules = λ other. others.1.1.1.1.1.1.1.1.1.0 (apart 18 tree other) ∙ held.rules;
+}
 
 -- what holds of a table's new rows and of the others' old ones holds of all
 each_table : (P : BookTable → List TableRow → Type 0) (t : BookTable) (rows : List TableRow) (f : Filled) → P t rows
@@ -101,30 +98,29 @@ each_table P t rows f here others u = elim (cases_Bool (nat_eq (tree_of t) (tree
   | inr other ↦ rw other (others u other)
 ]
 
-pub other_way : (m n : ℕ) → nat_eq m n ≡ false → n ≢ m
-other_way m n h e = apart m n h (sym e)
-
 -- the rows of one table are replaced
 module _ (t : BookTable) (rows : List TableRow) (Rows : List Row → List Row → Type 0) (f : Filled) (old new : Database) (k : Keeps f old) (did : WritesInto (tree_of t) Rows old new) where
   pub keeps_with : Holds rows (book_trees new (tree_of t)) → AreByKey (schema_of t) (width_of t) rows
       → ((row : TableRow) → Has (let g = with_rows t rows f in g.keyed Outgoing) row → IsOutgoing row) → Keeps (with_rows t rows f) new
-  keeps_with held sorted outgoing = record {
-    schema = still_lies old.schema new.schema did.schema k.schema;
-    sound = did.sound;
-    rows = record {
-      book = did.others.0 (apart 0 (tree_of t) (not_book t)) ∙ k.rows.book;
-      entry = did.others.1.0 (apart 1 (tree_of t) (not_entry t)) ∙ k.rows.entry;
-      keyed = each_table (λ u us. Holds us (book_trees new (tree_of u))) t rows f held
-          (λ u other. subst (Holds (f.keyed u)) (sym (spared u (tree_of t) old new did.others (other_way (tree_of t) (tree_of u) other))) (k.rows.keyed u));
-      rules = did.others.1.1.1.1.1.1.1.1.1.0 (apart 18 (tree_of t) (not_rules t)) ∙ k.rows.rules;
-    };
-    ordered = record {
-      entry = k.ordered.entry;
-      outgoing = outgoing;
-      keyed = each_table (λ u us. AreByKey (schema_of u) (width_of u) us) t rows f sorted (λ u other. k.ordered.keyed u);
-      rules = k.ordered.rules;
-    };
-  }
+  keeps_with held sorted outgoing =
+      let but = held_but (tree_of t) f old new did.others k.rows in
+      let own = unkeyed t in
+      record {
+        schema = still_lies old.schema new.schema did.schema k.schema;
+        sound = did.sound;
+        rows = record {
+          book = but.book own.0;
+          entry = but.entry own.1;
+          keyed = each_table (λ u us. Holds us (book_trees new (tree_of u))) t rows f held but.keyed;
+          rules = but.rules own.2;
+        };
+        ordered = record {
+          entry = k.ordered.entry;
+          outgoing = outgoing;
+          keyed = each_table (λ u us. AreByKey (schema_of u) (width_of u) us) t rows f sorted (λ u other. k.ordered.keyed u);
+          rules = k.ordered.rules;
+        };
+      }
 
 -- a row is put into a table
 put_named : (t : BookTable) (row : TableRow) (f : Filled) → changed_by (named f) (Puts (name_of t) row ∷ []) ≡ named (with_rows t (schema.put_row (schema_of t) row (f.keyed t)) f)
@@ -168,17 +164,18 @@ leads_put t row f old new has is k did =
 pub leads_entry : (row : TableRow) (f : Filled) (old new : Database) → IsBySeq entry_schema row → Keeps f old → WritesInto 1 (λ before after. after ≡ put_row (entry_values row) before) old new
     → (g : Filled) × (changed_by (named f) (Puts (codes "entry") row ∷ []) ≡ named g) × Keeps g new
 leads_entry row f old new is k did =
-    let g : Filled = record f { entry = schema.put_row entry_schema row f.entry } in (
+    let g : Filled = record f { entry = schema.put_row entry_schema row f.entry } in
+    let but = held_but 1 f old new did.others k.rows in (
       g,
       refl,
       record {
         schema = still_lies old.schema new.schema did.schema k.schema;
         sound = did.sound;
         rows = record {
-          book = did.others.0 (apart 0 1 refl) ∙ k.rows.book;
+          book = but.book refl;
           entry = did.rows ∙ ap (put_row (entry_values row)) k.rows.entry ∙ sym (seq_put entry_schema row f.entry is k.ordered.entry);
-          keyed = λ u. subst (Holds (f.keyed u)) (sym (spared u 1 old new did.others (other_way 1 (tree_of u) (not_entry u)))) (k.rows.keyed u);
-          rules = did.others.1.1.1.1.1.1.1.1.1.0 (apart 18 1 refl) ∙ k.rows.rules;
+          keyed = λ u. but.keyed u (unkeyed u).1;
+          rules = but.rules refl;
         };
         ordered = record {
           entry = λ r there. elim (put_old entry_schema row f.entry r there) [ inl new ↦ subst (IsBySeq entry_schema) (sym new) is | inr old ↦ k.ordered.entry r old ];
@@ -192,16 +189,17 @@ leads_entry row f old new is k did =
 pub leads_rules : (row : TableRow) (f : Filled) (old new : Database) → IsBySeq entry_rules_schema row → Keeps f old → WritesInto 18 (λ before after. after ≡ put_row (entry_values row) before) old new
     → (g : Filled) × (changed_by (named f) (Puts (codes "entry_rules") row ∷ []) ≡ named g) × Keeps g new
 leads_rules row f old new is k did =
-    let g : Filled = record f { rules = schema.put_row entry_rules_schema row f.rules } in (
+    let g : Filled = record f { rules = schema.put_row entry_rules_schema row f.rules } in
+    let but = held_but 18 f old new did.others k.rows in (
       g,
       refl,
       record {
         schema = still_lies old.schema new.schema did.schema k.schema;
         sound = did.sound;
         rows = record {
-          book = did.others.0 (apart 0 18 refl) ∙ k.rows.book;
-          entry = did.others.1.0 (apart 1 18 refl) ∙ k.rows.entry;
-          keyed = λ u. subst (Holds (f.keyed u)) (sym (spared u 18 old new did.others (other_way 18 (tree_of u) (not_rules u)))) (k.rows.keyed u);
+          book = but.book refl;
+          entry = but.entry refl;
+          keyed = λ u. but.keyed u (unkeyed u).2;
           rules = did.rows ∙ ap (put_row (entry_values row)) k.rows.rules ∙ sym (seq_put entry_rules_schema row f.rules is k.ordered.rules);
         };
         ordered = record {

@@ -36,6 +36,7 @@ mod Lines
 mod Applied
 mod AppendingLemmas
 pub mod Growing
+mod Ending
 mod CreateLemmas
 mod Versions
 pub mod Carried

@@ -11,10 +11,9 @@ use Rattle.profile.specs.Register.{Command, Interchange, Enrol, Clerk, Entry, ow
 use Rattle.profile.specs.Readings.{is_entry}
 use Rattle.profile.specs.Accepted.{own_of, reply_to, is_accepted, entry_of, after, accepted_on, is_command, can_be_given, IsLegal}
 use Rattle.profile.specs.Reply.{reply}
-use Rattle.profile.specs.Tables.{Number, Text, Blob, TableRow, entry_row, entries_on, entry_table}
+use Rattle.profile.specs.Tables.{Number, Text, Blob, TableRow, entry_row, entries_on}
 use Rattle.profile.proofs.TextLaws.{both_parts, same_text, text_is}
 use Rattle.profile.proofs.ReadingLaws.{who_of-who_text}
-use Rattle.profile.proofs.RegisterLaws.{legal-entries}
 use Rattle.rules.specs.Written.{Written, written, written_as}
 use Rattle.rules.proofs.Registers.{who_is, same_who, own_more, own_without}
 use Rattle.rules.proofs.Depositors.{partner_of}
@@ -163,8 +162,3 @@ rows_told before (e ∷ L) who good partner =
     by : (b : Bool) → map (drop 2) rest ≡ map written_cells ws → map (drop 2) (if b then entry_row before e ∷ rest else rest) ≡ map written_cells (if b then written before e ∷ ws else ws)
     by true later = ap (λ (rs : List TableRow). written_cells (written before e) ∷ rs) later
     by false later = later
-
--- the rows of `entry` that name a depositor tell, in order, its own entries as they are written down
-pub entry_rows_of : (W : Who) (L : List Entry) (who : Who) → IsLegal Two W L → is_partner who ≡ true
-    → map (drop 2) (filter (is_entry_of (who_text who)) (entry_table L)) ≡ map written_cells (all_written (own L who))
-entry_rows_of W L who legal partner = rows_told [] L who (legal-entries Two W L legal) partner ∙ ap (map written_cells) (own_written L who)

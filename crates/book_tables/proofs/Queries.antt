@@ -1,6 +1,6 @@
 -- Queries, one after another.
-use Rattle.std.proofs.Common.{List, ◌≡◌, ◌⊎◌, ◌∙◌, inl, inr, ℕ, Result, Ok, Err, Some, IfErr, OnErr, OnOk, arith, refl, sym, subst}
-use Rattle.std.specs.Prelude.{◌≢◌, IsErrAnd}
+use Rattle.std.proofs.Common.{List, ◌≡◌, ◌⊎◌, ◌∙◌, inl, inr, ℕ, Result, Ok, Err, IfErr, OnOk, arith, refl, sym, subst}
+use Rattle.std.specs.Prelude.{IsErrAnd}
 use Rattle.sqlite.specs.Held.{state}
 use Rattle.sqlite.specs.Store.{Ghosts}
 use Rattle.sqlite.specs.State.{State, HasCleanDisk}
@@ -12,7 +12,7 @@ use Rattle.profile.specs.Register.{Entry}
 use Rattle.book_tables.specs.Asking.{Asked, Went, IsAsked, IsAskFault}
 use Rattle.book_tables.specs.Exits.{StandsWhileOpen}
 use Rattle.book_tables.specs.Kept.{Kept}
-use Rattle.book_tables.specs.Limits.{Counts}
+use Rattle.book_tables.specs.Limits.{Called, CalledOrNone}
 use Rattle.book_tables.specs.Rises.{Rises}
 use Rattle.book_tables.proofs.Asked.{asked_twice}
 use Rattle.book_tables.proofs.AskedLater.{fault_later}
@@ -30,15 +30,24 @@ memory_fault f old new refused more is = record {
   device = λ e. let d : ◌≡◌ {A = Fault} OutOfMemory Device = sym is ∙ e in cc;
 }
 
--- a call of the store failed, and was counted
-call_fault : (f : Fault) (old new : State) (refused more : ℕ) → (f ≡ OutOfMemory) ⊎ (f ≡ Store) → Rises refused more → IsAskFault f old new refused more
-call_fault f old new refused more (inl is) rises = memory_fault f old new refused more is
-call_fault f old new refused more (inr is) rises = record {
-  store = λ _. rises;
-  not_this = λ e. absurd (let d : ◌≡◌ {A = Fault} Store NotThisBook = sym is ∙ e in cc);
-  reopen = λ e. let d : ◌≡◌ {A = Fault} Store Reopen = sym is ∙ e in cc;
-  device = λ e. let d : ◌≡◌ {A = Fault} Store Device = sym is ∙ e in cc;
+err_is : {T : Type 0} (f g : Fault) → ◌≡◌ {A = Result T Fault} (Err f) (Err g) → f ≡ g
+err_is f g e = cc e
+
+-- calls that found a book, and others after them, of which one was refused
+pub refused_after : {S T U V : Type 0} (a b c : Kept S) (t : T) (f : Fault) (r : Result V Fault) → CalledOrNone {T = T} a b (Ok t) → Called {T = U} b c (Err f) → IsErrAnd r (λ g. g ≡ f) → CalledOrNone a c r
+refused_after a b c t f (Ok v) one two is = absurd is
+refused_after a b c t f (Err g) one two is = record {
+  named = inr (subst (λ h. (h ≡ OutOfMemory) ⊎ (h ≡ Store)) (sym is) two.named);
+  counted = λ _. subst (λ n. Rises n c.refused) one.uncounted two.counted;
+  uncounted = tt;
+  uncounted_none = λ none. never (err_is g NotThisBook none) two.named;
+  limit = counts_both a b c one.limit two.limit;
+  allowed = tt;
 }
+  where
+    never : {A : Type 0} → g ≡ NotThisBook → (f ≡ OutOfMemory) ⊎ (f ≡ Store) → A
+    never e (inl h) = absurd (let d : ◌≡◌ {A = Fault} OutOfMemory NotThisBook = sym h ∙ sym is ∙ e in cc)
+    never e (inr h) = absurd (let d : ◌≡◌ {A = Fault} Store NotThisBook = sym h ∙ sym is ∙ e in cc)
 
 always_ok : {T E : Type 0} {A : Type 0} (r : Result T E) → A → OnOk r A
 always_ok (Ok x) a = a
@@ -72,26 +81,6 @@ module _ {S : Type 0} (store : Ghosts S) where
     uncounted = never_ok _ _ r is;
     limit = spends_none s.made s.limit;
     allowed = never_ok _ _ r is;
-  }
-
-  -- one text that was asked
-  pub asked_once : {T : Type 0} (old new : Kept S) (r : Result T Fault) → IsAsked (state store old.conn) (state store new.conn) → IfErr r (λ f. (f ≡ OutOfMemory) ⊎ (f ≡ Store))
-      → OnErr r (Rises old.refused new.refused) → OnOk r (new.refused ≡ old.refused) → Counts old new → OnOk r (old.limit ≢ Some 0) → Asked store old new r
-  asked_once old new (Ok x) left named counted uncounted limit allowed = record {
-    left = left;
-    fault = tt;
-    counts = omega (arith, uncounted);
-    uncounted = uncounted;
-    limit = limit;
-    allowed = allowed;
-  }
-  asked_once old new (Err f) left named counted uncounted limit allowed = record {
-    left = left;
-    fault = call_fault f (state store old.conn) (state store new.conn) old.refused new.refused named counted;
-    counts = counted.up;
-    uncounted = tt;
-    limit = limit;
-    allowed = tt;
   }
 
   -- what is made of the rows of a query that answered: Ok, or why it fails

@@ -12,7 +12,7 @@ use Rattle.book_tables.specs.Writing.{Wrote}
 use Rattle.book_tables.proofs.Limited.{spends_none, spends_both}
 use Rattle.book_tables.proofs.StepLemmas.{on_ok, same_keeps}
 
-on_err : {T E : Type 0} {A B : Type 0} (r : Result T E) → (A → B) → OnErr r A → OnErr r B
+pub on_err : {T E : Type 0} {A B : Type 0} (r : Result T E) → (A → B) → OnErr r A → OnErr r B
 on_err (Ok x) f h = tt
 on_err (Err e) f h = f h
 

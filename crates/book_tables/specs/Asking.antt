@@ -9,11 +9,13 @@ use Rattle.sqlite.specs.Store.{Ghosts}
 use Rattle.sqlite.specs.Listing.{understood, reads_listing, IsSourceOf}
 use Rattle.sqlite.specs.State.{State, HasCleanDisk, Survives}
 use Rattle.sqlite_resolve.specs.declared.compiled.Compiled.{Compiled}
+use Rattle.profile.specs.declared.rules.Rules.{Rules}
 use Rattle.profile.specs.declared.rules.Rules.TheVariants.{One}
 use Rattle.profile.specs.Header.{Who}
 use Rattle.profile.specs.Register.{Entry}
 use Rattle.store.specs.declared.fault.Fault.{Fault}
 use Rattle.store.specs.declared.fault.Fault.TheVariants.{Store, Reopen, NotThisBook, Device}
+use Rattle.book_tables.specs.Carrying.{StandsOpenAs}
 use Rattle.book_tables.specs.Exits.{IsAsBefore, StandsWhileOpen}
 use Rattle.book_tables.specs.Kept.{Kept}
 use Rattle.book_tables.specs.Limits.{Counts}
@@ -30,6 +32,14 @@ pub record Finds (sql : List ℕ) (params : Row) (db : Database) (rows : List Ro
 -- the text that asks for the warehouse
 abbrev pub house_text : List ℕ
 house_text = codes "SELECT version, qualifier, id FROM book"
+
+-- of each register that the tables stand for while they are open, if the disk is clean after the call
+abbrev pub OfStanding : {S : Type 0} → Ghosts S → Kept S → Kept S → (Who → List Entry → Type 0) → Type 0
+OfStanding store old new P = HasCleanDisk (state store new.conn) → (W : Who) (L : List Entry) → StandsWhileOpen (state store old.conn) W L → P W L
+
+-- the same of tables of a version
+abbrev pub OfStandingAs : {S : Type 0} → Ghosts S → Kept S → Kept S → (Rules → Who → List Entry → Type 0) → Type 0
+OfStandingAs store old new P = HasCleanDisk (state store new.conn) → (q : Rules) (W : Who) (L : List Entry) → StandsOpenAs q (state store old.conn) W L → P q W L
 
 -- under any schema under which the text is understood, it gives nothing back of a write, and asks for no time
 abbrev pub OnlyReads : List ℕ → Type 0

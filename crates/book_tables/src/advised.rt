@@ -1,14 +1,10 @@
-ghost use Rattle.std.specs.Prelude.{◌≡◌, ◌<◌, [], List, Some, IfErr, IfOk, length, option_map};
+ghost use Rattle.std.specs.Prelude.{◌≡◌, ◌<◌, [], Some, IfErr, IfOk, length, option_map};
 ghost use Rattle.profile.specs.declared.rules.Rules.TheVariants.{Two};
 ghost use Rattle.profile.specs.Limits.{most_lines};
-ghost use Rattle.profile.specs.Header.{Who as Partner};
 ghost use Rattle.profile.specs.Page.{PageAdvice, page_of};
 ghost use Rattle.profile.specs.Register as register;
-ghost use Rattle.sqlite.specs.Held.{state};
-ghost use Rattle.sqlite.specs.State.{HasCleanDisk};
 ghost use Rattle.goods.specs.Pages.{advice_at};
-ghost use Rattle.book_tables.specs.Asking.{Asked};
-ghost use Rattle.book_tables.specs.Exits.{StandsWhileOpen};
+ghost use Rattle.book_tables.specs.Asking.{Asked, OfStanding};
 ghost use Rattle.book_tables.specs.Looking.{bare_advice, lines_advised};
 ghost use Rattle.book_tables.specs.Showing.{advice_shown};
 
@@ -63,7 +59,8 @@ fn advice_in(alloc: Global, row: &Row) -> Result<Option<BareAdvice>, AllocError>
 // An advice with its lines. 43 where they are more than an advice has.
 fn with_lines(bare: BareAdvice, lines: Vec<Goods>) -> Result<Option<KnownAdvice>, Fault>
     ensures whole { IfOk result (λ advice. advice ≡ Some (record bare { lines = lines.items })) }
-    ensures many { IfErr result (λ fault. (fault ≡ Fault.NotThisBook) × (most_lines Two < length lines.items)) }
+    ensures many { IfErr result (λ fault. (fault ≡ Fault.NotThisBook)
+        × (most_lines Two < length lines.items)) }
 {
     if lines.len() > usize::from(MOST_LINES_TWO) {
         return Err(Fault::NotThisBook);
@@ -80,10 +77,9 @@ impl<S: Alter + Drop> Tables<S> {
         who: Who,
         shipment: &[u8],
     ) -> Result<Option<BareAdvice>, Fault>
-        ensures advice { HasCleanDisk (state S.Store self.new.conn) → (W : Partner) (L : List register.Entry)
-            → StandsWhileOpen (state S.Store self.old.conn) W L
-            → IfOk result (λ advice. advice ≡ option_map bare_advice (advice_at shipment.now (page_of
-            (register.own L who)).advices)) }
+        ensures advice { OfStanding S.Store self.old self.new
+            (λ W L. IfOk result (λ advice. advice ≡ option_map bare_advice
+            (advice_at shipment.now (page_of (register.own L who)).advices))) }
         ensures asked { Asked S.Store self.old self.new result }
     {
         let rows = self.under_text(
@@ -109,10 +105,9 @@ impl<S: Alter + Drop> Tables<S> {
         who: Who,
         shipment: &[u8],
     ) -> Result<Vec<Goods>, Fault>
-        ensures lines { HasCleanDisk (state S.Store self.new.conn) → (W : Partner) (L : List register.Entry)
-            → StandsWhileOpen (state S.Store self.old.conn) W L
-            → IfOk result (λ lines. lines.items ≡ lines_advised (advice_at shipment.now (page_of
-            (register.own L who)).advices)) }
+        ensures lines { OfStanding S.Store self.old self.new
+            (λ W L. IfOk result (λ lines. lines.items ≡ lines_advised
+            (advice_at shipment.now (page_of (register.own L who)).advices))) }
         ensures asked { Asked S.Store self.old self.new result }
     {
         let rows = self.under_text(
@@ -135,9 +130,9 @@ impl<S: Alter + Drop> Tables<S> {
         who: Who,
         shipment: &[u8],
     ) -> Result<Option<KnownAdvice>, Fault>
-        ensures advice { HasCleanDisk (state S.Store self.new.conn) → (W : Partner) (L : List register.Entry)
-            → StandsWhileOpen (state S.Store self.old.conn) W L
-            → IfOk result (λ advice. advice ≡ advice_at shipment.now (page_of (register.own L who)).advices) }
+        ensures advice { OfStanding S.Store self.old self.new
+            (λ W L. IfOk result (λ advice. advice ≡ advice_at shipment.now
+            (page_of (register.own L who)).advices)) }
         ensures asked { Asked S.Store self.old self.new result }
     {
         let Some(bare) = self.bare_advice(alloc, who, shipment)? else {

@@ -4,10 +4,9 @@ ghost use Rattle.profile.specs.Register as register;
 ghost use Rattle.profile.specs.Reply.{out};
 ghost use Rattle.rules.specs.Written.{written};
 ghost use Rattle.rules.specs.Tabled.{table_changes};
-ghost use Rattle.sqlite.specs.Held.{state};
 ghost use Rattle.book_tables.specs.Appending.{Appends, sent_changes, entry_changes};
 ghost use Rattle.book_tables.specs.Leading.{Leads};
-ghost use Rattle.book_tables.specs.Writing.{Wrote};
+ghost use Rattle.book_tables.specs.Writing.{WroteIn};
 
 use crate::calls::Calls;
 use crate::changing::apply_all;
@@ -26,11 +25,11 @@ fn insert_sent<'a, S: Alter>(
     outgoing: &'a [u8],
 ) -> Result<(), Fault>
     ensures same_reference { tx.new.conn.ghost_name ≡ tx.old.conn.ghost_name }
-    ensures wrote { let old = state S.Store tx.old.conn.now in let new = state S.Store tx.new.conn.now in
-        Wrote ((W : Partner) (L : List register.Entry) (e : register.Entry)
-        → who.now ≡ who_text e.who → entry.now ≡ written L e → outgoing.now ≡ out W (register.own L e.who) e
+    ensures wrote { WroteIn S.Store (λ old new. (W : Partner) (L : List register.Entry)
+        (e : register.Entry) → who.now ≡ who_text e.who → entry.now ≡ written L e
+        → outgoing.now ≡ out W (register.own L e.who) e
         → Leads (sent_changes W L e) old.now new.now)
-        old new calls.old calls.new result }
+        tx.old.conn.now tx.new.conn.now calls.old calls.new result }
 {
     if !entry.is_numbered() {
         return Ok(());
@@ -53,11 +52,11 @@ pub(crate) fn write_entry<'a, S: Alter>(
 ) -> Result<(), Fault>
     requires { seq < 2 ^ 63 }
     ensures same_reference { tx.new.conn.ghost_name ≡ tx.old.conn.ghost_name }
-    ensures wrote { let old = state S.Store tx.old.conn.now in let new = state S.Store tx.new.conn.now in
-        Wrote (IsTrue old.is_open × ((W : Partner) (L : List register.Entry) (e : register.Entry)
-        → who.now ≡ who_text e.who → Appends W L e seq entry.now changes.now outgoing.now
+    ensures wrote { WroteIn S.Store (λ old new. IsTrue old.is_open
+        × ((W : Partner) (L : List register.Entry) (e : register.Entry) → who.now ≡ who_text e.who
+        → Appends W L e seq entry.now changes.now outgoing.now
         → Leads (entry_changes W L e ++ table_changes e.who changes.now) old.now new.now))
-        old new calls.old calls.new result }
+        tx.old.conn.now tx.new.conn.now calls.old calls.new result }
 {
     let moment = moment_text(entry.moment());
     insert_entry(tx, calls, seq, who, entry, &moment)?;

@@ -52,10 +52,12 @@ impl Calls {
     #[tactic(auto, using(crate::proofs::Limited::spends_same, crate::proofs::Limited::spent_one))]
     pub(crate) fn allow(&mut self) -> Result<(), Fault>
         ensures ok { OnOk result (self.new.refused ≡ self.old.refused) }
-        ensures err { IfErr result (λ f. (f ≡ Fault.Store) × Rises self.old.refused self.new.refused) }
+        ensures err { IfErr result (λ f. (f ≡ Fault.Store)
+            × Rises self.old.refused self.new.refused) }
         ensures allowed { OnOk result ((self.old.limit ≢ Some 0)
             × (self.new.limit ≡ fewer 1 self.old.limit)) }
-        ensures once { OnOk result (Spent 1 self.old.made self.new.made self.old.limit self.new.limit) }
+        ensures once { OnOk result (Spent 1 self.old.made self.new.made self.old.limit
+            self.new.limit) }
         ensures unmade { OnErr result ((self.old.limit ≡ Some 0) × (self.new.limit ≡ Some 0)
             × (self.new.made ≡ self.old.made)) }
         ensures limit { Spends self.old.made self.new.made self.old.limit self.new.limit }

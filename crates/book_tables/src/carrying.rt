@@ -1,8 +1,7 @@
 ghost use Rattle.std.specs.Prelude.{◌≡◌, ◌<◌, ◌^◌};
-ghost use Rattle.sqlite.specs.Held.{state};
 ghost use Rattle.sqlite.specs.State.{IsLive};
 ghost use Rattle.book_tables.specs.Carrying.{CarriesOver, GivesRules, SetsVersion};
-ghost use Rattle.book_tables.specs.Writing.{Wrote};
+ghost use Rattle.book_tables.specs.Writing.{WroteIn};
 
 use crate::calls::Calls;
 use crate::making::make_fourth;
@@ -24,8 +23,8 @@ pub(crate) fn give_first_rules<S: Alter, T: FnMut(u64, u64)>(
     requires few { entries < 2 ^ 63 }
     requires told { T.IsAlwaysCallable told }
     ensures same_reference { tx.new.conn.ghost_name ≡ tx.old.conn.ghost_name }
-    ensures wrote { let old = state S.Store tx.old.conn.now in let new = state S.Store tx.new.conn.now in
-        Wrote (GivesRules entries old.now new.now) old new calls.old calls.new result }
+    ensures wrote { WroteIn S.Store (λ old new. GivesRules entries old.now new.now)
+        tx.old.conn.now tx.new.conn.now calls.old calls.new result }
 {
     for before in 0..entries {
         insert_rules(tx, calls, before + 1, Rules::One)?;
@@ -40,8 +39,8 @@ pub(crate) fn set_version<S: Alter>(
     calls: &mut Calls,
 ) -> Result<(), Fault>
     ensures same_reference { tx.new.conn.ghost_name ≡ tx.old.conn.ghost_name }
-    ensures wrote { let old = state S.Store tx.old.conn.now in let new = state S.Store tx.new.conn.now in
-        Wrote (SetsVersion old.now new.now) old new calls.old calls.new result }
+    ensures wrote { WroteIn S.Store (λ old new. SetsVersion old.now new.now)
+        tx.old.conn.now tx.new.conn.now calls.old calls.new result }
 {
     run(
         tx,
@@ -63,8 +62,8 @@ pub(crate) fn carry_all<S: Alter, T: FnMut(u64, u64)>(
     requires few { entries < 2 ^ 63 }
     requires told { T.IsAlwaysCallable told }
     ensures same_reference { tx.new.conn.ghost_name ≡ tx.old.conn.ghost_name }
-    ensures wrote { let old = state S.Store tx.old.conn.now in let new = state S.Store tx.new.conn.now in
-        Wrote (IsLive old → CarriesOver entries old new) old new calls.old calls.new result }
+    ensures wrote { WroteIn S.Store (λ old new. IsLive old → CarriesOver entries old new)
+        tx.old.conn.now tx.new.conn.now calls.old calls.new result }
 {
     make_fourth(tx, calls)?;
     give_first_rules(tx, calls, entries, told)?;

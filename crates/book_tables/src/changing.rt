@@ -2,9 +2,8 @@ ghost use Rattle.std.specs.Prelude.{◌≡◌, codes};
 ghost use Rattle.profile.specs.Header.{Who as Partner, who_text};
 ghost use Rattle.rules.specs.Tabled.{row_changes, advice_changes, order_changes, table_changes_of, table_changes};
 ghost use Rattle.profile.specs.Tables as cells;
-ghost use Rattle.sqlite.specs.Held.{state};
 ghost use Rattle.book_tables.specs.Leading.{Leads, puts_of};
-ghost use Rattle.book_tables.specs.Writing.{Wrote};
+ghost use Rattle.book_tables.specs.Writing.{WroteIn};
 
 use crate::calls::Calls;
 use crate::recording::set_state;
@@ -25,10 +24,10 @@ fn put_advice_lines<'a, S: Alter>(
     advice: &'a KnownAdvice,
 ) -> Result<(), Fault>
     ensures same_reference { tx.new.conn.ghost_name ≡ tx.old.conn.ghost_name }
-    ensures wrote { let old = state S.Store tx.old.conn.now in let new = state S.Store tx.new.conn.now in
-        Wrote (Leads (puts_of (codes "advice_line") who.now (cells.advice_line_cells advice.now)) old.now
+    ensures wrote { WroteIn S.Store (λ old new. Leads
+        (puts_of (codes "advice_line") who.now (cells.advice_line_cells advice.now)) old.now
         new.now)
-        old new calls.old calls.new result }
+        tx.old.conn.now tx.new.conn.now calls.old calls.new result }
 {
     let shipment = advice.shipment();
     let mut n: u32 = 0;
@@ -50,9 +49,9 @@ fn put_order_lines<'a, S: Alter>(
     order: &'a KnownOrder,
 ) -> Result<(), Fault>
     ensures same_reference { tx.new.conn.ghost_name ≡ tx.old.conn.ghost_name }
-    ensures wrote { let old = state S.Store tx.old.conn.now in let new = state S.Store tx.new.conn.now in
-        Wrote (Leads (puts_of (codes "order_line") who.now (cells.order_line_cells order.now)) old.now new.now)
-        old new calls.old calls.new result }
+    ensures wrote { WroteIn S.Store (λ old new. Leads
+        (puts_of (codes "order_line") who.now (cells.order_line_cells order.now)) old.now new.now)
+        tx.old.conn.now tx.new.conn.now calls.old calls.new result }
 {
     let key = order.number.as_slice();
     let mut n: u32 = 0;
@@ -74,10 +73,9 @@ fn put_reservations<'a, S: Alter>(
     order: &'a KnownOrder,
 ) -> Result<(), Fault>
     ensures same_reference { tx.new.conn.ghost_name ≡ tx.old.conn.ghost_name }
-    ensures wrote { let old = state S.Store tx.old.conn.now in let new = state S.Store tx.new.conn.now in
-        Wrote (Leads (puts_of (codes "reservation") who.now (cells.reservation_cells order.now)) old.now
-        new.now)
-        old new calls.old calls.new result }
+    ensures wrote { WroteIn S.Store (λ old new. Leads
+        (puts_of (codes "reservation") who.now (cells.reservation_cells order.now)) old.now new.now)
+        tx.old.conn.now tx.new.conn.now calls.old calls.new result }
 {
     let key = order.number.as_slice();
     for line in &order.reserved {
@@ -94,9 +92,9 @@ fn apply_row<'a, S: Alter>(
     row: &'a Row,
 ) -> Result<(), Fault>
     ensures same_reference { tx.new.conn.ghost_name ≡ tx.old.conn.ghost_name }
-    ensures wrote { let old = state S.Store tx.old.conn.now in let new = state S.Store tx.new.conn.now in
-        Wrote ((w : Partner) → who.now ≡ who_text w → Leads (row_changes w row.now) old.now new.now)
-        old new calls.old calls.new result }
+    ensures wrote { WroteIn S.Store (λ old new. (w : Partner) → who.now ≡ who_text w
+        → Leads (row_changes w row.now) old.now new.now)
+        tx.old.conn.now tx.new.conn.now calls.old calls.new result }
 {
     put_stock(tx, calls, who, row)?;
     match &row.expiry {
@@ -113,9 +111,9 @@ fn apply_advice<'a, S: Alter>(
     advice: &'a KnownAdvice,
 ) -> Result<(), Fault>
     ensures same_reference { tx.new.conn.ghost_name ≡ tx.old.conn.ghost_name }
-    ensures wrote { let old = state S.Store tx.old.conn.now in let new = state S.Store tx.new.conn.now in
-        Wrote ((w : Partner) → who.now ≡ who_text w → Leads (advice_changes w advice.now) old.now new.now)
-        old new calls.old calls.new result }
+    ensures wrote { WroteIn S.Store (λ old new. (w : Partner) → who.now ≡ who_text w
+        → Leads (advice_changes w advice.now) old.now new.now)
+        tx.old.conn.now tx.new.conn.now calls.old calls.new result }
 {
     put_advice(tx, calls, who, advice)?;
     if advice.is_open() {
@@ -134,9 +132,9 @@ fn apply_order<'a, S: Alter>(
     order: &'a KnownOrder,
 ) -> Result<(), Fault>
     ensures same_reference { tx.new.conn.ghost_name ≡ tx.old.conn.ghost_name }
-    ensures wrote { let old = state S.Store tx.old.conn.now in let new = state S.Store tx.new.conn.now in
-        Wrote ((w : Partner) → who.now ≡ who_text w → Leads (order_changes w order.now) old.now new.now)
-        old new calls.old calls.new result }
+    ensures wrote { WroteIn S.Store (λ old new. (w : Partner) → who.now ≡ who_text w
+        → Leads (order_changes w order.now) old.now new.now)
+        tx.old.conn.now tx.new.conn.now calls.old calls.new result }
 {
     put_order(tx, calls, who, order)?;
     if order.is_open {
@@ -155,9 +153,9 @@ fn apply_change<'a, S: Alter>(
     change: &'a Change,
 ) -> Result<(), Fault>
     ensures same_reference { tx.new.conn.ghost_name ≡ tx.old.conn.ghost_name }
-    ensures wrote { let old = state S.Store tx.old.conn.now in let new = state S.Store tx.new.conn.now in
-        Wrote ((w : Partner) → who.now ≡ who_text w → Leads (table_changes_of w change.now) old.now new.now)
-        old new calls.old calls.new result }
+    ensures wrote { WroteIn S.Store (λ old new. (w : Partner) → who.now ≡ who_text w
+        → Leads (table_changes_of w change.now) old.now new.now)
+        tx.old.conn.now tx.new.conn.now calls.old calls.new result }
 {
     match change {
         Change::Stock(row) => apply_row(tx, calls, who, row),
@@ -176,9 +174,9 @@ pub(crate) fn apply_all<'a, S: Alter>(
     changes: &'a [Change],
 ) -> Result<(), Fault>
     ensures same_reference { tx.new.conn.ghost_name ≡ tx.old.conn.ghost_name }
-    ensures wrote { let old = state S.Store tx.old.conn.now in let new = state S.Store tx.new.conn.now in
-        Wrote ((w : Partner) → who.now ≡ who_text w → Leads (table_changes w changes.now) old.now new.now)
-        old new calls.old calls.new result }
+    ensures wrote { WroteIn S.Store (λ old new. (w : Partner) → who.now ≡ who_text w
+        → Leads (table_changes w changes.now) old.now new.now)
+        tx.old.conn.now tx.new.conn.now calls.old calls.new result }
 {
     for change in changes {
         apply_change(tx, calls, who, change)?;

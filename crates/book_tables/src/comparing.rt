@@ -139,8 +139,10 @@ impl<S: Alter + Drop> Tables<S> {
         sql: &str,
     ) -> Result<bool, Fault>
         requires { OnlyReads sql.now }
-        ensures same { HasCleanDisk (state S.Store self.new.conn) → HasCleanDisk (state T.Store other.new.conn)
-            → IfOk result (ShowBoth sql.now (state S.Store self.old.conn) (state T.Store other.old.conn)) }
+        ensures same { HasCleanDisk (state S.Store self.new.conn)
+            → HasCleanDisk (state T.Store other.new.conn)
+            → IfOk result (ShowBoth sql.now (state S.Store self.old.conn)
+            (state T.Store other.old.conn)) }
         ensures asked { Asked S.Store self.old self.new result }
         ensures other { IsAsked (state T.Store other.old.conn) (state T.Store other.new.conn) }
         ensures other_limit { Counts other.old other.new }
@@ -156,7 +158,8 @@ impl<S: Alter + Drop> Tables<S> {
     fn compare_tables<T: Alter + Drop>(&mut self, other: &mut Tables<T>) -> Result<bool, Fault>
         ensures compares { HasCleanDisk (state S.Store self.new.conn)
             → HasCleanDisk (state T.Store other.new.conn)
-            → IfOk result (λ same. Compares same (state S.Store self.old.conn) (state T.Store other.old.conn)) }
+            → IfOk result (λ same. Compares same (state S.Store self.old.conn)
+            (state T.Store other.old.conn)) }
         ensures asked { Asked S.Store self.old self.new result }
         ensures other { IsAsked (state T.Store other.old.conn) (state T.Store other.new.conn) }
         ensures other_limit { Counts other.old other.new }
@@ -175,8 +178,8 @@ impl<S: Alter + Drop> Tables<S> {
     pub fn same_tables<T: Alter + Drop>(&mut self, other: &mut Tables<T>) -> Result<bool, Fault>
         ensures stands { HasCleanDisk (state S.Store self.new.conn)
             → HasCleanDisk (state T.Store other.new.conn) → IsLaid (state S.Store self.old.conn)
-            → AreTables (state S.Store self.old.conn).now
-            → (W : Partner) (L : List register.Entry) → StandsWhileOpen (state T.Store other.old.conn) W L
+            → AreTables (state S.Store self.old.conn).now → (W : Partner) (L : List register.Entry)
+            → StandsWhileOpen (state T.Store other.old.conn) W L
             → IfOk result (λ same. IsTrue same → Stands W L (state S.Store self.old.conn).now) }
         ensures same { HasCleanDisk (state S.Store self.new.conn)
             → HasCleanDisk (state T.Store other.new.conn) → (W : Partner) (L : List register.Entry)

@@ -1,4 +1,4 @@
-ghost use Rattle.std.specs.Prelude.{◌≡◌, ◌⊎◌, ◌<◌, ◌^◌, ◌++◌, ◌∷◌, [], List, false, length, IsTrue, IfErr, IfOk, OnOk, OnErr, None, Some, ◌≢◌};
+ghost use Rattle.std.specs.Prelude.{◌≡◌, ◌<◌, ◌^◌, ◌++◌, ◌∷◌, [], List, false, length, IsTrue, IfOk, OnOk, OnErr, None};
 ghost use Rattle.profile.specs.declared.rules.Rules.TheVariants.{One, Two};
 ghost use Rattle.profile.specs.Accepted.{IsLegal};
 ghost use Rattle.profile.specs.Header.{Who as Partner};
@@ -9,7 +9,7 @@ ghost use Rattle.sqlite.specs.Values.{bound};
 ghost use Rattle.book_tables.specs.Asking.{Finds, IsAsked, OnlyReads};
 ghost use Rattle.book_tables.specs.Carrying.{CarriesOver, StandsOpenAs};
 ghost use Rattle.book_tables.specs.Exits.{IsAppended, HasGrown, Extends, IsAsBefore, LeavesIt};
-ghost use Rattle.book_tables.specs.Limits.{Counts, Spent};
+ghost use Rattle.book_tables.specs.Limits.{Called, Spent};
 ghost use Rattle.book_tables.specs.Layout.{no_layout};
 ghost use Rattle.book_tables.specs.Making.{Makes};
 ghost use Rattle.book_tables.specs.Rises.{Rises};
@@ -19,6 +19,7 @@ use crate::appending::write_entry;
 use crate::calls::Calls;
 use crate::carrying::carry_all;
 use crate::making::make_all;
+use crate::running::commit;
 use rules::{Change, Entry, Warehouse};
 use sqlite::types::ValueRef;
 use sqlite::{Alter, Connection, Row};
@@ -137,12 +138,9 @@ impl<S: Alter + Drop> Tables<S> {
             (state S.Store self.old.conn).now rows.items) }
         ensures live { IsLive (state S.Store self.old.conn) }
         ensures asked { IsAsked (state S.Store self.old.conn) (state S.Store self.new.conn) }
-        ensures named { IfErr result (λ f. (f ≡ Fault.OutOfMemory) ⊎ (f ≡ Fault.Store)) }
-        ensures counted { OnErr result (Rises self.old.refused self.new.refused) }
-        ensures uncounted { OnOk result (self.new.refused ≡ self.old.refused) }
-        ensures limit { Counts self.old self.new }
-        ensures twice { OnOk result (Spent 2 self.old.made self.new.made self.old.limit self.new.limit) }
-        ensures allowed { OnOk result (self.old.limit ≢ Some 0) }
+        ensures called { Called self.old self.new result }
+        ensures twice { OnOk result (Spent 2 self.old.made self.new.made self.old.limit
+            self.new.limit) }
     {
         // For the prover alone: in no transaction, what is there is the last commit; and while the
         // store is open, it is a database.
@@ -175,19 +173,16 @@ impl<S: Alter + Drop> Tables<S> {
         requires { seq < 2 ^ 63 }
         ensures ok { HasCleanDisk (state S.Store self.new.conn)
             → OnOk result ((W : Partner) (L : List register.Entry) (e : register.Entry)
-            → IsAppended (state S.Store self.old.conn) W L e seq who.now entry.now changes.now outgoing.now
-            → HasGrown (state S.Store self.new.conn) W (L ++ e ∷ [])) }
+            → IsAppended (state S.Store self.old.conn) W L e seq who.now entry.now changes.now
+            outgoing.now → HasGrown (state S.Store self.new.conn) W (L ++ e ∷ [])) }
         ensures left { HasCleanDisk (state S.Store self.new.conn)
             → OnOk result (LeavesIt (state S.Store self.new.conn)) }
         ensures err { HasCleanDisk (state S.Store self.new.conn)
-            → OnErr result (IsAsBefore (state S.Store self.old.conn) (state S.Store self.new.conn)) }
-        ensures crash { Survives (state S.Store self.old.conn) (state S.Store self.new.conn) (Extends
-            (state S.Store self.old.conn) seq who.now entry.now changes.now outgoing.now) }
-        ensures named { IfErr result (λ f. (f ≡ Fault.OutOfMemory) ⊎ (f ≡ Fault.Store)) }
-        ensures counted { OnErr result (Rises self.old.refused self.new.refused) }
-        ensures uncounted { OnOk result (self.new.refused ≡ self.old.refused) }
-        ensures limit { Counts self.old self.new }
-        ensures allowed { OnOk result (self.old.limit ≢ Some 0) }
+            → OnErr result (IsAsBefore (state S.Store self.old.conn)
+            (state S.Store self.new.conn)) }
+        ensures crash { Survives (state S.Store self.old.conn) (state S.Store self.new.conn)
+            (Extends (state S.Store self.old.conn) seq who.now entry.now changes.now outgoing.now) }
+        ensures called { Called self.old self.new result }
     {
         // For the prover alone, as in `ask`.
         let settled = self.conn.is_autocommit();
@@ -195,11 +190,7 @@ impl<S: Alter + Drop> Tables<S> {
         let _schema = self.conn.schema();
         let mut tx = self.conn.transaction();
         write_entry(&mut tx, &mut self.calls, seq, who, entry, changes, outgoing)?;
-        self.calls.allow()?;
-        match tx.commit() {
-            Ok(()) => Ok(()),
-            Err(error) => Err(self.calls.told(error)),
-        }
+        commit(tx, &mut self.calls)
     }
 
     /// Makes the tables of an empty register of the warehouse, of a book of version 2, in one
@@ -207,30 +198,24 @@ impl<S: Alter + Drop> Tables<S> {
     #[tactic(auto, using(crate::proofs::Limited::spends_both, crate::proofs::Limited::spends_same))]
     pub fn make(&mut self, warehouse: &Warehouse) -> Result<(), Fault>
         ensures ok { HasCleanDisk (state S.Store self.new.conn)
-            → OnOk result (Makes (state S.Store self.old.conn) (state S.Store self.new.conn) warehouse.now) }
+            → OnOk result (Makes (state S.Store self.old.conn) (state S.Store self.new.conn)
+            warehouse.now) }
         ensures left { HasCleanDisk (state S.Store self.new.conn)
             → OnOk result (LeavesIt (state S.Store self.new.conn)) }
         ensures err { HasCleanDisk (state S.Store self.new.conn)
-            → OnErr result (IsAsBefore (state S.Store self.old.conn) (state S.Store self.new.conn)) }
+            → OnErr result (IsAsBefore (state S.Store self.old.conn)
+            (state S.Store self.new.conn)) }
         ensures crash { Survives (state S.Store self.old.conn) (state S.Store self.new.conn)
-            (λ db. IsLegal Two warehouse.now [] → (state S.Store self.old.conn).now.schema ≡ no_layout
-            → StandsIn warehouse.now [] db) }
-        ensures named { IfErr result (λ f. (f ≡ Fault.OutOfMemory) ⊎ (f ≡ Fault.Store)) }
-        ensures counted { OnErr result (Rises self.old.refused self.new.refused) }
-        ensures uncounted { OnOk result (self.new.refused ≡ self.old.refused) }
-        ensures limit { Counts self.old self.new }
-        ensures allowed { OnOk result (self.old.limit ≢ Some 0) }
+            (λ db. IsLegal Two warehouse.now [] → (state S.Store self.old.conn).now.schema
+            ≡ no_layout → StandsIn warehouse.now [] db) }
+        ensures called { Called self.old self.new result }
     {
         // For the prover alone, as in `ask`.
         let settled = self.conn.is_autocommit();
         prove!(settled);
         let mut tx = self.conn.transaction();
         make_all(&mut tx, &mut self.calls, warehouse)?;
-        self.calls.allow()?;
-        match tx.commit() {
-            Ok(()) => Ok(()),
-            Err(error) => Err(self.calls.told(error)),
-        }
+        commit(tx, &mut self.calls)
     }
 
     /// Carries a book of version 1, which has so many entries, over to version 2, in one
@@ -240,19 +225,17 @@ impl<S: Alter + Drop> Tables<S> {
         requires few { entries < 2 ^ 63 }
         requires told { T.IsAlwaysCallable told }
         ensures ok { HasCleanDisk (state S.Store self.new.conn)
-            → OnOk result (CarriesOver entries (state S.Store self.old.conn) (state S.Store self.new.conn)) }
+            → OnOk result (CarriesOver entries (state S.Store self.old.conn)
+            (state S.Store self.new.conn)) }
         ensures left { HasCleanDisk (state S.Store self.new.conn)
             → OnOk result (LeavesIt (state S.Store self.new.conn)) }
         ensures err { HasCleanDisk (state S.Store self.new.conn)
-            → OnErr result (IsAsBefore (state S.Store self.old.conn) (state S.Store self.new.conn)) }
+            → OnErr result (IsAsBefore (state S.Store self.old.conn)
+            (state S.Store self.new.conn)) }
         ensures crash { Survives (state S.Store self.old.conn) (state S.Store self.new.conn)
             (λ db. (W : Partner) (L : List register.Entry) → entries ≡ length L
             → StandsOpenAs One (state S.Store self.old.conn) W L → StandsIn W L db) }
-        ensures named { IfErr result (λ f. (f ≡ Fault.OutOfMemory) ⊎ (f ≡ Fault.Store)) }
-        ensures counted { OnErr result (Rises self.old.refused self.new.refused) }
-        ensures uncounted { OnOk result (self.new.refused ≡ self.old.refused) }
-        ensures limit { Counts self.old self.new }
-        ensures allowed { OnOk result (self.old.limit ≢ Some 0) }
+        ensures called { Called self.old self.new result }
     {
         // For the prover alone, as in `ask`.
         let settled = self.conn.is_autocommit();
@@ -260,10 +243,6 @@ impl<S: Alter + Drop> Tables<S> {
         let _live = self.conn.schema();
         let mut tx = self.conn.transaction();
         carry_all(&mut tx, &mut self.calls, entries, told)?;
-        self.calls.allow()?;
-        match tx.commit() {
-            Ok(()) => Ok(()),
-            Err(error) => Err(self.calls.told(error)),
-        }
+        commit(tx, &mut self.calls)
     }
 }

@@ -23,8 +23,8 @@ pub(crate) fn copied(alloc: Global, text: Option<&[u8]>) -> Result<Option<Vec<u8
 
 // The date in a row of item, lot and expiry, where it is of the pair that another row begins with.
 fn date_in<'a>(row: &Row, date: &'a Row) -> Option<&'a [u8]>
-    ensures { (item lot : List ℕ) (d : Dated) → column row.now 0 ≡ Text item → column row.now 1 ≡ Text lot
-        → date.now ≡ date_shown d
+    ensures { (item lot : List ℕ) (d : Dated) → column row.now 0 ≡ Text item
+        → column row.now 1 ≡ Text lot → date.now ≡ date_shown d
         → option_map (λ (t : Bor (List ℕ)). t.now) result
         ≡ (if bytes_eq item d.item && bytes_eq lot d.lot then Some d.expiry else None) }
 {

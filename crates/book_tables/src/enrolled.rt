@@ -1,17 +1,16 @@
 //! Whether a depositor is enrolled, and who is: the enrolments are looked up one after the other,
 //! by the texts of the names, and no other entry is read.
-ghost use Rattle.std.specs.Prelude.{◌≡◌, ◌∷◌, [], ◌++◌, not, ◌==◌, true, List, Some, IfOk, IsTrue, OnOk, length, map};
+ghost use Rattle.std.specs.Prelude.{◌≡◌, ◌∷◌, [], ◌++◌, not, ◌==◌, true, Some, IfOk, IsTrue, OnOk, length, map};
 ghost use Rattle.std.specs.List.Sorted.{IsPermutation, IsSortedByKey};
 ghost use Rattle.std.specs.Ordering.{nat_cmp};
-ghost use Rattle.profile.specs.Header.{Who as Partner, is_partner};
+ghost use Rattle.profile.specs.Header.{is_partner};
 ghost use Rattle.profile.specs.Register as register;
 ghost use Rattle.sqlite.specs.declared.types.Value.TheVariants as value;
 ghost use Rattle.sqlite.specs.Held.{state};
 ghost use Rattle.sqlite.specs.State.{HasCleanDisk};
 ghost use Rattle.store.specs.Open.{enrolled};
-ghost use Rattle.book_tables.specs.Asking.{Asked, Finds};
+ghost use Rattle.book_tables.specs.Asking.{Asked, Finds, OfStanding};
 ghost use Rattle.book_tables.specs.Enrolments.{EnrolmentFacts, IsFirstFrom, enrolment_shown, enrolment_text, enrolments, next_text};
-ghost use Rattle.book_tables.specs.Exits.{StandsWhileOpen};
 
 use crate::connected::Tables;
 use crate::reading::{number_at, text_at};
@@ -40,7 +39,8 @@ impl Model for Enrolment {
 
 // The enrolment that a row of seq and who shows; None where it shows none.
 fn enrolment_in(row: &Row) -> Option<Enrolment>
-    ensures { (e : EnrolmentFacts) → is_partner e.who ≡ true → row.now ≡ enrolment_shown e → result ≡ Some e }
+    ensures { (e : EnrolmentFacts) → is_partner e.who ≡ true → row.now ≡ enrolment_shown e
+        → result ≡ Some e }
 {
     let Some(seq) = number_at(row, 0) else {
         return None;
@@ -92,9 +92,8 @@ fn whos(alloc: Global, enrolments: &[Enrolment]) -> Result<Vec<Who>, AllocError>
 impl<S: Alter + Drop> Tables<S> {
     /// Whether a depositor has entries: a stranger has none.
     pub(crate) fn is_enrolled(&mut self, alloc: Global, who: Who) -> Result<bool, Fault>
-        ensures enrolled { HasCleanDisk (state S.Store self.new.conn) → (W : Partner) (L : List register.Entry)
-            → StandsWhileOpen (state S.Store self.old.conn) W L
-            → IfOk result (λ enrolled. enrolled ≡ not (length (register.own L who) == 0)) }
+        ensures enrolled { OfStanding S.Store self.old self.new
+            (λ W L. IfOk result (λ enrolled. enrolled ≡ not (length (register.own L who) == 0))) }
         ensures asked { Asked S.Store self.old self.new result }
     {
         let rows = self.of_depositor(alloc, "SELECT seq FROM entry WHERE who = ?1 LIMIT 1", who)?;
@@ -120,9 +119,8 @@ impl<S: Alter + Drop> Tables<S> {
     // The first enrolment of those whose depositors' texts don't come before this one; None where
     // there is none. 43 where its row shows none.
     fn enrolment_from(&mut self, text: &[u8]) -> Result<Option<Enrolment>, Fault>
-        ensures first { HasCleanDisk (state S.Store self.new.conn) → (W : Partner) (L : List register.Entry)
-            → StandsWhileOpen (state S.Store self.old.conn) W L
-            → IfOk result (λ found. IsFirstFrom text.now (enrolments L) found) }
+        ensures first { OfStanding S.Store self.old self.new
+            (λ W L. IfOk result (λ found. IsFirstFrom text.now (enrolments L) found)) }
         ensures open { HasCleanDisk (state S.Store self.new.conn)
             → OnOk result (IsTrue (state S.Store self.old.conn).is_open) }
         ensures asked { Asked S.Store self.old self.new result }
@@ -140,9 +138,8 @@ impl<S: Alter + Drop> Tables<S> {
     // All enrolments. Each look-up asks for the text that comes next after the last one found, and
     // not for all after that one: the index would go through the entries of its depositor first.
     fn enrolments(&mut self, alloc: Global) -> Result<Vec<Enrolment>, Fault>
-        ensures all { HasCleanDisk (state S.Store self.new.conn) → (W : Partner) (L : List register.Entry)
-            → StandsWhileOpen (state S.Store self.old.conn) W L
-            → IfOk result (λ found. IsPermutation (enrolments L) found.items) }
+        ensures all { OfStanding S.Store self.old self.new
+            (λ W L. IfOk result (λ found. IsPermutation (enrolments L) found.items)) }
         ensures asked { Asked S.Store self.old self.new result }
     {
         let mut found = Vec::new(alloc);
@@ -160,9 +157,8 @@ impl<S: Alter + Drop> Tables<S> {
     /// The depositors, in the order in which they were enrolled: those of the entries without a
     /// number. 43 where such an entry's row names no partner.
     pub fn depositors(&mut self, alloc: Global) -> Result<Vec<Who>, Fault>
-        ensures whole { HasCleanDisk (state S.Store self.new.conn) → (W : Partner) (L : List register.Entry)
-            → StandsWhileOpen (state S.Store self.old.conn) W L
-            → IfOk result (λ whos. whos.items ≡ enrolled L) }
+        ensures whole { OfStanding S.Store self.old self.new
+            (λ W L. IfOk result (λ whos. whos.items ≡ enrolled L)) }
         ensures asked { Asked S.Store self.old self.new result }
     {
         let enrolments = by_entries(self.enrolments(alloc)?);

@@ -16,6 +16,6 @@ pub fn tables_are_laid_out_as_defined()
 
 /// A database stands for one register alone, of one warehouse.
 pub fn a_database_stands_for_one_register()
-    ensures { (db : Trees) (W V : Who) (L M : List Entry) → StandsIn W L db → StandsIn V M db → (W ≡ V)
-        × (L ≡ M) }
+    ensures { (db : Trees) (W V : Who) (L M : List Entry) → StandsIn W L db → StandsIn V M db
+        → (W ≡ V) × (L ≡ M) }
 {}

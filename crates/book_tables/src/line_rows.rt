@@ -33,8 +33,9 @@ fn line_in(alloc: Global, row: &Row) -> Result<Option<Goods>, AllocError>
 
 /// The lines that rows of item, lot and quantity show; None where one of them shows none.
 pub(crate) fn lines_in(alloc: Global, rows: &[Row]) -> Result<Option<Vec<Goods>>, AllocError>
-    ensures shows { (ls : List Line) → list_all (is_fitting_line Two) ls ≡ true → rows.now ≡ map line_shown ls
-        → IfOk result (λ shown. option_map (λ v. v.items) shown ≡ Some ls) }
+    ensures shows { (ls : List Line) → list_all (is_fitting_line Two) ls ≡ true
+        → rows.now ≡ map line_shown ls → IfOk result
+        (λ shown. option_map (λ v. v.items) shown ≡ Some ls) }
     ensures all { IfOk result (λ shown. IfSome shown (λ v. length rows.now ≤ length v.items)) }
 {
     let mut shown = Vec::new(alloc);

@@ -1,16 +1,12 @@
 ghost use Rattle.std.specs.Borrow.{Bor};
 ghost use Rattle.std.specs.Prelude.{◌≡◌, ◌<◌, ◌^◌, ℕ, List, Some, IfOk, bytes_eq, filter, map, option_map, true, length, IfSome, ◌≤◌};
 ghost use Rattle.std.specs.List.{list_all};
-ghost use Rattle.profile.specs.Header.{Who as Partner};
 ghost use Rattle.profile.specs.Page.{page_of};
 ghost use Rattle.profile.specs.Register as register;
 ghost use Rattle.profile.specs.Rows.{LotRow};
-ghost use Rattle.sqlite.specs.Held.{state};
-ghost use Rattle.sqlite.specs.State.{HasCleanDisk};
 ghost use Rattle.goods.specs.Keyed.{key_before, rises_by, row_key};
 ghost use Rattle.rules.specs.Fitting.{is_fitting_row};
-ghost use Rattle.book_tables.specs.Asking.{Asked};
-ghost use Rattle.book_tables.specs.Exits.{StandsWhileOpen};
+ghost use Rattle.book_tables.specs.Asking.{Asked, OfStanding};
 ghost use Rattle.book_tables.specs.Dated.{date_shown, dates_of};
 ghost use Rattle.book_tables.specs.Showing.{lot_shown};
 
@@ -26,7 +22,8 @@ use store::Fault;
 // None where it shows none.
 fn lot_in(alloc: Global, row: &Shown, expiry: Option<&[u8]>) -> Result<Option<Row>, AllocError>
     ensures { (r : LotRow) → r.since < 2 ^ 32 → row.now ≡ lot_shown r
-        → option_map (λ (date : Bor (List ℕ)). date.now) expiry.entry ≡ r.expiry → IfOk result (λ shown. shown ≡ Some r) }
+        → option_map (λ (date : Bor (List ℕ)). date.now) expiry.entry ≡ r.expiry
+        → IfOk result (λ shown. shown ≡ Some r) }
 {
     let Some(item) = text_at(row, 0) else {
         return Ok(None);
@@ -64,8 +61,10 @@ fn lot_in(alloc: Global, row: &Shown, expiry: Option<&[u8]>) -> Result<Option<Ro
 // The lots that rows show, with the dates that rows of item, lot and expiry show of them, where
 // both stand by item and lot; None where one of them shows none, or a date is of no row.
 fn lots_in(alloc: Global, rows: &[Shown], dates: &[Shown]) -> Result<Option<Vec<Row>>, AllocError>
-    ensures shows { (rs : List LotRow) → list_all is_fitting_row rs ≡ true → rises_by key_before row_key rs ≡ true
-        → rows.now ≡ map lot_shown rs → dates.now ≡ map date_shown (dates_of rs) → IfOk result (λ shown. option_map (λ v. v.items) shown ≡ Some rs) }
+    ensures shows { (rs : List LotRow) → list_all is_fitting_row rs ≡ true
+        → rises_by key_before row_key rs ≡ true → rows.now ≡ map lot_shown rs
+        → dates.now ≡ map date_shown (dates_of rs)
+        → IfOk result (λ shown. option_map (λ v. v.items) shown ≡ Some rs) }
     ensures all { IfOk result (λ shown. IfSome shown (λ v. length rows.now ≤ length v.items)) }
 {
     let mut shown = Vec::new(alloc);
@@ -94,10 +93,9 @@ impl<S: Alter + Drop> Tables<S> {
         who: Who,
         item: &[u8],
     ) -> Result<Vec<Row>, Fault>
-        ensures lots { HasCleanDisk (state S.Store self.new.conn) → (W : Partner) (L : List register.Entry)
-            → StandsWhileOpen (state S.Store self.old.conn) W L
-            → IfOk result (λ lots. lots.items ≡ filter
-            (λ r. bytes_eq r.item item.now) (page_of (register.own L who)).rows) }
+        ensures lots { OfStanding S.Store self.old self.new
+            (λ W L. IfOk result (λ lots. lots.items ≡ filter (λ r. bytes_eq r.item item.now)
+            (page_of (register.own L who)).rows)) }
         ensures asked { Asked S.Store self.old self.new result }
     {
         let rows = self.under_text(

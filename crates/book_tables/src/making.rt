@@ -3,7 +3,7 @@ ghost use Rattle.sqlite.specs.Held.{state};
 ghost use Rattle.book_tables.specs.Carrying.{Widens};
 ghost use Rattle.book_tables.specs.Layout.{no_layout};
 ghost use Rattle.book_tables.specs.Making.{HasMade, HasBook};
-ghost use Rattle.book_tables.specs.Writing.{Wrote};
+ghost use Rattle.book_tables.specs.Writing.{WroteIn};
 
 use crate::calls::Calls;
 use crate::running::run;
@@ -18,8 +18,8 @@ pub(crate) fn make_first<S: Alter>(
     calls: &mut Calls,
 ) -> Result<(), Fault>
     ensures same_reference { tx.new.conn.ghost_name ≡ tx.old.conn.ghost_name }
-    ensures wrote { let old = state S.Store tx.old.conn.now in let new = state S.Store tx.new.conn.now in
-        Wrote (HasMade 0 0 old.now → HasMade 3 3 new.now) old new calls.old calls.new result }
+    ensures wrote { WroteIn S.Store (λ old new. HasMade 0 0 old.now → HasMade 3 3 new.now)
+        tx.old.conn.now tx.new.conn.now calls.old calls.new result }
 {
     run(
         tx,
@@ -47,8 +47,8 @@ pub(crate) fn make_second<S: Alter>(
     calls: &mut Calls,
 ) -> Result<(), Fault>
     ensures same_reference { tx.new.conn.ghost_name ≡ tx.old.conn.ghost_name }
-    ensures wrote { let old = state S.Store tx.old.conn.now in let new = state S.Store tx.new.conn.now in
-        Wrote (HasMade 3 3 old.now → HasMade 6 6 new.now) old new calls.old calls.new result }
+    ensures wrote { WroteIn S.Store (λ old new. HasMade 3 3 old.now → HasMade 6 6 new.now)
+        tx.old.conn.now tx.new.conn.now calls.old calls.new result }
 {
     run(
         tx,
@@ -76,8 +76,8 @@ pub(crate) fn make_third<S: Alter>(
     calls: &mut Calls,
 ) -> Result<(), Fault>
     ensures same_reference { tx.new.conn.ghost_name ≡ tx.old.conn.ghost_name }
-    ensures wrote { let old = state S.Store tx.old.conn.now in let new = state S.Store tx.new.conn.now in
-        Wrote (HasMade 6 6 old.now → HasMade 9 9 new.now) old new calls.old calls.new result }
+    ensures wrote { WroteIn S.Store (λ old new. HasMade 6 6 old.now → HasMade 9 9 new.now)
+        tx.old.conn.now tx.new.conn.now calls.old calls.new result }
 {
     run(
         tx,
@@ -105,9 +105,9 @@ pub(crate) fn make_fourth<S: Alter>(
     calls: &mut Calls,
 ) -> Result<(), Fault>
     ensures same_reference { tx.new.conn.ghost_name ≡ tx.old.conn.ghost_name }
-    ensures wrote { let old = state S.Store tx.old.conn.now in let new = state S.Store tx.new.conn.now in
-        Wrote ((HasMade 9 9 old.now → HasMade 11 10 new.now) × (IsTrue old.is_open × Widens old.now new.now))
-        old new calls.old calls.new result }
+    ensures wrote { WroteIn S.Store (λ old new. (HasMade 9 9 old.now → HasMade 11 10 new.now)
+        × (IsTrue old.is_open × Widens old.now new.now))
+        tx.old.conn.now tx.new.conn.now calls.old calls.new result }
 {
     run(
         tx,
@@ -131,8 +131,9 @@ pub(crate) fn insert_book<'a, S: Alter>(
     id: &'a [u8],
 ) -> Result<(), Fault>
     ensures same_reference { tx.new.conn.ghost_name ≡ tx.old.conn.ghost_name }
-    ensures wrote { let old = state S.Store tx.old.conn.now in let new = state S.Store tx.new.conn.now in
-        Wrote (HasMade 11 10 old.now → HasBook qualifier.now id.now new.now) old new calls.old calls.new result }
+    ensures wrote { WroteIn S.Store (λ old new. HasMade 11 10 old.now
+        → HasBook qualifier.now id.now new.now)
+        tx.old.conn.now tx.new.conn.now calls.old calls.new result }
 {
     run(
         tx,
@@ -153,9 +154,9 @@ pub(crate) fn make_all<S: Alter>(
     warehouse: &Warehouse,
 ) -> Result<(), Fault>
     ensures same_reference { tx.new.conn.ghost_name ≡ tx.old.conn.ghost_name }
-    ensures wrote { let old = state S.Store tx.old.conn.now in let new = state S.Store tx.new.conn.now in
-        Wrote (old.now.schema ≡ no_layout → HasBook warehouse.now.qualifier warehouse.now.id new.now)
-        old new calls.old calls.new result }
+    ensures wrote { WroteIn S.Store (λ old new. old.now.schema ≡ no_layout
+        → HasBook warehouse.now.qualifier warehouse.now.id new.now)
+        tx.old.conn.now tx.new.conn.now calls.old calls.new result }
 {
     make_first(tx, calls)?;
     make_second(tx, calls)?;

@@ -5,17 +5,13 @@ ghost use Rattle.std.specs.Cmp.Lexicographic.{slice_cmp};
 ghost use Rattle.std.specs.List.Sorted.{IsStrictlyIncreasing, IsStrictlySortedBy};
 ghost use Rattle.std.specs.Ordering.{nat_cmp};
 ghost use Rattle.profile.specs.Bytes.{is_one_of};
-ghost use Rattle.profile.specs.Header.{Who as Partner};
 ghost use Rattle.profile.specs.Need as meant;
 ghost use Rattle.profile.specs.Register as register;
 ghost use Rattle.profile.specs.Page.{page_of};
-ghost use Rattle.sqlite.specs.Held.{state};
-ghost use Rattle.sqlite.specs.State.{HasCleanDisk};
 ghost use Rattle.goods.specs.Keyed.{put_row};
 ghost use Rattle.rules.specs.Decided.{IsHeldAtRest};
 ghost use Rattle.rules.specs.Naming.{facts_of, named_of};
-ghost use Rattle.book_tables.specs.Asking.{Asked, Went};
-ghost use Rattle.book_tables.specs.Exits.{StandsWhileOpen};
+ghost use Rattle.book_tables.specs.Asking.{Asked, OfStanding, Went};
 ghost use Rattle.book_tables.specs.Needed.{Gathers, needed_part, none_named, part_for, with_number, with_numbers, with_text, with_texts};
 
 use crate::connected::Tables;
@@ -39,7 +35,8 @@ pub(crate) enum Sought {
 
 // A page in the making with rows.
 fn with_rows(draft: Draft, rows: Vec<Row>) -> Result<Draft, AllocError>
-    ensures { IfOk result (λ d. d ≡ record draft { rows = fold (λ ws r. put_row r ws) draft.rows rows.items }) }
+    ensures { IfOk result (λ d. d ≡ record draft
+        { rows = fold (λ ws r. put_row r ws) draft.rows rows.items }) }
 {
     let mut draft = draft;
     for row in rows {
@@ -70,7 +67,8 @@ fn add_items(alloc: Global, items: &mut Vec<Name>, lines: &[Goods]) -> Result<()
 
 // Adds the items of an order's lines.
 fn add_ordered(alloc: Global, items: &mut Vec<Name>, lines: &[KnownLine]) -> Result<(), AllocError>
-    ensures { IfOk result (λ done. items.new.items ≡ items.old.items ++ map (λ l. l.item) lines.now) }
+    ensures { IfOk result (λ done. items.new.items ≡ items.old.items ++ map (λ l. l.item)
+        lines.now) }
 {
     for line in lines {
         items.push(Name::of(alloc, &line.item)?)?;
@@ -163,8 +161,8 @@ impl<S: Alter + Drop> Tables<S> {
         draft: Draft,
         shipment: &[u8],
     ) -> Result<Draft, Fault>
-        ensures found { Gathers S.Store self.old self.new who draft (with_text Sought.Advice shipment.now)
-            result }
+        ensures found { Gathers S.Store self.old self.new who draft
+            (with_text Sought.Advice shipment.now) result }
         ensures asked { Asked S.Store self.old self.new result }
     {
         match self.advice_under(alloc, who, shipment)? {
@@ -181,7 +179,8 @@ impl<S: Alter + Drop> Tables<S> {
         draft: Draft,
         number: &[u8],
     ) -> Result<Draft, Fault>
-        ensures found { Gathers S.Store self.old self.new who draft (with_text Sought.Order number.now) result }
+        ensures found { Gathers S.Store self.old self.new who draft
+            (with_text Sought.Order number.now) result }
         ensures asked { Asked S.Store self.old self.new result }
     {
         match self.order_under(alloc, who, number)? {
@@ -198,7 +197,8 @@ impl<S: Alter + Drop> Tables<S> {
         draft: Draft,
         item: &[u8],
     ) -> Result<Draft, Fault>
-        ensures found { Gathers S.Store self.old self.new who draft (with_text Sought.Lots item.now) result }
+        ensures found { Gathers S.Store self.old self.new who draft (with_text Sought.Lots item.now)
+            result }
         ensures asked { Asked S.Store self.old self.new result }
     {
         let rows = self.lots_of(alloc, who, item)?;
@@ -231,7 +231,8 @@ impl<S: Alter + Drop> Tables<S> {
         sought: Sought,
         name: &[u8],
     ) -> Result<Draft, Fault>
-        ensures found { Gathers S.Store self.old self.new who draft (with_text sought name.now) result }
+        ensures found { Gathers S.Store self.old self.new who draft (with_text sought name.now)
+            result }
         ensures asked { Asked S.Store self.old self.new result }
     {
         match sought {
@@ -270,7 +271,8 @@ impl<S: Alter + Drop> Tables<S> {
         sought: Sought,
         names: &[Name],
     ) -> Result<Draft, Fault>
-        ensures found { Gathers S.Store self.old self.new who draft (with_texts sought names.now) result }
+        ensures found { Gathers S.Store self.old self.new who draft (with_texts sought names.now)
+            result }
         ensures went { Went S.Store self.old self.new result }
     {
         let texts = once(alloc, names)?;
@@ -285,7 +287,8 @@ impl<S: Alter + Drop> Tables<S> {
         draft: Draft,
         numbers: &[u32],
     ) -> Result<Draft, Fault>
-        ensures found { Gathers S.Store self.old self.new who draft (with_numbers numbers.now) result }
+        ensures found { Gathers S.Store self.old self.new who draft (with_numbers numbers.now)
+            result }
         ensures went { Went S.Store self.old self.new result }
     {
         let mut draft = draft;
@@ -303,7 +306,8 @@ impl<S: Alter + Drop> Tables<S> {
         draft: Draft,
         numbers: &[u32],
     ) -> Result<Draft, Fault>
-        ensures found { Gathers S.Store self.old self.new who draft (with_numbers numbers.now) result }
+        ensures found { Gathers S.Store self.old self.new who draft (with_numbers numbers.now)
+            result }
         ensures went { Went S.Store self.old self.new result }
     {
         let rising = numbers_once(alloc, numbers)?;
@@ -312,8 +316,9 @@ impl<S: Alter + Drop> Tables<S> {
 
     // All but the lots.
     fn named(&mut self, alloc: Global, who: Who, draft: Draft, need: &Need) -> Result<Draft, Fault>
-        ensures found { Gathers S.Store self.old self.new who draft (λ n. with_numbers need.now.documents
-            (with_texts Sought.Order need.now.orders (with_texts Sought.Advice need.now.shipments n))) result }
+        ensures found { Gathers S.Store self.old self.new who draft
+            (λ n. with_numbers need.now.documents (with_texts Sought.Order need.now.orders
+            (with_texts Sought.Advice need.now.shipments n))) result }
         ensures went { Went S.Store self.old self.new result }
     {
         let draft = self.gather(alloc, who, draft, Sought::Advice, &need.shipments)?;
@@ -329,10 +334,10 @@ impl<S: Alter + Drop> Tables<S> {
         draft: Draft,
         need: &Need,
     ) -> Result<Draft, Fault>
-        ensures found { HasCleanDisk (state S.Store self.new.conn) → (W : Partner) (L : List register.Entry)
-            → StandsWhileOpen (state S.Store self.old.conn) W L → draft ≡ part_for L who none_named
-            → IfOk result (λ d. d ≡ part_for L who (named_of need.now (facts_of (page_of (register.own L
-            who))))) }
+        ensures found { OfStanding S.Store self.old self.new
+            (λ W L. draft ≡ part_for L who none_named
+            → IfOk result (λ d. d ≡ part_for L who (named_of need.now
+            (facts_of (page_of (register.own L who)))))) }
         ensures went { Went S.Store self.old self.new result }
     {
         let draft = self.named(alloc, who, draft, need)?;
@@ -343,9 +348,9 @@ impl<S: Alter + Drop> Tables<S> {
     // Just what is needed of the page of a depositor that is enrolled. 43 where the rows make no
     // page.
     fn part(&mut self, alloc: Global, who: Who, need: &Need) -> Result<Page, Fault>
-        ensures part { HasCleanDisk (state S.Store self.new.conn) → (W : Partner) (L : List register.Entry)
-            → StandsWhileOpen (state S.Store self.old.conn) W L
-            → IfOk result (λ page. page ≡ facts_of (meant.part (page_of (register.own L who)) need.now)) }
+        ensures part { OfStanding S.Store self.old self.new
+            (λ W L. IfOk result (λ page. page ≡ facts_of
+            (meant.part (page_of (register.own L who)) need.now))) }
         ensures rest { IfOk result (λ page. page.recent ≡ 0) }
         ensures asked { Asked S.Store self.old self.new result }
     {
@@ -362,9 +367,8 @@ impl<S: Alter + Drop> Tables<S> {
     /// Just what is needed of a depositor's page; None of a stranger. 43 where the rows make no
     /// page.
     pub fn page_for(&mut self, alloc: Global, who: Who, need: &Need) -> Result<Option<Page>, Fault>
-        ensures part { HasCleanDisk (state S.Store self.new.conn) → (W : Partner) (L : List register.Entry)
-            → StandsWhileOpen (state S.Store self.old.conn) W L
-            → IfOk result (λ page. page ≡ needed_part need.now L who) }
+        ensures part { OfStanding S.Store self.old self.new
+            (λ W L. IfOk result (λ page. page ≡ needed_part need.now L who)) }
         ensures rest { IfOk result IsHeldAtRest }
         ensures asked { Asked S.Store self.old self.new result }
     {

@@ -1,5 +1,4 @@
-ghost use Rattle.std.specs.Prelude.{◌≡◌, ◌∷◌, [], ◌<◌, ◌^◌, pos, List, Some, IfOk, OnOk, IsTrue, option_map};
-ghost use Rattle.profile.specs.Header.{Who as Partner};
+ghost use Rattle.std.specs.Prelude.{◌≡◌, ◌∷◌, [], ◌<◌, ◌^◌, pos, Some, IfOk, OnOk, IsTrue, option_map};
 ghost use Rattle.profile.specs.Register as register;
 ghost use Rattle.rules.specs.Written.{Written};
 ghost use Rattle.sqlite.specs.declared.types.Value.TheVariants as value;
@@ -7,8 +6,7 @@ ghost use Rattle.sqlite.specs.Held.{state};
 ghost use Rattle.sqlite.specs.State.{HasCleanDisk};
 ghost use Rattle.sqlite.specs.Values.{bound};
 ghost use Rattle.store.specs.Replayed.{all_written};
-ghost use Rattle.book_tables.specs.Asking.{Asked, Finds};
-ghost use Rattle.book_tables.specs.Exits.{StandsWhileOpen};
+ghost use Rattle.book_tables.specs.Asking.{Asked, Finds, OfStanding};
 ghost use Rattle.book_tables.specs.Recorded.{IsOfPartner, numbered_shown, numbered_text, rules_text, written_at};
 
 use crate::connected::Tables;
@@ -71,7 +69,8 @@ impl<S: Alter + Drop> Tables<S> {
         requires { seq < 2 ^ 63 }
         ensures finds { HasCleanDisk (state S.Store self.new.conn)
             → IfOk result (λ rows. IsTrue (state S.Store self.old.conn).is_open
-            × Finds numbered_text (value.Int (pos seq) ∷ []) (state S.Store self.old.conn).now rows.items) }
+            × Finds numbered_text (value.Int (pos seq) ∷ []) (state S.Store self.old.conn).now
+            rows.items) }
         ensures asked { Asked S.Store self.old self.new result }
     {
         self.ask(
@@ -85,7 +84,8 @@ impl<S: Alter + Drop> Tables<S> {
         requires { seq < 2 ^ 63 }
         ensures finds { HasCleanDisk (state S.Store self.new.conn)
             → IfOk result (λ rows. IsTrue (state S.Store self.old.conn).is_open
-            × Finds rules_text (value.Int (pos seq) ∷ []) (state S.Store self.old.conn).now rows.items) }
+            × Finds rules_text (value.Int (pos seq) ∷ []) (state S.Store self.old.conn).now
+            rows.items) }
         ensures asked { Asked S.Store self.old self.new result }
     {
         self.ask(
@@ -98,9 +98,9 @@ impl<S: Alter + Drop> Tables<S> {
     // none.
     fn rules_at(&mut self, seq: u64) -> Result<Option<Rules>, Fault>
         requires { seq < 2 ^ 63 }
-        ensures rules { HasCleanDisk (state S.Store self.new.conn) → (W : Partner) (L : List register.Entry)
-            → StandsWhileOpen (state S.Store self.old.conn) W L
-            → IfOk result (λ rules. rules ≡ option_map (λ (w : Written). w.rules) (written_at (all_written L) seq)) }
+        ensures rules { OfStanding S.Store self.old self.new
+            (λ W L. IfOk result (λ rules. rules ≡ option_map (λ (w : Written). w.rules)
+            (written_at (all_written L) seq))) }
         ensures asked { Asked S.Store self.old self.new result }
     {
         let rows = self.rules_rows_at(seq)?;
@@ -118,9 +118,8 @@ impl<S: Alter + Drop> Tables<S> {
     /// for it, and 41 where a call is refused.
     pub fn entry_at(&mut self, alloc: Global, seq: u64) -> Result<Option<Entry>, Fault>
         requires { seq < 2 ^ 63 }
-        ensures entry { HasCleanDisk (state S.Store self.new.conn) → (W : Partner) (L : List register.Entry)
-            → StandsWhileOpen (state S.Store self.old.conn) W L
-            → IfOk result (λ entry. entry ≡ written_at (all_written L) seq) }
+        ensures entry { OfStanding S.Store self.old self.new
+            (λ W L. IfOk result (λ entry. entry ≡ written_at (all_written L) seq)) }
         ensures was_open { HasCleanDisk (state S.Store self.new.conn)
             → OnOk result (IsTrue (state S.Store self.old.conn).is_open) }
         ensures asked { Asked S.Store self.old self.new result }

@@ -1,13 +1,11 @@
-ghost use Rattle.std.specs.Prelude.{◌≡◌, List, MatchOption, Some, IfOk, IsTrue, OnOk, Option as Maybe, Bool, option_map};
-ghost use Rattle.profile.specs.Header.{Who as Partner};
+ghost use Rattle.std.specs.Prelude.{◌≡◌, MatchOption, Some, IfOk, IsTrue, OnOk, Option as Maybe, Bool, option_map};
 ghost use Rattle.profile.specs.Page.{PageDocument, page_of};
 ghost use Rattle.profile.specs.Register as register;
 ghost use Rattle.profile.specs.Rows.{OutRow, state_text};
 ghost use Rattle.sqlite.specs.Held.{state};
 ghost use Rattle.sqlite.specs.State.{HasCleanDisk};
 ghost use Rattle.goods.specs.Pages.{document_at};
-ghost use Rattle.book_tables.specs.Asking.{Asked};
-ghost use Rattle.book_tables.specs.Exits.{StandsWhileOpen};
+ghost use Rattle.book_tables.specs.Asking.{Asked, OfStanding};
 ghost use Rattle.book_tables.specs.Looking.{function_as, IsRowOf};
 ghost use Rattle.store.specs.Sent.{text_under};
 ghost use Rattle.book_tables.specs.Showing.{sent_shown};
@@ -50,7 +48,8 @@ fn said_in(word: &[u8]) -> Option<Option<bool>>
 // The document under a number that a row of kind and state shows, which is none where an answer
 // went out; None where it shows none.
 fn document_in(n: u32, row: &Row) -> Option<Option<KnownDocument>>
-    ensures { (r : OutRow) (d : Maybe PageDocument) → IsRowOf n r d → row.now ≡ sent_shown r → result ≡ Some d }
+    ensures { (r : OutRow) (d : Maybe PageDocument) → IsRowOf n r d → row.now ≡ sent_shown r
+        → result ≡ Some d }
 {
     let kind = kind_of(text_at(row, 0)?)?;
     let Some(function) = function_as(kind) else {
@@ -69,9 +68,9 @@ impl<S: Alter + Drop> Tables<S> {
         who: Who,
         n: u32,
     ) -> Result<Option<KnownDocument>, Fault>
-        ensures document { HasCleanDisk (state S.Store self.new.conn) → (W : Partner) (L : List register.Entry)
-            → StandsWhileOpen (state S.Store self.old.conn) W L
-            → IfOk result (λ document. document ≡ document_at n (page_of (register.own L who)).documents) }
+        ensures document { OfStanding S.Store self.old self.new
+            (λ W L. IfOk result (λ document. document ≡ document_at n
+            (page_of (register.own L who)).documents)) }
         ensures asked { Asked S.Store self.old self.new result }
     {
         let rows = self.under_number(
@@ -97,9 +96,9 @@ impl<S: Alter + Drop> Tables<S> {
         who: Who,
         n: u32,
     ) -> Result<Option<Vec<u8>>, Fault>
-        ensures text { HasCleanDisk (state S.Store self.new.conn) → (W : Partner) (L : List register.Entry)
-            → StandsWhileOpen (state S.Store self.old.conn) W L
-            → IfOk result (λ text. option_map (λ v. v.items) text ≡ text_under W (register.own L who) n) }
+        ensures text { OfStanding S.Store self.old self.new
+            (λ W L. IfOk result (λ text. option_map (λ v. v.items) text ≡ text_under W
+            (register.own L who) n)) }
         ensures asked { Asked S.Store self.old self.new result }
     {
         let rows = self.under_number(
@@ -122,9 +121,8 @@ impl<S: Alter + Drop> Tables<S> {
     /// where nothing went out for it, and the key of that table ends in the number: so the last row
     /// under the depositor tells, and no other is read. 43 where it shows no number.
     pub(crate) fn last_number(&mut self, alloc: Global, who: Who) -> Result<u32, Fault>
-        ensures number { HasCleanDisk (state S.Store self.new.conn) → (W : Partner) (L : List register.Entry)
-            → StandsWhileOpen (state S.Store self.old.conn) W L
-            → IfOk result (λ n. n ≡ (page_of (register.own L who)).entries) }
+        ensures number { OfStanding S.Store self.old self.new
+            (λ W L. IfOk result (λ n. n ≡ (page_of (register.own L who)).entries)) }
         ensures open { HasCleanDisk (state S.Store self.new.conn)
             → OnOk result (IsTrue (state S.Store self.old.conn).is_open) }
         ensures asked { Asked S.Store self.old self.new result }

@@ -1,14 +1,10 @@
 //! What a depositor has open: the names of what is open by two queries, and then the part of its
 //! page that they name.
 ghost use Rattle.std.specs.Prelude.{◌≡◌, ℕ, List, Some, IfOk, map, option_map, length, IfSome, ◌≤◌};
-ghost use Rattle.profile.specs.Header.{Who as Partner};
 ghost use Rattle.profile.specs.Register as register;
-ghost use Rattle.sqlite.specs.Held.{state};
-ghost use Rattle.sqlite.specs.State.{HasCleanDisk};
 ghost use Rattle.goods.specs.Keyed.{number_of, shipment_of};
 ghost use Rattle.store.specs.Open.{open_of, open_on, open_work};
-ghost use Rattle.book_tables.specs.Asking.{Asked};
-ghost use Rattle.book_tables.specs.Exits.{StandsWhileOpen};
+ghost use Rattle.book_tables.specs.Asking.{Asked, OfStanding};
 ghost use Rattle.book_tables.specs.Needed as needed;
 ghost use Rattle.book_tables.specs.Showing.{name_shown};
 
@@ -42,9 +38,9 @@ impl<S: Alter + Drop> Tables<S> {
     // The shipment numbers of a depositor's open advices, in their order. 43 where a row shows
     // none.
     fn open_shipments(&mut self, alloc: Global, who: Who) -> Result<Vec<Name>, Fault>
-        ensures names { HasCleanDisk (state S.Store self.new.conn) → (W : Partner) (L : List register.Entry)
-            → StandsWhileOpen (state S.Store self.old.conn) W L
-            → IfOk result (λ names. names.items ≡ map shipment_of (open_work (register.own L who)).advices) }
+        ensures names { OfStanding S.Store self.old self.new
+            (λ W L. IfOk result (λ names. names.items ≡ map shipment_of
+            (open_work (register.own L who)).advices)) }
         ensures asked { Asked S.Store self.old self.new result }
     {
         let rows = self.under_number(
@@ -61,9 +57,9 @@ impl<S: Alter + Drop> Tables<S> {
 
     // The numbers of a depositor's open orders, in their order. 43 where a row shows none.
     fn open_numbers(&mut self, alloc: Global, who: Who) -> Result<Vec<Name>, Fault>
-        ensures names { HasCleanDisk (state S.Store self.new.conn) → (W : Partner) (L : List register.Entry)
-            → StandsWhileOpen (state S.Store self.old.conn) W L
-            → IfOk result (λ names. names.items ≡ map number_of (open_work (register.own L who)).orders) }
+        ensures names { OfStanding S.Store self.old self.new
+            (λ W L. IfOk result (λ names. names.items ≡ map number_of
+            (open_work (register.own L who)).orders)) }
         ensures asked { Asked S.Store self.old self.new result }
     {
         let rows = self.under_number(
@@ -80,9 +76,9 @@ impl<S: Alter + Drop> Tables<S> {
 
     // What a depositor has open, by its names. 43 where a row shows none.
     fn open_need(&mut self, alloc: Global, who: Who) -> Result<Need, Fault>
-        ensures need { HasCleanDisk (state S.Store self.new.conn) → (W : Partner) (L : List register.Entry)
-            → StandsWhileOpen (state S.Store self.old.conn) W L
-            → IfOk result (λ need. need ≡ needed.open_need (open_work (register.own L who))) }
+        ensures need { OfStanding S.Store self.old self.new
+            (λ W L. IfOk result (λ need. need ≡ needed.open_need
+            (open_work (register.own L who)))) }
         ensures asked { Asked S.Store self.old self.new result }
     {
         let shipments = self.open_shipments(alloc, who)?;
@@ -101,9 +97,8 @@ impl<S: Alter + Drop> Tables<S> {
     /// running rows say; None of a stranger. 43 where a row shows no name, or where the rows make
     /// no page.
     pub fn open_of(&mut self, alloc: Global, who: Who) -> Result<Option<Page>, Fault>
-        ensures work { HasCleanDisk (state S.Store self.new.conn) → (W : Partner) (L : List register.Entry)
-            → StandsWhileOpen (state S.Store self.old.conn) W L
-            → IfOk result (λ page. option_map open_on page ≡ open_of L who) }
+        ensures work { OfStanding S.Store self.old self.new
+            (λ W L. IfOk result (λ page. option_map open_on page ≡ open_of L who)) }
         ensures asked { Asked S.Store self.old self.new result }
     {
         let need = self.open_need(alloc, who)?;

@@ -16,18 +16,20 @@ impl<S: Alter + Drop> Tables<S> {
     /// each table rise by their rowids, so these can be compared with others.
     pub fn over(alloc: Global, store: S) -> Result<Tables<S>, (Error, S)>
         requires { IsClean (S.Store.view store) → IsFresh (S.Store.view store) }
-        ensures opens { IfOk result (λ t. HasCleanDisk (state S.Store t.conn) → Opens (state S.Store t.conn)
-            × IsLive (state S.Store t.conn)) }
-        ensures tables { IfOk result (λ t. HasCleanDisk (state S.Store t.conn) → IsLaid (state S.Store t.conn)
-            → AreTables (state S.Store t.conn).now) }
+        ensures opens { IfOk result (λ t. HasCleanDisk (state S.Store t.conn)
+            → Opens (state S.Store t.conn) × IsLive (state S.Store t.conn)) }
+        ensures tables { IfOk result (λ t. HasCleanDisk (state S.Store t.conn)
+            → IsLaid (state S.Store t.conn) → AreTables (state S.Store t.conn).now) }
         ensures trees { IfOk result (λ t. HasCleanDisk (state S.Store t.conn)
             → (state S.Store t.conn).now.trees ≡ (S.Store.view store).trees) }
         ensures clean { IfOk result (λ t. doubt (S.Store.view store).is_clean
             ≤ doubt (state S.Store t.conn).is_clean) }
         ensures fresh { IfOk result (λ t. (t.refused ≡ 0) × (t.made ≡ 0) × (t.limit ≡ None)) }
-        ensures unharmed { IfErr result (λ e. IsQuiet S.Store.view S.Store.faults S.Store.recovers S.Store.is_shielded store e.1) }
+        ensures unharmed { IfErr result (λ e. IsQuiet S.Store.view S.Store.faults S.Store.recovers
+            S.Store.is_shielded store e.1) }
         ensures told { IfErr result (λ e. Relays (S.Store.blamed e.1) e.0) }
-        ensures err { IfErr result (λ e. IsClean (S.Store.view e.1) → FailsToOpen (S.Store.view store).trees
+        ensures err { IfErr result (λ e. IsClean (S.Store.view e.1)
+            → FailsToOpen (S.Store.view store).trees
             (MoreFaults (S.Store.faults store) (S.Store.faults e.1)) e.0) }
     {
         match Connection::over(alloc, store) {
@@ -40,10 +42,10 @@ impl<S: Alter + Drop> Tables<S> {
     /// their rowids. An error hands the store back: `Closed` where it could not be rolled back, or
     /// what `over` tells.
     pub fn reopened(self, alloc: Global) -> Result<Tables<S>, (Error, S)>
-        ensures opens { IfOk result (λ t. HasCleanDisk (state S.Store t.conn) → Opens (state S.Store t.conn)
-            × IsLive (state S.Store t.conn)) }
-        ensures tables { IfOk result (λ t. HasCleanDisk (state S.Store t.conn) → IsLaid (state S.Store t.conn)
-            → AreTables (state S.Store t.conn).now) }
+        ensures opens { IfOk result (λ t. HasCleanDisk (state S.Store t.conn)
+            → Opens (state S.Store t.conn) × IsLive (state S.Store t.conn)) }
+        ensures tables { IfOk result (λ t. HasCleanDisk (state S.Store t.conn)
+            → IsLaid (state S.Store t.conn) → AreTables (state S.Store t.conn).now) }
         ensures trees { IfOk result (λ t. HasCleanDisk (state S.Store t.conn)
             → (state S.Store t.conn).now.trees ≡ (state S.Store self.conn).committed.trees) }
         ensures clean { IfOk result (λ t. doubt (state S.Store self.conn).is_clean

@@ -1,15 +1,11 @@
 ghost use Rattle.std.specs.Prelude.{◌≡◌, ◌<◌, ◌^◌, List, Some, IfOk, map, option_map, true, length, IfSome, ◌≤◌};
 ghost use Rattle.std.specs.List.{list_all};
 ghost use Rattle.profile.specs.declared.rules.Rules.TheVariants.{Two};
-ghost use Rattle.profile.specs.Header.{Who as Partner};
 ghost use Rattle.profile.specs.Page.{PageLine, PageOrder, page_of};
 ghost use Rattle.profile.specs.Register as register;
-ghost use Rattle.sqlite.specs.Held.{state};
-ghost use Rattle.sqlite.specs.State.{HasCleanDisk};
 ghost use Rattle.goods.specs.Pages.{order_at};
 ghost use Rattle.rules.specs.Fitting.{is_fitting_ordered};
-ghost use Rattle.book_tables.specs.Asking.{Asked};
-ghost use Rattle.book_tables.specs.Exits.{StandsWhileOpen};
+ghost use Rattle.book_tables.specs.Asking.{Asked, OfStanding};
 ghost use Rattle.book_tables.specs.Looking.{bare_order, lines_ordered, lines_reserved};
 ghost use Rattle.book_tables.specs.Showing.{order_shown, order_line_shown};
 
@@ -26,7 +22,8 @@ use store::Fault;
 // The address in the last four columns of a row of an order: none where the name is NULL, or
 // another than a text.
 fn address_in(alloc: Global, row: &Row) -> Result<Option<Option<Address>>, AllocError>
-    ensures { (o : PageOrder) → row.now ≡ order_shown o → IfOk result (λ shown. shown ≡ Some o.address) }
+    ensures { (o : PageOrder) → row.now ≡ order_shown o
+        → IfOk result (λ shown. shown ≡ Some o.address) }
 {
     let Some(name) = text_at(row, 2) else {
         return Ok(Some(None));
@@ -51,7 +48,8 @@ fn address_in(alloc: Global, row: &Row) -> Result<Option<Option<Address>>, Alloc
 // The order that a row of ord, is_open and the address shows, but for its lines and what is
 // reserved; None where it shows none.
 fn order_in(alloc: Global, row: &Row) -> Result<Option<KnownOrder>, AllocError>
-    ensures { (o : PageOrder) → row.now ≡ order_shown o → IfOk result (λ shown. shown ≡ Some (bare_order o)) }
+    ensures { (o : PageOrder) → row.now ≡ order_shown o
+        → IfOk result (λ shown. shown ≡ Some (bare_order o)) }
 {
     let Some(number) = text_at(row, 0) else {
         return Ok(None);
@@ -103,8 +101,9 @@ fn order_line_in(alloc: Global, row: &Row) -> Result<Option<KnownLine>, AllocErr
 
 // The lines that rows of item, lot and quantity show; None where one of them shows none.
 fn order_lines_in(alloc: Global, rows: &[Row]) -> Result<Option<Vec<KnownLine>>, AllocError>
-    ensures shows { (ls : List PageLine) → list_all (is_fitting_ordered Two) ls ≡ true → rows.now ≡ map order_line_shown ls
-        → IfOk result (λ shown. option_map (λ v. v.items) shown ≡ Some ls) }
+    ensures shows { (ls : List PageLine) → list_all (is_fitting_ordered Two) ls ≡ true
+        → rows.now ≡ map order_line_shown ls → IfOk result
+        (λ shown. option_map (λ v. v.items) shown ≡ Some ls) }
     ensures all { IfOk result (λ shown. IfSome shown (λ v. length rows.now ≤ length v.items)) }
 {
     let mut shown = Vec::new(alloc);
@@ -126,10 +125,9 @@ impl<S: Alter + Drop> Tables<S> {
         who: Who,
         number: &[u8],
     ) -> Result<Option<KnownOrder>, Fault>
-        ensures order { HasCleanDisk (state S.Store self.new.conn) → (W : Partner) (L : List register.Entry)
-            → StandsWhileOpen (state S.Store self.old.conn) W L
-            → IfOk result (λ order. order ≡ option_map bare_order (order_at number.now (page_of
-            (register.own L who)).orders)) }
+        ensures order { OfStanding S.Store self.old self.new
+            (λ W L. IfOk result (λ order. order ≡ option_map bare_order
+            (order_at number.now (page_of (register.own L who)).orders))) }
         ensures asked { Asked S.Store self.old self.new result }
     {
         let rows = self.under_text(
@@ -155,10 +153,9 @@ impl<S: Alter + Drop> Tables<S> {
         who: Who,
         number: &[u8],
     ) -> Result<Vec<KnownLine>, Fault>
-        ensures lines { HasCleanDisk (state S.Store self.new.conn) → (W : Partner) (L : List register.Entry)
-            → StandsWhileOpen (state S.Store self.old.conn) W L
-            → IfOk result (λ lines. lines.items ≡ lines_ordered (order_at number.now (page_of (register.own
-            L who)).orders)) }
+        ensures lines { OfStanding S.Store self.old self.new
+            (λ W L. IfOk result (λ lines. lines.items ≡ lines_ordered
+            (order_at number.now (page_of (register.own L who)).orders))) }
         ensures asked { Asked S.Store self.old self.new result }
     {
         let rows = self.under_text(
@@ -181,10 +178,9 @@ impl<S: Alter + Drop> Tables<S> {
         who: Who,
         number: &[u8],
     ) -> Result<Vec<Goods>, Fault>
-        ensures lines { HasCleanDisk (state S.Store self.new.conn) → (W : Partner) (L : List register.Entry)
-            → StandsWhileOpen (state S.Store self.old.conn) W L
-            → IfOk result (λ lines. lines.items ≡ lines_reserved (order_at number.now (page_of (register.own
-            L who)).orders)) }
+        ensures lines { OfStanding S.Store self.old self.new
+            (λ W L. IfOk result (λ lines. lines.items ≡ lines_reserved
+            (order_at number.now (page_of (register.own L who)).orders))) }
         ensures asked { Asked S.Store self.old self.new result }
     {
         let rows = self.under_text(
@@ -206,11 +202,11 @@ impl<S: Alter + Drop> Tables<S> {
         who: Who,
         number: &[u8],
     ) -> Result<(Vec<KnownLine>, Vec<Goods>), Fault>
-        ensures parts { HasCleanDisk (state S.Store self.new.conn) → (W : Partner) (L : List register.Entry)
-            → StandsWhileOpen (state S.Store self.old.conn) W L
-            → IfOk result (λ parts. (parts.0.items ≡ lines_ordered (order_at number.now (page_of
-            (register.own L who)).orders))
-            × (parts.1.items ≡ lines_reserved (order_at number.now (page_of (register.own L who)).orders))) }
+        ensures parts { OfStanding S.Store self.old self.new
+            (λ W L. IfOk result (λ parts. (parts.0.items ≡ lines_ordered
+            (order_at number.now (page_of (register.own L who)).orders))
+            × (parts.1.items ≡ lines_reserved (order_at number.now
+            (page_of (register.own L who)).orders)))) }
         ensures asked { Asked S.Store self.old self.new result }
     {
         let lines = self.order_lines(alloc, who, number)?;
@@ -227,9 +223,9 @@ impl<S: Alter + Drop> Tables<S> {
         who: Who,
         number: &[u8],
     ) -> Result<Option<KnownOrder>, Fault>
-        ensures order { HasCleanDisk (state S.Store self.new.conn) → (W : Partner) (L : List register.Entry)
-            → StandsWhileOpen (state S.Store self.old.conn) W L
-            → IfOk result (λ order. order ≡ order_at number.now (page_of (register.own L who)).orders) }
+        ensures order { OfStanding S.Store self.old self.new
+            (λ W L. IfOk result (λ order. order ≡ order_at number.now
+            (page_of (register.own L who)).orders)) }
         ensures asked { Asked S.Store self.old self.new result }
     {
         let Some(mut order) = self.bare_order(alloc, who, number)? else {

@@ -1,4 +1,4 @@
-ghost use Rattle.std.specs.Prelude.{◌≡◌, ◌∷◌, [], ℕ, Bool, List, Some, true, false, MatchOption, IfSome, IsNone, map, option_map, All, pos, length, ◌≤◌, ◌<◌, ◌^◌};
+ghost use Rattle.std.specs.Prelude.{◌≡◌, ◌∷◌, [], ℕ, Bool, List, Some, true, false, MatchOption, IfSome, IsNone, pos, length, ◌≤◌, ◌<◌, ◌^◌};
 ghost use Rattle.profile.specs.Header.{Who as Partner};
 ghost use Rattle.profile.specs.Bytes as bytes;
 ghost use Rattle.profile.specs.Moments.{Moment as Parts, is_moment};
@@ -145,8 +145,14 @@ fn value(text: &[u8]) -> u64
 
 // The moment with these parts, if there is one.
 fn moment_by(year: u64, month: u64, day: u64, hour: u64, minute: u64) -> Option<Moment>
-    ensures { let m : Parts = record { year = year; month = month; day = day; hour = hour; minute = minute } in
-        MatchOption result (is_moment m ≡ false) (λ r. (is_moment m ≡ true) × (r ≡ m)) }
+    ensures { let m : Parts = record {
+      year = year;
+      month = month;
+      day = day;
+      hour = hour;
+      minute =
+          minute;
+    } in MatchOption result (is_moment m ≡ false) (λ r. (is_moment m ≡ true) × (r ≡ m)) }
 {
     Moment::new(
         u16::try_from(year).ok()?,

@@ -1,15 +1,11 @@
 ghost use Rattle.std.specs.Prelude.{◌≡◌, ◌++◌, ◌∷◌, ℕ, List, Some, IfOk, option_map, if◌then◌else◌};
 ghost use Rattle.profile.specs.Decision.{recalled};
-ghost use Rattle.profile.specs.Header.{Who as Partner};
 ghost use Rattle.profile.specs.Register as register;
 ghost use Rattle.profile.specs.Reply.{out};
 ghost use Rattle.rules.specs.Decided.{IsRecalled};
-ghost use Rattle.sqlite.specs.Held.{state};
-ghost use Rattle.sqlite.specs.State.{HasCleanDisk};
 ghost use Rattle.store.specs.Known.{first_under};
-ghost use Rattle.book_tables.specs.Asking.{Asked};
+ghost use Rattle.book_tables.specs.Asking.{Asked, OfStanding};
 ghost use Rattle.book_tables.specs.Contents.{IsContent};
-ghost use Rattle.book_tables.specs.Exits.{StandsWhileOpen};
 
 use crate::connected::Tables;
 use crate::reading::{blob_at, seq_at};
@@ -37,9 +33,8 @@ impl<S: Alter + Drop> Tables<S> {
     /// A depositor's entry under a key, as it is written down. 43 where its row shows no number, or
     /// the entry under it isn't one.
     fn entry_under(&mut self, alloc: Global, who: Who, key: &[u8]) -> Result<Option<Entry>, Fault>
-        ensures entry { HasCleanDisk (state S.Store self.new.conn) → (W : Partner) (L : List register.Entry)
-            → StandsWhileOpen (state S.Store self.old.conn) W L
-            → IfOk result (λ entry. entry ≡ first_under who key.now L) }
+        ensures entry { OfStanding S.Store self.old self.new
+            (λ W L. IfOk result (λ entry. entry ≡ first_under who key.now L)) }
         ensures asked { Asked S.Store self.old self.new result }
     {
         let rows = self.under_text(
@@ -59,12 +54,11 @@ impl<S: Alter + Drop> Tables<S> {
 
     /// The text that went out for a depositor's entry under a number. 43 where its row shows none.
     fn content_under(&mut self, alloc: Global, who: Who, n: u32) -> Result<Vec<u8>, Fault>
-        ensures content { HasCleanDisk (state S.Store self.new.conn) → (W : Partner) (L : List register.Entry)
-            → StandsWhileOpen (state S.Store self.old.conn) W L
-            → (before : List register.Entry) (e : register.Entry) (behind : List register.Entry)
-            → register.own L who ≡ before ++ e ∷ behind
+        ensures content { OfStanding S.Store self.old self.new
+            (λ W L. (before : List register.Entry) (e : register.Entry)
+            (behind : List register.Entry) → register.own L who ≡ before ++ e ∷ behind
             → n ≡ (if register.is_numbered e then register.next_number before else 0)
-            → IfOk result (λ content. content.items ≡ out W before e) }
+            → IfOk result (λ content. content.items ≡ out W before e)) }
         ensures asked { Asked S.Store self.old self.new result }
     {
         let rows = self.under_number(
@@ -82,12 +76,12 @@ impl<S: Alter + Drop> Tables<S> {
     /// A depositor's entry under a key, with its number and the text that went out for it; None
     /// where there is none.
     pub fn known_of(&mut self, alloc: Global, who: Who, key: &[u8]) -> Result<Option<Known>, Fault>
-        ensures known { HasCleanDisk (state S.Store self.new.conn) → (W : Partner) (L : List register.Entry)
-            → StandsWhileOpen (state S.Store self.old.conn) W L
-            → IfOk result (λ known. IsRecalled known (recalled W key.now (register.own L who))) }
-        ensures recorded { HasCleanDisk (state S.Store self.new.conn) → (W : Partner) (L : List register.Entry)
-            → StandsWhileOpen (state S.Store self.old.conn) W L
-            → IfOk result (λ known. option_map (λ k. k.entry) known ≡ first_under who key.now L) }
+        ensures known { OfStanding S.Store self.old self.new
+            (λ W L. IfOk result (λ known. IsRecalled known
+            (recalled W key.now (register.own L who)))) }
+        ensures recorded { OfStanding S.Store self.old self.new
+            (λ W L. IfOk result (λ known. option_map (λ k. k.entry) known ≡ first_under who key.now
+            L)) }
         ensures asked { Asked S.Store self.old self.new result }
     {
         let Some(entry) = self.entry_under(alloc, who, key)? else {

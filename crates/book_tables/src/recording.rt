@@ -8,7 +8,7 @@ ghost use Rattle.sqlite.specs.Held.{state};
 ghost use Rattle.book_tables.specs.Held.{values};
 ghost use Rattle.book_tables.specs.Leading.{Leads};
 ghost use Rattle.book_tables.specs.Lines.{written_row, rules_row, sent_row};
-ghost use Rattle.book_tables.specs.Writing.{Wrote};
+ghost use Rattle.book_tables.specs.Writing.{WroteIn};
 
 use crate::calls::Calls;
 use crate::running::run;
@@ -49,10 +49,10 @@ pub(crate) fn insert_entry<'a, S: Alter>(
 ) -> Result<(), Fault>
     requires { seq < 2 ^ 63 }
     ensures same_reference { tx.new.conn.ghost_name ≡ tx.old.conn.ghost_name }
-    ensures wrote { let old = state S.Store tx.old.conn.now in let new = state S.Store tx.new.conn.now in
-        Wrote (IsTrue old.is_open
-        × Leads (Puts (codes "entry") (written_row seq who.now entry.now moment.now) ∷ []) old.now new.now)
-        old new calls.old calls.new result }
+    ensures wrote { WroteIn S.Store (λ old new. IsTrue old.is_open
+        × Leads (Puts (codes "entry") (written_row seq who.now entry.now moment.now) ∷ []) old.now
+        new.now)
+        tx.old.conn.now tx.new.conn.now calls.old calls.new result }
 {
     run(
         tx,
@@ -89,9 +89,9 @@ pub(crate) fn insert_rules<S: Alter>(
 ) -> Result<(), Fault>
     requires { seq < 2 ^ 63 }
     ensures same_reference { tx.new.conn.ghost_name ≡ tx.old.conn.ghost_name }
-    ensures wrote { let old = state S.Store tx.old.conn.now in let new = state S.Store tx.new.conn.now in
-        Wrote (Leads (Puts (codes "entry_rules") (rules_row seq rules) ∷ []) old.now new.now) old new calls.old
-        calls.new result }
+    ensures wrote { WroteIn S.Store (λ old new. Leads
+        (Puts (codes "entry_rules") (rules_row seq rules) ∷ []) old.now new.now)
+        tx.old.conn.now tx.new.conn.now calls.old calls.new result }
 {
     run(
         tx,
@@ -131,10 +131,10 @@ pub(crate) fn insert_outgoing<'a, S: Alter>(
     state_text: &'a [u8],
 ) -> Result<(), Fault>
     ensures same_reference { tx.new.conn.ghost_name ≡ tx.old.conn.ghost_name }
-    ensures wrote { let old = state S.Store tx.old.conn.now in let new = state S.Store tx.new.conn.now in
-        Wrote (Leads (Puts (codes "outgoing") (sent_row who.now n kind.now content.now state_text.now) ∷ [])
+    ensures wrote { WroteIn S.Store (λ old new. Leads
+        (Puts (codes "outgoing") (sent_row who.now n kind.now content.now state_text.now) ∷ [])
         old.now new.now)
-        old new calls.old calls.new result }
+        tx.old.conn.now tx.new.conn.now calls.old calls.new result }
 {
     run(
         tx,
@@ -171,9 +171,9 @@ pub(crate) fn set_state<'a, S: Alter>(
     accepts: bool,
 ) -> Result<(), Fault>
     ensures same_reference { tx.new.conn.ghost_name ≡ tx.old.conn.ghost_name }
-    ensures wrote { let old = state S.Store tx.old.conn.now in let new = state S.Store tx.new.conn.now in
-        Wrote (Leads (SetsState who.now n (Some accepts) ∷ []) old.now new.now) old new calls.old calls.new
-        result }
+    ensures wrote { WroteIn S.Store (λ old new. Leads (SetsState who.now n (Some accepts) ∷ [])
+        old.now new.now)
+        tx.old.conn.now tx.new.conn.now calls.old calls.new result }
 {
     run(
         tx,

@@ -1,8 +1,8 @@
-ghost use Rattle.std.specs.Prelude.{◌≡◌, OnOk};
+ghost use Rattle.std.specs.Prelude.{◌≡◌, OnOk, false};
 ghost use Rattle.sqlite.specs.Values.{bound};
 ghost use Rattle.sqlite.specs.Held.{state};
 ghost use Rattle.book_tables.specs.Limits.{Spent};
-ghost use Rattle.book_tables.specs.Writing.{Wrote, Ran};
+ghost use Rattle.book_tables.specs.Writing.{Ran, Ended, WroteIn};
 
 use crate::calls::Calls;
 use sqlite::types::ValueRef;
@@ -17,13 +17,28 @@ pub(crate) fn run<S: Alter>(
     params: &[ValueRef<'_>],
 ) -> Result<(), Fault>
     ensures same_reference { tx.new.conn.ghost_name ≡ tx.old.conn.ghost_name }
-    ensures wrote { let old = state S.Store tx.old.conn.now in let new = state S.Store tx.new.conn.now in
-        Wrote (Ran sql.now (bound params.now) old new) old new calls.old calls.new result }
-    ensures once { OnOk result (Spent 1 calls.old.made calls.new.made calls.old.limit calls.new.limit) }
+    ensures wrote { WroteIn S.Store (λ old new. Ran sql.now (bound params.now) old new)
+        tx.old.conn.now tx.new.conn.now calls.old calls.new result }
+    ensures once { OnOk result (Spent 1 calls.old.made calls.new.made calls.old.limit
+        calls.new.limit) }
 {
     calls.allow()?;
     match tx.execute(sql, params) {
         Ok(_) => Ok(()),
+        Err(error) => Err(calls.told(error)),
+    }
+}
+
+/// Commits what stands in a transaction, by one call of the store. Where that is refused, nothing
+/// of it is left.
+pub(crate) fn commit<S: Alter>(tx: Transaction<'_, S>, calls: &mut Calls) -> Result<(), Fault>
+    ensures over { tx.exit.0.now.in_transaction ≡ false }
+    ensures ended { Ended (state S.Store tx.entry.conn.now) (state S.Store tx.exit.0.now)
+        calls.old calls.new result }
+{
+    calls.allow()?;
+    match tx.commit() {
+        Ok(()) => Ok(()),
         Err(error) => Err(calls.told(error)),
     }
 }

@@ -1,17 +1,14 @@
 ghost use Rattle.std.specs.Prelude.{◌≡◌, List, Some, MatchOption, IfOk, IfSome, map, option_map, filter, length, nat_lt};
 ghost use Rattle.std.specs.List.{AllByRecursion};
-ghost use Rattle.profile.specs.Header.{Who as Partner};
 ghost use Rattle.profile.specs.Register as register;
 ghost use Rattle.profile.specs.Rows as meant;
 ghost use Rattle.sqlite.specs.declared.types.Value.TheVariants as value;
 ghost use Rattle.sqlite.specs.Held.{state};
 ghost use Rattle.sqlite.specs.Order.{column};
-ghost use Rattle.sqlite.specs.State.{HasCleanDisk};
 ghost use Rattle.sqlite_rules.specs.Lists.{Has};
 ghost use Rattle.rules.specs.Kinds.{kind_text};
 ghost use Rattle.store.specs.Sent.{state_name};
-ghost use Rattle.book_tables.specs.Asking.{Asked};
-ghost use Rattle.book_tables.specs.Exits.{StandsWhileOpen};
+ghost use Rattle.book_tables.specs.Asking.{Asked, OfStanding};
 ghost use Rattle.book_tables.specs.Showing.{out_shown, HasText, IsSent};
 
 use crate::connected::Tables;
@@ -51,8 +48,10 @@ fn state_of(text: &[u8]) -> Option<DocumentState>
 
 // The text that a row of n, kind, content and state shows; None where it shows none.
 fn out_row_in(alloc: Global, row: &Row) -> Result<Option<OutRow>, AllocError>
-    ensures shows { (r : meant.OutRow) → IsSent r → row.now ≡ out_shown r → IfOk result (λ shown. shown ≡ Some r) }
-    ensures text { IfOk result (λ shown. IfSome shown (λ r. column row.now 2 ≡ value.Blob r.content)) }
+    ensures shows { (r : meant.OutRow) → IsSent r → row.now ≡ out_shown r
+        → IfOk result (λ shown. shown ≡ Some r) }
+    ensures text { IfOk result (λ shown. IfSome shown
+        (λ r. column row.now 2 ≡ value.Blob r.content)) }
 {
     let Some(n) = number_at(row, 0) else {
         return Ok(None);
@@ -87,9 +86,9 @@ fn out_row_in(alloc: Global, row: &Row) -> Result<Option<OutRow>, AllocError>
 /// of them shows none.
 pub(crate) fn out_rows_in(alloc: Global, rows: &[Row]) -> Result<Option<Vec<OutRow>>, AllocError>
     ensures shows { (rs : List meant.OutRow) → ((r : meant.OutRow) → Has rs r → IsSent r)
-        → rows.now ≡ map out_shown rs
-        → IfOk result (λ shown. option_map (λ v. v.items) shown ≡ Some (filter (λ (r : meant.OutRow). nat_lt 0
-        (length r.content)) rs)) }
+        → rows.now ≡ map out_shown rs → IfOk result
+        (λ shown. option_map (λ v. v.items) shown ≡ Some
+        (filter (λ (r : meant.OutRow). nat_lt 0 (length r.content)) rs)) }
     ensures all { IfOk result (λ shown. IfSome shown (λ _. AllByRecursion HasText rows.now)) }
 {
     let mut shown = Vec::new(alloc);
@@ -108,9 +107,8 @@ impl<S: Alter + Drop> Tables<S> {
     /// The texts that went out to a depositor, by number, as the rows of `outgoing` say, but for
     /// the empty ones; nothing of a stranger. 43 where a row shows no text.
     pub(crate) fn sent_rows(&mut self, alloc: Global, who: Who) -> Result<Vec<OutRow>, Fault>
-        ensures rows { HasCleanDisk (state S.Store self.new.conn) → (W : Partner) (L : List register.Entry)
-            → StandsWhileOpen (state S.Store self.old.conn) W L
-            → IfOk result (λ rows. rows.items ≡ meant.outbox_rows W (register.own L who)) }
+        ensures rows { OfStanding S.Store self.old self.new
+            (λ W L. IfOk result (λ rows. rows.items ≡ meant.outbox_rows W (register.own L who))) }
         ensures asked { Asked S.Store self.old self.new result }
     {
         let rows = self.of_depositor(

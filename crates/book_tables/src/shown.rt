@@ -1,12 +1,8 @@
-ghost use Rattle.std.specs.Prelude.{◌≡◌, List, IfOk, option_map};
-ghost use Rattle.profile.specs.Header.{Who as Partner};
+ghost use Rattle.std.specs.Prelude.{◌≡◌, IfOk, option_map};
 ghost use Rattle.profile.specs.Register as register;
 ghost use Rattle.profile.specs.Rows as meant;
 ghost use Rattle.store.specs.Sent.{text_of};
-ghost use Rattle.sqlite.specs.Held.{state};
-ghost use Rattle.sqlite.specs.State.{HasCleanDisk};
-ghost use Rattle.book_tables.specs.Asking.{Asked};
-ghost use Rattle.book_tables.specs.Exits.{StandsWhileOpen};
+ghost use Rattle.book_tables.specs.Asking.{Asked, OfStanding};
 
 use crate::connected::Tables;
 use rules::Who;
@@ -17,9 +13,8 @@ use store::{Fault, OutRow, StockRow};
 impl<S: Alter + Drop> Tables<S> {
     /// What a depositor has, by item and lot, as its running rows say; None of a stranger.
     pub fn stock_of(&mut self, alloc: Global, who: Who) -> Result<Option<Vec<StockRow>>, Fault>
-        ensures rows { HasCleanDisk (state S.Store self.new.conn) → (W : Partner) (L : List register.Entry)
-            → StandsWhileOpen (state S.Store self.old.conn) W L
-            → IfOk result (λ rows. option_map (λ v. v.items) rows ≡ meant.stock_of L who) }
+        ensures rows { OfStanding S.Store self.old self.new
+            (λ W L. IfOk result (λ rows. option_map (λ v. v.items) rows ≡ meant.stock_of L who)) }
         ensures asked { Asked S.Store self.old self.new result }
     {
         if !self.is_enrolled(alloc, who)? {
@@ -34,9 +29,9 @@ impl<S: Alter + Drop> Tables<S> {
     /// The texts that went out to a depositor, by number, but for the empty ones, as the rows of
     /// `outgoing` say; None of a stranger.
     pub fn outbox_of(&mut self, alloc: Global, who: Who) -> Result<Option<Vec<OutRow>>, Fault>
-        ensures rows { HasCleanDisk (state S.Store self.new.conn) → (W : Partner) (L : List register.Entry)
-            → StandsWhileOpen (state S.Store self.old.conn) W L
-            → IfOk result (λ rows. option_map (λ v. v.items) rows ≡ meant.outbox_of W L who) }
+        ensures rows { OfStanding S.Store self.old self.new
+            (λ W L. IfOk result (λ rows. option_map (λ v. v.items) rows ≡ meant.outbox_of W L
+            who)) }
         ensures asked { Asked S.Store self.old self.new result }
     {
         if !self.is_enrolled(alloc, who)? {
@@ -56,9 +51,9 @@ impl<S: Alter + Drop> Tables<S> {
         who: Who,
         n: u32,
     ) -> Result<Option<Option<Vec<u8>>>, Fault>
-        ensures text { HasCleanDisk (state S.Store self.new.conn) → (W : Partner) (L : List register.Entry)
-            → StandsWhileOpen (state S.Store self.old.conn) W L
-            → IfOk result (λ text. option_map (option_map (λ v. v.items)) text ≡ text_of W L who n) }
+        ensures text { OfStanding S.Store self.old self.new
+            (λ W L. IfOk result (λ text. option_map (option_map (λ v. v.items)) text ≡ text_of W L
+            who n)) }
         ensures asked { Asked S.Store self.old self.new result }
     {
         if !self.is_enrolled(alloc, who)? {

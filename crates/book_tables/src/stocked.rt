@@ -1,12 +1,8 @@
 ghost use Rattle.std.specs.Borrow.{Bor};
 ghost use Rattle.std.specs.Prelude.{◌≡◌, ℕ, List, Some, IfOk, map, option_map, true, length, IfSome, ◌≤◌};
-ghost use Rattle.profile.specs.Header.{Who as Partner};
 ghost use Rattle.profile.specs.Register as register;
 ghost use Rattle.profile.specs.Rows as meant;
-ghost use Rattle.sqlite.specs.Held.{state};
-ghost use Rattle.sqlite.specs.State.{HasCleanDisk};
-ghost use Rattle.book_tables.specs.Asking.{Asked};
-ghost use Rattle.book_tables.specs.Exits.{StandsWhileOpen};
+ghost use Rattle.book_tables.specs.Asking.{Asked, OfStanding};
 ghost use Rattle.goods.specs.Keyed.{key_before, rises_by, row_key};
 ghost use Rattle.book_tables.specs.Dated.{date_shown, dates_of};
 ghost use Rattle.book_tables.specs.Showing.{stock_shown};
@@ -27,7 +23,8 @@ fn stock_row_in(
     expiry: Option<&[u8]>,
 ) -> Result<Option<StockRow>, AllocError>
     ensures { (r : meant.StockRow) → row.now ≡ stock_shown r
-        → option_map (λ (date : Bor (List ℕ)). date.now) expiry.entry ≡ r.expiry → IfOk result (λ shown. shown ≡ Some r) }
+        → option_map (λ (date : Bor (List ℕ)). date.now) expiry.entry ≡ r.expiry
+        → IfOk result (λ shown. shown ≡ Some r) }
 {
     let Some(item) = text_at(row, 0) else {
         return Ok(None);
@@ -67,7 +64,8 @@ pub(crate) fn stock_rows_in(
     dates: &[Row],
 ) -> Result<Option<Vec<StockRow>>, AllocError>
     ensures shows { (rs : List meant.LotRow) → rises_by key_before row_key rs ≡ true
-        → rows.now ≡ map (λ r. stock_shown (meant.shown_row r)) rs → dates.now ≡ map date_shown (dates_of rs)
+        → rows.now ≡ map (λ r. stock_shown (meant.shown_row r)) rs
+        → dates.now ≡ map date_shown (dates_of rs)
         → IfOk result (λ shown. option_map (λ v. v.items) shown ≡ Some (map meant.shown_row rs)) }
     ensures all { IfOk result (λ shown. IfSome shown (λ v. length rows.now ≤ length v.items)) }
 {
@@ -92,9 +90,8 @@ impl<S: Alter + Drop> Tables<S> {
     /// What a depositor has, by item and lot, with the dates, as its running rows say; nothing of a
     /// stranger. 43 where a row shows no stock.
     pub(crate) fn stock_rows(&mut self, alloc: Global, who: Who) -> Result<Vec<StockRow>, Fault>
-        ensures rows { HasCleanDisk (state S.Store self.new.conn) → (W : Partner) (L : List register.Entry)
-            → StandsWhileOpen (state S.Store self.old.conn) W L
-            → IfOk result (λ rows. rows.items ≡ meant.stock_rows (register.own L who)) }
+        ensures rows { OfStanding S.Store self.old self.new
+            (λ W L. IfOk result (λ rows. rows.items ≡ meant.stock_rows (register.own L who))) }
         ensures asked { Asked S.Store self.old self.new result }
     {
         let rows = self.of_depositor(

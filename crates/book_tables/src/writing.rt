@@ -3,11 +3,10 @@ ghost use Rattle.profile.specs.Changes.{Puts, Frees};
 ghost use Rattle.profile.specs.Tables as cells;
 ghost use Rattle.sqlite.specs.declared.types.Value.TheVariants as value;
 ghost use Rattle.sqlite.specs.Values.{bound};
-ghost use Rattle.sqlite.specs.Held.{state};
 ghost use Rattle.book_tables.specs.Held.{values};
 ghost use Rattle.book_tables.specs.Leading.{Leads};
 ghost use Rattle.book_tables.specs.Lines.{advice_line_row, expiry_row, order_line_row, reservation_row};
-ghost use Rattle.book_tables.specs.Writing.{Wrote};
+ghost use Rattle.book_tables.specs.Writing.{WroteIn};
 
 use crate::calls::Calls;
 use crate::running::run;
@@ -94,10 +93,10 @@ pub(crate) fn put_stock<'a, S: Alter>(
     row: &'a Row,
 ) -> Result<(), Fault>
     ensures same_reference { tx.new.conn.ghost_name ≡ tx.old.conn.ghost_name }
-    ensures wrote { let old = state S.Store tx.old.conn.now in let new = state S.Store tx.new.conn.now in
-        Wrote (Leads (Puts (codes "stock") (cells.Text who.now ∷ cells.stock_cells row.now) ∷ []) old.now
+    ensures wrote { WroteIn S.Store (λ old new. Leads
+        (Puts (codes "stock") (cells.Text who.now ∷ cells.stock_cells row.now) ∷ []) old.now
         new.now)
-        old new calls.old calls.new result }
+        tx.old.conn.now tx.new.conn.now calls.old calls.new result }
 {
     let Some(amounts) = Amounts::of(row) else {
         return Err(calls.refuse());
@@ -131,10 +130,10 @@ pub(crate) fn put_expiry<'a, S: Alter>(
     expiry: &'a [u8],
 ) -> Result<(), Fault>
     ensures same_reference { tx.new.conn.ghost_name ≡ tx.old.conn.ghost_name }
-    ensures wrote { let old = state S.Store tx.old.conn.now in let new = state S.Store tx.new.conn.now in
-        Wrote (Leads (Puts (codes "lot_expiry") (expiry_row who.now row.now.item row.now.lot expiry.now) ∷ [])
+    ensures wrote { WroteIn S.Store (λ old new. Leads
+        (Puts (codes "lot_expiry") (expiry_row who.now row.now.item row.now.lot expiry.now) ∷ [])
         old.now new.now)
-        old new calls.old calls.new result }
+        tx.old.conn.now tx.new.conn.now calls.old calls.new result }
 {
     run(
         tx,
@@ -164,10 +163,10 @@ pub(crate) fn put_advice<'a, S: Alter>(
     advice: &'a KnownAdvice,
 ) -> Result<(), Fault>
     ensures same_reference { tx.new.conn.ghost_name ≡ tx.old.conn.ghost_name }
-    ensures wrote { let old = state S.Store tx.old.conn.now in let new = state S.Store tx.new.conn.now in
-        Wrote (Leads (Puts (codes "advice") (cells.Text who.now ∷ cells.advice_cells advice.now) ∷ [])
-        old.now new.now)
-        old new calls.old calls.new result }
+    ensures wrote { WroteIn S.Store (λ old new. Leads
+        (Puts (codes "advice") (cells.Text who.now ∷ cells.advice_cells advice.now) ∷ []) old.now
+        new.now)
+        tx.old.conn.now tx.new.conn.now calls.old calls.new result }
 {
     run(
         tx,
@@ -206,10 +205,10 @@ pub(crate) fn put_advice_line<'a, S: Alter>(
     line: &'a Goods,
 ) -> Result<(), Fault>
     ensures same_reference { tx.new.conn.ghost_name ≡ tx.old.conn.ghost_name }
-    ensures wrote { let old = state S.Store tx.old.conn.now in let new = state S.Store tx.new.conn.now in
-        Wrote (Leads (Puts (codes "advice_line") (advice_line_row who.now shipment.now n line.now) ∷ [])
-        old.now new.now)
-        old new calls.old calls.new result }
+    ensures wrote { WroteIn S.Store (λ old new. Leads
+        (Puts (codes "advice_line") (advice_line_row who.now shipment.now n line.now) ∷ []) old.now
+        new.now)
+        tx.old.conn.now tx.new.conn.now calls.old calls.new result }
 {
     run(
         tx,
@@ -253,10 +252,10 @@ pub(crate) fn put_order<'a, S: Alter>(
     order: &'a KnownOrder,
 ) -> Result<(), Fault>
     ensures same_reference { tx.new.conn.ghost_name ≡ tx.old.conn.ghost_name }
-    ensures wrote { let old = state S.Store tx.old.conn.now in let new = state S.Store tx.new.conn.now in
-        Wrote (Leads (Puts (codes "orders") (cells.Text who.now ∷ cells.orders_cells order.now) ∷ [])
-        old.now new.now)
-        old new calls.old calls.new result }
+    ensures wrote { WroteIn S.Store (λ old new. Leads
+        (Puts (codes "orders") (cells.Text who.now ∷ cells.orders_cells order.now) ∷ []) old.now
+        new.now)
+        tx.old.conn.now tx.new.conn.now calls.old calls.new result }
 {
     run(
         tx,
@@ -299,10 +298,10 @@ pub(crate) fn put_order_line<'a, S: Alter>(
     line: &'a KnownLine,
 ) -> Result<(), Fault>
     ensures same_reference { tx.new.conn.ghost_name ≡ tx.old.conn.ghost_name }
-    ensures wrote { let old = state S.Store tx.old.conn.now in let new = state S.Store tx.new.conn.now in
-        Wrote (Leads (Puts (codes "order_line") (order_line_row who.now order.now n line.now) ∷ []) old.now
+    ensures wrote { WroteIn S.Store (λ old new. Leads
+        (Puts (codes "order_line") (order_line_row who.now order.now n line.now) ∷ []) old.now
         new.now)
-        old new calls.old calls.new result }
+        tx.old.conn.now tx.new.conn.now calls.old calls.new result }
 {
     run(
         tx,
@@ -334,10 +333,10 @@ pub(crate) fn put_reservation<'a, S: Alter>(
     line: &'a Goods,
 ) -> Result<(), Fault>
     ensures same_reference { tx.new.conn.ghost_name ≡ tx.old.conn.ghost_name }
-    ensures wrote { let old = state S.Store tx.old.conn.now in let new = state S.Store tx.new.conn.now in
-        Wrote (Leads (Puts (codes "reservation") (reservation_row who.now order.now line.now) ∷ []) old.now
+    ensures wrote { WroteIn S.Store (λ old new. Leads
+        (Puts (codes "reservation") (reservation_row who.now order.now line.now) ∷ []) old.now
         new.now)
-        old new calls.old calls.new result }
+        tx.old.conn.now tx.new.conn.now calls.old calls.new result }
 {
     run(
         tx,
@@ -362,8 +361,9 @@ pub(crate) fn free_reservations<'a, S: Alter>(
     order: &'a [u8],
 ) -> Result<(), Fault>
     ensures same_reference { tx.new.conn.ghost_name ≡ tx.old.conn.ghost_name }
-    ensures wrote { let old = state S.Store tx.old.conn.now in let new = state S.Store tx.new.conn.now in
-        Wrote (Leads (Frees who.now order.now ∷ []) old.now new.now) old new calls.old calls.new result }
+    ensures wrote { WroteIn S.Store (λ old new. Leads (Frees who.now order.now ∷ []) old.now
+        new.now)
+        tx.old.conn.now tx.new.conn.now calls.old calls.new result }
 {
     run(
         tx,

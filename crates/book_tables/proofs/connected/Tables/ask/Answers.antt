@@ -1,6 +1,8 @@
-use Rattle.std.proofs.Common.{rules, IsTrue}
+use Rattle.std.proofs.Common.{rules, IsTrue, ◌∙◌, subst}
 use Rattle.sqlite.specs.Held.{state}
 use Rattle.sqlite.specs.Values.{bound}
+use Rattle.book_tables.specs.Rises.{Rises}
+use Rattle.book_tables.proofs.Limited.{spends_both, spends_same}
 use Rattle.book_tables.proofs.Asked.{not_prepared, shown_asked, shown_found, failed_asked}
 use Rattle.book_tables.proofs.connected.Tables.ask.Goals as goal
 
@@ -24,3 +26,19 @@ returns-clause-asked g c = rw (← c.self.view_is) (
     let auto : IsTrue c.is_autocommit-settled.result = search rules in
     failed_asked c.args.sql.now (bound c.args.params.now) c.in-Ok.statement.text (state g.S.Store c.self.inside.conn) (state g.S.Store c.prepare.new.self) (state g.S.Store c.query_all.new.conn) c.requires
     c.in-Ok.ensures.ok c.prepare.ensures.survives c.query_all.ensures.survives c.in-Err-query_all.error (c.is_autocommit-settled.ensures.settled auto) c.in-Err-query_all.ensures.err)
+
+pub returns-clause-called : goal.returns-clause-called
+returns-clause-called g c = rw (← c.self.view_is) (
+    let x = c.self.inside.calls in
+    let y = c.allow.new.self in
+    let z = c.allow-2.new.self in
+    let last = c.told-in-Err-query_all.new.self in
+    let told = c.told-in-Err-query_all.ensures in
+    record {
+      named = told.named;
+      counted = subst (λ n. Rises n last.refused) (c.in_ok-allow-2.ensures.ok ∙ c.in_ok-allow.ensures.ok) told.counted;
+      uncounted = tt;
+      limit = spends_both x.made y.made last.made x.limit y.limit last.limit c.allow.ensures.limit
+          (spends_both y.made z.made last.made y.limit z.limit last.limit c.allow-2.ensures.limit (spends_same z.made last.made z.limit last.limit told.made told.limit));
+      allowed = tt;
+    })

@@ -7,7 +7,7 @@ use Rattle.store.specs.declared.fault.Fault.TheVariants.{NotThisBook}
 use Rattle.book_tables.proofs.Asked.{asked_twice}
 use Rattle.book_tables.proofs.AskedLater.{err_as}
 use Rattle.book_tables.proofs.Carried.{stands_open_later}
-use Rattle.book_tables.proofs.Limited.{counts_both}
+use Rattle.book_tables.proofs.Queries.{refused_after}
 use Rattle.book_tables.proofs.connected.Tables.found.Goals as goal
 
 pub returns-in_err-house-clause-this : goal.returns-in_err-house-clause-this
@@ -31,12 +31,14 @@ pub returns-in_err-entries-clause-asked : goal.returns-in_err-entries-clause-ask
 returns-in_err-entries-clause-asked g c =
     asked_twice (state g.S.Store c.args.self.now.conn) (state g.S.Store c.house.new.self.conn) (state g.S.Store c.count.new.self.conn) c.house.ensures.asked c.count.ensures.asked
 
-pub returns-clause-limit : goal.returns-clause-limit
-returns-clause-limit g c = counts_both c.args.self.now c.house.new.self c.count.new.self c.house.ensures.limit c.count.ensures.limit
-
 pub returns-clause-was_open : goal.returns-clause-was_open
 returns-clause-was_open g c = λ clean. c.in_ok-house.ensures.was_open (omega (arith, c.count.ensures.asked.crash.clean, clean))
 
 pub returns-clause-asked : goal.returns-clause-asked
 returns-clause-asked g c =
     asked_twice (state g.S.Store c.args.self.now.conn) (state g.S.Store c.house.new.self.conn) (state g.S.Store c.count.new.self.conn) c.house.ensures.asked c.count.ensures.asked
+
+pub returns-in_err-entries-clause-called : goal.returns-in_err-entries-clause-called
+returns-in_err-entries-clause-called g c =
+    let same : IsErrAnd c.from_residual-in_err-entries.result (λ (f : Fault). f ≡ c.in_err-entries.field-0.0) = search rules in
+    refused_after c.args.self.now c.house.new.self c.count.new.self c.in_ok-house.house c.in_err-entries.field-0.0 c.from_residual-in_err-entries.result c.in_ok-house.ensures.called c.in_err-entries.ensures.called same
