@@ -26,23 +26,23 @@ use Rattle.std.specs.List.{list_all}
 use Rattle.rules.specs.Fitting.{is_fitting_line}
 use Rattle.rules.proofs.Fits.{page_fits}
 use Rattle.book_tables.proofs.Fits.{advised_fit}
-use Rattle.book_tables.specs.Asking.{Finds}
-use Rattle.book_tables.specs.Exits.{StandsWhileOpen}
-use Rattle.book_tables.specs.Layout.{advice_line_layout}
+use Rattle.book_statements.specs.Asking.{Finds}
+use Rattle.book_statements.specs.Exits.{StandsWhileOpen}
+use Rattle.book_statements.specs.Layout.{advice_line_layout}
 use Rattle.book_tables.specs.Looking.{lines_advised}
 use Rattle.book_tables.specs.Showing.{advice_shown, line_shown}
-use Rattle.book_tables.specs.Standing.{Advice, AdviceLine, Stands, AreOrdered, filled}
-use Rattle.book_tables.proofs.Asked.{found}
+use Rattle.book_statements.specs.Standing.{Advice, AdviceLine, Stands, AreOrdered, filled}
+use Rattle.book_statements.proofs.Asked.{found}
 use Rattle.book_tables.proofs.Finding.{no_row, first_row, one_key, second_of}
-use Rattle.book_tables.proofs.HoldsLemmas.{are_keyed}
-use Rattle.book_tables.proofs.NeedTexts.{advice_text, advice_columns, advice_is, advice_reads, advice_lines_text, advice_lines_is, advice_lines_reads, line_columns, line_order}
-use Rattle.book_tables.proofs.Ordered.{all_ordered, advices_rise, advised_cells}
-use Rattle.book_tables.proofs.Rising.{numbers_rise}
+use Rattle.book_statements.proofs.HoldsLemmas.{are_keyed}
+use Rattle.book_statements.proofs.NeedTexts.{advice_text, advice_columns, advice_is, advice_reads, advice_lines_text, advice_lines_is, advice_lines_reads, line_columns, line_order}
+use Rattle.book_statements.proofs.Ordered.{all_ordered, advices_rise, advised_cells}
+use Rattle.book_statements.proofs.Rising.{numbers_rise}
 use Rattle.book_tables.proofs.ShownRows.{numbers_ranked, number_is}
 use Rattle.book_tables.proofs.Under.{IsUnder, each_row, has_row, all_rows}
 use Rattle.book_tables.proofs.UnderKey.{equal_bytes}
 use Rattle.book_tables.proofs.UnderTables.{cells_under, parts_under}
-use Rattle.book_tables.proofs.UpsertLemmas.{only_row}
+use Rattle.book_statements.proofs.UpsertLemmas.{only_row}
 
 -- The advice.
 

@@ -6,10 +6,10 @@ use Rattle.profile.specs.Header.{Who}
 use Rattle.profile.specs.Register.{Entry, own}
 use Rattle.profile.specs.Rows.{stock_rows, stock_of, outbox_rows, outbox_of}
 use Rattle.store.specs.declared.fault.Fault.{Fault}
-use Rattle.book_tables.specs.Asking.{IsAsked, IsAskFault}
-use Rattle.book_tables.specs.Exits.{StandsWhileOpen}
-use Rattle.book_tables.specs.Rises.{Rises}
-use Rattle.book_tables.specs.Standing.{Stands}
+use Rattle.book_statements.specs.Asking.{IsAsked, IsAskFault}
+use Rattle.book_statements.specs.Exits.{StandsWhileOpen}
+use Rattle.book_statements.specs.Rises.{Rises}
+use Rattle.book_statements.specs.Standing.{Stands}
 
 pub stands_later : (old mid : State) (W : Who) (L : List Entry) → HasCleanDisk mid → IsAsked old mid → StandsWhileOpen old W L → StandsWhileOpen mid W L
 stands_later old mid W L clean asked stands =

@@ -8,17 +8,18 @@ use Rattle.sqlite.specs.Held.{state}
 use Rattle.sqlite.specs.State.{State, HasCleanDisk}
 use Rattle.sqlite.specs.Store.{Ghosts}
 use Rattle.store.specs.declared.fault.Fault.{Fault}
-use Rattle.book_tables.specs.declared.comparing.TableName.{TableName}
-use Rattle.book_tables.specs.declared.comparing.TableName.TheVariants.{Book, Entry, Outgoing, Stock, Advice, AdviceLine, Orders, OrderLine, Reservation, EntryRules, LotExpiry}
-use Rattle.book_tables.specs.Asking.{Asked, Went, IsAsked}
-use Rattle.book_tables.specs.Comparing.{whole_text, number_of, FindBoth, ShowBoth, Compares}
-use Rattle.book_tables.specs.Kept.{Kept}
-use Rattle.book_tables.specs.Limits.{Counts}
-use Rattle.book_tables.proofs.Asked.{asked_twice}
+use Rattle.book_statements.specs.declared.names.TableName.{TableName}
+use Rattle.book_statements.specs.declared.names.TableName.TheVariants.{Book, Entry, Outgoing, Stock, Advice, AdviceLine, Orders, OrderLine, Reservation, EntryRules, LotExpiry}
+use Rattle.book_statements.specs.Asking.{Asked, Went, IsAsked}
+use Rattle.book_statements.specs.Whole.{whole_text}
+use Rattle.book_tables.specs.Comparing.{number_of, FindBoth, ShowBoth, Compares}
+use Rattle.book_statements.specs.Kept.{Kept}
+use Rattle.book_statements.specs.Limits.{Counts}
+use Rattle.book_statements.proofs.Asked.{asked_twice}
 use Rattle.book_tables.proofs.AskedLater.{clean_before}
-use Rattle.book_tables.proofs.Limited.{counts_both, none_after, spends_none}
+use Rattle.book_statements.proofs.Limited.{counts_both, none_after, spends_none}
 use Rattle.book_tables.proofs.Queries.{went_of, went_none, went_on}
-use Rattle.book_tables.proofs.StepLemmas.{on_ok}
+use Rattle.book_statements.proofs.StepLemmas.{on_ok}
 
 -- Each table has a number of its own.
 

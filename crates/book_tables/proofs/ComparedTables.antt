@@ -9,19 +9,20 @@ use Rattle.sqlite.specs.Effect.{Database, IsDatabase}
 use Rattle.sqlite.specs.State.{State, IsLive}
 use Rattle.profile.specs.Header.{Who}
 use Rattle.profile.specs.Register.{Entry}
-use Rattle.book_tables.specs.declared.comparing.TableName.{TableName}
-use Rattle.book_tables.specs.declared.comparing.TableName.TheVariants as name
-use Rattle.book_tables.specs.Comparing.{AreTables, FindBoth, IsLaid, Compares, whole_text}
-use Rattle.book_tables.specs.Exits.{StandsWhileOpen}
-use Rattle.book_tables.specs.Layout.{IsLayout, book_trees}
-use Rattle.book_tables.specs.Standing.{BookTable, Outgoing, Stock, Advice, AdviceLine, Orders, OrderLine, Reservation, LotExpiry, Stands, AreHeld, filled, rows_of}
-use Rattle.book_tables.proofs.Found.{entries_rise, rules_rise}
-use Rattle.book_tables.proofs.Ordered.{all_ordered}
+use Rattle.book_statements.specs.declared.names.TableName.{TableName}
+use Rattle.book_statements.specs.declared.names.TableName.TheVariants as name
+use Rattle.book_statements.specs.Whole.{whole_text}
+use Rattle.book_tables.specs.Comparing.{AreTables, FindBoth, IsLaid, Compares}
+use Rattle.book_statements.specs.Exits.{StandsWhileOpen}
+use Rattle.book_statements.specs.Layout.{IsLayout, book_trees}
+use Rattle.book_statements.specs.Standing.{BookTable, Outgoing, Stock, Advice, AdviceLine, Orders, OrderLine, Reservation, LotExpiry, Stands, AreHeld, filled, rows_of}
+use Rattle.book_statements.proofs.Found.{entries_rise, rules_rise}
+use Rattle.book_statements.proofs.Ordered.{all_ordered}
 use Rattle.book_tables.proofs.WholeBook.{book_same, book_shown, entries_same, entries_shown, rules_same, rules_shown}
 use Rattle.book_tables.proofs.WholeFound.{whole_found}
 use Rattle.book_tables.proofs.WholeKeyed.{holds_too}
 use Rattle.book_tables.proofs.WholeSorted.{same_shown}
-use Rattle.book_tables.proofs.WholeTexts.{whole_query, keyed_query, keyed_name}
+use Rattle.book_statements.proofs.WholeTexts.{whole_query, keyed_query, keyed_name}
 
 keyed_is : (t : BookTable) → whole_query (keyed_name t) ≡ keyed_query t
 keyed_is Outgoing = refl

@@ -6,14 +6,14 @@ use Rattle.sqlite.specs.Tree.{Trees}
 use Rattle.sqlite.specs.State.{State, HasCleanDisk, Survives}
 use Rattle.sqlite.proofs.Callers.{survives_begin}
 use Rattle.store.specs.declared.fault.Fault.{Fault}
-use Rattle.book_tables.specs.declared.calls.Calls.{Calls}
-use Rattle.book_tables.specs.Limits.{Called}
-use Rattle.book_tables.specs.Rises.{Rises}
-use Rattle.book_tables.specs.Writing.{Wrote, Ended}
+use Rattle.book_statements.specs.declared.calls.Calls.{Calls}
+use Rattle.book_statements.specs.Limits.{Called}
+use Rattle.book_statements.specs.Rises.{Rises}
+use Rattle.book_statements.specs.Writing.{Wrote, Ended}
 use Rattle.book_tables.proofs.Growing.{crash_of}
-use Rattle.book_tables.proofs.Limited.{spends_both, none_after}
-use Rattle.book_tables.proofs.StepLemmas.{on_ok}
-use Rattle.book_tables.proofs.Writes.{on_err}
+use Rattle.book_statements.proofs.Limited.{spends_both, none_after}
+use Rattle.book_statements.proofs.StepLemmas.{on_ok}
+use Rattle.book_statements.proofs.Writes.{on_err}
 
 module _ {S T U : Type 0} {last : State} {x y z : Calls} {Done : Type 0} {u : U} {r : Result T Fault} (store : Ghosts S) (old begun new : Held S)
     (is : begun ≡ record old { in_transaction = true }) (wrote : Wrote {T = U} Done (state store begun) last x y (Ok u)) (ended : Ended last (state store new) y z r) where

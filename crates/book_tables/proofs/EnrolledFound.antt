@@ -35,20 +35,20 @@ use Rattle.profile.specs.Header.{Who, is_partner, who_text}
 use Rattle.profile.specs.Register.{Entry, own, is_numbered}
 use Rattle.profile.specs.Tables.{entry_row, entries_on, entry_table}
 use Rattle.goods.proofs.Texts.{texts_never}
-use Rattle.book_tables.specs.Asking.{Finds, OnlyReads}
+use Rattle.book_statements.specs.Asking.{Finds, OnlyReads}
 use Rattle.book_tables.specs.Enrolments.{EnrolmentFacts, enrolments_after, enrolments, from_text, IsFirstFrom, enrolment_shown, enrolment_text}
-use Rattle.book_tables.specs.Exits.{StandsWhileOpen}
-use Rattle.book_tables.specs.Held.{entry_values}
-use Rattle.book_tables.specs.Layout.{Others}
-use Rattle.book_tables.proofs.Asked.{found}
+use Rattle.book_statements.specs.Exits.{StandsWhileOpen}
+use Rattle.book_statements.specs.Held.{entry_values}
+use Rattle.book_statements.specs.Layout.{Others}
+use Rattle.book_statements.proofs.Asked.{found}
 use Rattle.book_tables.proofs.EnrolledOnce.{enrolled_partner}
-use Rattle.book_tables.proofs.Found.{flat_map-cond, map-both}
+use Rattle.book_statements.proofs.Found.{flat_map-cond, map-both}
 use Rattle.book_tables.proofs.InOrder.{ascending_from_sorted}
-use Rattle.book_tables.proofs.KeyLemmas.{equal_numbers}
-use Rattle.book_tables.proofs.NeedTexts.{Reads}
+use Rattle.book_statements.proofs.KeyLemmas.{equal_numbers}
+use Rattle.book_statements.proofs.NeedTexts.{Reads}
 use Rattle.book_tables.proofs.NextNames.{name}
-use Rattle.book_tables.proofs.ShowingTexts.{rising}
-use Rattle.book_tables.proofs.Selects.{query_reads}
+use Rattle.book_statements.proofs.ShowingTexts.{rising}
+use Rattle.book_statements.proofs.Selects.{query_reads}
 
 abbrev pub enrolment_query : Query
 enrolment_query = record {

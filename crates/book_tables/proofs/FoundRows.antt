@@ -11,17 +11,17 @@ use Rattle.profile.specs.Register.{Entry, own}
 use Rattle.profile.specs.History.{events}
 use Rattle.profile.specs.Rows.{LotRow, StockRow, OutRow, shown_row, running_rows, stock_rows, outgoing_rows, outbox_rows}
 use Rattle.goods.specs.Keyed.{rises_by, row_key, key_before as pairs_in_order}
-use Rattle.book_tables.specs.Asking.{Finds}
-use Rattle.book_tables.specs.Layout.{expiry_tree}
-use Rattle.book_tables.specs.Exits.{StandsWhileOpen}
-use Rattle.book_tables.specs.Dated.{date_shown, dates_of}
+use Rattle.book_statements.specs.Asking.{Finds}
+use Rattle.book_statements.specs.Layout.{expiry_tree}
+use Rattle.book_statements.specs.Exits.{StandsWhileOpen}
+use Rattle.book_statements.specs.Dated.{date_shown, dates_of}
 use Rattle.book_tables.specs.Showing.{stock_shown, out_shown, IsSent}
-use Rattle.book_tables.specs.Standing.{Stock, LotExpiry, Outgoing, Stands}
-use Rattle.book_tables.proofs.Asked.{found, found_placed}
-use Rattle.book_tables.proofs.Ordered.{lots_rise}
+use Rattle.book_statements.specs.Standing.{Stock, LotExpiry, Outgoing, Stands}
+use Rattle.book_statements.proofs.Asked.{found, found_placed}
+use Rattle.book_statements.proofs.Ordered.{lots_rise}
 use Rattle.book_tables.proofs.Sendings.{legal_sent}
-use Rattle.book_tables.proofs.ShowingTexts.{stock_rows_text, stock_rows_is, stock_rows_reads, all_dates_text, all_dates_query, all_dates_names, all_dates_reads, outbox_text, outbox_is, outbox_reads}
-use Rattle.book_tables.proofs.ExpiryReads.{all_dates_is}
+use Rattle.book_statements.proofs.ShowingTexts.{stock_rows_text, stock_rows_is, stock_rows_reads, all_dates_text, all_dates_query, all_dates_names, all_dates_reads, outbox_text, outbox_is, outbox_reads}
+use Rattle.book_statements.proofs.ExpiryReads.{all_dates_is}
 use Rattle.book_tables.proofs.ShownRows.{stock_rows_shown, dates_shown, outgoing_rows_shown}
 
 stock_found : (W : Who) (L : List Entry) (who : Who) (db : Database) (rows : List Row) → is_partner who ≡ true → IsDatabase db → Stands W L db

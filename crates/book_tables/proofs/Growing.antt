@@ -9,11 +9,11 @@ use Rattle.profile.specs.Register.{Entry}
 use Rattle.rules.specs.Written.{Written}
 use Rattle.rules.specs.Tabled.{table_changes}
 use Rattle.stock.specs.declared.steps.Change as stock
-use Rattle.book_tables.specs.Appending.{Appends, entry_changes}
-use Rattle.book_tables.specs.Leading.{Leads, Keeps}
-use Rattle.book_tables.specs.Standing.{Filled, filled, Stands, StandsIn}
-use Rattle.book_tables.specs.Exits.{IsAppended, HasGrown}
-use Rattle.book_tables.proofs.AppendingLemmas.{led_on, same_named}
+use Rattle.book_statements.specs.Appending.{Appends, entry_changes}
+use Rattle.book_statements.specs.Leading.{Leads, Keeps}
+use Rattle.book_statements.specs.Standing.{Filled, filled, Stands, StandsIn}
+use Rattle.book_statements.specs.Exits.{IsAppended, HasGrown}
+use Rattle.book_statements.proofs.AppendingLemmas.{led_on, same_named}
 
 -- what stands in the transaction before it is committed
 pub grown : (old begun last : State) (seq : ℕ) (who : List ℕ) (row : Written) (cs : List stock.Change) (text : List ℕ) → begun.now ≡ old.now → IsTrue old.is_open → IsLive old

@@ -25,13 +25,13 @@ use Rattle.profile.specs.Tables.{entry_row, entries_on, entry_table}
 use Rattle.profile.proofs.RegisterLaws.{legal-entries}
 use Rattle.profile.proofs.TextLaws.{both_parts}
 use Rattle.rules.proofs.Depositors.{partner_of}
-use Rattle.book_tables.specs.Asking.{Finds}
-use Rattle.book_tables.specs.Exits.{StandsWhileOpen}
-use Rattle.book_tables.specs.Held.{entry_values}
-use Rattle.book_tables.proofs.Asked.{found}
-use Rattle.book_tables.proofs.KeyLemmas.{equal_texts}
+use Rattle.book_statements.specs.Asking.{Finds}
+use Rattle.book_statements.specs.Exits.{StandsWhileOpen}
+use Rattle.book_statements.specs.Held.{entry_values}
+use Rattle.book_statements.proofs.Asked.{found}
+use Rattle.book_statements.proofs.KeyLemmas.{equal_texts}
 use Rattle.book_tables.proofs.Owned.{told_apart}
-use Rattle.book_tables.proofs.ShowingTexts.{has_text, has_query, has_is, has_reads}
+use Rattle.book_statements.proofs.ShowingTexts.{has_text, has_query, has_is, has_reads}
 
 passing_map : {A B : Type 0} (t : A → Bool) (f : A → B) (xs : List A) → flat_map (λ x. cond (t x) (f x ∷ []) []) xs ≡ map f (filter t xs)
 passing_map t f [] = refl

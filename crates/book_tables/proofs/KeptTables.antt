@@ -10,8 +10,8 @@ use Rattle.sqlite_catalog.specs.Listing.{IsSound}
 use Rattle.sqlite_catalog.proofs.LayoutLemmas.{objects_rise, table_shape}
 use Rattle.sqlite_rules.proofs.ListLemmas.{all_from}
 use Rattle.book_tables.specs.Comparing.{AreTables}
-use Rattle.book_tables.specs.Layout.{IsLayout, book_tables, placed, tree_in}
-use Rattle.book_tables.proofs.Beside.{ours_listed, as_ours}
+use Rattle.book_statements.specs.Layout.{IsLayout, book_tables, placed, tree_in}
+use Rattle.book_statements.proofs.Beside.{ours_listed, as_ours}
 
 pub are_tables : (v : View) (schema : Schema) → IsListed (v.trees catalog_tree) v.shape v.reals → IsOrdered v.shape v.trees → IsSound schema v.trees → IsLayout schema → AreTables (record { schema = schema; trees = v.trees })
 are_tables v schema listed ordered sound lies =

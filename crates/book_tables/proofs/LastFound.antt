@@ -34,21 +34,21 @@ use Rattle.profile.specs.Rows.{OutRow, out_row, outgoing_on, outgoing_rows}
 use Rattle.profile.specs.Tables.{Text, TableRow, outgoing_cells, outgoing_table}
 use Rattle.profile.proofs.HistoryLaws.{history-numbered}
 use Rattle.rules.proofs.SentRows.{next_snoc}
-use Rattle.book_tables.specs.Asking.{OnlyReads, Finds}
-use Rattle.book_tables.specs.Exits.{StandsWhileOpen}
-use Rattle.book_tables.specs.Held.{values, Holds}
-use Rattle.book_tables.specs.Layout.{Others}
-use Rattle.book_tables.specs.Standing.{Outgoing}
-use Rattle.book_tables.proofs.Asked.{found}
-use Rattle.book_tables.proofs.Found.{flat_map-cond}
+use Rattle.book_statements.specs.Asking.{OnlyReads, Finds}
+use Rattle.book_statements.specs.Exits.{StandsWhileOpen}
+use Rattle.book_statements.specs.Held.{values, Holds}
+use Rattle.book_statements.specs.Layout.{Others}
+use Rattle.book_statements.specs.Standing.{Outgoing}
+use Rattle.book_statements.proofs.Asked.{found}
+use Rattle.book_statements.proofs.Found.{flat_map-cond}
 use Rattle.book_tables.proofs.InOrder.{ascending_from_sorted}
-use Rattle.book_tables.proofs.KeyLemmas.{text_itself}
-use Rattle.book_tables.proofs.NeedTexts.{Reads}
-use Rattle.book_tables.proofs.Ordered.{row_number}
+use Rattle.book_statements.proofs.KeyLemmas.{text_itself}
+use Rattle.book_statements.proofs.NeedTexts.{Reads}
+use Rattle.book_statements.proofs.Ordered.{row_number}
 use Rattle.book_tables.proofs.Under.{own_row, table_row}
-use Rattle.book_tables.proofs.Values.{and_true}
-use Rattle.book_tables.proofs.WritingTexts.{where_key}
-use Rattle.book_tables.proofs.Selects.{query_reads}
+use Rattle.book_statements.proofs.Values.{and_true}
+use Rattle.book_statements.proofs.WritingTexts.{where_key}
+use Rattle.book_statements.proofs.Selects.{query_reads}
 
 abbrev pub last_text : List ℕ
 last_text = codes "SELECT n FROM outgoing WHERE who = ?1 ORDER BY n DESC LIMIT 1"

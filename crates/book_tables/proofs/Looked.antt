@@ -15,11 +15,11 @@ use Rattle.rules.specs.Written.{Written}
 use Rattle.store.specs.Replayed.{all_written, is_under}
 use Rattle.rules.proofs.Registers.{who_is}
 use Rattle.store.proofs.Entries.{there_on, recalled_none, recalled_at_place, is_recalled}
-use Rattle.book_tables.specs.Asking.{Finds}
+use Rattle.book_statements.specs.Asking.{Finds}
 use Rattle.book_tables.specs.Contents.{IsContent}
-use Rattle.book_tables.specs.Exits.{StandsWhileOpen}
-use Rattle.book_tables.specs.Recorded.{written_at}
-use Rattle.book_tables.proofs.KnownTexts.{under_text, content_text}
+use Rattle.book_statements.specs.Exits.{StandsWhileOpen}
+use Rattle.book_statements.specs.Recorded.{written_at}
+use Rattle.book_statements.proofs.KnownTexts.{under_text, content_text}
 use Rattle.book_tables.proofs.SentUnder.{content_found, some_content}
 use Rattle.book_tables.proofs.UnderKey.{seq_shown, numbers_of, under_found, find_none, find_some, first_found}
 

@@ -20,24 +20,24 @@ use Rattle.std.specs.List.{list_all}
 use Rattle.rules.specs.Fitting.{is_fitting_row}
 use Rattle.rules.proofs.Fits.{page_fits}
 use Rattle.goods.proofs.Keys.{all_filter}
-use Rattle.book_tables.specs.Asking.{Finds}
-use Rattle.book_tables.specs.Exits.{StandsWhileOpen}
-use Rattle.book_tables.specs.Layout.{stock_layout, lot_expiry_layout, book_trees, expiry_tree}
-use Rattle.book_tables.specs.Dated.{Dated, date_shown, dates_of}
+use Rattle.book_statements.specs.Asking.{Finds}
+use Rattle.book_statements.specs.Exits.{StandsWhileOpen}
+use Rattle.book_statements.specs.Layout.{stock_layout, lot_expiry_layout, book_trees, expiry_tree}
+use Rattle.book_statements.specs.Dated.{Dated, date_shown, dates_of}
 use Rattle.book_tables.specs.Showing.{lot_shown}
-use Rattle.book_tables.specs.Standing.{Stock, LotExpiry, Stands, AreOrdered, filled}
-use Rattle.book_tables.proofs.Asked.{found, found_placed}
+use Rattle.book_statements.specs.Standing.{Stock, LotExpiry, Stands, AreOrdered, filled}
+use Rattle.book_statements.proofs.Asked.{found, found_placed}
 use Rattle.book_tables.proofs.Finding.{rises_kept}
-use Rattle.book_tables.proofs.HoldsLemmas.{are_keyed}
-use Rattle.book_tables.proofs.NeedTexts.{lots_text, lots_columns, pair_order, lots_is, lots_reads, dates_text, dates_columns, dates_query, dates_names, dates_reads}
-use Rattle.book_tables.proofs.ExpiryReads.{dates_is}
-use Rattle.book_tables.proofs.Ordered.{all_ordered, lots_rise}
-use Rattle.book_tables.proofs.DateLemmas.{date_cells, date_key, dates_in, dates_rise}
+use Rattle.book_statements.proofs.HoldsLemmas.{are_keyed}
+use Rattle.book_statements.proofs.NeedTexts.{lots_text, lots_columns, pair_order, lots_is, lots_reads, dates_text, dates_columns, dates_query, dates_names, dates_reads}
+use Rattle.book_statements.proofs.ExpiryReads.{dates_is}
+use Rattle.book_statements.proofs.Ordered.{all_ordered, lots_rise}
+use Rattle.book_statements.proofs.DateLemmas.{date_cells, date_key, dates_in, dates_rise}
 use Rattle.book_tables.proofs.ShownRows.{pairs_ranked, both_equal, text_is}
 use Rattle.book_tables.proofs.Under.{IsUnder, all_rows}
 use Rattle.book_tables.proofs.UnderKey.{equal_bytes}
 use Rattle.book_tables.proofs.UnderTables.{cells_under}
-use Rattle.book_tables.proofs.UpsertLemmas.{only_row}
+use Rattle.book_statements.proofs.UpsertLemmas.{only_row}
 
 abbrev lot_out : LotRow → Output
 lot_out r = (value.Text r.item ∷ value.Text r.lot ∷ [], lot_shown r)

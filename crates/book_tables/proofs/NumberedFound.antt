@@ -38,21 +38,21 @@ use Rattle.rules.specs.Written.{Written, written}
 use Rattle.rules.proofs.Depositors.{partner_of}
 use Rattle.rules.proofs.Registers.{same_who}
 use Rattle.store.specs.Replayed.{written_on, all_written}
-use Rattle.book_tables.specs.Asking.{OnlyReads, Finds}
-use Rattle.book_tables.specs.Exits.{StandsWhileOpen}
-use Rattle.book_tables.specs.Held.{entry_values}
-use Rattle.book_tables.specs.Layout.{Others, beside, book_trees, rules_tree}
-use Rattle.book_tables.specs.Recorded.{numbered_shown, numbered_text, rules_shown, rules_text, written_at, IsRecorded, IsOfPartner}
-use Rattle.book_tables.specs.Standing.{Stands}
-use Rattle.book_tables.proofs.Asked.{found, found_placed}
-use Rattle.book_tables.proofs.RulesReads.{rules_is}
-use Rattle.book_tables.proofs.Found.{flat_map-cond, map-both}
-use Rattle.book_tables.proofs.KeyLemmas.{int_itself, same_int}
+use Rattle.book_statements.specs.Asking.{OnlyReads, Finds}
+use Rattle.book_statements.specs.Exits.{StandsWhileOpen}
+use Rattle.book_statements.specs.Held.{entry_values}
+use Rattle.book_statements.specs.Layout.{Others, beside, book_trees, rules_tree}
+use Rattle.book_statements.specs.Recorded.{numbered_shown, numbered_text, rules_shown, rules_text, written_at, IsRecorded, IsOfPartner}
+use Rattle.book_statements.specs.Standing.{Stands}
+use Rattle.book_statements.proofs.Asked.{found, found_placed}
+use Rattle.book_statements.proofs.RulesReads.{rules_is}
+use Rattle.book_statements.proofs.Found.{flat_map-cond, map-both}
+use Rattle.book_statements.proofs.KeyLemmas.{int_itself, same_int}
 use Rattle.book_tables.proofs.OwnEntries.{each_recorded}
 use Rattle.book_tables.proofs.Owned.{own_written}
 use Rattle.book_tables.proofs.ReadLemmas.{same_text_value, same_number_value, same_some}
-use Rattle.book_tables.proofs.ReadingTexts.{ordered_from}
-use Rattle.book_tables.proofs.Selects.{query_reads}
+use Rattle.book_statements.proofs.ReadingTexts.{ordered_from}
+use Rattle.book_statements.proofs.Selects.{query_reads}
 
 -- The texts.
 

@@ -12,10 +12,10 @@ use Rattle.profile.specs.Tables.{TableRow, book_table, entry_table, entry_rules_
 use Rattle.profile.proofs.RegisterLaws.{entry_table-determines}
 use Rattle.sqlite.specs.declared.types.Value.{Value}
 use Rattle.sqlite.specs.declared.types.Value.TheVariants as value
-use Rattle.book_tables.specs.Held.{value_of, values, first_row, entry_values}
-use Rattle.book_tables.specs.Layout.{placed}
-use Rattle.book_tables.specs.Standing.{StandsIn}
-use Rattle.book_tables.proofs.HoldsLemmas.{same_cells, same_cell}
+use Rattle.book_statements.specs.Held.{value_of, values, first_row, entry_values}
+use Rattle.book_statements.specs.Layout.{placed}
+use Rattle.book_statements.specs.Standing.{StandsIn}
+use Rattle.book_statements.proofs.HoldsLemmas.{same_cells, same_cell}
 
 -- the rows of `entry` and of `entry_rules` are stored as they are
 same_entry : (a b : TableRow) → entry_values a ≡ entry_values b → a ≡ b

@@ -26,23 +26,23 @@ use Rattle.profile.proofs.TextLaws.{same_text}
 use Rattle.goods.specs.Keyed.{shipment_of, number_of}
 use Rattle.rules.specs.Naming.{facts_of}
 use Rattle.store.specs.Open.{open_of, open_on, open_work}
-use Rattle.book_tables.specs.Asking.{Finds}
-use Rattle.book_tables.specs.Exits.{StandsWhileOpen}
-use Rattle.book_tables.specs.Layout.{advice_layout, orders_layout}
+use Rattle.book_statements.specs.Asking.{Finds}
+use Rattle.book_statements.specs.Exits.{StandsWhileOpen}
+use Rattle.book_statements.specs.Layout.{advice_layout, orders_layout}
 use Rattle.book_tables.specs.Needed.{needed_part, open_need}
 use Rattle.book_tables.specs.Showing.{name_shown}
-use Rattle.book_tables.specs.Standing.{Advice, Orders, Stands, AreOrdered, filled}
-use Rattle.book_tables.proofs.Asked.{found}
+use Rattle.book_statements.specs.Standing.{Advice, Orders, Stands, AreOrdered, filled}
+use Rattle.book_statements.proofs.Asked.{found}
 use Rattle.book_tables.proofs.Finding.{rises_kept}
-use Rattle.book_tables.proofs.Found.{map-both}
-use Rattle.book_tables.proofs.HoldsLemmas.{are_keyed}
-use Rattle.book_tables.proofs.KeyLemmas.{equal_numbers}
-use Rattle.book_tables.proofs.OpenTexts.{name_columns, name_order, shipments_text, shipments_is, shipments_reads, numbers_text, numbers_is, numbers_reads}
-use Rattle.book_tables.proofs.Ordered.{all_ordered, advices_rise, orders_rise}
+use Rattle.book_statements.proofs.Found.{map-both}
+use Rattle.book_statements.proofs.HoldsLemmas.{are_keyed}
+use Rattle.book_statements.proofs.KeyLemmas.{equal_numbers}
+use Rattle.book_statements.proofs.OpenTexts.{name_columns, name_order, shipments_text, shipments_is, shipments_reads, numbers_text, numbers_is, numbers_reads}
+use Rattle.book_statements.proofs.Ordered.{all_ordered, advices_rise, orders_rise}
 use Rattle.book_tables.proofs.ShownRows.{texts_ranked, one_equal, text_is}
 use Rattle.book_tables.proofs.Under.{IsUnder, all_rows}
 use Rattle.book_tables.proofs.UnderTables.{cells_under}
-use Rattle.book_tables.proofs.UpsertLemmas.{only_row}
+use Rattle.book_statements.proofs.UpsertLemmas.{only_row}
 
 abbrev name_out : List ℕ → Output
 name_out name = (value.Text name ∷ [], name_shown name)

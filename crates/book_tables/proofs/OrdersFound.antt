@@ -28,24 +28,24 @@ use Rattle.std.specs.List.{list_all}
 use Rattle.rules.specs.Fitting.{is_fitting_line, is_fitting_ordered}
 use Rattle.rules.proofs.Fits.{page_fits}
 use Rattle.book_tables.proofs.Fits.{ordered_fit, reserved_fit}
-use Rattle.book_tables.specs.Asking.{Finds}
-use Rattle.book_tables.specs.Exits.{StandsWhileOpen}
-use Rattle.book_tables.specs.Held.{values}
-use Rattle.book_tables.specs.Layout.{order_line_layout, reservation_layout}
+use Rattle.book_statements.specs.Asking.{Finds}
+use Rattle.book_statements.specs.Exits.{StandsWhileOpen}
+use Rattle.book_statements.specs.Held.{values}
+use Rattle.book_statements.specs.Layout.{order_line_layout, reservation_layout}
 use Rattle.book_tables.specs.Looking.{lines_ordered, lines_reserved}
 use Rattle.book_tables.specs.Showing.{order_shown, order_line_shown, line_shown}
-use Rattle.book_tables.specs.Standing.{Orders, OrderLine, Reservation, Stands, AreOrdered, filled}
-use Rattle.book_tables.proofs.Asked.{found}
+use Rattle.book_statements.specs.Standing.{Orders, OrderLine, Reservation, Stands, AreOrdered, filled}
+use Rattle.book_statements.proofs.Asked.{found}
 use Rattle.book_tables.proofs.Finding.{no_row, first_row, one_key, second_of}
-use Rattle.book_tables.proofs.HoldsLemmas.{are_keyed}
-use Rattle.book_tables.proofs.NeedTexts.{order_text, order_columns, order_is, order_reads, order_lines_text, order_lines_is, order_lines_reads, line_columns, line_order, reserved_text, reserved_columns, reserved_order, reserved_is, reserved_reads, under_where}
-use Rattle.book_tables.proofs.Ordered.{all_ordered, orders_rise, ordered_cells, reserved_cells, reserved_rise, line_pair}
-use Rattle.book_tables.proofs.Rising.{numbers_rise}
+use Rattle.book_statements.proofs.HoldsLemmas.{are_keyed}
+use Rattle.book_statements.proofs.NeedTexts.{order_text, order_columns, order_is, order_reads, order_lines_text, order_lines_is, order_lines_reads, line_columns, line_order, reserved_text, reserved_columns, reserved_order, reserved_is, reserved_reads, under_where}
+use Rattle.book_statements.proofs.Ordered.{all_ordered, orders_rise, ordered_cells, reserved_cells, reserved_rise, line_pair}
+use Rattle.book_statements.proofs.Rising.{numbers_rise}
 use Rattle.book_tables.proofs.ShownRows.{numbers_ranked, number_is, pairs_ranked, both_equal, text_is}
 use Rattle.book_tables.proofs.Under.{IsUnder, each_row, has_row, all_rows}
 use Rattle.book_tables.proofs.UnderKey.{equal_bytes}
 use Rattle.book_tables.proofs.UnderTables.{cells_under, parts_under}
-use Rattle.book_tables.proofs.UpsertLemmas.{only_row}
+use Rattle.book_statements.proofs.UpsertLemmas.{only_row}
 
 -- The order.
 

@@ -20,9 +20,9 @@ use Rattle.rules.proofs.Registers.{who_is}
 use Rattle.store.specs.Replayed.{written_on, all_written}
 use Rattle.store.specs.declared.fault.Fault.{Fault}
 use Rattle.store.specs.declared.fault.Fault.TheVariants.{Store, Reopen, NotThisBook, Device}
-use Rattle.book_tables.specs.Asking.{IsAskFault}
-use Rattle.book_tables.specs.Exits.{StandsWhileOpen}
-use Rattle.book_tables.specs.Recorded.{IsRecorded}
+use Rattle.book_statements.specs.Asking.{IsAskFault}
+use Rattle.book_statements.specs.Exits.{StandsWhileOpen}
+use Rattle.book_statements.specs.Recorded.{IsRecorded}
 use Rattle.book_tables.proofs.Owned.{own_legal}
 
 abbrev IsOf : Who → Entry → Type 0

@@ -9,17 +9,17 @@ use Rattle.store.specs.declared.fault.Fault.{Fault}
 use Rattle.store.specs.declared.fault.Fault.TheVariants.{OutOfMemory, Store, Reopen, NotThisBook, Device}
 use Rattle.profile.specs.Header.{Who}
 use Rattle.profile.specs.Register.{Entry}
-use Rattle.book_tables.specs.Asking.{Asked, Went, IsAsked, IsAskFault}
-use Rattle.book_tables.specs.Exits.{StandsWhileOpen}
-use Rattle.book_tables.specs.Kept.{Kept}
-use Rattle.book_tables.specs.Limits.{Called, CalledOrNone}
-use Rattle.book_tables.specs.Rises.{Rises}
-use Rattle.book_tables.proofs.Asked.{asked_twice}
+use Rattle.book_statements.specs.Asking.{Asked, Went, IsAsked, IsAskFault}
+use Rattle.book_statements.specs.Exits.{StandsWhileOpen}
+use Rattle.book_statements.specs.Kept.{Kept}
+use Rattle.book_statements.specs.Limits.{Called, CalledOrNone}
+use Rattle.book_statements.specs.Rises.{Rises}
+use Rattle.book_statements.proofs.Asked.{asked_twice}
 use Rattle.book_tables.proofs.AskedLater.{fault_later}
 use Rattle.book_tables.proofs.OwnEntries.{shows_none}
-use Rattle.book_tables.proofs.Limited.{spends_none, counts_both, none_after}
-use Rattle.book_tables.proofs.StepLemmas.{on_ok}
-use Rattle.book_tables.proofs.Writes.{same_survives}
+use Rattle.book_statements.proofs.Limited.{spends_none, counts_both, none_after}
+use Rattle.book_statements.proofs.StepLemmas.{on_ok}
+use Rattle.book_statements.proofs.Writes.{same_survives}
 
 -- a query that failed for want of memory
 pub memory_fault : (f : Fault) (old new : State) (refused more : ℕ) → f ≡ OutOfMemory → IsAskFault f old new refused more

@@ -18,20 +18,20 @@ use Rattle.profile.specs.Rows.{OutRow, outgoing_rows, outbox_rows}
 use Rattle.profile.specs.Tables.{Text, TableRow, outgoing_cells, outgoing_table}
 use Rattle.goods.specs.Pages.{document_at}
 use Rattle.goods.proofs.KeyLemmas.{numbers_strict}
-use Rattle.book_tables.specs.Asking.{Finds}
+use Rattle.book_statements.specs.Asking.{Finds}
 use Rattle.book_tables.specs.Contents.{IsContent}
-use Rattle.book_tables.specs.Exits.{StandsWhileOpen}
+use Rattle.book_statements.specs.Exits.{StandsWhileOpen}
 use Rattle.store.specs.Sent.{text_under}
 use Rattle.book_tables.specs.Looking.{IsRowOf}
 use Rattle.book_tables.specs.Showing.{sent_shown, content_shown}
-use Rattle.book_tables.specs.Standing.{Outgoing, Stands}
-use Rattle.book_tables.proofs.Asked.{found}
+use Rattle.book_statements.specs.Standing.{Outgoing, Stands}
+use Rattle.book_statements.proofs.Asked.{found}
 use Rattle.book_tables.proofs.DocumentRows.{no_document, its_document}
 use Rattle.book_tables.proofs.Finding.{no_row, first_row, one_key, one_found, none_passes, not_found}
-use Rattle.book_tables.proofs.KeyLemmas.{equal_numbers}
-use Rattle.book_tables.proofs.KnownTexts.{content_text, content_is, content_reads}
-use Rattle.book_tables.proofs.NeedTexts.{sent_text, sent_columns, sent_is, sent_reads, under_where}
-use Rattle.book_tables.proofs.Ordered.{sent_rise}
+use Rattle.book_statements.proofs.KeyLemmas.{equal_numbers}
+use Rattle.book_statements.proofs.KnownTexts.{content_text, content_is, content_reads}
+use Rattle.book_statements.proofs.NeedTexts.{sent_text, sent_columns, sent_is, sent_reads, under_where}
+use Rattle.book_statements.proofs.Ordered.{sent_rise}
 use Rattle.book_tables.proofs.Places.{none_at_all, not_none}
 use Rattle.book_tables.proofs.Under.{IsUnder, each_row, has_row}
 use Rattle.book_tables.proofs.UnderTables.{cells_under}

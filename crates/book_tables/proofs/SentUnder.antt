@@ -28,18 +28,18 @@ use Rattle.profile.specs.Tables.{Text, TableRow, outgoing_cells, outgoing_table}
 use Rattle.profile.proofs.TextLaws.{same_text}
 use Rattle.goods.specs.Keyed.{rises_by}
 use Rattle.goods.proofs.KeyLemmas.{numbers_strict}
-use Rattle.book_tables.specs.Asking.{Finds}
+use Rattle.book_statements.specs.Asking.{Finds}
 use Rattle.book_tables.specs.Contents.{IsContent}
-use Rattle.book_tables.specs.Held.{values, Holds}
-use Rattle.book_tables.specs.Standing.{Outgoing, Stands}
-use Rattle.book_tables.proofs.Asked.{found}
-use Rattle.book_tables.proofs.KeyLemmas.{text_itself, int_itself, same_int, same_text as equal_text}
-use Rattle.book_tables.proofs.KnownTexts.{content_text, content_query, content_is, content_reads}
-use Rattle.book_tables.proofs.Ordered.{numbers_over, row_number, sent_rise}
+use Rattle.book_statements.specs.Held.{values, Holds}
+use Rattle.book_statements.specs.Standing.{Outgoing, Stands}
+use Rattle.book_statements.proofs.Asked.{found}
+use Rattle.book_statements.proofs.KeyLemmas.{text_itself, int_itself, same_int, same_text as equal_text}
+use Rattle.book_statements.proofs.KnownTexts.{content_text, content_query, content_is, content_reads}
+use Rattle.book_statements.proofs.Ordered.{numbers_over, row_number, sent_rise}
 use Rattle.book_tables.proofs.Parts.{begins, outgoing_part}
-use Rattle.book_tables.proofs.Passing.{flat_map-cond, from_row, to_row, whose}
+use Rattle.book_statements.proofs.Passing.{flat_map-cond, from_row, to_row, whose}
 use Rattle.book_tables.proofs.ShownRows.{begun}
-use Rattle.book_tables.proofs.Values.{and_true}
+use Rattle.book_statements.proofs.Values.{and_true}
 
 -- The model's rows.
 

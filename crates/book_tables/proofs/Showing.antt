@@ -20,13 +20,13 @@ use Rattle.profile.specs.Tables.{Text, TableRow}
 use Rattle.profile.proofs.TextLaws.{same_text}
 use Rattle.goods.specs.Keyed.{rises_by}
 use Rattle.rules.proofs.Blocks.{prefixed}
-use Rattle.book_tables.specs.Held.{values, Holds}
-use Rattle.book_tables.specs.Steps.{key_of}
-use Rattle.book_tables.proofs.KeyLemmas.{text_itself, same_text as equal_text}
+use Rattle.book_statements.specs.Held.{values, Holds}
+use Rattle.book_statements.specs.Steps.{key_of}
+use Rattle.book_statements.proofs.KeyLemmas.{text_itself, same_text as equal_text}
 use Rattle.book_tables.proofs.Parts.{begins}
-use Rattle.book_tables.proofs.ShowingTexts.{shown_where}
+use Rattle.book_statements.proofs.ShowingTexts.{shown_where}
 use Rattle.book_tables.proofs.Sorts.{ordered_is, shown_apart}
-use Rattle.book_tables.proofs.Values.{and_true}
+use Rattle.book_statements.proofs.Values.{and_true}
 
 passing_map : {A B : Type 0} (t : A → Bool) (f : A → B) (xs : List A) → flat_map (λ x. cond (t x) (f x ∷ []) []) xs ≡ map f (filter t xs)
 passing_map t f [] = refl

@@ -27,20 +27,20 @@ use Rattle.profile.specs.Schema.{stock_schema, lot_expiry_schema, outgoing_schem
 use Rattle.goods.specs.Keyed.{row_key, key_before as pairs_in_order}
 use Rattle.goods.proofs.KeyLemmas.{numbers_strict}
 use Rattle.rules.proofs.Blocks.{prefixed}
-use Rattle.book_tables.specs.Held.{Holds}
+use Rattle.book_statements.specs.Held.{Holds}
 use Rattle.sqlite.specs.Schema.{Schema}
-use Rattle.book_tables.specs.Layout.{IsLayout, placed, expiry_tree, stock_layout, lot_expiry_layout, outgoing_layout}
-use Rattle.book_tables.specs.Dated.{Dated, date_shown, dates_of}
+use Rattle.book_statements.specs.Layout.{IsLayout, placed, expiry_tree, stock_layout, lot_expiry_layout, outgoing_layout}
+use Rattle.book_statements.specs.Dated.{Dated, date_shown, dates_of}
 use Rattle.book_tables.specs.Showing.{stock_shown, out_shown}
-use Rattle.book_tables.specs.Standing.{Stock, LotExpiry, Outgoing, AreOrdered, filled}
-use Rattle.book_tables.proofs.HoldsLemmas.{are_keyed}
-use Rattle.book_tables.proofs.Ordered.{all_ordered, lots_rise, sent_rise}
-use Rattle.book_tables.proofs.DateLemmas.{date_cells, date_key, dates_in, dates_rise}
+use Rattle.book_statements.specs.Standing.{Stock, LotExpiry, Outgoing, AreOrdered, filled}
+use Rattle.book_statements.proofs.HoldsLemmas.{are_keyed}
+use Rattle.book_statements.proofs.Ordered.{all_ordered, lots_rise, sent_rise}
+use Rattle.book_statements.proofs.DateLemmas.{date_cells, date_key, dates_in, dates_rise}
 use Rattle.book_tables.proofs.Parts.{stock_part, dates_part, outgoing_part}
-use Rattle.book_tables.proofs.Rising.{each_block}
+use Rattle.book_statements.proofs.Rising.{each_block}
 use Rattle.book_tables.proofs.Showing.{IsShown, shown_rows}
-use Rattle.book_tables.proofs.ShowingTexts.{stock_columns, stock_order, stock_rows_query, all_dates_columns, all_dates_query, outbox_columns, outbox_order, outbox_query}
-use Rattle.book_tables.proofs.UpsertLemmas.{only_row}
+use Rattle.book_statements.proofs.ShowingTexts.{stock_columns, stock_order, stock_rows_query, all_dates_columns, all_dates_query, outbox_columns, outbox_order, outbox_query}
+use Rattle.book_statements.proofs.UpsertLemmas.{only_row}
 
 -- each row of a table of depositors begins with a text
 pub begun : (L : List Entry) (rows : List Entry → List TableRow) (row : TableRow) → Has (for_each L rows) row → (s : List ℕ) × (r : TableRow) × (row ≡ Text s ∷ r)

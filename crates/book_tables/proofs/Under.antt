@@ -23,13 +23,13 @@ use Rattle.profile.specs.Accepted.{IsLegal}
 use Rattle.profile.specs.Tables.{Text, TableRow, for_each}
 use Rattle.profile.proofs.TextLaws.{same_text}
 use Rattle.goods.specs.Keyed.{rises_by}
-use Rattle.book_tables.specs.Held.{values, Holds}
-use Rattle.book_tables.specs.Steps.{key_of}
-use Rattle.book_tables.proofs.Found.{map-both}
-use Rattle.book_tables.proofs.KeyLemmas.{same_text as equal_text}
-use Rattle.book_tables.proofs.NeedTexts.{under_at}
+use Rattle.book_statements.specs.Held.{values, Holds}
+use Rattle.book_statements.specs.Steps.{key_of}
+use Rattle.book_statements.proofs.Found.{map-both}
+use Rattle.book_statements.proofs.KeyLemmas.{same_text as equal_text}
+use Rattle.book_statements.proofs.NeedTexts.{under_at}
 use Rattle.book_tables.proofs.Parts.{begins, part_of}
-use Rattle.book_tables.proofs.Passing.{flat_map-cond, from_row, to_row, whose_at}
+use Rattle.book_statements.proofs.Passing.{flat_map-cond, from_row, to_row, whose_at}
 use Rattle.book_tables.proofs.ShownRows.{begun}
 use Rattle.book_tables.proofs.Sorts.{ordered_is, shown_apart}
 

@@ -27,14 +27,14 @@ use Rattle.profile.proofs.TextLaws.{both_parts}
 use Rattle.rules.specs.Written.{Written, written}
 use Rattle.rules.proofs.Depositors.{partner_of}
 use Rattle.store.specs.Replayed.{written_on, all_written, is_under}
-use Rattle.book_tables.specs.Held.{entry_values}
-use Rattle.book_tables.specs.Standing.{Stands}
-use Rattle.book_tables.specs.Asking.{Finds}
-use Rattle.book_tables.proofs.Asked.{found}
-use Rattle.book_tables.proofs.Found.{flat_map-cond, map-both, entries_rise}
+use Rattle.book_statements.specs.Held.{entry_values}
+use Rattle.book_statements.specs.Standing.{Stands}
+use Rattle.book_statements.specs.Asking.{Finds}
+use Rattle.book_statements.proofs.Asked.{found}
+use Rattle.book_statements.proofs.Found.{flat_map-cond, map-both, entries_rise}
 use Rattle.book_tables.proofs.InOrder.{in_order}
-use Rattle.book_tables.proofs.KeyLemmas.{equal_texts}
-use Rattle.book_tables.proofs.KnownTexts.{under_text, under_query, under_is, under_reads}
+use Rattle.book_statements.proofs.KeyLemmas.{equal_texts}
+use Rattle.book_statements.proofs.KnownTexts.{under_text, under_query, under_is, under_reads}
 use Rattle.book_tables.proofs.Owned.{told_apart}
 
 -- the number of a row

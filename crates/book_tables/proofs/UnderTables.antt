@@ -23,14 +23,14 @@ use Rattle.profile.specs.Tables.{Text, TableRow, for_each}
 use Rattle.profile.proofs.TextLaws.{text_is as bytes_same}
 use Rattle.goods.specs.Keyed.{rises_by}
 use Rattle.goods.proofs.KeyLemmas.{texts_strict}
-use Rattle.book_tables.specs.Held.{values}
+use Rattle.book_statements.specs.Held.{values}
 use Rattle.book_tables.proofs.Finding.{one_found, one_key, flat_has}
-use Rattle.book_tables.proofs.KeyLemmas.{text_itself}
-use Rattle.book_tables.proofs.NeedTexts.{under_at, under_where}
-use Rattle.book_tables.proofs.Rising.{has_flat}
+use Rattle.book_statements.proofs.KeyLemmas.{text_itself}
+use Rattle.book_statements.proofs.NeedTexts.{under_at, under_where}
+use Rattle.book_statements.proofs.Rising.{has_flat}
 use Rattle.book_tables.proofs.Under.{own_row, table_row, IsUnder}
 use Rattle.book_tables.proofs.UnderKey.{equal_bytes}
-use Rattle.book_tables.proofs.Values.{and_true}
+use Rattle.book_statements.proofs.Values.{and_true}
 
 module _ (W : Who) (L : List Entry) (who : Who) (legal : IsLegal Two W L) (partner : is_partner who ≡ true) (rows : List Entry → List TableRow) (nothing : rows [] ≡ []) where
   abbrev t : List ℕ

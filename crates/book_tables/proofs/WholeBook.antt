@@ -19,15 +19,15 @@ use Rattle.sqlite.proofs.Callers.{one_permutation}
 use Rattle.sqlite_rules.specs.Lists.{Has}
 use Rattle.sqlite.specs.Schema.{Schema}
 use Rattle.sqlite.specs.Effect.{Database, IsDatabase}
-use Rattle.book_tables.specs.Layout.{IsLayout, ours, book_trees, rules_tree, entry_rules_at, text, number, blob, book_layout, entry_layout, entry_rules_layout}
+use Rattle.book_statements.specs.Layout.{IsLayout, ours, book_trees, rules_tree, entry_rules_at, text, number, blob, book_layout, entry_layout, entry_rules_layout}
 use Rattle.book_tables.proofs.InOrder.{in_order}
-use Rattle.book_tables.proofs.KeyLemmas.{places}
-use Rattle.book_tables.proofs.Values.{and_true}
-use Rattle.book_tables.proofs.ReadingTexts.{ordered_from}
+use Rattle.book_statements.proofs.KeyLemmas.{places}
+use Rattle.book_statements.proofs.Values.{and_true}
+use Rattle.book_statements.proofs.ReadingTexts.{ordered_from}
 use Rattle.book_tables.proofs.WholeFound.{out, kept_is, stored_shown}
 use Rattle.book_tables.proofs.WholeKeyed.{columns_out}
 use Rattle.book_tables.proofs.WholeRows.{row_full, row_typed, all_columns}
-use Rattle.book_tables.proofs.WholeTexts.{columns_at, rising_at, book_query, entry_query, rules_query}
+use Rattle.book_statements.proofs.WholeTexts.{columns_at, rising_at, book_query, entry_query, rules_query}
 
 -- `book`.
 

@@ -11,13 +11,13 @@ use Rattle.sqlite_value.specs.declared.keys.Key.{Key}
 use Rattle.sqlite_rules.specs.Lists.{Has}
 use Rattle.sqlite_rules.proofs.ListLemmas.{has_contained, contains_had}
 use Rattle.sqlite_rules.proofs.ProbeLemmas.{has_mapped, mapped_has}
-use Rattle.book_tables.specs.declared.comparing.TableName.{TableName}
-use Rattle.book_tables.specs.Asking.{Finds}
-use Rattle.book_tables.specs.Comparing.{whole_text}
-use Rattle.book_tables.specs.Layout.{IsLayout, book_trees}
-use Rattle.book_tables.proofs.Asked.{found_placed}
-use Rattle.book_tables.proofs.ReadingTexts.{ordered_from}
-use Rattle.book_tables.proofs.WholeTexts.{whole_query, whole_names, number_of, over_its_tree, whole_is, whole_reads}
+use Rattle.book_statements.specs.declared.names.TableName.{TableName}
+use Rattle.book_statements.specs.Asking.{Finds}
+use Rattle.book_statements.specs.Whole.{whole_text}
+use Rattle.book_statements.specs.Layout.{IsLayout, book_trees}
+use Rattle.book_statements.proofs.Asked.{found_placed}
+use Rattle.book_statements.proofs.ReadingTexts.{ordered_from}
+use Rattle.book_statements.proofs.WholeTexts.{whole_query, whole_names, number_of, over_its_tree, whole_is, whole_reads}
 
 pub whole_found : (t : TableName) (db : Database) (rows : List Row) → IsLayout db.schema → Finds (whole_text t) [] db rows → IsAnswer (whole_query t) (overlay (book_trees db) []) [] rows
 whole_found t db rows lies h =

@@ -15,15 +15,15 @@ use Rattle.sqlite_rules.specs.Lists.{Has}
 use Rattle.sqlite_rules.proofs.ListLemmas.{all_has}
 use Rattle.profile.specs.Tables.{TableRow}
 use Rattle.book_tables.specs.Comparing.{AreTables}
-use Rattle.book_tables.specs.Held.{values, Holds}
+use Rattle.book_statements.specs.Held.{values, Holds}
 use Rattle.sqlite.specs.Schema.{Schema}
 use Rattle.sqlite.specs.Effect.{Database, IsDatabase}
-use Rattle.book_tables.specs.Layout.{IsLayout, book_tables, book_trees, placed, expiry_tree, lot_expiry_at, text, number, outgoing_layout, stock_layout, advice_layout, advice_line_layout, orders_layout, order_line_layout, reservation_layout}
-use Rattle.book_tables.specs.Standing.{BookTable, Outgoing, Stock, Advice, AdviceLine, Orders, OrderLine, Reservation, LotExpiry, layout_of, tree_of, width_of}
-use Rattle.book_tables.proofs.KeyLemmas.{places}
+use Rattle.book_statements.specs.Layout.{IsLayout, book_tables, book_trees, placed, expiry_tree, lot_expiry_at, text, number, outgoing_layout, stock_layout, advice_layout, advice_line_layout, orders_layout, order_line_layout, reservation_layout}
+use Rattle.book_statements.specs.Standing.{BookTable, Outgoing, Stock, Advice, AdviceLine, Orders, OrderLine, Reservation, LotExpiry, layout_of, tree_of, width_of}
+use Rattle.book_statements.proofs.KeyLemmas.{places}
 use Rattle.book_tables.proofs.WholeFound.{row_stored, stored_shown}
 use Rattle.book_tables.proofs.WholeRows.{row_full, columns_later, all_columns, numbered_row}
-use Rattle.book_tables.proofs.WholeTexts.{columns_at, rising_at, columns_of, keyed_query}
+use Rattle.book_statements.proofs.WholeTexts.{columns_at, rising_at, columns_of, keyed_query}
 
 pub keyed_listed : (t : BookTable) → Has book_tables (layout_of t)
 keyed_listed Outgoing = inr (inr (inl refl))

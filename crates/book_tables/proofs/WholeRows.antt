@@ -17,10 +17,10 @@ use Rattle.sqlite_catalog.specs.Listing.{IsSound}
 use Rattle.sqlite_rules.specs.Lists.{Has}
 use Rattle.sqlite_rules.proofs.ListLemmas.{all_has}
 use Rattle.sqlite.specs.Schema.{Schema}
-use Rattle.book_tables.specs.Layout.{IsLayout, ours}
-use Rattle.book_tables.proofs.Beside.{ours_listed}
-use Rattle.book_tables.proofs.KeyLemmas.{places}
-use Rattle.book_tables.proofs.Values.{and_true}
+use Rattle.book_statements.specs.Layout.{IsLayout, ours}
+use Rattle.book_statements.proofs.Beside.{ours_listed}
+use Rattle.book_statements.proofs.KeyLemmas.{places}
+use Rattle.book_statements.proofs.Values.{and_true}
 
 -- no more values than columns
 typed_short : (key : Option ℕ) (at : ℕ) (cs : List Column) (vs : Row) → are_typed key at cs vs ≡ true → length vs ≤ length cs

@@ -21,20 +21,20 @@ use Rattle.sqlite_catalog.specs.Listing.{IsSound}
 use Rattle.sqlite_rules.specs.Lists.{Has}
 use Rattle.sqlite_rules.proofs.ProbeLemmas.{has_mapped, mapped_has}
 use Rattle.profile.specs.Tables.{TableRow}
-use Rattle.book_tables.specs.Held.{values, Holds}
+use Rattle.book_statements.specs.Held.{values, Holds}
 use Rattle.sqlite.specs.Schema.{Schema}
 use Rattle.sqlite.specs.Effect.{Database, IsDatabase}
-use Rattle.book_tables.specs.Layout.{IsLayout, book_trees, placed, expiry_tree}
-use Rattle.book_tables.specs.Standing.{BookTable, Outgoing, Stock, Advice, AdviceLine, Orders, OrderLine, Reservation, LotExpiry, AreByKey, schema_of, tree_of, width_of}
-use Rattle.book_tables.specs.Steps.{AreKeyed, has_key, key_of}
-use Rattle.book_tables.proofs.HoldsLemmas.{are_keyed}
-use Rattle.book_tables.proofs.KeyLemmas.{places, same_text, same_int, equal_texts, equal_ints}
+use Rattle.book_statements.specs.Layout.{IsLayout, book_trees, placed, expiry_tree}
+use Rattle.book_statements.specs.Standing.{BookTable, Outgoing, Stock, Advice, AdviceLine, Orders, OrderLine, Reservation, LotExpiry, AreByKey, schema_of, tree_of, width_of}
+use Rattle.book_statements.specs.Steps.{AreKeyed, has_key, key_of}
+use Rattle.book_statements.proofs.HoldsLemmas.{are_keyed}
+use Rattle.book_statements.proofs.KeyLemmas.{places, same_text, same_int, equal_texts, equal_ints}
 use Rattle.book_tables.proofs.Sorts.{sorted_apart, sorted_same, shown_apart}
-use Rattle.book_tables.proofs.UpsertLemmas.{only_row}
+use Rattle.book_statements.proofs.UpsertLemmas.{only_row}
 use Rattle.book_tables.proofs.WholeFound.{out, kept_is, into, back}
 use Rattle.book_tables.proofs.WholeKeyed.{keyed_lies, columns_out, sorted_out}
 use Rattle.book_tables.proofs.WholeRows.{columns_later}
-use Rattle.book_tables.proofs.WholeTexts.{columns_at, rising_at, columns_of, keyed_query}
+use Rattle.book_statements.proofs.WholeTexts.{columns_at, rising_at, columns_of, keyed_query}
 
 -- Keys that tie are the same.
 

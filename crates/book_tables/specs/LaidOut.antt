@@ -5,7 +5,7 @@ use Rattle.sqlite_schema.specs.declared.schema.Column.{Column}
 use Rattle.sqlite_schema.specs.declared.schema.Kind.{Kind}
 use Rattle.sqlite.specs.Kind.TheVariants.{Integer, Text, Blob}
 use Rattle.profile.specs.Schema.{Schema, TableColumn, ColumnType, OfNumbers, OfTexts, OfBlobs}
-use Rattle.book_tables.specs.Layout.{column_of}
+use Rattle.book_statements.specs.Layout.{column_of}
 
 abbrev pub kind_of : ColumnType → Kind
 kind_of OfNumbers = Integer

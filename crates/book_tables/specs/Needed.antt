@@ -13,8 +13,8 @@ use Rattle.stock.specs.Parts.{Named, part_of}
 use Rattle.rules.specs.Naming.{facts_of}
 use Rattle.store.specs.Open.{OpenWork}
 use Rattle.store.specs.declared.fault.Fault.{Fault}
-use Rattle.book_tables.specs.Exits.{StandsWhileOpen}
-use Rattle.book_tables.specs.Kept.{Kept}
+use Rattle.book_statements.specs.Exits.{StandsWhileOpen}
+use Rattle.book_statements.specs.Kept.{Kept}
 use Rattle.book_tables.specs.declared.needed.Sought.{Sought}
 use Rattle.book_tables.specs.declared.needed.Sought.TheVariants.{Advice, Order, Lots}
 

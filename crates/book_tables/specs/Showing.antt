@@ -10,7 +10,7 @@ use Rattle.rules.specs.declared.kinds.OutKind.{OutKind}
 use Rattle.store.specs.declared.rows.DocumentState.{DocumentState}
 use Rattle.rules.specs.Kinds.{kind_text}
 use Rattle.store.specs.Sent.{state_name}
-use Rattle.book_tables.specs.Held.{value_of, values}
+use Rattle.book_statements.specs.Held.{value_of, values}
 
 -- item, lot, expected, on_hand, reserved, shipped: all but the date
 abbrev pub stock_shown : StockRow → Row

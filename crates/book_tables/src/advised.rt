@@ -4,7 +4,7 @@ ghost use Rattle.profile.specs.Limits.{most_lines};
 ghost use Rattle.profile.specs.Page.{PageAdvice, page_of};
 ghost use Rattle.profile.specs.Register as register;
 ghost use Rattle.goods.specs.Pages.{advice_at};
-ghost use Rattle.book_tables.specs.Asking.{Asked, OfStanding};
+ghost use Rattle.book_statements.specs.Asking.{Asked, OfStanding};
 ghost use Rattle.book_tables.specs.Looking.{bare_advice, lines_advised};
 ghost use Rattle.book_tables.specs.Showing.{advice_shown};
 

@@ -4,9 +4,9 @@ ghost use Rattle.profile.specs.Register as register;
 ghost use Rattle.sqlite.specs.Held.{state};
 ghost use Rattle.sqlite.specs.Order.{Row as Cells};
 ghost use Rattle.sqlite.specs.State.{HasCleanDisk};
-ghost use Rattle.book_tables.specs.Asking.{Finds, IsAsked, OfStandingAs, house_text};
-ghost use Rattle.book_tables.specs.Limits.{Called, CalledOrNone};
-ghost use Rattle.book_tables.specs.Recorded.{IsHouse};
+ghost use Rattle.book_statements.specs.Asking.{Finds, IsAsked, OfStandingAs, house_text};
+ghost use Rattle.book_statements.specs.Limits.{Called, CalledOrNone};
+ghost use Rattle.book_statements.specs.Recorded.{IsHouse};
 
 use crate::connected::Tables;
 use crate::reading::house_of;
@@ -18,7 +18,7 @@ use store::Fault;
 impl<S: Alter + Drop> Tables<S> {
     /// The version and the warehouse of the book. 43 where `book` hasn't one row, or that row has
     /// no version that is read or no warehouse.
-    #[tactic(auto, using(crate::proofs::Limited::spends_both, crate::proofs::Limited::spends_same))]
+    #[tactic(auto, using(book_statements::proofs::Limited::spends_both, book_statements::proofs::Limited::spends_same))]
     pub(crate) fn house(&mut self) -> Result<(Rules, Warehouse), Fault>
         ensures house { HasCleanDisk (state S.Store self.new.conn)
             → IfOk result (λ h. (rows : List Cells) × Finds house_text []
@@ -43,7 +43,7 @@ impl<S: Alter + Drop> Tables<S> {
     }
 
     /// How many entries there are.
-    #[tactic(auto, using(crate::proofs::Limited::spends_both, crate::proofs::Limited::spends_same))]
+    #[tactic(auto, using(book_statements::proofs::Limited::spends_both, book_statements::proofs::Limited::spends_same))]
     pub(crate) fn count(&mut self) -> Result<u64, Fault>
         ensures few { IfOk result (λ n. n < 2 ^ 63) }
         ensures count { OfStandingAs S.Store self.old self.new
@@ -56,7 +56,7 @@ impl<S: Alter + Drop> Tables<S> {
     }
 
     /// The version and the warehouse of the book, and how many entries there are.
-    #[tactic(auto, using(crate::proofs::Limited::spends_both, crate::proofs::Limited::spends_same))]
+    #[tactic(auto, using(book_statements::proofs::Limited::spends_both, book_statements::proofs::Limited::spends_same))]
     pub fn found(&mut self) -> Result<((Rules, Warehouse), u64), Fault>
         ensures few { IfOk result (λ found. found.1 < 2 ^ 63) }
         ensures house { HasCleanDisk (state S.Store self.new.conn)

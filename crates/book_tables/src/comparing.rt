@@ -4,33 +4,18 @@ ghost use Rattle.profile.specs.Register as register;
 ghost use Rattle.sqlite.specs.Held.{state};
 ghost use Rattle.sqlite.specs.Order.{column};
 ghost use Rattle.sqlite.specs.State.{HasCleanDisk};
-ghost use Rattle.book_tables.specs.Asking.{Asked, IsAsked, OnlyReads};
-ghost use Rattle.book_tables.specs.Comparing as comparing;
+ghost use Rattle.book_statements.specs.Asking.{Asked, IsAsked, OnlyReads};
+ghost use Rattle.book_statements.specs.Whole as whole;
 ghost use Rattle.book_tables.specs.Comparing.{AreTables, Compares, IsLaid, ShowBoth, number_of};
-ghost use Rattle.book_tables.specs.Exits.{StandsWhileOpen};
-ghost use Rattle.book_tables.specs.Limits.{Counts};
-ghost use Rattle.book_tables.specs.Standing.{Stands};
+ghost use Rattle.book_statements.specs.Exits.{StandsWhileOpen};
+ghost use Rattle.book_statements.specs.Limits.{Counts};
+ghost use Rattle.book_statements.specs.Standing.{Stands};
 
 use crate::connected::Tables;
+use book_statements::TableName;
 use sqlite::{Alter, Row};
 use sqlite_value::order::is_same;
 use store::Fault;
-
-/// One of the tables of a book.
-#[derive(Clone, Copy)]
-pub(crate) enum TableName {
-    Book,
-    Entry,
-    Outgoing,
-    Stock,
-    Advice,
-    AdviceLine,
-    Orders,
-    OrderLine,
-    Reservation,
-    EntryRules,
-    LotExpiry,
-}
 
 // The table that is compared as this one, from 0 on.
 fn table_at(number: usize) -> TableName
@@ -53,7 +38,7 @@ fn table_at(number: usize) -> TableName
 
 // The text that asks for all that a table has, in the order of its keys.
 fn whole_text(table: TableName) -> &'static str
-    ensures { result.now ≡ comparing.whole_text table }
+    ensures { result.now ≡ whole.whole_text table }
 {
     match table {
         TableName::Book => "SELECT rowid, version, qualifier, id FROM book",
@@ -132,7 +117,7 @@ fn are_same_rows(rows: &[Row], others: &[Row]) -> bool
 impl<S: Alter + Drop> Tables<S> {
     // Whether a text that only reads the book's tables answers the same rows there. A fault of the
     // other tables is 40, and no call of these is counted for it.
-    #[tactic(auto, using(crate::proofs::Limited::spends_same))]
+    #[tactic(auto, using(book_statements::proofs::Limited::spends_same))]
     fn shows_the_same<T: Alter + Drop>(
         &mut self,
         other: &mut Tables<T>,

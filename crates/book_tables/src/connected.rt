@@ -6,20 +6,16 @@ ghost use Rattle.profile.specs.Register as register;
 ghost use Rattle.sqlite.specs.State.{HasCleanDisk, IsLive, Survives};
 ghost use Rattle.sqlite.specs.Held.{state};
 ghost use Rattle.sqlite.specs.Values.{bound};
-ghost use Rattle.book_tables.specs.Asking.{Finds, IsAsked, OnlyReads};
-ghost use Rattle.book_tables.specs.Carrying.{CarriesOver, StandsOpenAs};
-ghost use Rattle.book_tables.specs.Exits.{IsAppended, HasGrown, Extends, IsAsBefore, LeavesIt};
-ghost use Rattle.book_tables.specs.Limits.{Called, Spent};
-ghost use Rattle.book_tables.specs.Layout.{no_layout};
-ghost use Rattle.book_tables.specs.Making.{Makes};
-ghost use Rattle.book_tables.specs.Rises.{Rises};
-ghost use Rattle.book_tables.specs.Standing.{StandsIn};
+ghost use Rattle.book_statements.specs.Asking.{Finds, IsAsked, OnlyReads};
+ghost use Rattle.book_statements.specs.Carrying.{CarriesOver, StandsOpenAs};
+ghost use Rattle.book_statements.specs.Exits.{IsAppended, HasGrown, Extends, IsAsBefore, LeavesIt};
+ghost use Rattle.book_statements.specs.Limits.{Called, Spent};
+ghost use Rattle.book_statements.specs.Layout.{no_layout};
+ghost use Rattle.book_statements.specs.Making.{Makes};
+ghost use Rattle.book_statements.specs.Rises.{Rises};
+ghost use Rattle.book_statements.specs.Standing.{StandsIn};
 
-use crate::appending::write_entry;
-use crate::calls::Calls;
-use crate::carrying::carry_all;
-use crate::making::make_all;
-use crate::running::commit;
+use book_statements::{Calls, carry_all, commit, make_all, write_entry};
 use rules::{Change, Entry, Warehouse};
 use sqlite::types::ValueRef;
 use sqlite::{Alter, Connection, Row};
@@ -37,7 +33,7 @@ pub struct Tables<S: Alter + Drop> {
 
 impl<S: Alter + Drop> Model for Tables<S> {
     ghost use Rattle.std.specs.Prelude.{◌≡◌, false};
-    ghost use Rattle.book_tables.specs.Kept.{Kept, kept_code};
+    ghost use Rattle.book_statements.specs.Kept.{Kept, kept_code};
 
     ghost Value = { Kept S };
 
@@ -129,7 +125,7 @@ impl<S: Alter + Drop> Tables<S> {
 
     /// The rows that a text answers which only reads, under any schema: the tables are as they
     /// were. A refused call is 40 or 41, and counts.
-    #[tactic(auto, using(crate::proofs::Limited::spends_both, crate::proofs::Limited::spends_same))]
+    #[tactic(auto, using(book_statements::proofs::Limited::spends_both, book_statements::proofs::Limited::spends_same))]
     pub(crate) fn ask(&mut self, sql: &str, params: &[ValueRef<'_>]) -> Result<Vec<Row>, Fault>
         requires { OnlyReads sql.now }
         ensures finds { HasCleanDisk (state S.Store self.new.conn)
@@ -161,7 +157,7 @@ impl<S: Alter + Drop> Tables<S> {
 
     /// Appends an entry under the next number, with what its command changes and what goes out for
     /// it, in one transaction.
-    #[tactic(auto, using(crate::proofs::Limited::spends_both, crate::proofs::Limited::spends_same))]
+    #[tactic(auto, using(book_statements::proofs::Limited::spends_both, book_statements::proofs::Limited::spends_same))]
     pub fn append<'a>(
         &mut self,
         seq: u64,
@@ -195,7 +191,7 @@ impl<S: Alter + Drop> Tables<S> {
 
     /// Makes the tables of an empty register of the warehouse, of a book of version 2, in one
     /// transaction.
-    #[tactic(auto, using(crate::proofs::Limited::spends_both, crate::proofs::Limited::spends_same))]
+    #[tactic(auto, using(book_statements::proofs::Limited::spends_both, book_statements::proofs::Limited::spends_same))]
     pub fn make(&mut self, warehouse: &Warehouse) -> Result<(), Fault>
         ensures ok { HasCleanDisk (state S.Store self.new.conn)
             → OnOk result (Makes (state S.Store self.old.conn) (state S.Store self.new.conn)
@@ -220,7 +216,7 @@ impl<S: Alter + Drop> Tables<S> {
 
     /// Carries a book of version 1, which has so many entries, over to version 2, in one
     /// transaction. Of its entries `told` is handed how many were gone over of how many.
-    #[tactic(auto, using(crate::proofs::Limited::spends_both, crate::proofs::Limited::spends_same))]
+    #[tactic(auto, using(book_statements::proofs::Limited::spends_both, book_statements::proofs::Limited::spends_same))]
     pub fn carry_over<T: FnMut(u64, u64)>(&mut self, entries: u64, told: T) -> Result<(), Fault>
         requires few { entries < 2 ^ 63 }
         requires told { T.IsAlwaysCallable told }

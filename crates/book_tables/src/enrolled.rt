@@ -9,12 +9,12 @@ ghost use Rattle.sqlite.specs.declared.types.Value.TheVariants as value;
 ghost use Rattle.sqlite.specs.Held.{state};
 ghost use Rattle.sqlite.specs.State.{HasCleanDisk};
 ghost use Rattle.store.specs.Open.{enrolled};
-ghost use Rattle.book_tables.specs.Asking.{Asked, Finds, OfStanding};
+ghost use Rattle.book_statements.specs.Asking.{Asked, Finds, OfStanding};
 ghost use Rattle.book_tables.specs.Enrolments.{EnrolmentFacts, IsFirstFrom, enrolment_shown, enrolment_text, enrolments, next_text};
 
 use crate::connected::Tables;
 use crate::reading::{number_at, text_at};
-use crate::texts::partner_text;
+use book_statements::partner_text;
 use rules::Who;
 use sqlite::types::ValueRef;
 use sqlite::{Alter, Row};

@@ -6,8 +6,8 @@ ghost use Rattle.profile.specs.Register.{Entry};
 ghost use Rattle.profile.specs.Schema.{schemas};
 ghost use Rattle.sqlite.specs.Tree.{Trees};
 ghost use Rattle.book_tables.specs.LaidOut.{AreLaidOut};
-ghost use Rattle.book_tables.specs.Layout.{book_tables};
-ghost use Rattle.book_tables.specs.Standing.{StandsIn};
+ghost use Rattle.book_statements.specs.Layout.{book_tables};
+ghost use Rattle.book_statements.specs.Standing.{StandsIn};
 
 /// Each table of the book has the name, the columns and the key that the definitions give it.
 pub fn tables_are_laid_out_as_defined()

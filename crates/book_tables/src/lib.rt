@@ -3,11 +3,7 @@
 #![tactic(auto)]
 
 mod advised;
-mod appending;
 mod asking;
-mod calls;
-mod carrying;
-mod changing;
 mod comparing;
 mod connected;
 mod dates;
@@ -16,7 +12,6 @@ pub mod laws;
 mod line_rows;
 mod looking;
 mod lots;
-mod making;
 mod needed;
 mod numbered;
 mod numbers;
@@ -25,14 +20,10 @@ mod opening;
 mod orders;
 mod reading;
 mod recalled;
-mod recording;
-mod running;
 mod sent;
 mod shown;
 mod stocked;
 mod taken;
-mod texts;
-mod writing;
 
+pub use book_statements::partner_text;
 pub use connected::Tables;
-pub use texts::partner_text;

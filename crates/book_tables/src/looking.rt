@@ -4,10 +4,10 @@ ghost use Rattle.sqlite.specs.declared.types.Value.TheVariants as value;
 ghost use Rattle.sqlite.specs.Held.{state};
 ghost use Rattle.sqlite.specs.State.{HasCleanDisk, IsLive};
 ghost use Rattle.sqlite.specs.Values.{bound};
-ghost use Rattle.book_tables.specs.Asking.{Asked, Finds, OnlyReads};
+ghost use Rattle.book_statements.specs.Asking.{Asked, Finds, OnlyReads};
 
 use crate::connected::Tables;
-use crate::texts::partner_text;
+use book_statements::partner_text;
 use rules::Who;
 use sqlite::types::ValueRef;
 use sqlite::{Alter, Row};

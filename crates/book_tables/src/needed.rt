@@ -11,7 +11,7 @@ ghost use Rattle.profile.specs.Page.{page_of};
 ghost use Rattle.goods.specs.Keyed.{put_row};
 ghost use Rattle.rules.specs.Decided.{IsHeldAtRest};
 ghost use Rattle.rules.specs.Naming.{facts_of, named_of};
-ghost use Rattle.book_tables.specs.Asking.{Asked, OfStanding, Went};
+ghost use Rattle.book_statements.specs.Asking.{Asked, OfStanding, Went};
 ghost use Rattle.book_tables.specs.Needed.{Gathers, needed_part, none_named, part_for, with_number, with_numbers, with_text, with_texts};
 
 use crate::connected::Tables;

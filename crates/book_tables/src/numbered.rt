@@ -6,8 +6,8 @@ ghost use Rattle.sqlite.specs.Held.{state};
 ghost use Rattle.sqlite.specs.State.{HasCleanDisk};
 ghost use Rattle.sqlite.specs.Values.{bound};
 ghost use Rattle.store.specs.Replayed.{all_written};
-ghost use Rattle.book_tables.specs.Asking.{Asked, Finds, OfStanding};
-ghost use Rattle.book_tables.specs.Recorded.{IsOfPartner, numbered_shown, numbered_text, rules_text, written_at};
+ghost use Rattle.book_statements.specs.Asking.{Asked, Finds, OfStanding};
+ghost use Rattle.book_statements.specs.Recorded.{IsOfPartner, numbered_shown, numbered_text, rules_text, written_at};
 
 use crate::connected::Tables;
 use crate::reading::{blob_at, moment_of, rules_in, small_at, text_at};

@@ -5,7 +5,7 @@ ghost use Rattle.profile.specs.Rows.{OutRow, state_text};
 ghost use Rattle.sqlite.specs.Held.{state};
 ghost use Rattle.sqlite.specs.State.{HasCleanDisk};
 ghost use Rattle.goods.specs.Pages.{document_at};
-ghost use Rattle.book_tables.specs.Asking.{Asked, OfStanding};
+ghost use Rattle.book_statements.specs.Asking.{Asked, OfStanding};
 ghost use Rattle.book_tables.specs.Looking.{function_as, IsRowOf};
 ghost use Rattle.store.specs.Sent.{text_under};
 ghost use Rattle.book_tables.specs.Showing.{sent_shown};

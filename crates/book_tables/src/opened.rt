@@ -4,7 +4,7 @@ ghost use Rattle.std.specs.Prelude.{◌≡◌, ℕ, List, Some, IfOk, map, optio
 ghost use Rattle.profile.specs.Register as register;
 ghost use Rattle.goods.specs.Keyed.{number_of, shipment_of};
 ghost use Rattle.store.specs.Open.{open_of, open_on, open_work};
-ghost use Rattle.book_tables.specs.Asking.{Asked, OfStanding};
+ghost use Rattle.book_statements.specs.Asking.{Asked, OfStanding};
 ghost use Rattle.book_tables.specs.Needed as needed;
 ghost use Rattle.book_tables.specs.Showing.{name_shown};
 

@@ -5,7 +5,7 @@ ghost use Rattle.profile.specs.Page.{PageLine, PageOrder, page_of};
 ghost use Rattle.profile.specs.Register as register;
 ghost use Rattle.goods.specs.Pages.{order_at};
 ghost use Rattle.rules.specs.Fitting.{is_fitting_ordered};
-ghost use Rattle.book_tables.specs.Asking.{Asked, OfStanding};
+ghost use Rattle.book_statements.specs.Asking.{Asked, OfStanding};
 ghost use Rattle.book_tables.specs.Looking.{bare_order, lines_ordered, lines_reserved};
 ghost use Rattle.book_tables.specs.Showing.{order_shown, order_line_shown};
 

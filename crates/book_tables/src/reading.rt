@@ -9,10 +9,10 @@ ghost use Rattle.sqlite.specs.Order.{column};
 ghost use Rattle.sqlite.specs.declared.types.Value.TheVariants.{Int, Text, Blob};
 ghost use Rattle.sqlite_value.specs.Value.{owned};
 ghost use Rattle.rules.specs.Written.{Written};
-ghost use Rattle.book_tables.specs.Held.{value_of};
-ghost use Rattle.book_tables.specs.Recorded.{IsHouse, rules_shown};
+ghost use Rattle.book_statements.specs.Held.{value_of};
+ghost use Rattle.book_statements.specs.Recorded.{IsHouse, rules_shown};
 
-use crate::texts::moment_text;
+use book_statements::moment_text;
 use profile::Rules;
 use rules::{Moment, Warehouse, Who};
 use sqlite::Row;

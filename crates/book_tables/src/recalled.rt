@@ -4,7 +4,7 @@ ghost use Rattle.profile.specs.Register as register;
 ghost use Rattle.profile.specs.Reply.{out};
 ghost use Rattle.rules.specs.Decided.{IsRecalled};
 ghost use Rattle.store.specs.Known.{first_under};
-ghost use Rattle.book_tables.specs.Asking.{Asked, OfStanding};
+ghost use Rattle.book_statements.specs.Asking.{Asked, OfStanding};
 ghost use Rattle.book_tables.specs.Contents.{IsContent};
 
 use crate::connected::Tables;

@@ -8,7 +8,7 @@ ghost use Rattle.sqlite.specs.Order.{column};
 ghost use Rattle.sqlite_rules.specs.Lists.{Has};
 ghost use Rattle.rules.specs.Kinds.{kind_text};
 ghost use Rattle.store.specs.Sent.{state_name};
-ghost use Rattle.book_tables.specs.Asking.{Asked, OfStanding};
+ghost use Rattle.book_statements.specs.Asking.{Asked, OfStanding};
 ghost use Rattle.book_tables.specs.Showing.{out_shown, HasText, IsSent};
 
 use crate::connected::Tables;

@@ -2,7 +2,7 @@ ghost use Rattle.std.specs.Prelude.{◌≡◌, IfOk, option_map};
 ghost use Rattle.profile.specs.Register as register;
 ghost use Rattle.profile.specs.Rows as meant;
 ghost use Rattle.store.specs.Sent.{text_of};
-ghost use Rattle.book_tables.specs.Asking.{Asked, OfStanding};
+ghost use Rattle.book_statements.specs.Asking.{Asked, OfStanding};
 
 use crate::connected::Tables;
 use rules::Who;

@@ -6,8 +6,8 @@ use Rattle.profile.specs.Header.{Who}
 use Rattle.profile.specs.Register.{Entry}
 use Rattle.store.specs.declared.fault.Fault.{Fault}
 use Rattle.store.specs.Standing.{IsUnchanged, IsUsable, IsQueryFault}
-use Rattle.book_tables.specs.Asking.{IsAsked, IsAskFault}
-use Rattle.book_tables.specs.Exits.{StandsWhileOpen}
+use Rattle.book_statements.specs.Asking.{IsAsked, IsAskFault}
+use Rattle.book_statements.specs.Exits.{StandsWhileOpen}
 use Rattle.books.specs.Keeping.{IsKept, IsSettled, standing_in}
 use Rattle.book_tables.proofs.AskedLater.{stands_later}
 

@@ -9,11 +9,11 @@ use Rattle.rules.specs.Written.{Written}
 use Rattle.stock.specs.declared.steps.Change as stock
 use Rattle.profile.specs.Register.{Entry}
 use Rattle.store.specs.Standing.{IsUsable, IsNext, LeavesEither}
-use Rattle.book_tables.specs.Standing.{StandsIn}
-use Rattle.book_tables.specs.Exits.{IsAppended, HasGrown, LeavesIt, StandsWhileOpen}
+use Rattle.book_statements.specs.Standing.{StandsIn}
+use Rattle.book_statements.specs.Exits.{IsAppended, HasGrown, LeavesIt, StandsWhileOpen}
 use Rattle.books.specs.Keeping.{IsKept, IsSettled, standing_in}
 use Rattle.book_tables.proofs.Growing.{stands_in}
-use Rattle.book_tables.proofs.Ordered.{all_ordered}
+use Rattle.book_statements.proofs.Ordered.{all_ordered}
 use Rattle.book_tables.proofs.OneRegister.{stands_once}
 
 -- the tables of a register are kept

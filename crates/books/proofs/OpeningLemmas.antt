@@ -13,12 +13,12 @@ use Rattle.profile.specs.Header.{Who}
 use Rattle.profile.specs.Register.{Entry}
 use Rattle.store.specs.declared.fault.Fault.{Fault}
 use Rattle.store.specs.Standing.{IsUsable}
-use Rattle.book_tables.specs.Asking.{IsAsked, IsOfFirst, Finds, house_text}
-use Rattle.book_tables.specs.Carrying.{CarriesOver, LeavesCarried, StandsOpenAs}
-use Rattle.book_tables.specs.Exits.{LeavesIt}
-use Rattle.book_tables.specs.Kept.{Kept}
-use Rattle.book_tables.specs.Recorded.{IsHouse}
-use Rattle.book_tables.proofs.Carried.{stands_open_later}
+use Rattle.book_statements.specs.Asking.{IsAsked, IsOfFirst, Finds, house_text}
+use Rattle.book_statements.specs.Carrying.{CarriesOver, LeavesCarried, StandsOpenAs}
+use Rattle.book_statements.specs.Exits.{LeavesIt}
+use Rattle.book_statements.specs.Kept.{Kept}
+use Rattle.book_statements.specs.Recorded.{IsHouse}
+use Rattle.book_statements.proofs.Carried.{stands_open_later}
 use Rattle.books.specs.Carrying.{AllStandAs, BringsUp, OpensAs}
 use Rattle.books.specs.Keeping.{standing_in}
 use Rattle.books.proofs.AskedBooks.{opened_usable}

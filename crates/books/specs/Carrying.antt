@@ -10,11 +10,11 @@ use Rattle.profile.specs.declared.rules.Rules.TheVariants.{One, Two}
 use Rattle.profile.specs.Header.{Who}
 use Rattle.profile.specs.Register.{Entry}
 use Rattle.store.specs.declared.fault.Fault.{Fault}
-use Rattle.book_tables.specs.Asking.{IsAsked, IsOfFirst}
-use Rattle.book_tables.specs.Carrying.{CarriesOver, StandsInAs, StandsOpenAs}
-use Rattle.book_tables.specs.Exits.{LeavesIt}
-use Rattle.book_tables.specs.Kept.{Kept}
-use Rattle.book_tables.specs.Standing.{StandsIn}
+use Rattle.book_statements.specs.Asking.{IsAsked, IsOfFirst}
+use Rattle.book_statements.specs.Carrying.{CarriesOver, StandsInAs, StandsOpenAs}
+use Rattle.book_statements.specs.Exits.{LeavesIt}
+use Rattle.book_statements.specs.Kept.{Kept}
+use Rattle.book_statements.specs.Standing.{StandsIn}
 
 -- tables of version 1 with so many entries are carried over, and those of version 2 stay as they are
 pub record BringsUp {S T : Type 0} (store : Ghosts S) (version : Rules) (entries : ℕ) (old new : Kept S) (result : Result T Fault) : Type 0 where

@@ -7,7 +7,7 @@ use Rattle.profile.specs.Header.{Who}
 use Rattle.profile.specs.Register.{Entry}
 use Rattle.profile.specs.Accepted.{IsLegal}
 use Rattle.store.specs.Standing.{Standing}
-use Rattle.book_tables.specs.Exits.{AllStand, LeavesStanding, StandsWhileOpen}
+use Rattle.book_statements.specs.Exits.{AllStand, LeavesStanding, StandsWhileOpen}
 
 -- the register has so many entries, and the tables stand for it while the store is open
 pub record IsKept (s : State) (W : Who) (entries : ℕ) (L : List Entry) : Type 0 where

@@ -5,7 +5,7 @@ use Rattle.sqlite.specs.Store.{Ghosts}
 use Rattle.sqlite.specs.Held.{state}
 use Rattle.profile.specs.Header.{Who}
 use Rattle.store.specs.Standing.{Standing}
-use Rattle.book_tables.specs.Kept.{Kept, kept_code}
+use Rattle.book_statements.specs.Kept.{Kept, kept_code}
 use Rattle.books.specs.Keeping.{standing_in}
 
 pub record Opened (S : Type 0) : Type 0 where

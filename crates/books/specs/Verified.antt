@@ -14,8 +14,8 @@ use Rattle.profile.specs.Header.{Who}
 use Rattle.profile.specs.Register.{Entry}
 use Rattle.profile.specs.Accepted.{IsLegal}
 use Rattle.store.specs.Standing.{Standing, IsUsable}
-use Rattle.book_tables.specs.Exits.{StandsWhileOpen}
-use Rattle.book_tables.specs.Standing.{Stands}
+use Rattle.book_statements.specs.Exits.{StandsWhileOpen}
+use Rattle.book_statements.specs.Standing.{Stands}
 
 -- the rules of the last of these entries, or those before it
 abbrev pub last_rules : Rules → List Entry → Rules

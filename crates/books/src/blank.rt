@@ -2,7 +2,7 @@
 ghost use Rattle.std.specs.Prelude.{◌≡◌, ◌≢◌, [], true, false, IfErr, IfOk};
 ghost use Rattle.sqlite.specs.Held.{state};
 ghost use Rattle.store.specs.Standing.{IsUsable};
-ghost use Rattle.book_tables.specs.Layout.{no_layout};
+ghost use Rattle.book_statements.specs.Layout.{no_layout};
 ghost use Rattle.books.specs.Opened.{standing_of};
 ghost use Rattle.books.specs.Verified.{over_ram};
 

@@ -14,20 +14,20 @@ ghost use Rattle.store.specs.Held.{IsHeld};
 ghost use Rattle.store.specs.Known.{first_under};
 ghost use Rattle.store.specs.Sent.{text_of};
 ghost use Rattle.store.specs.Standing.{IsUsable, IsUnchanged, IsQueryFault, IsNext, IsFault, IsCommitFault, LeavesEither, GoesOn, OfKept};
-ghost use Rattle.book_tables.specs.Asking.{Finds, IsAsked, house_text};
-ghost use Rattle.book_tables.specs.Carrying.{LeavesCarried, StandsOpenAs};
-ghost use Rattle.book_tables.specs.Exits.{IsAsBefore};
+ghost use Rattle.book_statements.specs.Asking.{Finds, IsAsked, house_text};
+ghost use Rattle.book_statements.specs.Carrying.{LeavesCarried, StandsOpenAs};
+ghost use Rattle.book_statements.specs.Exits.{IsAsBefore};
 ghost use Rattle.book_tables.specs.Comparing.{AreTables, IsLaid};
 ghost use Rattle.books.specs.Carrying.{AllStandAs, BringsUp, OpensAs};
 ghost use Rattle.books.specs.Keeping.{IsKept};
 ghost use Rattle.books.specs.Verified.{IsAlwaysClean, StandsForMany};
-ghost use Rattle.book_tables.specs.Limits.{Counts};
+ghost use Rattle.book_statements.specs.Limits.{Counts};
 ghost use Rattle.book_tables.specs.Needed.{needed_part};
-ghost use Rattle.book_tables.specs.Layout.{no_layout};
+ghost use Rattle.book_statements.specs.Layout.{no_layout};
 ghost use Rattle.books.specs.Opened.{standing_of};
-ghost use Rattle.book_tables.specs.Recorded.{IsHouse};
-ghost use Rattle.book_tables.specs.Rises.{Rises};
-ghost use Rattle.book_tables.specs.Standing.{StandsIn};
+ghost use Rattle.book_statements.specs.Recorded.{IsHouse};
+ghost use Rattle.book_statements.specs.Rises.{Rises};
+ghost use Rattle.book_statements.specs.Standing.{StandsIn};
 ghost use Rattle.book_tables.specs.Taken.{has_book_table};
 
 use crate::blank::blank;
@@ -65,7 +65,7 @@ impl<S: Alter + Drop> Model for Book<S> {
 
 // Carries tables of version 1, which have so many entries, over to version 2; those of version 2
 // stay. Of the entries `told` is handed how many were gone over of how many.
-#[tactic(auto, using(book_tables::proofs::Limited::spends_both, book_tables::proofs::Limited::spends_same))]
+#[tactic(auto, using(book_statements::proofs::Limited::spends_both, book_statements::proofs::Limited::spends_same))]
 fn bring_up<S: Alter + Drop, T: FnMut(u64, u64)>(
     tables: &mut Tables<S>,
     version: Rules,
@@ -90,7 +90,7 @@ impl<S: Alter + Drop> Book<S> {
     /// Makes the tables of an empty register of the warehouse. A fault hands the tables back: 43
     /// where the store has a table with the name of a table of the book already, which leaves it as
     /// it is, and 40 or 41 where a call was refused.
-    #[tactic(auto, using(book_tables::proofs::Limited::spends_both, book_tables::proofs::Limited::spends_same))]
+    #[tactic(auto, using(book_statements::proofs::Limited::spends_both, book_statements::proofs::Limited::spends_same))]
     pub fn create(
         alloc: Global,
         mut tables: Tables<S>,
@@ -136,7 +136,7 @@ impl<S: Alter + Drop> Book<S> {
     /// the tables back, which stand for the same register: 40 or 41 where a call was refused, 43
     /// where `book` hasn't one row, or that row has another version than 1 and 2 or no warehouse,
     /// which leaves the tables as they were, whatever they are.
-    #[tactic(auto, using(book_tables::proofs::Limited::spends_both, book_tables::proofs::Limited::spends_same))]
+    #[tactic(auto, using(book_statements::proofs::Limited::spends_both, book_statements::proofs::Limited::spends_same))]
     pub fn open_from(alloc: Global, tables: Tables<S>) -> Result<Book<S>, (Fault, Tables<S>)>
         ensures usable { IfOk result (λ b. HasCleanDisk (state S.Store b.tables.conn)
             → (q : Rules) (W : Partner) (L : List register.Entry) → StandsOpenAs q (state S.Store tables.conn) W L
@@ -176,7 +176,7 @@ impl<S: Alter + Drop> Book<S> {
 
     /// The same as `open_from`; and while a book of version 1 is carried over, `told` is handed,
     /// after each of its entries, how many were gone over and how many there are.
-    #[tactic(auto, using(book_tables::proofs::Limited::spends_both, book_tables::proofs::Limited::spends_same))]
+    #[tactic(auto, using(book_statements::proofs::Limited::spends_both, book_statements::proofs::Limited::spends_same))]
     pub fn open_from_telling<T: FnMut(u64, u64)>(
         alloc: Global,
         mut tables: Tables<S>,
@@ -239,7 +239,7 @@ impl<S: Alter + Drop> Book<S> {
     /// again, one after another, to an empty book in memory; 43 where one of them isn't. Nothing is
     /// written. 40 and 41 are those of a query, 42 that of a book that has to be opened again. It
     /// holds a second book in memory for as long as it runs.
-    #[tactic(auto, using(book_tables::proofs::Limited::spends_both, book_tables::proofs::Limited::spends_same))]
+    #[tactic(auto, using(book_statements::proofs::Limited::spends_both, book_statements::proofs::Limited::spends_same))]
     pub fn verify(&mut self) -> Result<u64, Fault>
         ensures stands { (standing_of S.Store self.new).doubt ≡ 0 → IsLaid (state S.Store self.old.tables.conn)
             → (IsTrue (state S.Store self.old.tables.conn).is_open
@@ -259,7 +259,7 @@ impl<S: Alter + Drop> Book<S> {
 
     /// The same as `verify`; and `told` is handed, after each entry, how many were given again and
     /// how many there are.
-    #[tactic(auto, using(book_tables::proofs::Limited::spends_both, book_tables::proofs::Limited::spends_same))]
+    #[tactic(auto, using(book_statements::proofs::Limited::spends_both, book_statements::proofs::Limited::spends_same))]
     pub fn verify_telling<T: FnMut(u64, u64)>(&mut self, told: T) -> Result<u64, Fault>
         requires told { T.IsAlwaysCallable told }
         ensures stands { (standing_of S.Store self.new).doubt ≡ 0 → IsLaid (state S.Store self.old.tables.conn)
@@ -284,7 +284,7 @@ impl<S: Alter + Drop> Book<S> {
 
     // How many entries the register has, where every table is what comes of giving their commands
     // again to this empty book.
-    #[tactic(auto, using(book_tables::proofs::Limited::spends_both, book_tables::proofs::Limited::spends_same))]
+    #[tactic(auto, using(book_statements::proofs::Limited::spends_both, book_statements::proofs::Limited::spends_same))]
     fn check_by<C: Alter + Drop, T: FnMut(u64, u64)>(
         &mut self,
         copy: Book<C>,

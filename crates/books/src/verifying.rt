@@ -10,8 +10,8 @@ ghost use Rattle.sqlite.specs.Held.{state};
 ghost use Rattle.sqlite.specs.State.{HasCleanDisk};
 ghost use Rattle.store.specs.Standing.{GoesOn, IsUsable};
 ghost use Rattle.books.specs.Opened.{standing_of};
-ghost use Rattle.book_tables.specs.Asking.{Went};
-ghost use Rattle.book_tables.specs.Exits.{StandsWhileOpen};
+ghost use Rattle.book_statements.specs.Asking.{Went};
+ghost use Rattle.book_statements.specs.Exits.{StandsWhileOpen};
 ghost use Rattle.books.specs.Verified.{Follows, IsAlwaysClean, IsCopy, Stays, last_rules};
 
 use crate::book::{Book, GREATEST};

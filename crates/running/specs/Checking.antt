@@ -6,9 +6,9 @@ use Rattle.profile.specs.Register.{Entry}
 use Rattle.sqlite.specs.Effect.{Database, IsDatabase}
 use Rattle.sqlite.specs.State.{State}
 use Rattle.store.specs.Standing.{Standing, IsUnchanged}
-use Rattle.book_tables.specs.Asking.{IsOfFirst}
+use Rattle.book_statements.specs.Asking.{IsOfFirst}
 use Rattle.book_tables.specs.Comparing.{AreTables}
-use Rattle.book_tables.specs.Layout.{IsLayout}
+use Rattle.book_statements.specs.Layout.{IsLayout}
 use Rattle.books.specs.Verified.{StandsForMany}
 use Rattle.commands.specs.Acting.{Ending}
 

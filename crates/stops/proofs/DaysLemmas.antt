@@ -11,7 +11,7 @@ use Rattle.profile.specs.Accepted.{accepted_on}
 use Rattle.profile.proofs.HistoryLaws.{accepted_on-append}
 use Rattle.profile.proofs.TextLaws.{both_parts}
 use Rattle.store.specs.declared.fault.Fault.{Fault}
-use Rattle.book_tables.specs.Carrying.{LeavesCarried}
+use Rattle.book_statements.specs.Carrying.{LeavesCarried}
 use Rattle.stops.specs.Days.{AllCarried, KeepsAnswers, Pass, Passes, PassesTo, reached, reached_on, day_by_day}
 use Rattle.stops.specs.Stopped.{IsAnswered}
 use Rattle.stops.specs.declared.answering.Answered.{Answered}

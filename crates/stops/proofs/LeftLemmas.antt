@@ -12,7 +12,7 @@ use Rattle.store.specs.Standing.{Standing, IsUsable, IsRunFault}
 use Rattle.store.specs.declared.fault.Fault.{Fault}
 use Rattle.store.specs.declared.fault.Fault.TheVariants.{OutOfMemory, Store, Reopen, NotThisBook, Device}
 use Rattle.store.specs.declared.serving.Outcome.{Outcome}
-use Rattle.book_tables.specs.Standing.{StandsIn}
+use Rattle.book_statements.specs.Standing.{StandsIn}
 use Rattle.books.specs.Opened.{Opened, standing_of}
 use Rattle.stops.specs.Faults.{MayBeThere}
 use Rattle.stops.specs.Stopped.{IsAnswered, Runs}

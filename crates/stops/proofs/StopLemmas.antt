@@ -10,9 +10,9 @@ use Rattle.profile.specs.declared.rules.Rules.{Rules}
 use Rattle.profile.specs.declared.rules.Rules.TheVariants.{One, Two}
 use Rattle.profile.specs.Header.{Who}
 use Rattle.profile.specs.Register.{Entry}
-use Rattle.book_tables.specs.Carrying.{LeavesCarried, StandsAs, StandsInAs, StandsOpenAs}
-use Rattle.book_tables.specs.Standing.{Stands}
-use Rattle.book_tables.proofs.Carried.{not_first}
+use Rattle.book_statements.specs.Carrying.{LeavesCarried, StandsAs, StandsInAs, StandsOpenAs}
+use Rattle.book_statements.specs.Standing.{Stands}
+use Rattle.book_statements.proofs.Carried.{not_first}
 use Rattle.books.specs.Carrying.{AllStandAs, OpensAs}
 
 -- trees obey one schema

@@ -12,7 +12,7 @@ use Rattle.store.specs.Runs.{told}
 use Rattle.store.specs.Standing.{Standing, IsUsable, LeavesEither, GoesOn}
 use Rattle.store.specs.declared.fault.Fault.{Fault}
 use Rattle.store.specs.declared.serving.Outcome.{Outcome}
-use Rattle.book_tables.specs.Standing.{StandsIn}
+use Rattle.book_statements.specs.Standing.{StandsIn}
 use Rattle.stops.specs.Faults.{IsCallFault, MayBeThere}
 use Rattle.stops.specs.declared.answering.Answered.{Answered}
 

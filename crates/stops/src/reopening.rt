@@ -5,7 +5,7 @@ ghost use Rattle.profile.specs.Register.{Entry};
 ghost use Rattle.sqlite.specs.Held.{state};
 ghost use Rattle.sqlite_trees.specs.Tree.{Trees};
 ghost use Rattle.sqlite_trees.specs.View.{IsClean, doubt};
-ghost use Rattle.book_tables.specs.Standing.{StandsIn};
+ghost use Rattle.book_statements.specs.Standing.{StandsIn};
 ghost use Rattle.stops.specs.Days.{AllCarried, IsOpenedOf, IsStill};
 ghost use Rattle.stops.specs.Faults.{fault_of_opening, fault_of_stop};
 ghost use Rattle.books.specs.Opened.{standing_of};

@@ -1,6 +1,6 @@
 use Rattle.std.proofs.Common.{List, ℕ, ap, option_map}
 use Rattle.std.specs.Borrow.{Bor}
-use Rattle.book_tables.proofs.DateLemmas.{date_met, no_date_met}
+use Rattle.book_statements.proofs.DateLemmas.{date_met, no_date_met}
 use Rattle.book_tables.proofs.dates.next_date.Goals as goal
 
 pub returns-in-Some-date_in : goal.returns-in-Some-date_in

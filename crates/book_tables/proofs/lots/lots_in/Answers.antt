@@ -2,10 +2,10 @@ use Rattle.std.proofs.Common.{rules, ◌≡◌, ◌≤◌, [], ◌∷◌, ◌++�
 use Rattle.sqlite.specs.Order.{Row, column}
 use Rattle.profile.specs.Rows.{LotRow}
 use Rattle.goods.specs.Keyed.{key_before, rises_by, row_key}
-use Rattle.book_tables.specs.Dated.{date_shown, dates_of}
+use Rattle.book_statements.specs.Dated.{date_shown, dates_of}
 use Rattle.book_tables.specs.Showing.{lot_shown}
 use Rattle.rules.specs.Fitting.{is_fitting_row}
-use Rattle.book_tables.proofs.DateLemmas.{rises_left}
+use Rattle.book_statements.proofs.DateLemmas.{rises_left}
 use Rattle.book_tables.proofs.Fits.{has_all, small_lot}
 use Rattle.book_tables.proofs.Places.{at_place, one_longer, whole_taken}
 use Rattle.book_tables.proofs.lots.lots_in.Goals as goal

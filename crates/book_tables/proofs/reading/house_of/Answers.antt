@@ -2,7 +2,7 @@ use Rattle.std.proofs.Common.{rules, ◌≡◌, length, sym, subst, List, MatchO
 use Rattle.profile.specs.declared.rules.Rules.{Rules}
 use Rattle.profile.specs.Header.{Who}
 use Rattle.sqlite.specs.Order.{Row}
-use Rattle.book_tables.specs.Recorded.{IsHouse}
+use Rattle.book_statements.specs.Recorded.{IsHouse}
 use Rattle.book_tables.proofs.ReadLemmas.{one_row}
 use Rattle.book_tables.proofs.reading.house_of.Goals as goal
 

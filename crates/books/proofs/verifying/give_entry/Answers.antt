@@ -8,7 +8,7 @@ use Rattle.profile.specs.Accepted.{IsLegal}
 use Rattle.store.specs.Replayed.{all_written}
 use Rattle.store.specs.Standing.{IsUsable}
 use Rattle.store.proofs.Entries.{there_on}
-use Rattle.book_tables.specs.Recorded.{written_at}
+use Rattle.book_statements.specs.Recorded.{written_at}
 use Rattle.book_tables.proofs.AskedLater.{stands_later}
 use Rattle.books.specs.Opened.{standing_of}
 use Rattle.books.specs.Verified.{Follows, last_rules}

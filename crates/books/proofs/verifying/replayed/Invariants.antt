@@ -2,8 +2,8 @@ use Rattle.std.proofs.Common.{◌≡◌, List, Ok, length}
 use Rattle.sqlite.specs.Held.{state}
 use Rattle.sqlite.specs.State.{HasCleanDisk}
 use Rattle.profile.specs.Register.{Entry}
-use Rattle.book_tables.specs.Asking.{Went}
-use Rattle.book_tables.specs.Exits.{StandsWhileOpen}
+use Rattle.book_statements.specs.Asking.{Went}
+use Rattle.book_statements.specs.Exits.{StandsWhileOpen}
 use Rattle.books.specs.Opened.{standing_of}
 use Rattle.books.specs.Verified.{Follows, IsCopy}
 use Rattle.books.proofs.verifying.replayed.Given as goal

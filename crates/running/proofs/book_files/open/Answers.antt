@@ -1,6 +1,6 @@
 use Rattle.std.proofs.Common.{sym, subst}
 use Rattle.sqlite.specs.Held.{state}
-use Rattle.book_tables.specs.Carrying.{StandsOpenAs}
+use Rattle.book_statements.specs.Carrying.{StandsOpenAs}
 use Rattle.running.proofs.book_files.open.Goals as goal
 
 pub returns-in-Ok-clause-usable : goal.returns-in-Ok-clause-usable

@@ -3,7 +3,7 @@ use Rattle.sqlite.specs.Effect.{Database}
 use Rattle.sqlite.specs.Held.{state}
 use Rattle.sqlite.specs.State.{HasCleanDisk}
 use Rattle.book_tables.specs.Comparing.{AreTables, IsLaid}
-use Rattle.book_tables.specs.Layout.{IsLayout}
+use Rattle.book_statements.specs.Layout.{IsLayout}
 use Rattle.running.specs.Checking.{TellsWhole}
 use Rattle.running.proofs.checking.check_over.Goals as goal
 

@@ -1,7 +1,7 @@
 use Rattle.std.proofs.Common.{inl, inr, arith, ◌≡◌, refl, subst}
 use Rattle.store.specs.Runs.{all_asked}
 use Rattle.profile.specs.Header.{Who}
-use Rattle.book_tables.specs.Standing.{StandsIn}
+use Rattle.book_statements.specs.Standing.{StandsIn}
 use Rattle.books.specs.Opened.{standing_of}
 use Rattle.stops.specs.Stopped.{IsAnswered}
 use Rattle.stops.proofs.LeftLemmas.{left_of_run}

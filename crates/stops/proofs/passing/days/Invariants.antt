@@ -5,7 +5,7 @@ use Rattle.sqlite_trees.specs.View.{IsClean, doubt}
 use Rattle.profile.specs.Header.{Who}
 use Rattle.profile.specs.Register.{Entry}
 use Rattle.store.specs.Runs.{all_asked, can_be_given}
-use Rattle.book_tables.specs.Carrying.{LeavesCarried}
+use Rattle.book_statements.specs.Carrying.{LeavesCarried}
 use Rattle.stops.specs.Days.{AreOpenings, Pass, day_by_day, reached}
 use Rattle.stops.proofs.DaysLemmas.{left_after}
 use Rattle.stops.proofs.passing.days.Given as goal

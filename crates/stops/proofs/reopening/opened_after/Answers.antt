@@ -4,8 +4,8 @@ use Rattle.sqlite.specs.Held.{Held, state}
 use Rattle.sqlite.specs.Effect.{Database}
 use Rattle.sqlite_trees.specs.View.{IsClean, IsQuiet}
 use Rattle.profile.specs.declared.rules.Rules.TheVariants.{One, Two}
-use Rattle.book_tables.specs.Carrying.{LeavesCarried, StandsInAs, StandsOpenAs}
-use Rattle.book_tables.proofs.Carried.{not_first}
+use Rattle.book_statements.specs.Carrying.{LeavesCarried, StandsInAs, StandsOpenAs}
+use Rattle.book_statements.proofs.Carried.{not_first}
 use Rattle.books.specs.Carrying.{AllStandAs, OpensAs}
 use Rattle.stops.proofs.StopLemmas.{stands_as_read, still_carried, version_of}
 use Rattle.stops.proofs.reopening.opened_after.Goals as goal

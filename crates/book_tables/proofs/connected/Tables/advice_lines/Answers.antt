@@ -8,7 +8,7 @@ use Rattle.sqlite.specs.Held.{state}
 use Rattle.sqlite.specs.Order.{Row}
 use Rattle.book_tables.specs.Showing.{line_shown}
 use Rattle.book_tables.proofs.AdvicesFound.{advised_read}
-use Rattle.book_tables.proofs.NeedTexts.{advice_lines_reads}
+use Rattle.book_statements.proofs.NeedTexts.{advice_lines_reads}
 use Rattle.book_tables.proofs.Queries.{asked_wrong}
 use Rattle.book_tables.proofs.ReadLemmas.{none_some, same_some}
 use Rattle.book_tables.proofs.connected.Tables.advice_lines.Goals as goal

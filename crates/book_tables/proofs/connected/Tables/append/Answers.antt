@@ -1,6 +1,6 @@
 use Rattle.std.proofs.Common.{ap, subst, IsTrue}
 use Rattle.sqlite.specs.Held.{Held, state}
-use Rattle.book_tables.specs.Exits.{Extends}
+use Rattle.book_statements.specs.Exits.{Extends}
 use Rattle.book_tables.proofs.Growing.{grown, grown_now, stands_in}
 use Rattle.book_tables.proofs.Ending.{one_ok, one_crash, one_called}
 use Rattle.book_tables.proofs.connected.Tables.append.Goals as goal

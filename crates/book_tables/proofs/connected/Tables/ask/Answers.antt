@@ -1,9 +1,9 @@
 use Rattle.std.proofs.Common.{rules, IsTrue, ◌∙◌, subst}
 use Rattle.sqlite.specs.Held.{state}
 use Rattle.sqlite.specs.Values.{bound}
-use Rattle.book_tables.specs.Rises.{Rises}
-use Rattle.book_tables.proofs.Limited.{spends_both, spends_same}
-use Rattle.book_tables.proofs.Asked.{not_prepared, shown_asked, shown_found, failed_asked}
+use Rattle.book_statements.specs.Rises.{Rises}
+use Rattle.book_statements.proofs.Limited.{spends_both, spends_same}
+use Rattle.book_statements.proofs.Asked.{not_prepared, shown_asked, shown_found, failed_asked}
 use Rattle.book_tables.proofs.connected.Tables.ask.Goals as goal
 
 pub returns-in-Err-clause-asked : goal.returns-in-Err-clause-asked

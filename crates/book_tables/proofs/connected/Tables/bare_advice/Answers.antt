@@ -7,7 +7,7 @@ use Rattle.sqlite.specs.Order.{Row}
 use Rattle.book_tables.specs.Looking.{bare_advice}
 use Rattle.book_tables.proofs.AdvicesFound.{no_advice, first_advice}
 use Rattle.book_tables.proofs.Looked.{begins_with, is_empty}
-use Rattle.book_tables.proofs.NeedTexts.{advice_reads}
+use Rattle.book_statements.proofs.NeedTexts.{advice_reads}
 use Rattle.book_tables.proofs.Queries.{asked_wrong}
 use Rattle.book_tables.proofs.ReadLemmas.{none_some}
 use Rattle.book_tables.proofs.connected.Tables.bare_advice.Goals as goal

@@ -7,7 +7,7 @@ use Rattle.sqlite.specs.Order.{Row}
 use Rattle.book_tables.specs.Looking.{bare_order}
 use Rattle.book_tables.proofs.OrdersFound.{no_order, first_order}
 use Rattle.book_tables.proofs.Looked.{begins_with, is_empty}
-use Rattle.book_tables.proofs.NeedTexts.{order_reads}
+use Rattle.book_statements.proofs.NeedTexts.{order_reads}
 use Rattle.book_tables.proofs.Queries.{asked_wrong}
 use Rattle.book_tables.proofs.ReadLemmas.{none_some}
 use Rattle.book_tables.proofs.connected.Tables.bare_order.Goals as goal

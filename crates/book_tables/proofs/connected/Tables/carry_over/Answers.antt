@@ -5,8 +5,8 @@ use Rattle.sqlite.specs.Tree.{Trees}
 use Rattle.profile.specs.Header.{Who}
 use Rattle.profile.specs.Register.{Entry}
 use Rattle.profile.specs.declared.rules.Rules.TheVariants.{One}
-use Rattle.book_tables.specs.Carrying.{StandsOpenAs}
-use Rattle.book_tables.specs.Standing.{StandsIn}
+use Rattle.book_statements.specs.Carrying.{StandsOpenAs}
+use Rattle.book_statements.specs.Standing.{StandsIn}
 use Rattle.book_tables.proofs.Growing.{grown_now, stands_in}
 use Rattle.book_tables.proofs.Ending.{one_ok, one_crash, one_called}
 use Rattle.book_tables.proofs.connected.Tables.carry_over.Goals as goal

@@ -1,7 +1,7 @@
 use Rattle.std.proofs.Common.{◌∙◌}
 use Rattle.sqlite.specs.Held.{state}
-use Rattle.book_tables.proofs.Found.{count_found}
-use Rattle.book_tables.proofs.ReadingTexts.{count_reads}
+use Rattle.book_statements.proofs.Found.{count_found}
+use Rattle.book_statements.proofs.ReadingTexts.{count_reads}
 use Rattle.book_tables.proofs.connected.Tables.count.Goals as goal
 
 pub returns-clause-count : goal.returns-clause-count

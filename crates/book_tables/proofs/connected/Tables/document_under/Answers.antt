@@ -6,7 +6,7 @@ use Rattle.sqlite.specs.Held.{state}
 use Rattle.sqlite.specs.Order.{Row}
 use Rattle.book_tables.proofs.SentFound.{none_sent, first_sent}
 use Rattle.book_tables.proofs.Looked.{begins_with, is_empty}
-use Rattle.book_tables.proofs.NeedTexts.{sent_reads}
+use Rattle.book_statements.proofs.NeedTexts.{sent_reads}
 use Rattle.book_tables.proofs.Queries.{asked_wrong}
 use Rattle.book_tables.proofs.ReadLemmas.{none_some, same_some}
 use Rattle.book_tables.proofs.connected.Tables.document_under.Goals as goal

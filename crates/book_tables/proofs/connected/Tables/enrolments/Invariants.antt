@@ -4,9 +4,9 @@ use Rattle.sqlite.specs.Held.{state}
 use Rattle.sqlite.specs.State.{HasCleanDisk}
 use Rattle.profile.specs.Header.{Who}
 use Rattle.profile.specs.Register.{Entry}
-use Rattle.book_tables.specs.Asking.{Went}
+use Rattle.book_statements.specs.Asking.{Went}
 use Rattle.book_tables.specs.Enrolments.{enrolments, from_text}
-use Rattle.book_tables.specs.Exits.{StandsWhileOpen}
+use Rattle.book_statements.specs.Exits.{StandsWhileOpen}
 use Rattle.book_tables.proofs.connected.Tables.enrolments.Given as goal
 
 -- all are those that were found, and those from the text on

@@ -6,9 +6,9 @@ use Rattle.profile.specs.Header.{is_partner, who_text}
 use Rattle.store.specs.Replayed.{all_written}
 use Rattle.sqlite.specs.Held.{state}
 use Rattle.sqlite.specs.Order.{Row, column}
-use Rattle.book_tables.specs.Recorded.{written_at}
+use Rattle.book_statements.specs.Recorded.{written_at}
 use Rattle.book_tables.proofs.AskedLater.{stands_later, clean_before}
-use Rattle.book_tables.proofs.KnownTexts.{under_reads}
+use Rattle.book_statements.proofs.KnownTexts.{under_reads}
 use Rattle.book_tables.proofs.Looked.{begins_with, is_empty, none_under, first_under}
 use Rattle.book_tables.proofs.Queries.{asked_on, asked_wrong}
 use Rattle.book_tables.proofs.ReadLemmas.{same_number_value}

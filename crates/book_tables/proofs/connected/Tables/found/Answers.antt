@@ -4,9 +4,9 @@ use Rattle.sqlite.specs.State.{HasCleanDisk}
 use Rattle.sqlite.specs.Held.{state}
 use Rattle.store.specs.declared.fault.Fault.{Fault}
 use Rattle.store.specs.declared.fault.Fault.TheVariants.{NotThisBook}
-use Rattle.book_tables.proofs.Asked.{asked_twice}
+use Rattle.book_statements.proofs.Asked.{asked_twice}
 use Rattle.book_tables.proofs.AskedLater.{err_as}
-use Rattle.book_tables.proofs.Carried.{stands_open_later}
+use Rattle.book_statements.proofs.Carried.{stands_open_later}
 use Rattle.book_tables.proofs.Queries.{refused_after}
 use Rattle.book_tables.proofs.connected.Tables.found.Goals as goal
 

@@ -4,8 +4,8 @@ use Rattle.sqlite.specs.State.{HasCleanDisk}
 use Rattle.profile.specs.Header.{Who}
 use Rattle.profile.specs.Register.{Entry}
 use Rattle.stock.specs.Parts.{Named}
-use Rattle.book_tables.specs.Asking.{Went}
-use Rattle.book_tables.specs.Exits.{StandsWhileOpen}
+use Rattle.book_statements.specs.Asking.{Went}
+use Rattle.book_statements.specs.Exits.{StandsWhileOpen}
 use Rattle.book_tables.specs.Needed.{part_for, with_numbers}
 use Rattle.book_tables.proofs.connected.Tables.gather_numbers.Given as goal
 

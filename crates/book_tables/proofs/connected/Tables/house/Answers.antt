@@ -3,9 +3,9 @@ use Rattle.profile.specs.declared.rules.Rules.{Rules}
 use Rattle.profile.specs.Header.{Who}
 use Rattle.sqlite.specs.Held.{state}
 use Rattle.sqlite.specs.Order.{Row}
-use Rattle.book_tables.specs.Recorded.{IsHouse}
-use Rattle.book_tables.proofs.Found.{house_found, one_house}
-use Rattle.book_tables.proofs.ReadingTexts.{house_reads}
+use Rattle.book_statements.specs.Recorded.{IsHouse}
+use Rattle.book_statements.proofs.Found.{house_found, one_house}
+use Rattle.book_statements.proofs.ReadingTexts.{house_reads}
 use Rattle.book_tables.proofs.connected.Tables.house.Goals as goal
 
 pub returns-in-Some-clause-house : goal.returns-in-Some-clause-house

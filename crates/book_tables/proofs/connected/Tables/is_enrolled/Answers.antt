@@ -3,7 +3,7 @@ use Rattle.std.specs.Prelude.{◌==◌}
 use Rattle.profile.specs.Header.{is_partner, who_text}
 use Rattle.sqlite.specs.Held.{state}
 use Rattle.book_tables.proofs.HasEntries.{none_read}
-use Rattle.book_tables.proofs.ShowingTexts.{has_reads}
+use Rattle.book_statements.proofs.ShowingTexts.{has_reads}
 use Rattle.book_tables.proofs.connected.Tables.is_enrolled.Goals as goal
 
 pub of_depositor-requires : goal.of_depositor-requires

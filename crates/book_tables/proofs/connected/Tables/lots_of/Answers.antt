@@ -9,13 +9,13 @@ use Rattle.store.specs.declared.fault.Fault.TheVariants.{OutOfMemory}
 use Rattle.sqlite.specs.Held.{state}
 use Rattle.sqlite.specs.Order.{Row}
 use Rattle.goods.specs.Keyed.{key_before, rises_by, row_key}
-use Rattle.book_tables.specs.Dated.{date_shown, dates_of}
+use Rattle.book_statements.specs.Dated.{date_shown, dates_of}
 use Rattle.book_tables.specs.Showing.{lot_shown}
 use Rattle.book_tables.proofs.AskedLater.{stands_later, clean_before}
 use Rattle.book_tables.proofs.LotsFound.{lots_read}
 use Rattle.book_tables.proofs.Queries.{asked_on, asked_then, asked_short, asked_fails, asked_wrong}
 use Rattle.book_tables.proofs.ReadLemmas.{none_some, same_some}
-use Rattle.book_tables.proofs.NeedTexts.{lots_reads, dates_reads}
+use Rattle.book_statements.proofs.NeedTexts.{lots_reads, dates_reads}
 use Rattle.book_tables.proofs.connected.Tables.lots_of.Goals as goal
 
 abbrev ReadsRight : List Row → List Row → Option (List LotRow) → Type 0

@@ -3,9 +3,9 @@ use Rattle.sqlite.specs.Held.{Held, state}
 use Rattle.sqlite.specs.Tree.{Trees}
 use Rattle.profile.specs.declared.rules.Rules.TheVariants.{Two}
 use Rattle.profile.specs.Accepted.{IsLegal}
-use Rattle.book_tables.specs.Layout.{no_layout}
-use Rattle.book_tables.specs.Standing.{StandsIn}
-use Rattle.book_tables.proofs.CreateLemmas.{stands_empty}
+use Rattle.book_statements.specs.Layout.{no_layout}
+use Rattle.book_statements.specs.Standing.{StandsIn}
+use Rattle.book_statements.proofs.CreateLemmas.{stands_empty}
 use Rattle.book_tables.proofs.Growing.{grown_now, stands_in}
 use Rattle.book_tables.proofs.Ending.{one_ok, one_crash, one_called}
 use Rattle.book_tables.proofs.connected.Tables.make.Goals as goal

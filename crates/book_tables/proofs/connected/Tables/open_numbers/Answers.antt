@@ -4,7 +4,7 @@ use Rattle.sqlite.specs.Held.{state}
 use Rattle.sqlite.specs.Order.{Row}
 use Rattle.book_tables.specs.Showing.{name_shown}
 use Rattle.book_tables.proofs.OpenFound.{numbers_read}
-use Rattle.book_tables.proofs.OpenTexts.{numbers_reads}
+use Rattle.book_statements.proofs.OpenTexts.{numbers_reads}
 use Rattle.book_tables.proofs.Queries.{asked_wrong}
 use Rattle.book_tables.proofs.ReadLemmas.{none_some, same_some}
 use Rattle.book_tables.proofs.connected.Tables.open_numbers.Goals as goal

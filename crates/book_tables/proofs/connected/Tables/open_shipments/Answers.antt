@@ -4,7 +4,7 @@ use Rattle.sqlite.specs.Held.{state}
 use Rattle.sqlite.specs.Order.{Row}
 use Rattle.book_tables.specs.Showing.{name_shown}
 use Rattle.book_tables.proofs.OpenFound.{shipments_read}
-use Rattle.book_tables.proofs.OpenTexts.{shipments_reads}
+use Rattle.book_statements.proofs.OpenTexts.{shipments_reads}
 use Rattle.book_tables.proofs.Queries.{asked_wrong}
 use Rattle.book_tables.proofs.ReadLemmas.{none_some, same_some}
 use Rattle.book_tables.proofs.connected.Tables.open_shipments.Goals as goal

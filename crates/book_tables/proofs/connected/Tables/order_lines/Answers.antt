@@ -8,7 +8,7 @@ use Rattle.sqlite.specs.Held.{state}
 use Rattle.sqlite.specs.Order.{Row}
 use Rattle.book_tables.specs.Showing.{order_line_shown}
 use Rattle.book_tables.proofs.OrdersFound.{ordered_read}
-use Rattle.book_tables.proofs.NeedTexts.{order_lines_reads}
+use Rattle.book_statements.proofs.NeedTexts.{order_lines_reads}
 use Rattle.book_tables.proofs.Queries.{asked_wrong}
 use Rattle.book_tables.proofs.ReadLemmas.{none_some, same_some}
 use Rattle.book_tables.proofs.connected.Tables.order_lines.Goals as goal

@@ -8,7 +8,7 @@ use Rattle.sqlite.specs.Held.{state}
 use Rattle.sqlite.specs.Order.{Row}
 use Rattle.book_tables.specs.Showing.{line_shown}
 use Rattle.book_tables.proofs.OrdersFound.{reserved_read}
-use Rattle.book_tables.proofs.NeedTexts.{reserved_reads}
+use Rattle.book_statements.proofs.NeedTexts.{reserved_reads}
 use Rattle.book_tables.proofs.Queries.{asked_wrong}
 use Rattle.book_tables.proofs.ReadLemmas.{none_some, same_some}
 use Rattle.book_tables.proofs.connected.Tables.reserved_lines.Goals as goal

@@ -2,8 +2,8 @@ use Rattle.std.proofs.Common.{subst, IsTrue}
 use Rattle.std.specs.Prelude.{IfOk}
 use Rattle.sqlite.specs.Held.{state}
 use Rattle.sqlite.specs.Order.{Row}
-use Rattle.book_tables.specs.Asking.{Finds}
-use Rattle.book_tables.specs.Recorded.{numbered_text}
+use Rattle.book_statements.specs.Asking.{Finds}
+use Rattle.book_statements.specs.Recorded.{numbered_text}
 use Rattle.book_tables.proofs.NumberedFound.{numbered_reads}
 use Rattle.book_tables.proofs.connected.Tables.rows_at.Goals as goal
 

@@ -10,7 +10,7 @@ use Rattle.book_tables.specs.Showing.{out_shown, IsSent}
 use Rattle.book_tables.proofs.FoundRows.{sent_read}
 use Rattle.book_tables.proofs.Queries.{asked_wrong}
 use Rattle.book_tables.proofs.ReadLemmas.{none_some, same_some}
-use Rattle.book_tables.proofs.ShowingTexts.{outbox_reads}
+use Rattle.book_statements.proofs.ShowingTexts.{outbox_reads}
 use Rattle.book_tables.proofs.connected.Tables.sent_rows.Goals as goal
 
 abbrev ReadsRight : List Row → Option (List OutRow) → Type 0

@@ -4,7 +4,7 @@ use Rattle.profile.specs.Header.{is_partner}
 use Rattle.sqlite.specs.Held.{state}
 use Rattle.sqlite.specs.Order.{Row}
 use Rattle.book_tables.specs.Contents.{IsContent}
-use Rattle.book_tables.proofs.KnownTexts.{content_reads}
+use Rattle.book_statements.proofs.KnownTexts.{content_reads}
 use Rattle.book_tables.proofs.Queries.{asked_wrong}
 use Rattle.book_tables.proofs.ReadLemmas.{none_some, same_some}
 use Rattle.book_tables.proofs.SentFound.{text_shown}

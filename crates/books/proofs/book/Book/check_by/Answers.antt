@@ -7,9 +7,9 @@ use Rattle.profile.specs.declared.rules.Rules.TheVariants.{Two}
 use Rattle.store.specs.declared.fault.Fault.{Fault}
 use Rattle.store.specs.declared.fault.Fault.TheVariants.{Store, Reopen, NotThisBook, Device}
 use Rattle.book_tables.specs.Comparing.{AreTables, IsLaid}
-use Rattle.book_tables.specs.Exits.{StandsWhileOpen}
-use Rattle.book_tables.specs.Layout.{IsLayout}
-use Rattle.book_tables.specs.Standing.{Stands}
+use Rattle.book_statements.specs.Exits.{StandsWhileOpen}
+use Rattle.book_statements.specs.Layout.{IsLayout}
+use Rattle.book_statements.specs.Standing.{Stands}
 use Rattle.book_tables.proofs.AskedLater.{clean_before}
 use Rattle.book_tables.proofs.Queries.{went_fails, went_of, went_on}
 use Rattle.books.specs.Opened.{Opened, standing_of}

@@ -7,8 +7,8 @@ use Rattle.profile.specs.declared.rules.Rules.TheVariants.{Two}
 use Rattle.profile.specs.Header.{is_partner}
 use Rattle.profile.specs.Accepted.{IsLegal}
 use Rattle.store.proofs.Entries.{nothing_legal}
-use Rattle.book_tables.specs.Layout.{no_layout}
-use Rattle.book_tables.specs.Standing.{StandsIn}
+use Rattle.book_statements.specs.Layout.{no_layout}
+use Rattle.book_statements.specs.Standing.{StandsIn}
 use Rattle.books.proofs.KeepingLemmas.{usable_now}
 use Rattle.books.proofs.book.Book.create.Goals as goal
 

@@ -2,7 +2,7 @@ use Rattle.std.proofs.Common.{◌≡◌, ◌+◌, [], ◌∷◌, ◌++◌, ap, s
 use Rattle.profile.specs.Header.{who_text}
 use Rattle.sqlite.specs.Held.{Held, state}
 use Rattle.store.specs.Standing.{LeavesEither}
-use Rattle.book_tables.specs.Exits.{Extends}
+use Rattle.book_statements.specs.Exits.{Extends}
 use Rattle.books.specs.Keeping.{standing_in}
 use Rattle.books.proofs.KeepingLemmas.{is_appended, kept_now, usable_now, leaves_one_of, leaves_as_before, on_err_always, length_push}
 use Rattle.books.proofs.keeping.BookKeeper.commit.Goals as goal

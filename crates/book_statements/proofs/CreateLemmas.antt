@@ -1,0 +1,267 @@
+-- What making the tables does.
+use Rattle.std.proofs.Common.{◌≡◌, codes, inl, inr, ℕ, pos, ◌≢◌, List, [], ◌∷◌, ◌++◌, take, drop, map, false, None, Ok, refl, sym, ap, subst, ◌∙◌}
+use Rattle.std.specs.Prelude.{nat_eq}
+use Rattle.std.specs.List.{AllByRecursion}
+use Rattle.sqlite.specs.declared.types.Value.TheVariants as value
+use Rattle.sqlite.specs.Table.{Table}
+use Rattle.sqlite.specs.Schema.{Schema}
+use Rattle.profile.specs.declared.rules.Rules.TheVariants.{Two}
+use Rattle.profile.specs.Schema as profile
+use Rattle.profile.specs.Header.{Who}
+use Rattle.profile.specs.Accepted.{IsLegal}
+use Rattle.book_statements.specs.Held.{Holds, entry_values}
+use Rattle.book_statements.specs.Standing.{BookTable, Outgoing, Stock, Advice, AdviceLine, Orders, OrderLine, Reservation, LotExpiry, schema_of, tree_of, width_of, rows_of, AreByKey, Filled}
+use Rattle.book_statements.specs.Exits.{HasGrown}
+use Rattle.sqlite.specs.Order.{Row}
+use Rattle.sqlite.specs.Command.TheVariants.{CreateTable}
+use Rattle.sqlite.specs.Change.{created}
+use Rattle.sqlite.specs.Does.{Tally, lacks_sequence}
+use Rattle.sqlite.specs.Effect.{Database, IsDatabase}
+use Rattle.sqlite.specs.State.{State, Writes, ExecutesIn, Executes}
+use Rattle.sqlite.specs.Listing.{understood}
+use Rattle.sqlite.specs.Given.{IsPlain}
+use Rattle.sqlite.specs.Compile.{table_defined_by}
+use Rattle.sqlite_catalog.specs.Calls.{CreatesTable}
+use Rattle.sqlite_catalog.specs.Change.{next_tree, is_used}
+use Rattle.sqlite_catalog.specs.Listing.{IsSound}
+use Rattle.sqlite_resolve.specs.declared.compiled.Compiled.{Compiled}
+use Rattle.sqlite_rules.specs.Lists.{Has}
+use Rattle.sqlite_rules.proofs.ListLemmas.{all_has}
+use Rattle.profile.specs.Tables.{TableRow}
+use Rattle.sqlite.proofs.Callers.{command_of, statement_of, runs_as}
+use Rattle.book_statements.specs.Layout.{book_text, entry_text, outgoing_text, stock_text, advice_text, advice_line_text, orders_text, order_line_text, reservation_text, entry_rules_text, lot_expiry_text}
+use Rattle.book_statements.specs.Layout.{book_layout, entry_layout, outgoing_layout, stock_layout, advice_layout, advice_line_layout, orders_layout, order_line_layout, reservation_layout, entry_rules_layout, lot_expiry_layout}
+use Rattle.book_statements.specs.Layout.{first_layouts, first_tables, book_tables, book_trees, rules_tree, expiry_tree, entry_rules_at, lot_expiry_at, IsLayout}
+use Rattle.book_statements.specs.Making.{HasMade, HasBook}
+use Rattle.book_statements.specs.Carrying.{AreHeldFirst, Widens}
+use Rattle.book_statements.proofs.MakingTexts.{at_first}
+use Rattle.book_statements.proofs.MakingTexts.{book_is, book_runs, book_plain, entry_is, entry_runs, entry_plain, outgoing_is, outgoing_runs, outgoing_plain, stock_is, stock_runs, stock_plain, advice_is, advice_runs, advice_plain, advice_line_is, advice_line_runs, advice_line_plain, orders_is, orders_runs, orders_plain, order_line_is, order_line_runs, order_line_plain, reservation_is, reservation_runs, reservation_plain, entry_rules_is, entry_rules_runs, entry_rules_plain, lot_expiry_is, lot_expiry_runs, lot_expiry_plain}
+use Rattle.book_statements.proofs.WritingTexts.{insert_book_text}
+use Rattle.book_statements.proofs.Beside.{lies_alone, empty_alone, has_first}
+use Rattle.book_statements.proofs.ListsGrown.{has_last}
+use Rattle.book_statements.proofs.Widening.{rules_tree_is, expiry_tree_is, widened_layout, still_counted}
+use Rattle.book_statements.proofs.MakingAnywhere.{MakesTable, entry_rules_made, lot_expiry_made}
+use Rattle.book_statements.proofs.Inserts.{inserts_book}
+use Rattle.book_statements.proofs.LeadsLemmas.{apart}
+use Rattle.sqlite.specs.Edit.{next_rowid}
+use Rattle.sqlite.specs.Tree.{Trees, put_row}
+use Rattle.book_statements.proofs.Values.{went, same_value}
+
+-- a table was made, and no other was written
+creates : (sql : List ℕ) (before after : Schema) (table : Table) (old new : State) (count : ℕ) → old.now.schema ≡ before
+    → (command_of (understood before sql) ≡ CreateTable) × (statement_of sql (understood before sql) ≡ sql) → IsPlain (understood before sql) → table_defined_by sql ≡ Ok table
+    → created before table ≡ after → lacks_sequence after ≡ false
+    → Executes sql [] old new (Ok count)
+    → IsDatabase new.now × (new.now.schema ≡ after) × CreatesTable before sql old.now.trees after new.now.trees
+creates sql before after table old new count has is plain_text defined makes lone h =
+    let w = subst (λ t. Writes old new None CreateTable t [] count) is.1 (runs_as sql [] old new before has CreateTable is.0 plain_text count h) in
+    let all = went w.changed in
+    let first = went all.1 in
+    let made = subst (λ s. CreatesTable s sql old.now.trees first.0.schema first.0.trees) has first.1 in
+    let both : Ok made.table ≡ Ok table = sym made.defined ∙ defined in
+    let same : made.table ≡ table = same_value both in
+    let schema : first.0.schema ≡ after = made.is ∙ ap (created before) same ∙ makes in
+    let plain : lacks_sequence first.0.schema ≡ false = ap lacks_sequence schema ∙ lone in
+    let now : new.now ≡ first.0 = ap (λ (p : Tally × Database). p.1) (same_value all.2) ∙ same_value (rw plain at first.2) in (
+      w.sound,
+      ap (λ (d : Database). d.schema) now ∙ schema,
+      subst (λ (d : Database). CreatesTable before sql old.now.trees after d.trees) (sym now) (subst (λ s. CreatesTable before sql old.now.trees s first.0.trees) schema made),
+    )
+
+-- the tables that were empty are so still, and so is one more
+empty_after : (ts : List Table) (t : Table) (old new : Trees) → AllByRecursion (λ (u : Table). new u.tree ≡ old u.tree) ts → AllByRecursion (λ (u : Table). old u.tree ≡ []) ts → new t.tree ≡ []
+    → AllByRecursion (λ (u : Table). new u.tree ≡ []) (ts ++ t ∷ [])
+empty_after [] t old new same was here = (here, tt)
+empty_after (u ∷ ts) t old new same was here = (same.0 ∙ was.0, empty_after ts t old new same.1 was.1 here)
+
+-- and so are those that a write elsewhere spares
+empty_still : (ts : List Table) (n : ℕ) (old new : Trees) → AllByRecursion (λ (t : Table). nat_eq t.tree n ≡ false) ts → AllByRecursion (λ (t : Table). t.tree ≢ n → new t.tree ≡ old t.tree) ts
+    → AllByRecursion (λ (t : Table). old t.tree ≡ []) ts → AllByRecursion (λ (t : Table). new t.tree ≡ []) ts
+empty_still [] n old new others same was = tt
+empty_still (t ∷ ts) n old new others same was = (same.0 (apart t.tree n others.0) ∙ was.0, empty_still ts n old new others.1 same.1 was.1)
+
+pub made_first : (a b c d : State) (m n o : ℕ) → HasMade 0 0 a.now → Executes book_text [] a b (Ok m) → Executes entry_text [] b c (Ok n) → Executes outgoing_text [] c d (Ok o)
+    → HasMade 3 3 d.now × IsDatabase d.now
+made_first a b c d m n o was p q r =
+    let x = creates book_text (first_layouts 0 0) (first_layouts 1 0) (at_first book_layout) a b m was.schema book_runs book_plain book_is refl refl p in
+    let y = creates entry_text (first_layouts 1 0) (first_layouts 2 2) (at_first entry_layout) b c n x.1 entry_runs entry_plain entry_is refl refl q in
+    let z = creates outgoing_text (first_layouts 2 2) (first_layouts 3 3) (at_first outgoing_layout) c d o y.1 outgoing_runs outgoing_plain outgoing_is refl refl r in
+    let one = empty_after (take 0 book_tables) book_layout a.now.trees b.now.trees x.2.others was.empty x.2.empty in
+    let two = empty_after (take 1 book_tables) entry_layout b.now.trees c.now.trees y.2.others one y.2.empty in (
+      record {
+        schema = z.1;
+        empty = empty_after (take 2 book_tables) outgoing_layout c.now.trees d.now.trees z.2.others two z.2.empty;
+      },
+      z.0,
+    )
+
+pub made_second : (a b c d : State) (m n o : ℕ) → HasMade 3 3 a.now → Executes stock_text [] a b (Ok m) → Executes advice_text [] b c (Ok n) → Executes advice_line_text [] c d (Ok o)
+    → HasMade 6 6 d.now × IsDatabase d.now
+made_second a b c d m n o was p q r =
+    let x = creates stock_text (first_layouts 3 3) (first_layouts 4 4) (at_first stock_layout) a b m was.schema stock_runs stock_plain stock_is refl refl p in
+    let y = creates advice_text (first_layouts 4 4) (first_layouts 5 5) (at_first advice_layout) b c n x.1 advice_runs advice_plain advice_is refl refl q in
+    let z = creates advice_line_text (first_layouts 5 5) (first_layouts 6 6) (at_first advice_line_layout) c d o y.1 advice_line_runs advice_line_plain advice_line_is refl refl r in
+    let one = empty_after (take 3 book_tables) stock_layout a.now.trees b.now.trees x.2.others was.empty x.2.empty in
+    let two = empty_after (take 4 book_tables) advice_layout b.now.trees c.now.trees y.2.others one y.2.empty in (
+      record {
+        schema = z.1;
+        empty = empty_after (take 5 book_tables) advice_line_layout c.now.trees d.now.trees z.2.others two z.2.empty;
+      },
+      z.0,
+    )
+
+pub made_third : (a b c d : State) (m n o : ℕ) → HasMade 6 6 a.now → Executes orders_text [] a b (Ok m) → Executes order_line_text [] b c (Ok n) → Executes reservation_text [] c d (Ok o)
+    → HasMade 9 9 d.now × IsDatabase d.now
+made_third a b c d m n o was p q r =
+    let x = creates orders_text (first_layouts 6 6) (first_layouts 7 7) (at_first orders_layout) a b m was.schema orders_runs orders_plain orders_is refl refl p in
+    let y = creates order_line_text (first_layouts 7 7) (first_layouts 8 8) (at_first order_line_layout) b c n x.1 order_line_runs order_line_plain order_line_is refl refl q in
+    let z = creates reservation_text (first_layouts 8 8) (first_layouts 9 9) (at_first reservation_layout) c d o y.1 reservation_runs reservation_plain reservation_is refl refl r in
+    let one = empty_after (take 6 book_tables) orders_layout a.now.trees b.now.trees x.2.others was.empty x.2.empty in
+    let two = empty_after (take 7 book_tables) order_line_layout b.now.trees c.now.trees y.2.others one y.2.empty in (
+      record {
+        schema = z.1;
+        empty = empty_after (take 8 book_tables) reservation_layout c.now.trees d.now.trees z.2.others two z.2.empty;
+      },
+      z.0,
+    )
+
+pub made_fourth : (a b c : State) (m n : ℕ) → HasMade 9 9 a.now → Executes entry_rules_text [] a b (Ok m) → Executes lot_expiry_text [] b c (Ok n) → HasMade 11 10 c.now × IsDatabase c.now
+made_fourth a b c m n was p q =
+    let x = creates entry_rules_text (first_layouts 9 9) (first_layouts 10 9) (at_first entry_rules_layout) a b m was.schema entry_rules_runs entry_rules_plain entry_rules_is refl refl p in
+    let y = creates lot_expiry_text (first_layouts 10 9) (first_layouts 11 10) (at_first lot_expiry_layout) b c n x.1 lot_expiry_runs lot_expiry_plain lot_expiry_is refl refl q in
+    let one = empty_after (take 9 book_tables) entry_rules_layout a.now.trees b.now.trees x.2.others was.empty x.2.empty in (
+      record {
+        schema = y.1;
+        empty = empty_after (take 10 book_tables) lot_expiry_layout b.now.trees c.now.trees y.2.others one y.2.empty;
+      },
+      y.0,
+    )
+
+-- a table that holds nothing
+holds_none : Holds [] []
+holds_none = record { rise = tt; sound = λ row none. absurd none; complete = λ cells none. absurd none }
+
+-- the same under any schema
+creates_any : (sql : List ℕ) (table : Table) (old new : State) (count : ℕ) → ((c : Compiled) → understood old.now.schema sql ≡ Ok c → MakesTable old.now.schema sql table.name c)
+    → table_defined_by sql ≡ Ok table → lacks_sequence (created old.now.schema table) ≡ false → Executes sql [] old new (Ok count)
+    → IsDatabase new.now × (new.now.schema ≡ created old.now.schema table) × CreatesTable old.now.schema sql old.now.trees (created old.now.schema table) new.now.trees × (is_used old.now.schema table.name ≡ false)
+unfolding ExecutesIn
+creates_any sql table old new count meant defined lone h =
+    let before = old.now.schema in
+    let is = meant h.0 h.1.is in
+    let known : understood before sql ≡ Ok h.0 = h.1.is in
+    let made = creates sql before (created before table) table old new count refl (ap command_of known ∙ is.0, ap (statement_of sql) known ∙ is.3) (subst IsPlain (sym known) (is.1, is.2)) defined refl lone h in
+    (made.0, made.1, made.2, is.4)
+
+-- the two tables that version 2 has come to those of version 1, whatever these hold and whatever stands after them
+pub widened : (a b c : State) (m n : ℕ) → Executes entry_rules_text [] a b (Ok m) → Executes lot_expiry_text [] b c (Ok n) → Widens a.now c.now
+widened a b c m n p q f was =
+    let lies = was.schema in
+    let s = a.now.schema in
+    let one = created s (entry_rules_at 0) in
+    let lone = still_counted s (entry_rules_at 0) refl lies.counted in
+    let x = creates_any entry_rules_text (entry_rules_at 0) a b m (entry_rules_made s) entry_rules_is lone p in
+    let lone_too = subst (λ (z : Schema). lacks_sequence (created z (lot_expiry_at 0)) ≡ false) (sym x.1) (still_counted one (lot_expiry_at 0) refl lone) in
+    let y = creates_any lot_expiry_text (lot_expiry_at 0) b c n (lot_expiry_made b.now.schema) lot_expiry_is lone_too q in
+    let two = created one (lot_expiry_at 0) in
+    let last : c.now.schema ≡ two = y.1 ∙ ap (λ (z : Schema). created z (lot_expiry_at 0)) x.1 in
+    let free_too = subst (λ (z : Schema). is_used z (codes "lot_expiry") ≡ false) x.1 y.3 in
+    let sound_after : IsSound two c.now.trees = subst (λ (z : Schema). IsSound z c.now.trees) last y.0 in
+    let layout = widened_layout s lies a.now.trees was.sound x.3 free_too c.now.trees sound_after in
+    let kept : (t : Table) → Has s.tables t → c.now.trees t.tree ≡ a.now.trees t.tree = λ t h.
+    all_has (λ (u : Table). c.now.trees u.tree ≡ b.now.trees u.tree) b.now.schema.tables t (let made = y.2 in made.others) (subst (λ (z : Schema). Has z.tables t) (sym x.1) (has_first s.tables (entry_rules_at (next_tree s) ∷ []) t h))
+    ∙ all_has (λ (u : Table). b.now.trees u.tree ≡ a.now.trees u.tree) s.tables t (let made = x.2 in made.others) h in
+    let first : (t : Table) → Has first_tables t → c.now.trees t.tree ≡ a.now.trees t.tree = λ t h. kept t (let others = lies.others in subst (λ (z : Schema). Has z.tables t) (sym lies.is) (has_first first_tables others.tables t h)) in
+    let rules_empty : c.now.trees (next_tree s) ≡ [] =
+    all_has (λ (u : Table). c.now.trees u.tree ≡ b.now.trees u.tree) b.now.schema.tables (entry_rules_at (next_tree s)) (let made = y.2 in made.others) (subst (λ (z : Schema). Has z.tables (entry_rules_at (next_tree s))) (sym x.1) (has_last s.tables (entry_rules_at (next_tree s) ∷ []) (entry_rules_at (next_tree s)) (inl refl)))
+    ∙ (let made = x.2 in made.empty) in
+    let dates_empty : c.now.trees (next_tree one) ≡ [] = subst (λ (z : Schema). c.now.trees (next_tree z) ≡ []) x.1 (let made = y.2 in made.empty) in
+    let rules_at : rules_tree c.now.schema ≡ next_tree s = ap rules_tree last ∙ rules_tree_is s lies a.now.trees was.sound x.3 free_too c.now.trees sound_after in
+    let dates_at : expiry_tree c.now.schema ≡ next_tree one = ap expiry_tree last ∙ expiry_tree_is s lies a.now.trees was.sound x.3 free_too c.now.trees sound_after in
+    let held = was.rows in
+    record {
+      schema = subst IsLayout (sym last) layout;
+      sound = y.0;
+      rows = record {
+        book = first book_layout (inl refl) ∙ held.book;
+        entry = first entry_layout (inr (inl refl)) ∙ held.entry;
+        keyed = λ t. by t f a.now c.now first held (subst (λ rows. Holds rows (c.now.trees (expiry_tree c.now.schema))) (sym was.dates) (subst (Holds []) (sym (ap c.now.trees dates_at ∙ dates_empty)) holds_none));
+        rules = ap c.now.trees rules_at ∙ rules_empty ∙ sym (ap (map entry_values) was.rules);
+      };
+      ordered = was.ordered;
+    }
+  where
+    into : (t : BookTable) (rows : List TableRow) (a c : Database) → c.trees (tree_of t) ≡ a.trees (tree_of t) → Holds rows (a.trees (tree_of t)) → Holds rows (c.trees (tree_of t))
+    into t rows a c same h = subst (Holds rows) (sym same) h
+
+    by : (t : BookTable) (f : Filled) (a c : Database) → ((t : Table) → Has first_tables t → c.trees t.tree ≡ a.trees t.tree) → AreHeldFirst f a.trees → Holds (f.keyed LotExpiry) (c.trees (expiry_tree c.schema)) → Holds (f.keyed t) (book_trees c (tree_of t))
+    by Outgoing f a c first held dates = into Outgoing (f.keyed Outgoing) a c (first outgoing_layout (inr (inr (inl refl)))) (let k = held.keyed in k.0)
+    by Stock f a c first held dates = into Stock (f.keyed Stock) a c (first stock_layout (inr (inr (inr (inl refl))))) (let k = held.keyed in k.1.0)
+    by Advice f a c first held dates = into Advice (f.keyed Advice) a c (first advice_layout (inr (inr (inr (inr (inl refl)))))) (let k = held.keyed in k.1.1.0)
+    by AdviceLine f a c first held dates = into AdviceLine (f.keyed AdviceLine) a c (first advice_line_layout (inr (inr (inr (inr (inr (inl refl))))))) (let k = held.keyed in k.1.1.1.0)
+    by Orders f a c first held dates = into Orders (f.keyed Orders) a c (first orders_layout (inr (inr (inr (inr (inr (inr (inl refl)))))))) (let k = held.keyed in k.1.1.1.1.0)
+    by OrderLine f a c first held dates = into OrderLine (f.keyed OrderLine) a c (first order_line_layout (inr (inr (inr (inr (inr (inr (inr (inl refl))))))))) (let k = held.keyed in k.1.1.1.1.1.0)
+    by Reservation f a c first held dates = into Reservation (f.keyed Reservation) a c (first reservation_layout (inr (inr (inr (inr (inr (inr (inr (inr (inl refl)))))))))) (let k = held.keyed in k.1.1.1.1.1.1.0)
+    by LotExpiry f a c first held dates = dates
+
+-- the row of `book`
+pub made_book : (a b : State) (m : ℕ) (qualifier id : List ℕ) → HasMade 11 10 a.now → Executes insert_book_text (value.Int (pos 2) ∷ value.Text qualifier ∷ value.Text id ∷ []) a b (Ok m) → HasBook qualifier id b.now
+made_book a b m qualifier id was h =
+    let it = inserts_book (pos 2) qualifier id a b m (lies_alone a.now.schema was.schema) h in
+    record {
+      schema = it.schema ∙ was.schema;
+      sound = it.sound;
+      book = it.rows ∙ ap (λ (rows : List Row). put_row (value.Int (next_rowid rows) ∷ value.Int (pos 2) ∷ value.Text qualifier ∷ value.Text id ∷ []) rows) (let all = was.empty in all.0);
+      empty = empty_still (drop 1 book_tables) 0 (book_trees a.now) (book_trees b.now) (refl, (refl, (refl, (refl, (refl, (refl, (refl, (refl, (refl, (refl, tt)))))))))) it.others.1
+          (empty_alone a.now.schema a.now.trees was.schema was.empty.1);
+    }
+
+-- the tables of an empty register
+
+is_by_key_none : (s : profile.Schema) (k : ℕ) → AreByKey s k []
+is_by_key_none s k = record { by_key = refl; each = λ row none. absurd none }
+
+holds_empty : (t : BookTable) (qualifier id : List ℕ) (db : Database) → HasBook qualifier id db → Holds [] (book_trees db (tree_of t))
+holds_empty t qualifier id db h = subst (Holds []) (sym (empty t)) holds_none
+  where
+    empty : (t : BookTable) → book_trees db (tree_of t) ≡ []
+    empty Outgoing = h.empty.1.0
+    empty Stock = h.empty.1.1.0
+    empty Advice = h.empty.1.1.1.0
+    empty AdviceLine = h.empty.1.1.1.1.0
+    empty Orders = h.empty.1.1.1.1.1.0
+    empty OrderLine = h.empty.1.1.1.1.1.1.0
+    empty Reservation = h.empty.1.1.1.1.1.1.1.0
+    empty LotExpiry = h.empty.1.1.1.1.1.1.1.1.1.0
+
+no_rows : (W : Who) (t : BookTable) → rows_of W [] t ≡ []
+no_rows W Outgoing = refl
+no_rows W Stock = refl
+no_rows W Advice = refl
+no_rows W AdviceLine = refl
+no_rows W Orders = refl
+no_rows W OrderLine = refl
+no_rows W Reservation = refl
+no_rows W LotExpiry = refl
+
+pub stands_empty : (W : Who) (s : State) → IsLegal Two W [] → HasBook W.qualifier W.id s.now → HasGrown s W []
+stands_empty W s legal h =
+    record {
+      stands = record {
+        legal = legal;
+        schema = lies_alone s.now.schema h.schema;
+        rows = record {
+          book = h.book;
+          entry = let rows = h.empty in rows.0;
+          keyed = λ t. subst (λ rows. Holds rows (book_trees s.now (tree_of t))) (sym (no_rows W t)) (holds_empty t W.qualifier W.id s.now h);
+          rules = let rows = h.empty in rows.1.1.1.1.1.1.1.1.0;
+        };
+      };
+      sound = h.sound;
+      ordered = record {
+        entry = λ row none. absurd none;
+        outgoing = λ row none. absurd none;
+        keyed = λ t. subst (AreByKey (schema_of t) (width_of t)) (sym (no_rows W t)) (is_by_key_none (schema_of t) (width_of t));
+        rules = λ row none. absurd none;
+      };
+    }

@@ -1,0 +1,130 @@
+-- The texts that show running rows, and what they mean.
+use Rattle.std.proofs.Common.{◌≡◌, codes, List, ℕ, [], ◌∷◌, refl, None, pos, negsuc, false}
+use Rattle.sqlite.specs.declared.types.Value.TheVariants.{Int}
+use Rattle.sqlite.specs.Command.TheVariants.{Select}
+use Rattle.sqlite.specs.Term.{Term, lit, col, op2}
+use Rattle.sqlite_sql.specs.declared.ops.BinaryOp.TheVariants.{Compare}
+use Rattle.sqlite_sql.specs.declared.ops.CompareOp.TheVariants.{Eq}
+use Rattle.sqlite.specs.Collation.TheVariants.{Binary}
+use Rattle.sqlite.specs.Query.{Query, inner, end}
+use Rattle.sqlite_value.specs.Keys.{ascending}
+use Rattle.sqlite_value.specs.declared.keys.Key.{Key}
+use Rattle.sqlite_tied.specs.Compute.{everything}
+use Rattle.sqlite.specs.Listing.{understood, reads_listing}
+use Rattle.sqlite.proofs.Callers.{command_of}
+use Rattle.book_statements.specs.Asking.{OnlyReads}
+use Rattle.book_statements.specs.Layout.{Others, beside}
+use Rattle.book_statements.proofs.WritingTexts.{where_key}
+use Rattle.book_statements.proofs.Selects.{query_reads}
+
+-- a column of the row, from the least to the greatest
+abbrev pub rising : ℕ → Term × Key
+rising at = (col 1 at, ascending Binary)
+
+-- the depositor's rows of a table, these columns of them, in this order
+abbrev pub shown_where : ℕ → List Term → List (Term × Key) → Query
+shown_where tree project order = record {
+  from = inner tree end;
+  filter = where_key 0 1;
+  group = None;
+  project = project;
+  distinct = false;
+  collations = [];
+  order = order;
+  limit = lit (Int (negsuc 0));
+  offset = lit (Int (pos 0));
+}
+
+-- Stock.
+
+abbrev pub stock_rows_text : List ℕ
+stock_rows_text = codes "SELECT item, lot, expected, on_hand, reserved, shipped FROM stock WHERE who = ?1 ORDER BY item, lot"
+
+abbrev pub stock_columns : List Term
+stock_columns = col 1 2 ∷ col 1 3 ∷ col 1 5 ∷ col 1 6 ∷ col 1 7 ∷ col 1 8 ∷ []
+
+abbrev pub stock_order : List (Term × Key)
+stock_order = rising 2 ∷ rising 3 ∷ []
+
+abbrev pub stock_rows_query : Query
+stock_rows_query = shown_where 6 stock_columns stock_order
+
+abbrev pub stock_rows_names : List (List ℕ)
+stock_rows_names = codes "item" ∷ codes "lot" ∷ codes "expected" ∷ codes "on_hand" ∷ codes "reserved" ∷ codes "shipped" ∷ []
+
+pub stock_rows_is : (others : Others) → (command_of (understood (beside others) stock_rows_text) ≡ Select (record { lets = []; body = stock_rows_query }) stock_rows_names) × (reads_listing (beside others) stock_rows_text ≡ false)
+unfolding understood everything
+stock_rows_is others = (refl, refl)
+
+pub stock_rows_reads : OnlyReads stock_rows_text
+unfolding everything
+stock_rows_reads = query_reads stock_rows_text (λ schema base. refl)
+
+-- And the dates.
+
+abbrev pub all_dates_text : List ℕ
+all_dates_text = codes "SELECT item, lot, expiry FROM lot_expiry WHERE who = ?1 ORDER BY item, lot"
+
+abbrev pub all_dates_columns : List Term
+all_dates_columns = col 1 2 ∷ col 1 3 ∷ col 1 4 ∷ []
+
+abbrev pub all_dates_query : Query
+all_dates_query = shown_where 19 all_dates_columns stock_order
+
+abbrev pub all_dates_names : List (List ℕ)
+all_dates_names = codes "item" ∷ codes "lot" ∷ codes "expiry" ∷ []
+
+pub all_dates_reads : OnlyReads all_dates_text
+unfolding everything
+all_dates_reads = query_reads all_dates_text (λ schema base. refl)
+
+-- What went out.
+
+abbrev pub outbox_text : List ℕ
+outbox_text = codes "SELECT n, kind, content, state FROM outgoing WHERE who = ?1 ORDER BY n"
+
+abbrev pub outbox_columns : List Term
+outbox_columns = col 1 2 ∷ col 1 3 ∷ col 1 4 ∷ col 1 5 ∷ []
+
+abbrev pub outbox_order : List (Term × Key)
+outbox_order = rising 2 ∷ []
+
+abbrev pub outbox_query : Query
+outbox_query = shown_where 4 outbox_columns outbox_order
+
+abbrev pub outbox_names : List (List ℕ)
+outbox_names = codes "n" ∷ codes "kind" ∷ codes "content" ∷ codes "state" ∷ []
+
+pub outbox_is : (others : Others) → (command_of (understood (beside others) outbox_text) ≡ Select (record { lets = []; body = outbox_query }) outbox_names) × (reads_listing (beside others) outbox_text ≡ false)
+unfolding understood everything
+outbox_is others = (refl, refl)
+
+pub outbox_reads : OnlyReads outbox_text
+unfolding everything
+outbox_reads = query_reads outbox_text (λ schema base. refl)
+
+-- Whether a depositor has an entry.
+
+abbrev pub has_text : List ℕ
+has_text = codes "SELECT seq FROM entry WHERE who = ?1 LIMIT 1"
+
+abbrev pub has_query : Query
+has_query = record {
+  from = inner 1 end;
+  filter = op2 (Compare Eq Binary) (col 1 2) (col 0 0) ∷ [];
+  group = None;
+  project = col 1 0 ∷ [];
+  distinct = false;
+  collations = [];
+  order = [];
+  limit = lit (Int (pos 1));
+  offset = lit (Int (pos 0));
+}
+
+pub has_is : (others : Others) → (command_of (understood (beside others) has_text) ≡ Select (record { lets = []; body = has_query }) (codes "seq" ∷ [])) × (reads_listing (beside others) has_text ≡ false)
+unfolding understood everything
+has_is others = (refl, refl)
+
+pub has_reads : OnlyReads has_text
+unfolding everything
+has_reads = query_reads has_text (λ schema base. refl)
