@@ -40,7 +40,7 @@ fn insert_sent<'a, S: Alter>(
 }
 
 /// Adds an entry under the next number, with its rules, the text that goes out for it and the
-/// changes that its command makes.
+/// changes that its command makes. A statement that is refused is 40 or 41.
 pub fn write_entry<'a, S: Alter>(
     tx: &mut Transaction<'_, S>,
     calls: &mut Calls,

@@ -9,8 +9,11 @@ use store::Fault;
 /// How many calls of a store were refused and how many were made, and how many more may be.
 #[derive(Clone, Copy, Drop)]
 pub struct Calls {
+    /// How many were refused; at its greatest number the count stays.
     pub refused: u64,
+    /// How many were made; at its greatest number the count stays.
     pub made: u64,
+    /// How many more may be made, any number where this is None.
     pub limit: Option<u64>,
 }
 

@@ -52,7 +52,7 @@ pub(crate) fn set_version<S: Alter>(
 
 /// Carries the tables of a book of version 1, with so many entries, over to version 2: makes the
 /// two tables that are new in it, gives every entry the first rules, of which `told` is handed how
-/// many have them of how many, and sets the version.
+/// many have them of how many, and sets the version. A statement that is refused is 40 or 41.
 pub fn carry_all<S: Alter, T: FnMut(u64, u64)>(
     tx: &mut Transaction<'_, S>,
     calls: &mut Calls,

@@ -147,7 +147,8 @@ pub(crate) fn insert_book<'a, S: Alter>(
     )
 }
 
-/// Makes the eleven tables of an empty register, where there was no table.
+/// Makes the eleven tables of an empty register, where there was no table. A statement that is
+/// refused is 40 or 41.
 pub fn make_all<S: Alter>(
     tx: &mut Transaction<'_, S>,
     calls: &mut Calls,

@@ -29,8 +29,8 @@ pub(crate) fn run<S: Alter>(
     }
 }
 
-/// Commits what stands in a transaction, by one call of the store. Where that is refused, nothing
-/// of it is left.
+/// Commits what stands in a transaction, by one call of the store. Where that is refused (40 or
+/// 41), nothing of it is left.
 pub fn commit<S: Alter>(tx: Transaction<'_, S>, calls: &mut Calls) -> Result<(), Fault>
     ensures over { tx.exit.0.now.in_transaction ≡ false }
     ensures ended { Ended (state S.Store tx.entry.conn.now) (state S.Store tx.exit.0.now)

@@ -7,7 +7,7 @@ ghost use Rattle.book_statements.specs.Appending.{first_state};
 use rules::{Moment, Who};
 use std::alloc::{AllocError, Global};
 
-/// A partner as the tables have it: qualifier, hyphen, id.
+/// A partner as the tables have it: qualifier, hyphen, id. Want of memory is the one error.
 pub fn partner_text(alloc: Global, who: &Who) -> Result<Vec<u8>, AllocError>
     ensures { IfOk result (λ text. text.items ≡ who_text who.now) }
 {
