@@ -11,3 +11,4 @@ pub mod Enrolling
 pub mod Clock
 pub mod Serving
 pub mod Reasons
+pub mod Playing

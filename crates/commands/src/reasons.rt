@@ -5,7 +5,7 @@ ghost use Rattle.std.specs.Prelude.{◌≡◌, ◌++◌, false, List, Ok, IfOk, 
 ghost use Rattle.profile.specs.declared.rules.Rules.TheVariants.{Two};
 ghost use Rattle.profile.specs.Means.{Line};
 ghost use Rattle.sheet_texts.specs.Texts.{sheet_of_text};
-ghost use Rattle.store.specs.Standing.{GoesOn};
+ghost use Rattle.store.specs.Standing.{IsUnchanged};
 ghost use Rattle.commands.specs.Clerks.{kind_of};
 ghost use Rattle.commands.specs.Reasons as meant;
 ghost use Rattle.commands.specs.Telling.{refusal_line};
@@ -329,7 +329,7 @@ pub fn tell_reason<K: Keeper, E: io::Write>(
     slip: &Slip<'_>,
     err: &mut E,
 ) -> Result<(), CommandError>
-    ensures { GoesOn (K.standing book.old) (K.standing book.new) }
+    ensures { IsUnchanged (K.standing book.old) (K.standing book.new) }
 {
     let ticket = Key::Ticket(slip.told.ticket.as_bytes());
     if book.known(slip.who, &ticket)?.is_some() {

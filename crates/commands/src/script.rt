@@ -1,5 +1,8 @@
-ghost use Rattle.store.specs.Standing.{GoesOn};
+ghost use Rattle.std.specs.Prelude.{◌≡◌, [], ◌∷◌, MatchOption, Ok, IfOk, IfErr, filter, map};
+ghost use Rattle.profile.specs.Readings.{parts_at};
+ghost use Rattle.store.specs.Standing.{GoesOn, IsUnchanged};
 ghost use Rattle.commands.specs.Looking.{IsLineDone, IsView};
+ghost use Rattle.commands.specs.Playing.{asks, asking, rows_left, IsRowAnswered, IsRowStopped, HasPlayed, HasStopped};
 ghost use Rattle.commands.specs.Readying.{IsChange};
 
 use crate::acts::{perform, ready_at};
@@ -10,7 +13,7 @@ use crate::slips::slip_of;
 use crate::told::{CommandError, ExitStatus, usage};
 use crate::verbosity::Verbosity;
 use command_line::{BookAct, Place, Show, Task, Words, line};
-use std::alloc::Global;
+use std::alloc::{AllocError, Global};
 use std::io;
 use std::rt::{Clock, Files};
 use store::{Keeper, Moment, Refusal, ReplayBook, Warehouse, Who};
@@ -86,7 +89,7 @@ fn tell_why<R: Files + AllocGlobal, K: Keeper, E: io::Write>(
     words: &Words<'_>,
     err: &mut E,
 ) -> Result<(), CommandError>
-    ensures { GoesOn (K.standing book.old) (K.standing book.new) }
+    ensures { IsUnchanged (K.standing book.old) (K.standing book.new) }
 {
     let Words::Over {
         task: Task::Act {
@@ -104,6 +107,13 @@ fn tell_why<R: Files + AllocGlobal, K: Keeper, E: io::Write>(
     }
 }
 
+// The words of a row: there is one between any two spaces. Want of memory is the one error.
+fn words_of<'a>(alloc: Global, row: &'a str) -> Result<Vec<&'a str>, AllocError>
+    ensures { IfOk result (λ words. map (λ w. w.now) words.items ≡ parts_at 32 row.now) }
+{
+    row.split(' ').collect(alloc)
+}
+
 // Does what a row of a script or a batch asks for, over the book. What can't be told of a refusal
 // is left out: the refusal stands.
 fn answer_row<R: Files + Clock + AllocGlobal + Clone + Drop, K: Keeper, W: io::Write, E: io::Write>(
@@ -114,9 +124,13 @@ fn answer_row<R: Files + Clock + AllocGlobal + Clone + Drop, K: Keeper, W: io::W
     out: &mut W,
     err: &mut E,
 ) -> Result<ExitStatus, CommandError>
+    ensures answered { IfOk result (λ status. IsRowAnswered K.standing book.old book.new row.now
+        (W.contents out.old) (W.contents out.new) (Ok status)) }
+    ensures stopped { IfErr result (λ stop. IsRowStopped K.standing W.contents book.old out.old row.now
+        book.new out.new stop) }
     ensures goes { GoesOn (K.standing book.old) (K.standing book.new) }
 {
-    let words: Vec<&str> = row.split(' ').collect(rt.alloc())?;
+    let words = words_of(rt.alloc(), row)?;
     let asked = line(rt.alloc(), Place::Script, &words)?;
     let status = answer(rt, book, &asked, verbosity, out, err)?;
     if verbosity.explains && status == ExitStatus::Refused {
@@ -151,43 +165,62 @@ fn tell_stopped_line<E: io::Write>(err: &mut E, line: usize, is_wanted: bool) {
     }
 }
 
-// Does what the lines of a text ask for over a book, one after the other, from the one after so
-// many on. Where a line stops it, its number is told if that is wanted.
+// The first row of a text, and what stands after its LF, if there is one.
+fn first_row(text: &str) -> (&str, Option<&str>)
+    ensures { parts_at 10 text.now ≡ result.0.now ∷ rows_left result.1 }
+{
+    match text.split_once('\n') {
+        Some((row, rest)) => (row, Some(rest)),
+        None => (text, None),
+    }
+}
+
+// Does what the rows of a text ask for over a book, one after the other, each once; the first of
+// them has this number, from 0 on. Where a row stops it, its number is told if that is wanted.
 fn play_from<R: Files + Clock + AllocGlobal + Clone + Drop, K: Keeper, W: io::Write, E: io::Write>(
     rt: &R,
     book: &mut K,
-    text: &str,
-    done: usize,
+    text: Option<&str>,
+    first: usize,
     tells_stop: bool,
     verbosity: Verbosity,
     out: &mut W,
     err: &mut E,
 ) -> Result<ExitStatus, CommandError>
+    ensures played { IfOk result (λ status. HasPlayed K.standing W.contents
+        (book.old, (out.old, ExitStatus.Done)) (filter asks (rows_left text.entry))
+        (book.new, (out.new, status))) }
+    ensures stopped { IfErr result (λ stop. HasStopped K.standing W.contents
+        (book.old, (out.old, ExitStatus.Done)) (filter asks (rows_left text.entry)) book.new out.new stop) }
     ensures goes { GoesOn (K.standing book.old) (K.standing book.new) }
 {
     let mut status = ExitStatus::Done;
-    for (i, row) in text.split('\n').enumerate().skip(done) {
-        if row.is_empty() {
-            continue;
-        }
-        match answer_row(rt, book, row, verbosity, out, err) {
-            Ok(next) => {
-                tell_refused_line(err, next, i, verbosity);
-                status = status.and(next);
+    let mut left = text;
+    let mut number = first;
+    while let Some(rest) = left {
+        let (row, next) = first_row(rest);
+        if !row.is_empty() {
+            match answer_row(rt, book, row, verbosity, out, err) {
+                Ok(ended) => {
+                    tell_refused_line(err, ended, number, verbosity);
+                    status = status.and(ended);
+                }
+                Err(stop) => {
+                    tell_stopped_line(err, number, tells_stop);
+                    return Err(stop);
+                }
             }
-            Err(stop) => {
-                tell_stopped_line(err, i, tells_stop);
-                return Err(stop);
-            }
         }
+        left = next;
+        number = number.saturating_add(1);
     }
     Ok(status)
 }
 
-/// Does what the lines of a text ask for over a book, one after the other. A refusal goes on; words
-/// that can't be read, and a fault, stop it, after the number of the line is told. What was done by
-/// then stays done. Where it is asked for, the number of each line that is refused is told too,
-/// with its cause before it.
+/// Does what the lines of a text ask for over a book, one after the other, each once. A refusal
+/// goes on; words that can't be read, and a fault, stop it, after the number of the line is told.
+/// What was done by then stays done. Where it is asked for, the number of each line that is refused
+/// is told too, with its cause before it.
 pub fn play_over<
     R: Files + Clock + AllocGlobal + Clone + Drop,
     K: Keeper,
@@ -201,9 +234,13 @@ pub fn play_over<
     out: &mut W,
     err: &mut E,
 ) -> Result<ExitStatus, CommandError>
+    ensures played { IfOk result (λ status. HasPlayed K.standing W.contents
+        (book.old, (out.old, ExitStatus.Done)) (asking text.now) (book.new, (out.new, status))) }
+    ensures stopped { IfErr result (λ stop. HasStopped K.standing W.contents
+        (book.old, (out.old, ExitStatus.Done)) (asking text.now) book.new out.new stop) }
     ensures goes { GoesOn (K.standing book.old) (K.standing book.new) }
 {
-    play_from(rt, book, text, 0, true, verbosity, out, err)
+    play_from(rt, book, Some(text), 0, true, verbosity, out, err)
 }
 
 // What a line is that a book that is there can't do.
@@ -218,7 +255,7 @@ fn made<R: Files + AllocGlobal, E: io::Write>(
     verbosity: Verbosity,
     err: &mut E,
 ) -> Result<Option<ReplayBook>, CommandError> {
-    let words: Vec<&str> = row.split(' ').collect(rt.alloc())?;
+    let words = words_of(rt.alloc(), row)?;
     let Words::Over { task, .. } = line(rt.alloc(), Place::Script, &words)? else {
         return Err(usage(rt.alloc(), "the first line is init\n"));
     };
@@ -234,6 +271,25 @@ fn made<R: Files + AllocGlobal, E: io::Write>(
     }
 }
 
+// The first row of a text that asks for something, after its number, from 0 on, and before what
+// stands after its LF.
+fn opening_row(text: &str) -> Option<(usize, &str, Option<&str>)>
+    ensures { MatchOption result (asking text.now ≡ []) (λ found. asking text.now ≡ found.1.now
+        ∷ filter asks (rows_left found.2)) }
+{
+    let mut left = Some(text);
+    let mut number = 0_usize;
+    while let Some(rest) = left {
+        let (row, next) = first_row(rest);
+        if !row.is_empty() {
+            return Some((number, row, next));
+        }
+        left = next;
+        number = number.saturating_add(1);
+    }
+    None
+}
+
 // Plays the lines of a script, the first of which makes the book. A refusal goes on, but of that
 // line; anything else that isn't done stops it. The number of such a line is told where it is asked
 // for.
@@ -244,18 +300,14 @@ fn play<R: Files + Clock + AllocGlobal + Clone + Drop, W: io::Write, E: io::Writ
     out: &mut W,
     err: &mut E,
 ) -> Result<ExitStatus, CommandError> {
-    let Some((i, row)) = text
-        .split('\n')
-        .enumerate()
-        .find(|(_, row)| !row.is_empty())
-    else {
+    let Some((i, row, rest)) = opening_row(text) else {
         return Err(usage(rt.alloc(), "a script begins with init\n"));
     };
     match made(rt, row, verbosity, err) {
         Ok(Some(mut book)) => {
             let tells_stop = verbosity.explains;
-            let done = i.saturating_add(1);
-            play_from(rt, &mut book, text, done, tells_stop, verbosity, out, err)
+            let first = i.saturating_add(1);
+            play_from(rt, &mut book, rest, first, tells_stop, verbosity, out, err)
         }
         Ok(None) => {
             tell_refused_line(err, ExitStatus::Refused, i, verbosity);

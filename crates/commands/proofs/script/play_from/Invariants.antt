@@ -1,7 +1,15 @@
+use Rattle.std.specs.Prelude.{length}
+use Rattle.commands.specs.Playing.{rows_left}
+use Rattle.commands.specs.declared.told.ExitStatus.TheVariants.{Done}
 use Rattle.store.specs.Standing.{GoesOn}
+use Rattle.commands.proofs.PlayingLaws.{SoFar}
 use Rattle.commands.proofs.script.play_from.Given as goal
 
-abbrev pub invariant-loop-i : goal.invariant-loop-i
-invariant-loop-i g l = record {
+abbrev pub invariant-loop-left : goal.invariant-loop-left
+invariant-loop-left g l = record {
   goes : GoesOn (g.K.Keeper.standing l.fn.book) (g.K.Keeper.standing l.book);
+  so_far : SoFar g.K.Keeper.standing g.W.Write.contents (l.fn.book, (l.fn.out, Done)) l.fn.text l.left (l.book, (l.out, l.status));
 }
+
+abbrev pub decreases-loop-left : goal.decreases-loop-left
+decreases-loop-left g l = length (rows_left l.left)

@@ -1,0 +1,18 @@
+use Rattle.std.proofs.Common.{rules, inr, Err, sym, subst}
+use Rattle.store.proofs.Changes.{unchanged_refl}
+use Rattle.folders.proofs.Taking.{handed_on}
+use Rattle.commands.specs.Playing.{IsRowAnswered}
+use Rattle.commands.specs.declared.told.CommandError.{CommandError}
+use Rattle.commands.proofs.script.answer_row.Goals as goal
+
+pub returns-in_err-status-clause-stopped : goal.returns-in_err-status-clause-stopped
+returns-in_err-status-clause-stopped g c =
+    handed_on c.from_residual-in_err-status.result _ _ c.from_residual-in_err-status.ensures
+    (λ stop is. inr (subst (λ (s : CommandError). IsRowAnswered g.K.Keeper.standing c.args.book.now c.answer.new.book c.args.row.now (g.W.Write.contents c.args.out.now) (g.W.Write.contents c.answer.new.out) (Err s)) (sym is)
+    (record {
+      asked = c.in_ok-asked.asked;
+      read = search rules;
+      left = c.answer.new.book;
+      done = c.in_err-status.ensures.answered;
+      same = unchanged_refl _;
+    })))

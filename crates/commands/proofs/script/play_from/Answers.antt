@@ -1,0 +1,33 @@
+use Rattle.std.proofs.Common.{rules, ◌∙◌, ap, sym, subst}
+use Rattle.commands.specs.Playing.{rows_left}
+use Rattle.commands.specs.declared.told.ExitStatus.{ExitStatus}
+use Rattle.commands.specs.declared.told.ExitStatus.TheVariants.{Done}
+use Rattle.commands.proofs.PlayingLaws.{SoFar, asks_for, is_empty, over_empty, one_more, stopped_at}
+use Rattle.commands.proofs.script.play_from.Goals as goal
+use Rattle.commands.proofs.script.play_from.Goals.{then-not-is_empty+in-Ok, else-not-is_empty}
+
+pub returns-in-Err-clause-stopped : goal.returns-in-Err-clause-stopped
+returns-in-Err-clause-stopped g c =
+    stopped_at g.K.Keeper.standing g.W.Write.contents _ _ c.args.text c.loop-left.left c.first_row.result.1 c.first_row.result.0.now _ _ _
+    (ap rows_left c.in-Some.is ∙ c.first_row.ensures) (asks_for _ c.if-not-is_empty.ensures) c.in-Err.ensures.stopped c.loop-left.invariant.so_far
+
+pub loop-left-preserved : goal.loop-left-preserved
+loop-left-preserved g c =
+    let i = c.loop-left.invariant in
+    let from : g.row.K.Denot × (g.row.W.Denot × ExitStatus) = (c.args.book.now, (c.args.out.now, Done)) in
+    let rows = ap rows_left c.in-Some.is ∙ c.first_row.ensures in
+    elim c.if-not-is_empty.branch [
+      | then-not-is_empty+in-Ok w ↦ record {
+        goes = search rules;
+        so_far = subst (λ q. SoFar g.K.Keeper.standing g.W.Write.contents from c.args.text c.first_row.result.1 q)
+            (λ k. (sym w.book-is k, (sym w.out-is k, sym w.status-is k)))
+            (one_more g.K.Keeper.standing g.W.Write.contents from _ _ c.args.text c.loop-left.left c.first_row.result.1 c.first_row.result.0.now rows (asks_for _ w.if-not-is_empty.ensures)
+            (record { status = _; answered = w.in-Ok.ensures.answered; ends = w.and-status.ensures }) i.so_far);
+      }
+      | else-not-is_empty w ↦ record {
+        goes = search rules;
+        so_far = subst (λ q. SoFar g.K.Keeper.standing g.W.Write.contents from c.args.text c.first_row.result.1 q)
+            (λ k. (sym w.book-is k, (sym w.out-is k, sym w.status-is k)))
+            (over_empty g.K.Keeper.standing g.W.Write.contents from _ c.args.text c.loop-left.left c.first_row.result.1 c.first_row.result.0.now rows (is_empty _ w.if-not-is_empty.ensures) i.so_far);
+      }
+    ]
