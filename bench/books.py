@@ -42,7 +42,7 @@ AT = ["--at", "2025-03-04T09:15"]
 SIZES = [(1, 1000), (1, 10_000), (1, 100_000), (100, 1000), (100, 10_000), (100, 100_000)]
 COMMANDS, RUNS = 200, 5
 
-# The texts that the program asks and writes with (crates/book_tables). Each command asks for what is known under its mark: of a known one for the
+# The texts that the program asks and writes with (crates/book_statements, crates/book_tables). Each command asks for what is known under its mark: of a known one for the
 # entry, its rules and the text of its number, and nothing else; of a new one whether its depositor is enrolled, for the last number, for the advice
 # or the order that it names, and for the lots of its item and their expiries.
 OPENING = ["SELECT version, qualifier, id FROM book", "SELECT seq FROM entry"]
@@ -252,7 +252,7 @@ def of_sqlite(statements, book, work, folder):
         path = copied(book, folder, "stated.book")
         for times, name, ended in ((works, "writes", COMMANDS), (known, "known", 0)):
             ran = subprocess.run([statements, path, f"{folder}/{name}"], capture_output=True, text=True, check=True)
-            opening, rest, count = ran.stdout.split()
+            opening, rest, count, _ = ran.stdout.split()
             same("transactions", int(count), ended)
             openings.append(float(opening))
             times.append(float(rest))

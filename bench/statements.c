@@ -10,11 +10,12 @@
      O               what was done so far belongs to the opening
    A parameter is its type and its value: iNUMBER, tTEXT, bBYTES, or n for NULL.
 
-   Printed: seconds of the opening, seconds of the rest, how many transactions were ended. */
+   Printed: seconds of the opening, seconds of the rest, how many transactions were ended, and seconds of processor time of the rest. */
 #include <sqlite3.h>
 #include <stdio.h>
 #include <stdlib.h>
 #include <string.h>
+#include <sys/resource.h>
 #include <time.h>
 
 #define MOST_TEXTS 64
@@ -34,6 +35,13 @@ static double now(void) {
     struct timespec at;
     clock_gettime(CLOCK_MONOTONIC, &at);
     return (double)at.tv_sec + (double)at.tv_nsec / 1e9;
+}
+
+/* Processor time so far, the system's for this process too. */
+static double spent(void) {
+    struct rusage used;
+    getrusage(RUSAGE_SELF, &used);
+    return (double)(used.ru_utime.tv_sec + used.ru_stime.tv_sec) + (double)(used.ru_utime.tv_usec + used.ru_stime.tv_usec) / 1e6;
 }
 
 static void run(const char *sql) {
@@ -108,10 +116,11 @@ static char *read_all(const char *name) {
 
 int main(int count, char **words) {
     char *list, *end;
-    double begun, opened;
+    double begun, opened, before;
     if (count != 3) fail("usage: statements BOOK LIST");
     list = read_all(words[2]);
     begun = opened = now();
+    before = spent();
     if (sqlite3_open(words[1], &db) != SQLITE_OK) fail(words[1]);
     run("PRAGMA locking_mode = EXCLUSIVE");
     run("PRAGMA journal_mode = WAL");
@@ -120,9 +129,11 @@ int main(int count, char **words) {
         end = strchr(list, '\n');
         if (end) *end++ = 0;
         else end = list + strlen(list);
-        if (list[0] == 'O') opened = now();
-        else line(list);
+        if (list[0] == 'O') {
+            opened = now();
+            before = spent();
+        } else line(list);
     }
-    printf("%.6f %.6f %ld\n", opened - begun, now() - opened, ended);
+    printf("%.6f %.6f %ld %.6f\n", opened - begun, now() - opened, ended, spent() - before);
     return 0;
 }

@@ -1,0 +1,184 @@
+#!/usr/bin/env python3
+"""What a command costs in processor time over one opening of a book, beside the same statements through Debian's C SQLite. Not part of the gate.
+
+Usage: bench/costs.py [--largest N] [--picture FILE] [PROGRAM]   (default: up to 100,000 entries; crates/whx12/out/whx12, which `rt run` in that folder leaves)
+
+It needs cc and Debian's package libsqlite3-dev. For each size a book is filled as by bench/books.py, whose 200 interchanges of one line
+(an advice and an order in turn) are then given to the program as one `batch`, a `send` for each file, and given again, when all are known. From the
+processor time of a batch that of an opening is taken: a batch whose one line asks for the stock of a stranger. Beside it bench/statements.c runs the
+statements of the same commands in one process, prepared once, without reading a file, judging or answering; its processor time counts from after its opening.
+
+Then one interchange of a mebibyte, 1,000 advices of 23 lines over 9,200 pairs, is sent to an empty book, beside the statements of its rows: each row of
+`stock` once, and each other row once. The system's time for a process counts as its own. Of several runs the least counts. With `--picture` the
+cost of a command by the entries of the book is drawn into a file of SVG. The status is 1 where a file of rows differs.
+"""
+import os
+import resource
+import shutil
+import sqlite3
+import subprocess
+import sys
+import tempfile
+
+HERE = os.path.dirname(os.path.abspath(__file__))
+sys.path.insert(0, HERE)
+import books  # noqa: E402
+import measure as large  # noqa: E402
+import register  # noqa: E402
+
+SIZES = [1000, 10_000, 100_000]
+RUNS = 7
+WIDE, HIGH, LEFT, FOOT = 640, 360, 70, 50
+COLOURS = {"whx12, new": "#1f5fa8", "whx12, known": "#7fb0e0", "C SQLite, new": "#a8431f", "C SQLite, known": "#e0a17f"}
+
+
+def spent(words, wanted):
+    """Processor seconds of a run."""
+    before = resource.getrusage(resource.RUSAGE_CHILDREN)
+    ended = subprocess.run(words, capture_output=True, text=True, check=False)
+    after = resource.getrusage(resource.RUSAGE_CHILDREN)
+    books.same(f"status of {words[:3]}", ended.returncode, wanted)
+    return after.ru_utime + after.ru_stime - before.ru_utime - before.ru_stime, ended.stdout
+
+
+def lines_into(path, lines):
+    with open(path, "w", encoding="ascii") as file:
+        file.write("".join(f"{line}\n" for line in lines))
+    return path
+
+
+def of_program(program, book, work, folder):
+    """Processor seconds of all commands, and of all of them again, without those of an opening."""
+    files = f"{folder}/files"
+    work.folder(files)
+    at = books.AT[1]
+    sends = lines_into(f"{folder}/sends", [f"send {files}/{place:04d}.x12 --at {at}" for place in range(books.COMMANDS)])
+    looks = lines_into(f"{folder}/looks", ["stock ZZ-NONE"])
+    new, known, openings = [], [], []
+    for _ in range(RUNS):
+        path = books.copied(book, folder, "batch.book")
+        openings.append(spent([program, "batch", looks, "--book", path], 1)[0])
+        for times in (new, known):
+            seconds, printed = spent([program, "batch", sends, "--book", path], 0)
+            books.same("answers", printed, "".join(f"{answer}\n" for answer in work.answers if answer))
+            times.append(seconds)
+    shutil.rmtree(files)
+    return min(new) - min(openings), min(known) - min(openings)
+
+
+def of_sqlite(statements, book, work, folder):
+    """The same through C SQLite."""
+    work.list(f"{folder}/writes", True)
+    work.list(f"{folder}/known", False)
+    new, known = [], []
+    for _ in range(RUNS):
+        path = books.copied(book, folder, "stated.book")
+        for times, name in ((new, "writes"), (known, "known")):
+            ran = subprocess.run([statements, path, f"{folder}/{name}"], capture_output=True, text=True, check=True)
+            times.append(float(ran.stdout.split()[3]))
+    return min(new), min(known)
+
+
+def of_size(program, statements, entries, folder):
+    made, book = register.Register(1, entries), f"{folder}/new.book"
+    books.make(program, book, made)
+    work = books.Work(made)
+    ours, theirs = of_program(program, book, work, folder), of_sqlite(statements, book, work, folder)
+    for name, rows in books.rows_of(f"{folder}/batch.book").items():
+        books.same(f"rows of {name} after the commands", rows, books.rows_of(f"{folder}/stated.book")[name])
+    os.remove(book)
+    return [seconds / books.COMMANDS * 1e6 for seconds in (*ours, *theirs)]
+
+
+def typed(value):
+    if value is None:
+        return "n"
+    if isinstance(value, int):
+        return f"i{value}"
+    return f"b{value.decode()}" if isinstance(value, bytes) else f"t{value}"
+
+
+def list_of_rows(book, before, path):
+    """The list for bench/statements.c that writes what a book has more than it had."""
+    texts = {"entry": books.ENTRY, "entry_rules": books.RULES, "outgoing": books.OUTGOING, "stock": books.STOCK,
+             "advice": books.ADVICE, "advice_line": books.ADVICE_LINE}
+    rows = books.rows_of(book)
+    lines = [f"T\t{text}" for text in texts.values()] + ["O", "B"]
+    for number, name in enumerate(texts):
+        was = set(before[name])
+        lines += ["\t".join(["X", str(number), *map(typed, row)]) for row in rows[name] if row not in was]
+    with open(path, "w", encoding="ascii") as file:
+        file.write("\n".join([*lines, "E"]) + "\n")
+    return len(lines) - len(texts) - 2
+
+
+def of_mebibyte(program, statements, folder):
+    """Processor seconds of an interchange of a mebibyte, by the program and by C SQLite, and how many rows it writes."""
+    text = f"{folder}/large.x12"
+    with open(text, "w", encoding="ascii") as file:
+        file.write(large.advices())
+    empty = f"{folder}/empty.book"
+    for words in (["init", "ZZ-WHSE1"], ["enrol", "ZZ-ACME", *books.AT]):
+        subprocess.run([program, *words, "--book", empty], check=True)
+    before, ours, theirs, openings, known = books.rows_of(empty), [], [], [], []
+    for _ in range(RUNS):
+        path = books.copied(empty, folder, "large.book")
+        openings.append(spent([program, "stock", "ZZ-NONE", "--book", path], 1)[0])
+        ours.append(spent([program, "send", text, *books.AT, "--book", path], 0)[0])
+        opened = spent([program, "stock", "ZZ-NONE", "--book", path], 1)[0]
+        known.append(spent([program, "send", text, *books.AT, "--book", path], 0)[0] - opened)
+    count = list_of_rows(path, before, f"{folder}/rows")
+    for _ in range(RUNS):
+        path = books.copied(empty, folder, "rows.book")
+        ran = subprocess.run([statements, path, f"{folder}/rows"], capture_output=True, text=True, check=True)
+        theirs.append(float(ran.stdout.split()[3]))
+    for name, rows in books.rows_of(f"{folder}/large.book").items():
+        books.same(f"rows of {name} after a mebibyte", rows, books.rows_of(f"{folder}/rows.book")[name])
+    return min(ours) - min(openings), min(theirs), min(known), count
+
+
+def picture(path, figures):
+    """The cost of a command by the entries of the book, as lines over a scale of tens."""
+    top = max(value for row in figures.values() for value in row) * 1.1
+    across = lambda place: LEFT + place * (WIDE - LEFT - 150) / (len(figures) - 1)
+    up = lambda value: HIGH - FOOT - value / top * (HIGH - FOOT - 30)
+    parts = [f'<svg xmlns="http://www.w3.org/2000/svg" width="{WIDE}" height="{HIGH}" font-family="sans-serif" font-size="12">',
+             f'<rect width="{WIDE}" height="{HIGH}" fill="white"/>',
+             f'<text x="{LEFT}" y="18">Processor time of a command, in microseconds, by the entries of the book</text>']
+    step = 10 ** (len(str(int(top))) - 1)
+    for tick in range(0, int(top) + 1, step if top / step >= 3 else step // 4 or 1):
+        parts += [f'<line x1="{LEFT}" x2="{WIDE - 140}" y1="{up(tick):.1f}" y2="{up(tick):.1f}" stroke="#ddd"/>',
+                  f'<text x="{LEFT - 8}" y="{up(tick) + 4:.1f}" text-anchor="end">{tick}</text>']
+    for place, entries in enumerate(figures):
+        parts.append(f'<text x="{across(place):.1f}" y="{HIGH - FOOT + 20}" text-anchor="middle">{entries:,}</text>')
+    for at, (name, colour) in enumerate(COLOURS.items()):
+        points = " ".join(f"{across(place):.1f},{up(row[at]):.1f}" for place, row in enumerate(figures.values()))
+        last = list(figures.values())[-1][at]
+        parts += [f'<polyline points="{points}" fill="none" stroke="{colour}" stroke-width="2"/>',
+                  f'<text x="{across(len(figures) - 1) + 8:.1f}" y="{up(last) + 4:.1f}" fill="{colour}">{name}</text>']
+    with open(path, "w", encoding="ascii") as file:
+        file.write("\n".join([*parts, "</svg>"]) + "\n")
+
+
+def main(words):
+    largest = int(words[words.index("--largest") + 1]) if "--largest" in words else SIZES[-1]
+    drawn = words[words.index("--picture") + 1] if "--picture" in words else None
+    last = words[-1] if words and words[-1] not in (drawn, str(largest)) else None
+    program = os.path.abspath(last or os.path.join(HERE, "..", "crates", "whx12", "out", "whx12"))
+    with tempfile.TemporaryDirectory(prefix="whx12-costs-") as folder:
+        statements = f"{folder}/statements"
+        subprocess.run(["cc", "-O2", "-o", statements, f"{HERE}/statements.c", "-lsqlite3"], check=True)
+        print(f"C SQLite {sqlite3.sqlite_version}; load {os.getloadavg()[0]:.1f}; least of {RUNS} runs, microseconds of processor time a command")
+        print(" entries |    new      C  times |  known      C  times")
+        figures = {}
+        for entries in (size for size in SIZES if size <= largest):
+            new, known, c_new, c_known = figures[entries] = of_size(program, statements, entries, folder)
+            print(f"{entries:8,d} | {new:6.0f} {c_new:6.0f} {new / c_new:6.1f} | {known:6.0f} {c_known:6.0f} {known / c_known:6.1f}", flush=True)
+        ours, theirs, known, count = of_mebibyte(program, statements, folder)
+        print(f"a mebibyte of advices, {count} rows: {ours:.3f} s, C {theirs:.3f} s, {ours / theirs:.1f} times; again, when it is known: {known:.4f} s")
+    if drawn:
+        picture(drawn, figures)
+
+
+if __name__ == "__main__":
+    main(sys.argv[1:])
