@@ -1,6 +1,6 @@
 -- Rows that are played one after another.
 use borrow.Author.Tests.{ne_eqb, eqb-true}
-use Rattle.std.proofs.Common.{lit<, ◌==◌, ◌≡◌, ◌⊎◌, ℕ, Bool, true, false, length, List, [], ◌∷◌, ◌++◌, Option, Some, None, Ok, Err, refl, sym, subst, ap, ◌∙◌, arith}
+use Rattle.std.proofs.Common.{lit<, ◌==◌, ◌≡◌, ℕ, Bool, true, false, length, List, [], ◌∷◌, ◌++◌, Option, Some, None, refl, sym, subst, ap, ◌∙◌, arith}
 use Rattle.std.specs.Prelude.{filter, if◌then◌else◌}
 use Rattle.std.specs.Borrow.{Bor}
 use Rattle.std.proofs.lemmas.Fn.{FoldsTo-push}

@@ -1,5 +1,5 @@
 -- Worked examples: what comes of the depositors of a list, and the status that the list ends with.
-use Rattle.std.specs.Prelude.{◌≡◌, ◌++◌, ◌∷◌, [], codes}
+use Rattle.std.specs.Prelude.{◌≡◌, ◌∷◌, [], codes}
 use Rattle.std.proofs.Common.{refl}
 use Rattle.profile.specs.declared.rules.Rules.TheVariants.{Two}
 use Rattle.profile.specs.Accepted.{replies_on}

@@ -1,5 +1,5 @@
 -- Which line of a sheet a refusal is about, by what a book keeps of the pairs.
-use Rattle.std.specs.Prelude.{ℕ, ◌==◌, Bool, true, false, not, ◌&&◌, List, Option, Some, None, if◌then◌else◌, nat_lt, bytes_eq, find, count_by, is_none}
+use Rattle.std.specs.Prelude.{ℕ, ◌==◌, Bool, true, not, ◌&&◌, List, Option, Some, None, if◌then◌else◌, nat_lt, bytes_eq, find, count_by, is_none}
 use Rattle.std.specs.Option.{option_or}
 use Rattle.profile.specs.Means.{Line}
 use Rattle.rules.specs.declared.refusals.Refusal.{Refusal}
