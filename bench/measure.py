@@ -121,4 +121,5 @@ def main():
         print(f"whx12 takes 1/{seconds / fast['acks.x12']:.1f} of the time of X12::Parser on acks.x12")
 
 
-main()
+if __name__ == "__main__":
+    main()
