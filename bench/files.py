@@ -35,6 +35,7 @@ ANSWER = (b"ISA*00*          *00*          *ZZ*WHSE1          *ZZ*ACME          
           b"AK9*A*1*1*1~SE*6*0001~GE*1*1~IEA*1*000000001~")
 EXPECTED = "item,lot,expiry,expected,on_hand,reserved,shipped\nBOLT,L1,,100,0,0,0\n"
 UNREADABLE, BAD_TEXT = (1, "", "refused 1 Unreadable\n"), (1, "", "refused 32 BadText\n")
+TOO_MANY = (1, "", "refused 33 TooManyLines\n")
 LONG_SCRIPT, NO_TEXT = (2, "", "a script has at most 16,777,216 bytes\n"), (2, "", "a word isn't UTF-8 text\n")
 MOST, MOST_SCRIPT = 1_048_576, 16_777_216
 
@@ -155,7 +156,9 @@ def odd_entries(house):
     house.put("advice", ADVICE)
     os.symlink(b"advice", house.path("l.x12"))
     house.put(longest, ADVICE)
-    house.take("odd entries", "a.x12 accepted", "l.x12 stored", f"{longest.decode()} stored")
+    told = 3 * "an entry passed over: its name isn't UTF-8\n" + f"{longer.decode()} passed over: its name has more than 251 bytes\n"
+    lines = f"a.x12 accepted\nl.x12 stored\n{longest.decode()} stored\n"
+    same("odd entries", house.run("take", house.inbox, *AT), (1, lines, told))
     for name in ("a.x12", "l.x12", longest.decode()):
         house.is_answered("odd entries", name)
     same("odd entries: answers", sum(name.endswith(b".ans") for name in os.listdir(os.fsencode(house.inbox))), 3)
@@ -176,6 +179,8 @@ def limits(house):
     sheet, roster = b"BOLT,L1,90\n", b"depositors = ['ZZ-BETA']\n"
     same("a sheet too long by one", house.run("count", "ZZ-ACME", "T1", "SHP1", house.put("s", sheet.ljust(MOST + 1, b"\n")), *AT), BAD_TEXT)
     same("the longest sheet", house.run("count", "ZZ-ACME", "T1", "SHP1", house.put("s", sheet.ljust(MOST, b"\n")), *AT)[0::2], (0, ""))
+    many = sheet * 100_000
+    same("a sheet of 100,000 lines", house.run("count", "ZZ-ACME", "T2", "SHP1", house.put("s", many), *AT), TOO_MANY)
     same("a list too long by one", house.run("roster", house.put("r", roster.ljust(MOST + 1, b"\n")), *AT), BAD_TEXT)
     same("the longest list", house.run("roster", house.put("r", roster.ljust(MOST, b"\n")), *AT), (0, "ZZ-BETA enrolled\n", ""))
     script = b"init ZZ-WHSE1\nenrol ZZ-ACME --at 2025-03-04T09:15\nstock ZZ-ACME --csv\nstock ZZ-"
@@ -184,9 +189,12 @@ def limits(house):
 
 
 def words(house):
-    """Words that aren't UTF-8."""
+    """Words that aren't UTF-8, and a name that is a word of the program's."""
     for line in ([b"stock", b"ZZ-\xff", b"--book", house.book], [b"\xc3"], [b"send", b"\xff", b"--book", house.book], [b"stock", b"ZZ-ACME", b"--book", b"\xff"]):
         same(f"the words {line}", house.run_words(line), NO_TEXT)
+    with open(f"{house.folder}/--explain", "wb") as file:
+        file.write(ADVICE)
+    same("a file named --explain", house.run_words(["send", "--book", house.book, *AT, "--", "--explain"])[0::2], (0, ""))
 
 
 def main(argv):

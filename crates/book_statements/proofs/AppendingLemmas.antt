@@ -16,7 +16,7 @@ use Rattle.profile.specs.Tables.{Number, Text, Blob, TableRow, AllTables, number
 use Rattle.profile.specs.Changes.{Change, Puts, changed_by, with_entry, LeadOn}
 use Rattle.rules.specs.Written.{Written}
 use Rattle.rules.specs.Tabled.{table_changes}
-use Rattle.stock.specs.declared.steps.Change as stock
+use Rattle.rules.specs.Change as stock
 use Rattle.rules.specs.Kinds.{kind_by}
 use Rattle.book_statements.specs.Appending.{first_state, sent_changes, entry_changes, Appends}
 use Rattle.book_statements.specs.Leading.{Leads}

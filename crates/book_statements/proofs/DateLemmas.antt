@@ -8,8 +8,8 @@ use Rattle.sqlite.specs.Order.{Row}
 use Rattle.profile.specs.Rows.{LotRow}
 use Rattle.profile.specs.Tables.{Text, TableRow, expiry_cells}
 use Rattle.profile.proofs.TextLaws.{same_text, text_is}
-use Rattle.goods.specs.Keyed.{Pair, rises_by, row_key, key_before as pairs_in_order}
-use Rattle.goods.proofs.KeyLemmas.{pairs_strict}
+use Rattle.rules.specs.Keyed.{Pair, rises_by, row_key, key_before as pairs_in_order}
+use Rattle.rules.proofs.KeyLemmas.{pairs_strict}
 use Rattle.book_statements.specs.Dated.{Dated, date_shown, dates_of}
 
 abbrev pub date_cells : Dated → TableRow

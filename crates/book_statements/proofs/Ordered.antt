@@ -20,8 +20,8 @@ use Rattle.profile.specs.Page.{PageAdvice, PageLine, PageOrder, advices_of, orde
 use Rattle.profile.specs.Lists.{in_order}
 use Rattle.profile.specs.Tables.{Cell, Number, Text, TableRow, text_or_null, depositors, for_each, entries_on, entry_rules_on, outgoing_cells, outgoing_table, stock_cells, stock_table, advice_cells, advice_rows, advice_table, advice_line_cells, advice_line_rows, advice_line_table, orders_cells, orders_rows, orders_table, order_line_cells, order_line_rows, order_line_table, reservation_cells, reservation_rows, reservation_table, expiry_cells, lot_expiry_table}
 use Rattle.profile.specs.Schema.{Schema, key_before, key_in, entry_schema, entry_rules_schema, outgoing_schema, stock_schema, advice_schema, advice_line_schema, orders_schema, order_line_schema, reservation_schema, lot_expiry_schema}
-use Rattle.goods.specs.Keyed.{Pair, rises_by, row_key, shipment_of, number_of, key_before as pairs_in_order}
-use Rattle.goods.proofs.KeyLemmas.{texts_strict, pairs_strict}
+use Rattle.rules.specs.Keyed.{Pair, rises_by, row_key, shipment_of, number_of, key_before as pairs_in_order}
+use Rattle.rules.proofs.KeyLemmas.{texts_strict, pairs_strict}
 use Rattle.rules.proofs.KeyedLists.{both, order_rises, rises_map}
 use Rattle.rules.proofs.Depositors.{depositors_rise}
 use Rattle.rules.proofs.Portions.{rest_in, map_prefixed}

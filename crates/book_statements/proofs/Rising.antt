@@ -10,8 +10,8 @@ use Rattle.sqlite_rules.proofs.ProbeLemmas.{has_mapped}
 use Rattle.profile.specs.Bytes.{comes_before}
 use Rattle.profile.specs.Tables.{Cell, Null, Number, Text, Blob, TableRow}
 use Rattle.profile.specs.Schema.{Schema, key_before, key_in, is_by_key}
-use Rattle.goods.specs.Keyed.{rises_by}
-use Rattle.goods.proofs.Texts.{texts_never}
+use Rattle.rules.specs.Keyed.{rises_by}
+use Rattle.rules.proofs.Texts.{texts_never}
 use Rattle.rules.proofs.KeyedLists.{both}
 use Rattle.rules.proofs.Blocks.{prefixed, is_above, blocks, blocks_above}
 

@@ -9,7 +9,7 @@ use Rattle.profile.specs.Tables.{entry_row, entry_rules_row, outgoing_row}
 use Rattle.profile.specs.Changes as tables
 use Rattle.rules.specs.Written.{Written, written}
 use Rattle.rules.specs.Tabled.{table_changes}
-use Rattle.stock.specs.declared.steps.Change.{Change}
+use Rattle.rules.specs.Change.{Change}
 
 -- the state of what has just gone out for a deed
 abbrev pub first_state : Deed → List ℕ

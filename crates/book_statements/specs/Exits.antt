@@ -8,7 +8,7 @@ use Rattle.profile.specs.Header.{Who, who_text}
 use Rattle.profile.specs.Register.{Entry}
 use Rattle.profile.specs.Accepted.{IsLegal}
 use Rattle.rules.specs.Written.{Written}
-use Rattle.stock.specs.declared.steps.Change.{Change}
+use Rattle.rules.specs.Change.{Change}
 use Rattle.book_statements.specs.Standing.{Stands, StandsIn, AreOrdered, filled}
 use Rattle.book_statements.specs.Appending.{Appends}
 

@@ -27,6 +27,13 @@ pub record Spends (made more : ℕ) (old new : Option ℕ) : Type 0 where
 abbrev pub Counts : {S : Type 0} → Kept S → Kept S → Type 0
 Counts old new = Spends old.made new.made old.limit new.limit
 
+-- What calls tell of their number: none was refused where they answer Ok, as many fewer are left as were made, and an Ok is none at
+-- a limit of 0.
+pub record AreCounted {S T : Type 0} (old new : Kept S) (result : Result T Fault) : Type 0 where
+  pub uncounted : OnOk result (new.refused ≡ old.refused)
+  pub limit : Counts old new
+  pub allowed : OnOk result (old.limit ≢ Some 0)
+
 -- What calls tell, one or more: where one is refused that is 40 or 41, which counts; and an Ok is none at a limit of 0.
 pub record Called {S T : Type 0} (old new : Kept S) (result : Result T Fault) : Type 0 where
   pub named : IfErr result (λ f. (f ≡ OutOfMemory) ⊎ (f ≡ Store))

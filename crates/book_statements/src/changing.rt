@@ -11,9 +11,8 @@ use crate::writing::{
     free_reservations, put_advice, put_advice_line, put_expiry, put_order, put_order_line,
     put_reservation, put_stock,
 };
-use rules::{Change, Row};
+use rules::{Change, KnownAdvice, KnownOrder, Row};
 use sqlite::{Alter, Transaction};
-use stock::{KnownAdvice, KnownOrder};
 use store::Fault;
 
 /// Puts the lines of an advice.

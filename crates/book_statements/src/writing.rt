@@ -10,11 +10,9 @@ ghost use Rattle.book_statements.specs.Writing.{WroteIn};
 
 use crate::calls::Calls;
 use crate::running::run;
-use rules::Row;
-use sets_in::Goods;
+use rules::{Goods, KnownAdvice, KnownLine, KnownOrder, Row};
 use sqlite::types::ValueRef;
 use sqlite::{Alter, Transaction};
-use stock::{KnownAdvice, KnownLine, KnownOrder};
 use store::Fault;
 
 // 1 where it is so, else 0.

@@ -19,9 +19,9 @@ use Rattle.profile.specs.Tables.{Text, TableRow, advice_cells, advice_rows, advi
 use Rattle.profile.specs.Schema.{advice_line_schema}
 use Rattle.profile.specs.Bytes.{comes_before}
 use Rattle.profile.proofs.TextLaws.{text_is as bytes_same}
-use Rattle.goods.specs.Keyed.{shipment_of}
-use Rattle.goods.specs.Pages.{advice_at, is_shipment}
-use Rattle.goods.proofs.KeyLemmas.{texts_strict}
+use Rattle.rules.specs.Keyed.{shipment_of}
+use Rattle.rules.specs.Pages.{advice_at, is_shipment}
+use Rattle.rules.proofs.KeyLemmas.{texts_strict}
 use Rattle.std.specs.List.{list_all}
 use Rattle.rules.specs.Fitting.{is_fitting_line}
 use Rattle.rules.proofs.Fits.{page_fits}

@@ -10,10 +10,10 @@ use Rattle.profile.specs.History.{events}
 use Rattle.profile.specs.Page.{PageDocument, sent_by, sent_on, documents_of, page_of}
 use Rattle.profile.specs.Register.{Act, Count, Pick, Recount, Deed, Enrolled, Received, Performed, Entry, is_numbered, next_number}
 use Rattle.profile.specs.Rows.{OutRow, act_kind, act_function, said_of, state_text, out_row, outgoing_on, outgoing_rows}
-use Rattle.goods.specs.Pages.{document_at}
-use Rattle.goods.specs.Functions.{function_text}
-use Rattle.goods.specs.declared.documents.Function.{Function}
-use Rattle.goods.specs.declared.documents.Function.TheVariants as functions
+use Rattle.rules.specs.Pages.{document_at}
+use Rattle.rules.specs.Functions.{function_text}
+use Rattle.rules.specs.Function.{Function}
+use Rattle.rules.specs.Function.TheVariants as functions
 use Rattle.rules.specs.declared.kinds.OutKind.{OutKind}
 use Rattle.rules.specs.declared.kinds.OutKind.TheVariants.{Receipt, Shipment, Adjustment}
 use Rattle.rules.specs.Kinds.{kind_text}

@@ -34,7 +34,7 @@ use Rattle.profile.specs.Bytes.{comes_before}
 use Rattle.profile.specs.Header.{Who, is_partner, who_text}
 use Rattle.profile.specs.Register.{Entry, own, is_numbered}
 use Rattle.profile.specs.Tables.{entry_row, entries_on, entry_table}
-use Rattle.goods.proofs.Texts.{texts_never}
+use Rattle.rules.proofs.Texts.{texts_never}
 use Rattle.book_statements.specs.Asking.{Finds, OnlyReads}
 use Rattle.book_tables.specs.Enrolments.{EnrolmentFacts, enrolments_after, enrolments, from_text, IsFirstFrom, enrolment_shown, enrolment_text}
 use Rattle.book_statements.specs.Exits.{StandsWhileOpen}

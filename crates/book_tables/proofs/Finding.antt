@@ -5,9 +5,9 @@ use Rattle.std.specs.List.{list_all, enumerate_from}
 use Rattle.std.proofs.lemmas.Bool.{and_parts, both_ways}
 use Rattle.sqlite_rules.specs.Lists.{Has}
 use Rattle.sqlite_rules.proofs.ListLemmas.{test_has, has_found, has_filtered, has_kept, has_left, has_right}
-use Rattle.goods.specs.Keyed.{rises_by}
-use Rattle.goods.proofs.Keys.{all_filter}
-use Rattle.goods.proofs.Orders.{IsStrict}
+use Rattle.rules.specs.Keyed.{rises_by}
+use Rattle.rules.proofs.Keys.{all_filter}
+use Rattle.rules.proofs.Orders.{IsStrict}
 use Rattle.rules.proofs.KeyedLists.{both}
 
 module _ {X : Type 0} where

@@ -14,7 +14,7 @@ use Rattle.profile.specs.Page.{PageAdvice, PageLine, PageOrder, page_of}
 use Rattle.profile.specs.History.{events}
 use Rattle.profile.specs.Register.{Entry}
 use Rattle.profile.specs.Rows.{LotRow}
-use Rattle.goods.specs.Pages.{advice_at, is_number, is_shipment, order_at}
+use Rattle.rules.specs.Pages.{advice_at, is_number, is_shipment, order_at}
 use Rattle.rules.specs.Fitting.{is_fitting_advice, is_fitting_line, is_fitting_order, is_fitting_ordered, is_fitting_row}
 use Rattle.rules.proofs.Fits.{advices_fit}
 use Rattle.rules.proofs.KeyedLists.{all_found}

@@ -10,7 +10,7 @@ use Rattle.profile.specs.Header.{Who, is_partner, who_text}
 use Rattle.profile.specs.Register.{Entry, own}
 use Rattle.profile.specs.History.{events}
 use Rattle.profile.specs.Rows.{LotRow, StockRow, OutRow, shown_row, running_rows, stock_rows, outgoing_rows, outbox_rows}
-use Rattle.goods.specs.Keyed.{rises_by, row_key, key_before as pairs_in_order}
+use Rattle.rules.specs.Keyed.{rises_by, row_key, key_before as pairs_in_order}
 use Rattle.book_statements.specs.Asking.{Finds}
 use Rattle.book_statements.specs.Layout.{expiry_tree}
 use Rattle.book_statements.specs.Exits.{StandsWhileOpen}

@@ -8,7 +8,7 @@ use Rattle.profile.specs.Header.{Who, who_text}
 use Rattle.profile.specs.Register.{Entry}
 use Rattle.rules.specs.Written.{Written}
 use Rattle.rules.specs.Tabled.{table_changes}
-use Rattle.stock.specs.declared.steps.Change as stock
+use Rattle.rules.specs.Change as stock
 use Rattle.book_statements.specs.Appending.{Appends, entry_changes}
 use Rattle.book_statements.specs.Leading.{Leads, Keeps}
 use Rattle.book_statements.specs.Standing.{Filled, filled, Stands, StandsIn}

@@ -15,11 +15,11 @@ use Rattle.profile.specs.Page.{page_of}
 use Rattle.profile.specs.Rows.{LotRow, running_rows}
 use Rattle.profile.specs.Tables.{Text, TableRow, stock_cells, stock_table, expiry_cells, lot_expiry_table}
 use Rattle.profile.specs.Schema.{stock_schema, lot_expiry_schema}
-use Rattle.goods.specs.Keyed.{rises_by, row_key, key_before as pairs_in_order}
+use Rattle.rules.specs.Keyed.{rises_by, row_key, key_before as pairs_in_order}
 use Rattle.std.specs.List.{list_all}
 use Rattle.rules.specs.Fitting.{is_fitting_row}
 use Rattle.rules.proofs.Fits.{page_fits}
-use Rattle.goods.proofs.Keys.{all_filter}
+use Rattle.rules.proofs.Keys.{all_filter}
 use Rattle.book_statements.specs.Asking.{Finds}
 use Rattle.book_statements.specs.Exits.{StandsWhileOpen}
 use Rattle.book_statements.specs.Layout.{stock_layout, lot_expiry_layout, book_trees, expiry_tree}

@@ -13,10 +13,10 @@ use Rattle.profile.specs.History.{History, history}
 use Rattle.profile.specs.Need.{Need, is_number_of, part}
 use Rattle.profile.specs.Page.{page_of}
 use Rattle.profile.specs.Register.{Entry, own}
-use Rattle.goods.specs.Pages.{IsSound, PageFacts}
-use Rattle.stock.specs.Parts.{Named}
-use Rattle.stock.proofs.PageLemmas.{blank_sound}
-use Rattle.stock.proofs.PartLaws.{part_is_part, part_sound}
+use Rattle.rules.specs.Pages.{IsSound, PageFacts}
+use Rattle.rules.specs.Parts.{Named}
+use Rattle.rules.proofs.PageLemmas.{blank_sound}
+use Rattle.rules.proofs.PartLaws.{part_is_part, part_sound}
 use Rattle.rules.specs.Decided.{IsHeldPart, IsPageOf}
 use Rattle.rules.specs.LegalPages.{IsLegalPage}
 use Rattle.rules.specs.Naming.{facts_of, named_of}

@@ -14,7 +14,7 @@ use Rattle.sqlite_rules.specs.Lists.{Has}
 use Rattle.sqlite_rules.proofs.ListLemmas.{has_filtered, has_kept}
 use Rattle.profile.specs.Bytes.{comes_before}
 use Rattle.profile.specs.Header.{who_text}
-use Rattle.goods.proofs.Texts.{texts_never, texts_through, texts_total}
+use Rattle.rules.proofs.Texts.{texts_never, texts_through, texts_total}
 use Rattle.book_tables.specs.Enrolments.{EnrolmentFacts, from_text, IsFirstFrom, next_text}
 
 -- The text that comes next.

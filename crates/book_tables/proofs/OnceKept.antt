@@ -8,7 +8,7 @@ use Rattle.std.proofs.lemmas.List.Sorted.{list_any-IsPermutation}
 use Rattle.std.proofs.lemmas.Slice.Eq.{bytes_eq-Decides}
 use Rattle.profile.specs.Bytes.{is_one_of}
 use Rattle.profile.specs.Need.{is_number_of}
-use Rattle.stock.specs.Parts.{Named}
+use Rattle.rules.specs.Parts.{Named}
 use Rattle.book_tables.specs.Needed.{with_numbers, with_texts}
 use Rattle.book_tables.specs.declared.needed.Sought.{Sought}
 use Rattle.book_tables.specs.declared.needed.Sought.TheVariants.{Advice, Order, Lots}

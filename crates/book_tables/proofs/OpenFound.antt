@@ -23,7 +23,7 @@ use Rattle.profile.specs.Page.{PageAdvice, PageOrder, page_advices, page_orders,
 use Rattle.profile.specs.Tables.{Text, TableRow, advice_cells, advice_rows, advice_table, orders_cells, orders_rows, orders_table}
 use Rattle.profile.specs.Schema.{advice_schema, orders_schema}
 use Rattle.profile.proofs.TextLaws.{same_text}
-use Rattle.goods.specs.Keyed.{shipment_of, number_of}
+use Rattle.rules.specs.Keyed.{shipment_of, number_of}
 use Rattle.rules.specs.Naming.{facts_of}
 use Rattle.store.specs.Open.{open_of, open_on, open_work}
 use Rattle.book_statements.specs.Asking.{Finds}

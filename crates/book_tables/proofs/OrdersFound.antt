@@ -21,9 +21,9 @@ use Rattle.profile.specs.Tables.{Text, TableRow, orders_cells, orders_rows, orde
 use Rattle.profile.specs.Schema.{order_line_schema, reservation_schema}
 use Rattle.profile.specs.Bytes.{comes_before}
 use Rattle.profile.proofs.TextLaws.{text_is as bytes_same}
-use Rattle.goods.specs.Keyed.{number_of, key_before as pairs_in_order, rises_by}
-use Rattle.goods.specs.Pages.{order_at, is_number}
-use Rattle.goods.proofs.KeyLemmas.{texts_strict}
+use Rattle.rules.specs.Keyed.{number_of, key_before as pairs_in_order, rises_by}
+use Rattle.rules.specs.Pages.{order_at, is_number}
+use Rattle.rules.proofs.KeyLemmas.{texts_strict}
 use Rattle.std.specs.List.{list_all}
 use Rattle.rules.specs.Fitting.{is_fitting_line, is_fitting_ordered}
 use Rattle.rules.proofs.Fits.{page_fits}

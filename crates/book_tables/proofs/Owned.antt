@@ -17,7 +17,7 @@ use Rattle.profile.proofs.ReadingLaws.{who_of-who_text}
 use Rattle.rules.specs.Written.{Written, written, written_as}
 use Rattle.rules.proofs.Registers.{who_is, same_who, own_more, own_without}
 use Rattle.rules.proofs.Depositors.{partner_of}
-use Rattle.goods.proofs.Keys.{all_filter}
+use Rattle.rules.proofs.Keys.{all_filter}
 use Rattle.store.specs.Replayed.{written_on, all_written}
 
 -- Taking the own entries.

@@ -16,8 +16,8 @@ use Rattle.profile.specs.Accepted.{IsLegal}
 use Rattle.profile.specs.Rows.{running_rows, outgoing_rows}
 use Rattle.profile.specs.Tables.{Text, TableRow, for_each, outgoing_cells, outgoing_table, stock_cells, stock_table, expiry_cells, lot_expiry_table}
 use Rattle.profile.proofs.TextLaws.{same_text}
-use Rattle.goods.specs.Keyed.{rises_by}
-use Rattle.goods.proofs.Orders.{IsStrict}
+use Rattle.rules.specs.Keyed.{rises_by}
+use Rattle.rules.proofs.Orders.{IsStrict}
 use Rattle.rules.proofs.Blocks.{prefixed, blocks}
 use Rattle.rules.proofs.Depositors.{IsAmong, among}
 use Rattle.rules.proofs.TableSteps.{text_apart}

@@ -16,8 +16,8 @@ use Rattle.profile.specs.History.{events}
 use Rattle.profile.specs.Page.{page_of}
 use Rattle.profile.specs.Rows.{OutRow, outgoing_rows, outbox_rows}
 use Rattle.profile.specs.Tables.{Text, TableRow, outgoing_cells, outgoing_table}
-use Rattle.goods.specs.Pages.{document_at}
-use Rattle.goods.proofs.KeyLemmas.{numbers_strict}
+use Rattle.rules.specs.Pages.{document_at}
+use Rattle.rules.proofs.KeyLemmas.{numbers_strict}
 use Rattle.book_statements.specs.Asking.{Finds}
 use Rattle.book_tables.specs.Contents.{IsContent}
 use Rattle.book_statements.specs.Exits.{StandsWhileOpen}

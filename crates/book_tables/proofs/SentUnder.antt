@@ -26,8 +26,8 @@ use Rattle.profile.specs.Reply.{out}
 use Rattle.profile.specs.Rows.{OutRow, out_row, outgoing_on, outgoing_rows}
 use Rattle.profile.specs.Tables.{Text, TableRow, outgoing_cells, outgoing_table}
 use Rattle.profile.proofs.TextLaws.{same_text}
-use Rattle.goods.specs.Keyed.{rises_by}
-use Rattle.goods.proofs.KeyLemmas.{numbers_strict}
+use Rattle.rules.specs.Keyed.{rises_by}
+use Rattle.rules.proofs.KeyLemmas.{numbers_strict}
 use Rattle.book_statements.specs.Asking.{Finds}
 use Rattle.book_tables.specs.Contents.{IsContent}
 use Rattle.book_statements.specs.Held.{values, Holds}

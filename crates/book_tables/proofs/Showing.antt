@@ -18,7 +18,7 @@ use Rattle.sqlite_rules.proofs.ListLemmas.{has_filtered, has_kept}
 use Rattle.sqlite_rules.proofs.ProbeLemmas.{has_mapped, mapped_has}
 use Rattle.profile.specs.Tables.{Text, TableRow}
 use Rattle.profile.proofs.TextLaws.{same_text}
-use Rattle.goods.specs.Keyed.{rises_by}
+use Rattle.rules.specs.Keyed.{rises_by}
 use Rattle.rules.proofs.Blocks.{prefixed}
 use Rattle.book_statements.specs.Held.{values, Holds}
 use Rattle.book_statements.specs.Steps.{key_of}

@@ -24,8 +24,8 @@ use Rattle.profile.specs.Accepted.{IsLegal}
 use Rattle.profile.specs.Rows.{LotRow, OutRow, shown_row, running_rows, outgoing_rows}
 use Rattle.profile.specs.Tables.{Text, TableRow, depositors, for_each, stock_cells, stock_table, expiry_cells, lot_expiry_table, outgoing_cells, outgoing_table}
 use Rattle.profile.specs.Schema.{stock_schema, lot_expiry_schema, outgoing_schema}
-use Rattle.goods.specs.Keyed.{row_key, key_before as pairs_in_order}
-use Rattle.goods.proofs.KeyLemmas.{numbers_strict}
+use Rattle.rules.specs.Keyed.{row_key, key_before as pairs_in_order}
+use Rattle.rules.proofs.KeyLemmas.{numbers_strict}
 use Rattle.rules.proofs.Blocks.{prefixed}
 use Rattle.book_statements.specs.Held.{Holds}
 use Rattle.sqlite.specs.Schema.{Schema}

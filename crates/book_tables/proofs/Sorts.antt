@@ -15,7 +15,7 @@ use Rattle.sqlite.specs.Tree.{IsTable, rowid}
 use Rattle.sqlite_rules.specs.Lists.{Has}
 use Rattle.sqlite_rules.proofs.ListLemmas.{all_has, all_from, test_has, has_contained, contains_had, has_filtered}
 use Rattle.sqlite_rules.proofs.ProbeLemmas.{has_mapped, mapped_has}
-use Rattle.goods.specs.Keyed.{rises_by}
+use Rattle.rules.specs.Keyed.{rises_by}
 use Rattle.book_statements.proofs.KeyLemmas.{irreflexive}
 
 -- of two that aren't alike, the second not below the first, the first is below

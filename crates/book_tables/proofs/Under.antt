@@ -22,7 +22,7 @@ use Rattle.profile.specs.Register.{Entry, own}
 use Rattle.profile.specs.Accepted.{IsLegal}
 use Rattle.profile.specs.Tables.{Text, TableRow, for_each}
 use Rattle.profile.proofs.TextLaws.{same_text}
-use Rattle.goods.specs.Keyed.{rises_by}
+use Rattle.rules.specs.Keyed.{rises_by}
 use Rattle.book_statements.specs.Held.{values, Holds}
 use Rattle.book_statements.specs.Steps.{key_of}
 use Rattle.book_statements.proofs.Found.{map-both}

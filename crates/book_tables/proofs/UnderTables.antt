@@ -21,8 +21,8 @@ use Rattle.profile.specs.Register.{Entry, own}
 use Rattle.profile.specs.Accepted.{IsLegal}
 use Rattle.profile.specs.Tables.{Text, TableRow, for_each}
 use Rattle.profile.proofs.TextLaws.{text_is as bytes_same}
-use Rattle.goods.specs.Keyed.{rises_by}
-use Rattle.goods.proofs.KeyLemmas.{texts_strict}
+use Rattle.rules.specs.Keyed.{rises_by}
+use Rattle.rules.proofs.KeyLemmas.{texts_strict}
 use Rattle.book_statements.specs.Held.{values}
 use Rattle.book_tables.proofs.Finding.{one_found, one_key, flat_has}
 use Rattle.book_statements.proofs.KeyLemmas.{text_itself}

@@ -3,9 +3,9 @@ use Rattle.std.specs.Prelude.{◌≡◌, ℕ, List, [], None, Some, Option}
 use Rattle.profile.specs.Means.{Line}
 use Rattle.profile.specs.Page.{PageAdvice, PageLine, PageOrder, PageDocument}
 use Rattle.profile.specs.Rows.{OutRow, state_text}
-use Rattle.goods.specs.Functions.{function_text}
-use Rattle.goods.specs.declared.documents.Function.{Function}
-use Rattle.goods.specs.declared.documents.Function.TheVariants as functions
+use Rattle.rules.specs.Functions.{function_text}
+use Rattle.rules.specs.Function.{Function}
+use Rattle.rules.specs.Function.TheVariants as functions
 use Rattle.rules.specs.declared.kinds.OutKind.{OutKind}
 use Rattle.rules.specs.declared.kinds.OutKind.TheVariants.{Answer, Receipt, Shipment, Adjustment}
 use Rattle.rules.specs.Kinds.{kind_text}

@@ -8,8 +8,8 @@ use Rattle.profile.specs.Header.{Who}
 use Rattle.profile.specs.Need.{Need, is_number_of, part}
 use Rattle.profile.specs.Page.{page_of}
 use Rattle.profile.specs.Register.{Entry, own}
-use Rattle.goods.specs.Pages.{PageFacts}
-use Rattle.stock.specs.Parts.{Named, part_of}
+use Rattle.rules.specs.Pages.{PageFacts}
+use Rattle.rules.specs.Parts.{Named, part_of}
 use Rattle.rules.specs.Naming.{facts_of}
 use Rattle.store.specs.Open.{OpenWork}
 use Rattle.store.specs.declared.fault.Fault.{Fault}

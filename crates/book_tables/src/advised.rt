@@ -3,7 +3,7 @@ ghost use Rattle.profile.specs.declared.rules.Rules.TheVariants.{Two};
 ghost use Rattle.profile.specs.Limits.{most_lines};
 ghost use Rattle.profile.specs.Page.{PageAdvice, page_of};
 ghost use Rattle.profile.specs.Register as register;
-ghost use Rattle.goods.specs.Pages.{advice_at};
+ghost use Rattle.rules.specs.Pages.{advice_at};
 ghost use Rattle.book_statements.specs.Asking.{Asked, OfStanding};
 ghost use Rattle.book_tables.specs.Looking.{bare_advice, lines_advised};
 ghost use Rattle.book_tables.specs.Showing.{advice_shown};
@@ -12,12 +12,10 @@ use crate::connected::Tables;
 use crate::line_rows::lines_in;
 use crate::reading::{flag_at, text_at};
 use profile::MOST_LINES_TWO;
-use rules::Who;
-use sets_in::Goods;
+use rules::{Goods, KnownAdvice, Who};
 use sqlite::{Alter, Row};
 use std::alloc::{AllocError, Global};
 use std::marker::Model;
-use stock::KnownAdvice;
 use store::Fault;
 
 // An advice as its row has it, without its lines.

@@ -3,7 +3,7 @@ ghost use Rattle.std.specs.Prelude.{◌≡◌, ◌∷◌, ◌&&◌, ℕ, List, N
 ghost use Rattle.profile.specs.Rows.{LotRow};
 ghost use Rattle.sqlite.specs.Order.{column};
 ghost use Rattle.sqlite.specs.declared.types.Value.TheVariants.{Text};
-ghost use Rattle.goods.specs.Keyed.{key_before, rises_by, row_key};
+ghost use Rattle.rules.specs.Keyed.{key_before, rises_by, row_key};
 ghost use Rattle.book_statements.specs.Dated.{Dated, date_shown, dates_of};
 
 use crate::reading::text_at;

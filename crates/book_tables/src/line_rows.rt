@@ -6,7 +6,7 @@ ghost use Rattle.rules.specs.Fitting.{is_fitting_line};
 ghost use Rattle.book_tables.specs.Showing.{line_shown};
 
 use crate::reading::{small_at, text_at};
-use sets_in::Goods;
+use rules::Goods;
 use sqlite::Row;
 use std::alloc::{AllocError, Global};
 

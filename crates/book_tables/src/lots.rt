@@ -4,7 +4,7 @@ ghost use Rattle.std.specs.List.{list_all};
 ghost use Rattle.profile.specs.Page.{page_of};
 ghost use Rattle.profile.specs.Register as register;
 ghost use Rattle.profile.specs.Rows.{LotRow};
-ghost use Rattle.goods.specs.Keyed.{key_before, rises_by, row_key};
+ghost use Rattle.rules.specs.Keyed.{key_before, rises_by, row_key};
 ghost use Rattle.rules.specs.Fitting.{is_fitting_row};
 ghost use Rattle.book_statements.specs.Asking.{Asked, OfStanding};
 ghost use Rattle.book_statements.specs.Dated.{date_shown, dates_of};

@@ -8,18 +8,16 @@ ghost use Rattle.profile.specs.Bytes.{is_one_of};
 ghost use Rattle.profile.specs.Need as meant;
 ghost use Rattle.profile.specs.Register as register;
 ghost use Rattle.profile.specs.Page.{page_of};
-ghost use Rattle.goods.specs.Keyed.{put_row};
+ghost use Rattle.rules.specs.Keyed.{put_row};
 ghost use Rattle.rules.specs.Decided.{IsHeldAtRest};
 ghost use Rattle.rules.specs.Naming.{facts_of, named_of};
 ghost use Rattle.book_statements.specs.Asking.{Asked, OfStanding, Went};
 ghost use Rattle.book_tables.specs.Needed.{Gathers, needed_part, none_named, part_for, with_number, with_numbers, with_text, with_texts};
 
 use crate::connected::Tables;
-use rules::{Name, Need, Page, Row, Who};
-use sets_in::Goods;
+use rules::{Draft, Goods, KnownAdvice, KnownLine, KnownOrder, Name, Need, Page, Row, Who};
 use sqlite::Alter;
 use std::alloc::{AllocError, Global};
-use stock::{Draft, KnownAdvice, KnownLine, KnownOrder};
 use store::Fault;
 
 /// What is sought of a page by a text.

@@ -4,7 +4,7 @@ ghost use Rattle.profile.specs.Register as register;
 ghost use Rattle.profile.specs.Rows.{OutRow, state_text};
 ghost use Rattle.sqlite.specs.Held.{state};
 ghost use Rattle.sqlite.specs.State.{HasCleanDisk};
-ghost use Rattle.goods.specs.Pages.{document_at};
+ghost use Rattle.rules.specs.Pages.{document_at};
 ghost use Rattle.book_statements.specs.Asking.{Asked, OfStanding};
 ghost use Rattle.book_tables.specs.Looking.{function_as, IsRowOf};
 ghost use Rattle.store.specs.Sent.{text_under};
@@ -14,10 +14,9 @@ use crate::connected::Tables;
 use crate::reading::{small_at, text_at};
 use crate::recalled::content_in;
 use crate::sent::kind_of;
-use rules::{OutKind, Who};
+use rules::{Function, KnownDocument, OutKind, Who};
 use sqlite::{Alter, Row};
 use std::alloc::Global;
-use stock::{Function, KnownDocument};
 use store::Fault;
 
 // The kind of document that goes out as this; none as an answer.

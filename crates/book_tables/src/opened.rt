@@ -2,7 +2,7 @@
 //! page that they name.
 ghost use Rattle.std.specs.Prelude.{◌≡◌, ℕ, List, Some, IfOk, map, option_map, length, IfSome, ◌≤◌};
 ghost use Rattle.profile.specs.Register as register;
-ghost use Rattle.goods.specs.Keyed.{number_of, shipment_of};
+ghost use Rattle.rules.specs.Keyed.{number_of, shipment_of};
 ghost use Rattle.store.specs.Open.{open_of, open_on, open_work};
 ghost use Rattle.book_statements.specs.Asking.{Asked, OfStanding};
 ghost use Rattle.book_tables.specs.Needed as needed;

@@ -3,7 +3,7 @@ ghost use Rattle.std.specs.List.{list_all};
 ghost use Rattle.profile.specs.declared.rules.Rules.TheVariants.{Two};
 ghost use Rattle.profile.specs.Page.{PageLine, PageOrder, page_of};
 ghost use Rattle.profile.specs.Register as register;
-ghost use Rattle.goods.specs.Pages.{order_at};
+ghost use Rattle.rules.specs.Pages.{order_at};
 ghost use Rattle.rules.specs.Fitting.{is_fitting_ordered};
 ghost use Rattle.book_statements.specs.Asking.{Asked, OfStanding};
 ghost use Rattle.book_tables.specs.Looking.{bare_order, lines_ordered, lines_reserved};
@@ -12,11 +12,9 @@ ghost use Rattle.book_tables.specs.Showing.{order_shown, order_line_shown};
 use crate::connected::Tables;
 use crate::line_rows::lines_in;
 use crate::reading::{flag_at, small_at, text_at};
-use rules::Who;
-use sets_in::{Address, Goods};
+use rules::{Address, Goods, KnownLine, KnownOrder, Who};
 use sqlite::{Alter, Row};
 use std::alloc::{AllocError, Global};
-use stock::{KnownLine, KnownOrder};
 use store::Fault;
 
 // The address in the last four columns of a row of an order: none where the name is NULL, or

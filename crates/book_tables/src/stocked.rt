@@ -3,7 +3,7 @@ ghost use Rattle.std.specs.Prelude.{◌≡◌, ℕ, List, Some, IfOk, map, optio
 ghost use Rattle.profile.specs.Register as register;
 ghost use Rattle.profile.specs.Rows as meant;
 ghost use Rattle.book_statements.specs.Asking.{Asked, OfStanding};
-ghost use Rattle.goods.specs.Keyed.{key_before, rises_by, row_key};
+ghost use Rattle.rules.specs.Keyed.{key_before, rises_by, row_key};
 ghost use Rattle.book_statements.specs.Dated.{date_shown, dates_of};
 ghost use Rattle.book_tables.specs.Showing.{stock_shown};
 

@@ -5,7 +5,7 @@ use Rattle.sqlite.specs.State.{State, HasCleanDisk}
 use Rattle.profile.specs.Header.{Who}
 use Rattle.profile.specs.Register.{Entry}
 use Rattle.store.specs.declared.fault.Fault.{Fault}
-use Rattle.store.specs.Standing.{IsUnchanged, IsUsable, IsQueryFault}
+use Rattle.store.specs.Standing.{IsUnchanged, IsUsable, IsQuery, IsQueryFault}
 use Rattle.book_statements.specs.Asking.{IsAsked, IsAskFault}
 use Rattle.book_statements.specs.Exits.{StandsWhileOpen}
 use Rattle.books.specs.Keeping.{IsKept, IsSettled, standing_in}
@@ -26,7 +26,7 @@ asked_unchanged old new W n refused more shut grew asked = record {
 }
 
 -- why a query of the tables failed is why that of the book did
-pub asked_fault_at : (f : Fault) (old new : State) (W : Who) (n refused more : ℕ) (shut : Bool) → IsAskFault f old new refused more → IsQueryFault f (standing_in old W n refused shut) (standing_in new W n more shut)
+asked_fault_at : (f : Fault) (old new : State) (W : Who) (n refused more : ℕ) (shut : Bool) → IsAskFault f old new refused more → IsQueryFault f (standing_in old W n refused shut) (standing_in new W n more shut)
 asked_fault_at f old new W n refused more shut h = record {
   store = λ is. let rises = h.store is in rises.grew;
   reopen = λ is. absurd (h.reopen is);
@@ -35,10 +35,16 @@ asked_fault_at f old new W n refused more shut h = record {
 }
 
 -- why asking the tables failed is why asking the book did
-pub asked_faults : {T : Type 0} (r : Result T Fault) (old new : State) (W : Who) (n refused more : ℕ) (shut : Bool) → IfErr r (λ f. IsAskFault f old new refused more)
+asked_faults : {T : Type 0} (r : Result T Fault) (old new : State) (W : Who) (n refused more : ℕ) (shut : Bool) → IfErr r (λ f. IsAskFault f old new refused more)
     → IfErr r (λ f. IsQueryFault f (standing_in old W n refused shut) (standing_in new W n more shut))
 asked_faults (Ok x) old new W n refused more shut h = tt
 asked_faults (Err f) old new W n refused more shut h = asked_fault_at f old new W n refused more shut h
+
+-- what such a query of the tables leaves of the book, and why it failed
+pub asked_query : {T : Type 0} (r : Result T Fault) (old new : State) (W : Who) (n refused more : ℕ) (shut : Bool) → refused ≤ more → IsAsked old new
+    → IfErr r (λ f. IsAskFault f old new refused more) → IsQuery (standing_in old W n refused shut) (standing_in new W n more shut) r
+asked_query r old new W n refused more shut grew asked fault =
+    record { same = asked_unchanged old new W n refused more shut grew asked; fault = asked_faults r old new W n refused more shut fault }
 
 -- Opening.
 

@@ -6,7 +6,7 @@ use Rattle.sqlite.specs.Effect.{Database}
 use Rattle.sqlite.specs.State.{State, HasCleanDisk, IsLive, Survives}
 use Rattle.profile.specs.Header.{Who, who_text}
 use Rattle.rules.specs.Written.{Written}
-use Rattle.stock.specs.declared.steps.Change as stock
+use Rattle.rules.specs.Change as stock
 use Rattle.profile.specs.Register.{Entry}
 use Rattle.store.specs.Standing.{IsUsable, IsNext, LeavesEither}
 use Rattle.book_statements.specs.Standing.{StandsIn}

@@ -13,7 +13,7 @@ ghost use Rattle.sqlite.specs.Order.{Row as Cells};
 ghost use Rattle.store.specs.Held.{IsHeld};
 ghost use Rattle.store.specs.Known.{first_under};
 ghost use Rattle.store.specs.Sent.{text_of};
-ghost use Rattle.store.specs.Standing.{IsUsable, IsUnchanged, IsQueryFault, IsNext, IsFault, IsCommitFault, LeavesEither, GoesOn, OfKept};
+ghost use Rattle.store.specs.Standing.{IsUsable, IsUnchanged, IsQuery, IsNext, IsFault, IsCommitFault, LeavesEither, GoesOn, OfKept};
 ghost use Rattle.book_statements.specs.Asking.{Finds, IsAsked, house_text};
 ghost use Rattle.book_statements.specs.Carrying.{LeavesCarried, StandsOpenAs};
 ghost use Rattle.book_statements.specs.Exits.{IsAsBefore};
@@ -248,9 +248,7 @@ impl<S: Alter + Drop> Book<S> {
             × StandsForMany self.old.warehouse n (state S.Store self.old.tables.conn).now) }
         ensures whole { (standing_of S.Store self.new).doubt ≡ 0 → (L : List register.Entry)
             → (standing_of S.Store self.old).keeps L → IfOk result (λ n. n ≡ length L) }
-        ensures same { IsUnchanged (standing_of S.Store self.old) (standing_of S.Store self.new) }
-        ensures fault { IfErr result (λ fault. IsQueryFault fault (standing_of S.Store self.old)
-            (standing_of S.Store self.new)) }
+        ensures query { IsQuery (standing_of S.Store self.old) (standing_of S.Store self.new) result }
         ensures shut { self.old.shut ≡ true → IsErrOf result Fault.Reopen }
         ensures limit { Counts self.old.tables self.new.tables }
     {
@@ -269,9 +267,7 @@ impl<S: Alter + Drop> Book<S> {
             × StandsForMany self.old.warehouse n (state S.Store self.old.tables.conn).now) }
         ensures whole { (standing_of S.Store self.new).doubt ≡ 0 → (L : List register.Entry)
             → (standing_of S.Store self.old).keeps L → IfOk result (λ n. n ≡ length L) }
-        ensures same { IsUnchanged (standing_of S.Store self.old) (standing_of S.Store self.new) }
-        ensures fault { IfErr result (λ fault. IsQueryFault fault (standing_of S.Store self.old)
-            (standing_of S.Store self.new)) }
+        ensures query { IsQuery (standing_of S.Store self.old) (standing_of S.Store self.new) result }
         ensures shut { self.old.shut ≡ true → IsErrOf result Fault.Reopen }
         ensures limit { Counts self.old.tables self.new.tables }
     {
@@ -301,9 +297,7 @@ impl<S: Alter + Drop> Book<S> {
             × StandsForMany self.old.warehouse n (state S.Store self.old.tables.conn).now) }
         ensures whole { (standing_of S.Store self.new).doubt ≡ 0 → (L : List register.Entry)
             → (standing_of S.Store self.old).keeps L → IfOk result (λ n. n ≡ length L) }
-        ensures same { IsUnchanged (standing_of S.Store self.old) (standing_of S.Store self.new) }
-        ensures fault { IfErr result (λ fault. IsQueryFault fault (standing_of S.Store self.old)
-            (standing_of S.Store self.new)) }
+        ensures query { IsQuery (standing_of S.Store self.old) (standing_of S.Store self.new) result }
         ensures limit { Counts self.old.tables self.new.tables }
     {
         let found = replayed(self.alloc, &mut self.tables, copy, self.entries, told)?;

@@ -1,5 +1,5 @@
 //! A book in tables kept: what it answers to commands and to questions, each from its tables.
-ghost use Rattle.std.specs.Prelude.{◌≡◌, ◌≢◌, ◌≤◌, ◌<◌, ◌^◌, ◌-◌, ◌++◌, ◌∷◌, [], List, true, false, IfErr, IfOk, OnOk, OnErr, IsErrOf, Some, option_map};
+ghost use Rattle.std.specs.Prelude.{◌≡◌, ◌≤◌, ◌<◌, ◌^◌, ◌-◌, ◌++◌, ◌∷◌, [], List, true, false, IfErr, IfOk, OnOk, OnErr, IsErrOf, option_map};
 ghost use Rattle.profile.specs.Decision as decided;
 ghost use Rattle.profile.specs.Register as register;
 ghost use Rattle.profile.specs.Rows.{stock_of, outbox_of};
@@ -9,8 +9,8 @@ ghost use Rattle.store.specs.Held.{IsHeld};
 ghost use Rattle.store.specs.Known.{first_under};
 ghost use Rattle.store.specs.Open.{open_of, open_on, enrolled};
 ghost use Rattle.store.specs.Sent.{text_of};
-ghost use Rattle.store.specs.Standing.{IsUsable, IsUnchanged, IsQueryFault, IsNext, IsFault, IsCommitFault, LeavesEither, GoesOn, OfKept};
-ghost use Rattle.book_statements.specs.Limits.{Counts};
+ghost use Rattle.store.specs.Standing.{IsUsable, IsUnchanged, IsQuery, IsNext, IsFault, IsCommitFault, LeavesEither, GoesOn, OfKept};
+ghost use Rattle.book_statements.specs.Limits.{AreCounted};
 ghost use Rattle.book_tables.specs.Needed.{needed_part};
 ghost use Rattle.books.specs.Opened.{standing_of};
 
@@ -38,13 +38,9 @@ impl<S: Alter + Drop> Keeper for Book<S> {
         ensures part { (standing_of S.Store self.new).doubt ≡ 0 → (L : List register.Entry)
             → (standing_of S.Store self.old).keeps L → IfOk result (λ page. page ≡ needed_part need.now L who) }
         ensures rest { IfOk result IsHeldAtRest }
-        ensures same { IsUnchanged (standing_of S.Store self.old) (standing_of S.Store self.new) }
-        ensures fault { IfErr result (λ fault. IsQueryFault fault (standing_of S.Store self.old)
-            (standing_of S.Store self.new)) }
+        ensures query { IsQuery (standing_of S.Store self.old) (standing_of S.Store self.new) result }
         ensures shut { (standing_of S.Store self.old).shut ≡ true → IsErrOf result Fault.Reopen }
-        ensures uncounted { OnOk result (self.new.tables.refused ≡ self.old.tables.refused) }
-        ensures limit { Counts self.old.tables self.new.tables }
-        ensures allowed { OnOk result (self.old.tables.limit ≢ Some 0) }
+        ensures calls { AreCounted self.old.tables self.new.tables result }
     {
         if self.shut {
             return Err(Fault::Reopen);
@@ -60,13 +56,9 @@ impl<S: Alter + Drop> Keeper for Book<S> {
         ensures recorded { (standing_of S.Store self.new).doubt ≡ 0 → (L : List register.Entry)
             → (standing_of S.Store self.old).keeps L
             → IfOk result (λ known. option_map (λ k. k.entry) known ≡ first_under who (mark_of key.now) L) }
-        ensures same { IsUnchanged (standing_of S.Store self.old) (standing_of S.Store self.new) }
-        ensures fault { IfErr result (λ fault. IsQueryFault fault (standing_of S.Store self.old)
-            (standing_of S.Store self.new)) }
+        ensures query { IsQuery (standing_of S.Store self.old) (standing_of S.Store self.new) result }
         ensures shut { (standing_of S.Store self.old).shut ≡ true → IsErrOf result Fault.Reopen }
-        ensures uncounted { OnOk result (self.new.tables.refused ≡ self.old.tables.refused) }
-        ensures limit { Counts self.old.tables self.new.tables }
-        ensures allowed { OnOk result (self.old.tables.limit ≢ Some 0) }
+        ensures calls { AreCounted self.old.tables self.new.tables result }
     {
         if self.shut {
             return Err(Fault::Reopen);
@@ -105,9 +97,7 @@ impl<S: Alter + Drop> Keeper for Book<S> {
             → IsErrOf result Fault.Reopen
             × IsUnchanged (standing_of S.Store self.old) (standing_of S.Store self.new) }
         ensures goes { GoesOn (standing_of S.Store self.old) (standing_of S.Store self.new) }
-        ensures uncounted { OnOk result (self.new.tables.refused ≡ self.old.tables.refused) }
-        ensures limit { Counts self.old.tables self.new.tables }
-        ensures allowed { OnOk result (self.old.tables.limit ≢ Some 0) }
+        ensures calls { AreCounted self.old.tables self.new.tables result }
     {
         if self.shut {
             return Err(Fault::Reopen);
@@ -134,13 +124,9 @@ impl<S: Alter + Drop> Keeper for Book<S> {
     fn stock_rows(&mut self, who: Who) -> Result<Option<Vec<StockRow>>, Fault>
         ensures rows { OfKept (standing_of S.Store self.old) (standing_of S.Store self.new)
             (λ L. IfOk result (λ rows. option_map (λ v. v.items) rows ≡ stock_of L who)) }
-        ensures same { IsUnchanged (standing_of S.Store self.old) (standing_of S.Store self.new) }
-        ensures fault { IfErr result (λ fault. IsQueryFault fault (standing_of S.Store self.old)
-            (standing_of S.Store self.new)) }
+        ensures query { IsQuery (standing_of S.Store self.old) (standing_of S.Store self.new) result }
         ensures shut { (standing_of S.Store self.old).shut ≡ true → IsErrOf result Fault.Reopen }
-        ensures uncounted { OnOk result (self.new.tables.refused ≡ self.old.tables.refused) }
-        ensures limit { Counts self.old.tables self.new.tables }
-        ensures allowed { OnOk result (self.old.tables.limit ≢ Some 0) }
+        ensures calls { AreCounted self.old.tables self.new.tables result }
     {
         if self.shut {
             return Err(Fault::Reopen);
@@ -153,13 +139,9 @@ impl<S: Alter + Drop> Keeper for Book<S> {
         ensures rows { OfKept (standing_of S.Store self.old) (standing_of S.Store self.new)
             (λ L. IfOk result (λ rows. option_map (λ v. v.items) rows ≡ outbox_of
             (standing_of S.Store self.old).warehouse L who)) }
-        ensures same { IsUnchanged (standing_of S.Store self.old) (standing_of S.Store self.new) }
-        ensures fault { IfErr result (λ fault. IsQueryFault fault (standing_of S.Store self.old)
-            (standing_of S.Store self.new)) }
+        ensures query { IsQuery (standing_of S.Store self.old) (standing_of S.Store self.new) result }
         ensures shut { (standing_of S.Store self.old).shut ≡ true → IsErrOf result Fault.Reopen }
-        ensures uncounted { OnOk result (self.new.tables.refused ≡ self.old.tables.refused) }
-        ensures limit { Counts self.old.tables self.new.tables }
-        ensures allowed { OnOk result (self.old.tables.limit ≢ Some 0) }
+        ensures calls { AreCounted self.old.tables self.new.tables result }
     {
         if self.shut {
             return Err(Fault::Reopen);
@@ -172,13 +154,9 @@ impl<S: Alter + Drop> Keeper for Book<S> {
         ensures text { OfKept (standing_of S.Store self.old) (standing_of S.Store self.new)
             (λ L. IfOk result (λ text. option_map (option_map (λ v. v.items)) text ≡ text_of
             (standing_of S.Store self.old).warehouse L who n)) }
-        ensures same { IsUnchanged (standing_of S.Store self.old) (standing_of S.Store self.new) }
-        ensures fault { IfErr result (λ fault. IsQueryFault fault (standing_of S.Store self.old)
-            (standing_of S.Store self.new)) }
+        ensures query { IsQuery (standing_of S.Store self.old) (standing_of S.Store self.new) result }
         ensures shut { (standing_of S.Store self.old).shut ≡ true → IsErrOf result Fault.Reopen }
-        ensures uncounted { OnOk result (self.new.tables.refused ≡ self.old.tables.refused) }
-        ensures limit { Counts self.old.tables self.new.tables }
-        ensures allowed { OnOk result (self.old.tables.limit ≢ Some 0) }
+        ensures calls { AreCounted self.old.tables self.new.tables result }
     {
         if self.shut {
             return Err(Fault::Reopen);
@@ -190,13 +168,9 @@ impl<S: Alter + Drop> Keeper for Book<S> {
     fn open(&mut self, who: Who) -> Result<Option<Page>, Fault>
         ensures work { OfKept (standing_of S.Store self.old) (standing_of S.Store self.new)
             (λ L. IfOk result (λ page. option_map open_on page ≡ open_of L who)) }
-        ensures same { IsUnchanged (standing_of S.Store self.old) (standing_of S.Store self.new) }
-        ensures fault { IfErr result (λ fault. IsQueryFault fault (standing_of S.Store self.old)
-            (standing_of S.Store self.new)) }
+        ensures query { IsQuery (standing_of S.Store self.old) (standing_of S.Store self.new) result }
         ensures shut { (standing_of S.Store self.old).shut ≡ true → IsErrOf result Fault.Reopen }
-        ensures uncounted { OnOk result (self.new.tables.refused ≡ self.old.tables.refused) }
-        ensures limit { Counts self.old.tables self.new.tables }
-        ensures allowed { OnOk result (self.old.tables.limit ≢ Some 0) }
+        ensures calls { AreCounted self.old.tables self.new.tables result }
     {
         if self.shut {
             return Err(Fault::Reopen);
@@ -208,13 +182,9 @@ impl<S: Alter + Drop> Keeper for Book<S> {
     fn depositors(&mut self) -> Result<Vec<Who>, Fault>
         ensures whole { OfKept (standing_of S.Store self.old) (standing_of S.Store self.new)
             (λ L. IfOk result (λ whos. whos.items ≡ enrolled L)) }
-        ensures same { IsUnchanged (standing_of S.Store self.old) (standing_of S.Store self.new) }
-        ensures fault { IfErr result (λ fault. IsQueryFault fault (standing_of S.Store self.old)
-            (standing_of S.Store self.new)) }
+        ensures query { IsQuery (standing_of S.Store self.old) (standing_of S.Store self.new) result }
         ensures shut { (standing_of S.Store self.old).shut ≡ true → IsErrOf result Fault.Reopen }
-        ensures uncounted { OnOk result (self.new.tables.refused ≡ self.old.tables.refused) }
-        ensures limit { Counts self.old.tables self.new.tables }
-        ensures allowed { OnOk result (self.old.tables.limit ≢ Some 0) }
+        ensures calls { AreCounted self.old.tables self.new.tables result }
     {
         if self.shut {
             return Err(Fault::Reopen);

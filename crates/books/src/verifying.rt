@@ -41,8 +41,8 @@ fn give<K: Keeper>(
     ensures copy { (K.standing copy.new).doubt ≡ 0 → (W : Partner) → IsCopy last W (K.standing copy.old)
         → IfOk result (λ given. IfSome given (λ rules. IsCopy rules W (K.standing copy.new))) }
     ensures next { (K.standing copy.new).doubt ≡ 0
-        → (L : List register.Entry) (e : register.Entry) (behind : List register.Entry)
-        → entry.now ≡ written L e → IsLegal Two (K.standing copy.old).warehouse (L ++ e ∷ behind)
+        → (L : List register.Entry) (e : register.Entry) (later : List register.Entry)
+        → entry.now ≡ written L e → IsLegal Two (K.standing copy.old).warehouse (L ++ e ∷ later)
         → last ≡ last_rules One L → IsLegal last (K.standing copy.old).warehouse L → IsUsable (K.standing copy.old) L
         → IfOk result (λ given. (given ≡ Some e.rules)
         × IsLegal e.rules (K.standing copy.new).warehouse (L ++ e ∷ []) × IsUsable (K.standing copy.new) (L ++ e ∷ [])) }

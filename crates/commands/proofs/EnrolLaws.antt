@@ -52,13 +52,13 @@ grown V W L xs who t house =
     ap (λ U. after Two U (accepted_on Two W L (enrolments t xs)) (Enrol who, t)) house
     ∙ sym (ap (accepted_on Two W L) (enrolments_more t xs who) ∙ accepted_on-more Two W L (enrolments t xs) (Enrol who, t))
 
-enrolled_more : (a b c : Standing) (xs : List Who) (who : Who) (t : Moment) (out mid behind : Option (List ℕ)) (status one : ExitStatus) → GoesOn a b → GoesOn b c → AreEnrolled a b xs t out mid status
+enrolled_more : (a b c : Standing) (xs : List Who) (who : Who) (t : Moment) (out mid later : Option (List ℕ)) (status one : ExitStatus) → GoesOn a b → GoesOn b c → AreEnrolled a b xs t out mid status
     → (c.doubt ≡ 0 → (L : List Entry) → b.keeps L → IsLegal Two b.warehouse L → one ≡ told.status_of (reply_to Two b.warehouse L (Enrol who) t))
-    → (c.doubt ≡ 0 → (L : List Entry) → b.keeps L → IsLegal Two b.warehouse L → Appends mid behind (line_of who (reply_to Two b.warehouse L (Enrol who) t)))
+    → (c.doubt ≡ 0 → (L : List Entry) → b.keeps L → IsLegal Two b.warehouse L → Appends mid later (line_of who (reply_to Two b.warehouse L (Enrol who) t)))
     → (c.doubt ≡ 0 → (L : List Entry) → IsUsable b L → IsUsable c (after Two b.warehouse L (Enrol who, t)))
     → OfKept b c (λ L. KeepsLegal c (after Two b.warehouse L (Enrol who, t)))
-    → AreEnrolled a c (xs ++ who ∷ []) t out behind (and_then status one)
-enrolled_more a b c xs who t out mid behind status one p q before said prints goes stays = record {
+    → AreEnrolled a c (xs ++ who ∷ []) t out later (and_then status one)
+enrolled_more a b c xs who t out mid later status one p q before said prints goes stays = record {
   usable = λ clean L u.
       let mid = before.usable (clean_before b c q clean) L u in
       subst (IsUsable c) (grown b.warehouse a.warehouse L xs who t p.warehouse) (goes clean _ mid);
@@ -78,26 +78,26 @@ enrolled_more a b c xs who t out mid behind status one p q before said prints go
       let early = clean_before b c q clean in
       let now = before.usable early L u in
       let W = a.warehouse in
-      let line = subst (λ (U : Who). Appends mid behind (line_of who (reply_to Two U (accepted_on Two W L (enrolments t xs)) (Enrol who) t))) p.warehouse
+      let line = subst (λ (U : Who). Appends mid later (line_of who (reply_to Two U (accepted_on Two W L (enrolments t xs)) (Enrol who) t))) p.warehouse
       (prints clean _ now.keeps now.legal) in
-      subst (Appends out behind) (sym (lines_more W L t xs who)) (Appends-trans out mid behind _ _ (before.printed early L u) line);
+      subst (Appends out later) (sym (lines_more W L t xs who)) (Appends-trans out mid later _ _ (before.printed early L u) line);
 }
 
 one_more : (whos : List Who) (i : ℕ) (who : Who) → i < length whos → who ≡ get_or whos i who → take (i + 1) whos ≡ take i whos ++ who ∷ []
 one_more whos i who lt is = take_more whos i who lt ∙ ap (λ w. take i whos ++ w ∷ []) (sym is)
 
 -- the list of the first ones, with the next
-pub enrolled_next : (a b c : Standing) (whos : List Who) (i : ℕ) (who : Who) (t : Moment) (out mid behind : Option (List ℕ)) (status one last : ExitStatus) → last ≡ and_then status one
+pub enrolled_next : (a b c : Standing) (whos : List Who) (i : ℕ) (who : Who) (t : Moment) (out mid later : Option (List ℕ)) (status one last : ExitStatus) → last ≡ and_then status one
     → i < length whos → who ≡ get_or whos i who → GoesOn a b → GoesOn b c → AreEnrolled a b (take i whos) t out mid status
     → (c.doubt ≡ 0 → (L : List Entry) → b.keeps L → IsLegal Two b.warehouse L → one ≡ told.status_of (reply_to Two b.warehouse L (Enrol who) t))
-    → (c.doubt ≡ 0 → (L : List Entry) → b.keeps L → IsLegal Two b.warehouse L → Appends mid behind (line_of who (reply_to Two b.warehouse L (Enrol who) t)))
+    → (c.doubt ≡ 0 → (L : List Entry) → b.keeps L → IsLegal Two b.warehouse L → Appends mid later (line_of who (reply_to Two b.warehouse L (Enrol who) t)))
     → (c.doubt ≡ 0 → (L : List Entry) → IsUsable b L → IsUsable c (after Two b.warehouse L (Enrol who, t)))
     → OfKept b c (λ L. KeepsLegal c (after Two b.warehouse L (Enrol who, t)))
-    → AreEnrolled a c (take (i + 1) whos) t out behind last
-enrolled_next a b c whos i who t out mid behind status one last ends lt is p q before said prints goes stays =
-    subst (λ (s : ExitStatus). AreEnrolled a c (take (i + 1) whos) t out behind s) (sym ends)
-    (subst (λ (ws : List Who). AreEnrolled a c ws t out behind (and_then status one)) (sym (one_more whos i who lt is))
-    (enrolled_more a b c (take i whos) who t out mid behind status one p q before said prints goes stays))
+    → AreEnrolled a c (take (i + 1) whos) t out later last
+enrolled_next a b c whos i who t out mid later status one last ends lt is p q before said prints goes stays =
+    subst (λ (s : ExitStatus). AreEnrolled a c (take (i + 1) whos) t out later s) (sym ends)
+    (subst (λ (ws : List Who). AreEnrolled a c ws t out later (and_then status one)) (sym (one_more whos i who lt is))
+    (enrolled_more a b c (take i whos) who t out mid later status one p q before said prints goes stays))
 
 -- the fault of one is that of a run of them
 fault_of_run : (a b c : Standing) (ws : List Who) (t : Moment) (out mid : Option (List ℕ)) (status : ExitStatus) → GoesOn a b → GoesOn b c → a.shut ≡ b.shut

@@ -10,12 +10,12 @@ use Rattle.profile.specs.Refusals.{Refusal}
 use Rattle.profile.specs.Register.{Entry}
 use Rattle.profile.specs.Reports.{pick_list, stock_csv, stock_report}
 use Rattle.profile.specs.Rows.{StockRow}
-use Rattle.rules.specs.Decided.{IsHeldPart}
+use Rattle.store.specs.Decided.{IsHeldPart}
 use Rattle.reports.specs.Open.{open_report}
 use Rattle.reports.specs.Picking.{Explains}
 use Rattle.reports.specs.declared.picking.NoSheet.{NoSheet}
 use Rattle.reports.specs.declared.picking.NoSheet.TheVariants.{UnknownOrder, OrderClosed, OutOfMemory}
-use Rattle.goods.specs.Pages.{PageFacts}
+use Rattle.store.specs.Pages.{PageFacts}
 use Rattle.store.specs.Held.{IsHeld}
 use Rattle.store.specs.Open.{OpenWork, open_on}
 use Rattle.store.specs.Standing.{Standing, IsQueryFault}
@@ -30,22 +30,22 @@ use Rattle.commands.proofs.TellingLaws.{appends_nothing}
 
 -- the report of the rows that were found
 pub stock_shown : {T : Type 0} (rows_of : T → List StockRow) (o : Option T) (v : T) (is_csv : Bool) (found : Option (List StockRow)) (rows : List StockRow) (text written : List ℕ)
-    (before behind : Option (List ℕ)) → o ≡ Some v → option_map rows_of o ≡ found → rows ≡ rows_of v
-    → text ≡ (if is_csv then stock_csv Two rows else stock_report Two rows) → written ≡ text → Appends before behind written
-    → IsShown (shown_stock is_csv found) before behind Done
-stock_shown rows_of o v is_csv found rows text written before behind is e r t w told =
+    (before later : Option (List ℕ)) → o ≡ Some v → option_map rows_of o ≡ found → rows ≡ rows_of v
+    → text ≡ (if is_csv then stock_csv Two rows else stock_report Two rows) → written ≡ text → Appends before later written
+    → IsShown (shown_stock is_csv found) before later Done
+stock_shown rows_of o v is_csv found rows text written before later is e r t w told =
     let given : Some (rows_of v) ≡ found = sym (ap (option_map rows_of) is) ∙ e in
     let report : written ≡ (if is_csv then stock_csv Two (rows_of v) else stock_report Two (rows_of v)) =
     w ∙ t ∙ ap (λ k. if is_csv then stock_csv Two k else stock_report Two k) r in
-    subst (λ k. IsShown (shown_stock is_csv k) before behind Done) given
-    (record { printed = subst (Appends before behind) report told; says = refl })
+    subst (λ k. IsShown (shown_stock is_csv k) before later Done) given
+    (record { printed = subst (Appends before later) report told; says = refl })
 
 -- what is open on the page that was found
-pub open_shown : (o : Option PageFacts) (p : PageFacts) (found : Option OpenWork) (text written : List ℕ) (before behind : Option (List ℕ)) → o ≡ Some p
-    → option_map open_on o ≡ found → text ≡ open_report (open_on p) → written ≡ text → Appends before behind written → IsShown (shown_open found) before behind Done
-open_shown o p found text written before behind is e t w told =
+pub open_shown : (o : Option PageFacts) (p : PageFacts) (found : Option OpenWork) (text written : List ℕ) (before later : Option (List ℕ)) → o ≡ Some p
+    → option_map open_on o ≡ found → text ≡ open_report (open_on p) → written ≡ text → Appends before later written → IsShown (shown_open found) before later Done
+open_shown o p found text written before later is e t w told =
     let given : Some (open_on p) ≡ found = sym (ap (option_map open_on) is) ∙ e in
-    subst (λ k. IsShown (shown_open k) before behind Done) given (record { printed = subst (Appends before behind) (w ∙ t) told; says = refl })
+    subst (λ k. IsShown (shown_open k) before later Done) given (record { printed = subst (Appends before later) (w ∙ t) told; says = refl })
 
 -- want of memory has no cause here
 pub starved : (old new : Standing) → IsQueryFault faults.OutOfMemory old new
@@ -63,21 +63,21 @@ unshown old new shown what (Ok x) read why = tt
 unshown old new shown what (Err e) read why = inr (record { what = what; read = read; why = why })
 
 -- the sheet of the order that a page holds
-order_of : (number : List ℕ) (o : Option History) (p : _) (text : List ℕ) (before behind : Option (List ℕ)) → IsHeld (need_of_number number) (Some p) o
-    → ((h : History) → IsHeldPart (need_of_number number) p h → pick_list h.events number ≡ Ok text) → Appends before behind text
-    → IsShown (shown_order number o) before behind Done
-order_of number None p text before behind held listed told = absurd held
-order_of number (Some h) p text before behind held listed told = rw (listed h held) (record { printed = told; says = refl })
+order_of : (number : List ℕ) (o : Option History) (p : _) (text : List ℕ) (before later : Option (List ℕ)) → IsHeld (need_of_number number) (Some p) o
+    → ((h : History) → IsHeldPart (need_of_number number) p h → pick_list h.events number ≡ Ok text) → Appends before later text
+    → IsShown (shown_order number o) before later Done
+order_of number None p text before later held listed told = absurd held
+order_of number (Some h) p text before later held listed told = rw (listed h held) (record { printed = told; says = refl })
 
-pub order_shown : (number first second : List ℕ) (need : Need) (o : Option History) (q : _) (p : _) (text written : List ℕ) (before behind : Option (List ℕ))
+pub order_shown : (number first second : List ℕ) (need : Need) (o : Option History) (q : _) (p : _) (text written : List ℕ) (before later : Option (List ℕ))
     → first ≡ number → second ≡ number → need ≡ need_of_number first → q ≡ Some p → IsHeld need q o
-    → ((h : History) → IsHeldPart (need_of_number second) p h → pick_list h.events second ≡ Ok text) → written ≡ text → Appends before behind written
-    → IsShown (shown_order number o) before behind Done
-order_shown number first second need o q p text written before behind f s n is held listed w told =
+    → ((h : History) → IsHeldPart (need_of_number second) p h → pick_list h.events second ≡ Ok text) → written ≡ text → Appends before later written
+    → IsShown (shown_order number o) before later Done
+order_shown number first second need o q p text written before later f s n is held listed w told =
     let known = subst (λ k. IsHeld k (Some p) o) (n ∙ ap need_of_number f) (subst (λ k. IsHeld need k o) is held) in
-    order_of number o p text before behind known
+    order_of number o p text before later known
     (subst (λ k. (h : History) → IsHeldPart (need_of_number k) p h → pick_list h.events k ≡ Ok text) s listed)
-    (subst (Appends before behind) w told)
+    (subst (Appends before later) w told)
 
 -- why there is none, which prints nothing
 unexplained : (answer : Result (List ℕ) Refusal) (why : NoSheet) (before : Option (List ℕ)) (status : ExitStatus) → Explains answer why → why ≢ OutOfMemory → status ≡ Refused

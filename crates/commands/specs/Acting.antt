@@ -21,9 +21,9 @@ Ending = Result ExitStatus CommandError
 
 -- One command was handed in: its reply is printed, the register is the one after it, and a stop, of which it is said
 -- what it was, leaves the one before it or that one.
-pub record IsAnswered (old new : Standing) (c : Command) (t : Moment) (before behind : Option (List ℕ)) (ending : Ending) : Type 0 where
+pub record IsAnswered (old new : Standing) (c : Command) (t : Moment) (before later : Option (List ℕ)) (ending : Ending) : Type 0 where
   pub printed : new.doubt ≡ 0 → (L : List Entry) → old.keeps L → IsLegal Two old.warehouse L
-      → IfOk ending (IsPrinted (reply_to Two old.warehouse L c t) before behind)
+      → IfOk ending (IsPrinted (reply_to Two old.warehouse L c t) before later)
   pub done : new.doubt ≡ 0 → (L : List Entry) → IsUsable old L
       → OnOk ending (IsUsable new (after Two old.warehouse L (c, t)))
   pub left : new.doubt ≡ 0 → (L : List Entry) → IsUsable old L
@@ -32,9 +32,9 @@ pub record IsAnswered (old new : Standing) (c : Command) (t : Moment) (before be
 
 -- what was made ready was done; a list of depositors and a folder are many commands
 abbrev pub IsPerformed : Standing → Standing → Ready → Moment → Option (List ℕ) → Option (List ℕ) → Ending → Type 0
-IsPerformed old new (ready.Enrol who) t before behind ending = IsAnswered old new (Enrol who) t before behind ending
-IsPerformed old new (ready.Roster partners) t before behind ending = IsEnrolling old new partners.items t before behind ending
-IsPerformed old new (ready.Send bytes) t before behind ending = IsAnswered old new (Interchange bytes.items) t before behind ending
-IsPerformed old new (ready.Take dir) t before behind ending = IsTaking old new t before behind ending
-IsPerformed old new (ready.Clerk slip) t before behind ending =
-    IsAnswered old new (command_of slip.who slip.told slip.sheet) t before behind ending
+IsPerformed old new (ready.Enrol who) t before later ending = IsAnswered old new (Enrol who) t before later ending
+IsPerformed old new (ready.Roster partners) t before later ending = IsEnrolling old new partners.items t before later ending
+IsPerformed old new (ready.Send bytes) t before later ending = IsAnswered old new (Interchange bytes.items) t before later ending
+IsPerformed old new (ready.Take dir) t before later ending = IsTaking old new t before later ending
+IsPerformed old new (ready.Clerk slip) t before later ending =
+    IsAnswered old new (command_of slip.who slip.told slip.sheet) t before later ending

@@ -38,14 +38,14 @@ lines_of W L t [] = []
 lines_of W L t (who ∷ whos) = line_of who (reply_to Two W L (Enrol who) t) ++ lines_of W (after Two W L (Enrol who, t)) t whos
 
 -- each of them was handed in: the register is the one after all, this is the status, and a line is printed of each
-pub record AreEnrolled (old new : Standing) (whos : List Who) (t : Moment) (before behind : Option (List ℕ)) (status : ExitStatus) : Type 0 where
+pub record AreEnrolled (old new : Standing) (whos : List Who) (t : Moment) (before later : Option (List ℕ)) (status : ExitStatus) : Type 0 where
   pub usable : new.doubt ≡ 0 → (L : List Entry) → IsUsable old L
       → IsUsable new (accepted_on Two old.warehouse L (enrolments t whos))
   pub keeps : OfKept old new (λ L. KeepsLegal new (accepted_on Two old.warehouse L (enrolments t whos)))
   pub says : new.doubt ≡ 0 → (L : List Entry) → IsUsable old L
       → status ≡ status_of (replies_on Two old.warehouse L (enrolments t whos))
   pub printed : new.doubt ≡ 0 → (L : List Entry) → IsUsable old L
-      → Appends before behind (lines_of old.warehouse L t whos)
+      → Appends before later (lines_of old.warehouse L t whos)
 
 -- these were handed in, and the line of the last couldn't be printed
 pub record IsUnlisted (old new : Standing) (whos : List Who) (t : Moment) (stop : CommandError) : Type 0 where
@@ -71,5 +71,5 @@ pub record AreEnrolledUntil (old new : Standing) (whos : List Who) (t : Moment) 
 
 -- how a list ended
 abbrev pub IsEnrolling : Standing → Standing → List Who → Moment → Option (List ℕ) → Option (List ℕ) → Result ExitStatus CommandError → Type 0
-IsEnrolling old new whos t before behind (Ok status) = AreEnrolled old new whos t before behind status
-IsEnrolling old new whos t before behind (Err stop) = AreEnrolledUntil old new whos t stop
+IsEnrolling old new whos t before later (Ok status) = AreEnrolled old new whos t before later status
+IsEnrolling old new whos t before later (Err stop) = AreEnrolledUntil old new whos t stop

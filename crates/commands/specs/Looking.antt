@@ -34,33 +34,33 @@ abbrev pub is_readable : Show → Bool
 is_readable s = is_some (asked_for s)
 
 -- it was shown, and the book is as before
-pub record IsLook (old new : Standing) (asked : Asked) (before behind : Option (List ℕ)) (ending : Ending) : Type 0 where
+pub record IsLook (old new : Standing) (asked : Asked) (before later : Option (List ℕ)) (ending : Ending) : Type 0 where
   pub shown : new.doubt ≡ 0 → (L : List Entry) → old.keeps L → IsLegal Two old.warehouse L
-      → IfOk ending (IsShown (shown_of old.warehouse L asked) before behind)
+      → IfOk ending (IsShown (shown_of old.warehouse L asked) before later)
   pub same : IsUnchanged old new
   pub stopped : IfErr ending (IsShowStopped old new (λ L. shown_of old.warehouse L asked))
 
 -- what the words ask for was shown
-pub record IsLookFor (old new : Standing) (s : Show) (before behind : Option (List ℕ)) (ending : Ending) : Type 0 where
+pub record IsLookFor (old new : Standing) (s : Show) (before later : Option (List ℕ)) (ending : Ending) : Type 0 where
   pub asked : Asked
   pub is : IsAskedFor s asked
-  pub look : IsLook old new asked before behind ending
+  pub look : IsLook old new asked before later ending
 
 -- a word of them can't be read
-pub record IsUnread (old new : Standing) (s : Show) (before behind : Option (List ℕ)) (ending : Ending) : Type 0 where
+pub record IsUnread (old new : Standing) (s : Show) (before later : Option (List ℕ)) (ending : Ending) : Type 0 where
   pub words : is_readable s ≡ false
-  pub left : IsLeft old new before behind ending
+  pub left : IsLeft old new before later ending
 
 abbrev pub IsView : Standing → Standing → Show → Option (List ℕ) → Option (List ℕ) → Ending → Type 0
-IsView old new s before behind ending = IsLookFor old new s before behind ending ⊎ IsUnread old new s before behind ending
+IsView old new s before later ending = IsLookFor old new s before later ending ⊎ IsUnread old new s before later ending
 
 -- what a line of a script asks for was done; one that changes and shows nothing leaves the book as it is
 abbrev pub IsTaskDone : Standing → Standing → Task → Option (List ℕ) → Option (List ℕ) → Ending → Type 0
-IsTaskDone old new (task.Act a at) before behind ending = IsChange old new a at before behind ending
-IsTaskDone old new (task.Show s) before behind ending = IsView old new s before behind ending
-IsTaskDone old new other before behind ending = IsLeft old new before behind ending
+IsTaskDone old new (task.Act a at) before later ending = IsChange old new a at before later ending
+IsTaskDone old new (task.Show s) before later ending = IsView old new s before later ending
+IsTaskDone old new other before later ending = IsLeft old new before later ending
 
 abbrev pub IsLineDone : Standing → Standing → Words → Option (List ℕ) → Option (List ℕ) → Ending → Type 0
-IsLineDone old new (words.Over book wait t) before behind ending = IsTaskDone old new t before behind ending
-IsLineDone old new (words.Script file) before behind ending = IsLeft old new before behind ending
-IsLineDone old new (words.Remote server t) before behind ending = IsLeft old new before behind ending
+IsLineDone old new (words.Over book wait t) before later ending = IsTaskDone old new t before later ending
+IsLineDone old new (words.Script file) before later ending = IsLeft old new before later ending
+IsLineDone old new (words.Remote server t) before later ending = IsLeft old new before later ending

@@ -37,11 +37,11 @@ pub record IsRead (row : List ℕ) (asked : Words) : Type 0 where
 
 -- A row was answered: its words were read, what they ask for was done with this ending, which left the book so, and telling why it was
 -- refused changed nothing.
-pub record IsRowAnswered {K : Type 0} (standing : K → Standing) (old new : K) (row : List ℕ) (before behind : Option (List ℕ)) (ending : Ending) : Type 0 where
+pub record IsRowAnswered {K : Type 0} (standing : K → Standing) (old new : K) (row : List ℕ) (before later : Option (List ℕ)) (ending : Ending) : Type 0 where
   pub asked : Words
   pub read : IsRead row asked
   pub left : K
-  pub done : IsLineDone (standing old) (standing left) asked before behind ending
+  pub done : IsLineDone (standing old) (standing left) asked before later ending
   pub same : IsUnchanged (standing left) (standing new)
 
 -- A row was done, or refused: of a book, what was printed and the status so far the row makes those after it.

@@ -2,8 +2,8 @@
 use Rattle.std.specs.Prelude.{ℕ, ◌==◌, Bool, true, not, ◌&&◌, List, Option, Some, None, if◌then◌else◌, nat_lt, bytes_eq, find, count_by, is_none}
 use Rattle.std.specs.Option.{option_or}
 use Rattle.profile.specs.Means.{Line}
-use Rattle.rules.specs.declared.refusals.Refusal.{Refusal}
-use Rattle.rules.specs.declared.refusals.Refusal.TheVariants as refusals
+use Rattle.store.specs.Refusal.{Refusal}
+use Rattle.store.specs.Refusal.TheVariants as refusals
 use Rattle.commands.specs.declared.reasons.Kept.{Kept}
 
 -- what is kept of a line's pair

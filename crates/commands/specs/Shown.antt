@@ -66,8 +66,8 @@ shown_of W L (asks.Outbox who (Some n)) = shown_text (text_of W L who n)
 shown_of W L asks.Depositors = shown_depositors (enrolled L)
 
 -- it was printed, and the status is the one that it gives
-pub record IsShown (shown : Shown) (before behind : Option (List ℕ)) (status : ExitStatus) : Type 0 where
-  pub printed : Appends before behind shown.0
+pub record IsShown (shown : Shown) (before later : Option (List ℕ)) (status : ExitStatus) : Type 0 where
+  pub printed : Appends before later shown.0
   pub says : status ≡ shown.1
 
 -- what is to be shown of the register was read, and couldn't be told

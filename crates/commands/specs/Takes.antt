@@ -6,11 +6,18 @@ use Rattle.profile.specs.Moments.{Moment}
 use Rattle.folders.specs.Folders.{Became, WasRefused, AreTaken, IsStopped, became_of}
 use Rattle.folders.specs.Lines.{taken_line}
 use Rattle.folders.specs.declared.folder.Taken.{Taken}
+use Rattle.folders.specs.declared.passing.PassedOver.{PassedOver}
+use Rattle.folders.specs.declared.passing.WhyPassed.{WhyPassed}
+use Rattle.folders.specs.declared.passing.WhyPassed.TheVariants.{LongName}
 use Rattle.store.specs.Standing.{Standing}
 use Rattle.commands.specs.declared.told.CommandError.{CommandError}
 use Rattle.commands.specs.declared.told.ExitStatus.{ExitStatus}
 use Rattle.commands.specs.declared.told.ExitStatus.TheVariants.{Done, Refused}
 use Rattle.commands.specs.Stops.{IsDeviceStop, IsFaultThat}
+
+abbrev is_long : WhyPassed → Bool
+is_long LongName = true
+is_long why = false
 
 abbrev pub was_refused : Became → Bool
 was_refused (WasRefused refusal) = true
@@ -26,13 +33,19 @@ became_in file = became_of file.outcome
 abbrev pub line_in : Taken → List ℕ
 line_in file = taken_line (string_bytes file.name) (became_in file)
 
--- the interchanges of these texts were taken: what became of each is printed, and this is the status
-pub record IsTaken (old new : Standing) (t : Moment) (before behind : Option (List ℕ)) (status : ExitStatus) : Type 0 where
+-- it can't be answered, since its name is too long
+abbrev pub is_left : PassedOver → Bool
+is_left entry = is_long entry.why
+
+-- The interchanges of these texts were taken, and these passed over: what became of each is printed, and the status is 1 where one
+-- was refused or can't be answered.
+pub record IsTaken (old new : Standing) (t : Moment) (before later : Option (List ℕ)) (status : ExitStatus) : Type 0 where
   pub texts : List (List ℕ)
   pub files : List Taken
   pub taken : AreTaken old new t texts (map became_in files)
-  pub printed : Appends before behind (flat_map line_in files)
-  pub says : status ≡ status_of (map became_in files)
+  pub printed : Appends before later (flat_map line_in files)
+  pub passed : List PassedOver
+  pub says : status ≡ (if list_any is_left passed then Refused else status_of (map became_in files))
 
 -- they were taken, and couldn't be told
 pub record IsUntold (old new : Standing) (t : Moment) (stop : CommandError) : Type 0 where
@@ -47,5 +60,5 @@ IsHalted old new t stop = IsFaultThat stop (λ fault. IsStopped fault old new t)
 
 -- how taking a folder ended
 abbrev pub IsTaking : Standing → Standing → Moment → Option (List ℕ) → Option (List ℕ) → Result ExitStatus CommandError → Type 0
-IsTaking old new t before behind (Ok status) = IsTaken old new t before behind status
-IsTaking old new t before behind (Err stop) = IsHalted old new t stop
+IsTaking old new t before later (Ok status) = IsTaken old new t before later status
+IsTaking old new t before later (Err stop) = IsHalted old new t stop

@@ -3,8 +3,8 @@ use Rattle.std.specs.Prelude.{◌≡◌, ℕ, Bool, List, [], ◌∷◌, ◌++�
 use Rattle.std.specs.Io.KnownBytes.{Appends}
 use Rattle.profile.specs.Refusals.{told_refusal, told_fault}
 use Rattle.profile.specs.Reply as replies
-use Rattle.rules.specs.Told.{refusal_of}
-use Rattle.rules.specs.declared.refusals.Refusal.{Refusal}
+use Rattle.store.specs.Told.{refusal_of}
+use Rattle.store.specs.Refusal.{Refusal}
 use Rattle.store.specs.Faults.{fault_of}
 use Rattle.store.specs.declared.fault.Fault.{Fault}
 use Rattle.commands.specs.declared.told.CommandError.{CommandError}
@@ -27,8 +27,8 @@ status_of (replies.Stored text) = statuses.Done
 status_of (replies.Refused r text) = statuses.Refused
 
 -- the text of a reply was printed, and the status says whether it is a refusal
-pub record IsPrinted (reply : replies.Reply) (before behind : Option (List ℕ)) (status : ExitStatus) : Type 0 where
-  pub printed : Appends before behind (line_of (text_of reply))
+pub record IsPrinted (reply : replies.Reply) (before later : Option (List ℕ)) (status : ExitStatus) : Type 0 where
+  pub printed : Appends before later (line_of (text_of reply))
   pub says : status ≡ status_of reply
 
 -- `refused NUMBER NAME`, and a line feed
@@ -39,7 +39,7 @@ refusal_line r = codes "refused " ++ told_refusal (refusal_of r) ++ codes "\n"
 abbrev pub fault_line : Fault → List ℕ
 fault_line f = codes "fault " ++ told_fault (fault_of f) ++ codes "\n"
 
--- what is told of what stopped a command: words that can't be read as they are, a fault as a line, and behind it what it is about where
+-- what is told of what stopped a command: words that can't be read as they are, a fault as a line, and after it what it is about where
 -- that is asked for
 abbrev pub stop_text : Bool → CommandError → List ℕ
 stop_text explains (stops.Usage text) = string_bytes text

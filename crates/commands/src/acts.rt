@@ -2,12 +2,12 @@ ghost use Rattle.std.specs.Prelude.{◌≡◌, List, true, IfOk, IfErr, IfSome, 
 ghost use Rattle.profile.specs.declared.rules.Rules.TheVariants.{Two};
 ghost use Rattle.profile.specs.Accepted.{IsLegal, is_command, reply_to, after};
 ghost use Rattle.profile.specs.Register.{Entry, Enrol as Enrolment, Interchange as Received};
-ghost use Rattle.rules.specs.Asked.{asked};
+ghost use Rattle.store.specs.Asked.{asked};
 ghost use Rattle.store.specs.Runs.{told};
 ghost use Rattle.store.specs.Standing.{IsUsable, GoesOn, LeavesEither, OfKept};
 ghost use Rattle.commands.specs.Acting.{IsAnswered, IsPerformed};
 ghost use Rattle.commands.specs.Clerks.{command_of};
-ghost use Rattle.commands.specs.Readying.{IsMadeReady};
+ghost use Rattle.commands.specs.Readying.{IsMadeReady, IsUnready};
 ghost use Rattle.commands.specs.Stops.{IsDeviceStop, IsStopped};
 ghost use Rattle.commands.specs.Telling.{IsPrinted};
 
@@ -49,7 +49,8 @@ fn make_ready<'a, R: Files + AllocGlobal>(
     rt: &R,
     act: &BookAct<'a>,
 ) -> Result<Result<Ready<'a>, Refusal>, CommandError>
-    ensures { IfOk result (λ made. IfOk made (IsMadeReady act.now)) }
+    ensures ready { IfOk result (λ made. IfOk made (IsMadeReady act.now)) }
+    ensures unready { IfOk result (λ made. IfErr made (IsUnready act.now)) }
 {
     match act {
         BookAct::Enrol { who } => match Who::new(who.as_bytes()) {
@@ -80,6 +81,7 @@ pub fn ready_at<'a, R: Files + Clock + AllocGlobal>(
     at: Option<Moment>,
 ) -> Result<Result<(Ready<'a>, Moment), Refusal>, CommandError>
     ensures ready { IfOk result (λ made. IfOk made (λ m. IsMadeReady act.now m.0)) }
+    ensures unready { IfOk result (λ made. IfErr made (IsUnready act.now)) }
     ensures moment { IfOk result (λ made. IfOk made (λ m. IfSome at (λ t. m.1 ≡ t))) }
 {
     let moment = moment_for(rt, at)?;

@@ -1,6 +1,6 @@
 //! Depositors of a list, enrolled one after the other.
 ghost use Rattle.std.specs.Io.KnownBytes.{Appends};
-ghost use Rattle.std.specs.Prelude.{◌≡◌, ◌++◌, ℕ, List, Some, IfErr, IfOk, IfSome, OnOk, OnErr, option_map, codes, map};
+ghost use Rattle.std.specs.Prelude.{◌≡◌, ◌++◌, ℕ, List, Some, IfErr, IfNone, IfOk, IfSome, OnOk, OnErr, option_map, codes, map};
 ghost use Rattle.profile.specs.declared.rules.Rules.TheVariants.{Two};
 ghost use Rattle.profile.specs.Accepted.{IsLegal, reply_to, after};
 ghost use Rattle.profile.specs.Header.{who_text};
@@ -8,6 +8,7 @@ ghost use Rattle.profile.specs.Register.{Entry, Enrol};
 ghost use Rattle.store.specs.Runs.{told};
 ghost use Rattle.store.specs.Standing.{IsUsable, KeepsLegal, GoesOn, LeavesEither, OfKept};
 ghost use Rattle.commands.specs.Enrolling.{AreEnrolled, AreEnrolledUntil, line_of};
+ghost use Rattle.commands.specs.Readying.{IsNoRoster};
 ghost use Rattle.commands.specs.Stops.{IsDeviceStop, IsStopped};
 ghost use Rattle.commands.specs.Telling.{status_of};
 ghost use Rattle.rosters.specs.Rosters as meant;
@@ -114,7 +115,8 @@ pub fn read_roster<R: Files + AllocGlobal>(
     rt: &R,
     file: &str,
 ) -> Result<Option<Vec<Who>>, CommandError>
-    ensures { IfOk result (λ found. IfSome found (λ whos. (text : List ℕ) × meant.IsRead text (Some whos.items))) }
+    ensures read { IfOk result (λ found. IfSome found (λ whos. (text : List ℕ) × meant.IsRead text (Some whos.items))) }
+    ensures none { IfOk result (λ found. IfNone found IsNoRoster) }
 {
     match read_within(rt, file, MOST_ROSTER)? {
         Some(text) => Ok(depositors(rt.alloc(), &text)?),

@@ -1,5 +1,6 @@
 //! Files that a line names, read up to a limit, so that one without an end can't take all memory.
-ghost use Rattle.std.specs.Prelude.{◌≤◌, IfOk, IfSome, length};
+ghost use Rattle.std.specs.Prelude.{◌≤◌, IfNone, IfOk, IfSome, length};
+ghost use Rattle.commands.specs.Readying.{IsLonger};
 
 use crate::causes::about_file;
 use crate::told::CommandError;
@@ -22,7 +23,8 @@ pub fn read_within<R: Files + AllocGlobal>(
     file: &str,
     most: u32,
 ) -> Result<Option<Vec<u8>>, CommandError>
-    ensures { IfOk result (λ found. IfSome found (λ bytes. length bytes.items ≤ most)) }
+    ensures most { IfOk result (λ found. IfSome found (λ bytes. length bytes.items ≤ most)) }
+    ensures longer { IfOk result (λ found. IfNone found (IsLonger most)) }
 {
     let bytes = match read_first(rt, file, u64::from(most) + 1) {
         Ok(bytes) => bytes,

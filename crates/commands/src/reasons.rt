@@ -16,14 +16,11 @@ use crate::told::{CommandError, ExitStatus, tell_refusal};
 use crate::verbosity::Verbosity;
 use command_line::{ClerkWords, Deed, Task};
 use itoa::Buffer;
-use rules::{Key, need};
-use sets_in::Goods;
 use sheet_texts::line_of_pair;
 use std::alloc::{AllocError, Global};
 use std::io;
 use std::rt::Files;
-use stock::{KnownOrder, Page};
-use store::{Keeper, Refusal};
+use store::{Goods, Keeper, Key, KnownOrder, Page, Refusal, need};
 
 /// A pair of item and lot that a book keeps, as far as it may be why a clerk's sheet is refused.
 #[derive(Clone, Copy)]

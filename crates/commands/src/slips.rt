@@ -1,24 +1,25 @@
 //! What clerks did, with their sheets.
-ghost use Rattle.std.specs.Prelude.{◌≡◌, List, true, IsTrue, Some, Ok, IfOk, IfSome, option_map};
+ghost use Rattle.std.specs.Prelude.{◌≡◌, ◌⊎◌, List, true, IsTrue, None, Some, Ok, IfErr, IfNone, IfOk, IfSome, option_map};
 ghost use Rattle.profile.specs.declared.rules.Rules.TheVariants.{Two};
 ghost use Rattle.profile.specs.Accepted.{is_command};
+ghost use Rattle.profile.specs.Clerk.{is_sheet};
 ghost use Rattle.profile.specs.Header.{Who as Partner};
 ghost use Rattle.profile.specs.Means.{Line};
-ghost use Rattle.sheets.specs.Kinds.{kind_of};
+ghost use Rattle.sheet_texts.specs.Kinds.{kind_of};
 ghost use Rattle.sheet_texts.specs.Texts.{sheet_of_text};
-ghost use Rattle.rules.specs.Asked.{asked};
+ghost use Rattle.store.specs.Asked.{asked};
 ghost use Rattle.commands.specs.Clerks as meant;
-ghost use Rattle.commands.specs.Clerks.{IsSlipOf, command_of, depositor_of};
+ghost use Rattle.commands.specs.Clerks.{IsNoSheet, IsNoSlip, IsSlipOf, command_of, depositor_of};
 
-use crate::files::{MOST_SHEET, read_within};
+use crate::causes::about_file;
+use crate::files::MOST_SHEET;
 use crate::told::CommandError;
 use command_line::{ClerkWords, Deed};
-use intake::{act_of, sheet_in};
+use intake::{act_of, read_first, sheet_in};
 use profile::{MOST_NUMBER, MOST_TICKET};
-use sets_in::Goods;
 use std::alloc::{AllocError, Global};
 use std::rt::Files;
-use store::{Command, Ident, Refusal, Sheet, SheetKind, Who};
+use store::{Command, Goods, Ident, Refusal, Sheet, SheetKind, Who};
 
 /// What a clerk did, with its sheet: its command can be given.
 #[derive(Drop)]
@@ -60,36 +61,69 @@ struct Read {
     text: Vec<u8>,
 }
 
-// Tests a clerk's words, and reads the file with their sheet. Refused is 32, a word that can't be
-// read or a sheet that is too long; a file that can't be read is Device (44).
+// Tests a clerk's words, and reads the file with their sheet, at most one byte more than a sheet
+// may have; None where a word can't be read (32). A file that can't be read is Device (44).
 fn read_slip<R: Files + AllocGlobal>(
     rt: &R,
     told: &ClerkWords<'_>,
 ) -> Result<Option<Read>, CommandError>
-    ensures { IfOk result (λ found. IfSome found (λ read. depositor_of told.now ≡ Some read.who)) }
+    ensures read { IfOk result (λ found. IfSome found (λ read. depositor_of told.now ≡ Some read.who)) }
+    ensures none { IfOk result (λ found. IfNone found (depositor_of told.now ≡ None)) }
 {
     let Some(who) = depositor(told) else {
         return Ok(None);
     };
-    match read_within(rt, told.sheet, MOST_SHEET)? {
-        Some(text) => Ok(Some(Read { who, text })),
-        None => Ok(None),
+    match read_first(rt, told.sheet, u64::from(MOST_SHEET) + 1) {
+        Ok(text) => Ok(Some(Read { who, text })),
+        Err(error) => Err(about_file(rt.alloc(), told.sheet, &error)),
+    }
+}
+
+// Why a text makes no sheet, where its first bytes make none for this reason. Of a longer one these
+// say only that it has too many lines.
+fn reason_of(refusal: Refusal, is_long: bool) -> Refusal
+    ensures { (result ≡ refusal) ⊎ ((is_long ≡ true) × (result ≡ Refusal.BadText)) }
+{
+    if is_long && !matches!(refusal, Refusal::TooManyLines) {
+        Refusal::BadText
+    } else {
+        refusal
+    }
+}
+
+// The sheet of a kind in the first bytes of a file, or why there is none (30 to 33). A file with
+// more than a sheet may have has too many lines in these already (33), or can't be read (32).
+fn sheet_of(
+    alloc: Global,
+    kind: SheetKind,
+    text: &[u8],
+) -> Result<Result<Sheet, Refusal>, AllocError>
+    ensures ok { IfOk result (λ made. IfOk made (λ sheet. sheet_of_text Two (kind_of kind) text.now ≡ Ok sheet)) }
+    ensures kind { IfOk result (λ made. IfOk made (λ sheet. is_sheet Two (kind_of kind) sheet ≡ true)) }
+    ensures none { IfOk result (λ made. IfErr made (IsNoSheet (kind_of kind) text.now)) }
+{
+    let is_long = text.len() as u64 > u64::from(MOST_SHEET);
+    match sheet_in(alloc, kind, text)? {
+        Ok(_) if is_long => Ok(Err(Refusal::BadText)),
+        Ok(sheet) => Ok(Ok(sheet)),
+        Err(refusal) => Ok(Err(reason_of(refusal, is_long))),
     }
 }
 
 /// What a clerk's words and the file with its sheet come to. Refused are 32, a word that can't be
-/// read or a sheet that is too long, and what keeps a sheet from being one (30 to 33); a file that
-/// can't be read is Device (44).
+/// read, and what keeps a sheet from being one (30 to 33; 33 or 32 where it has more than 1,048,576
+/// bytes); a file that can't be read is Device (44).
 pub fn slip_of<'a, R: Files + AllocGlobal>(
     rt: &R,
     told: &ClerkWords<'a>,
 ) -> Result<Result<Slip<'a>, Refusal>, CommandError>
-    ensures { IfOk result (λ made. IfOk made (λ slip. IsSlipOf told.now slip.who slip.told slip.text.items slip.sheet)) }
+    ensures slip { IfOk result (λ made. IfOk made (λ slip. IsSlipOf told.now slip.who slip.told slip.text.items slip.sheet)) }
+    ensures none { IfOk result (λ made. IfErr made (IsNoSlip told.now)) }
 {
     let Some(Read { who, text }) = read_slip(rt, told)? else {
         return Ok(Err(Refusal::BadText));
     };
-    match sheet_in(rt.alloc(), sheet_kind(told.deed), &text)? {
+    match sheet_of(rt.alloc(), sheet_kind(told.deed), &text)? {
         Ok(sheet) => Ok(Ok(Slip {
             who,
             told: *told,
@@ -105,14 +139,15 @@ pub fn sheet_text_of<R: Files + AllocGlobal>(
     rt: &R,
     told: &ClerkWords<'_>,
 ) -> Result<Result<Vec<u8>, Refusal>, CommandError>
-    ensures { IfOk result (λ made. IfOk made (λ text. (who : Partner) × (sheet : List Line)
+    ensures text { IfOk result (λ made. IfOk made (λ text. (who : Partner) × (sheet : List Line)
         × (depositor_of told.now ≡ Some who)
         × (sheet_of_text Two (meant.kind_of told.now.deed) text.items ≡ Ok sheet))) }
+    ensures none { IfOk result (λ made. IfErr made (IsNoSlip told.now)) }
 {
     let Some(Read { text, .. }) = read_slip(rt, told)? else {
         return Ok(Err(Refusal::BadText));
     };
-    match sheet_in(rt.alloc(), sheet_kind(told.deed), &text)? {
+    match sheet_of(rt.alloc(), sheet_kind(told.deed), &text)? {
         Ok(_) => Ok(Ok(text)),
         Err(refusal) => Ok(Err(refusal)),
     }

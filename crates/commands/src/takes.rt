@@ -1,5 +1,6 @@
-ghost use Rattle.std.specs.Prelude.{◌≡◌, ◌∷◌, [], map, flat_map, IfOk, IfErr, OnOk};
+ghost use Rattle.std.specs.Prelude.{◌≡◌, ◌∷◌, [], if◌then◌else◌, map, flat_map, IfOk, IfErr, OnOk};
 ghost use Rattle.std.specs.Io.KnownBytes.{Appends};
+ghost use Rattle.std.specs.List.{list_any};
 ghost use Rattle.folders.specs.Folders.{became_of};
 ghost use Rattle.store.specs.Standing.{GoesOn};
 ghost use Rattle.commands.specs.Stops.{IsDeviceStop};
@@ -8,7 +9,7 @@ ghost use Rattle.commands.specs.Takes as meant;
 use crate::causes::about_stop;
 use crate::told::{CommandError, ExitStatus};
 use crate::verbosity::Verbosity;
-use intake::{FileOutcome, PassedOver, Taken, take_folder_telling};
+use intake::{FileOutcome, PassedOver, Taken, WhyPassed, take_folder_telling};
 use std::io;
 use std::rt::Files;
 use store::{Keeper, Moment};
@@ -37,24 +38,59 @@ fn tell_taken<W: io::Write>(out: &mut W, files: &[Taken]) -> Result<ExitStatus, 
     Ok(status)
 }
 
-// Tells what was passed over, and why.
-fn tell_passed<E: io::Write>(err: &mut E, passed: &[PassedOver]) -> io::Result<()> {
+// Whether it is an interchange that can't be answered, since its name is too long.
+fn is_left(entry: &PassedOver) -> bool
+    ensures { result ≡ meant.is_left entry.now }
+{
+    matches!(entry.why, WhyPassed::LongName)
+}
+
+// Whether one of them is such an interchange.
+fn leaves_any(passed: &[PassedOver]) -> bool
+    ensures { result ≡ list_any meant.is_left passed.now }
+{
+    passed.iter().any(|entry| is_left(entry))
+}
+
+// The status of files that were taken, and of those that were passed over.
+fn with_passed(status: ExitStatus, passed: &[PassedOver]) -> ExitStatus
+    ensures { result ≡ (if list_any meant.is_left passed.now then ExitStatus.Refused else status) }
+{
+    if leaves_any(passed) {
+        ExitStatus::Refused
+    } else {
+        status
+    }
+}
+
+// Tells an entry that was passed over, and why.
+fn tell_entry<E: io::Write>(err: &mut E, entry: &PassedOver) -> io::Result<()> {
+    match &entry.name {
+        Some(name) => err.write_all(name.as_bytes())?,
+        None => err.write_all(b"an entry")?,
+    }
+    err.write_all(b" passed over: ")?;
+    err.write_all(entry.why.text().as_bytes())?;
+    err.write_all(b"\n")
+}
+
+// Tells what was passed over, and why: all that may be meant as an interchange, where that is asked
+// for, and else what can't be taken because of its name.
+fn tell_passed<E: io::Write>(err: &mut E, passed: &[PassedOver], is_all: bool) -> io::Result<()> {
     for entry in passed {
-        match &entry.name {
-            Some(name) => err.write_all(name.as_bytes())?,
-            None => err.write_all(b"an entry")?,
+        if is_all || !matches!(entry.why, WhyPassed::NoFile) {
+            tell_entry(err, entry)?;
         }
-        err.write_all(b" passed over: ")?;
-        err.write_all(entry.why.text().as_bytes())?;
-        err.write_all(b"\n")?;
     }
     Ok(())
 }
 
 /// Submits each interchange of a folder, whose answers are written beside them, and prints what
 /// became of each: `a.x12 accepted`, `a.x12 stored`, `a.x12 refused 025` or `a.x12 unreadable`. At
-/// a fault nothing is printed, and the fault is told with the file at which it stopped. Where it is
-/// asked for, what is passed over is told on standard error, and how far the taking is.
+/// a fault nothing is printed, and the fault is told with the file at which it stopped. What can't
+/// be taken because of its name is told on standard error, and where it is asked for all that is
+/// passed over, and how far the taking is. The status is 1 where a file was refused, or passed over
+/// because its name is too long.
 pub fn take<R: Files + AllocGlobal + Clone + Drop, K: Keeper, W: io::Write, E: io::Write>(
     rt: &R,
     book: &mut K,
@@ -75,11 +111,9 @@ pub fn take<R: Files + AllocGlobal + Clone + Drop, K: Keeper, W: io::Write, E: i
     match taken {
         Ok(folder) => {
             let status = tell_taken(out, &folder.files)?;
-            if verbosity.explains {
-                // What can't be told is left out: what became of the files is told.
-                let _ = tell_passed(err, &folder.passed);
-            }
-            Ok(status)
+            // What can't be told is left out: what became of the files is told.
+            let _ = tell_passed(err, &folder.passed, verbosity.explains);
+            Ok(with_passed(status, &folder.passed))
         }
         Err(stop) => {
             if stop.taken > 0 {

@@ -2,7 +2,7 @@
 use Rattle.std.proofs.Common.{◌≡◌, ℕ, List, [], Bool, true, false, refl, sym, ap, ◌∙◌, length, ◌==◌}
 use Rattle.std.specs.Fmt.{digits}
 use Rattle.profile.specs.Response.{Response, answer_response, reply_response, no_content, with_body, x12_type}
-use Rattle.rules.specs.declared.refusals.Refusal.TheVariants.{Unreadable, Note, Duplicate, UnknownDepositor, TicketUsed, UnknownAdvice, AdviceClosed, UnknownOrder, OrderClosed, NotReserved, UnknownLot, BelowReserved, NoDifference, TooMuch, RepeatedLine, BadText, TooManyLines, NumbersUsedUp, AlreadyEnrolled}
+use Rattle.store.specs.Refusal.TheVariants.{Unreadable, Note, Duplicate, UnknownDepositor, TicketUsed, UnknownAdvice, AdviceClosed, UnknownOrder, OrderClosed, NotReserved, UnknownLot, BelowReserved, NoDifference, TooMuch, RepeatedLine, BadText, TooManyLines, NumbersUsedUp, AlreadyEnrolled}
 use Rattle.store.specs.Runs.{told}
 use Rattle.store.specs.declared.serving.Reply.{Reply}
 use Rattle.store.specs.declared.serving.Reply.TheVariants.{Accepted, Stored, Refused}

@@ -1,11 +1,15 @@
 -- What a line asks of a server.
-use Rattle.std.specs.Prelude.{◌≡◌, ℕ, true, List, Some, Ok}
+use Rattle.std.specs.Prelude.{◌≡◌, ℕ, false, true, List, Some, Ok}
 use Rattle.profile.specs.declared.rules.Rules.TheVariants.{Two}
+use Rattle.profile.specs.declared.limits.TheConstants.{MOST_BYTES}
 use Rattle.profile.specs.Header.{Who}
 use Rattle.profile.specs.Means.{Line}
-use Rattle.sheet_texts.specs.Texts.{sheet_of_text}
-use Rattle.commands.specs.Clerks.{depositor_of, kind_of}
+use Rattle.store.specs.Refusal.{Refusal}
+use Rattle.store.specs.Refusal.TheVariants.{BadText, Unreadable}
+use Rattle.intake.specs.Texts.{sheet_of_text}
+use Rattle.commands.specs.Clerks.{IsNoSlip, depositor_of, kind_of}
 use Rattle.commands.specs.Looking.{is_readable}
+use Rattle.commands.specs.Readying.{IsLonger}
 use Rattle.command_line.specs.declared.words.BookAct.TheVariants as act
 use Rattle.command_line.specs.declared.words.ClerkWords.{ClerkWords}
 use Rattle.command_line.specs.declared.words.Task.{Task}
@@ -26,3 +30,10 @@ IsErrandFor (task.Act (act.Send file) at) (errand.Send bytes) = Unit {0}
 IsErrandFor (task.Act (act.Clerk told) at) (errand.Deed t text) = (t ≡ told) × IsDeed told text.items
 IsErrandFor (task.Show s) (errand.Look shown) = (shown ≡ s) × (is_readable s ≡ true)
 IsErrandFor t e = ⊥
+
+-- what the line asks for isn't made ready, for this reason: an interchange is refused for its length alone
+abbrev pub IsNoErrandFor : Task → Refusal → Type 0
+IsNoErrandFor (task.Act (act.Send file) at) refusal = (refusal ≡ Unreadable) × IsLonger MOST_BYTES
+IsNoErrandFor (task.Act (act.Clerk told) at) refusal = IsNoSlip told refusal
+IsNoErrandFor (task.Show s) refusal = (refusal ≡ BadText) × (is_readable s ≡ false)
+IsNoErrandFor t refusal = ⊥

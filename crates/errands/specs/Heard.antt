@@ -4,8 +4,8 @@ use Rattle.std.specs.List.{slice_split, list_all}
 use Rattle.std.specs.Io.KnownBytes.{Appends}
 use Rattle.profile.specs.Bytes.{is_digit, value}
 use Rattle.profile.specs.Lists.{first_of}
-use Rattle.rules.specs.declared.refusals.Refusal.{Refusal}
-use Rattle.rules.specs.declared.refusals.Refusal.TheVariants as refusals
+use Rattle.store.specs.Refusal.{Refusal}
+use Rattle.store.specs.Refusal.TheVariants as refusals
 use Rattle.store.specs.declared.fault.Fault.{Fault}
 use Rattle.store.specs.declared.fault.Fault.TheVariants as faults
 use Rattle.commands.specs.Telling.{line_of}

@@ -1,8 +1,8 @@
 -- When a server's response is told as the reply itself is over the book.
 use Rattle.std.specs.Prelude.{◌≡◌, ℕ, Bool, false, List, [], Option, Some, None, bytes_eq}
 use Rattle.profile.specs.Response.{Response, x12_type}
-use Rattle.rules.specs.declared.refusals.Refusal.{Refusal}
-use Rattle.rules.specs.declared.refusals.Refusal.TheVariants as refusals
+use Rattle.store.specs.Refusal.{Refusal}
+use Rattle.store.specs.Refusal.TheVariants as refusals
 use Rattle.store.specs.Runs.{told}
 use Rattle.store.specs.declared.serving.Reply.{Reply}
 use Rattle.store.specs.declared.serving.Reply.TheVariants.{Accepted, Stored, Refused}

@@ -1,6 +1,6 @@
 //! What a server is asked for, made ready.
-ghost use Rattle.std.specs.Prelude.{◌≡◌, IfOk};
-ghost use Rattle.errands.specs.Errands.{IsErrandFor};
+ghost use Rattle.std.specs.Prelude.{◌≡◌, IfErr, IfOk};
+ghost use Rattle.errands.specs.Errands.{IsErrandFor, IsNoErrandFor};
 
 use command_line::{BookAct, ClerkWords, Show, Task};
 use commands::{CommandError, about_file, ask, sheet_text_of, usage};
@@ -29,7 +29,8 @@ pub fn errand_of<'a, R: Files + AllocGlobal>(
     rt: &R,
     task: &Task<'a>,
 ) -> Result<Result<Errand<'a>, Refusal>, CommandError>
-    ensures { IfOk result (λ made. IfOk made (IsErrandFor task.now)) }
+    ensures errand { IfOk result (λ made. IfOk made (IsErrandFor task.now)) }
+    ensures none { IfOk result (λ made. IfErr made (IsNoErrandFor task.now)) }
 {
     match task {
         Task::Act {

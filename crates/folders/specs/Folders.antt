@@ -8,7 +8,7 @@ use Rattle.profile.specs.Register.{Entry, Command, Interchange}
 use Rattle.profile.specs.Reply as replies
 use Rattle.profile.specs.Refusals.{Refusal}
 use Rattle.profile.specs.Accepted.{accepted_on, replies_on}
-use Rattle.rules.specs.Told.{refusal_of}
+use Rattle.store.specs.Told.{refusal_of}
 use Rattle.store.specs.Standing.{Standing, IsUsable, KeepsLegal, LeavesEither, OfKept, Refused}
 use Rattle.store.specs.declared.fault.Fault.{Fault}
 use Rattle.store.specs.declared.fault.Fault.TheVariants.{OutOfMemory, Store, Reopen, NotThisBook, Device}

@@ -3,7 +3,7 @@ ghost use Rattle.std.specs.Prelude.{◌≡◌, OnOk, string_bytes};
 ghost use Rattle.std.specs.Io.KnownBytes.{Appends};
 ghost use Rattle.profile.specs.Bytes.{zero_filled};
 ghost use Rattle.profile.specs.Refusals.{Note};
-ghost use Rattle.rules.specs.Told.{refusal_of};
+ghost use Rattle.store.specs.Told.{refusal_of};
 ghost use Rattle.folders.specs.Folders.{became_of};
 ghost use Rattle.folders.specs.Lines.{became_text, refused_text, taken_line};
 

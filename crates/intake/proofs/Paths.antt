@@ -37,8 +37,8 @@ part_is_text path a b u from to = by (leb a b) (leb b (length path)) refl
     by false w e = IsUtf8-nil
 
 -- after an ASCII byte a part may begin
-behind : (path : List ℕ) (i : ℕ) → IsUtf8 path → i < length path → get_or path i 0 < 128 → IsCharBoundary path (next_at (length path) i)
-behind path i u h low =
+later : (path : List ℕ) (i : ℕ) → IsUtf8 path → i < length path → get_or path i 0 < 128 → IsCharBoundary path (next_at (length path) i)
+later path i u h low =
     let e : ltb i (length path) ≡ true = grind (arith, nat_tests) in
     rw e (IsCharBoundary-after_ascii path i u h low)
 
@@ -116,7 +116,7 @@ module _ (p : List ℕ) where
       let who : IsUtf8 (part_of path 8 (8 + m)) =
       part_is_text path 8 (8 + m) u (IsCharBoundary-after_ascii path 7 u long (omega arith)) (IsCharBoundary-before_ascii path (8 + m) within (omega (arith, low))) in
       let n : IsUtf8 (part_of path (next_at (length path) (8 + m)) (length path)) =
-      part_is_text path (next_at (length path) (8 + m)) (length path) u (behind path (8 + m) u within (omega (arith, low))) (IsCharBoundary-end path) in
+      part_is_text path (next_at (length path) (8 + m)) (length path) u (later path (8 + m) u within (omega (arith, low))) (IsCharBoundary-end path) in
       let last : AllText (walk content_pattern (codes "/outbox/{who}/{n}") path ((15, 16) ∷ []) 9 (8 + m)) = (n_is_text, n, tt) in
       subst (λ (w : ℕ × ℕ). IsUtf8 (part_of (codes "/outbox/{who}/{n}") 9 12) × IsUtf8 (part_of path w.1 (wild_stop content_pattern w.0 path w.1))
       × AllText (walk content_pattern (codes "/outbox/{who}/{n}") path ((15, 16) ∷ []) (after_token w.0) (wild_stop content_pattern w.0 path w.1))) (sym from)

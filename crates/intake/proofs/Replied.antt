@@ -4,9 +4,9 @@ use Rattle.std.specs.Fmt.{digits}
 use Rattle.profile.specs.Refusals as meant
 use Rattle.profile.specs.Accepted.{is_accepted}
 use Rattle.profile.specs.Response.{with_body, plain_type, refused_response}
-use Rattle.rules.specs.Told.{refusal_of}
-use Rattle.rules.specs.declared.refusals.Refusal.{Refusal}
-use Rattle.rules.specs.declared.refusals.Refusal.TheVariants.{Unreadable, Note, Duplicate, UnknownDepositor, TicketUsed, UnknownAdvice, AdviceClosed, UnknownOrder, OrderClosed, NotReserved, UnknownLot, BelowReserved, NoDifference, TooMuch, RepeatedLine, BadText, TooManyLines, NumbersUsedUp, AlreadyEnrolled}
+use Rattle.store.specs.Told.{refusal_of}
+use Rattle.store.specs.Refusal.{Refusal}
+use Rattle.store.specs.Refusal.TheVariants.{Unreadable, Note, Duplicate, UnknownDepositor, TicketUsed, UnknownAdvice, AdviceClosed, UnknownOrder, OrderClosed, NotReserved, UnknownLot, BelowReserved, NoDifference, TooMuch, RepeatedLine, BadText, TooManyLines, NumbersUsedUp, AlreadyEnrolled}
 use Rattle.store.specs.Faults.{fault_of}
 use Rattle.store.specs.Runs.{told, UnlessAccepted}
 use Rattle.store.specs.declared.fault.Fault.{Fault}

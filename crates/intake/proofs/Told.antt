@@ -12,15 +12,15 @@ use Rattle.intake.specs.Connections.{HasTold, IsNotAccepted, IsOutcome, IsServed
 use Rattle.intake.specs.Serving.{IsWritten, IsUnread, IsUnwritten}
 
 -- by what its reader and its writer have, and what became of them
-pub served_on : (audience : Audience) (old new : Standing) (c : Connection) (known before behind : Option (List ℕ)) (unread still unwritten more : ℕ)
-    → IfOk c.served.outcome (λ status. IsWritten audience old new known c.moment before behind status c.served.line c.served.sender c.served.bytes)
-    → OnErr c.served.outcome (IsUnread old new known before behind unread still c.served.line c.served.sender c.served.bytes
-    ⊎ IsUnwritten audience old new known c.moment before behind unwritten more c.served.line c.served.sender c.served.bytes)
+pub served_on : (audience : Audience) (old new : Standing) (c : Connection) (known before later : Option (List ℕ)) (unread still unwritten more : ℕ)
+    → IfOk c.served.outcome (λ status. IsWritten audience old new known c.moment before later status c.served.line c.served.sender c.served.bytes)
+    → OnErr c.served.outcome (IsUnread old new known before later unread still c.served.line c.served.sender c.served.bytes
+    ⊎ IsUnwritten audience old new known c.moment before later unwritten more c.served.line c.served.sender c.served.bytes)
     → IsServedOn audience old new c
-served_on audience old new c known before behind unread still unwritten more written stopped = record {
+served_on audience old new c known before later unread still unwritten more written stopped = record {
   known = known;
   before = before;
-  behind = behind;
+  later = later;
   reads = (unread, still);
   writes = (unwritten, more);
   written = written;

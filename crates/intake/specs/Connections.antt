@@ -22,12 +22,12 @@ moment_of c = c.moment
 pub record IsServedOn (audience : Audience) (old new : Standing) (c : Connection) : Type 0 where
   pub known : Option (List ℕ)
   pub before : Option (List ℕ)
-  pub behind : Option (List ℕ)
+  pub later : Option (List ℕ)
   pub reads : ℕ × ℕ
   pub writes : ℕ × ℕ
-  pub written : IfOk c.served.outcome (λ status. IsWritten audience old new known c.moment before behind status c.served.line c.served.sender c.served.bytes)
-  pub stopped : OnErr c.served.outcome (IsUnread old new known before behind reads.0 reads.1 c.served.line c.served.sender c.served.bytes
-      ⊎ IsUnwritten audience old new known c.moment before behind writes.0 writes.1 c.served.line c.served.sender c.served.bytes)
+  pub written : IfOk c.served.outcome (λ status. IsWritten audience old new known c.moment before later status c.served.line c.served.sender c.served.bytes)
+  pub stopped : OnErr c.served.outcome (IsUnread old new known before later reads.0 reads.1 c.served.line c.served.sender c.served.bytes
+      ⊎ IsUnwritten audience old new known c.moment before later writes.0 writes.1 c.served.line c.served.sender c.served.bytes)
 
 -- A connection that couldn't be accepted: nothing of it is known.
 pub record IsNotAccepted (c : Connection) : Type 0 where

@@ -11,3 +11,4 @@ pub mod Slips
 pub mod Asking
 pub mod Serving
 pub mod Connections
+pub use Rattle.sheet_texts.specs.Texts

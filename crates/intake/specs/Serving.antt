@@ -96,25 +96,25 @@ pub record IsExchangeBehind (audience : Audience) (old new : Standing) (known : 
 
 -- A response was written: it was that to what the reader had. What is told is its status, the line of the request, who sent the
 -- interchange that was handed in, and how many bytes the response has.
-pub record IsWritten (audience : Audience) (old new : Standing) (known : Option (List ℕ)) (t : Moment) (before behind : Option (List ℕ)) (status : ℕ) (line : Option RequestLine) (sender : Option Who) (bytes : ℕ) : Type 0 where
+pub record IsWritten (audience : Audience) (old new : Standing) (known : Option (List ℕ)) (t : Moment) (before later : Option (List ℕ)) (status : ℕ) (line : Option RequestLine) (sender : Option Who) (bytes : ℕ) : Type 0 where
   pub response : Response
   pub exchange : IsExchange audience old new known t response line sender
   pub status_of : status ≡ response.status
-  pub whole : Appends before behind (response_bytes response)
+  pub whole : Appends before later (response_bytes response)
   pub counted : bytes ≡ length (response_bytes response)
 
 -- The reader failed: nothing was handed in or written, and the book is as it was. The line is told where the head was read.
-pub record IsUnread (old new : Standing) (known before behind : Option (List ℕ)) (errors more : ℕ) (line : Option RequestLine) (sender : Option Who) (bytes : ℕ) : Type 0 where
+pub record IsUnread (old new : Standing) (known before later : Option (List ℕ)) (errors more : ℕ) (line : Option RequestLine) (sender : Option Who) (bytes : ℕ) : Type 0 where
   pub book : IsUnchanged old new
-  pub nothing : behind ≡ before
+  pub nothing : later ≡ before
   pub grew : Grew errors more
   pub told : IfSome line (HasLine known)
   pub sent : sender ≡ None
   pub counted : bytes ≡ 0
 
 -- The writer failed: a beginning of the response was written, of so many bytes, and the book is as the request left it.
-pub record IsUnwritten (audience : Audience) (old new : Standing) (known : Option (List ℕ)) (t : Moment) (before behind : Option (List ℕ)) (errors more : ℕ) (line : Option RequestLine) (sender : Option Who) (bytes : ℕ) : Type 0 where
+pub record IsUnwritten (audience : Audience) (old new : Standing) (known : Option (List ℕ)) (t : Moment) (before later : Option (List ℕ)) (errors more : ℕ) (line : Option RequestLine) (sender : Option Who) (bytes : ℕ) : Type 0 where
   pub response : Response
   pub exchange : IsExchange audience old new known t response line sender
-  pub beginning : AppendsBeginning before behind (response_bytes response) bytes
+  pub beginning : AppendsBeginning before later (response_bytes response) bytes
   pub grew : Grew errors more

@@ -5,7 +5,7 @@ use Rattle.profile.specs.Lists.{first_of}
 use Rattle.profile.specs.Means.{Line}
 use Rattle.profile.specs.Refusals.{Refusal, TooMuch, RepeatedLine, BadText, TooManyLines}
 use Rattle.profile.specs.Register.{Command, Clerk}
-use Rattle.sheets.specs.Kinds.{kind_of}
+use Rattle.sheet_texts.specs.Kinds.{kind_of}
 use Rattle.intake.specs.Calls.{act_of}
 use Rattle.intake.specs.declared.calls.Deed.{Deed}
 

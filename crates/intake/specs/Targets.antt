@@ -5,7 +5,7 @@ use Rattle.profile.specs.Header.{Who}
 use Rattle.profile.specs.Moments.{Moment}
 use Rattle.profile.specs.Register.{Command, Interchange, Entry}
 use Rattle.profile.specs.Response.{Method, Route, Head, Response, bare, is_exchange, body_after, resp}
-use Rattle.sheets.specs.Kinds.{kind_of}
+use Rattle.sheet_texts.specs.Kinds.{kind_of}
 use Rattle.intake.specs.Calls.{Call, ToDeed, ToOrder, ToExport, ToOpen, ToDepositors, call_of, is_deed, call_command, call_resp}
 use Rattle.intake.specs.Routes.{route_of, seen_route}
 use Rattle.intake.specs.declared.audience.Audience.{Audience}

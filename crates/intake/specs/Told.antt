@@ -1,7 +1,7 @@
 -- The texts of refusals and faults.
 use Rattle.std.specs.Prelude.{ℕ, List, codes}
-use Rattle.rules.specs.declared.refusals.Refusal.{Refusal}
-use Rattle.rules.specs.declared.refusals.Refusal.TheVariants as refusals
+use Rattle.store.specs.Refusal.{Refusal}
+use Rattle.store.specs.Refusal.TheVariants as refusals
 use Rattle.store.specs.declared.fault.Fault.{Fault}
 use Rattle.store.specs.declared.fault.Fault.TheVariants as faults
 

@@ -10,7 +10,7 @@ ghost use Rattle.profile.specs.Reports as reports;
 ghost use Rattle.profile.specs.Response.{Get, OtherMethod, found_for, with_body, plain_type};
 ghost use Rattle.profile.specs.Rows.{stock_of};
 ghost use Rattle.reports.specs.Picking.{Explains};
-ghost use Rattle.store.specs.Standing.{IsUnchanged, IsQueryFault, OfKept};
+ghost use Rattle.store.specs.Standing.{IsQuery, OfKept};
 ghost use Rattle.intake.specs.Answers.{seen};
 ghost use Rattle.intake.specs.Asking.{call_asks};
 ghost use Rattle.intake.specs.Calls.{owner_of, order_response, sheet_response, open_response, depositors_response, call_resp};
@@ -29,8 +29,7 @@ fn export_at<K: Keeper>(alloc: Global, keeper: &mut K, who: &[u8]) -> Result<Res
     ensures response { OfKept (K.standing keeper.old) (K.standing keeper.new)
         (λ L. IfOk result (λ r. seen r ≡ found_for who.now (stock_of L) (λ rows. with_body 200 plain_type
         (reports.stock_csv Two rows)))) }
-    ensures same { IsUnchanged (K.standing keeper.old) (K.standing keeper.new) }
-    ensures fault { IfErr result (λ fault. IsQueryFault fault (K.standing keeper.old) (K.standing keeper.new)) }
+    ensures query { IsQuery (K.standing keeper.old) (K.standing keeper.new) result }
     ensures shut { (K.standing keeper.old).shut ≡ true → is_some (who_of who.now) ≡ true
         → IsErrOf result Fault.Reopen }
 {
@@ -72,8 +71,7 @@ fn order_at<K: Keeper>(
 ) -> Result<Response, Fault>
     ensures response { OfKept (K.standing keeper.old) (K.standing keeper.new)
         (λ L. IfOk result (λ r. seen r ≡ order_response L (owner_of who.now number.now) number.now)) }
-    ensures same { IsUnchanged (K.standing keeper.old) (K.standing keeper.new) }
-    ensures fault { IfErr result (λ fault. IsQueryFault fault (K.standing keeper.old) (K.standing keeper.new)) }
+    ensures query { IsQuery (K.standing keeper.old) (K.standing keeper.new) result }
     ensures shut { (K.standing keeper.old).shut ≡ true → is_some (owner_of who.now number.now) ≡ true
         → IsErrOf result Fault.Reopen ⊎ IsErrOf result Fault.OutOfMemory }
 {
@@ -94,8 +92,7 @@ fn order_at<K: Keeper>(
 fn open_at<K: Keeper>(alloc: Global, keeper: &mut K, who: &[u8]) -> Result<Response, Fault>
     ensures response { OfKept (K.standing keeper.old) (K.standing keeper.new)
         (λ L. IfOk result (λ r. seen r ≡ open_response L (who_of who.now))) }
-    ensures same { IsUnchanged (K.standing keeper.old) (K.standing keeper.new) }
-    ensures fault { IfErr result (λ fault. IsQueryFault fault (K.standing keeper.old) (K.standing keeper.new)) }
+    ensures query { IsQuery (K.standing keeper.old) (K.standing keeper.new) result }
     ensures shut { (K.standing keeper.old).shut ≡ true → is_some (who_of who.now) ≡ true
         → IsErrOf result Fault.Reopen }
 {
@@ -112,8 +109,7 @@ fn open_at<K: Keeper>(alloc: Global, keeper: &mut K, who: &[u8]) -> Result<Respo
 fn depositors_at<K: Keeper>(alloc: Global, keeper: &mut K) -> Result<Response, Fault>
     ensures response { OfKept (K.standing keeper.old) (K.standing keeper.new)
         (λ L. IfOk result (λ r. seen r ≡ depositors_response L)) }
-    ensures same { IsUnchanged (K.standing keeper.old) (K.standing keeper.new) }
-    ensures fault { IfErr result (λ fault. IsQueryFault fault (K.standing keeper.old) (K.standing keeper.new)) }
+    ensures query { IsQuery (K.standing keeper.old) (K.standing keeper.new) result }
     ensures shut { (K.standing keeper.old).shut ≡ true → IsErrOf result Fault.Reopen }
 {
     let whos = keeper.depositors()?;
@@ -134,8 +130,7 @@ pub(crate) fn looked_at<K: Keeper>(
     ensures response { OfKept (K.standing keeper.old) (K.standing keeper.new)
         (λ L. (body : List ℕ) (t : Minute) → IfOk result (λ r. seen r ≡ call_resp
         (K.standing keeper.old).warehouse L Get (seen_call call.now) body t)) }
-    ensures same { IsUnchanged (K.standing keeper.old) (K.standing keeper.new) }
-    ensures fault { IfErr result (λ fault. IsQueryFault fault (K.standing keeper.old) (K.standing keeper.new)) }
+    ensures query { IsQuery (K.standing keeper.old) (K.standing keeper.new) result }
     ensures shut { (body : List ℕ) → (K.standing keeper.old).shut ≡ true
         → call_asks Get (seen_call call.now) body ≡ true
         → IsErrOf result Fault.Reopen ⊎ IsErrOf result Fault.OutOfMemory }

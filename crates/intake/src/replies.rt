@@ -1,6 +1,6 @@
 ghost use Rattle.std.specs.Prelude.{◌≡◌};
 ghost use Rattle.profile.specs.Response.{answer_response, refused_response, reply_response, fault_response, with_body};
-ghost use Rattle.rules.specs.Told.{refusal_of};
+ghost use Rattle.store.specs.Told.{refusal_of};
 ghost use Rattle.store.specs.Faults.{fault_of};
 ghost use Rattle.store.specs.Runs.{told};
 ghost use Rattle.profile.specs.Refusals as meant;
@@ -9,8 +9,7 @@ ghost use Rattle.intake.specs.Calls.{line_response, deed_refused, deed_reply};
 ghost use Rattle.intake.specs.Told.{refusal_line, fault_line};
 
 use crate::response::{Body, MediaType, Response, Status};
-use rules::Refusal;
-use store::{Fault, Reply};
+use store::{Fault, Refusal, Reply};
 
 /// A response with a body of its own.
 pub(crate) fn with_text(status: Status, kind: MediaType, text: Vec<u8>) -> Response

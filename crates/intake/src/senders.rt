@@ -1,7 +1,7 @@
 //! What a request is answered, and who sent the interchange that it hands in.
 ghost use Rattle.std.specs.Prelude.{◌≡◌, None};
 ghost use Rattle.profile.specs.Accepted.{depositor_of};
-ghost use Rattle.rules.specs.Asked.{asked};
+ghost use Rattle.store.specs.Asked.{asked};
 ghost use Rattle.store.specs.Standing.{GoesOn};
 ghost use Rattle.intake.specs.Answers.{seen};
 ghost use Rattle.intake.specs.Asking.{target_asks, IsShutAnswer};
@@ -13,9 +13,8 @@ ghost use Rattle.intake.specs.Targets.{seen_target, target_command, target_resp}
 use crate::heading::MethodKind;
 use crate::response::Response;
 use crate::targets::{Target, hands_in, respond_to};
-use rules::subject;
 use std::alloc::Global;
-use store::{Command, Keeper, Moment, Who};
+use store::{Command, Keeper, Moment, Who, subject};
 
 /// What a request is answered.
 #[derive(Drop)]

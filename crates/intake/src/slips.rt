@@ -3,10 +3,10 @@ ghost use Rattle.std.specs.Prelude.{◌≡◌, true, IsTrue, List, Ok, Err, IfOk
 ghost use Rattle.profile.specs.declared.rules.Rules.TheVariants.{Two};
 ghost use Rattle.profile.specs.Accepted.{is_command};
 ghost use Rattle.profile.specs.Clerk.{is_sheet};
-ghost use Rattle.sheets.specs.Kinds.{kind_of};
+ghost use Rattle.sheet_texts.specs.Kinds.{kind_of};
 ghost use Rattle.sheet_texts.specs.Texts.{sheet_of_text};
-ghost use Rattle.rules.specs.Asked.{asked, act_of as asked_act};
-ghost use Rattle.rules.specs.Told.{refusal_of as named_refusal};
+ghost use Rattle.store.specs.Asked.{asked, act_of as asked_act};
+ghost use Rattle.store.specs.Told.{refusal_of as named_refusal};
 ghost use Rattle.intake.specs.Answers.{seen};
 ghost use Rattle.intake.specs.Calls as meant;
 ghost use Rattle.intake.specs.Slips as slips;

@@ -12,10 +12,10 @@ use Rattle.profile.specs.Refusals.{OrderClosed}
 use Rattle.profile.specs.Reports.{pick_lines, pick_sheet, pick_list}
 use Rattle.profile.proofs.NeedLaws.{alone}
 use Rattle.profile.proofs.TextLaws.{text_is}
-use Rattle.sheets.proofs.PairLaws.{before_through, one_pair}
-use Rattle.goods.specs.Pages.{PageFacts, order_at}
-use Rattle.stock.specs.Shows.{Shows}
-use Rattle.rules.specs.Decided.{IsHeldPart}
+use Rattle.store.proofs.PairLaws.{before_through, one_pair}
+use Rattle.store.specs.Pages.{PageFacts, order_at}
+use Rattle.store.specs.Shows.{Shows}
+use Rattle.store.specs.Decided.{IsHeldPart}
 use Rattle.reports.specs.Picking.{held_of, order_lines, order_sheet, listed}
 use Rattle.reports.proofs.FilterLaws.{filter_in_order, filters}
 

@@ -7,9 +7,8 @@ use crate::columns::{append_left, append_right};
 use crate::picking::{append_short, short_of};
 use itoa::Buffer;
 use profile::{AMOUNT_COLUMN, MOST_NUMBER};
-use sets_in::Goods;
 use std::alloc::{AllocError, Global};
-use stock::{KnownAdvice, KnownLine, KnownOrder, Page};
+use store::{Goods, KnownAdvice, KnownLine, KnownOrder, Page};
 
 /// The report's column of how many lines there are.
 pub(crate) const LINES_COLUMN: usize = 5;

@@ -3,15 +3,14 @@ ghost use Rattle.profile.specs.History.{History};
 ghost use Rattle.profile.specs.Need.{need_of_number};
 ghost use Rattle.profile.specs.Reports as meant;
 ghost use Rattle.reports.specs.Picking.{held_of, held_lines, short_of as meant_short_of, short_line, address_line, order_lines, order_sheet, listed, Explains};
-ghost use Rattle.goods.specs.Pages.{order_at};
-ghost use Rattle.rules.specs.Decided.{IsHeldPart};
+ghost use Rattle.store.specs.Pages.{order_at};
+ghost use Rattle.store.specs.Decided.{IsHeldPart};
 
 use crate::columns::{append_left, append_right};
 use itoa::Buffer;
 use profile::{MOST_ITEM, MOST_LOT, QUANTITY_COLUMN};
-use sets_in::{Address, Goods};
 use std::alloc::{AllocError, Global};
-use stock::{KnownLine, KnownOrder, Page};
+use store::{Address, Goods, KnownLine, KnownOrder, Page};
 
 /// Why there is no picking sheet.
 #[derive(Clone, Copy, Debug, PartialEq, Eq)]

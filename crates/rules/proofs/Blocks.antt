@@ -7,10 +7,10 @@ use Rattle.std.proofs.lemmas.List.Folds.{list_all-append}
 use Rattle.profile.specs.Bytes.{comes_before}
 use Rattle.profile.specs.Tables.{Cell, Null, Number, Text, Blob, TableRow}
 use Rattle.profile.specs.Schema.{Schema, key_before, key_in, put_row}
-use Rattle.goods.specs.Keyed.{put_by, rises_by}
-use Rattle.goods.proofs.Orders.{IsStrict}
-use Rattle.goods.proofs.Keys.{IsTest, all_further, find_above}
-use Rattle.goods.proofs.Texts.{texts_never, texts_through}
+use Rattle.stock.specs.Keyed.{put_by, rises_by}
+use Rattle.stock.proofs.Orders.{IsStrict}
+use Rattle.stock.proofs.Keys.{IsTest, all_further, find_above}
+use Rattle.stock.proofs.Texts.{texts_never, texts_through}
 use Rattle.rules.proofs.KeyedLists.{both}
 
 -- the rows of a text

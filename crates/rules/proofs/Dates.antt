@@ -9,14 +9,14 @@ use Rattle.profile.specs.Lists.{or_else}
 use Rattle.profile.specs.Events.{Event, date_naming, expiry}
 use Rattle.profile.specs.Rows.{LotRow}
 use Rattle.profile.specs.Tables.{Text, TableRow, expiry_cells}
-use Rattle.goods.specs.Keyed.{Pair, key_before, put_by, rises_by, row_key, put_row, IsSorted}
-use Rattle.goods.specs.Told.{is_row, told_date, changed_rows}
-use Rattle.goods.specs.Pages.{PageFacts}
+use Rattle.stock.specs.Keyed.{Pair, key_before, put_by, rises_by, row_key, put_row, IsSorted}
+use Rattle.stock.specs.Told.{is_row, told_date, changed_rows}
+use Rattle.stock.specs.Pages.{PageFacts}
 use Rattle.stock.specs.Shows.{Shows}
-use Rattle.goods.proofs.Orders.{Has, IsStrict}
-use Rattle.goods.proofs.Finds.{first_found_push, found_says}
-use Rattle.goods.proofs.Keys.{find_put, put_front}
-use Rattle.goods.proofs.KeyLemmas.{pairs_strict, row_test}
+use Rattle.stock.proofs.Orders.{Has, IsStrict}
+use Rattle.stock.proofs.Finds.{first_found_push, found_says}
+use Rattle.stock.proofs.Keys.{find_put, put_front}
+use Rattle.stock.proofs.KeyLemmas.{pairs_strict, row_test}
 use Rattle.rules.specs.Proper.{KeepsDate}
 use Rattle.rules.proofs.KeyedLists.{both}
 use Rattle.rules.proofs.Blocks.{split}

@@ -19,7 +19,7 @@ use Rattle.profile.specs.Decision as known
 use Rattle.sets_out.specs.Headings.{heading_of}
 use Rattle.sets_out.specs.Interchanges.{answer_of}
 use Rattle.sets_out.proofs.TextLaws.{answer-told}
-use Rattle.goods.specs.Pages.{PageFacts}
+use Rattle.stock.specs.Pages.{PageFacts}
 use Rattle.stock.specs.Parts.{Named, IsPart}
 use Rattle.stock.specs.declared.steps.Change.{Change}
 use Rattle.rules.specs.Needs.{NamesGroups, HasNeeded}

@@ -15,10 +15,10 @@ use Rattle.profile.specs.Page.{Page, PageDocument, sent_by, sent_on, documents_o
 use Rattle.profile.specs.Register.{Deed, Enrolled, Received, Performed, Entry, is_numbered, own, next_number}
 use Rattle.profile.specs.History.{history, events}
 use Rattle.profile.specs.Accepted.{IsLegal}
-use Rattle.goods.specs.Keyed.{IsSorted, entry_of, key_before, rises_by, row_key}
-use Rattle.goods.specs.Pages.{PageFacts, AreSorted, is_document, document_at}
+use Rattle.stock.specs.Keyed.{IsSorted, entry_of, key_before, rises_by, row_key}
+use Rattle.stock.specs.Pages.{PageFacts, AreSorted, is_document, document_at}
 use Rattle.stock.specs.Shows.{Shows, sent_under, document_of}
-use Rattle.goods.proofs.KeyLemmas.{numbers_strict, pairs_strict, document_test}
+use Rattle.stock.proofs.KeyLemmas.{numbers_strict, pairs_strict, document_test}
 use Rattle.rules.specs.Decided.{IsPageOf}
 use Rattle.rules.specs.Played.{no_history}
 use Rattle.rules.specs.Defined.{IsDefined}

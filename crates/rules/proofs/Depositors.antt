@@ -16,10 +16,10 @@ use Rattle.profile.specs.Tables.{depositors}
 use Rattle.profile.proofs.TextLaws.{both_parts}
 use Rattle.profile.proofs.ReadingLaws.{who_of-who_text}
 use Rattle.profile.proofs.RegisterLaws.{legal-entries}
-use Rattle.goods.specs.Keyed.{put_by, rises_by}
-use Rattle.goods.proofs.Orders.{Has}
-use Rattle.goods.proofs.Keys.{IsTest, find_put, put_rises}
-use Rattle.goods.proofs.KeyLemmas.{texts_strict}
+use Rattle.stock.specs.Keyed.{put_by, rises_by}
+use Rattle.stock.proofs.Orders.{Has}
+use Rattle.stock.proofs.Keys.{IsTest, find_put, put_rises}
+use Rattle.stock.proofs.KeyLemmas.{texts_strict}
 use Rattle.rules.specs.Played.{CanFollow}
 use Rattle.rules.proofs.Registers.{Along1, follows_own, who_is, same_who}
 use Rattle.rules.proofs.KeyedLists.{last_found, order_rises, find_ordered, same_found}

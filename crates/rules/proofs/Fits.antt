@@ -24,7 +24,7 @@ use Rattle.profile.specs.Accepted.{IsLegal}
 use Rattle.profile.proofs.TextLaws.{both_parts}
 use Rattle.profile.proofs.RegisterLaws.{legal-first, first_is}
 use Rattle.stock.specs.Shows.{is_numbered_within}
-use Rattle.goods.proofs.Keys.{all_filter}
+use Rattle.stock.proofs.Keys.{all_filter}
 use Rattle.stock.proofs.Allots.{all_in_order}
 use Rattle.rules.specs.Fitting.{is_fitting_line, is_fitting_row, is_fitting_advice, is_fitting_order, IsFitting}
 use Rattle.rules.proofs.LegalPages.{legal_page}

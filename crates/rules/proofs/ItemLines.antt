@@ -10,9 +10,9 @@ use Rattle.profile.specs.Bytes.{comes_before}
 use Rattle.profile.specs.Clerk.{is_ascending, is_sheet, is_sheet_line, RecountSheet}
 use Rattle.profile.specs.Limits.{most_lines}
 use Rattle.profile.specs.Means.{Line}
-use Rattle.goods.specs.Keyed.{IsRank}
-use Rattle.goods.proofs.KeyLemmas.{not_true, not_false}
-use Rattle.goods.proofs.Texts.{texts_never, texts_through, texts_total}
+use Rattle.stock.specs.Keyed.{IsRank}
+use Rattle.stock.proofs.KeyLemmas.{not_true, not_false}
+use Rattle.stock.proofs.Texts.{texts_never, texts_through, texts_total}
 
 -- those that pass a test, where they stand together
 middle : {X : Type 0} (p : X → Bool) (xs : List X) (s n : ℕ) → s + n ≤ length xs → ((k : ℕ) (d : X) → k < s → p (get_or xs k d) ≡ false) → ((k : ℕ) (d : X) → s ≤ k → k < s + n → p (get_or xs k d) ≡ true)

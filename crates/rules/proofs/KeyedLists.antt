@@ -4,10 +4,10 @@ use Rattle.std.proofs.lemmas.Bool.{cases_Bool, both_ways, and_parts}
 use Rattle.std.specs.Prelude.{find, option_map}
 use Rattle.std.specs.List.{list_all}
 use Rattle.profile.specs.Lists.{placed, in_order, or_else, first_found}
-use Rattle.goods.specs.Keyed.{rises_by}
-use Rattle.goods.proofs.Orders.{IsStrict}
-use Rattle.goods.proofs.Keys.{IsTest, all_further, find_above}
-use Rattle.goods.proofs.Finds.{or_else_none}
+use Rattle.stock.specs.Keyed.{rises_by}
+use Rattle.stock.proofs.Orders.{IsStrict}
+use Rattle.stock.proofs.Keys.{IsTest, all_further, find_above}
+use Rattle.stock.proofs.Finds.{or_else_none}
 
 pub both : (p q : Bool) → p ≡ true → q ≡ true → (p && q) ≡ true
 both p q e f = rw e f

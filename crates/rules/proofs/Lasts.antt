@@ -7,12 +7,12 @@ use Rattle.std.proofs.lemmas.List.{get_or_default, length-set, reverse-append}
 use Rattle.std.proofs.lemmas.List.Sums.{sum_by-cons}
 use Rattle.profile.specs.History.{History}
 use Rattle.profile.specs.Rows.{LotRow}
-use Rattle.goods.specs.Keyed.{Pair, key_before, row_key, put_row, IsSorted}
-use Rattle.goods.specs.Moved.{IsPlace}
-use Rattle.goods.specs.Told.{is_row, told, told_date, one}
-use Rattle.goods.specs.Pages.{PageFacts}
-use Rattle.goods.proofs.Keys.{find_put, was}
-use Rattle.goods.proofs.KeyLemmas.{pairs_strict, row_test, put_sorted, told_found, sorted_distinct}
+use Rattle.stock.specs.Keyed.{Pair, key_before, row_key, put_row, IsSorted}
+use Rattle.stock.specs.Moved.{IsPlace}
+use Rattle.stock.specs.Told.{is_row, told, told_date, one}
+use Rattle.stock.specs.Pages.{PageFacts}
+use Rattle.stock.proofs.Keys.{find_put, was}
+use Rattle.stock.proofs.KeyLemmas.{pairs_strict, row_test, put_sorted, told_found, sorted_distinct}
 use Rattle.stock.proofs.Lefts.{place_once}
 use Rattle.stock.specs.Puts.{put_change}
 use Rattle.stock.specs.declared.steps.Change.{Change}

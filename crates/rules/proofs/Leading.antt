@@ -15,7 +15,7 @@ use Rattle.profile.specs.Texts.{Told}
 use Rattle.profile.specs.Register.{Act, Command, Received, Performed}
 use Rattle.profile.specs.Reply.{interchange_entry, clerk_entry}
 use Rattle.stock.specs.declared.steps.Change.{Change}
-use Rattle.goods.specs.Pages.{PageFacts}
+use Rattle.stock.specs.Pages.{PageFacts}
 use Rattle.stock.specs.Puts.{put}
 use Rattle.stock.specs.Shows.{Shows}
 use Rattle.stock.proofs.PageLemmas.{next_shows}

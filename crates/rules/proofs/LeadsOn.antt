@@ -22,10 +22,10 @@ use Rattle.profile.specs.Changes as tables
 use Rattle.profile.specs.Changes.{in_table, with_state, is_reserved_for, changed, changed_by, with_entry, LeadOn}
 use Rattle.profile.specs.Schema.{put_row, schema_named}
 use Rattle.profile.proofs.HistoryLaws.{history-numbered, history_snoc}
-use Rattle.goods.specs.Pages.{PageFacts, AreSorted}
+use Rattle.stock.specs.Pages.{PageFacts, AreSorted}
 use Rattle.stock.specs.Shows.{Shows}
 use Rattle.stock.specs.declared.steps.Change.{Change}
-use Rattle.goods.proofs.Texts.{texts_never}
+use Rattle.stock.proofs.Texts.{texts_never}
 use Rattle.rules.specs.Needs.{HasNeeded}
 use Rattle.rules.specs.Decided.{IsPageOf, AreLeading, StandsFor, LeadsFrom, led_to}
 use Rattle.rules.specs.Tabled.{table_changes, LeadsInTables}

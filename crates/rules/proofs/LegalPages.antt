@@ -16,7 +16,7 @@ use Rattle.profile.specs.Decision.{standing}
 use Rattle.profile.specs.Accepted.{IsLegal}
 use Rattle.profile.proofs.TextLaws.{both_parts}
 use Rattle.profile.proofs.HistoryLaws.{history_snoc}
-use Rattle.goods.specs.Pages.{PageFacts, next_entry}
+use Rattle.stock.specs.Pages.{PageFacts, next_entry}
 use Rattle.stock.proofs.Grown.{IsMore, received_more, performed_more}
 use Rattle.stock.proofs.PageLemmas.{blank_sound, blank_shows, next_sound, next_shows}
 use Rattle.rules.specs.LegalPages.{IsLegalPage}

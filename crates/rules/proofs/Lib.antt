@@ -50,3 +50,12 @@ pub mod ItemLines
 pub mod Covered
 pub mod Lasts
 pub mod RowsLasting
+pub use Rattle.sheets.proofs.PairLaws
+pub use Rattle.stock.proofs.Finds
+pub use Rattle.stock.proofs.Gathered
+pub use Rattle.stock.proofs.KeyLemmas
+pub use Rattle.stock.proofs.Keys
+pub use Rattle.stock.proofs.Orders
+pub use Rattle.stock.proofs.PageLemmas
+pub use Rattle.stock.proofs.PartLaws
+pub use Rattle.stock.proofs.Texts

@@ -14,7 +14,7 @@ use Rattle.profile.specs.Events.{Event}
 use Rattle.profile.specs.History.{Verdict, Telling, telling_of, events_told, verdicts_on, tellings_on}
 use Rattle.profile.specs.Texts.{ToldSet, Told, told_set, told_of, answered}
 use Rattle.envelope.specs.Parts.{SetOf, set_under, GroupOf, group_under}
-use Rattle.goods.specs.Pages.{PageFacts}
+use Rattle.stock.specs.Pages.{PageFacts}
 use Rattle.stock.specs.Shows.{Shows}
 use Rattle.stock.specs.declared.steps.Change.{Change}
 use Rattle.stock.specs.Parts.{Named}

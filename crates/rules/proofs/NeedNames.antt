@@ -15,7 +15,7 @@ use Rattle.profile.specs.Page.{PageAdvice, PageOrder}
 use Rattle.profile.specs.Need.{Need, advices_in, all_together, items_in, items_of, need_of, need_of_act, need_of_text, orders_in}
 use Rattle.profile.proofs.NeedLaws.{Within, alone, in_left, in_right, within_left, within_right}
 use Rattle.profile.proofs.NamesLaws.{TwoAtLeast, advice_items, document_named, names_groups, need_of_group, need_of_groups, need_of_set, order_items, order_named, shipment_named, two_segments}
-use Rattle.goods.specs.Pages.{PageFacts, IsSound, advice_at, is_in_lines, is_number, order_at}
+use Rattle.stock.specs.Pages.{PageFacts, IsSound, advice_at, is_in_lines, is_number, order_at}
 use Rattle.stock.specs.Parts.{IsClosed, IsPart, Named, are_items}
 use Rattle.rules.specs.Needs.{NamesAct, NamesFor, NamesGroups, NamesJudged, NamesSet, NamesSets, NamesUnder}
 use Rattle.rules.specs.Naming.{as_page, named_of}

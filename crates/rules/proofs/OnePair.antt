@@ -20,11 +20,11 @@ use Rattle.profile.specs.Movements.{Expected, OnHand, Reservation, Shipped, come
 use Rattle.profile.specs.History.{unless, traded, judged}
 use Rattle.profile.proofs.TextLaws.{both_parts}
 use Rattle.stock.proofs.Events.{or_else_left}
-use Rattle.goods.proofs.Finds.{map_none}
-use Rattle.goods.proofs.Tells.{pair_is}
-use Rattle.goods.proofs.Sums.{given_here}
+use Rattle.stock.proofs.Finds.{map_none}
+use Rattle.stock.proofs.Tells.{pair_is}
+use Rattle.stock.proofs.Sums.{given_here}
 use Rattle.stock.proofs.Moves.{came_append, came_push, came_comes, came_goes}
-use Rattle.goods.proofs.Pairs.{quantity_yes, quantity_no}
+use Rattle.stock.proofs.Pairs.{quantity_yes, quantity_no}
 use Rattle.rules.proofs.Judges.{judged_sound, judged_faulty}
 use Rattle.rules.proofs.Small.{is_small, is_small_event, event_later, advice_small}
 

@@ -7,12 +7,12 @@ use Rattle.profile.specs.Lists.{placed, in_order, or_else}
 use Rattle.profile.specs.Means.{Advice}
 use Rattle.profile.specs.Events.{Event, Enrolment, Advised, Ordered, Acknowledged, Counted, Picked, Recounted, advice_if, advice_under, Reserved, order_if, order_under}
 use Rattle.profile.specs.Page.{advices_of, orders_of, page_advice, page_order, page_advices, page_orders}
-use Rattle.goods.specs.Keyed.{rises_by, shipment_of, number_of}
-use Rattle.goods.specs.Pages.{PageFacts, AreSorted, is_shipment, is_number, advice_at, order_at}
+use Rattle.stock.specs.Keyed.{rises_by, shipment_of, number_of}
+use Rattle.stock.specs.Pages.{PageFacts, AreSorted, is_shipment, is_number, advice_at, order_at}
 use Rattle.stock.specs.Shows.{Shows}
-use Rattle.goods.proofs.Keys.{IsTest}
-use Rattle.goods.proofs.KeyLemmas.{texts_strict, shipment_test, number_test}
-use Rattle.goods.proofs.Finds.{or_else_none}
+use Rattle.stock.proofs.Keys.{IsTest}
+use Rattle.stock.proofs.KeyLemmas.{texts_strict, shipment_test, number_test}
+use Rattle.stock.proofs.Finds.{or_else_none}
 use Rattle.rules.proofs.KeyedLists.{Once, last_found, once_last, find_map, rises_map, order_rises, find_ordered, same_found}
 
 -- Advices.

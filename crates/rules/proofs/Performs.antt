@@ -27,14 +27,14 @@ use Rattle.profile.specs.Cut.{Segment}
 use Rattle.sets_out.specs.Documents.{AdjustedLine, ShippedLine, adjusted_for, shipped_for, shipment_body, adjustment_body}
 use Rattle.sets_out.proofs.BodyLaws.{body_944-for, body_945-for, body_947-for}
 use Rattle.sets_out.specs.declared.envelopes.Envelope.{Envelope}
-use Rattle.goods.specs.Pages.{PageFacts, advice_at, order_at}
+use Rattle.stock.specs.Pages.{PageFacts, advice_at, order_at}
 use Rattle.stock.specs.Parts.{Named, IsPart, are_items}
 use Rattle.stock.specs.Shows.{Shows}
 use Rattle.rules.specs.Needs.{HasNeeded}
-use Rattle.goods.specs.Told.{told, amount}
-use Rattle.goods.proofs.Tells.{pair_is}
-use Rattle.goods.proofs.Sums.{own_pair}
-use Rattle.goods.proofs.Pairs.{count_yes, count_no, quantity_yes, quantity_no, IsSheet, sheet_facts}
+use Rattle.stock.specs.Told.{told, amount}
+use Rattle.stock.proofs.Tells.{pair_is}
+use Rattle.stock.proofs.Sums.{own_pair}
+use Rattle.stock.proofs.Pairs.{count_yes, count_no, quantity_yes, quantity_no, IsSheet, sheet_facts}
 use Rattle.rules.specs.Documents.{receipt_text, shipment_text, shipped_of, adjustment_text, adjusted_from}
 
 -- what is Ok where a refusal stood before it

@@ -21,7 +21,7 @@ use Rattle.profile.proofs.ReadingLaws.{act_of-canonical}
 use Rattle.sets_out.specs.Headings.{heading_of}
 use Rattle.sets_out.specs.Interchanges.{answer_of}
 use Rattle.sets_out.proofs.TextLaws.{answer-told}
-use Rattle.goods.specs.Pages.{PageFacts, AreSorted, next_entry}
+use Rattle.stock.specs.Pages.{PageFacts, AreSorted, next_entry}
 use Rattle.stock.specs.Parts.{all_named}
 use Rattle.stock.specs.declared.steps.Change.{Change}
 use Rattle.stock.proofs.PartLemmas.{part_of_self}

@@ -8,10 +8,10 @@ use Rattle.std.proofs.lemmas.Grind.{flat_map-append}
 use Rattle.profile.specs.Bytes.{comes_before}
 use Rattle.profile.specs.Tables.{Cell, Null, Number, Text, Blob, TableRow}
 use Rattle.profile.specs.Schema.{Schema, key_before, key_in, cells_in, put_row}
-use Rattle.goods.specs.Keyed.{put_by, rises_by}
-use Rattle.goods.proofs.Orders.{IsStrict}
-use Rattle.goods.proofs.Keys.{IsTest, puts_behind}
-use Rattle.goods.proofs.KeyLemmas.{texts_strict, numbers_strict}
+use Rattle.stock.specs.Keyed.{put_by, rises_by}
+use Rattle.stock.proofs.Orders.{IsStrict}
+use Rattle.stock.proofs.Keys.{IsTest, puts_behind}
+use Rattle.stock.proofs.KeyLemmas.{texts_strict, numbers_strict}
 use Rattle.rules.proofs.KeyedLists.{both}
 use Rattle.rules.proofs.Blocks.{prefixed, is_below, is_above, put_row_by, puts_map, puts_within, split, blocks, blocks_below, blocks_above}
 use Rattle.rules.proofs.Tables.{last_cell}

@@ -12,21 +12,21 @@ use Rattle.profile.specs.Events.{Event, Advised, Ordered, Counted, Picked, expir
 use Rattle.profile.specs.Register.{Count, Pick}
 use Rattle.profile.specs.Page.{PageAdvice, PageOrder, PageDocument, reserved_lines}
 use Rattle.profile.proofs.TextLaws.{same_text}
-use Rattle.goods.specs.Keyed.{key_before, rises_by}
-use Rattle.goods.specs.Told.{told_date, changed_rows}
-use Rattle.goods.specs.Pages.{PageFacts, AreSorted, advice_at, order_at, document_at}
+use Rattle.stock.specs.Keyed.{key_before, rises_by}
+use Rattle.stock.specs.Told.{told_date, changed_rows}
+use Rattle.stock.specs.Pages.{PageFacts, AreSorted, advice_at, order_at, document_at}
 use Rattle.stock.specs.Puts.{put, put_change}
 use Rattle.stock.specs.Shows.{Shows}
-use Rattle.goods.specs.Steps.{decides}
+use Rattle.stock.specs.Steps.{decides}
 use Rattle.stock.specs.Stops.{row_changes, advice_changes, order_changes, document_changes}
 use Rattle.stock.specs.declared.steps.Change.{Change}
 use Rattle.stock.specs.declared.steps.Change.TheVariants.{Stock, Advice as Announces, Order as Orders, Sent, Document}
-use Rattle.goods.specs.declared.documents.Function.{Function}
-use Rattle.goods.specs.declared.documents.Function.TheVariants.{Receipt, Shipment, Adjustment}
-use Rattle.goods.proofs.Finds.{first_found_push}
+use Rattle.stock.specs.Function.{Function}
+use Rattle.stock.specs.Function.TheVariants.{Receipt, Shipment, Adjustment}
+use Rattle.stock.proofs.Finds.{first_found_push}
 use Rattle.stock.proofs.Views.{seen_advice, seen_order, advice_seen, order_seen, uncounted, unpicked, advice_view, order_view, advice_found_under, order_found_under}
 use Rattle.stock.proofs.Events.{any_push}
-use Rattle.goods.proofs.KeyLemmas.{pairs_strict}
+use Rattle.stock.proofs.KeyLemmas.{pairs_strict}
 use Rattle.rules.specs.Proper.{KeepsDate, IsProper, IsProperAdvice, IsProperOrder, AreProper, pair_of}
 use Rattle.rules.proofs.Added.{advice_new, order_new, of_performed}
 use Rattle.rules.proofs.KeyedLists.{order_rises}

@@ -24,8 +24,8 @@ use Rattle.profile.specs.Readings.{parts_at, act_if, act_in, act_of}
 use Rattle.profile.proofs.TextLaws.{both_parts, text_is, all_in, all_both, split_first, split_last, decimal_reads}
 use Rattle.profile.proofs.ReadingLaws.{act_of-canonical, identifier_bytes}
 use Rattle.profile.proofs.SheetLaws.{sheet_of-is}
-use Rattle.goods.proofs.Pairs.{ascending_once, count_yes, count_no}
-use Rattle.goods.proofs.Sums.{own_pair}
+use Rattle.stock.proofs.Pairs.{ascending_once, count_yes, count_no}
+use Rattle.stock.proofs.Sums.{own_pair}
 use Rattle.sheets.specs.Kinds.{kind_of}
 use Rattle.sheets.specs.declared.kinds.SheetKind.{SheetKind}
 use Rattle.sheets.specs.declared.kinds.SheetKind.TheVariants as kinds

@@ -12,12 +12,12 @@ use Rattle.profile.specs.Events.{Event, is_pair, pair_before, first_count}
 use Rattle.profile.specs.Movements.{Column, Expected, OnHand, Reservation, Shipped, balance}
 use Rattle.profile.specs.Rows.{LotRow, named, lot_row, running_rows}
 use Rattle.profile.proofs.TextLaws.{same_text}
-use Rattle.goods.specs.Told.{told, one, since, amount, is_row, named_by, positive}
-use Rattle.goods.specs.Pages.{PageFacts, IsSound}
+use Rattle.stock.specs.Told.{told, one, since, amount, is_row, named_by, positive}
+use Rattle.stock.specs.Pages.{PageFacts, IsSound}
 use Rattle.stock.specs.Shows.{Shows}
-use Rattle.goods.specs.Keyed.{Pair, key_before, rises_by, row_key, IsSorted}
-use Rattle.goods.proofs.KeyLemmas.{pairs_strict, sorted_distinct}
-use Rattle.goods.proofs.Orders.{Has, Rises, order_of, total_of, in_order_rises, has_in_order, in_order_has, rising_same}
+use Rattle.stock.specs.Keyed.{Pair, key_before, rises_by, row_key, IsSorted}
+use Rattle.stock.proofs.KeyLemmas.{pairs_strict, sorted_distinct}
+use Rattle.stock.proofs.Orders.{Has, Rises, order_of, total_of, in_order_rises, has_in_order, in_order_has, rising_same}
 use Rattle.stock.proofs.PageLaws.{balance_told}
 use Rattle.rules.proofs.Dates.{row_dated}
 

@@ -7,7 +7,7 @@ use Rattle.profile.specs.Rows.{LotRow}
 use Rattle.profile.specs.Page.{PageAdvice, PageOrder}
 use Rattle.profile.specs.Tables.{Cell, Null, Number, Text}
 use Rattle.profile.specs.Changes.{Puts, SetsState, Frees}
-use Rattle.goods.specs.declared.documents.Function.TheVariants.{Receipt, Shipment}
+use Rattle.stock.specs.Function.TheVariants.{Receipt, Shipment}
 use Rattle.stock.specs.declared.steps.Change.TheVariants.{Stock, Advice, Order, Sent, Document}
 use Rattle.rules.specs.Tabled.{table_changes}
 

@@ -15,15 +15,15 @@ use Rattle.profile.specs.Rows.{OutRow, acknowledges, said_of, state_text}
 use Rattle.profile.specs.Page.{PageDocument}
 use Rattle.profile.specs.Register.{Act, Count, Pick, Recount, Deed, Enrolled, Received, Performed, Entry}
 use Rattle.profile.specs.History.{History, after_entry, history, events, events_added}
-use Rattle.goods.specs.Keyed.{put_document}
-use Rattle.goods.specs.Pages.{PageFacts, is_document, document_at}
+use Rattle.stock.specs.Keyed.{put_document}
+use Rattle.stock.specs.Pages.{PageFacts, is_document, document_at}
 use Rattle.stock.specs.Puts.{put_change}
-use Rattle.goods.specs.Steps.{with_said, said_of_found}
-use Rattle.goods.specs.Functions.{function_text}
+use Rattle.stock.specs.Steps.{with_said, said_of_found}
+use Rattle.stock.specs.Functions.{function_text}
 use Rattle.stock.specs.declared.steps.Change.{Change}
 use Rattle.stock.specs.declared.steps.Change.TheVariants.{Stock, Advice, Order, Sent, Document}
-use Rattle.goods.proofs.Finds.{first_found-append, or_else_none, found_says}
-use Rattle.goods.proofs.KeyLemmas.{document_put, sent_found}
+use Rattle.stock.proofs.Finds.{first_found-append, or_else_none, found_says}
+use Rattle.stock.proofs.KeyLemmas.{document_put, sent_found}
 use Rattle.rules.specs.Played.{no_history}
 use Rattle.rules.specs.Proper.{AreProper}
 use Rattle.rules.proofs.Plays.{added_of}

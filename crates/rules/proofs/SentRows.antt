@@ -19,8 +19,8 @@ use Rattle.profile.specs.Schema.{key_in, put_row, entry_schema, entry_rules_sche
 use Rattle.profile.specs.Changes.{with_state}
 use Rattle.profile.proofs.TextLaws.{same_text}
 use Rattle.profile.proofs.HistoryLaws.{history-numbered, history_snoc}
-use Rattle.goods.specs.Keyed.{put_by}
-use Rattle.goods.specs.Pages.{PageFacts, document_at}
+use Rattle.stock.specs.Keyed.{put_by}
+use Rattle.stock.specs.Pages.{PageFacts, document_at}
 use Rattle.stock.specs.Puts.{put_change}
 use Rattle.stock.specs.Shows.{Shows, sent_under, document_of}
 use Rattle.stock.specs.declared.steps.Change.{Change}

@@ -16,7 +16,7 @@ use Rattle.profile.specs.History.{History, after_entry, history, events, events_
 use Rattle.profile.specs.Accepted.{IsLegal}
 use Rattle.profile.proofs.HistoryLaws.{history-numbered}
 use Rattle.stock.specs.Shows.{sent_if, sent_under}
-use Rattle.goods.proofs.Finds.{first_found-append, or_else_none}
+use Rattle.stock.proofs.Finds.{first_found-append, or_else_none}
 use Rattle.rules.specs.Played.{no_history}
 use Rattle.rules.proofs.Plays.{added_of}
 use Rattle.rules.proofs.Added.{AreOfSets, IsOfSet, of_received, of_performed}

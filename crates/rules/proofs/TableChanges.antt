@@ -9,14 +9,14 @@ use Rattle.profile.specs.Tables.{Text, TableRow, AllTables, stock_cells, expiry_
 use Rattle.profile.specs.Schema.{put_row, stock_schema, advice_schema, advice_line_schema, orders_schema, order_line_schema, reservation_schema, lot_expiry_schema}
 use Rattle.profile.specs.Changes as tables
 use Rattle.profile.specs.Changes.{changed, changed_by, with_state}
-use Rattle.goods.specs.Keyed.{put_advice, put_order}
-use Rattle.goods.specs.Pages.{PageFacts, AreSorted, advice_at, order_at}
+use Rattle.stock.specs.Keyed.{put_advice, put_order}
+use Rattle.stock.specs.Pages.{PageFacts, AreSorted, advice_at, order_at}
 use Rattle.stock.specs.Puts.{put_change}
-use Rattle.goods.specs.Functions.{function_text}
-use Rattle.goods.specs.Steps.{with_sent}
+use Rattle.stock.specs.Functions.{function_text}
+use Rattle.stock.specs.Steps.{with_sent}
 use Rattle.stock.specs.declared.steps.Change.{Change}
 use Rattle.stock.specs.declared.steps.Change.TheVariants.{Stock, Advice, Order, Sent, Document}
-use Rattle.goods.proofs.KeyLemmas.{put_sorted, advices_put_sorted, orders_put_sorted, sent_sorted, said_sorted}
+use Rattle.stock.proofs.KeyLemmas.{put_sorted, advices_put_sorted, orders_put_sorted, sent_sorted, said_sorted}
 use Rattle.rules.specs.Proper.{IsProperAdvice, IsProperOrder, IsProper, AreProper}
 use Rattle.rules.specs.Tabled.{puts_into, table_changes_of, table_changes}
 use Rattle.rules.proofs.TableSteps.{framed, eleven, Others, AreBeside, of_page, stock_part, expiries_part, advice_part, advice_lines_opened, advice_lines_kept, orders_part, order_lines_opened, order_lines_kept, reservations_opened, reservations_freed}

@@ -11,12 +11,12 @@ use Rattle.profile.specs.Tables.{Null, Number, Text, Blob, TableRow, AllTables, 
 use Rattle.profile.specs.Schema.{Schema, key_before, key_in, put_row, stock_schema, advice_schema, advice_line_schema, orders_schema, order_line_schema, reservation_schema, lot_expiry_schema}
 use Rattle.profile.specs.Changes.{is_reserved_for}
 use Rattle.profile.proofs.TextLaws.{same_text, text_is}
-use Rattle.goods.specs.Keyed.{put_by, rises_by, row_key, shipment_of, number_of, put_advice, put_order, key_before as pairs_in_order, put_row as put_lot, IsSorted}
-use Rattle.goods.specs.Told.{told_date}
-use Rattle.goods.specs.Pages.{PageFacts, is_shipment, is_number, advice_at, order_at}
-use Rattle.goods.specs.Steps.{closed_advice, closed_order}
-use Rattle.goods.proofs.Texts.{texts_never}
-use Rattle.goods.proofs.KeyLemmas.{pairs_strict, shipment_test, number_test}
+use Rattle.stock.specs.Keyed.{put_by, rises_by, row_key, shipment_of, number_of, put_advice, put_order, key_before as pairs_in_order, put_row as put_lot, IsSorted}
+use Rattle.stock.specs.Told.{told_date}
+use Rattle.stock.specs.Pages.{PageFacts, is_shipment, is_number, advice_at, order_at}
+use Rattle.stock.specs.Steps.{closed_advice, closed_order}
+use Rattle.stock.proofs.Texts.{texts_never}
+use Rattle.stock.proofs.KeyLemmas.{pairs_strict, shipment_test, number_test}
 use Rattle.rules.specs.Proper.{KeepsDate, pair_of}
 use Rattle.rules.proofs.Dates.{cells_of, date_cells, dates_of, undated_put, pair_dated, dated_put}
 use Rattle.rules.proofs.Tables.{last_cell, pairs_before}

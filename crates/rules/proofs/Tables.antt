@@ -11,11 +11,11 @@ use Rattle.profile.specs.Tables.{Text, TableRow}
 use Rattle.profile.specs.Schema.{stock_schema, put_row as put_table_row, key_before as cells_before, key_in}
 use Rattle.stock.specs.declared.steps.Change.{Change}
 use Rattle.stock.specs.declared.steps.Change.TheVariants.{Stock, Advice, Order, Sent, Document}
-use Rattle.goods.specs.Keyed.{key_before, row_key, put_row}
-use Rattle.goods.specs.Pages.{PageFacts, IsSound}
+use Rattle.stock.specs.Keyed.{key_before, row_key, put_row}
+use Rattle.stock.specs.Pages.{PageFacts, IsSound}
 use Rattle.stock.specs.Puts.{put, put_change}
 use Rattle.stock.specs.Shows.{Shows}
-use Rattle.goods.proofs.Texts.{texts_never, texts_total}
+use Rattle.stock.proofs.Texts.{texts_never, texts_total}
 use Rattle.rules.specs.Tabled.{stock_row, stock_part, stock_puts, with_rows}
 use Rattle.rules.proofs.Rowed.{rows_are}
 

@@ -13,7 +13,7 @@ use Rattle.profile.specs.Structure.{Set, head_of, control_of, envelope_fault, ex
 use Rattle.profile.specs.Events.{Event}
 use Rattle.profile.specs.History.{Rejection, Verdict, event_of, by_segment, judged, outcome_of, verdicts_on}
 use Rattle.profile.specs.Texts.{ToldSet, told_set}
-use Rattle.goods.specs.Pages.{PageFacts}
+use Rattle.stock.specs.Pages.{PageFacts}
 use Rattle.stock.specs.Puts.{put}
 use Rattle.stock.specs.Shows.{Shows}
 use Rattle.stock.specs.declared.steps.Step.{Step}

@@ -8,7 +8,7 @@ use Rattle.profile.specs.Structure.{Set, Group, kind_of, examined}
 use Rattle.profile.specs.History.{History}
 use Rattle.profile.specs.Means.{advised, advice_of, order_of}
 use Rattle.profile.specs.Register.{Act, Count, Pick, Recount, Command}
-use Rattle.goods.specs.Pages.{PageFacts, IsSound}
+use Rattle.stock.specs.Pages.{PageFacts, IsSound}
 use Rattle.stock.specs.Parts.{all_named}
 use Rattle.stock.proofs.PartLemmas.{part_of_self, all_items, all_ordered}
 use Rattle.rules.specs.Decided.{IsHeldPart, IsPageOf, StandsFor}

@@ -9,7 +9,7 @@ use Rattle.profile.specs.Need.{Need}
 use Rattle.profile.specs.Reply as replies
 use Rattle.profile.specs.Decision as known
 use Rattle.profile.specs.Accepted.{entry_of, depositor_of}
-use Rattle.goods.specs.Pages.{PageFacts, AreSorted, IsSound, next_entry}
+use Rattle.stock.specs.Pages.{PageFacts, AreSorted, IsSound, next_entry}
 use Rattle.stock.specs.Parts.{IsPart}
 use Rattle.stock.specs.Puts.{put}
 use Rattle.stock.specs.declared.steps.Change.{Change}

@@ -1,7 +1,7 @@
 -- When a page is the one that the definitions give.
 use Rattle.std.specs.Prelude.{◌≡◌}
 use Rattle.profile.specs.Page.{Page}
-use Rattle.goods.specs.Pages.{PageFacts}
+use Rattle.stock.specs.Pages.{PageFacts}
 
 pub record IsDefined (p : PageFacts) (page : Page) : Type 0 where
   pub rows : p.rows ≡ page.rows

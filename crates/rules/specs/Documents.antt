@@ -7,8 +7,8 @@ use Rattle.profile.specs.Page.{PageAdvice, PageLine, PageOrder}
 use Rattle.profile.specs.Texts.{total_of, document_text}
 use Rattle.sets_out.specs.Documents.{receipt_body, shipment_body, adjustment_body, PickedLot, ShippedLine, AdjustedLine}
 use Rattle.profile.specs.Movements.{OnHand}
-use Rattle.goods.specs.Told.{told, amount}
-use Rattle.goods.specs.Pages.{PageFacts}
+use Rattle.stock.specs.Told.{told, amount}
+use Rattle.stock.specs.Pages.{PageFacts}
 use Rattle.sets_out.specs.declared.envelopes.Envelope.{Envelope}
 
 -- a pair with what a sheet gives it

@@ -11,7 +11,7 @@ use Rattle.profile.specs.History.{Rejection, Verdict as Told, event_of, verdicts
 use Rattle.profile.specs.Texts.{ToldSet, Told as ToldGroup, told_set, told_of, stated_sets, answered}
 use Rattle.sets_in.specs.Amounts.{IsAmount}
 use Rattle.tables.specs.Judged.{told}
-use Rattle.goods.specs.Pages.{PageFacts, IsSound}
+use Rattle.stock.specs.Pages.{PageFacts, IsSound}
 use Rattle.stock.specs.Puts.{put, put_change}
 use Rattle.stock.specs.declared.steps.Change.{Change}
 use Rattle.stock.specs.Parts.{Named, IsPart}

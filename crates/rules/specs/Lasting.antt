@@ -2,8 +2,8 @@
 use Rattle.std.specs.Prelude.{ℕ, ◌≡◌, ◌≤◌, Bool, false, List, [], ◌∷◌, if◌then◌else◌, find, count_by, length, slice_index_or, None}
 use Rattle.std.specs.List.{list_any}
 use Rattle.profile.specs.Rows.{LotRow}
-use Rattle.goods.specs.Moved.{IsPlace}
-use Rattle.goods.specs.Told.{is_row}
+use Rattle.stock.specs.Moved.{IsPlace}
+use Rattle.stock.specs.Told.{is_row}
 use Rattle.stock.specs.declared.steps.Change.{Change}
 use Rattle.stock.specs.declared.steps.Change.TheVariants.{Stock}
 use Rattle.rules.specs.declared.decisions.Decision.{Decision}

@@ -1,7 +1,7 @@
 -- The page of a depositor of a legal register.
 use Rattle.std.specs.Prelude.{◌≡◌}
 use Rattle.profile.specs.History.{History}
-use Rattle.goods.specs.Pages.{PageFacts, IsSound}
+use Rattle.stock.specs.Pages.{PageFacts, IsSound}
 use Rattle.rules.specs.Decided.{IsPageOf}
 
 -- a sound page of a history, with no event since the last entry

@@ -16,3 +16,12 @@ pub mod LegalPages
 pub mod Fitting
 pub mod Given
 pub mod Lasting
+-- of pages
+pub use Rattle.stock.specs.Function
+pub use Rattle.stock.specs.Functions
+pub use Rattle.stock.specs.Keyed
+pub use Rattle.stock.specs.Pages
+pub use Rattle.stock.specs.Parts
+pub use Rattle.stock.specs.Puts
+pub use Rattle.stock.specs.Shows
+pub use Rattle.stock.specs.declared.steps.Change

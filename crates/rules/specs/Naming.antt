@@ -2,7 +2,7 @@
 use Rattle.profile.specs.Bytes.{is_one_of}
 use Rattle.profile.specs.Page.{Page}
 use Rattle.profile.specs.Need.{Need, items_in, is_number_of}
-use Rattle.goods.specs.Pages.{PageFacts}
+use Rattle.stock.specs.Pages.{PageFacts}
 use Rattle.stock.specs.Parts.{Named}
 
 -- the page of the definitions with these lists

@@ -12,7 +12,7 @@ use Rattle.profile.specs.Faults.{set_fault}
 use Rattle.profile.specs.Header.{delims_of, is_unreadable}
 use Rattle.profile.specs.Halt.{structure_note}
 use Rattle.profile.specs.Register.{Act, Count, Pick, Recount, Command, Interchange, Enrol, Clerk}
-use Rattle.goods.specs.Pages.{PageFacts}
+use Rattle.stock.specs.Pages.{PageFacts}
 use Rattle.stock.specs.Parts.{Named, IsPart, NamesAdvice, NamesOrder, NamesCount, NamesPick, are_items}
 
 -- what a set is about is named

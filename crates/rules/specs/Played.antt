@@ -7,7 +7,7 @@ use Rattle.profile.specs.Register.{Deed, Received, Entry, is_numbered}
 use Rattle.profile.specs.History.{History, events_added, after_entry, history}
 use Rattle.profile.specs.Readings.{is_entry}
 use Rattle.profile.specs.Decision.{out_by}
-use Rattle.goods.specs.Pages.{PageFacts}
+use Rattle.stock.specs.Pages.{PageFacts}
 use Rattle.stock.specs.Shows.{Shows}
 use Rattle.rules.specs.Decided.{IsPageOf}
 

@@ -3,11 +3,11 @@
 use Rattle.std.specs.Prelude.{ℕ, ◌≡◌, ◌≤◌, ◌+◌, true, List, [], ◌∷◌, Option, Some, None, is_some}
 use Rattle.profile.specs.Means.{Line}
 use Rattle.profile.specs.Page.{PageAdvice, PageOrder}
-use Rattle.goods.specs.Keyed.{Pair, key_before, rises_by}
-use Rattle.goods.specs.Told.{told_date}
-use Rattle.goods.specs.Pages.{PageFacts, advice_at, order_at, document_at}
+use Rattle.stock.specs.Keyed.{Pair, key_before, rises_by}
+use Rattle.stock.specs.Told.{told_date}
+use Rattle.stock.specs.Pages.{PageFacts, advice_at, order_at, document_at}
 use Rattle.stock.specs.Puts.{put_change}
-use Rattle.goods.specs.Steps.{closed_advice, closed_order}
+use Rattle.stock.specs.Steps.{closed_advice, closed_order}
 use Rattle.stock.specs.declared.steps.Change.{Change}
 use Rattle.stock.specs.declared.steps.Change.TheVariants.{Stock, Advice, Order, Sent, Document}
 

@@ -10,7 +10,7 @@ ghost use Rattle.profile.specs.Moments.{Moment};
 ghost use Rattle.profile.specs.History.{History, after_entry};
 ghost use Rattle.profile.specs.Register as register;
 ghost use Rattle.profile.specs.Reply as replies;
-ghost use Rattle.goods.specs.Pages.{PageFacts, IsSound};
+ghost use Rattle.stock.specs.Pages.{PageFacts, IsSound};
 ghost use Rattle.stock.specs.Parts.{Named, IsPart};
 ghost use Rattle.rules.specs.Needs.{NamesAct, HasNeeded};
 ghost use Rattle.stock.specs.Puts.{put};

@@ -11,8 +11,8 @@ ghost use Rattle.profile.specs.Clerk.{is_ascending, is_sheet, performed, Recount
 ghost use Rattle.profile.specs.Events.{Event};
 ghost use Rattle.profile.specs.Texts.{document_of};
 ghost use Rattle.rules.specs.Asked.{act_of};
-ghost use Rattle.goods.specs.Keyed.{rises_by, IsRank};
-ghost use Rattle.goods.specs.Pages.{PageFacts};
+ghost use Rattle.stock.specs.Keyed.{rises_by, IsRank};
+ghost use Rattle.stock.specs.Pages.{PageFacts};
 ghost use Rattle.stock.specs.Parts.{Named, IsPart};
 ghost use Rattle.stock.specs.Shows.{Shows};
 ghost use Rattle.rules.specs.Needs.{NamesAct};

@@ -12,7 +12,7 @@ ghost use Rattle.profile.specs.Cut.{cut};
 ghost use Rattle.profile.specs.Header.{delims_of};
 ghost use Rattle.profile.specs.Structure.{groups_of};
 ghost use Rattle.envelope.specs.Conditions.{IsTold};
-ghost use Rattle.goods.specs.Pages.{PageFacts};
+ghost use Rattle.stock.specs.Pages.{PageFacts};
 ghost use Rattle.rules.specs.Needs.{HasNeeded};
 ghost use Rattle.rules.specs.Lasting.{PutsOnce};
 ghost use Rattle.rules.specs.Decided.{IsNoEntry, Makes, IsPageOf, IsEntry, IsGiven, IsReply, IsAtRest, LeadsOn, LeadsFrom, entries_of};

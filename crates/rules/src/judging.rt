@@ -8,7 +8,7 @@ ghost use Rattle.profile.specs.History as meant;
 ghost use Rattle.profile.specs.Faults.{set_fault};
 ghost use Rattle.profile.specs.Words as kinds;
 ghost use Rattle.profile.specs.Words.{kind_words};
-ghost use Rattle.goods.specs.Pages.{PageFacts, IsSound};
+ghost use Rattle.stock.specs.Pages.{PageFacts, IsSound};
 ghost use Rattle.stock.specs.Parts.{Named, IsPart};
 ghost use Rattle.stock.specs.Puts.{put};
 ghost use Rattle.stock.specs.Shows.{Shows};

@@ -1,12 +1,11 @@
 //! Which of the changes of several events last: each pair's row once, with its last value.
 ghost use Rattle.std.specs.Prelude.{◌≡◌, [], ◌∷◌, ◌++◌, List, IfOk, OnOk, length, not, if◌then◌else◌};
-ghost use Rattle.goods.specs.Keyed.{IsSorted};
+ghost use Rattle.stock.specs.Keyed.{IsSorted};
 ghost use Rattle.stock.specs.declared.steps.Change.{Change as Put};
 ghost use Rattle.rules.specs.Lasting.{AreMarked, HasPairsOnce, HaveRows, is_replaced, lasting};
 
-use goods::place_of;
 use std::alloc::{AllocError, Global};
-use stock::{Change, Page, Row};
+use stock::{Change, Page, Row, place_of};
 
 // Whether a change lasts, where those after it have marked the rows of their pairs. It marks its
 // own.

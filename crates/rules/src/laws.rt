@@ -13,7 +13,7 @@ ghost use Rattle.profile.specs.Reply.{Stored, stored};
 ghost use Rattle.profile.specs.Decision.{standing};
 ghost use Rattle.profile.specs.Events.{Event, Reserved, order_under};
 ghost use Rattle.profile.specs.Rows.{act_function, running_rows};
-ghost use Rattle.goods.specs.Pages.{PageFacts, IsSound};
+ghost use Rattle.stock.specs.Pages.{PageFacts, IsSound};
 ghost use Rattle.stock.specs.Shows.{Shows, sent_under};
 ghost use Rattle.stock.specs.Puts.{put};
 ghost use Rattle.stock.specs.declared.steps.Change.{Change};

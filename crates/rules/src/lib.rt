@@ -36,4 +36,8 @@ pub use refusals::Refusal;
 pub use repeats::decide_again;
 pub use replays::{Replayed, replay};
 pub use segments::{Ident, Moment, Who};
-pub use stock::{Change, Line, Page, Row, Sheet, SheetKind};
+pub use sets_in::{Address, Goods};
+pub use stock::{
+    Change, Draft, Function, KnownAdvice, KnownDocument, KnownLine, KnownOrder, Line, Page, Row,
+    Sheet, SheetKind,
+};

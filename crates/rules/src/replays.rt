@@ -15,7 +15,7 @@ ghost use Rattle.profile.specs.Reply.{clerk_entry};
 ghost use Rattle.profile.specs.Structure.{groups_of};
 ghost use Rattle.profile.specs.Texts.{document_of};
 ghost use Rattle.envelope.specs.Conditions.{IsTold};
-ghost use Rattle.goods.specs.Pages.{IsSound, next_entry};
+ghost use Rattle.stock.specs.Pages.{IsSound, next_entry};
 ghost use Rattle.stock.specs.Puts.{put};
 ghost use Rattle.stock.specs.Shows.{Shows};
 ghost use Rattle.stock.specs.Stops.{StopsAct};

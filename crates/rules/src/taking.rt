@@ -6,7 +6,7 @@ ghost use Rattle.profile.specs.Limits.{most_sets};
 ghost use Rattle.profile.specs.Cut.{element};
 ghost use Rattle.profile.specs.Structure as meant;
 ghost use Rattle.profile.specs.Texts.{stated_sets};
-ghost use Rattle.goods.specs.Pages.{IsSound};
+ghost use Rattle.stock.specs.Pages.{IsSound};
 ghost use Rattle.stock.specs.Puts.{put};
 ghost use Rattle.tables.specs.Kinds.{kind_of};
 ghost use Rattle.rules.specs.Judging.{AreTaken, IsGroupTaken, AreGroupsTaken, IsSmall, is_answered, told_with, told_if};

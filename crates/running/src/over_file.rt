@@ -1,11 +1,11 @@
 //! What a line says, done over the book in a file: words are tested and files read before the book
 //! is opened, and it is closed before the line is done.
-ghost use Rattle.std.specs.Prelude.{◌≡◌, ◌≤◌, false, IfOk};
+ghost use Rattle.std.specs.Prelude.{◌≡◌, ◌≤◌, false, IfErr, IfOk};
 ghost use Rattle.sqlite.specs.Held.{state};
 ghost use Rattle.sqlite.specs.State.{HasCleanDisk};
 ghost use Rattle.commands.specs.Stops.{fault_in};
 ghost use Rattle.running.specs.Checking.{IsReadAnew};
-ghost use Rattle.running.specs.Working.{IsJobFor, IsWork};
+ghost use Rattle.running.specs.Working.{IsJobFor, IsNoJobFor, IsWork};
 
 use crate::book_files::{close, disconnect, fault, is_in_use, make, open, open_anew};
 use crate::checking::check_over;
@@ -270,7 +270,8 @@ fn job_of<'a, R: Files + Clock + AllocGlobal>(
     file: &'a str,
     task: &Task<'a>,
 ) -> Result<Result<Job<'a>, Refusal>, CommandError>
-    ensures { IfOk result (λ made. IfOk made (IsJobFor task.now)) }
+    ensures job { IfOk result (λ made. IfOk made (IsJobFor task.now)) }
+    ensures none { IfOk result (λ made. IfErr made (IsNoJobFor task.now)) }
 {
     match task {
         Task::Init { who } => match Who::new(who.as_bytes()) {

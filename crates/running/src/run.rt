@@ -67,9 +67,12 @@ fn run_any<W: io::Write, E: io::Write>(
 }
 
 // Whether the last word asks that a refusal and a fault are explained, and the words before it.
+// After a word `--` all words are values.
 fn asks_why<'w, 'a>(words: &'w [&'a str]) -> (bool, &'w [&'a str]) {
     match words.split_last() {
-        Some((last, words)) if *last == "--explain" => (true, words),
+        Some((last, words)) if *last == "--explain" && !words.iter().any(|word| *word == "--") => {
+            (true, words)
+        }
         _ => (false, words),
     }
 }

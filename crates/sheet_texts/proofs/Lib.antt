@@ -1,2 +1,6 @@
 mod RecordLaws
 mod LineLaws
+mod ReasonLaws
+mod ToldLaws
+mod RefusedLaws
+mod RowsReasons

@@ -1,1 +1,3 @@
 pub mod Texts
+pub mod Reasons
+pub use Rattle.sheets.specs.Kinds

@@ -1,4 +1,15 @@
 //! Why a text makes no sheet, and at which line, for people.
+ghost use Rattle.std.specs.Prelude.{◌≡◌, Err, IfOk, IsTrue, is_some, map, option_map, true};
+ghost use Rattle.std.specs.List.{find, list_all, list_any};
+ghost use Rattle.std.specs.String.{string_bytes};
+ghost use Rattle.csv.specs.Records.{fields_of};
+ghost use Rattle.profile.specs.declared.rules.Rules.TheVariants.{Two};
+ghost use Rattle.profile.specs.Bytes.{is_identifier_byte};
+ghost use Rattle.profile.specs.Refusals.{Refusal, refusal_number};
+ghost use Rattle.sheets.specs.Kinds.{kind_of};
+ghost use Rattle.sheet_texts.specs.Texts.{sheet_of_text};
+ghost use Rattle.sheet_texts.specs.Reasons as reasons;
+
 use crate::records::first_records;
 use crate::texts::field;
 use csv::ByteRecord;
@@ -27,7 +38,11 @@ pub struct BadLine {
 }
 
 // What of a record can't be read, if something can't.
-fn unread_in(kind: SheetKind, row: &ByteRecord) -> Option<&'static str> {
+fn unread_in(kind: SheetKind, row: &ByteRecord) -> Option<&'static str>
+    ensures { option_map (λ why. why.now) result ≡ reasons.where_so
+        (reasons.is_unread (kind_of kind) (fields_of row.now))
+        (reasons.unread_text (fields_of row.now)) }
+{
     let quantity = field(row, 2);
     if row.len() != 3 {
         Some("a line has three fields: item, lot and quantity")
@@ -37,7 +52,10 @@ fn unread_in(kind: SheetKind, row: &ByteRecord) -> Option<&'static str> {
         Some("a lot has 1 to 12 characters of A to Z, 0 to 9, - and .")
     } else if quantity.is_empty() || !all_digits(quantity) {
         Some("a quantity is digits alone")
-    } else if matches!(kind, SheetKind::Pick) && value_up_to(quantity, 1) == 0 {
+    } else if matches!(kind, SheetKind::Pick)
+        && quantity.len() <= SHEET_DIGITS
+        && value_up_to(quantity, 1) == 0
+    {
         Some("a picked quantity is 1 at least")
     } else {
         None
@@ -45,7 +63,11 @@ fn unread_in(kind: SheetKind, row: &ByteRecord) -> Option<&'static str> {
 }
 
 // Why a record's quantity is over the limit, if it is.
-fn too_much_in(kind: SheetKind, row: &ByteRecord) -> Option<&'static str> {
+fn too_much_in(kind: SheetKind, row: &ByteRecord) -> Option<&'static str>
+    ensures { option_map (λ why. why.now) result ≡ reasons.where_so
+        (reasons.is_over (kind_of kind) (reasons.line_in (fields_of row.now)))
+        (reasons.over_text (kind_of kind)) }
+{
     let text = field(row, 2);
     let most = u64::from(MOST_QUANTITY_TWO);
     let is_long = text.len() > SHEET_DIGITS;
@@ -58,35 +80,55 @@ fn too_much_in(kind: SheetKind, row: &ByteRecord) -> Option<&'static str> {
 }
 
 // Whether a record has this pair.
-fn has_pair(row: &ByteRecord, item: &[u8], lot: &[u8]) -> bool {
+fn has_pair(row: &ByteRecord, item: &[u8], lot: &[u8]) -> bool
+    ensures { result ≡ reasons.has_pair item.now lot.now (fields_of row.now) }
+{
     field(row, 0) == item && field(row, 1) == lot
 }
 
+// The first record that has this pair.
+fn row_of_pair<'a>(rows: &'a [ByteRecord], item: &[u8], lot: &[u8]) -> Option<&'a ByteRecord>
+    ensures { option_map (λ row. fields_of row.now) result
+        ≡ find (reasons.has_pair item.now lot.now) (map fields_of rows.now) }
+{
+    rows.iter().find(|row| has_pair(row, item, lot))
+}
+
 // Whether the pair of a record stands in one of those before it.
-fn repeated_in(before: &[ByteRecord], row: &ByteRecord) -> Option<&'static str> {
-    if before
-        .iter()
-        .any(|other| has_pair(other, field(row, 0), field(row, 1)))
-    {
+fn repeated_in(before: &[ByteRecord], row: &ByteRecord) -> Option<&'static str>
+    ensures { option_map (λ why. why.now) result ≡ reasons.where_so
+        (reasons.is_repeated (map fields_of before.now) (fields_of row.now))
+        reasons.repeated_text }
+{
+    if row_of_pair(before, field(row, 0), field(row, 1)).is_some() {
         Some("a line before it has this pair")
     } else {
         None
     }
 }
 
+// The text of an identifier, whose bytes are ASCII.
+fn text_of(ident: &[u8]) -> &str
+    requires { IsTrue (list_all is_identifier_byte ident.now) }
+    ensures { result.now ≡ ident.now }
+{
+    str::from_utf8(ident).unwrap_or("")
+}
+
 // What is wrong with a record, after its pair where that can be read.
-fn told_of(alloc: Global, row: &ByteRecord, why: &str) -> Result<String, AllocError> {
+fn told_of(alloc: Global, row: &ByteRecord, why: &str) -> Result<String, AllocError>
+    ensures { IfOk result (λ text. string_bytes text
+        ≡ reasons.told (fields_of row.now) why.now) }
+{
     let (item, lot) = (field(row, 0), field(row, 1));
     if Ident::new(item, MOST_ITEM).is_none() || Ident::new(lot, MOST_LOT).is_none() {
         return String::from_str(alloc, why);
     }
-    let item = str::from_utf8(item).unwrap_or("");
-    let lot = str::from_utf8(lot).unwrap_or("");
-    [item, " ", lot, ": ", why].concat(alloc)
+    [text_of(item), " ", text_of(lot), ": ", why].concat(alloc)
 }
 
 // The line of a record. The reader tells where it began to read it, which is before the empty lines
-// that it passes over.
+// that it passes over. No contract of csv says where that is, so none says here which line it is.
 fn line_of(text: &[u8], row: &ByteRecord) -> u64 {
     let Some(position) = row.position() else {
         return 1;
@@ -109,7 +151,11 @@ fn bad_in(
     row: &ByteRecord,
     before: &[ByteRecord],
     number: u8,
-) -> Option<&'static str> {
+) -> Option<&'static str>
+    ensures { option_map (λ why. why.now) result ≡ reasons.where_so
+        (reasons.is_reason (kind_of kind) (map fields_of before.now) (fields_of row.now) number)
+        (reasons.reason_text (kind_of kind) (fields_of row.now) number) }
+{
     match number {
         BAD_TEXT => unread_in(kind, row),
         TOO_MUCH => too_much_in(kind, row),
@@ -121,24 +167,49 @@ fn bad_in(
     }
 }
 
-/// The first line of a sheet's text for which it is refused by this number (30 to 33); None where
-/// there is none. The one error is want of memory.
+// The first record that is a reason of this refusal, and why it is; None where none is.
+fn first_bad_in(
+    kind: SheetKind,
+    rows: &[ByteRecord],
+    number: u8,
+) -> Option<(&ByteRecord, &'static str)>
+    ensures row { option_map (λ found. fields_of found.0.now) result ≡ option_map (λ p. p.1)
+        (reasons.first_reason (kind_of kind) number (map fields_of rows.now)) }
+    ensures why { option_map (λ found. found.1.now) result
+        ≡ option_map (λ p. reasons.reason_text (kind_of kind) p.1 number)
+        (reasons.first_reason (kind_of kind) number (map fields_of rows.now)) }
+{
+    for (at, row) in rows.iter().enumerate() {
+        if let Some(why) = bad_in(kind, row, &rows[..at], number) {
+            return Some((row, why));
+        }
+    }
+    None
+}
+
+/// The first line of a sheet's text for which it is refused by this number (30 to 33), and why;
+/// None where there is none. A text that is refused by the number has one. The one error is want of
+/// memory.
 pub fn first_bad(
     alloc: Global,
     kind: SheetKind,
     text: &[u8],
     number: u8,
-) -> Result<Option<BadLine>, AllocError> {
+) -> Result<Option<BadLine>, AllocError>
+    ensures told { IfOk result (λ found. option_map (λ bad. string_bytes bad.why) found
+        ≡ reasons.told_of_text (kind_of kind) number text.now) }
+    ensures refused { IfOk result (λ found. (r : Refusal)
+        → sheet_of_text Two (kind_of kind) text.now ≡ Err r → refusal_number r ≡ number
+        → is_some found ≡ true) }
+{
     let rows = first_records(alloc, text)?;
-    for (at, row) in rows.iter().enumerate() {
-        if let Some(why) = bad_in(kind, row, &rows[..at], number) {
-            return Ok(Some(BadLine {
-                line: line_of(text, row),
-                why: told_of(alloc, row, why)?,
-            }));
-        }
-    }
-    Ok(None)
+    let Some((row, why)) = first_bad_in(kind, &rows, number) else {
+        return Ok(None);
+    };
+    Ok(Some(BadLine {
+        line: line_of(text, row),
+        why: told_of(alloc, row, why)?,
+    }))
 }
 
 /// The line of a sheet's text, from 1, at which an item and a lot stand first; None where they
@@ -148,8 +219,10 @@ pub fn line_of_pair(
     text: &[u8],
     item: &[u8],
     lot: &[u8],
-) -> Result<Option<u64>, AllocError> {
+) -> Result<Option<u64>, AllocError>
+    ensures { IfOk result (λ found. is_some found
+        ≡ list_any (reasons.has_pair item.now lot.now) (reasons.first_records text.now)) }
+{
     let rows = first_records(alloc, text)?;
-    let found = rows.iter().find(|row| has_pair(row, item, lot));
-    Ok(found.map(|row| line_of(text, row)))
+    Ok(row_of_pair(&rows, item, lot).map(|row| line_of(text, row)))
 }

@@ -26,7 +26,9 @@ pub use acknowledgments::acknowledge;
 pub use allotment::allot;
 pub use announcements::announce;
 pub use drafts::Draft;
-pub use goods::{Function, KnownAdvice, KnownDocument, KnownLine, KnownOrder, Row, quantity_of};
+pub use goods::{
+    Function, KnownAdvice, KnownDocument, KnownLine, KnownOrder, Row, place_of, quantity_of,
+};
 pub use page::Page;
 pub use picks::pick;
 pub use receipts::receive;

@@ -1,9 +1,9 @@
 -- How changes of a book follow one another.
-use Rattle.std.proofs.Common.{◌≡◌, ◌∙◌, sym, refl, arith, List, ◌⊎◌, inl, inr}
+use Rattle.std.proofs.Common.{◌≡◌, ◌∙◌, sym, refl, arith, List, ◌⊎◌, inl, inr, Result, Ok, Err, OnErr}
+use Rattle.std.proofs.lemmas.Result.{IfErr-weaker}
 use Rattle.profile.specs.Register.{Entry}
 use Rattle.store.specs.declared.fault.Fault.{Fault}
-use Rattle.std.proofs.Common.{Result, Ok, Err, OnErr}
-use Rattle.store.specs.Standing.{Standing, IsUsable, KeepsLegal, IsUnchanged, GoesOn, LeavesEither, IsFault, IsQueryFault, Refused}
+use Rattle.store.specs.Standing.{Standing, IsUsable, KeepsLegal, IsUnchanged, GoesOn, LeavesEither, IsFault, IsQuery, IsQueryFault, Refused}
 
 pub goes_trans : (a b c : Standing) → GoesOn a b → GoesOn b c → GoesOn a c
 goes_trans a b c p q = record {
@@ -86,4 +86,11 @@ query_after a b c p q fault f = record {
   reopen = λ h. sym p.shut ∙ f.reopen h;
   not_this = λ h clean L keeps. f.not_this h clean L (p.keeps (clean_before b c q clean) L keeps);
   device = f.device;
+}
+
+-- a query after another
+pub query_on : {T : Type 0} (a b c : Standing) → IsUnchanged a b → (r : Result T Fault) → IsQuery b c r → IsQuery a c r
+query_on a b c p r q = record {
+  same = unchanged_trans a b c p q.same;
+  fault = IfErr-weaker r _ _ (query_after a b c p q.same.goes) q.fault;
 }

@@ -29,7 +29,7 @@ use Rattle.profile.specs.Reply.{out, stored}
 use Rattle.profile.proofs.TextLaws.{text_is, both_parts}
 use Rattle.profile.proofs.HistoryLaws.{history-numbered, history_snoc}
 use Rattle.profile.proofs.DecisionLaws.{out-by}
-use Rattle.goods.specs.Pages.{PageFacts, IsSound}
+use Rattle.rules.specs.Pages.{PageFacts, IsSound}
 use Rattle.profile.specs.History.{events}
 use Rattle.profile.specs.Rows.{StockRow, shown_row, stock_rows, stock_of}
 use Rattle.rules.proofs.Rowed.{rows_are}
@@ -248,34 +248,34 @@ abbrev pub Replays : Who → Option PageFacts → Written → PageFacts → List
 Replays W page w p text = (h : History) (e : Entry) → IsBefore page h e → w ≡ written_as (number_after h e) e → number_after h e ≤ most_entries
     → is_entry e ≡ true → is_clean e.deed ≡ true → IsReplayed W h e p text
 
-pub replayed_at : (W : Who) (X : List Entry) (e : Entry) (behind : List Entry) (who : Who) (w : Written) (page : Option PageFacts) (p : PageFacts) (text : List ℕ)
-    → IsLegal Two W (X ++ e ∷ behind) → w ≡ written X e → e.who ≡ who → IsHeldFor page (standing (own X who)) → Replays W page w p text
+pub replayed_at : (W : Who) (X : List Entry) (e : Entry) (later : List Entry) (who : Who) (w : Written) (page : Option PageFacts) (p : PageFacts) (text : List ℕ)
+    → IsLegal Two W (X ++ e ∷ later) → w ≡ written X e → e.who ≡ who → IsHeldFor page (standing (own X who)) → Replays W page w p text
     → IsReplayed W (history (own X e.who)) e p text
-replayed_at W X e behind who w page p text legal row same held replays =
-    let follow = legal_follow Two W (X ++ e ∷ behind) X e behind legal refl in
+replayed_at W X e later who w page p text legal row same held replays =
+    let follow = legal_follow Two W (X ++ e ∷ later) X e later legal refl in
     let at : IsHeldFor page (standing (own X e.who)) = subst (λ d. IsHeldFor page (standing (own X d))) (sym same) held in
     replays (history (own X e.who)) e (before_is page (own X e.who) e at follow.numbered) (written_behind X e w row) follow.few follow.good follow.clean
 
-pub text_at : (W : Who) (X : List Entry) (e : Entry) (behind : List Entry) (who : Who) (w : Written) (page : Option PageFacts) (p : PageFacts) (text : List ℕ)
-    → IsLegal Two W (X ++ e ∷ behind) → w ≡ written X e → e.who ≡ who → IsHeldFor page (standing (own X who)) → Replays W page w p text
+pub text_at : (W : Who) (X : List Entry) (e : Entry) (later : List Entry) (who : Who) (w : Written) (page : Option PageFacts) (p : PageFacts) (text : List ℕ)
+    → IsLegal Two W (X ++ e ∷ later) → w ≡ written X e → e.who ≡ who → IsHeldFor page (standing (own X who)) → Replays W page w p text
     → text ≡ out W (own X e.who) e
-text_at W X e behind who w page p text legal row same held replays =
-    (replayed_at W X e behind who w page p text legal row same held replays).outgoing ∙ sym (out-by W (own X e.who) e)
+text_at W X e later who w page p text legal row same held replays =
+    (replayed_at W X e later who w page p text legal row same held replays).outgoing ∙ sym (out-by W (own X e.who) e)
 
 one_more : (i : ℕ) → i + 1 ≡ suc i
 one_more i = omega arith
 
-pub held_next : (W : Who) (L behind : List Entry) (i : ℕ) (w : Written) (who : Who) (page : Option PageFacts) (p : PageFacts) (text : List ℕ)
-    → IsLegal Two W (L ++ behind) → i < length (all_written L) → w ≡ get_or (all_written L) i w → who_eq w.who who ≡ true
+pub held_next : (W : Who) (L later : List Entry) (i : ℕ) (w : Written) (who : Who) (page : Option PageFacts) (p : PageFacts) (text : List ℕ)
+    → IsLegal Two W (L ++ later) → i < length (all_written L) → w ≡ get_or (all_written L) i w → who_eq w.who who ≡ true
     → IsHeldFor page (standing (own (take i L) who)) → Replays W page w p text → IsHeldFor (Some p) (standing (own (take (i + 1) L) who))
-held_next W L behind i w who page p text legal lt is whose held replays =
+held_next W L later i w who page p text legal lt is whose held replays =
     let t = there_on [] L i w lt is in
     let e = t.0 in
     let X = take i L in
     let of_e : w.who ≡ e.who = ap (λ (x : Written). x.who) t.1.row in
     let same : e.who ≡ who = sym of_e ∙ who_is w.who who whose in
-    let all : L ++ behind ≡ X ++ e ∷ (drop (suc i) L ++ behind) = ap (λ (M : List Entry). M ++ behind) t.1.split ∙ assoc X e (drop (suc i) L) behind in
-    let r = replayed_at W X e (drop (suc i) L ++ behind) who w page p text (subst (IsLegal Two W) all legal) t.1.row same held replays in
+    let all : L ++ later ≡ X ++ e ∷ (drop (suc i) L ++ later) = ap (λ (M : List Entry). M ++ later) t.1.split ∙ assoc X e (drop (suc i) L) later in
+    let r = replayed_at W X e (drop (suc i) L ++ later) who w page p text (subst (IsLegal Two W) all legal) t.1.row same held replays in
     let after : IsHeldFor (Some p) (standing (own X e.who ++ e ∷ [])) = held_after W (own X e.who) e p text r in
     let grown : own (take (i + 1) L) who ≡ own X e.who ++ e ∷ [] =
     ap (λ n. own (take n L) who) (one_more i) ∙ ap (λ (M : List Entry). own M who) t.1.more

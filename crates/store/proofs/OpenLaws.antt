@@ -6,7 +6,7 @@ use Rattle.profile.specs.History.{history, events}
 use Rattle.profile.specs.Decision.{standing}
 use Rattle.profile.specs.Page.{PageAdvice, page_advices}
 use Rattle.profile.specs.Register.{Entry, own, is_numbered}
-use Rattle.goods.specs.Pages.{PageFacts, IsSound}
+use Rattle.rules.specs.Pages.{PageFacts, IsSound}
 use Rattle.rules.specs.Decided.{IsPageOf}
 use Rattle.rules.specs.Written.{Written, written}
 use Rattle.rules.proofs.Once.{advices_once, orders_once}

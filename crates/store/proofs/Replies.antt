@@ -21,7 +21,7 @@ use Rattle.std.specs.Prelude.{option_copied}
 use Rattle.profile.specs.Decision as meant
 use Rattle.profile.specs.Decision.{recalled, standing, reply_by}
 use Rattle.profile.proofs.DecisionLaws.{reply-by}
-use Rattle.goods.specs.Pages.{PageFacts}
+use Rattle.rules.specs.Pages.{PageFacts}
 use Rattle.rules.specs.Decided.{StandsFor, IsEntry, IsRecalled, IsUnder, IsGiven, IsReply, entries_of}
 use Rattle.rules.specs.Written.{Recalled}
 use Rattle.rules.specs.declared.decisions.Decision.{Decision}
@@ -35,7 +35,7 @@ use Rattle.profile.proofs.TextLaws.{text_is}
 use Rattle.profile.proofs.RegisterLaws.{of_a_stranger}
 use Rattle.profile.proofs.HistoryLaws.{history-numbered}
 use Rattle.profile.specs.Changes.{LeadOn}
-use Rattle.stock.specs.declared.steps.Change.{Change}
+use Rattle.rules.specs.Change.{Change}
 use Rattle.rules.specs.Tabled.{table_changes}
 use Rattle.rules.specs.Decided.{number_behind}
 use Rattle.rules.specs.Written.{Written, written, written_as}

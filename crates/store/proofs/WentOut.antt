@@ -17,8 +17,8 @@ use Rattle.profile.specs.Register.{Deed, Enrolled, Received, Performed, Entry, o
 use Rattle.profile.specs.Reply.{out}
 use Rattle.profile.specs.Rows.{OutRow, out_row, outgoing_on, outbox_rows, outbox_of, act_function, act_kind, state_text, said_of}
 use Rattle.profile.specs.Tables.{number_of}
-use Rattle.goods.specs.Pages.{PageFacts, document_at}
-use Rattle.stock.specs.Shows.{document_of, sent_under}
+use Rattle.rules.specs.Pages.{PageFacts, document_at}
+use Rattle.rules.specs.Shows.{document_of, sent_under}
 use Rattle.rules.specs.Decided.{IsPageOf}
 use Rattle.rules.specs.Written.{Written, written}
 use Rattle.rules.proofs.SentUnder.{sent_under_own, sent_of}
@@ -165,7 +165,7 @@ adds_counted W L i who p w e text rows at there whose counts content is =
 
 -- what is said of a place's text, where one is made from the entries before it
 abbrev pub TextOf : Who → List Entry → Written → List ℕ → Type 0
-TextOf W X w text = (e : Entry) (behind : List Entry) → w ≡ written X e → IsLegal Two W (X ++ e ∷ behind) → text ≡ out W (own X e.who) e
+TextOf W X w text = (e : Entry) (later : List Entry) → w ≡ written X e → IsLegal Two W (X ++ e ∷ later) → text ≡ out W (own X e.who) e
 
 text_there : (W : Who) (L : List Entry) (i : ℕ) (w : Written) (e : Entry) (text : List ℕ) → IsLegal Two W L → IsThere [] L i w e → TextOf W (take i L) w text → text ≡ out W (own (take i L) e.who) e
 text_there W L i w e text legal there made = made e (drop (suc i) L) there.row (subst (IsLegal Two W) there.split legal)
@@ -212,9 +212,9 @@ is_something [] h = absurd (cc (h))
 is_something (x ∷ text) h = lt-ltb 0 (length (x ∷ text)) (omega arith)
 
 pub text_of : (W : Who) (L : List Entry) (ws : List Written) (i : ℕ) (w : Written) (text : List ℕ) → ws ≡ all_written L
-    → ((M : List Entry) (e : Entry) (behind : List Entry) → take i ws ≡ all_written M → w ≡ written M e → IsLegal Two W (M ++ e ∷ behind) → text ≡ out W (own M e.who) e)
+    → ((M : List Entry) (e : Entry) (later : List Entry) → take i ws ≡ all_written M → w ≡ written M e → IsLegal Two W (M ++ e ∷ later) → text ≡ out W (own M e.who) e)
     → TextOf W (take i L) w text
-text_of W L ws i w text is made = λ e behind row legal. made (take i L) e behind (ap (λ (vs : List Written). take i vs) is ∙ written_take [] L i) row legal
+text_of W L ws i w text is made = λ e later row legal. made (take i L) e later (ap (λ (vs : List Written). take i vs) is ∙ written_take [] L i) row legal
 
 -- All of a register.
 

@@ -2,7 +2,7 @@
 use Rattle.std.specs.Prelude.{List, Option, Some, None}
 use Rattle.profile.specs.declared.rules.Rules.{Rules}
 use Rattle.profile.specs.History.{History, history}
-use Rattle.goods.specs.Pages.{PageFacts}
+use Rattle.rules.specs.Pages.{PageFacts}
 use Rattle.profile.specs.Header.{Who}
 use Rattle.profile.specs.Moments.{Moment}
 use Rattle.profile.specs.Need.{Need}

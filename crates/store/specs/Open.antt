@@ -4,7 +4,7 @@ use Rattle.profile.specs.Header.{Who}
 use Rattle.profile.specs.History.{events}
 use Rattle.profile.specs.Page.{PageAdvice, PageOrder, page_advices, page_orders}
 use Rattle.profile.specs.Register.{Entry, is_numbered, own}
-use Rattle.goods.specs.Pages.{PageFacts}
+use Rattle.rules.specs.Pages.{PageFacts}
 
 -- advices that aren't counted and orders that aren't picked, each in the order of its numbers
 pub record OpenWork : Type 0 where

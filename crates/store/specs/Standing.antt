@@ -1,12 +1,12 @@
 -- How a book stands, whichever way it is kept.
-use Rattle.std.specs.Prelude.{ℕ, ◌-◌, ◌^◌, ◌<◌, ◌≤◌, ◌≡◌, ◌⊎◌, ◌++◌, ◌∷◌, [], List, Bool, true, false}
+use Rattle.std.specs.Prelude.{ℕ, ◌-◌, ◌^◌, ◌<◌, ◌≤◌, ◌≡◌, ◌⊎◌, ◌++◌, ◌∷◌, [], List, Bool, true, false, Result, IfErr}
 use Rattle.profile.specs.declared.rules.Rules.TheVariants.{Two}
 use Rattle.profile.specs.Header.{Who}
 use Rattle.profile.specs.Register.{Entry, own}
 use Rattle.profile.specs.Reply.{out}
 use Rattle.profile.specs.Accepted.{IsLegal}
 use Rattle.profile.specs.Changes.{LeadOn}
-use Rattle.stock.specs.declared.steps.Change.{Change}
+use Rattle.rules.specs.Change.{Change}
 use Rattle.rules.specs.Tabled.{table_changes}
 use Rattle.rules.specs.Written.{Written, written}
 use Rattle.store.specs.declared.fault.Fault.{Fault}
@@ -70,6 +70,11 @@ pub record IsQueryFault (fault : Fault) (old new : Standing) : Type 0 where
   pub reopen : fault ≡ Reopen → old.shut ≡ true
   pub not_this : fault ≡ NotThisBook → new.doubt ≡ 0 → (L : List Entry) → old.keeps L → ⊥
   pub device : fault ≡ Device → ⊥
+
+-- what a query leaves, which is all as it was, and why it failed
+pub record IsQuery {T : Type 0} (old new : Standing) (result : Result T Fault) : Type 0 where
+  pub same : IsUnchanged old new
+  pub fault : IfErr result (λ fault. IsQueryFault fault old new)
 
 -- why a command failed, and what it left: all as it was, or a book that has to be opened again
 pub record IsFault (fault : Fault) (old new : Standing) : Type 0 where

@@ -8,7 +8,7 @@ ghost use Rattle.store.specs.Held.{IsHeld};
 ghost use Rattle.store.specs.Known.{first_under};
 ghost use Rattle.store.specs.Open.{open_of, open_on, enrolled};
 ghost use Rattle.store.specs.Sent.{text_of};
-ghost use Rattle.store.specs.Standing.{Standing, IsUsable, IsNext, IsUnchanged, GoesOn, LeavesEither, IsFault, IsQueryFault, IsCommitFault, OfKept};
+ghost use Rattle.store.specs.Standing.{Standing, IsUsable, IsNext, IsUnchanged, GoesOn, LeavesEither, IsFault, IsCommitFault, IsQuery, OfKept};
 
 use crate::fault::Fault;
 use crate::rows::{OutRow, StockRow};
@@ -32,8 +32,7 @@ pub trait Keeper {
         ensures page { OfKept (standing self.old) (standing self.new)
             (λ L. IfOk result (λ page. IsHeld need.now page (decided.standing (register.own L who)))) }
         ensures rest { IfOk result IsHeldAtRest }
-        ensures same { IsUnchanged (standing self.old) (standing self.new) }
-        ensures fault { IfErr result (λ fault. IsQueryFault fault (standing self.old) (standing self.new)) }
+        ensures query { IsQuery (standing self.old) (standing self.new) result }
         ensures shut { (standing self.old).shut ≡ true → IsErrOf result Fault.Reopen };
 
     /// A depositor's entry under a key, with its number and the text that went out for it; None
@@ -45,8 +44,7 @@ pub trait Keeper {
         ensures recorded { (standing self.new).doubt ≡ 0 → (L : List register.Entry)
             → (standing self.old).keeps L
             → IfOk result (λ known. option_map (λ k. k.entry) known ≡ first_under who (mark_of key.now) L) }
-        ensures same { IsUnchanged (standing self.old) (standing self.new) }
-        ensures fault { IfErr result (λ fault. IsQueryFault fault (standing self.old) (standing self.new)) }
+        ensures query { IsQuery (standing self.old) (standing self.new) result }
         ensures shut { (standing self.old).shut ≡ true → IsErrOf result Fault.Reopen };
 
     /// Appends an entry, with the rows that it changes and the text that goes out for it, in one
@@ -78,8 +76,7 @@ pub trait Keeper {
     fn stock_rows(&mut self, who: Who) -> Result<Option<Vec<StockRow>>, Fault>
         ensures rows { OfKept (standing self.old) (standing self.new)
             (λ L. IfOk result (λ rows. option_map (λ v. v.items) rows ≡ stock_of L who)) }
-        ensures same { IsUnchanged (standing self.old) (standing self.new) }
-        ensures fault { IfErr result (λ fault. IsQueryFault fault (standing self.old) (standing self.new)) }
+        ensures query { IsQuery (standing self.old) (standing self.new) result }
         ensures shut { (standing self.old).shut ≡ true → IsErrOf result Fault.Reopen };
 
     /// The texts that went out to a depositor, by number; None for a stranger.
@@ -87,8 +84,7 @@ pub trait Keeper {
         ensures rows { OfKept (standing self.old) (standing self.new)
             (λ L. IfOk result (λ rows. option_map (λ v. v.items) rows ≡ outbox_of
             (standing self.old).warehouse L who)) }
-        ensures same { IsUnchanged (standing self.old) (standing self.new) }
-        ensures fault { IfErr result (λ fault. IsQueryFault fault (standing self.old) (standing self.new)) }
+        ensures query { IsQuery (standing self.old) (standing self.new) result }
         ensures shut { (standing self.old).shut ≡ true → IsErrOf result Fault.Reopen };
 
     /// The text that went out to a depositor under a number; None for a stranger, and Some(None)
@@ -97,8 +93,7 @@ pub trait Keeper {
         ensures text { OfKept (standing self.old) (standing self.new)
             (λ L. IfOk result (λ text. option_map (option_map (λ v. v.items)) text ≡ text_of
             (standing self.old).warehouse L who n)) }
-        ensures same { IsUnchanged (standing self.old) (standing self.new) }
-        ensures fault { IfErr result (λ fault. IsQueryFault fault (standing self.old) (standing self.new)) }
+        ensures query { IsQuery (standing self.old) (standing self.new) result }
         ensures shut { (standing self.old).shut ≡ true → IsErrOf result Fault.Reopen };
 
     /// A part of a depositor's page that has what is open: each advice that isn't counted and each
@@ -106,16 +101,14 @@ pub trait Keeper {
     fn open(&mut self, who: Who) -> Result<Option<Page>, Fault>
         ensures work { OfKept (standing self.old) (standing self.new)
             (λ L. IfOk result (λ page. option_map open_on page ≡ open_of L who)) }
-        ensures same { IsUnchanged (standing self.old) (standing self.new) }
-        ensures fault { IfErr result (λ fault. IsQueryFault fault (standing self.old) (standing self.new)) }
+        ensures query { IsQuery (standing self.old) (standing self.new) result }
         ensures shut { (standing self.old).shut ≡ true → IsErrOf result Fault.Reopen };
 
     /// The depositors, in the order in which they were enrolled.
     fn depositors(&mut self) -> Result<Vec<Who>, Fault>
         ensures whole { OfKept (standing self.old) (standing self.new)
             (λ L. IfOk result (λ whos. whos.items ≡ enrolled L)) }
-        ensures same { IsUnchanged (standing self.old) (standing self.new) }
-        ensures fault { IfErr result (λ fault. IsQueryFault fault (standing self.old) (standing self.new)) }
+        ensures query { IsQuery (standing self.old) (standing self.new) result }
         ensures shut { (standing self.old).shut ≡ true → IsErrOf result Fault.Reopen };
 
     /// How many calls the store refused.

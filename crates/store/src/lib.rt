@@ -16,7 +16,8 @@ pub use leaving::{memory_is_never_in_doubt, what_is_kept_is_left};
 pub use replaying::ReplayBook;
 pub use rows::{DocumentState, OutRow, StockRow};
 pub use rules::{
-    Act, Change, Command, Decision, Entry, Ident, Key, Known, Line, Moment, Need, OutKind, Page,
-    Refusal, Row, Sheet, SheetKind, Warehouse, Who, decide, decide_again, need, subject,
+    Act, Address, Change, Command, Decision, Entry, Goods, Ident, Key, Known, KnownAdvice,
+    KnownLine, KnownOrder, Line, Moment, Need, OutKind, Page, Refusal, Row, Sheet, SheetKind,
+    Warehouse, Who, decide, decide_again, need, subject,
 };
 pub use serving::{Outcome, Reply, outbox, run, stock, submit, submit_under, text};

@@ -9,7 +9,7 @@ ghost use Rattle.profile.specs.History.{History, history, events};
 ghost use Rattle.profile.specs.Header.{Who as Partner};
 ghost use Rattle.rules.specs.Decided.{IsHeldAtRest, IsRecalled, IsPageOf};
 ghost use Rattle.rules.specs.Written.{written};
-ghost use Rattle.goods.specs.Pages.{IsAt};
+ghost use Rattle.rules.specs.Pages.{IsAt};
 ghost use Rattle.store.specs.Held.{IsHeld, IsHeldFor};
 ghost use Rattle.store.specs.Open.{open_of, open_on, enrolled};
 ghost use Rattle.store.specs.Replayed.{all_written, is_under};
@@ -75,7 +75,7 @@ fn with_entry(
     who: &Who,
 ) -> Result<Option<Page>, AllocError>
     requires { IsHeldAtRest page }
-    ensures page { (L behind : List register.Entry) (i : ℕ) → IsLegal Two warehouse.now (L ++ behind)
+    ensures page { (L later : List register.Entry) (i : ℕ) → IsLegal Two warehouse.now (L ++ later)
         → i < length (all_written L) → entry.now ≡ get_or (all_written L) i entry.now
         → IsHeldFor page (standing_of (register.own (take i L) who.now))
         → IfOk result (λ next. IsHeldFor next (standing_of (register.own (take (i + 1) L) who.now))) }
@@ -95,8 +95,8 @@ fn page_behind(
     entries: &[Entry],
     who: &Who,
 ) -> Result<Option<Page>, AllocError>
-    ensures page { (L behind : List register.Entry) → entries.now ≡ all_written L
-        → IsLegal Two warehouse.now (L ++ behind)
+    ensures page { (L later : List register.Entry) → entries.now ≡ all_written L
+        → IsLegal Two warehouse.now (L ++ later)
         → IfOk result (λ page. IsHeldFor page (standing_of (register.own L who.now))) }
     ensures rest { IfOk result IsHeldAtRest }
 {
@@ -138,9 +138,9 @@ fn outgoing_behind(
     before: &[Entry],
     entry: &Entry,
 ) -> Result<Vec<u8>, AllocError>
-    ensures { (L : List register.Entry) (e : register.Entry) (behind : List register.Entry)
+    ensures { (L : List register.Entry) (e : register.Entry) (later : List register.Entry)
         → before.now ≡ all_written L → entry.now ≡ written L e
-        → IsLegal Two warehouse.now (L ++ e ∷ behind)
+        → IsLegal Two warehouse.now (L ++ e ∷ later)
         → IfOk result (λ text. text.items ≡ out warehouse.now (register.own L e.who) e) }
 {
     let page = page_behind(alloc, warehouse, before, &entry.who())?;

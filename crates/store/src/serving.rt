@@ -11,7 +11,7 @@ ghost use Rattle.rules.specs.Tabled.{LeadsInTables};
 ghost use Rattle.store.specs.Held.{IsDecided};
 ghost use Rattle.store.specs.Sent.{text_of};
 ghost use Rattle.store.specs.Runs.{told, all_asked, can_be_given, UnlessAccepted};
-ghost use Rattle.store.specs.Standing.{Standing, IsUsable, IsUnchanged, GoesOn, IsFault, IsQueryFault, IsRunFault, KeepsLegal, LeavesEither, OfKept};
+ghost use Rattle.store.specs.Standing.{Standing, IsUsable, IsUnchanged, GoesOn, IsFault, IsQuery, IsRunFault, KeepsLegal, LeavesEither, OfKept};
 
 use crate::fault::Fault;
 use crate::keeping::Keeper;
@@ -54,8 +54,7 @@ fn judge_new<K: Keeper>(
     ensures tables { OfKept (K.standing keeper.old) (K.standing keeper.new)
         (λ L. IfOk result (LeadsInTables rules (K.standing keeper.old).warehouse L
         (asked command.now) moment)) }
-    ensures same { IsUnchanged (K.standing keeper.old) (K.standing keeper.new) }
-    ensures fault { IfErr result (λ fault. IsQueryFault fault (K.standing keeper.old) (K.standing keeper.new)) }
+    ensures query { IsQuery (K.standing keeper.old) (K.standing keeper.new) result }
 {
     let warehouse = keeper.warehouse();
     let need = need(alloc, command)?;
@@ -86,8 +85,7 @@ fn judge<K: Keeper>(
     ensures tables { OfKept (K.standing keeper.old) (K.standing keeper.new)
         (λ L. IfOk result (LeadsInTables rules (K.standing keeper.old).warehouse L
         (asked command.now) moment)) }
-    ensures same { IsUnchanged (K.standing keeper.old) (K.standing keeper.new) }
-    ensures fault { IfErr result (λ fault. IsQueryFault fault (K.standing keeper.old) (K.standing keeper.new)) }
+    ensures query { IsQuery (K.standing keeper.old) (K.standing keeper.new) result }
 {
     let warehouse = keeper.warehouse();
     let Some(named) = subject(command) else {
@@ -209,8 +207,7 @@ pub fn submit<K: Keeper>(
 pub fn stock<K: Keeper>(keeper: &mut K, who: Who) -> Result<Option<Vec<StockRow>>, Fault>
     ensures rows { OfKept (K.standing keeper.old) (K.standing keeper.new)
         (λ L. IfOk result (λ rows. option_map (λ v. v.items) rows ≡ stock_of L who)) }
-    ensures same { IsUnchanged (K.standing keeper.old) (K.standing keeper.new) }
-    ensures fault { IfErr result (λ fault. IsQueryFault fault (K.standing keeper.old) (K.standing keeper.new)) }
+    ensures query { IsQuery (K.standing keeper.old) (K.standing keeper.new) result }
     ensures shut { (K.standing keeper.old).shut ≡ true → IsErrOf result Fault.Reopen }
 {
     keeper.stock_rows(who)
@@ -221,8 +218,7 @@ pub fn outbox<K: Keeper>(keeper: &mut K, who: Who) -> Result<Option<Vec<OutRow>>
     ensures rows { OfKept (K.standing keeper.old) (K.standing keeper.new)
         (λ L. IfOk result (λ rows. option_map (λ v. v.items) rows ≡ outbox_of
         (K.standing keeper.old).warehouse L who)) }
-    ensures same { IsUnchanged (K.standing keeper.old) (K.standing keeper.new) }
-    ensures fault { IfErr result (λ fault. IsQueryFault fault (K.standing keeper.old) (K.standing keeper.new)) }
+    ensures query { IsQuery (K.standing keeper.old) (K.standing keeper.new) result }
     ensures shut { (K.standing keeper.old).shut ≡ true → IsErrOf result Fault.Reopen }
 {
     keeper.outbox(who)
@@ -234,8 +230,7 @@ pub fn text<K: Keeper>(keeper: &mut K, who: Who, n: u32) -> Result<Option<Option
     ensures text { OfKept (K.standing keeper.old) (K.standing keeper.new)
         (λ L. IfOk result (λ text. option_map (option_map (λ v. v.items)) text ≡ text_of
         (K.standing keeper.old).warehouse L who n)) }
-    ensures same { IsUnchanged (K.standing keeper.old) (K.standing keeper.new) }
-    ensures fault { IfErr result (λ fault. IsQueryFault fault (K.standing keeper.old) (K.standing keeper.new)) }
+    ensures query { IsQuery (K.standing keeper.old) (K.standing keeper.new) result }
     ensures shut { (K.standing keeper.old).shut ≡ true → IsErrOf result Fault.Reopen }
 {
     keeper.text(who, n)

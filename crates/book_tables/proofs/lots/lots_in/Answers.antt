@@ -1,7 +1,7 @@
 use Rattle.std.proofs.Common.{rules, ◌≡◌, ◌≤◌, [], ◌∷◌, ◌++◌, sym, ap, subst, ◌∙◌, List, length, map, drop, true, Some, arith, ◌+◌}
 use Rattle.sqlite.specs.Order.{Row, column}
 use Rattle.profile.specs.Rows.{LotRow}
-use Rattle.goods.specs.Keyed.{key_before, rises_by, row_key}
+use Rattle.rules.specs.Keyed.{key_before, rises_by, row_key}
 use Rattle.book_statements.specs.Dated.{date_shown, dates_of}
 use Rattle.book_tables.specs.Showing.{lot_shown}
 use Rattle.rules.specs.Fitting.{is_fitting_row}

@@ -1,7 +1,7 @@
 use Rattle.std.proofs.Common.{◌≡◌, List, map, take, drop, true, length}
 use Rattle.std.specs.List.{list_all}
 use Rattle.profile.specs.Rows.{LotRow}
-use Rattle.goods.specs.Keyed.{key_before, rises_by, row_key}
+use Rattle.rules.specs.Keyed.{key_before, rises_by, row_key}
 use Rattle.rules.specs.Fitting.{is_fitting_row}
 use Rattle.book_statements.specs.Dated.{date_shown, dates_of}
 use Rattle.book_tables.specs.Showing.{lot_shown}

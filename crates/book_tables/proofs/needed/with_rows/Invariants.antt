@@ -1,7 +1,7 @@
 use Rattle.std.proofs.Common.{◌≡◌, List}
 use Rattle.std.specs.Prelude.{fold}
 use Rattle.profile.specs.Rows.{LotRow}
-use Rattle.goods.specs.Keyed.{put_row}
+use Rattle.rules.specs.Keyed.{put_row}
 use Rattle.book_tables.proofs.needed.with_rows.Given as goal
 
 abbrev pub invariant-loop-row : goal.invariant-loop-row

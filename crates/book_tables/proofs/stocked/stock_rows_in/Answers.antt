@@ -2,7 +2,7 @@ use Rattle.std.proofs.Common.{rules, ◌≡◌, ◌≤◌, [], ◌∷◌, ◌++�
 use Rattle.std.proofs.lemmas.List.{map-append}
 use Rattle.sqlite.specs.Order.{Row, column}
 use Rattle.profile.specs.Rows.{LotRow, shown_row}
-use Rattle.goods.specs.Keyed.{key_before, rises_by, row_key}
+use Rattle.rules.specs.Keyed.{key_before, rises_by, row_key}
 use Rattle.book_statements.specs.Dated.{date_shown, dates_of}
 use Rattle.book_tables.specs.Showing.{stock_shown}
 use Rattle.book_statements.proofs.DateLemmas.{rises_left}

@@ -1,6 +1,6 @@
 use Rattle.std.proofs.Common.{◌≡◌, List, map, take, drop, true, length}
 use Rattle.profile.specs.Rows.{LotRow, shown_row}
-use Rattle.goods.specs.Keyed.{key_before, rises_by, row_key}
+use Rattle.rules.specs.Keyed.{key_before, rises_by, row_key}
 use Rattle.book_statements.specs.Dated.{date_shown, dates_of}
 use Rattle.book_tables.specs.Showing.{stock_shown}
 use Rattle.book_tables.proofs.stocked.stock_rows_in.Given as goal

@@ -1,4 +1,4 @@
-use Rattle.rules.specs.Asked.{asked}
+use Rattle.store.specs.Asked.{asked}
 use Rattle.store.proofs.Changes.{at_fault}
 use Rattle.commands.proofs.ActLaws.{leaves_second, untold}
 use Rattle.commands.proofs.acts.hand_in.Goals as goal

@@ -1,4 +1,4 @@
-use Rattle.rules.specs.Asked.{asked}
+use Rattle.store.specs.Asked.{asked}
 use Rattle.intake.proofs.Sent.{named_none, named_some}
 use Rattle.intake.proofs.senders.named_in.Goals as goal
 

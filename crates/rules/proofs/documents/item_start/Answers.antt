@@ -1,9 +1,9 @@
 use Rattle.std.proofs.Common.{rules, arith}
 use Rattle.std.proofs.lemmas.List.Sorted.{IsPartitionPoint-from_clause}
 use Rattle.profile.specs.Bytes.{comes_before}
-use Rattle.goods.specs.Pairs.{pair_key}
-use Rattle.goods.proofs.Halves.{ascending_by}
-use Rattle.goods.proofs.KeyLemmas.{before_parted}
+use Rattle.stock.specs.Pairs.{pair_key}
+use Rattle.stock.proofs.Halves.{ascending_by}
+use Rattle.stock.proofs.KeyLemmas.{before_parted}
 use Rattle.rules.proofs.documents.item_start.Goals as goal
 
 pub returns : goal.returns

@@ -1,8 +1,8 @@
 use Rattle.std.proofs.Common.{sym, ap, ◌∙◌, arith}
 use Rattle.std.proofs.lemmas.List.{get_or_default}
 use Rattle.profile.specs.Events.{pair_before}
-use Rattle.goods.proofs.Halves.{placed_at, placed_there}
-use Rattle.goods.proofs.Rising.{lines_order}
+use Rattle.stock.proofs.Halves.{placed_at, placed_there}
+use Rattle.stock.proofs.Rising.{lines_order}
 use Rattle.rules.proofs.documents.place_among.Goals as goal
 
 pub returns-then-i-lines : goal.returns-then-i-lines

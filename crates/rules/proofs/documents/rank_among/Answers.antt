@@ -1,8 +1,8 @@
 use Rattle.std.proofs.Common.{rules}
 use Rattle.std.proofs.lemmas.List.Sorted.{IsPartitionPoint-from_clause}
 use Rattle.profile.specs.Events.{pair_before}
-use Rattle.goods.proofs.Halves.{parted_by, ranked_by}
-use Rattle.goods.proofs.Rising.{lines_order}
+use Rattle.stock.proofs.Halves.{parted_by, ranked_by}
+use Rattle.stock.proofs.Rising.{lines_order}
 use Rattle.rules.proofs.documents.rank_among.Goals as goal
 
 pub returns : goal.returns

@@ -6,7 +6,7 @@ use Rattle.profile.specs.Lists.{in_order}
 use Rattle.profile.specs.Page.{PageLine}
 use Rattle.profile.specs.Texts.{total_of}
 use Rattle.rules.specs.Documents.{picked_lot}
-use Rattle.goods.proofs.Halves.{ascending_filter}
+use Rattle.stock.proofs.Halves.{ascending_filter}
 use Rattle.rules.proofs.Lists.{filter_length}
 use Rattle.rules.proofs.documents.shipped_line.Goals as goal
 

@@ -1,8 +1,8 @@
 use Rattle.std.proofs.Common.{ap, ◌∙◌, drop}
 use Rattle.profile.specs.Events.{pair_before}
-use Rattle.goods.specs.Keyed.{rises_by}
-use Rattle.goods.proofs.Halves.{in_order_by}
-use Rattle.goods.proofs.Rising.{lines_order}
+use Rattle.stock.specs.Keyed.{rises_by}
+use Rattle.stock.proofs.Halves.{in_order_by}
+use Rattle.stock.proofs.Rising.{lines_order}
 use Rattle.rules.proofs.documents.sorted.Goals as goal
 
 pub place-requires : goal.place-requires

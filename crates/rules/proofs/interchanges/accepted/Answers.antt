@@ -5,7 +5,7 @@ use Rattle.profile.specs.Rows.{LotRow}
 use Rattle.profile.specs.Texts.{Told}
 use Rattle.sets_out.specs.Headings.{heading_of}
 use Rattle.sets_out.specs.Interchanges.{answer_of}
-use Rattle.goods.specs.Pages.{PageFacts}
+use Rattle.stock.specs.Pages.{PageFacts}
 use Rattle.std.specs.Prelude.{sum_by}
 use Rattle.std.specs.List.{AllByRecursion}
 use Rattle.profile.specs.Structure.{Group, groups_of}

@@ -1,7 +1,7 @@
 use Rattle.std.proofs.Common.{◌≡◌, [], ◌∷◌, not, true, set, ap, sym, ◌∙◌, subst}
 use Rattle.profile.specs.Rows.{LotRow}
-use Rattle.goods.specs.Moved.{IsPlace}
-use Rattle.goods.specs.Told.{told, one}
+use Rattle.stock.specs.Moved.{IsPlace}
+use Rattle.stock.specs.Told.{told, one}
 use Rattle.stock.specs.declared.steps.Change.{Change}
 use Rattle.rules.specs.Lasting.{AreMarked, HaveRows, is_replaced}
 use Rattle.rules.proofs.Lasts.{row_there, marks_same, marks_more, mark_says, other_kind, other_lasts}

@@ -1,7 +1,7 @@
 use Rattle.std.proofs.Common.{[], ◌∷◌, ◌∙◌, sym, ap, subst}
 use Rattle.std.specs.Prelude.{Option}
 use Rattle.profile.specs.Events.{Enrolment}
-use Rattle.goods.specs.Pages.{PageFacts}
+use Rattle.stock.specs.Pages.{PageFacts}
 use Rattle.stock.specs.Shows.{Shows}
 use Rattle.rules.specs.Played.{IsBefore}
 use Rattle.rules.proofs.Plays.{enrolled}

@@ -6,8 +6,8 @@ use Rattle.store.proofs.Entries.{held_all}
 use Rattle.store.proofs.replaying.page_behind.Goals as goal
 
 pub returns-clause-page : goal.returns-clause-page
-returns-clause-page c = λ L behind is legal.
-    let inv = c.loop-entry.invariant.page L behind is legal in
+returns-clause-page c = λ L later is legal.
+    let inv = c.loop-entry.invariant.page L later is legal in
     let whole : c.loop-entry.entry-index ≡ length c.args.entries.now = omega (arith, c.loop-entry-test.false, c.loop-entry.auto.entry-index-end) in
     held_all L c.args.entries.now c.args.who.now c.loop-entry.page is
     (subst (λ n. IsHeldFor c.loop-entry.page (standing (own (take n L) c.args.who.now))) whole inv)

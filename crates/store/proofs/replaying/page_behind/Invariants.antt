@@ -10,6 +10,6 @@ use Rattle.store.proofs.replaying.page_behind.Given as goal
 
 abbrev pub invariant-loop-entry : goal.invariant-loop-entry
 invariant-loop-entry l = record {
-  page : (L behind : List Entry) → l.entries ≡ all_written L → IsLegal Two l.warehouse (L ++ behind) → IsHeldFor l.page (standing (own (take l.entry-index L) l.who));
+  page : (L later : List Entry) → l.entries ≡ all_written L → IsLegal Two l.warehouse (L ++ later) → IsHeldFor l.page (standing (own (take l.entry-index L) l.who));
   rest : IsHeldAtRest l.page;
 }

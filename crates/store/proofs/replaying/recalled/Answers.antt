@@ -4,7 +4,7 @@ use Rattle.profile.specs.declared.rules.Rules.TheVariants.{Two}
 use Rattle.profile.specs.Accepted.{IsLegal}
 use Rattle.rules.specs.Written.{Written}
 use Rattle.rules.specs.Decided.{IsRecalled}
-use Rattle.goods.proofs.Finds.{find_at}
+use Rattle.rules.proofs.Finds.{find_at}
 use Rattle.store.specs.Replayed.{is_under, all_written}
 use Rattle.store.proofs.Entries.{there_on, written_take, recalled_none, recalled_at_place, is_recalled}
 use Rattle.store.proofs.replaying.recalled.Goals as goal

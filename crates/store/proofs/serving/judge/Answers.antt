@@ -1,5 +1,4 @@
-use Rattle.std.proofs.Common.{None, Some, IfOk, refl, sym, subst}
-use Rattle.std.proofs.lemmas.Result.{IfErr-weaker}
+use Rattle.std.proofs.Common.{None, Some, IfOk, refl, rules, sym, subst}
 use Rattle.profile.specs.declared.rules.Rules.TheVariants.{Two}
 use Rattle.profile.specs.Accepted.{IsLegal, own_of}
 use Rattle.profile.specs.Decision.{standing, recalled, reply_by}
@@ -8,7 +7,7 @@ use Rattle.profile.specs.Register.{command_mark}
 use Rattle.rules.specs.Asked.{asked}
 use Rattle.rules.specs.Decided.{IsRecalled, IsReply}
 use Rattle.store.specs.Held.{IsDecided, IsHeld}
-use Rattle.store.proofs.Changes.{clean_before, query_after}
+use Rattle.store.proofs.Changes.{clean_before, query_on, unchanged_refl}
 use Rattle.store.proofs.Replies.{decided, decided_again, named_key, owner_none, owner_some, recalled_at, recalled_none, stands_from}
 use Rattle.store.proofs.serving.judge.Goals as goal
 
@@ -52,8 +51,8 @@ returns-in-None-clause-decision g c = λ clean L keeps legal.
     let new = g.K.Keeper.standing c.judge_new.new.keeper in
     let asking = asked c.args.command.now in
     let names = c.in-Some.ensures in
-    let same = c.in_ok-known.ensures.same in
-    let early = clean_before mid new c.judge_new.ensures.same.goes clean in
+    let same = c.in_ok-known.ensures.query.same in
+    let early = clean_before mid new c.judge_new.ensures.query.same.goes clean in
     let there = recalled_at c.in_ok-known.field-0 (sym same.goes.warehouse) (named_key asking _ _ names) (owner_some L asking _ _ names)
     (c.in_ok-known.ensures.entry early L keeps legal) in
     let unknown = recalled_none (recalled mid.warehouse (command_mark asking) (own_of L asking))
@@ -61,7 +60,15 @@ returns-in-None-clause-decision g c = λ clean L keeps legal.
     subst (λ W. IfOk c.judge_new.result (IsDecided c.args.rules W L asking c.args.moment)) same.goes.warehouse
     (c.judge_new.ensures.decision clean L (same.keeps early L keeps) (subst (λ W. IsLegal Two W L) (sym same.goes.warehouse) legal) unknown)
 
-pub returns-in-None-clause-fault : goal.returns-in-None-clause-fault
-returns-in-None-clause-fault g c = IfErr-weaker c.judge_new.result _ _
-    (query_after (g.K.Keeper.standing c.args.keeper.now) (g.K.Keeper.standing c.known.new.self) (g.K.Keeper.standing c.judge_new.new.keeper)
-    c.in_ok-known.ensures.same c.judge_new.ensures.same.goes) c.judge_new.ensures.fault
+pub returns-in-None-clause-query : goal.returns-in-None-clause-query
+returns-in-None-clause-query g c = query_on (g.K.Keeper.standing c.args.keeper.now) (g.K.Keeper.standing c.known.new.self) (g.K.Keeper.standing c.judge_new.new.keeper)
+    c.in_ok-known.ensures.query.same c.judge_new.result c.judge_new.ensures.query
+
+pub returns-in_err-decide-clause-query : goal.returns-in_err-decide-clause-query
+returns-in_err-decide-clause-query g c = record { same = unchanged_refl (g.K.Keeper.standing c.args.keeper.now); fault = search rules }
+
+pub returns-in_err-known-clause-query : goal.returns-in_err-known-clause-query
+returns-in_err-known-clause-query g c = record { same = c.in_err-known.ensures.query.same; fault = search rules }
+
+pub returns-in_err-decide_again-in-Some-2-clause-query : goal.returns-in_err-decide_again-in-Some-2-clause-query
+returns-in_err-decide_again-in-Some-2-clause-query g c = record { same = c.in_ok-known.ensures.query.same; fault = search rules }

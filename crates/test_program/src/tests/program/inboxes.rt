@@ -153,3 +153,25 @@ fn links_are_replaced(rt: HostRuntime) -> Result<(), Fail> {
     assert!(rt; !fs::exists(&rt, "inbox/a.x12.new")? && !fs::exists(&rt, "inbox/b.x12.new")?);
     Ok(())
 }
+
+// A name of 252 bytes.
+const LONG: &str = "\
+aaaaaaaaaaaaaaaaaaaaaaaaaaaaaaaaaaaaaaaaaaaaaaaaaaaaaaaaaaaaaaaaaaaaaaaaaaaaaaaa\
+bbbbbbbbbbbbbbbbbbbbbbbbbbbbbbbbbbbbbbbbbbbbbbbbbbbbbbbbbbbbbbbbbbbbbbbbbbbbbbbb\
+cccccccccccccccccccccccccccccccccccccccccccccccccccccccccccccccccccccccccccccccc\
+dddddddd.x12";
+
+// An interchange that can't be answered, since its name is too long, is told and not taken.
+#[test]
+fn an_interchange_with_too_long_a_name_is_told(rt: HostRuntime) -> Result<(), Fail> {
+    fs::create_dir(&rt, "long")?;
+    fs::write(&rt, &["long/", LONG].concat(rt.alloc())?, ADVICE)?;
+    let told = [LONG, " passed over: its name has more than 251 bytes\n"].concat(rt.alloc())?;
+    let wanted = Wanted {
+        printed: "",
+        told: &told,
+        status: 1,
+    };
+    let script = "init ZZ-WHSE1\nenrol ZZ-ACME --at 2025-03-04T09:15\ntake long";
+    run_text(&rt, script)?.compare("a long name", &wanted)
+}

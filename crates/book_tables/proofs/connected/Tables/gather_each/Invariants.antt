@@ -3,7 +3,7 @@ use Rattle.sqlite.specs.Held.{state}
 use Rattle.sqlite.specs.State.{HasCleanDisk}
 use Rattle.profile.specs.Header.{Who}
 use Rattle.profile.specs.Register.{Entry}
-use Rattle.stock.specs.Parts.{Named}
+use Rattle.rules.specs.Parts.{Named}
 use Rattle.book_statements.specs.Asking.{Went}
 use Rattle.book_statements.specs.Exits.{StandsWhileOpen}
 use Rattle.book_tables.specs.Needed.{part_for, with_texts}

@@ -4,8 +4,8 @@ use Rattle.sqlite.specs.Held.{state}
 use Rattle.profile.specs.Need.{items_in, items_of}
 use Rattle.profile.specs.Page.{PageAdvice, PageOrder, page_of}
 use Rattle.profile.specs.Register.{own}
-use Rattle.goods.specs.Pages.{PageFacts}
-use Rattle.stock.specs.Parts.{Named}
+use Rattle.rules.specs.Pages.{PageFacts}
+use Rattle.rules.specs.Parts.{Named}
 use Rattle.book_tables.specs.Needed.{none_named, part_for, with_numbers, with_texts}
 use Rattle.book_tables.specs.declared.needed.Sought.TheVariants.{Advice, Order, Lots}
 use Rattle.book_tables.proofs.AskedLater.{stands_later, clean_before}

@@ -8,7 +8,7 @@ use Rattle.store.specs.declared.fault.Fault.{Fault}
 use Rattle.store.specs.declared.fault.Fault.TheVariants.{OutOfMemory}
 use Rattle.sqlite.specs.Held.{state}
 use Rattle.sqlite.specs.Order.{Row}
-use Rattle.goods.specs.Keyed.{key_before, rises_by, row_key}
+use Rattle.rules.specs.Keyed.{key_before, rises_by, row_key}
 use Rattle.book_statements.specs.Dated.{date_shown, dates_of}
 use Rattle.book_tables.specs.Showing.{lot_shown}
 use Rattle.book_tables.proofs.AskedLater.{stands_later, clean_before}

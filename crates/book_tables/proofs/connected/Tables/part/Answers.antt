@@ -3,9 +3,9 @@ use Rattle.sqlite.specs.Held.{state}
 use Rattle.profile.specs.Header.{Who}
 use Rattle.profile.specs.Page.{page_of}
 use Rattle.profile.specs.Register.{Entry, own}
-use Rattle.goods.specs.Pages.{IsSound, PageFacts}
-use Rattle.stock.specs.Puts.{nothing_yet}
-use Rattle.stock.proofs.Gathered.{nothing_part}
+use Rattle.rules.specs.Pages.{IsSound, PageFacts}
+use Rattle.rules.specs.Puts.{nothing_yet}
+use Rattle.rules.proofs.Gathered.{nothing_part}
 use Rattle.rules.specs.Naming.{facts_of}
 use Rattle.book_tables.specs.Needed.{none_named, part_for}
 use Rattle.book_tables.proofs.AskedLater.{stands_later, clean_before}

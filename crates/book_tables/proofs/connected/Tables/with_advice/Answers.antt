@@ -1,9 +1,9 @@
 use Rattle.std.proofs.Common.{◌≡◌, ◌∙◌, ap, sym, Some, None}
 use Rattle.profile.specs.Page.{page_of}
 use Rattle.profile.specs.Register.{own}
-use Rattle.goods.specs.Pages.{PageFacts, advice_at}
-use Rattle.goods.specs.Keyed.{put_advice}
-use Rattle.stock.proofs.Gathered.{advice_absent, advice_part}
+use Rattle.rules.specs.Pages.{PageFacts, advice_at}
+use Rattle.rules.specs.Keyed.{put_advice}
+use Rattle.rules.proofs.Gathered.{advice_absent, advice_part}
 use Rattle.rules.specs.Naming.{facts_of}
 use Rattle.rules.proofs.Defines.{page_in_order}
 use Rattle.book_tables.proofs.connected.Tables.with_advice.Goals as goal

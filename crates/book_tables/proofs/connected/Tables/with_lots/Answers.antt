@@ -3,10 +3,10 @@ use Rattle.std.specs.Prelude.{fold}
 use Rattle.profile.specs.Page.{page_of}
 use Rattle.profile.specs.Register.{own}
 use Rattle.profile.specs.Rows.{LotRow}
-use Rattle.goods.specs.Pages.{PageFacts}
-use Rattle.stock.specs.Parts.{part_of}
-use Rattle.goods.specs.Keyed.{put_row}
-use Rattle.stock.proofs.Gathered.{lots_part}
+use Rattle.rules.specs.Pages.{PageFacts}
+use Rattle.rules.specs.Parts.{part_of}
+use Rattle.rules.specs.Keyed.{put_row}
+use Rattle.rules.proofs.Gathered.{lots_part}
 use Rattle.rules.specs.Naming.{facts_of}
 use Rattle.rules.proofs.Defines.{page_in_order}
 use Rattle.book_tables.proofs.connected.Tables.with_lots.Goals as goal

@@ -1,9 +1,9 @@
 use Rattle.std.proofs.Common.{◌≡◌, ◌∙◌, ap, sym, Some, None}
 use Rattle.profile.specs.Page.{page_of}
 use Rattle.profile.specs.Register.{own}
-use Rattle.goods.specs.Pages.{PageFacts, order_at}
-use Rattle.goods.specs.Keyed.{put_order}
-use Rattle.stock.proofs.Gathered.{order_absent, order_part}
+use Rattle.rules.specs.Pages.{PageFacts, order_at}
+use Rattle.rules.specs.Keyed.{put_order}
+use Rattle.rules.proofs.Gathered.{order_absent, order_part}
 use Rattle.rules.specs.Naming.{facts_of}
 use Rattle.rules.proofs.Defines.{page_in_order}
 use Rattle.book_tables.proofs.connected.Tables.with_order.Goals as goal

@@ -14,36 +14,21 @@ use Rattle.book_tables.proofs.AskedLater.{clean_before}
 use Rattle.book_tables.proofs.Queries.{went_fails, went_of, went_on}
 use Rattle.books.specs.Opened.{Opened, standing_of}
 use Rattle.books.specs.Verified.{IsCopy, Stays}
-use Rattle.books.proofs.AskedBooks.{asked_faults, asked_unchanged}
+use Rattle.books.proofs.AskedBooks.{asked_query, asked_unchanged}
 use Rattle.books.proofs.GivenLemmas.{never_both}
 use Rattle.books.proofs.book.Book.check_by.Goals as goal
 
-pub returns-in_err-found-clause-fault : goal.returns-in_err-found-clause-fault
-returns-in_err-found-clause-fault g c = rw (← c.self.view_is) (
+pub returns-in_err-found-clause-query : goal.returns-in_err-found-clause-query
+returns-in_err-found-clause-query g c = rw (← c.self.view_is) (
     let b = c.self.inside in
     let m = c.replayed.new.tables in
     let r = c.from_residual.result in
     let same : IsErrAnd r (λ (f : Fault). f ≡ c.in_err-found.field-0.0) = search rules in
     let went = went_fails g.S.Store b.tables m c.in_err-found.field-0.0 r same c.in_err-found.ensures.went in
-    asked_faults r (state g.S.Store b.tables.conn) (state g.S.Store m.conn) b.warehouse b.entries b.tables.refused m.refused b.shut went.fault)
+    asked_query r (state g.S.Store b.tables.conn) (state g.S.Store m.conn) b.warehouse b.entries b.tables.refused m.refused b.shut went.counts went.left went.fault)
 
-pub returns-in_err-found-clause-same : goal.returns-in_err-found-clause-same
-returns-in_err-found-clause-same g c = rw (← c.self.view_is) (
-    let b = c.self.inside in
-    let m = c.replayed.new.tables in
-    let went = c.in_err-found.ensures.went in
-    asked_unchanged (state g.S.Store b.tables.conn) (state g.S.Store m.conn) b.warehouse b.entries b.tables.refused m.refused b.shut went.counts went.left)
-
-pub returns-in_err-same_tables-clause-same : goal.returns-in_err-same_tables-clause-same
-returns-in_err-same_tables-clause-same g c = rw (← c.self.view_is) (
-    let b = c.self.inside in
-    let m = c.replayed.new.tables in
-    let n = c.same_tables.new.self in
-    let both = went_on g.S.Store b.tables m n c.in_ok-found.found _ c.in_ok-found.ensures.went (went_of g.S.Store m n _ c.in_err-same_tables.ensures.asked) in
-    asked_unchanged (state g.S.Store b.tables.conn) (state g.S.Store n.conn) b.warehouse b.entries b.tables.refused n.refused b.shut both.counts both.left)
-
-pub returns-in_err-same_tables-clause-fault : goal.returns-in_err-same_tables-clause-fault
-returns-in_err-same_tables-clause-fault g c = rw (← c.self.view_is) (
+pub returns-in_err-same_tables-clause-query : goal.returns-in_err-same_tables-clause-query
+returns-in_err-same_tables-clause-query g c = rw (← c.self.view_is) (
     let b = c.self.inside in
     let m = c.replayed.new.tables in
     let n = c.same_tables.new.self in
@@ -51,23 +36,15 @@ returns-in_err-same_tables-clause-fault g c = rw (← c.self.view_is) (
     let same : IsErrAnd r (λ (f : Fault). f ≡ c.in_err-same_tables.field-0.0) = search rules in
     let both = went_on g.S.Store b.tables m n c.in_ok-found.found r c.in_ok-found.ensures.went
     (went_fails g.S.Store m n c.in_err-same_tables.field-0.0 r same (went_of g.S.Store m n _ c.in_err-same_tables.ensures.asked)) in
-    asked_faults r (state g.S.Store b.tables.conn) (state g.S.Store n.conn) b.warehouse b.entries b.tables.refused n.refused b.shut both.fault)
+    asked_query r (state g.S.Store b.tables.conn) (state g.S.Store n.conn) b.warehouse b.entries b.tables.refused n.refused b.shut both.counts both.left both.fault)
 
-pub returns-then-branch-clause-same : goal.returns-then-branch-clause-same
-returns-then-branch-clause-same g c = rw (← c.self.view_is) (
+pub returns-then-branch-clause-query : goal.returns-then-branch-clause-query
+returns-then-branch-clause-query g c = rw (← c.self.view_is) (
     let b = c.self.inside in
     let m = c.replayed.new.tables in
     let n = c.same_tables.new.self in
     let both = went_on g.S.Store b.tables m n c.in_ok-found.found _ c.in_ok-found.ensures.went (went_of g.S.Store m n _ c.in_ok-same_tables.ensures.asked) in
-    asked_unchanged (state g.S.Store b.tables.conn) (state g.S.Store n.conn) b.warehouse b.entries b.tables.refused n.refused b.shut both.counts both.left)
-
-pub returns-clause-same : goal.returns-clause-same
-returns-clause-same g c = rw (← c.self.view_is) (
-    let b = c.self.inside in
-    let m = c.replayed.new.tables in
-    let n = c.same_tables.new.self in
-    let both = went_on g.S.Store b.tables m n c.in_ok-found.found _ c.in_ok-found.ensures.went (went_of g.S.Store m n _ c.in_ok-same_tables.ensures.asked) in
-    asked_unchanged (state g.S.Store b.tables.conn) (state g.S.Store n.conn) b.warehouse b.entries b.tables.refused n.refused b.shut both.counts both.left)
+    record { same = asked_unchanged (state g.S.Store b.tables.conn) (state g.S.Store n.conn) b.warehouse b.entries b.tables.refused n.refused b.shut both.counts both.left; fault = tt })
 
 pub returns-then-branch-clause-stands : goal.returns-then-branch-clause-stands
 returns-then-branch-clause-stands g c = rw (← c.self.view_is) (λ clean laid are.
@@ -94,29 +71,37 @@ returns-then-branch-clause-stands g c = rw (← c.self.view_is) (λ clean laid a
     let now = its.stands clean clean' laid' (subst (λ (d : Database). AreTables d) (sym same) (are (before.was_open opened))) W copy.register stood c.if-branch.true in
     (before.was_open opened, record { register = copy.register; long = sym kept.count; stands = subst (Stands W copy.register) same now }))
 
-pub returns-clause-fault : goal.returns-clause-fault
-returns-clause-fault g c = rw (← c.self.view_is) (record {
-  store = λ e. absurd (let d : ◌≡◌ {A = Fault} NotThisBook Store = e in cc);
-  reopen = λ e. absurd (let d : ◌≡◌ {A = Fault} NotThisBook Reopen = e in cc);
-  device = λ e. let d : ◌≡◌ {A = Fault} NotThisBook Device = e in cc;
-  not_this = λ e clean L kept.
+pub returns-clause-query : goal.returns-clause-query
+returns-clause-query g c = rw (← c.self.view_is) (record {
+  same =
       let b = c.self.inside in
-      let W = b.warehouse in
-      let mid = state g.S.Store c.replayed.new.tables.conn in
-      let new = state g.S.Store c.same_tables.new.self.conn in
-      let other = state g.C.Store c.copy.inside.tables.conn in
-      let its = c.in_ok-same_tables.ensures in
-      let house : c.args.copy.warehouse ≡ W = c.requires.warehouse ∙ ap (λ (o : Opened _). o.warehouse) (sym c.self.view_is) in
-      let found : Stays b.entries mid W (standing_of g.C.Store c.in-Some.copy) L =
-      subst (λ V. Stays b.entries mid V (standing_of g.C.Store c.in-Some.copy) L) house
-      (subst (λ o. IsSomeAnd o (λ x. Stays b.entries mid c.args.copy.warehouse (standing_of g.C.Store x) L)) c.in-Some.is
-      (c.in_ok-found.ensures.whole (clean_before mid new its.asked.left clean) L kept.count
-      (subst (λ V. StandsWhileOpen (state g.S.Store b.tables.conn) V L) (sym house) kept.stands))) in
-      let copy = subst (λ x. Stays b.entries mid W (standing_of g.C.Store x) L) (sym c.copy.view_is) found in
-      let usable = copy.usable in
-      let keeps = usable.keeps in
-      let whole : take b.entries L ≡ L = take_all b.entries L (omega (arith, kept.count)) in
-      let stood : StandsWhileOpen other W L =
-      subst (λ V. StandsWhileOpen other V L) copy.warehouse (subst (StandsWhileOpen other c.copy.inside.warehouse) whole keeps.stands) in
-      never_both c.in_ok-same_tables.field-0 (its.same clean (c.requires.clean c.same_tables.new.other.conn) W L stood copy.stands) c.if-branch.false;
+      let m = c.replayed.new.tables in
+      let n = c.same_tables.new.self in
+      let both = went_on g.S.Store b.tables m n c.in_ok-found.found _ c.in_ok-found.ensures.went (went_of g.S.Store m n _ c.in_ok-same_tables.ensures.asked) in
+      asked_unchanged (state g.S.Store b.tables.conn) (state g.S.Store n.conn) b.warehouse b.entries b.tables.refused n.refused b.shut both.counts both.left;
+  fault = record {
+    store = λ e. absurd (let d : ◌≡◌ {A = Fault} NotThisBook Store = e in cc);
+    reopen = λ e. absurd (let d : ◌≡◌ {A = Fault} NotThisBook Reopen = e in cc);
+    device = λ e. let d : ◌≡◌ {A = Fault} NotThisBook Device = e in cc;
+    not_this = λ e clean L kept.
+        let b = c.self.inside in
+        let W = b.warehouse in
+        let mid = state g.S.Store c.replayed.new.tables.conn in
+        let new = state g.S.Store c.same_tables.new.self.conn in
+        let other = state g.C.Store c.copy.inside.tables.conn in
+        let its = c.in_ok-same_tables.ensures in
+        let house : c.args.copy.warehouse ≡ W = c.requires.warehouse ∙ ap (λ (o : Opened _). o.warehouse) (sym c.self.view_is) in
+        let found : Stays b.entries mid W (standing_of g.C.Store c.in-Some.copy) L =
+        subst (λ V. Stays b.entries mid V (standing_of g.C.Store c.in-Some.copy) L) house
+        (subst (λ o. IsSomeAnd o (λ x. Stays b.entries mid c.args.copy.warehouse (standing_of g.C.Store x) L)) c.in-Some.is
+        (c.in_ok-found.ensures.whole (clean_before mid new its.asked.left clean) L kept.count
+        (subst (λ V. StandsWhileOpen (state g.S.Store b.tables.conn) V L) (sym house) kept.stands))) in
+        let copy = subst (λ x. Stays b.entries mid W (standing_of g.C.Store x) L) (sym c.copy.view_is) found in
+        let usable = copy.usable in
+        let keeps = usable.keeps in
+        let whole : take b.entries L ≡ L = take_all b.entries L (omega (arith, kept.count)) in
+        let stood : StandsWhileOpen other W L =
+        subst (λ V. StandsWhileOpen other V L) copy.warehouse (subst (StandsWhileOpen other c.copy.inside.warehouse) whole keeps.stands) in
+        never_both c.in_ok-same_tables.field-0 (its.same clean (c.requires.clean c.same_tables.new.other.conn) W L stood copy.stands) c.if-branch.false;
+  };
 })

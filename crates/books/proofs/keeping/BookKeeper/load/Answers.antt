@@ -3,9 +3,9 @@ use Rattle.std.proofs.lemmas.Result.{IfOk-weaker}
 use Rattle.profile.specs.Decision.{standing}
 use Rattle.profile.specs.Register.{own}
 use Rattle.sqlite.specs.Held.{state}
-use Rattle.goods.specs.Pages.{PageFacts}
+use Rattle.rules.specs.Pages.{PageFacts}
 use Rattle.store.specs.Held.{IsHeld}
-use Rattle.books.proofs.AskedBooks.{asked_faults, asked_unchanged}
+use Rattle.books.proofs.AskedBooks.{asked_query}
 use Rattle.book_tables.proofs.NeededParts.{held_needed}
 use Rattle.books.proofs.keeping.BookKeeper.load.Goals as goal
 
@@ -18,12 +18,7 @@ returns-clause-page g c = rw (← c.self.view_is) (λ clean L k legal.
 pub returns-clause-part : goal.returns-clause-part
 returns-clause-part g c = rw (← c.self.view_is) (λ clean L k. c.page_for.ensures.part clean c.self.inside.warehouse L k.stands)
 
-pub returns-clause-same : goal.returns-clause-same
-returns-clause-same g c = rw (← c.self.view_is) (
+pub returns-clause-query : goal.returns-clause-query
+returns-clause-query g c = rw (← c.self.view_is) (
     let b = c.self.inside in
-    asked_unchanged (state g.S.Store b.tables.conn) (state g.S.Store c.page_for.new.self.conn) b.warehouse b.entries b.tables.refused c.page_for.new.self.refused b.shut c.page_for.ensures.asked.counts c.page_for.ensures.asked.left)
-
-pub returns-clause-fault : goal.returns-clause-fault
-returns-clause-fault g c = rw (← c.self.view_is) (
-    let b = c.self.inside in
-    asked_faults c.page_for.result (state g.S.Store b.tables.conn) (state g.S.Store c.page_for.new.self.conn) b.warehouse b.entries b.tables.refused c.page_for.new.self.refused b.shut c.page_for.ensures.asked.fault)
+    asked_query c.page_for.result (state g.S.Store b.tables.conn) (state g.S.Store c.page_for.new.self.conn) b.warehouse b.entries b.tables.refused c.page_for.new.self.refused b.shut c.page_for.ensures.asked.counts c.page_for.ensures.asked.left c.page_for.ensures.asked.fault)

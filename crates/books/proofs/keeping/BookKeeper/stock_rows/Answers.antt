@@ -1,16 +1,11 @@
 use Rattle.sqlite.specs.Held.{state}
-use Rattle.books.proofs.AskedBooks.{asked_faults, asked_unchanged}
+use Rattle.books.proofs.AskedBooks.{asked_query}
 use Rattle.books.proofs.keeping.BookKeeper.stock_rows.Goals as goal
 
 pub returns-clause-rows : goal.returns-clause-rows
 returns-clause-rows g c = rw (← c.self.view_is) (λ clean L k legal. c.stock_of.ensures.rows clean c.self.inside.warehouse L k.stands)
 
-pub returns-clause-same : goal.returns-clause-same
-returns-clause-same g c = rw (← c.self.view_is) (
+pub returns-clause-query : goal.returns-clause-query
+returns-clause-query g c = rw (← c.self.view_is) (
     let b = c.self.inside in
-    asked_unchanged (state g.S.Store b.tables.conn) (state g.S.Store c.stock_of.new.self.conn) b.warehouse b.entries b.tables.refused c.stock_of.new.self.refused b.shut c.stock_of.ensures.asked.counts c.stock_of.ensures.asked.left)
-
-pub returns-clause-fault : goal.returns-clause-fault
-returns-clause-fault g c = rw (← c.self.view_is) (
-    let b = c.self.inside in
-    asked_faults c.stock_of.result (state g.S.Store b.tables.conn) (state g.S.Store c.stock_of.new.self.conn) b.warehouse b.entries b.tables.refused c.stock_of.new.self.refused b.shut c.stock_of.ensures.asked.fault)
+    asked_query c.stock_of.result (state g.S.Store b.tables.conn) (state g.S.Store c.stock_of.new.self.conn) b.warehouse b.entries b.tables.refused c.stock_of.new.self.refused b.shut c.stock_of.ensures.asked.counts c.stock_of.ensures.asked.left c.stock_of.ensures.asked.fault)
