@@ -4,9 +4,9 @@ printed, what is told on standard error and the exit status, byte for byte. comp
 part of the gate.
 
 Usage: bench/goods.py [--days N] [--seed N] [--batch] [PROGRAM]
-       (default: 300 days, crates/whx12/out/whx12, which `rt run` in that folder leaves; some 0.06 s a day)
+       (default: 300 days, crates/whx12/out/whx12, which `rt run` in that folder leaves; some 0.2 s a day)
        bench/goods.py --dry N [--seed N]
-       (N days through the second reading alone: prints how often they made what, by name; some 0.06 s a day too)
+       (N days through the second reading alone: prints how often they made what, by name; some 0.06 s a day)
 
 A day is played by `script`, over a book in memory; with --batch by `init` and then `batch`, over a book in a file, and `verify` must say ok
 after it. It has 25 to 105 commands of four depositors and a stranger. Two of the four have one id and two qualifiers, one is the warehouse.
