@@ -273,7 +273,7 @@ def measure(program, statements, depositors, entries, folder):
     taken, known = of_server(program, book, work, folder)
     c_opening, c_taken, c_known, check = of_sqlite(statements, book, work, folder)
     for name, rows in rows_of(f"{folder}/taken.book").items():
-        same(f"rows of {name} behind the commands", rows, rows_of(f"{folder}/stated.book")[name])
+        same(f"rows of {name} after the commands", rows, rows_of(f"{folder}/stated.book")[name])
     size = os.path.getsize(book)
     os.remove(book)
     print(f"{entries:8,d} {depositors:4d} {size / 1e6:7.1f} | {opening:8.3f} {COMMANDS / taken:8.0f} {COMMANDS / known:8.0f} {peak:7.1f} "

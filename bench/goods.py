@@ -198,7 +198,7 @@ class Day(compare.Day):
         return [[b"N9", b"LT", lot] + dice.choice([[], [], [b"x"]])] if dice.random() < 0.2 else []
 
     def order(self, place):
-        """An order of few items, now and then of one twice, or with a date behind a lot, which an order can't have."""
+        """An order of few items, now and then of one twice, or with a date after a lot, which an order can't have."""
         dice = self.r
         items = dice.sample(ITEMS, dice.randint(1, 4)) + ([dice.choice(ITEMS)] if dice.random() < 0.08 else [])
         lines = [(dice.choice([1, 2, 3, 6, 8, 12, 50, 120, 100001, 999999]), item, self.pin(dice.choice(LOTS))) for item in items]
@@ -589,7 +589,7 @@ def play_all(program, days, seed, is_batch):
 
 
 def option(words, name, default):
-    """The number behind a word."""
+    """The number after a word."""
     return int(words[words.index(name) + 1]) if name in words else default
 
 

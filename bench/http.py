@@ -161,7 +161,7 @@ def load(address, folder):
         file.write(STOCK)
     port = free_port()
     python = subprocess.Popen([sys.executable, "-m", "http.server", "--bind", "127.0.0.1", "--directory", folder, str(port)],
-                              stdout=subprocess.DEVNULL, stderr=subprocess.DEVNULL)
+                              cwd=folder, stdout=subprocess.DEVNULL, stderr=subprocess.DEVNULL)
     try:
         wait_for(f"127.0.0.1:{port}")
         measure("Python's http.server, a file", f"127.0.0.1:{port}", b"GET /stock HTTP/1.1\r\nHost: localhost\r\n\r\n", ROUNDS)

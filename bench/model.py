@@ -180,7 +180,7 @@ SET_IDS = {name: ids_of(word) for name, word in WORDS[1].items()}
 
 
 def steps(rests, word):
-    """What may still come behind a word, for each way in which it goes on."""
+    """What may still come after a word, for each way in which it goes on."""
     found = set()
     for rest in rests:
         found |= step(rest, word)
@@ -764,7 +764,7 @@ class Book:
 
 
 def unless_open(found, is_closed, unknown):
-    """The refusal of an act on what isn't there, or the one behind it on what is closed; or None."""
+    """The refusal of an act on what isn't there, or the one after it on what is closed; or None."""
     return unknown if found is None else unknown + 1 if is_closed else None
 
 

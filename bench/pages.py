@@ -6,7 +6,7 @@ Usage: bench/pages.py [PROGRAM]     (default: crates/whx12/out/whx12, which `rt 
 A page of so many pairs of item and lot is made in a book in memory by `script`, by advices of up to 99 lines. Then one interchange of a
 single 943 of one line is handed in, or, in another run, one of 1,000 such sets, each a step of its own over the page. The 999 steps between the
 two take the difference of the two processor times, since all else is the same. Lines name pairs that the page has, or new pairs that
-come behind all others or before them in the list of rows. Each run is made several times, in turn, and the least times count.
+come after all others or before them in the list of rows. Each run is made several times, in turn, and the least times count.
 """
 import os
 import resource

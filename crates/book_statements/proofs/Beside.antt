@@ -64,7 +64,8 @@ pub empty_alone : (schema : Schema) (db : Trees) → schema ≡ layout → AllBy
 unfolding everything
 empty_alone schema db is empty = subst (λ (s : Schema). AllByRecursion (λ (t : Table). placed s db t.tree ≡ []) (drop 1 book_tables)) (sym is) empty
 
--- A table of the house's own, with its index, is one that may stand there: after the two tables of version 2, and before them.
+-- A table of the house's own, with its index, is one that may stand there: after the two tables of
+-- version 2, and before them.
 abbrev note_at : ℕ → Table
 note_at tree = keyed (codes "note") tree (1 ∷ 2 ∷ []) [] (text (codes "who") ∷ number (codes "line") ∷ text (codes "said") ∷ [])
 
@@ -96,7 +97,8 @@ notes_may_stand_before = record {
   apart = record { indexes = (refl, (refl, (refl, (refl, (refl, (refl, (refl, (refl, (refl, (refl, (refl, tt))))))))))); references = refl };
 }
 
--- One with a foreign key to `stock` isn't: what the book writes would act on its rows, or be refused for them.
+-- One with a foreign key to `stock` isn't: what the book writes would act on its rows, or be
+-- refused for them.
 abbrev to_stock : Reference
 to_stock = record {
   columns = 1 ∷ 2 ∷ 3 ∷ [];

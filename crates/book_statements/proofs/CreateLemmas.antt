@@ -153,7 +153,8 @@ creates_any sql table old new count meant defined lone h =
     let made = creates sql before (created before table) table old new count refl (ap command_of known ∙ is.0, ap (statement_of sql) known ∙ is.3) (subst IsPlain (sym known) (is.1, is.2)) defined refl lone h in
     (made.0, made.1, made.2, is.4)
 
--- the two tables that version 2 has come to those of version 1, whatever these hold and whatever stands after them
+-- the two tables that version 2 has come to those of version 1, whatever these hold and whatever
+-- stands after them
 pub widened : (a b c : State) (m n : ℕ) → Executes entry_rules_text [] a b (Ok m) → Executes lot_expiry_text [] b c (Ok n) → Widens a.now c.now
 widened a b c m n p q f was =
     let lies = was.schema in

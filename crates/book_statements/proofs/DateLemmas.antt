@@ -1,4 +1,5 @@
--- The dates that rows of lots have; and rows of lots and rows of dates that are walked together, where both stand by item and lot.
+-- The dates that rows of lots have; and rows of lots and rows of dates that are walked together,
+-- where both stand by item and lot.
 use Rattle.std.proofs.Common.{◌≡◌, ◌⊎◌, ◌∙◌, inl, inr, ℕ, zero, suc, Bool, true, false, ◌&&◌, List, [], ◌∷◌, ◌++◌, map, drop, None, Some, Option, bytes_eq, refl, sym, ap}
 use Rattle.std.specs.Prelude.{if◌then◌else◌, flat_map, option_to_list}
 use Rattle.std.specs.Cmp.Derive.{both_true}

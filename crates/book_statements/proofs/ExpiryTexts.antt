@@ -1,4 +1,5 @@
--- The text that puts a date into lot_expiry, under any schema in which the table stands with the index of its key.
+-- The text that puts a date into lot_expiry, under any schema in which the table stands with the
+-- index of its key.
 use Rattle.std.proofs.Common.{◌≡◌, codes, ℕ, pos, negsuc, List, [], ◌∷◌, length, refl, Some, None, Ok, false, ◌∙◌}
 use Rattle.std.proofs.Common.{sym, subst, ap, inl, inr, filter, cond, Bool, true, Option, ◌&&◌, ◌==◌, eq-eqb}
 use Rattle.std.proofs.lemmas.Bool.{cases_Bool}

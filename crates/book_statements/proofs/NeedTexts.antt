@@ -16,8 +16,8 @@ use Rattle.book_statements.specs.Layout.{Others, beside}
 use Rattle.book_statements.proofs.ShowingTexts.{rising}
 use Rattle.book_statements.proofs.Selects.{query_reads}
 
--- the rows of a table that begin with the first parameter and have the second in the column at a place, these columns of them, in
--- this order
+-- the rows of a table that begin with the first parameter and have the second in the column at a
+-- place, these columns of them, in this order
 abbrev pub under_at : ℕ → ℕ → List Term → List (Term × Key) → Query
 under_at at tree project order = record {
   from = inner tree end;

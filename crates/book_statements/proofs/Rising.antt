@@ -1,4 +1,5 @@
--- Rows in the order of their keys: what is mapped, numbered, or made of blocks that begin with their texts.
+-- Rows in the order of their keys: what is mapped, numbered, or made of blocks that begin with
+-- their texts.
 use Rattle.std.proofs.Common.{◌≡◌, ℕ, ◌+◌, ◌<◌, Bool, true, not, ◌&&◌, ◌||◌, List, [], ◌∷◌, ◌++◌, map, flat_map, refl, sym, ap, subst, ◌∙◌, inl, inr, arith}
 use Rattle.std.specs.Prelude.{nat_lt}
 use Rattle.std.specs.List.{list_all, enumerate_from}
@@ -72,13 +73,13 @@ module _ (key rest : TableRow → List Cell) (first : (t : List ℕ) (row : Tabl
   -- rows of a text before rows of texts after it
   block_rises : (t : List ℕ) (B C : List TableRow) → rises_by key_before rest B ≡ true → list_all (is_above t) C ≡ true → rises_by key_before key C ≡ true
       → rises_by key_before key (prefixed t B ++ C) ≡ true
-  block_rises t [] C own above behind = behind
-  block_rises t (b ∷ B) C own above behind =
+  block_rises t [] C own above back = back
+  block_rises t (b ∷ B) C own above back =
       let a = and_parts (list_all (λ (r : TableRow). key_before (rest b) (rest r)) B) (rises_by key_before rest B) own in
       let p : TableRow → Bool = λ (r : TableRow). key_before (key (Text t ∷ b)) (key r) in
       both (list_all p (prefixed t B ++ C)) (rises_by key_before key (prefixed t B ++ C))
       (list_all-append p (prefixed t B) C ∙ both (list_all p (prefixed t B)) (list_all p C) (before_own t b B ∙ a.0) (before_above t b C above))
-      (block_rises t B C a.1 above behind)
+      (block_rises t B C a.1 above back)
 
   pub blocks_rise : {X : Type 0} (name : X → List ℕ) (rows : X → List TableRow) (xs : List X) → rises_by comes_before name xs ≡ true → ((x : X) → Has xs x → rises_by key_before rest (rows x) ≡ true)
       → rises_by key_before key (blocks name rows xs) ≡ true

@@ -1,4 +1,5 @@
--- A SELECT of one table with columns, a WHERE and an ORDER BY of bare columns: its parts, each from the parts below it.
+-- A SELECT of one table with columns, a WHERE and an ORDER BY of bare columns: its parts, each from
+-- the parts below it.
 use Rattle.std.proofs.Common.{◌≡◌, ◌<◌, ℕ, suc, ◌+◌, pos, negsuc, List, [], ◌∷◌, ◌++◌, map, refl, Some, None, Option, Ok, true, false}
 use Rattle.std.proofs.Common.{ap, ◌&&◌, arith}
 use Rattle.std.specs.Prelude.{nat_le, find, ◌==◌, ◌^◌}
@@ -254,7 +255,8 @@ select_is schema text names stop s c parsed is =
     (is (small names + 0))) in
     (ap command_of (understood_is schema text _ whole), ap misses_table whole)
 
--- A table that is the first with its tree, which no computed table has, has the classes of its columns.
+-- A table that is the first with its tree, which no computed table has, has the classes of its
+-- columns.
 
 pub record IsOfTree (schema : Schema) (t : Table) : Type 0 where
   pub low : t.tree < 65536

@@ -48,7 +48,8 @@ pub insert_command : (schema : Schema) (at tree : ℕ) (base : ℕ) → StandsAt
 unfolding everything
 insert_command schema at tree base s = on_table_is schema at (entry_rules_at tree) s _ ∙ refl
 
--- what is planned of a parsed text whose command is known, and which asks for no time and gives nothing back
+-- what is planned of a parsed text whose command is known, and which asks for no time and gives
+-- nothing back
 pub planned_is : (schema : Schema) (p : Parsed) (c : Command) → timed schema p.formats p.statement ≡ [] → returning schema (small p.names + 0) p.statement
     ≡ Ok None
     → command schema p.formats (small p.names + 0) p.statement ≡ Ok c → planned schema p ≡ Ok ([], (c, None))

@@ -1,4 +1,5 @@
--- What the schema of a book of version 1 is once the two tables of version 2 stand after all that was there.
+-- What the schema of a book of version 1 is once the two tables of version 2 stand after all that
+-- was there.
 use Rattle.std.proofs.Common.{◌≡◌, ◌+◌, ◌<◌, codes, ℕ, zero, suc, List, [], ◌∷◌, ◌++◌, length, filter, not, ◌&&◌, ◌||◌, ◌==◌, Bool, true, false, Some, None, Option, refl, sym, ap, subst, ◌∙◌, inl, inr, arith, append-nil, eq-eqb}
 use Rattle.std.specs.Prelude.{option_map, option_and_then, is_some, slice_get, find}
 use Rattle.std.specs.List.{AllByRecursion, list_any, position_from}

@@ -3,8 +3,8 @@ use Rattle.std.proofs.Common.{◌≡◌, ◌⊎◌, ◌∙◌, inl, inr, Result,
 use Rattle.std.specs.Prelude.{IsErrAnd}
 use Rattle.sqlite.specs.State.{State, HasCleanDisk, Survives}
 use Rattle.sqlite.proofs.StateLemmas.{survives_then}
-use Rattle.store.specs.declared.fault.Fault.{Fault}
-use Rattle.store.specs.declared.fault.Fault.TheVariants.{OutOfMemory, Store}
+use Rattle.store.specs.Fault.{Fault}
+use Rattle.store.specs.Fault.TheVariants.{OutOfMemory, Store}
 use Rattle.book_statements.specs.declared.calls.Calls.{Calls}
 use Rattle.book_statements.specs.Limits.{Spends}
 use Rattle.book_statements.specs.Rises.{Rises}

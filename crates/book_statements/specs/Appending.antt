@@ -19,14 +19,18 @@ first_state d = codes "-"
 -- the row of a numbered entry's text
 abbrev pub sent_changes : Who → List Entry → Entry → List tables.Change
 sent_changes W L e =
-    if is_numbered e then tables.Puts (codes "outgoing") (outgoing_row e.who (new_out_row W (own L e.who) e)) ∷ [] else []
+    if is_numbered e
+    then tables.Puts (codes "outgoing") (outgoing_row e.who (new_out_row W (own L e.who) e)) ∷ []
+    else []
 
 -- the entry's row, that of its rules, and that
 abbrev pub entry_changes : Who → List Entry → Entry → List tables.Change
-entry_changes W L e = tables.Puts (codes "entry") (entry_row L e) ∷ tables.Puts (codes "entry_rules") (entry_rules_row L e) ∷ sent_changes W L e
+entry_changes W L e = tables.Puts (codes "entry") (entry_row L e)
+    ∷ tables.Puts (codes "entry_rules") (entry_rules_row L e) ∷ sent_changes W L e
 
--- what is given to be appended: the entry as it is written down after the register, under the next number, with the text that
--- goes out for it, and with changes that lead from the register's tables to those with the entry
+-- what is given to be appended: the entry as it is written down after the register, under the next
+-- number, with the text that goes out for it, and with changes that lead from the register's tables
+-- to those with the entry
 pub record Appends (W : Who) (L : List Entry) (e : Entry) (n : ℕ) (row : Written) (changes : List Change) (text : List ℕ) : Type 0 where
   pub next : n ≡ length L + 1
   pub entry : row ≡ written L e

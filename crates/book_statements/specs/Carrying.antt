@@ -1,4 +1,5 @@
--- A book of version 1 in SQLite: nine tables, and others after them; and what carrying it over makes of them.
+-- A book of version 1 in SQLite: nine tables, and others after them; and what carrying it over
+-- makes of them.
 use Rattle.std.specs.Prelude.{◌≡◌, ◌⊎◌, ℕ, true, List, [], IsTrue, length, map}
 use Rattle.std.specs.List.{AllByRecursion, list_all}
 use Rattle.sqlite.specs.Tree.{Trees}
@@ -20,7 +21,8 @@ use Rattle.book_statements.specs.Exits.{HasGrown}
 
 -- the rows of a register's tables in version 1
 abbrev pub first_filled : Who → List Entry → Filled
-first_filled W L = record { book = book_table One W; entry = entry_table L; keyed = rows_of W L; rules = [] }
+first_filled W L =
+    record { book = book_table One W; entry = entry_table L; keyed = rows_of W L; rules = [] }
 
 -- the trees of the nine tables hold these rows
 pub record AreHeldFirst (f : Filled) (db : Trees) : Type 0 where
@@ -28,19 +30,22 @@ pub record AreHeldFirst (f : Filled) (db : Trees) : Type 0 where
   pub entry : db 1 ≡ map entry_values f.entry
   pub keyed : AllByRecursion (λ (t : BookTable). Holds (f.keyed t) (db (tree_of t))) keyed_tables
 
--- the register is legal under the first rules, and the nine tables hold the rows that the warehouse's register has
+-- the register is legal under the first rules, and the nine tables hold the rows that the
+-- warehouse's register has
 pub record StandsFirst (W : Who) (L : List Entry) (db : Database) : Type 0 where
   pub legal : IsLegal One W L
   pub schema : IsFirstLayout db.schema
   pub rows : AreHeldFirst (first_filled W L) db.trees
 
--- a database of the version stands for the register; and the same of trees that a crash leaves, and while a store is open
+-- a database of the version stands for the register; and the same of trees that a crash leaves, and
+-- while a store is open
 abbrev pub StandsAs : Rules → Who → List Entry → Database → Type 0
 StandsAs One W L db = StandsFirst W L db
 StandsAs Two W L db = Stands W L db
 
 abbrev pub StandsInAs : Rules → Who → List Entry → Trees → Type 0
-StandsInAs q W L db = (schema : sqlite.Schema) × IsSound schema db × StandsAs q W L (record { schema = schema; trees = db })
+StandsInAs q W L db = (schema : sqlite.Schema) × IsSound schema db
+    × StandsAs q W L (record { schema = schema; trees = db })
 
 abbrev pub StandsOpenAs : Rules → State → Who → List Entry → Type 0
 StandsOpenAs q s W L = IsTrue s.is_open → StandsAs q W L s.now
@@ -69,17 +74,21 @@ with_book rows f = record f { book = rows }
 
 -- each of so many entries, all under the first rules, gets its row of rules
 abbrev pub GivesRules : ℕ → Database → Database → Type 0
-GivesRules entries old new = (L : List Entry) (f : Filled) → list_all is_first L ≡ true → entries ≡ length L
+GivesRules entries old new = (L : List Entry) (f : Filled) → list_all is_first L ≡ true
+    → entries ≡ length L
     → Keeps (with_rules [] f) old → Keeps (with_rules (entry_rules_table L) f) new
 
 -- the version is set to 2
 abbrev pub SetsVersion : Database → Database → Type 0
-SetsVersion old new = (W : Who) (f : Filled) → Keeps (with_book (book_table One W) f) old → Keeps (with_book (book_table Two W) f) new
+SetsVersion old new = (W : Who) (f : Filled) → Keeps (with_book (book_table One W) f) old
+    → Keeps (with_book (book_table Two W) f) new
 
 -- a register of version 1 with so many entries stands there afterwards as one of version 2
 abbrev pub CarriesOver : ℕ → State → State → Type 0
-CarriesOver entries old new = (W : Who) (L : List Entry) → entries ≡ length L → StandsOpenAs One old W L → HasGrown new W L
+CarriesOver entries old new = (W : Who) (L : List Entry) → entries ≡ length L
+    → StandsOpenAs One old W L → HasGrown new W L
 
--- What a crash may leave afterwards of a register that stood in version 1: that, or the same in version 2.
+-- What a crash may leave afterwards of a register that stood in version 1: that, or the same in
+-- version 2.
 abbrev pub LeavesCarried : Who → List Entry → Trees → Type 0
 LeavesCarried W L db = StandsInAs One W L db ⊎ StandsIn W L db

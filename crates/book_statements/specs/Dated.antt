@@ -12,7 +12,9 @@ pub record Dated : Type 0 where
 
 -- those of the rows that have one
 abbrev pub dates_of : List LotRow → List Dated
-dates_of rows = flat_map (λ (r : LotRow). map (λ date. record { item = r.item; lot = r.lot; expiry = date }) (option_to_list r.expiry)) rows
+dates_of rows = flat_map
+    (λ (r : LotRow). map (λ date. record { item = r.item; lot = r.lot; expiry = date })
+    (option_to_list r.expiry)) rows
 
 -- item, lot and expiry
 abbrev pub date_shown : Dated → Row

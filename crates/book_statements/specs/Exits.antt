@@ -16,7 +16,8 @@ use Rattle.book_statements.specs.Appending.{Appends}
 abbrev pub StandsWhileOpen : State → Who → List Entry → Type 0
 StandsWhileOpen s W L = IsTrue s.is_open → Stands W L s.now
 
--- the tables stood for a register whose rows are in order, and this entry is appended to it, which leaves it legal
+-- the tables stood for a register whose rows are in order, and this entry is appended to it, which
+-- leaves it legal
 pub record IsAppended (s : State) (W : Who) (L : List Entry) (e : Entry) (seq : ℕ) (who : List ℕ) (row : Written) (changes : List Change) (text : List ℕ) : Type 0 where
   pub stood : StandsWhileOpen s W L
   pub ordered : AreOrdered (filled W L)
@@ -26,7 +27,8 @@ pub record IsAppended (s : State) (W : Who) (L : List Entry) (e : Entry) (seq : 
 
 -- the trees stand for the register with the entry
 abbrev pub Extends : State → ℕ → List ℕ → Written → List Change → List ℕ → Trees → Type 0
-Extends s seq who row changes text db = (W : Who) (L : List Entry) (e : Entry) → IsAppended s W L e seq who row changes text → StandsIn W (L ++ e ∷ []) db
+Extends s seq who row changes text db = (W : Who) (L : List Entry) (e : Entry)
+    → IsAppended s W L e seq who row changes text → StandsIn W (L ++ e ∷ []) db
 
 -- the tables stand for the register with the entry, whose rows are in order
 pub record HasGrown (s : State) (W : Who) (L : List Entry) : Type 0 where

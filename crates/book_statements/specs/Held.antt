@@ -16,11 +16,14 @@ value_of (Blob b) = value.Blob b
 abbrev pub values : TableRow → Row
 values cells = map value_of cells
 
--- A keyed table holds a set of rows: each stored row has the cells of one of them after its rowid, and each of them is stored.
+-- A keyed table holds a set of rows: each stored row has the cells of one of them after its rowid,
+-- and each of them is stored.
 pub record Holds (rows : List TableRow) (stored : List Row) : Type 0 where
   pub rise : IsTable stored
-  pub sound : (row : Row) → Has stored row → (id : ℤ) × (cells : TableRow) × Has rows cells × (row ≡ value.Int id ∷ values cells)
-  pub complete : (cells : TableRow) → Has rows cells → (id : ℤ) × Has stored (value.Int id ∷ values cells)
+  pub sound : (row : Row) → Has stored row → (id : ℤ) × (cells : TableRow) × Has rows cells
+      × (row ≡ value.Int id ∷ values cells)
+  pub complete : (cells : TableRow) → Has rows cells → (id : ℤ)
+      × Has stored (value.Int id ∷ values cells)
 
 -- the row of `book` has the first rowid
 abbrev pub first_row : TableRow → Row

@@ -41,22 +41,27 @@ abbrev pub advice_text : List ℕ
 advice_text = codes "CREATE TABLE advice (who TEXT NOT NULL, shipment TEXT NOT NULL, ord TEXT NOT NULL, is_open INTEGER NOT NULL, PRIMARY KEY (who, shipment)) STRICT"
 
 abbrev pub advice_line_text : List ℕ
-advice_line_text = codes "CREATE TABLE advice_line (who TEXT NOT NULL, shipment TEXT NOT NULL, line INTEGER NOT NULL, item TEXT NOT NULL, lot TEXT NOT NULL, quantity INTEGER NOT NULL, PRIMARY KEY (who, shipment, line)) STRICT"
+advice_line_text =
+    codes "CREATE TABLE advice_line (who TEXT NOT NULL, shipment TEXT NOT NULL, line INTEGER NOT NULL, item TEXT NOT NULL, lot TEXT NOT NULL, quantity INTEGER NOT NULL, PRIMARY KEY (who, shipment, line)) STRICT"
 
 abbrev pub orders_text : List ℕ
 orders_text = codes "CREATE TABLE orders (who TEXT NOT NULL, ord TEXT NOT NULL, is_open INTEGER NOT NULL, to_name TEXT, to_one TEXT NOT NULL, to_two TEXT NOT NULL, to_place TEXT NOT NULL, PRIMARY KEY (who, ord)) STRICT"
 
 abbrev pub order_line_text : List ℕ
-order_line_text = codes "CREATE TABLE order_line (who TEXT NOT NULL, ord TEXT NOT NULL, line INTEGER NOT NULL, item TEXT NOT NULL, lot TEXT, quantity INTEGER NOT NULL, PRIMARY KEY (who, ord, line)) STRICT"
+order_line_text =
+    codes "CREATE TABLE order_line (who TEXT NOT NULL, ord TEXT NOT NULL, line INTEGER NOT NULL, item TEXT NOT NULL, lot TEXT, quantity INTEGER NOT NULL, PRIMARY KEY (who, ord, line)) STRICT"
 
 abbrev pub reservation_text : List ℕ
-reservation_text = codes "CREATE TABLE reservation (who TEXT NOT NULL, ord TEXT NOT NULL, item TEXT NOT NULL, lot TEXT NOT NULL, quantity INTEGER NOT NULL, PRIMARY KEY (who, ord, item, lot)) STRICT"
+reservation_text =
+    codes "CREATE TABLE reservation (who TEXT NOT NULL, ord TEXT NOT NULL, item TEXT NOT NULL, lot TEXT NOT NULL, quantity INTEGER NOT NULL, PRIMARY KEY (who, ord, item, lot)) STRICT"
 
 abbrev pub entry_rules_text : List ℕ
-entry_rules_text = codes "CREATE TABLE entry_rules (seq INTEGER PRIMARY KEY, rules INTEGER NOT NULL) STRICT"
+entry_rules_text =
+    codes "CREATE TABLE entry_rules (seq INTEGER PRIMARY KEY, rules INTEGER NOT NULL) STRICT"
 
 abbrev pub lot_expiry_text : List ℕ
-lot_expiry_text = codes "CREATE TABLE lot_expiry (who TEXT NOT NULL, item TEXT NOT NULL, lot TEXT NOT NULL, expiry TEXT NOT NULL, PRIMARY KEY (who, item, lot)) STRICT"
+lot_expiry_text =
+    codes "CREATE TABLE lot_expiry (who TEXT NOT NULL, item TEXT NOT NULL, lot TEXT NOT NULL, expiry TEXT NOT NULL, PRIMARY KEY (who, item, lot)) STRICT"
 
 -- Columns and tables. Every column is NOT NULL but for those that may be NULL and for the rowid.
 
@@ -113,8 +118,8 @@ abbrev pub entry_layout : Table
 entry_layout = record {
   name = codes "entry";
   tree = 1;
-  columns = column_of false Integer (codes "seq") ∷ text (codes "who") ∷ text (codes "mark") ∷ number (codes "n")
-      ∷ text (codes "moment") ∷ blob (codes "body") ∷ [];
+  columns = column_of false Integer (codes "seq") ∷ text (codes "who") ∷ text (codes "mark")
+      ∷ number (codes "n") ∷ text (codes "moment") ∷ blob (codes "body") ∷ [];
   key = Some 0;
   primary = 0 ∷ [];
   uniques = (2 ∷ 3 ∷ []) ∷ (2 ∷ 4 ∷ []) ∷ [];
@@ -128,7 +133,8 @@ entry_layout = record {
 
 abbrev pub outgoing_layout : Table
 outgoing_layout = keyed (codes "outgoing") 4 (1 ∷ 2 ∷ []) []
-    (text (codes "who") ∷ number (codes "n") ∷ text (codes "kind") ∷ blob (codes "content") ∷ text (codes "state") ∷ [])
+    (text (codes "who") ∷ number (codes "n") ∷ text (codes "kind") ∷ blob (codes "content")
+    ∷ text (codes "state") ∷ [])
 
 -- a column's number is at least 0
 abbrev pub at_least_zero : ℕ → Term
@@ -136,38 +142,45 @@ at_least_zero place = op2 (Compare Ge Binary) (col 1 place) (lit (value.Int (pos
 
 -- no amount is below 0, and no more is reserved than is on hand
 abbrev pub stock_check : Term
-stock_check = op2 And (op2 And (op2 And (op2 And (at_least_zero 5) (at_least_zero 6)) (at_least_zero 7)) (at_least_zero 8))
+stock_check = op2 And
+    (op2 And (op2 And (op2 And (at_least_zero 5) (at_least_zero 6)) (at_least_zero 7))
+    (at_least_zero 8))
     (op2 (Compare Le Binary) (col 1 7) (col 1 6))
 
 abbrev pub stock_layout : Table
 stock_layout = keyed (codes "stock") 6 (1 ∷ 2 ∷ 3 ∷ []) (stock_check ∷ [])
-    (text (codes "who") ∷ text (codes "item") ∷ text (codes "lot") ∷ number (codes "since") ∷ number (codes "expected")
-    ∷ number (codes "on_hand") ∷ number (codes "reserved") ∷ number (codes "shipped") ∷ [])
+    (text (codes "who") ∷ text (codes "item") ∷ text (codes "lot") ∷ number (codes "since")
+    ∷ number (codes "expected") ∷ number (codes "on_hand") ∷ number (codes "reserved")
+    ∷ number (codes "shipped") ∷ [])
 
 abbrev pub advice_layout : Table
 advice_layout = keyed (codes "advice") 8 (1 ∷ 2 ∷ []) []
-    (text (codes "who") ∷ text (codes "shipment") ∷ text (codes "ord") ∷ number (codes "is_open") ∷ [])
+    (text (codes "who") ∷ text (codes "shipment") ∷ text (codes "ord") ∷ number (codes "is_open")
+    ∷ [])
 
 abbrev pub advice_line_layout : Table
 advice_line_layout = keyed (codes "advice_line") 10 (1 ∷ 2 ∷ 3 ∷ []) []
-    (text (codes "who") ∷ text (codes "shipment") ∷ number (codes "line") ∷ text (codes "item") ∷ text (codes "lot")
-    ∷ number (codes "quantity") ∷ [])
+    (text (codes "who") ∷ text (codes "shipment") ∷ number (codes "line") ∷ text (codes "item")
+    ∷ text (codes "lot") ∷ number (codes "quantity") ∷ [])
 
 abbrev pub orders_layout : Table
 orders_layout = keyed (codes "orders") 12 (1 ∷ 2 ∷ []) []
-    (text (codes "who") ∷ text (codes "ord") ∷ number (codes "is_open") ∷ text_or_null (codes "to_name")
-    ∷ text (codes "to_one") ∷ text (codes "to_two") ∷ text (codes "to_place") ∷ [])
+    (text (codes "who") ∷ text (codes "ord") ∷ number (codes "is_open")
+    ∷ text_or_null (codes "to_name") ∷ text (codes "to_one") ∷ text (codes "to_two")
+    ∷ text (codes "to_place") ∷ [])
 
 abbrev pub order_line_layout : Table
 order_line_layout = keyed (codes "order_line") 14 (1 ∷ 2 ∷ 3 ∷ []) []
-    (text (codes "who") ∷ text (codes "ord") ∷ number (codes "line") ∷ text (codes "item") ∷ text_or_null (codes "lot")
-    ∷ number (codes "quantity") ∷ [])
+    (text (codes "who") ∷ text (codes "ord") ∷ number (codes "line") ∷ text (codes "item")
+    ∷ text_or_null (codes "lot") ∷ number (codes "quantity") ∷ [])
 
 abbrev pub reservation_layout : Table
 reservation_layout = keyed (codes "reservation") 16 (1 ∷ 2 ∷ 3 ∷ 4 ∷ []) []
-    (text (codes "who") ∷ text (codes "ord") ∷ text (codes "item") ∷ text (codes "lot") ∷ number (codes "quantity") ∷ [])
+    (text (codes "who") ∷ text (codes "ord") ∷ text (codes "item") ∷ text (codes "lot")
+    ∷ number (codes "quantity") ∷ [])
 
--- The two tables that version 2 has beside those of version 1 may stand anywhere after these, and so their rows in any tree.
+-- The two tables that version 2 has beside those of version 1 may stand anywhere after these, and
+-- so their rows in any tree.
 
 abbrev pub entry_rules_at : ℕ → Table
 entry_rules_at tree = record {
@@ -199,13 +212,14 @@ lot_expiry_layout = lot_expiry_at 19
 
 -- the tables of version 1
 abbrev pub first_tables : List Table
-first_tables = book_layout ∷ entry_layout ∷ outgoing_layout ∷ stock_layout ∷ advice_layout ∷ advice_line_layout
-    ∷ orders_layout ∷ order_line_layout ∷ reservation_layout ∷ []
+first_tables = book_layout ∷ entry_layout ∷ outgoing_layout ∷ stock_layout ∷ advice_layout
+    ∷ advice_line_layout ∷ orders_layout ∷ order_line_layout ∷ reservation_layout ∷ []
 
 -- those of version 2, as they stand in a book by itself
 abbrev pub book_tables : List Table
-book_tables = book_layout ∷ entry_layout ∷ outgoing_layout ∷ stock_layout ∷ advice_layout ∷ advice_line_layout
-    ∷ orders_layout ∷ order_line_layout ∷ reservation_layout ∷ entry_rules_layout ∷ lot_expiry_layout ∷ []
+book_tables = book_layout ∷ entry_layout ∷ outgoing_layout ∷ stock_layout ∷ advice_layout
+    ∷ advice_line_layout ∷ orders_layout ∷ order_line_layout ∷ reservation_layout
+    ∷ entry_rules_layout ∷ lot_expiry_layout ∷ []
 
 -- the index of a table's key, whose tree follows the table's
 abbrev pub key_index : Table → Index
@@ -213,17 +227,20 @@ key_index t = automatic t 0 t.primary (t.tree + 1)
 
 abbrev pub first_indexes : List Index
 first_indexes = automatic entry_layout 0 (2 ∷ 3 ∷ []) 2 ∷ automatic entry_layout 1 (2 ∷ 4 ∷ []) 3
-    ∷ key_index outgoing_layout ∷ key_index stock_layout ∷ key_index advice_layout ∷ key_index advice_line_layout
-    ∷ key_index orders_layout ∷ key_index order_line_layout ∷ key_index reservation_layout ∷ []
+    ∷ key_index outgoing_layout ∷ key_index stock_layout ∷ key_index advice_layout
+    ∷ key_index advice_line_layout ∷ key_index orders_layout ∷ key_index order_line_layout
+    ∷ key_index reservation_layout ∷ []
 
 abbrev pub book_indexes : List Index
 book_indexes = automatic entry_layout 0 (2 ∷ 3 ∷ []) 2 ∷ automatic entry_layout 1 (2 ∷ 4 ∷ []) 3
-    ∷ key_index outgoing_layout ∷ key_index stock_layout ∷ key_index advice_layout ∷ key_index advice_line_layout
-    ∷ key_index orders_layout ∷ key_index order_line_layout ∷ key_index reservation_layout ∷ key_index lot_expiry_layout ∷ []
+    ∷ key_index outgoing_layout ∷ key_index stock_layout ∷ key_index advice_layout
+    ∷ key_index advice_line_layout ∷ key_index orders_layout ∷ key_index order_line_layout
+    ∷ key_index reservation_layout ∷ key_index lot_expiry_layout ∷ []
 
 -- the first of the book's tables, with so many indexes
 abbrev pub first_layouts : ℕ → ℕ → Schema
-first_layouts n indexes = record { tables = take n book_tables; indexes = take indexes book_indexes; views = [] }
+first_layouts n indexes =
+    record { tables = take n book_tables; indexes = take indexes book_indexes; views = [] }
 
 abbrev pub no_layout : Schema
 no_layout = record { tables = []; indexes = []; views = [] }
@@ -242,11 +259,17 @@ pub record Others : Type 0 where
 
 -- the nine tables of version 1, and then these
 abbrev pub beside : Others → Schema
-beside others = record { tables = first_tables ++ others.tables; indexes = first_indexes ++ others.indexes; views = others.views }
+beside others = record {
+  tables = first_tables ++ others.tables;
+  indexes = first_indexes ++ others.indexes;
+  views = others.views;
+}
 
 -- the tree of the table with a name
 abbrev pub tree_named : Schema → List ℕ → ℕ
-tree_named schema name = unwrap_or (option_map (λ (t : Table). t.tree) (option_and_then (slice_get schema.tables) (table_named schema name))) 0
+tree_named schema name =
+    unwrap_or (option_map (λ (t : Table). t.tree)
+    (option_and_then (slice_get schema.tables) (table_named schema name))) 0
 
 abbrev pub rules_tree : Schema → ℕ
 rules_tree schema = tree_named schema (codes "entry_rules")
@@ -254,9 +277,12 @@ rules_tree schema = tree_named schema (codes "entry_rules")
 abbrev pub expiry_tree : Schema → ℕ
 expiry_tree schema = tree_named schema (codes "lot_expiry")
 
--- The book's tables are told apart by the numbers of their trees in a book by itself. This is the tree in which the one with a number stands.
+-- The book's tables are told apart by the numbers of their trees in a book by itself. This is the
+-- tree in which the one with a number stands.
 abbrev pub tree_in : Schema → ℕ → ℕ
-tree_in schema number = if number == 18 then rules_tree schema else (if number == 19 then expiry_tree schema else number)
+tree_in schema number =
+    if number == 18 then rules_tree schema
+    else (if number == 19 then expiry_tree schema else number)
 
 -- the trees of a schema's tables, by these numbers
 abbrev pub placed : Schema → Trees → Trees
@@ -274,8 +300,9 @@ pub record StandsAt (schema : Schema) (at : ℕ) (t : Table) : Type 0 where
 
 -- the book's tables as they stand in a schema
 abbrev pub ours : Schema → List Table
-ours schema = book_layout ∷ entry_layout ∷ outgoing_layout ∷ stock_layout ∷ advice_layout ∷ advice_line_layout
-    ∷ orders_layout ∷ order_line_layout ∷ reservation_layout ∷ entry_rules_at (rules_tree schema) ∷ lot_expiry_at (expiry_tree schema) ∷ []
+ours schema = book_layout ∷ entry_layout ∷ outgoing_layout ∷ stock_layout ∷ advice_layout
+    ∷ advice_line_layout ∷ orders_layout ∷ order_line_layout ∷ reservation_layout
+    ∷ entry_rules_at (rules_tree schema) ∷ lot_expiry_at (expiry_tree schema) ∷ []
 
 -- the indexes on a table
 abbrev pub indexes_on : Schema → ℕ → List Index
@@ -302,7 +329,8 @@ pub record AreApart (ts : List Table) (schema : Schema) : Type 0 where
   pub indexes : AllByRecursion (λ (t : Table). indexes_on schema t.tree ≡ indexes_of t) ts
   pub references : list_any (refers_to ts schema.tables) schema.tables ≡ false
 
--- the schema is the nine tables of version 1, and after them, among whatever others, the two of version 2, in trees of their own
+-- the schema is the nine tables of version 1, and after them, among whatever others, the two of
+-- version 2, in trees of their own
 pub record IsLayout (schema : Schema) : Type 0 where
   pub others : Others
   pub is : schema ≡ beside others
@@ -311,17 +339,21 @@ pub record IsLayout (schema : Schema) : Type 0 where
   pub expiry_place : ℕ
   pub expiry : StandsAt schema expiry_place (lot_expiry_at (expiry_tree schema))
   pub own_rules : is_of first_tables (rules_tree schema) ≡ false
-  pub own_expiry : is_of (entry_rules_at (rules_tree schema) ∷ first_tables) (expiry_tree schema) ≡ false
+  pub own_expiry : is_of (entry_rules_at (rules_tree schema) ∷ first_tables) (expiry_tree schema)
+      ≡ false
   pub apart : AreApart (ours schema) schema
 
 -- A book of version 1.
 
 -- a foreign key of the table names one of the two tables that version 2 has besides
 abbrev pub names_new : Table → Bool
-names_new child = list_any (λ (ref : Reference). same_name (codes "entry_rules") ref.parent || same_name (codes "lot_expiry") ref.parent) child.references
+names_new child =
+    list_any (λ (ref : Reference). same_name (codes "entry_rules") ref.parent
+    || same_name (codes "lot_expiry") ref.parent) child.references
 
--- The schema is the nine tables of version 1, and after them whatever others. No foreign key of these names a table that is to come, and
--- where one counts its rowids, the table that SQLite keeps for that is there.
+-- The schema is the nine tables of version 1, and after them whatever others. No foreign key of
+-- these names a table that is to come, and where one counts its rowids, the table that SQLite keeps
+-- for that is there.
 pub record IsFirstLayout (schema : Schema) : Type 0 where
   pub others : Others
   pub is : schema ≡ beside others

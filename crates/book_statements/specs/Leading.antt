@@ -15,7 +15,8 @@ pub record Keeps (f : Filled) (db : Database) : Type 0 where
 
 -- whatever rows the tables hold, they then hold those that the changes make of them
 abbrev pub Leads : List Change → Database → Database → Type 0
-Leads cs old new = (f : Filled) → Keeps f old → (g : Filled) × (changed_by (named f) cs ≡ named g) × Keeps g new
+Leads cs old new = (f : Filled) → Keeps f old → (g : Filled) × (changed_by (named f) cs ≡ named g)
+    × Keeps g new
 
 -- rows that are put into a table, of the depositor with this text
 abbrev pub puts_of : List ℕ → List ℕ → List TableRow → List Change

@@ -9,19 +9,23 @@ use Rattle.rules.specs.Written.{Written}
 
 -- a line of an advice, by its number
 abbrev pub advice_line_row : List ℕ → List ℕ → ℕ → Line → TableRow
-advice_line_row who shipment n line = Text who ∷ Text shipment ∷ Number n ∷ Text line.item ∷ Text line.lot ∷ Number line.quantity ∷ []
+advice_line_row who shipment n line = Text who ∷ Text shipment ∷ Number n ∷ Text line.item
+    ∷ Text line.lot ∷ Number line.quantity ∷ []
 
 -- a line of an order, by its number
 abbrev pub order_line_row : List ℕ → List ℕ → ℕ → PageLine → TableRow
-order_line_row who order n line = Text who ∷ Text order ∷ Number n ∷ Text line.item ∷ text_or_null line.pin ∷ Number line.quantity ∷ []
+order_line_row who order n line = Text who ∷ Text order ∷ Number n ∷ Text line.item
+    ∷ text_or_null line.pin ∷ Number line.quantity ∷ []
 
 -- what is reserved of a pair for an order
 abbrev pub reservation_row : List ℕ → List ℕ → Line → TableRow
-reservation_row who order line = Text who ∷ Text order ∷ Text line.item ∷ Text line.lot ∷ Number line.quantity ∷ []
+reservation_row who order line = Text who ∷ Text order ∷ Text line.item ∷ Text line.lot
+    ∷ Number line.quantity ∷ []
 
 -- an entry with its number in the register and its moment's text
 abbrev pub written_row : ℕ → List ℕ → Written → List ℕ → TableRow
-written_row seq who entry moment = Number seq ∷ Text who ∷ Text entry.key ∷ Number entry.n ∷ Text moment ∷ Blob entry.body ∷ []
+written_row seq who entry moment = Number seq ∷ Text who ∷ Text entry.key ∷ Number entry.n
+    ∷ Text moment ∷ Blob entry.body ∷ []
 
 -- the rules of an entry with its number in the register
 abbrev pub rules_row : ℕ → Rules → TableRow

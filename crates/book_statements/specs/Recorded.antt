@@ -10,7 +10,8 @@ use Rattle.rules.specs.Written.{Written}
 
 -- an entry as its row shows it: who, mark, n, moment and body
 abbrev pub numbered_shown : Written → Row
-numbered_shown w = Text (who_text w.who) ∷ Text w.key ∷ Int (pos w.n) ∷ Text (stamp w.moment) ∷ Blob w.body ∷ []
+numbered_shown w = Text (who_text w.who) ∷ Text w.key ∷ Int (pos w.n) ∷ Text (stamp w.moment)
+    ∷ Blob w.body ∷ []
 
 -- the text that asks for it under a number
 abbrev pub numbered_text : List ℕ
@@ -34,7 +35,8 @@ pub record IsRecorded (who : Who) (w : Written) : Type 0 where
   pub few : w.n < 2 ^ 32
   pub good : is_moment w.moment ≡ true
 
--- the rows of `book` name the version and the warehouse: there is one, with the version's number and a partner
+-- the rows of `book` name the version and the warehouse: there is one, with the version's number
+-- and a partner
 pub record IsHouse (q : Rules) (rows : List Row) (W : Who) : Type 0 where
   pub row : Row
   pub one : rows ≡ row ∷ []

@@ -15,8 +15,8 @@ use Rattle.profile.specs.Schema.{Schema, is_by_key, key_in, entry_schema, outgoi
 use Rattle.book_statements.specs.Layout.{IsLayout, book_trees, outgoing_layout, stock_layout, advice_layout, advice_line_layout, orders_layout, order_line_layout, reservation_layout, lot_expiry_layout}
 use Rattle.book_statements.specs.Held.{Holds, first_row, entry_values}
 
--- The tables that are keyed by their first columns: all but `book`, which has no key, and `entry` and `entry_rules`, whose key is
--- the rowid.
+-- The tables that are keyed by their first columns: all but `book`, which has no key, and `entry`
+-- and `entry_rules`, whose key is the rowid.
 pub data BookTable : Type 0 where
   Outgoing : BookTable
   Stock : BookTable
@@ -79,7 +79,9 @@ pub record Filled : Type 0 where
 
 -- with these rows in one table
 abbrev pub with_rows : BookTable → List TableRow → Filled → Filled
-with_rows t rows f = record f { keyed = λ u. if nat_eq (tree_of t) (tree_of u) then rows else f.keyed u }
+with_rows t rows f = record f {
+  keyed = λ u. if nat_eq (tree_of t) (tree_of u) then rows else f.keyed u;
+}
 
 -- those that stand before `entry_rules`; after it stands `lot_expiry`
 abbrev pub keyed_tables : List BookTable
@@ -88,21 +90,29 @@ keyed_tables = Outgoing ∷ Stock ∷ Advice ∷ AdviceLine ∷ Orders ∷ Order
 -- by their names
 abbrev pub named : Filled → AllTables
 named f =
-    (codes "book", f.book) ∷ (codes "entry", f.entry) ∷ map (λ t. (name_of t, f.keyed t)) keyed_tables
+    (codes "book", f.book) ∷ (codes "entry", f.entry)
+    ∷ map (λ t. (name_of t, f.keyed t)) keyed_tables
     ++ (codes "entry_rules", f.rules) ∷ (name_of LotExpiry, f.keyed LotExpiry) ∷ []
 
 -- those of a register
 abbrev pub filled : Who → List Entry → Filled
-filled W L = record { book = book_table Two W; entry = entry_table L; keyed = rows_of W L; rules = entry_rules_table L }
+filled W L = record {
+  book = book_table Two W;
+  entry = entry_table L;
+  keyed = rows_of W L;
+  rules = entry_rules_table L;
+}
 
--- the trees of the book's tables, by their numbers, hold these rows: `book`, `entry` and `entry_rules` as lists, each keyed table as a set
+-- the trees of the book's tables, by their numbers, hold these rows: `book`, `entry` and
+-- `entry_rules` as lists, each keyed table as a set
 pub record AreHeld (f : Filled) (db : Trees) : Type 0 where
   pub book : db 0 ≡ map first_row f.book
   pub entry : db 1 ≡ map entry_values f.entry
   pub keyed : (t : BookTable) → Holds (f.keyed t) (db (tree_of t))
   pub rules : db 18 ≡ map entry_values f.rules
 
--- the register is legal, and the schema has the book's eleven tables, which hold the rows that the warehouse's register has
+-- the register is legal, and the schema has the book's eleven tables, which hold the rows that the
+-- warehouse's register has
 pub record Stands (W : Who) (L : List Entry) (db : Database) : Type 0 where
   pub legal : IsLegal Two W L
   pub schema : IsLayout db.schema
@@ -110,7 +120,8 @@ pub record Stands (W : Who) (L : List Entry) (db : Database) : Type 0 where
 
 -- the same of the trees that a crash leaves or an opening reads
 abbrev pub StandsIn : Who → List Entry → Trees → Type 0
-StandsIn W L db = (schema : sqlite.Schema) × IsSound schema db × Stands W L (record { schema = schema; trees = db })
+StandsIn W L db = (schema : sqlite.Schema) × IsSound schema db
+    × Stands W L (record { schema = schema; trees = db })
 
 -- Rows by their keys.
 
@@ -133,12 +144,15 @@ pub record AreByKey (s : Schema) (k : ℕ) (rows : List TableRow) : Type 0 where
   pub by_key : is_by_key s rows ≡ true
   pub each : (row : TableRow) → Has rows row → HasKey s k row
 
--- a row of `outgoing`, and one of a table with this schema whose first column is its key, as in `entry` and `entry_rules`
+-- a row of `outgoing`, and one of a table with this schema whose first column is its key, as in
+-- `entry` and `entry_rules`
 abbrev pub IsOutgoing : TableRow → Type 0
-IsOutgoing row = (who : List ℕ) × (n : ℕ) × (kind : List ℕ) × (content : List ℕ) × (state : List ℕ) × (row ≡ Text who ∷ Number n ∷ Text kind ∷ Blob content ∷ Text state ∷ [])
+IsOutgoing row = (who : List ℕ) × (n : ℕ) × (kind : List ℕ) × (content : List ℕ) × (state : List ℕ)
+    × (row ≡ Text who ∷ Number n ∷ Text kind ∷ Blob content ∷ Text state ∷ [])
 
 abbrev pub IsBySeq : Schema → TableRow → Type 0
-IsBySeq s row = (seq : ℕ) × (cells : TableRow) × (row ≡ Number seq ∷ cells) × (key_in s row ≡ Number seq ∷ [])
+IsBySeq s row = (seq : ℕ) × (cells : TableRow) × (row ≡ Number seq ∷ cells)
+    × (key_in s row ≡ Number seq ∷ [])
 
 -- each table's rows are in the order of its keys
 pub record AreOrdered (f : Filled) : Type 0 where

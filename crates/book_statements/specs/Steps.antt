@@ -31,12 +31,15 @@ key_of k row = take k (drop 1 row)
 -- rows whose first k cells are their key, after rowids that rise
 pub record AreKeyed (k : ℕ) (rows : List Row) : Type 0 where
   pub rise : IsTable rows
-  pub each : (row : Row) → Has rows row → (id : ℤ) × (cells : Row) × (row ≡ Int id ∷ cells) × (has_key k cells ≡ true)
+  pub each : (row : Row) → Has rows row → (id : ℤ) × (cells : Row) × (row ≡ Int id ∷ cells)
+      × (has_key k cells ≡ true)
 
--- the row with the key, which the first k cells are, has these cells, and each other row is as it was
+-- the row with the key, which the first k cells are, has these cells, and each other row is as it
+-- was
 pub record PutByKey (k : ℕ) (cells : Row) (old new : List Row) : Type 0 where
   pub rise : IsTable new
-  pub sound : (row : Row) → Has new row → ((id : ℤ) × (row ≡ Int id ∷ cells)) ⊎ (Has old row × (key_of k row ≢ take k cells))
+  pub sound : (row : Row) → Has new row → ((id : ℤ) × (row ≡ Int id ∷ cells))
+      ⊎ (Has old row × (key_of k row ≢ take k cells))
   pub there : (id : ℤ) × Has new (Int id ∷ cells)
   pub kept : (row : Row) → Has old row → key_of k row ≢ take k cells → Has new row
 
@@ -48,7 +51,9 @@ pub record TakenByKey (k : ℕ) (key : Row) (old new : List Row) : Type 0 where
 
 -- the book's tables but for the one with this number are as they were
 abbrev pub Spares : ℕ → Database → Database → Type 0
-Spares number old new = AllByRecursion (λ (t : Table). t.tree ≢ number → book_trees new t.tree ≡ book_trees old t.tree) book_tables
+Spares number old new =
+    AllByRecursion (λ (t : Table). t.tree ≢ number
+    → book_trees new t.tree ≡ book_trees old t.tree) book_tables
 
 -- a statement wrote into one table of the book, and its rows became what `Rows` says
 pub record WritesInto (number : ℕ) (Rows : List Row → List Row → Type 0) (old new : Database) : Type 0 where
@@ -61,19 +66,24 @@ pub record WritesInto (number : ℕ) (Rows : List Row → List Row → Type 0) (
 pub record WritesAt (tree : ℕ) (Rows : List Row → List Row → Type 0) (old new : Database) : Type 0 where
   pub sound : IsDatabase new
   pub schema : new.schema ≡ old.schema
-  pub others : AllByRecursion (λ (t : Table). t.tree ≢ tree → new.trees t.tree ≡ old.trees t.tree) old.schema.tables
+  pub others : AllByRecursion (λ (t : Table). t.tree ≢ tree
+      → new.trees t.tree ≡ old.trees t.tree) old.schema.tables
   pub rows : Rows (old.trees tree) (new.trees tree)
 
 -- a row of `outgoing`
 abbrev pub outgoing_cells : List ℕ → ℤ → List ℕ → List ℕ → List ℕ → Row
-outgoing_cells who n kind content state = Text who ∷ Int n ∷ Text kind ∷ Blob content ∷ Text state ∷ []
+outgoing_cells who n kind content state = Text who ∷ Int n ∷ Text kind ∷ Blob content ∷ Text state
+    ∷ []
 
 abbrev pub AreOutgoing : List Row → Type 0
 AreOutgoing rows = (row : Row) → Has rows row
-    → (id : ℤ) × (who : List ℕ) × (n : ℤ) × (kind : List ℕ) × (content : List ℕ) × (state : List ℕ) × (row ≡ Int id ∷ outgoing_cells who n kind content state)
+    → (id : ℤ) × (who : List ℕ) × (n : ℤ) × (kind : List ℕ) × (content : List ℕ) × (state : List ℕ)
+    × (row ≡ Int id ∷ outgoing_cells who n kind content state)
 
 -- the row of the document, if there is one, has the state, and all else is as it was
 abbrev pub SetsState : List ℕ → ℤ → List ℕ → List Row → List Row → Type 0
 SetsState who n state old new =
     (((row : Row) → Has old row → key_of 2 row ≢ Text who ∷ Int n ∷ []) × (new ≡ old))
-    ⊎ ((id : ℤ) × (kind : List ℕ) × (content : List ℕ) × (before : List ℕ) × Has old (Int id ∷ outgoing_cells who n kind content before) × PutByKey 2 (outgoing_cells who n kind content state) old new)
+    ⊎ ((id : ℤ) × (kind : List ℕ) × (content : List ℕ) × (before : List ℕ)
+    × Has old (Int id ∷ outgoing_cells who n kind content before)
+    × PutByKey 2 (outgoing_cells who n kind content state) old new)

@@ -1,21 +1,24 @@
--- What a call does that writes inside a transaction, and what becomes of the calls that are counted.
+-- What a call does that writes inside a transaction, and what becomes of the calls that are
+-- counted.
 use Rattle.std.specs.Prelude.{◌≡◌, ◌≢◌, ◌⊎◌, ℕ, List, Result, Ok, Some, ⊤, IsTrue, IfErr, OnOk, OnErr}
 use Rattle.sqlite.specs.Order.{Row}
 use Rattle.sqlite.specs.Held.{Held, state}
 use Rattle.sqlite.specs.Store.{Ghosts}
 use Rattle.sqlite.specs.State.{State, HasCleanDisk, Survives, KeepsCommit, IsRolledBack, Executes}
-use Rattle.store.specs.declared.fault.Fault.{Fault}
-use Rattle.store.specs.declared.fault.Fault.TheVariants.{OutOfMemory, Store}
+use Rattle.store.specs.Fault.{Fault}
+use Rattle.store.specs.Fault.TheVariants.{OutOfMemory, Store}
 use Rattle.book_statements.specs.declared.calls.Calls.{Calls}
 use Rattle.book_statements.specs.Exits.{LeavesIt}
 use Rattle.book_statements.specs.Limits.{Spends}
 use Rattle.book_statements.specs.Rises.{Rises}
 use Rattle.book_statements.specs.Steps.{GoesOn}
 
--- Where it answers Ok, `Done` came about and the transaction goes on; whatever it answers, nothing is committed by it.
+-- Where it answers Ok, `Done` came about and the transaction goes on; whatever it answers, nothing
+-- is committed by it.
 pub record Wrote {T : Type 0} (Done : Type 0) (old new : State) (before after : Calls) (result : Result T Fault) : Type 0 where
   pub done : HasCleanDisk new → IsTrue old.in_transaction → OnOk result Done
-  pub inside : HasCleanDisk new → IsTrue old.in_transaction → OnOk result (IsTrue new.in_transaction)
+  pub inside : HasCleanDisk new → IsTrue old.in_transaction
+      → OnOk result (IsTrue new.in_transaction)
   pub kept : HasCleanDisk new → KeepsCommit old new
   -- a crash leaves no more than before
   pub survives : Survives old new (λ _. ⊥)
@@ -26,8 +29,11 @@ pub record Wrote {T : Type 0} (Done : Type 0) (old new : State) (before after : 
   pub named : IfErr result (λ f. (f ≡ OutOfMemory) ⊎ (f ≡ Store))
 
 -- the same of connections
-abbrev pub WroteIn : {S T : Type 0} → Ghosts S → (State → State → Type 0) → Held S → Held S → Calls → Calls → Result T Fault → Type 0
-WroteIn store Does old new before after result = Wrote (Does (state store old) (state store new)) (state store old) (state store new) before after result
+abbrev pub WroteIn : {S T : Type 0} → Ghosts S → (State → State → Type 0) → Held S → Held S → Calls
+    → Calls → Result T Fault → Type 0
+WroteIn store Does old new before after result =
+    Wrote (Does (state store old) (state store new)) (state store old)
+    (state store new) before after result
 
 -- the same of what answered Ok so far
 abbrev pub WroteSoFar : Type 0 → State → State → Calls → Calls → Type 0
@@ -39,7 +45,8 @@ pub record Ran (sql : List ℕ) (params : Row) (old new : State) : Type 0 where
   pub executes : Executes sql params old new (Ok count)
   pub goes_on : GoesOn old new
 
--- A transaction is over, by one call of the store: where it answers Ok, what stood in it is committed, and else nothing of it is left.
+-- A transaction is over, by one call of the store: where it answers Ok, what stood in it is
+-- committed, and else nothing of it is left.
 pub record Ended {T : Type 0} (old new : State) (before after : Calls) (result : Result T Fault) : Type 0 where
   pub done : HasCleanDisk new → OnOk result ((new.now ≡ old.now) × LeavesIt new)
   pub undone : HasCleanDisk new → IsTrue old.in_transaction → OnErr result (IsRolledBack old new)

@@ -11,7 +11,7 @@ ghost use Rattle.book_statements.specs.Writing.{WroteIn};
 use crate::calls::Calls;
 use crate::changing::apply_all;
 use crate::recording::{insert_entry, insert_outgoing, insert_rules};
-use crate::texts::{moment_text, new_state_text};
+use crate::texts::new_state_text;
 use rules::{Change, Entry};
 use sqlite::{Alter, Transaction};
 use store::Fault;
@@ -58,7 +58,7 @@ pub fn write_entry<'a, S: Alter>(
         → Leads (entry_changes W L e ++ table_changes e.who changes.now) old.now new.now))
         tx.old.conn.now tx.new.conn.now calls.old calls.new result }
 {
-    let moment = moment_text(entry.moment());
+    let moment = entry.moment().stamp();
     insert_entry(tx, calls, seq, who, entry, &moment)?;
     insert_rules(tx, calls, seq, entry.rules())?;
     insert_sent(tx, calls, who, entry, outgoing)?;

@@ -21,4 +21,3 @@ pub use carrying::carry_all;
 pub use making::make_all;
 pub use names::TableName;
 pub use running::commit;
-pub use texts::{moment_text, partner_text};

@@ -1,4 +1,5 @@
--- The rows of advice and of its lines under a depositor and a shipment number are the advice of its page under that.
+-- The rows of advice and of its lines under a depositor and a shipment number are the advice of its
+-- page under that.
 use Rattle.std.proofs.Common.{◌≡◌, inl, inr, ℕ, pos, List, [], ◌∷◌, map, filter, true, None, Some, Option, IsTrue, refl, sym, ◌∙◌}
 use Rattle.std.specs.Prelude.{nat_lt}
 use Rattle.std.specs.List.{enumerate_from}

@@ -7,7 +7,7 @@ use Rattle.sqlite.specs.Effect.{Database}
 use Rattle.sqlite.specs.Held.{state}
 use Rattle.sqlite.specs.State.{State, HasCleanDisk}
 use Rattle.sqlite.specs.Store.{Ghosts}
-use Rattle.store.specs.declared.fault.Fault.{Fault}
+use Rattle.store.specs.Fault.{Fault}
 use Rattle.book_statements.specs.declared.names.TableName.{TableName}
 use Rattle.book_statements.specs.declared.names.TableName.TheVariants.{Book, Entry, Outgoing, Stock, Advice, AdviceLine, Orders, OrderLine, Reservation, EntryRules, LotExpiry}
 use Rattle.book_statements.specs.Asking.{Asked, Went, IsAsked}

@@ -1,4 +1,5 @@
--- The rows of `outgoing` tell the documents of a page: the row of a number is the document's, or that of an answer.
+-- The rows of `outgoing` tell the documents of a page: the row of a number is the document's, or
+-- that of an answer.
 use Rattle.std.proofs.Common.{◌≡◌, ◌<◌, ℕ, ◌+◌, Bool, true, false, cond, List, [], ◌∷◌, ◌++◌, Option, None, Some, refl, sym, ap, subst, ◌∙◌, arith}
 use Rattle.std.specs.Prelude.{find, if◌then◌else◌, ◌==◌}
 use Rattle.std.proofs.lemmas.Bool.{ne_eqb, eqb-true}
@@ -79,22 +80,22 @@ module _ (W : Who) (es : List Event) (n : ℕ) where
       document : PageDocument
       document = record { n = k; function = act_function act; said = said_of es k (act_function act) }
 
-      behind : Option PageDocument
-      behind = document_at n (documents_of es (sent_on j M))
+      back : Option PageDocument
+      back = document_at n (documents_of es (sent_on j M))
 
-      by : (b : Bool) → (k == n) ≡ b → Agrees n (find (is_under n) (its ∷ rows)) (cond (k == n) (Some document) behind)
+      by : (b : Bool) → (k == n) ≡ b → Agrees n (find (is_under n) (its ∷ rows)) (cond (k == n) (Some document) back)
       by true e =
           let here : find (is_under n) (its ∷ rows) ≡ Some its = ap (λ (b : Bool). cond b (Some its) (find (is_under n) rows)) (ap (λ (m : ℕ). m == n) (sym number) ∙ e) in
-          let one : cond (k == n) (Some document) behind ≡ Some document = ap (λ (b : Bool). cond b (Some document) behind) e in
+          let one : cond (k == n) (Some document) back ≡ Some document = ap (λ (b : Bool). cond b (Some document) back) e in
           let kind = kind_of_act act in
           let same : k ≡ n = eqb-true k n e in
           let state : its.state ≡ state_text document.said = ap (λ (m : ℕ). state_text (said_of es m (act_function act))) (sym number) in
           let is_it : document ≡ record { n = n; function = function_text kind.1; said = document.said } = λ i. record { n = same i; function = kind.4 i; said = document.said } in
-          subst (λ (o : Option OutRow). Agrees n o (cond (k == n) (Some document) behind)) (sym here) (subst (IsRowOf n its) (sym one) (kind.0, kind.1, kind.2, kind.3, state, is_it))
+          subst (λ (o : Option OutRow). Agrees n o (cond (k == n) (Some document) back)) (sym here) (subst (IsRowOf n its) (sym one) (kind.0, kind.1, kind.2, kind.3, state, is_it))
       by false e =
           let there : find (is_under n) (its ∷ rows) ≡ find (is_under n) rows = ap (λ (b : Bool). cond b (Some its) (find (is_under n) rows)) (ap (λ (m : ℕ). m == n) (sym number) ∙ e) in
-          let none : cond (k == n) (Some document) behind ≡ behind = ap (λ (b : Bool). cond b (Some document) behind) e in
-          subst (λ (o : Option OutRow). Agrees n o (cond (k == n) (Some document) behind)) (sym there) (subst (Agrees n (find (is_under n) rows)) (sym none) later)
+          let none : cond (k == n) (Some document) back ≡ back = ap (λ (b : Bool). cond b (Some document) back) e in
+          subst (λ (o : Option OutRow). Agrees n o (cond (k == n) (Some document) back)) (sym there) (subst (Agrees n (find (is_under n) rows)) (sym none) later)
 
   agree_on : (before M : List Entry) → Agrees n (find (is_under n) (outgoing_on W es before M)) (document_at n (documents_of es (sent_on (next_number before) M)))
   agree_on before [] = tt

@@ -1,4 +1,5 @@
--- A depositor of a legal register is enrolled once, and the enrolments stand in the order of their entries.
+-- A depositor of a legal register is enrolled once, and the enrolments stand in the order of their
+-- entries.
 use Rattle.std.proofs.Common.{◌≡◌, ◌≤◌, ◌<◌, ℕ, ◌+◌, List, [], ◌∷◌, ◌++◌, length, map, filter, Bool, true, false, not, refl, sym, ap, ◌∙◌, inl, inr, arith, Less}
 use Rattle.std.specs.Prelude.{if◌then◌else◌, ◌==◌}
 use Rattle.std.specs.List.{AllByRecursion}

@@ -36,7 +36,8 @@ module _ {X : Type 0} where
       by None e = e
       by (Some y) e = absurd (let it = has_found p xs y e in none y it.0 it.1)
 
--- What rows tell of a list, of which they show the elements that pass, and of those there is at most one.
+-- What rows tell of a list, of which they show the elements that pass, and of those there is at
+-- most one.
 module _ {X R : Type 0} (p : X → Bool) (xs : List X) (shows : X → R) (rows : List R) (each : (row : R) → Has rows row → (x : X) × Has (filter p xs) x × (row ≡ shows x)) (there : (x : X) → Has (filter p xs) x → Has rows (shows x))
     (one : (x y : X) → Has xs x → Has xs y → p x ≡ true → p y ≡ true → x ≡ y) where
   pub no_row : rows ≡ [] → find p xs ≡ None

@@ -75,9 +75,9 @@ module _ {X : Type 0} (cmp : X → X → Ordering) (total : IsTotalOrder cmp) wh
       absurd (omega (arith, one, nothing, alike f, counted f (x ∷ xs) x (inl refl)))
 
   -- after the head stand only elements that are greater
-  behind : (x : X) (xs ys : List X) → AllByRecursion (Below x) xs → ((f : X → ℕ) → sum_by f (x ∷ ys) ≡ sum_by f (x ∷ xs)) → (z : X) → Has ys z → Has (x ∷ xs) z → Has xs z
-  behind x xs ys up alike z there (inr later) = later
-  behind x xs ys up alike z there (inl e) =
+  back : (x : X) (xs ys : List X) → AllByRecursion (Below x) xs → ((f : X → ℕ) → sum_by f (x ∷ ys) ≡ sum_by f (x ∷ xs)) → (z : X) → Has ys z → Has (x ∷ xs) z → Has xs z
+  back x xs ys up alike z there (inr later) = later
+  back x xs ys up alike z there (inl e) =
       let f : X → ℕ = λ w. cond (is_lt (cmp x w)) 0 1 in
       let one : f x ≡ 1 = ap (λ b. cond b 0 1) (itself x) in
       let rest : AllByRecursion (λ w. f w ≡ 0) xs = all_weaker (Below x) _ (λ w h. ap (λ o. cond (is_lt o) 0 1) h) xs up in
@@ -90,7 +90,7 @@ module _ {X : Type 0} (cmp : X → X → Ordering) (total : IsTotalOrder cmp) wh
   once (x ∷ xs) (y ∷ ys) up down alike each =
       let same : y ≡ x = one_head x y xs ys up.0 down.0 alike (each y (inl refl)) in
       let more : (f : X → ℕ) → sum_by f (x ∷ ys) ≡ sum_by f (x ∷ xs) = λ f. ap (λ h. sum_by f (h ∷ ys)) (sym same) ∙ alike f in
-      let tails : ys ≡ xs = once xs ys up.1 down.1 (λ f. omega (arith, more f, sum_by-cons f x xs, sum_by-cons f x ys)) (λ z there. behind x xs ys up.0 more z there (each z (inr there))) in
+      let tails : ys ≡ xs = once xs ys up.1 down.1 (λ f. omega (arith, more f, sum_by-cons f x xs, sum_by-cons f x ys)) (λ z there. back x xs ys up.0 more z there (each z (inr there))) in
       (λ i. same i ∷ tails i)
 
   pub sorted_once : (xs ys : List X) → IsAscending Below xs → IsPermutation xs ys → IsSorted cmp ys → ys ≡ xs

@@ -1,4 +1,5 @@
--- The last row of `outgoing` under a depositor has the number of its last entry, so it tells how many there are.
+-- The last row of `outgoing` under a depositor has the number of its last entry, so it tells how
+-- many there are.
 use Rattle.std.proofs.Common.{◌≡◌, ◌≤◌, ◌<◌, ◌⊎◌, inl, inr, ℕ, ℤ, ◌+◌, pos, codes, List, [], ◌∷◌, ◌++◌, map, filter, take, ◌&&◌, Bool, true, false, cond, None, Less, Equal, Greater, IsTrue, refl, sym, ap, subst, ◌∙◌, arith, append_assoc, append-nil}
 use Rattle.std.specs.Prelude.{if◌then◌else◌, nat_lt}
 use Rattle.std.specs.Ordering.{is_gt, ordering_then}

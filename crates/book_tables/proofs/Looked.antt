@@ -74,8 +74,8 @@ module _ (old : State) (W : Who) (L : List Entry) (who : Who) (n : ℕ) (partner
   asked : Finds content_text (value.Text (who_text who) ∷ value.Int (pos n) ∷ []) old.now rows
   asked = subst (λ (p : Row). Finds content_text p old.now rows) (given ∙ ap (λ (t : List ℕ). value.Text t ∷ value.Int (pos n) ∷ []) told) finds.1
 
-  pub content_read : (before : List Entry) (e : Entry) (behind : List Entry) → own L who ≡ before ++ e ∷ behind → n ≡ (if is_numbered e then next_number before else 0) → IsContent rows (out W before e)
-  content_read before e behind split is = content_found W L who n old.now rows partner (stands finds.0) asked before e behind split is
+  pub content_read : (before : List Entry) (e : Entry) (back : List Entry) → own L who ≡ before ++ e ∷ back → n ≡ (if is_numbered e then next_number before else 0) → IsContent rows (out W before e)
+  content_read before e back split is = content_found W L who n old.now rows partner (stands finds.0) asked before e back split is
 
   pub content_there : (content : List ℕ) × IsContent rows content
   content_there = some_content W L who n old.now rows partner (stands finds.0) asked
@@ -85,8 +85,8 @@ module _ (old : State) (W : Who) (L : List Entry) (who : Who) (n : ℕ) (partner
 pub record IsKnown (W : Who) (L : List Entry) (who : Who) (key : List ℕ) (w : Written) : Type 0 where
   pub before : List Entry
   pub entry : Entry
-  pub behind : List Entry
-  pub split : own L who ≡ before ++ entry ∷ behind
+  pub back : List Entry
+  pub split : own L who ≡ before ++ entry ∷ back
   pub number : w.n ≡ (if is_numbered entry then next_number before else 0)
   pub recalls : (text : List ℕ) → text ≡ out W before entry → IsRecalled (Some (record { entry = w; outgoing = text })) (recalled W key (own L who))
 
@@ -106,7 +106,7 @@ known_there W L who key w h =
     record {
       before = own X who;
       entry = e;
-      behind = own Y who;
+      back = own Y who;
       split = ap (λ (M : List Entry). own M who) there.split ∙ filter-append (λ (x : Entry). who_eq x.who who) X (e ∷ Y) ∙ ap (λ (b : Bool). own X who ++ (if b then e ∷ own Y who else own Y who)) its;
       number = ap (λ (x : Written). x.n) there.row ∙ ap (λ (v : Who). if is_numbered e then next_number (own X v) else 0) whose;
       recalls = λ text sent.

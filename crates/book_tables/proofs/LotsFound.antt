@@ -1,4 +1,5 @@
--- The rows of stock under a depositor and an item are the lots of that item on its page, and those of `lot_expiry` their dates.
+-- The rows of stock under a depositor and an item are the lots of that item on its page, and those
+-- of `lot_expiry` their dates.
 use Rattle.std.proofs.Common.{◌≡◌, ◌∙◌, inl, inr, ℕ, List, [], ◌∷◌, ◌++◌, map, filter, flat_map, cond, Bool, true, false, bytes_eq, None, Some, Option, IsTrue, refl, sym, ap}
 use Rattle.std.specs.Prelude.{option_to_list}
 use Rattle.sqlite.specs.State.{State, IsLive}

@@ -1,5 +1,5 @@
--- Enrolments whose depositors' texts differ are gone through by these texts: with the first one taken, those are left whose texts
--- come after its own.
+-- Enrolments whose depositors' texts differ are gone through by these texts: with the first one
+-- taken, those are left whose texts come after its own.
 use Rattle.std.proofs.Common.{◌≡◌, ℕ, List, [], ◌∷◌, ◌++◌, filter, Bool, true, false, not, cond, refl, sym, ap, subst, subst₂, ◌∙◌, inl, inr, arith, append-nil, None, Some}
 use Rattle.std.specs.Prelude.{if◌then◌else◌, nat_lt, ◌==◌}
 use Rattle.std.specs.Ordering.{is_lt, ordering_reverse, ordering_then, nat_cmp}
@@ -116,7 +116,8 @@ module _ (t : List ℕ) (e : EnrolmentFacts) (from : comes_before (name e) t ≡
           (IsPermutation-cons x (from_text t xs) (e ∷ from_text (next_text e.who) xs) later) (IsPermutation-middle (x ∷ []) e (from_text (next_text e.who) xs))
       by false later = later
 
--- With the first from a text on taken, those are left from the text on that comes next after its own
+-- With the first from a text on taken, those are left from the text on that comes next after its
+-- own
 first_taken : (t : List ℕ) (e : EnrolmentFacts) (es : List EnrolmentFacts) → AreApart es → IsFirstFrom t es (Some e) → IsPermutation (from_text t es) (e ∷ from_text (next_text e.who) es)
 first_taken t e es apart first =
     let it = has_filtered (is_from t) es e first.0 in

@@ -1,4 +1,5 @@
--- The row of `entry` with a number is that of the entry there, and that of `entry_rules` has its rules.
+-- The row of `entry` with a number is that of the entry there, and that of `entry_rules` has its
+-- rules.
 use Rattle.std.proofs.Common.{◌≡◌, ◌≤◌, ◌<◌, inl, inr, ℕ, zero, suc, ◌+◌, pos, List, [], ◌∷◌, ◌++◌, length, length-append, map, filter, ◌&&◌, Bool, true, false, None, Some, Option, codes, slice_get, refl, sym, ap, subst, ◌∙◌, arith, IsTrue}
 use Rattle.std.specs.Prelude.{◌==◌, if◌then◌else◌, option_map}
 use Rattle.std.specs.List.{list_all, AllByRecursion}

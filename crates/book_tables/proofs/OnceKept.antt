@@ -17,7 +17,8 @@ or_twice : (a b c : Bool) → a ≡ b → (b || c) ≡ (b || (a || c))
 or_twice a true c h = refl
 or_twice a false c h = ap (λ (x : Bool). x || c) (sym h)
 
--- a test that answers alike of what is the same finds as much where what is the same as the one before is left out
+-- a test that answers alike of what is the same finds as much where what is the same as the one
+-- before is left out
 found_either : {X : Type 0} (same : X → X → Bool) (p : X → Bool) (k x : X) (xs : List X) → (b : Bool) → (b ≡ true → p x ≡ p k)
     → list_any p (dedup_from same k xs) ≡ (p k || list_any p xs) → list_any p (dedup_from same x xs) ≡ (p x || list_any p xs)
     → list_any p (cond b (dedup_from same k xs) (k ∷ dedup_from same x xs)) ≡ (p k || (p x || list_any p xs))
@@ -52,7 +53,8 @@ pub number_any : (ms : List ℕ) (n : ℕ) → is_number_of ms n ≡ list_any (�
 number_any [] n = refl
 number_any (m ∷ ms) n = ap (λ (b : Bool). (m == n) || b) (number_any ms n)
 
--- What is named is a matter of which texts and numbers are among those that are sought, not of how often.
+-- What is named is a matter of which texts and numbers are among those that are sought, not of how
+-- often.
 
 pub same_texts : (sought : Sought) (ss us : List (List ℕ)) (n : Named) → ((t : List ℕ) → is_one_of ss t ≡ is_one_of us t) → with_texts sought ss n ≡ with_texts sought us n
 same_texts Advice ss us n same = λ i. record n { shipments = λ t. n.shipments t || same t i }

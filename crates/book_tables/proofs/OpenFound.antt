@@ -1,4 +1,5 @@
--- The rows of open advices and orders under a depositor show their names, and the part of its page that has these names has what is open.
+-- The rows of open advices and orders under a depositor show their names, and the part of its page
+-- that has these names has what is open.
 use Rattle.std.proofs.Common.{◌≡◌, inl, inr, ℕ, pos, List, [], ◌∷◌, map, filter, cond, Bool, true, false, ◌||◌, bytes_eq, None, Some, Option, option_map, IsTrue, length, refl, sym, ap, ◌∙◌}
 use Rattle.std.specs.Prelude.{◌==◌, if◌then◌else◌}
 use Rattle.std.proofs.lemmas.Bool.{cases_Bool}

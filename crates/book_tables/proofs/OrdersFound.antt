@@ -1,4 +1,5 @@
--- The rows of an order, of its lines and of what is reserved for it, under a depositor and a number, are the order of its page under that.
+-- The rows of an order, of its lines and of what is reserved for it, under a depositor and a
+-- number, are the order of its page under that.
 use Rattle.std.proofs.Common.{◌≡◌, inl, inr, ℕ, ℤ, pos, List, [], ◌∷◌, map, filter, true, None, Some, Option, IsTrue, refl, sym, ap, ◌∙◌}
 use Rattle.std.specs.Prelude.{nat_lt, find}
 use Rattle.std.specs.List.{enumerate_from}

@@ -18,8 +18,8 @@ use Rattle.rules.specs.Played.{number_after}
 use Rattle.rules.proofs.Follows.{legal_follow}
 use Rattle.rules.proofs.Registers.{who_is}
 use Rattle.store.specs.Replayed.{written_on, all_written}
-use Rattle.store.specs.declared.fault.Fault.{Fault}
-use Rattle.store.specs.declared.fault.Fault.TheVariants.{Store, Reopen, NotThisBook, Device}
+use Rattle.store.specs.Fault.{Fault}
+use Rattle.store.specs.Fault.TheVariants.{Store, Reopen, NotThisBook, Device}
 use Rattle.book_statements.specs.Asking.{IsAskFault}
 use Rattle.book_statements.specs.Exits.{StandsWhileOpen}
 use Rattle.book_statements.specs.Recorded.{IsRecorded}

@@ -1,4 +1,5 @@
--- A depositor's own entries: they are a legal register by themselves, and the rows of `entry` that name the depositor are theirs.
+-- A depositor's own entries: they are a legal register by themselves, and the rows of `entry` that
+-- name the depositor are theirs.
 use Rattle.std.proofs.Common.{◌≡◌, ℕ, Bool, true, false, not, ◌&&◌, List, [], ◌∷◌, ◌++◌, map, filter, drop, bytes_eq, refl, sym, ap, ◌∙◌, subst, inl, inr, Some}
 use Rattle.std.specs.Prelude.{if◌then◌else◌}
 use Rattle.std.specs.List.{list_all}
@@ -52,7 +53,8 @@ own_written_on before (e ∷ L) who = by (who_eq e.who who) refl (own_written_on
         (λ i. written_own before e who h i ∷ later i) ∙ ap (λ (B : List Entry). written (own before who) e ∷ written_on B (own L who)) grown
     by false h later = later ∙ ap (λ (B : List Entry). written_on B (own L who)) (own_without before e who h)
 
--- the entries of a depositor that are written down are its own, with the numbers that they have among all
+-- the entries of a depositor that are written down are its own, with the numbers that they have
+-- among all
 pub own_written : (L : List Entry) (who : Who) → filter (λ (w : Written). who_eq w.who who) (all_written L) ≡ all_written (own L who)
 own_written L who = own_written_on [] L who
 

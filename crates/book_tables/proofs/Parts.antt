@@ -1,4 +1,5 @@
--- A depositor's part of a table: the rows that begin with its text are those of its own entries, and a stranger has none.
+-- A depositor's part of a table: the rows that begin with its text are those of its own entries,
+-- and a stranger has none.
 use Rattle.std.proofs.Common.{◌≡◌, ℕ, Bool, true, false, not, List, [], ◌∷◌, ◌++◌, map, filter, flat_map, length, bytes_eq, refl, sym, ap, ◌∙◌, inl, inr, arith}
 use Rattle.std.specs.Prelude.{◌==◌, if◌then◌else◌}
 use Rattle.std.specs.List.{list_all}
@@ -80,21 +81,21 @@ part_of W L who rows legal partner nothing = by (length (own L who) == 0) refl
     its w = rows (own L w)
 
     -- what is left of three parts
-    middle : (front old behind : List Who) → list_all (λ (w : Who). comes_before (who_text w) t) front ≡ true → list_all (λ (w : Who). comes_before t (who_text w)) behind ≡ true
-        → filter (begins t) (blocks who_text its (front ++ (old ++ behind))) ≡ filter (begins t) (blocks who_text its old)
-    middle front old behind below above =
-        ap (filter (begins t)) (flat_map-append (λ (w : Who). prefixed (who_text w) (its w)) front (old ++ behind))
-        ∙ filter-append (begins t) (blocks who_text its front) (blocks who_text its (old ++ behind))
-        ∙ (λ i. below_gone t its front below i ++ filter (begins t) (flat_map-append (λ (w : Who). prefixed (who_text w) (its w)) old behind i))
-        ∙ filter-append (begins t) (blocks who_text its old) (blocks who_text its behind)
-        ∙ (λ i. filter (begins t) (blocks who_text its old) ++ above_gone t its behind above i)
+    middle : (front old back : List Who) → list_all (λ (w : Who). comes_before (who_text w) t) front ≡ true → list_all (λ (w : Who). comes_before t (who_text w)) back ≡ true
+        → filter (begins t) (blocks who_text its (front ++ (old ++ back))) ≡ filter (begins t) (blocks who_text its old)
+    middle front old back below above =
+        ap (filter (begins t)) (flat_map-append (λ (w : Who). prefixed (who_text w) (its w)) front (old ++ back))
+        ∙ filter-append (begins t) (blocks who_text its front) (blocks who_text its (old ++ back))
+        ∙ (λ i. below_gone t its front below i ++ filter (begins t) (flat_map-append (λ (w : Who). prefixed (who_text w) (its w)) old back i))
+        ∙ filter-append (begins t) (blocks who_text its old) (blocks who_text its back)
+        ∙ (λ i. filter (begins t) (blocks who_text its old) ++ above_gone t its back above i)
         ∙ nil_right (filter (begins t) (blocks who_text its old))
 
     by : (none : Bool) → (length (own L who) == 0) ≡ none → filter (begins t) (for_each L rows) ≡ prefixed t (rows (own L who))
     by none is =
         let e = next_of who none in
         let at : IsAmong L e = among Two W L e legal partner (numbered_next who none ∙ ap not (sym is)) in
-        ap (λ (ws : List Who). filter (begins t) (blocks who_text its ws)) at.here ∙ middle at.front at.old at.behind at.below at.above
+        ap (λ (ws : List Who). filter (begins t) (blocks who_text its ws)) at.here ∙ middle at.front at.old at.back at.below at.above
         ∙ ap (λ (ws : List Who). filter (begins t) (blocks who_text its ws)) at.old_is ∙ last none is
       where
         last : (none : Bool) → (length (own L who) == 0) ≡ none → filter (begins t) (blocks who_text its (if is_numbered (next_of who none) then who ∷ [] else [])) ≡ prefixed t (rows (own L who))
@@ -122,8 +123,8 @@ module _ {X K : Type 0} (less : K → K → Bool) (strict : IsStrict less) (key 
   both_before x y h g = both_ways (less (key x) (key x)) (strict.never (key x)) (strict.through (key x) (key y) (key x) h g)
 
   -- what stands in a list after x isn't x
-  behind : (x y : X) (xs : List X) → list_all (λ z. less (key x) (key z)) xs ≡ true → Has xs y → x ≡ y → ⊥
-  behind x y xs h there same =
+  back : (x y : X) (xs : List X) → list_all (λ z. less (key x) (key z)) xs ≡ true → Has xs y → x ≡ y → ⊥
+  back x y xs h there same =
       let later = test_has (λ z. less (key x) (key z)) xs y h there in
       both_ways (less (key x) (key x)) (strict.never (key x)) (ap (λ (z : X). less (key x) (key z)) same ∙ later)
 
@@ -142,6 +143,6 @@ module _ {X K : Type 0} (less : K → K → Bool) (strict : IsStrict less) (key 
         ]
       ] in
       let tails : xs ≡ ys = same_rising xs ys a.1 b.1
-      (λ z h. elim (f z (inr h)) [ inl e ↦ absurd (behind x z xs a.0 h (same ∙ sym e)) | inr k ↦ k ])
-      (λ z h. elim (g z (inr h)) [ inl e ↦ absurd (behind y z ys b.0 h (sym same ∙ sym e)) | inr k ↦ k ]) in
+      (λ z h. elim (f z (inr h)) [ inl e ↦ absurd (back x z xs a.0 h (same ∙ sym e)) | inr k ↦ k ])
+      (λ z h. elim (g z (inr h)) [ inl e ↦ absurd (back y z ys b.0 h (sym same ∙ sym e)) | inr k ↦ k ]) in
       λ i. same i ∷ tails i

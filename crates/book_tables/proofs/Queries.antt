@@ -5,8 +5,8 @@ use Rattle.sqlite.specs.Held.{state}
 use Rattle.sqlite.specs.Store.{Ghosts}
 use Rattle.sqlite.specs.State.{State, HasCleanDisk}
 use Rattle.sqlite.proofs.StateLemmas.{survives_weaker}
-use Rattle.store.specs.declared.fault.Fault.{Fault}
-use Rattle.store.specs.declared.fault.Fault.TheVariants.{OutOfMemory, Store, Reopen, NotThisBook, Device}
+use Rattle.store.specs.Fault.{Fault}
+use Rattle.store.specs.Fault.TheVariants.{OutOfMemory, Store, Reopen, NotThisBook, Device}
 use Rattle.profile.specs.Header.{Who}
 use Rattle.profile.specs.Register.{Entry}
 use Rattle.book_statements.specs.Asking.{Asked, Went, IsAsked, IsAskFault}

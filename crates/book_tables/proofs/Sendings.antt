@@ -1,4 +1,5 @@
--- Every text that went out to a depositor of a legal register has a number of 32 bits, a kind and a state that there are.
+-- Every text that went out to a depositor of a legal register has a number of 32 bits, a kind and a
+-- state that there are.
 use Rattle.std.proofs.Common.{◌≡◌, ◌<◌, ◌≤◌, ◌+◌, ◌^◌, ℕ, Bool, true, false, cond, List, [], ◌∷◌, ◌++◌, Option, Some, None, refl, sym, ap, subst, inl, inr, arith}
 use Rattle.std.specs.Prelude.{if◌then◌else◌}
 use Rattle.sqlite_rules.specs.Lists.{Has}

@@ -1,4 +1,5 @@
--- The row of `outgoing` under a depositor and a number: what it tells of the document and of the text of that number.
+-- The row of `outgoing` under a depositor and a number: what it tells of the document and of the
+-- text of that number.
 use Rattle.std.proofs.Common.{◌≡◌, ℕ, pos, List, [], ◌∷◌, map, filter, length, Bool, true, false, None, Some, IsTrue, option_map, refl, sym, ap, ◌∙◌}
 use Rattle.std.specs.Prelude.{find, nat_lt, ◌==◌, if◌then◌else◌}
 use Rattle.std.proofs.lemmas.Bool.{eqb-true}

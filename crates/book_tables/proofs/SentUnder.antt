@@ -60,17 +60,17 @@ same_number (x ∷ xs) a b rise h g same =
     by over (inr e) (inr f) again = again e f
 
 -- a numbered entry has a row
-row_there : (W : Who) (es : List Event) (pre front behind : List Entry) (e : Entry) → is_numbered e ≡ true → Has (outgoing_on W es pre (front ++ e ∷ behind)) (out_row W es (pre ++ front) e)
-row_there W es pre [] behind e h = subst (λ (B : List Entry). Has (outgoing_on W es pre (e ∷ behind)) (out_row W es B e)) (sym (append-nil pre)) (here (is_numbered e) h)
+row_there : (W : Who) (es : List Event) (pre front back : List Entry) (e : Entry) → is_numbered e ≡ true → Has (outgoing_on W es pre (front ++ e ∷ back)) (out_row W es (pre ++ front) e)
+row_there W es pre [] back e h = subst (λ (B : List Entry). Has (outgoing_on W es pre (e ∷ back)) (out_row W es B e)) (sym (append-nil pre)) (here (is_numbered e) h)
   where
-    here : (b : Bool) → b ≡ true → Has ((if b then out_row W es pre e ∷ [] else []) ++ outgoing_on W es (pre ++ e ∷ []) behind) (out_row W es pre e)
+    here : (b : Bool) → b ≡ true → Has ((if b then out_row W es pre e ∷ [] else []) ++ outgoing_on W es (pre ++ e ∷ []) back) (out_row W es pre e)
     here true t = inl refl
     here false t = absurd (let f : ◌≡◌ {A = Bool} false true = t in cc)
-row_there W es pre (x ∷ front) behind e h =
-    by (is_numbered x) (subst (λ (B : List Entry). Has (outgoing_on W es (pre ++ x ∷ []) (front ++ e ∷ behind)) (out_row W es B e)) (append_assoc pre (x ∷ []) front) (row_there W es (pre ++ x ∷ []) front behind e h))
+row_there W es pre (x ∷ front) back e h =
+    by (is_numbered x) (subst (λ (B : List Entry). Has (outgoing_on W es (pre ++ x ∷ []) (front ++ e ∷ back)) (out_row W es B e)) (append_assoc pre (x ∷ []) front) (row_there W es (pre ++ x ∷ []) front back e h))
   where
-    by : (b : Bool) → Has (outgoing_on W es (pre ++ x ∷ []) (front ++ e ∷ behind)) (out_row W es (pre ++ x ∷ front) e)
-        → Has ((if b then out_row W es pre x ∷ [] else []) ++ outgoing_on W es (pre ++ x ∷ []) (front ++ e ∷ behind)) (out_row W es (pre ++ x ∷ front) e)
+    by : (b : Bool) → Has (outgoing_on W es (pre ++ x ∷ []) (front ++ e ∷ back)) (out_row W es (pre ++ x ∷ front) e)
+        → Has ((if b then out_row W es pre x ∷ [] else []) ++ outgoing_on W es (pre ++ x ∷ []) (front ++ e ∷ back)) (out_row W es (pre ++ x ∷ front) e)
     by true later = inr later
     by false later = later
 
@@ -158,12 +158,12 @@ module _ (W : Who) (L : List Entry) (who : Who) (legal : IsLegal Two W L) (partn
         let stored = model_held m there is in
         to_row content_query params test (db 4) rows a.kept a.ordered kept_is a.same a.shown (stored_as stored.0 m) stored.1 stored.2
 
-    module _ (before : List Entry) (e : Entry) (behind : List Entry) (split : own L who ≡ before ++ e ∷ behind) where
+    module _ (before : List Entry) (e : Entry) (back : List Entry) (split : own L who ≡ before ++ e ∷ back) where
       abbrev its : OutRow
       its = out_row W (events (own L who)) before e
 
       its_there : is_numbered e ≡ true → Has ms its
-      its_there h = subst (λ (M : List Entry). Has (outgoing_on W (events (own L who)) [] M) its) (sym split) (row_there W (events (own L who)) [] before behind e h)
+      its_there h = subst (λ (M : List Entry). Has (outgoing_on W (events (own L who)) [] M) its) (sym split) (row_there W (events (own L who)) [] before back e h)
 
       numbered : is_numbered e ≡ true → n ≡ next_number before → IsContent rows (out W before e)
       numbered h is = by rows (has_row its (its_there h) (row_number W (events (own L who)) before e ∙ sym is)) of_row
@@ -190,12 +190,12 @@ module _ (W : Who) (L : List Entry) (who : Who) (legal : IsLegal Two W L) (partn
           by false h i = unnumbered h i
 
 pub content_found : (W : Who) (L : List Entry) (who : Who) (n : ℕ) (db : Database) (rows : List Row) → is_partner who ≡ true → Stands W L db
-    → Finds content_text (value.Text (who_text who) ∷ value.Int (pos n) ∷ []) db rows → (before : List Entry) (e : Entry) (behind : List Entry) → own L who ≡ before ++ e ∷ behind
+    → Finds content_text (value.Text (who_text who) ∷ value.Int (pos n) ∷ []) db rows → (before : List Entry) (e : Entry) (back : List Entry) → own L who ≡ before ++ e ∷ back
     → n ≡ (if is_numbered e then next_number before else 0) → IsContent rows (out W before e)
-content_found W L who n db rows partner stands h before e behind split is =
+content_found W L who n db rows partner stands h before e back split is =
     let read = found content_text (value.Text (who_text who) ∷ value.Int (pos n) ∷ []) db rows _ stands.schema content_reads content_is h in
     let held = stands.rows in
-    content_shown W L who stands.legal partner n db.trees (held.keyed Outgoing) rows (read.answer value.Null) before e behind split is
+    content_shown W L who stands.legal partner n db.trees (held.keyed Outgoing) rows (read.answer value.Null) before e back split is
 
 -- whatever is under a number shows a content
 pub some_content : (W : Who) (L : List Entry) (who : Who) (n : ℕ) (db : Database) (rows : List Row) → is_partner who ≡ true → Stands W L db

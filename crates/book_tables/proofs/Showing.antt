@@ -1,4 +1,5 @@
--- What a query of a keyed table shows of a depositor: its rows in the order of their keys, each once.
+-- What a query of a keyed table shows of a depositor: its rows in the order of their keys, each
+-- once.
 use Rattle.std.proofs.Common.{◌≡◌, inl, inr, ℕ, ℤ, List, [], ◌∷◌, map, filter, flat_map, take, ◌&&◌, Bool, true, cond, bytes_eq, refl, sym, ap, subst, ◌∙◌}
 use Rattle.std.specs.List.{IsDistinct}
 use Rattle.std.specs.Ordering.{is_lt, is_eq, eq_by_cmp}
@@ -36,7 +37,8 @@ map_map : {A B C : Type 0} (f : A → B) (g : B → C) (xs : List A) → map g (
 map_map f g [] = refl
 map_map f g (x ∷ xs) = ap (λ ys. g (f x) ∷ ys) (map_map f g xs)
 
--- A table whose rows begin with texts, of which a depositor's are the cells of some model's rows, which rise by their keys.
+-- A table whose rows begin with texts, of which a depositor's are the cells of some model's rows,
+-- which rise by their keys.
 module _ {M K : Type 0} (less : K → K → Bool) (key : M → K) (cells : M → TableRow) (tree k : ℕ) (project : List Term) (order : List (Term × Key)) (out : M → Output) (t : List ℕ) (table : List TableRow) (ms : List M) where
   abbrev pub query : Query
   query = shown_where tree project order

@@ -1,4 +1,5 @@
--- What a query sorts: a list in order, whose keys differ, is the list of the same elements that rises.
+-- What a query sorts: a list in order, whose keys differ, is the list of the same elements that
+-- rises.
 use Rattle.std.proofs.Common.{◌≡◌, ◌+◌, Bool, true, false, List, [], ◌∷◌, map, filter, get_or, refl, sym, ap, subst, ◌∙◌, inl, inr, arith}
 use Rattle.std.specs.Prelude.{if◌then◌else◌}
 use Rattle.std.specs.List.{list_all, IsDistinct}

@@ -1,4 +1,5 @@
--- What a query of a keyed table shows where its first column and another are given: the rows that have them.
+-- What a query of a keyed table shows where its first column and another are given: the rows that
+-- have them.
 use Rattle.std.proofs.Common.{◌≡◌, ℕ, ℤ, List, [], ◌∷◌, map, filter, flat_map, take, Bool, true, cond, sym, ap, subst, ◌∙◌}
 use Rattle.std.specs.List.{IsDistinct}
 use Rattle.std.specs.Ordering.{is_lt, is_eq, eq_by_cmp}
@@ -50,7 +51,8 @@ module _ (W : Who) (L : List Entry) (who : Who) (rows : List Entry → List Tabl
       (has_filtered (begins (who_text who)) (for_each L rows) (Text (who_text who) ∷ r)
       (subst (λ (rs : List TableRow). Has rs (Text (who_text who) ∷ r)) (sym (part_of W L who rows legal partner nothing)) shown)).0
 
--- A table of which the rows with one value in front and another at a place are the cells of a model's rows.
+-- A table of which the rows with one value in front and another at a place are the cells of a
+-- model's rows.
 module _ {M : Type 0} (at : ℕ) (cells : M → TableRow) (tree : ℕ) (project : List Term) (order : List (Term × Key)) (out : M → Output) (p q : Value) (table : List TableRow) (ms : List M) where
   abbrev pub query : Query
   query = under_at at tree project order

@@ -1,4 +1,5 @@
--- The tables of depositors under a depositor and one more value: what a table's rows are of a model that tells them so.
+-- The tables of depositors under a depositor and one more value: what a table's rows are of a model
+-- that tells them so.
 use Rattle.std.proofs.Common.{◌≡◌, ℕ, ℤ, List, [], ◌∷◌, map, filter, flat_map, ◌&&◌, Bool, true, bytes_eq, None, Some, Option, refl, sym, ap, subst, ◌∙◌}
 use Rattle.std.specs.Prelude.{find}
 use Rattle.sqlite.specs.declared.types.Value.{Value}

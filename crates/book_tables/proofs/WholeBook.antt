@@ -1,4 +1,5 @@
--- The whole of `book`, which has one row, and of `entry` and `entry_rules`, in the order of their numbers.
+-- The whole of `book`, which has one row, and of `entry` and `entry_rules`, in the order of their
+-- numbers.
 use Rattle.std.proofs.Common.{◌≡◌, inl, inr, ℕ, suc, List, [], ◌∷◌, length, map, drop, Bool, true, false, codes, Less, Equal, refl, sym, ap, subst, ◌∙◌, arith}
 use Rattle.std.specs.List.Sorted.{IsPermutation}
 use Rattle.std.specs.Ordering.{ordering_then}
@@ -65,7 +66,8 @@ book_same one two lies its_lies sound its_sound rows a b row is =
     let same : (book_out mine.0).1 ≡ (book_out row).1 = elim listed [ inl e ↦ e | inr none ↦ absurd none ] in
     mine.1 ∙ ap (λ (r : Row). r ∷ []) (sym (book_full one lies sound mine.0 there) ∙ same ∙ book_full two its_lies its_sound row its_there)
 
--- A table whose first column is its rowid, which shows that and so many columns more, in the order of its numbers.
+-- A table whose first column is its rowid, which shows that and so many columns more, in the order
+-- of its numbers.
 
 -- a row of which all but the second value is shown, which is NULL
 abbrev unshown : Row → Row

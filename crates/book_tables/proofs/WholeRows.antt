@@ -1,4 +1,5 @@
--- The rows of a sound database have a value for each column, so what is shown of all columns is the whole row.
+-- The rows of a sound database have a value for each column, so what is shown of all columns is the
+-- whole row.
 use Rattle.std.proofs.Common.{◌≡◌, ℕ, zero, suc, ◌+◌, ◌<◌, ◌≤◌, ℤ, List, [], ◌∷◌, ◌++◌, length, map, take, drop, not, ◌||◌, Bool, true, false, Option, refl, sym, ap, subst, ◌∙◌, arith, IsTrue}
 use Rattle.std.specs.List.{AllByRecursion}
 use Rattle.sqlite.specs.declared.types.Value.{Value}

@@ -50,6 +50,7 @@ abbrev pub Compares : Bool → State → State → Type 0
 Compares true one two = (t : TableName) → ShowBoth (whole_text t) one two true
 Compares false one two = (t : TableName) × ShowBoth (whole_text t) one two false
 
--- the rows of the book's tables stand in the order of their rowids, which are integers, as a store keeps the rows of any table
+-- the rows of the book's tables stand in the order of their rowids, which are integers, as a store
+-- keeps the rows of any table
 abbrev pub AreTables : Database → Type 0
 AreTables db = AllByRecursion (λ (t : Table). IsShaped shape.Table (book_trees db t.tree)) book_tables

@@ -1,4 +1,5 @@
--- The enrolments of a register, and how they are found one by one, by the texts of the depositors' names.
+-- The enrolments of a register, and how they are found one by one, by the texts of the depositors'
+-- names.
 use Rattle.std.specs.Prelude.{◌≡◌, ℕ, ◌+◌, pos, false, not, List, [], ◌∷◌, ◌++◌, filter, if◌then◌else◌, Option, None, Some, codes}
 use Rattle.sqlite.specs.Order.{Row}
 use Rattle.sqlite.specs.declared.types.Value.TheVariants.{Int, Text}
@@ -15,7 +16,9 @@ pub record EnrolmentFacts : Type 0 where
 -- those of entries that stand after the first n
 abbrev pub enrolments_after : ℕ → List Entry → List EnrolmentFacts
 enrolments_after n [] = []
-enrolments_after n (e ∷ L) = if is_numbered e then enrolments_after (n + 1) L else record { seq = n + 1; who = e.who } ∷ enrolments_after (n + 1) L
+enrolments_after n (e ∷ L) =
+    if is_numbered e then enrolments_after (n + 1) L
+    else record { seq = n + 1; who = e.who } ∷ enrolments_after (n + 1) L
 
 abbrev pub enrolments : List Entry → List EnrolmentFacts
 enrolments L = enrolments_after 0 L
@@ -27,7 +30,9 @@ from_text t es = filter (λ e. not (comes_before (who_text e.who) t)) es
 -- the first of them by the depositors' texts; none where there are none
 abbrev pub IsFirstFrom : List ℕ → List EnrolmentFacts → Option EnrolmentFacts → Type 0
 IsFirstFrom t es None = from_text t es ≡ []
-IsFirstFrom t es (Some e) = Has (from_text t es) e × ((x : EnrolmentFacts) → Has (from_text t es) x → comes_before (who_text x.who) (who_text e.who) ≡ false)
+IsFirstFrom t es (Some e) = Has (from_text t es) e
+    × ((x : EnrolmentFacts) → Has (from_text t es) x
+    → comes_before (who_text x.who) (who_text e.who) ≡ false)
 
 -- the text that comes next after a depositor's by bytes: no other comes between the two
 abbrev pub next_text : Who → List ℕ

@@ -44,5 +44,6 @@ function_as Adjustment = Some functions.Adjustment
 -- the row of a number is that of the document under it, or of an answer where there is none
 abbrev pub IsRowOf : ℕ → OutRow → Option PageDocument → Type 0
 IsRowOf n r None = r.kind ≡ kind_text Answer
-IsRowOf n r (Some d) = (kind : OutKind) × (function : Function) × (function_as kind ≡ Some function) × (r.kind ≡ kind_text kind) × (r.state ≡ state_text d.said)
+IsRowOf n r (Some d) = (kind : OutKind) × (function : Function) × (function_as kind ≡ Some function)
+    × (r.kind ≡ kind_text kind) × (r.state ≡ state_text d.said)
     × (d ≡ record { n = n; function = function_text function; said = d.said })

@@ -1,4 +1,5 @@
--- What is sought of a depositor's page by texts and numbers, and the part of the page that is named so.
+-- What is sought of a depositor's page by texts and numbers, and the part of the page that is named
+-- so.
 use Rattle.std.specs.Prelude.{◌≡◌, ◌==◌, ℕ, false, ◌||◌, List, [], map, Option, None, Some, Result, IfOk, bytes_eq, if◌then◌else◌, length}
 use Rattle.sqlite.specs.Held.{state}
 use Rattle.sqlite.specs.State.{HasCleanDisk}
@@ -12,14 +13,19 @@ use Rattle.rules.specs.Pages.{PageFacts}
 use Rattle.rules.specs.Parts.{Named, part_of}
 use Rattle.rules.specs.Naming.{facts_of}
 use Rattle.store.specs.Open.{OpenWork}
-use Rattle.store.specs.declared.fault.Fault.{Fault}
+use Rattle.store.specs.Fault.{Fault}
 use Rattle.book_statements.specs.Exits.{StandsWhileOpen}
 use Rattle.book_statements.specs.Kept.{Kept}
 use Rattle.book_tables.specs.declared.needed.Sought.{Sought}
 use Rattle.book_tables.specs.declared.needed.Sought.TheVariants.{Advice, Order, Lots}
 
 abbrev pub none_named : Named
-none_named = record { items = λ t. false; shipments = λ t. false; orders = λ t. false; documents = λ n. false }
+none_named = record {
+  items = λ t. false;
+  shipments = λ t. false;
+  orders = λ t. false;
+  documents = λ n. false;
+}
 
 -- what is sought by a text is named besides, or by each of these texts
 abbrev pub with_text : Sought → List ℕ → Named → Named
@@ -43,9 +49,12 @@ with_numbers ms n = record n { documents = λ j. n.documents j || is_number_of m
 abbrev pub part_for : List Entry → Who → Named → PageFacts
 part_for L who n = part_of n (facts_of (page_of (own L who)))
 
--- of tables that stand for a register, what is named besides comes to a part of the depositor's page
-abbrev pub Gathers : {S : Type 0} → Ghosts S → Kept S → Kept S → Who → PageFacts → (Named → Named) → Result PageFacts Fault → Type 0
-Gathers store old new who draft more result = HasCleanDisk (state store new.conn) → (W : Who) (L : List Entry) → StandsWhileOpen (state store old.conn) W L
+-- of tables that stand for a register, what is named besides comes to a part of the depositor's
+-- page
+abbrev pub Gathers : {S : Type 0} → Ghosts S → Kept S → Kept S → Who → PageFacts → (Named → Named)
+    → Result PageFacts Fault → Type 0
+Gathers store old new who draft more result = HasCleanDisk (state store new.conn)
+    → (W : Who) (L : List Entry) → StandsWhileOpen (state store old.conn) W L
     → (n : Named) → draft ≡ part_for L who n → IfOk result (λ d. d ≡ part_for L who (more n))
 
 -- what is open, by its names, and nothing else
@@ -59,4 +68,5 @@ open_need work = record {
 
 -- just the part that is needed of a depositor's page; a stranger has none
 abbrev pub needed_part : Need → List Entry → Who → Option PageFacts
-needed_part need L who = if length (own L who) == 0 then None else Some (facts_of (part (page_of (own L who)) need))
+needed_part need L who =
+    if length (own L who) == 0 then None else Some (facts_of (part (page_of (own L who)) need))

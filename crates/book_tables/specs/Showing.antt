@@ -14,7 +14,8 @@ use Rattle.book_statements.specs.Held.{value_of, values}
 
 -- item, lot, expected, on_hand, reserved, shipped: all but the date
 abbrev pub stock_shown : StockRow → Row
-stock_shown r = Text r.item ∷ Text r.lot ∷ Int (pos r.expected) ∷ Int (pos r.on_hand) ∷ Int (pos r.reserved) ∷ Int (pos r.shipped) ∷ []
+stock_shown r = Text r.item ∷ Text r.lot ∷ Int (pos r.expected) ∷ Int (pos r.on_hand)
+    ∷ Int (pos r.reserved) ∷ Int (pos r.shipped) ∷ []
 
 -- the row has a text that went out
 abbrev pub HasText : Row → Type 0
@@ -34,7 +35,8 @@ pub record IsSent (r : OutRow) : Type 0 where
 
 -- item, lot, since, expected, on_hand, reserved, shipped: all but the date
 abbrev pub lot_shown : LotRow → Row
-lot_shown r = Text r.item ∷ Text r.lot ∷ Int (pos r.since) ∷ Int (pos r.expected) ∷ Int (pos r.on_hand) ∷ Int (pos r.reserved) ∷ Int (pos r.shipped) ∷ []
+lot_shown r = Text r.item ∷ Text r.lot ∷ Int (pos r.since) ∷ Int (pos r.expected)
+    ∷ Int (pos r.on_hand) ∷ Int (pos r.reserved) ∷ Int (pos r.shipped) ∷ []
 
 -- an advice but for its lines: shipment, ord, is_open
 abbrev pub advice_shown : PageAdvice → Row

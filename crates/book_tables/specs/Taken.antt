@@ -6,7 +6,8 @@ use Rattle.sqlite_schema.specs.Names.{same_name}
 
 -- SQLite doesn't tell the case of names apart
 abbrev pub is_one_of : List ℕ → List ℕ → List ℕ → List ℕ → Bool
-is_one_of name first second third = same_name name first || same_name name second || same_name name third
+is_one_of name first second third = same_name name first || same_name name second
+    || same_name name third
 
 abbrev pub is_book_name : List ℕ → Bool
 is_book_name name = is_one_of name (codes "book") (codes "entry") (codes "outgoing")

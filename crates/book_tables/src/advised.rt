@@ -29,7 +29,12 @@ struct BareAdvice {
 impl Model for BareAdvice {
     ghost Value = { PageAdvice };
 
-    ghost view = { λ a. record { shipment = a.shipment.items; order = a.order.items; lines = []; is_open = a.is_open } };
+    ghost view = { λ a. record {
+      shipment = a.shipment.items;
+      order = a.order.items;
+      lines = [];
+      is_open = a.is_open;
+    } };
 }
 
 // The advice that a row of shipment, ord and is_open shows, but for its lines; None where it shows

@@ -39,7 +39,12 @@ impl<S: Alter + Drop> Model for Tables<S> {
 
     ghost coded = { kept_code S.code };
 
-    ghost view = { λ t. record { conn = t.conn; refused = t.calls.refused; made = t.calls.made; limit = t.calls.limit } };
+    ghost view = { λ t. record {
+      conn = t.conn;
+      refused = t.calls.refused;
+      made = t.calls.made;
+      limit = t.calls.limit;
+    } };
 
     ghost invariant = { λ t. t.conn.in_transaction ≡ false };
 }

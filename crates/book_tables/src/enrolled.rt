@@ -14,7 +14,6 @@ ghost use Rattle.book_tables.specs.Enrolments.{EnrolmentFacts, IsFirstFrom, enro
 
 use crate::connected::Tables;
 use crate::reading::{number_at, text_at};
-use book_statements::partner_text;
 use rules::Who;
 use sqlite::types::ValueRef;
 use sqlite::{Alter, Row};
@@ -64,7 +63,7 @@ fn add_enrolment(
     ensures text { IfOk result (λ text. text.items ≡ next_text enrolment.who) }
 {
     found.push(enrolment)?;
-    let mut text = partner_text(alloc, &enrolment.who)?;
+    let mut text = enrolment.who.text(alloc)?;
     text.push(0)?;
     Ok(text)
 }

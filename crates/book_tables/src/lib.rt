@@ -25,5 +25,4 @@ mod shown;
 mod stocked;
 mod taken;
 
-pub use book_statements::partner_text;
 pub use connected::Tables;

@@ -7,7 +7,6 @@ ghost use Rattle.sqlite.specs.Values.{bound};
 ghost use Rattle.book_statements.specs.Asking.{Asked, Finds, OnlyReads};
 
 use crate::connected::Tables;
-use book_statements::partner_text;
 use rules::Who;
 use sqlite::types::ValueRef;
 use sqlite::{Alter, Row};
@@ -45,7 +44,7 @@ impl<S: Alter + Drop> Tables<S> {
         ensures live { OnOk result (IsLive (state S.Store self.old.conn)) }
         ensures asked { Asked S.Store self.old self.new result }
     {
-        let text = partner_text(alloc, &who)?;
+        let text = who.text(alloc)?;
         self.ask(sql, &[ValueRef::Text(&text)])
     }
 
@@ -65,7 +64,7 @@ impl<S: Alter + Drop> Tables<S> {
         ensures live { OnOk result (IsLive (state S.Store self.old.conn)) }
         ensures asked { Asked S.Store self.old self.new result }
     {
-        let text = partner_text(alloc, &who)?;
+        let text = who.text(alloc)?;
         self.ask(sql, &text_params(&text, key))
     }
 
@@ -85,7 +84,7 @@ impl<S: Alter + Drop> Tables<S> {
         ensures live { OnOk result (IsLive (state S.Store self.old.conn)) }
         ensures asked { Asked S.Store self.old self.new result }
     {
-        let text = partner_text(alloc, &who)?;
+        let text = who.text(alloc)?;
         self.ask(sql, &number_params(&text, n))
     }
 }

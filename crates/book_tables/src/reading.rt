@@ -12,7 +12,6 @@ ghost use Rattle.rules.specs.Written.{Written};
 ghost use Rattle.book_statements.specs.Held.{value_of};
 ghost use Rattle.book_statements.specs.Recorded.{IsHouse, rules_shown};
 
-use book_statements::moment_text;
 use profile::Rules;
 use rules::{Moment, Warehouse, Who};
 use sqlite::Row;
@@ -177,7 +176,7 @@ pub(crate) fn moment_of(text: &[u8]) -> Option<Moment>
         value(&text[8..10]),
         value(&text[10..12]),
     )?;
-    if moment_text(moment).as_slice() == text {
+    if moment.stamp().as_slice() == text {
         Some(moment)
     } else {
         None

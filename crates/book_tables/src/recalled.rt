@@ -56,7 +56,7 @@ impl<S: Alter + Drop> Tables<S> {
     fn content_under(&mut self, alloc: Global, who: Who, n: u32) -> Result<Vec<u8>, Fault>
         ensures content { OfStanding S.Store self.old self.new
             (λ W L. (before : List register.Entry) (e : register.Entry)
-            (behind : List register.Entry) → register.own L who ≡ before ++ e ∷ behind
+            (back : List register.Entry) → register.own L who ≡ before ++ e ∷ back
             → n ≡ (if register.is_numbered e then register.next_number before else 0)
             → IfOk result (λ content. content.items ≡ out W before e)) }
         ensures asked { Asked S.Store self.old self.new result }

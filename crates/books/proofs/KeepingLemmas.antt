@@ -63,7 +63,8 @@ is_appended s W n L e seq who row cs text kept more named next = record {
   appends = record { next = more ∙ ap (λ (k : ℕ). k + 1) kept.count; entry = next.entry; outgoing = next.outgoing; leads = next.leads };
 }
 
--- an open connection at rest, whose tables stand for a register, and of which a crash leaves the last commit alone, is settled on it
+-- an open connection at rest, whose tables stand for a register, and of which a crash leaves the
+-- last commit alone, is settled on it
 pub settled_at : (s : State) (W : Who) (L : List Entry) → IsTrue s.is_open → IsLive s → (IsTrue s.is_open → s.now ≡ s.committed) → ((db : Trees) → s.may_leave db → db ≡ s.committed.trees)
     → StandsWhileOpen s W L → IsSettled s W L
 settled_at s W L open' live rest law stands =

@@ -11,7 +11,7 @@ use Rattle.profile.specs.declared.rules.Rules.TheVariants.{One, Two}
 use Rattle.profile.specs.Rules.{rules_number}
 use Rattle.profile.specs.Header.{Who}
 use Rattle.profile.specs.Register.{Entry}
-use Rattle.store.specs.declared.fault.Fault.{Fault}
+use Rattle.store.specs.Fault.{Fault}
 use Rattle.store.specs.Standing.{IsUsable}
 use Rattle.book_statements.specs.Asking.{IsAsked, IsOfFirst, Finds, house_text}
 use Rattle.book_statements.specs.Carrying.{CarriesOver, LeavesCarried, StandsOpenAs}
@@ -88,7 +88,8 @@ module _ {S T : Type 0} (store : Ghosts S) (version : Rules) (entries : ℕ) (ol
           let settled = settled_at before W L opened live rest law stands in
           subst (λ (k : Kept S). IsUsable (standing_in (state store k.conn) house entries refused false) L) (sym (brought.stays two)) (opened_usable before between W entries refused L (clean_mid clean) asked count house same settled)
 
-  -- and where it fails, a crash leaves the register of a book of version 1 in that version or in version 2
+  -- and where it fails, a crash leaves the register of a book of version 1 in that version or in
+  -- version 2
   pub leaves_carried : (W : Who) (L : List Entry) → HasCleanDisk after → version ≡ One → entries ≡ length L → StandsOpenAs One before W L → AllStandAs One before W L → (db : Trees) → after.may_leave db → LeavesCarried W L db
   leaves_carried W L clean one count stands all db may =
       let later = brought.crash one in

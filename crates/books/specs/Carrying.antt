@@ -1,4 +1,5 @@
--- What opening leaves of tables: a book of version 1 is carried over to version 2, and others stay as they are.
+-- What opening leaves of tables: a book of version 1 is carried over to version 2, and others stay
+-- as they are.
 use Rattle.std.specs.Prelude.{◌≡◌, ◌≤◌, ℕ, List, Result, OnOk, OnErr, length}
 use Rattle.sqlite.specs.Tree.{Trees}
 use Rattle.sqlite.specs.Held.{state}
@@ -9,19 +10,24 @@ use Rattle.profile.specs.declared.rules.Rules.{Rules}
 use Rattle.profile.specs.declared.rules.Rules.TheVariants.{One, Two}
 use Rattle.profile.specs.Header.{Who}
 use Rattle.profile.specs.Register.{Entry}
-use Rattle.store.specs.declared.fault.Fault.{Fault}
+use Rattle.store.specs.Fault.{Fault}
 use Rattle.book_statements.specs.Asking.{IsAsked, IsOfFirst}
 use Rattle.book_statements.specs.Carrying.{CarriesOver, StandsInAs, StandsOpenAs}
 use Rattle.book_statements.specs.Exits.{LeavesIt}
 use Rattle.book_statements.specs.Kept.{Kept}
 use Rattle.book_statements.specs.Standing.{StandsIn}
 
--- tables of version 1 with so many entries are carried over, and those of version 2 stay as they are
+-- tables of version 1 with so many entries are carried over, and those of version 2 stay as they
+-- are
 pub record BringsUp {S T : Type 0} (store : Ghosts S) (version : Rules) (entries : ℕ) (old new : Kept S) (result : Result T Fault) : Type 0 where
   pub stays : version ≡ Two → new ≡ old
   pub fails : OnErr result (version ≡ One)
-  pub done : HasCleanDisk (state store new.conn) → version ≡ One → OnOk result (CarriesOver entries (state store old.conn) (state store new.conn) × LeavesIt (state store new.conn))
-  pub crash : version ≡ One → Survives (state store old.conn) (state store new.conn) (λ db. (W : Who) (L : List Entry) → entries ≡ length L → StandsOpenAs One (state store old.conn) W L → StandsIn W L db)
+  pub done : HasCleanDisk (state store new.conn) → version ≡ One
+      → OnOk result (CarriesOver entries (state store old.conn) (state store new.conn)
+      × LeavesIt (state store new.conn))
+  pub crash : version ≡ One
+      → Survives (state store old.conn) (state store new.conn) (λ db. (W : Who) (L : List Entry)
+      → entries ≡ length L → StandsOpenAs One (state store old.conn) W L → StandsIn W L db)
 
 -- opening makes no disk clean, and leaves tables as they were whose `book` doesn't name version 1
 pub record OpensAs (old new : State) : Type 0 where

@@ -26,7 +26,8 @@ standing_in s W entries refused shut = record {
   shut = shut;
 }
 
--- the tables stand for the legal register while the store is open, and a crash leaves what stands for it alone
+-- the tables stand for the legal register while the store is open, and a crash leaves what stands
+-- for it alone
 pub record IsSettled (s : State) (W : Who) (L : List Entry) : Type 0 where
   pub legal : IsLegal Two W L
   pub stands : StandsWhileOpen s W L

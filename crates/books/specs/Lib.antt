@@ -2,3 +2,4 @@ pub mod Keeping
 pub mod Opened
 pub mod Verified
 pub mod Carrying
+pub mod Opening

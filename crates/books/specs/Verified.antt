@@ -1,5 +1,6 @@
--- What checking a book whole goes by: a copy in memory, to which the commands of its entries were given again.
-use Rattle.std.specs.Prelude.{◌≡◌, ◌≤◌, ℕ, List, [], ◌∷◌, length, take}
+-- What checking a book whole goes by: a copy in memory, to which the commands of its entries were
+-- given again.
+use Rattle.std.specs.Prelude.{◌≡◌, ◌≤◌, ℕ, List, [], ◌∷◌, length, take, Result, IfOk, IsTrue}
 use Rattle.sqlite.specs.Effect.{Database}
 use Rattle.sqlite.specs.State.{State, HasCleanDisk}
 use Rattle.sqlite.specs.Held.{Held, state}
@@ -14,8 +15,11 @@ use Rattle.profile.specs.Header.{Who}
 use Rattle.profile.specs.Register.{Entry}
 use Rattle.profile.specs.Accepted.{IsLegal}
 use Rattle.store.specs.Standing.{Standing, IsUsable}
+use Rattle.store.specs.Fault.{Fault}
 use Rattle.book_statements.specs.Exits.{StandsWhileOpen}
 use Rattle.book_statements.specs.Standing.{Stands}
+use Rattle.book_tables.specs.Comparing.{AreTables, IsLaid}
+use Rattle.books.specs.Opened.{Opened, standing_of}
 
 -- the rules of the last of these entries, or those before it
 abbrev pub last_rules : Rules → List Entry → Rules
@@ -55,3 +59,18 @@ pub record StandsForMany (W : Who) (n : ℕ) (db : Database) : Type 0 where
   pub register : List Entry
   pub long : length register ≡ n
   pub stands : Stands W register db
+
+-- what a check of a book says that ends: its tables, where they are open and are tables of a book,
+-- stand for a register of so many entries
+abbrev pub StandsChecked : {S : Type 0} → Ghosts S → Opened S → Opened S → Result ℕ Fault → Type 0
+StandsChecked store old new result =
+    (standing_of store new).doubt ≡ 0 → IsLaid (state store old.tables.conn)
+    → (IsTrue (state store old.tables.conn).is_open → AreTables (state store old.tables.conn).now)
+    → IfOk result (λ n. IsTrue (state store old.tables.conn).is_open
+    × StandsForMany old.warehouse n (state store old.tables.conn).now)
+
+-- and it counts the entries of each register that the book keeps
+abbrev pub CountsKept : {S : Type 0} → Ghosts S → Opened S → Opened S → Result ℕ Fault → Type 0
+CountsKept store old new result =
+    (standing_of store new).doubt ≡ 0 → (L : List Entry) → (standing_of store old).keeps L
+    → IfOk result (λ n. n ≡ length L)

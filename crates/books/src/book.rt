@@ -1,31 +1,15 @@
-ghost use Rattle.std.specs.Prelude.{IsTrue, length, ◌≡◌, ◌≢◌, ◌⊎◌, ◌≤◌, ◌<◌, ◌^◌, ◌-◌, ◌++◌, ◌∷◌, [], List, true, false, IfErr, IfOk, OnOk, OnErr, IsErrOf, IsErrAnd, Some, option_map};
+ghost use Rattle.std.specs.Prelude.{◌≡◌, ◌≢◌, ◌⊎◌, ◌<◌, ◌^◌, ◌-◌, [], true, false, IfErr, IfOk, OnOk, OnErr, IsErrOf, IsErrAnd, Some};
 ghost use Rattle.profile.specs.declared.rules.Rules.TheVariants.{One, Two};
-ghost use Rattle.profile.specs.Header.{Who as Partner};
-ghost use Rattle.profile.specs.Decision as decided;
-ghost use Rattle.profile.specs.Register as register;
-ghost use Rattle.profile.specs.Rows.{stock_of, outbox_of};
-ghost use Rattle.rules.specs.Asked.{mark_of};
-ghost use Rattle.rules.specs.Decided.{IsHeldAtRest, IsRecalled};
 ghost use Rattle.sqlite.specs.State.{HasCleanDisk, Survives};
 ghost use Rattle.sqlite.specs.Held.{state};
-ghost use Rattle.sqlite.specs.Tree.{Trees};
-ghost use Rattle.sqlite.specs.Order.{Row as Cells};
-ghost use Rattle.store.specs.Held.{IsHeld};
-ghost use Rattle.store.specs.Known.{first_under};
-ghost use Rattle.store.specs.Sent.{text_of};
-ghost use Rattle.store.specs.Standing.{IsUsable, IsUnchanged, IsQuery, IsNext, IsFault, IsCommitFault, LeavesEither, GoesOn, OfKept};
-ghost use Rattle.book_statements.specs.Asking.{Finds, IsAsked, house_text};
-ghost use Rattle.book_statements.specs.Carrying.{LeavesCarried, StandsOpenAs};
+ghost use Rattle.store.specs.Standing.{IsUsable, IsQuery};
 ghost use Rattle.book_statements.specs.Exits.{IsAsBefore};
-ghost use Rattle.book_tables.specs.Comparing.{AreTables, IsLaid};
-ghost use Rattle.books.specs.Carrying.{AllStandAs, BringsUp, OpensAs};
-ghost use Rattle.books.specs.Keeping.{IsKept};
-ghost use Rattle.books.specs.Verified.{IsAlwaysClean, StandsForMany};
+ghost use Rattle.books.specs.Carrying.{BringsUp};
+ghost use Rattle.books.specs.Verified.{CountsKept, IsAlwaysClean, StandsChecked};
 ghost use Rattle.book_statements.specs.Limits.{Counts};
-ghost use Rattle.book_tables.specs.Needed.{needed_part};
 ghost use Rattle.book_statements.specs.Layout.{no_layout};
 ghost use Rattle.books.specs.Opened.{standing_of};
-ghost use Rattle.book_statements.specs.Recorded.{IsHouse};
+ghost use Rattle.books.specs.Opening.{IsHandedBack, IsOpened};
 ghost use Rattle.book_statements.specs.Rises.{Rises};
 ghost use Rattle.book_statements.specs.Standing.{StandsIn};
 ghost use Rattle.book_tables.specs.Taken.{has_book_table};
@@ -60,7 +44,12 @@ impl<S: Alter + Drop> Model for Book<S> {
 
     ghost coded = { opened_code S.code };
 
-    ghost view = { λ b. record { tables = b.tables; warehouse = b.warehouse; entries = b.entries; shut = b.shut } };
+    ghost view = { λ b. record {
+      tables = b.tables;
+      warehouse = b.warehouse;
+      entries = b.entries;
+      shut = b.shut;
+    } };
 }
 
 // Carries tables of version 1, which have so many entries, over to version 2; those of version 2
@@ -97,18 +86,21 @@ impl<S: Alter + Drop> Book<S> {
         warehouse: Warehouse,
     ) -> Result<Book<S>, (Fault, Tables<S>)>
         ensures usable { IfOk result (λ b. HasCleanDisk (state S.Store b.tables.conn)
-            → (state S.Store tables.conn).now.schema ≡ no_layout → IsUsable (standing_of S.Store b) []) }
+            → (state S.Store tables.conn).now.schema ≡ no_layout
+            → IsUsable (standing_of S.Store b) []) }
         ensures warehouse { IfOk result (λ b. b.warehouse ≡ warehouse) }
         ensures opened { IfOk result (λ b. b.shut ≡ false) }
         ensures before { IfErr result (λ e. HasCleanDisk (state S.Store e.1.conn)
             → IsAsBefore (state S.Store tables.conn) (state S.Store e.1.conn)) }
-        ensures crash { IfErr result (λ e. Survives (state S.Store tables.conn) (state S.Store e.1.conn) (λ db.
+        ensures crash { IfErr result
+            (λ e. Survives (state S.Store tables.conn) (state S.Store e.1.conn) (λ db.
             (state S.Store tables.conn).now.schema ≡ no_layout → StandsIn warehouse [] db)) }
         ensures taken { has_book_table (state S.Store tables.conn).now.schema.tables ≡ true
             → IsErrAnd result (λ e. (e.0 ≡ Fault.NotThisBook) × (e.1 ≡ tables)) }
         ensures free { IfErr result (λ e. e.0 ≡ Fault.NotThisBook
             → has_book_table (state S.Store tables.conn).now.schema.tables ≡ true) }
-        ensures counted { IfErr result (λ e. e.0 ≢ Fault.NotThisBook → Rises tables.refused e.1.refused) }
+        ensures counted { IfErr result
+            (λ e. e.0 ≢ Fault.NotThisBook → Rises tables.refused e.1.refused) }
         ensures named { IfErr result (λ e. (e.0 ≡ Fault.NotThisBook) ⊎ ((e.0 ≡ Fault.OutOfMemory)
             ⊎ (e.0 ≡ Fault.Store))) }
         ensures uncounted_ok { IfOk result (λ b. b.tables.refused ≡ tables.refused) }
@@ -138,37 +130,8 @@ impl<S: Alter + Drop> Book<S> {
     /// which leaves the tables as they were, whatever they are.
     #[tactic(auto, using(book_statements::proofs::Limited::spends_both, book_statements::proofs::Limited::spends_same))]
     pub fn open_from(alloc: Global, tables: Tables<S>) -> Result<Book<S>, (Fault, Tables<S>)>
-        ensures usable { IfOk result (λ b. HasCleanDisk (state S.Store b.tables.conn)
-            → (q : Rules) (W : Partner) (L : List register.Entry) → StandsOpenAs q (state S.Store tables.conn) W L
-            → IsUsable (standing_of S.Store b) L) }
-        ensures keeps { IfOk result (λ b. HasCleanDisk (state S.Store b.tables.conn)
-            → (q : Rules) (W : Partner) (L : List register.Entry) → StandsOpenAs q (state S.Store tables.conn) W L
-            → (b.warehouse ≡ W) × IsKept (state S.Store b.tables.conn) W b.entries L) }
-        ensures opened { IfOk result (λ b. b.shut ≡ false) }
-        ensures still { IfOk result (λ b. OpensAs (state S.Store tables.conn) (state S.Store b.tables.conn)) }
-        ensures house { IfOk result (λ b. HasCleanDisk (state S.Store b.tables.conn)
-            → (rows : List Cells) × Finds house_text [] (state S.Store tables.conn).now rows
-            × ((q : Rules) × IsHouse q rows b.warehouse)) }
-        ensures not_this { IfErr result (λ e. e.0 ≡ Fault.NotThisBook → HasCleanDisk (state S.Store e.1.conn)
-            → (rows : List Cells) × Finds house_text [] (state S.Store tables.conn).now rows
-            × ((q : Rules) (W : Partner) → IsHouse q rows W → ⊥)) }
-        ensures this { IfErr result (λ e. HasCleanDisk (state S.Store e.1.conn)
-            → (q : Rules) (W : Partner) (L : List register.Entry) → StandsOpenAs q (state S.Store tables.conn) W L
-            → e.0 ≢ Fault.NotThisBook) }
-        ensures asked { IfErr result (λ e. OpensAs (state S.Store tables.conn) (state S.Store e.1.conn)) }
-        ensures untouched { IfErr result (λ e. e.0 ≡ Fault.NotThisBook
-            → IsAsked (state S.Store tables.conn) (state S.Store e.1.conn)) }
-        ensures carried { IfErr result (λ e. HasCleanDisk (state S.Store e.1.conn)
-            → (W : Partner) (L : List register.Entry) → StandsOpenAs One (state S.Store tables.conn) W L
-            → AllStandAs One (state S.Store tables.conn) W L
-            → (db : Trees) → (state S.Store e.1.conn).may_leave db → LeavesCarried W L db) }
-        ensures counted { IfErr result (λ e. e.0 ≢ Fault.NotThisBook → Rises tables.refused e.1.refused) }
-        ensures uncounted { IfErr result (λ e. e.0 ≡ Fault.NotThisBook → e.1.refused ≡ tables.refused) }
-        ensures named { IfErr result (λ e. (e.0 ≡ Fault.NotThisBook) ⊎ ((e.0 ≡ Fault.OutOfMemory)
-            ⊎ (e.0 ≡ Fault.Store))) }
-        ensures uncounted_ok { IfOk result (λ b. b.tables.refused ≡ tables.refused) }
-        ensures limit { IfOk result (λ b. Counts tables b.tables) }
-        ensures limit_back { IfErr result (λ e. Counts tables e.1) }
+        ensures ok { IfOk result (IsOpened S.Store tables) }
+        ensures err { IfErr result (λ e. IsHandedBack S.Store tables e.0 e.1) }
         ensures allowed { OnOk result (tables.limit ≢ Some 0) }
     {
         Book::open_from_telling(alloc, tables, |_, _| {})
@@ -183,37 +146,8 @@ impl<S: Alter + Drop> Book<S> {
         told: T,
     ) -> Result<Book<S>, (Fault, Tables<S>)>
         requires told { T.IsAlwaysCallable told }
-        ensures usable { IfOk result (λ b. HasCleanDisk (state S.Store b.tables.conn)
-            → (q : Rules) (W : Partner) (L : List register.Entry) → StandsOpenAs q (state S.Store tables.conn) W L
-            → IsUsable (standing_of S.Store b) L) }
-        ensures keeps { IfOk result (λ b. HasCleanDisk (state S.Store b.tables.conn)
-            → (q : Rules) (W : Partner) (L : List register.Entry) → StandsOpenAs q (state S.Store tables.conn) W L
-            → (b.warehouse ≡ W) × IsKept (state S.Store b.tables.conn) W b.entries L) }
-        ensures opened { IfOk result (λ b. b.shut ≡ false) }
-        ensures still { IfOk result (λ b. OpensAs (state S.Store tables.conn) (state S.Store b.tables.conn)) }
-        ensures house { IfOk result (λ b. HasCleanDisk (state S.Store b.tables.conn)
-            → (rows : List Cells) × Finds house_text [] (state S.Store tables.conn).now rows
-            × ((q : Rules) × IsHouse q rows b.warehouse)) }
-        ensures not_this { IfErr result (λ e. e.0 ≡ Fault.NotThisBook → HasCleanDisk (state S.Store e.1.conn)
-            → (rows : List Cells) × Finds house_text [] (state S.Store tables.conn).now rows
-            × ((q : Rules) (W : Partner) → IsHouse q rows W → ⊥)) }
-        ensures this { IfErr result (λ e. HasCleanDisk (state S.Store e.1.conn)
-            → (q : Rules) (W : Partner) (L : List register.Entry) → StandsOpenAs q (state S.Store tables.conn) W L
-            → e.0 ≢ Fault.NotThisBook) }
-        ensures asked { IfErr result (λ e. OpensAs (state S.Store tables.conn) (state S.Store e.1.conn)) }
-        ensures untouched { IfErr result (λ e. e.0 ≡ Fault.NotThisBook
-            → IsAsked (state S.Store tables.conn) (state S.Store e.1.conn)) }
-        ensures carried { IfErr result (λ e. HasCleanDisk (state S.Store e.1.conn)
-            → (W : Partner) (L : List register.Entry) → StandsOpenAs One (state S.Store tables.conn) W L
-            → AllStandAs One (state S.Store tables.conn) W L
-            → (db : Trees) → (state S.Store e.1.conn).may_leave db → LeavesCarried W L db) }
-        ensures counted { IfErr result (λ e. e.0 ≢ Fault.NotThisBook → Rises tables.refused e.1.refused) }
-        ensures uncounted { IfErr result (λ e. e.0 ≡ Fault.NotThisBook → e.1.refused ≡ tables.refused) }
-        ensures named { IfErr result (λ e. (e.0 ≡ Fault.NotThisBook) ⊎ ((e.0 ≡ Fault.OutOfMemory)
-            ⊎ (e.0 ≡ Fault.Store))) }
-        ensures uncounted_ok { IfOk result (λ b. b.tables.refused ≡ tables.refused) }
-        ensures limit { IfOk result (λ b. Counts tables b.tables) }
-        ensures limit_back { IfErr result (λ e. Counts tables e.1) }
+        ensures ok { IfOk result (IsOpened S.Store tables) }
+        ensures err { IfErr result (λ e. IsHandedBack S.Store tables e.0 e.1) }
         ensures allowed { OnOk result (tables.limit ≢ Some 0) }
     {
         // For the prover alone: what the tables show is what was committed last.
@@ -241,13 +175,8 @@ impl<S: Alter + Drop> Book<S> {
     /// holds a second book in memory for as long as it runs.
     #[tactic(auto, using(book_statements::proofs::Limited::spends_both, book_statements::proofs::Limited::spends_same))]
     pub fn verify(&mut self) -> Result<u64, Fault>
-        ensures stands { (standing_of S.Store self.new).doubt ≡ 0 → IsLaid (state S.Store self.old.tables.conn)
-            → (IsTrue (state S.Store self.old.tables.conn).is_open
-            → AreTables (state S.Store self.old.tables.conn).now)
-            → IfOk result (λ n. IsTrue (state S.Store self.old.tables.conn).is_open
-            × StandsForMany self.old.warehouse n (state S.Store self.old.tables.conn).now) }
-        ensures whole { (standing_of S.Store self.new).doubt ≡ 0 → (L : List register.Entry)
-            → (standing_of S.Store self.old).keeps L → IfOk result (λ n. n ≡ length L) }
+        ensures stands { StandsChecked S.Store self.old self.new result }
+        ensures whole { CountsKept S.Store self.old self.new result }
         ensures query { IsQuery (standing_of S.Store self.old) (standing_of S.Store self.new) result }
         ensures shut { self.old.shut ≡ true → IsErrOf result Fault.Reopen }
         ensures limit { Counts self.old.tables self.new.tables }
@@ -260,13 +189,8 @@ impl<S: Alter + Drop> Book<S> {
     #[tactic(auto, using(book_statements::proofs::Limited::spends_both, book_statements::proofs::Limited::spends_same))]
     pub fn verify_telling<T: FnMut(u64, u64)>(&mut self, told: T) -> Result<u64, Fault>
         requires told { T.IsAlwaysCallable told }
-        ensures stands { (standing_of S.Store self.new).doubt ≡ 0 → IsLaid (state S.Store self.old.tables.conn)
-            → (IsTrue (state S.Store self.old.tables.conn).is_open
-            → AreTables (state S.Store self.old.tables.conn).now)
-            → IfOk result (λ n. IsTrue (state S.Store self.old.tables.conn).is_open
-            × StandsForMany self.old.warehouse n (state S.Store self.old.tables.conn).now) }
-        ensures whole { (standing_of S.Store self.new).doubt ≡ 0 → (L : List register.Entry)
-            → (standing_of S.Store self.old).keeps L → IfOk result (λ n. n ≡ length L) }
+        ensures stands { StandsChecked S.Store self.old self.new result }
+        ensures whole { CountsKept S.Store self.old self.new result }
         ensures query { IsQuery (standing_of S.Store self.old) (standing_of S.Store self.new) result }
         ensures shut { self.old.shut ≡ true → IsErrOf result Fault.Reopen }
         ensures limit { Counts self.old.tables self.new.tables }
@@ -290,13 +214,8 @@ impl<S: Alter + Drop> Book<S> {
         requires empty { IsUsable (standing_of C.Store copy) [] }
         requires warehouse { copy.warehouse ≡ self.old.warehouse }
         requires told { T.IsAlwaysCallable told }
-        ensures stands { (standing_of S.Store self.new).doubt ≡ 0 → IsLaid (state S.Store self.old.tables.conn)
-            → (IsTrue (state S.Store self.old.tables.conn).is_open
-            → AreTables (state S.Store self.old.tables.conn).now)
-            → IfOk result (λ n. IsTrue (state S.Store self.old.tables.conn).is_open
-            × StandsForMany self.old.warehouse n (state S.Store self.old.tables.conn).now) }
-        ensures whole { (standing_of S.Store self.new).doubt ≡ 0 → (L : List register.Entry)
-            → (standing_of S.Store self.old).keeps L → IfOk result (λ n. n ≡ length L) }
+        ensures stands { StandsChecked S.Store self.old self.new result }
+        ensures whole { CountsKept S.Store self.old self.new result }
         ensures query { IsQuery (standing_of S.Store self.old) (standing_of S.Store self.new) result }
         ensures limit { Counts self.old.tables self.new.tables }
     {

@@ -15,7 +15,6 @@ ghost use Rattle.book_tables.specs.Needed.{needed_part};
 ghost use Rattle.books.specs.Opened.{standing_of};
 
 use crate::book::{Book, GREATEST};
-use book_tables::partner_text;
 use rules::{Change, Entry, Key, Known, Need, Page, Warehouse, Who};
 use sqlite::Alter;
 use store::{Fault, Keeper, OutRow, StockRow};
@@ -36,7 +35,8 @@ impl<S: Alter + Drop> Keeper for Book<S> {
         ensures page { OfKept (standing_of S.Store self.old) (standing_of S.Store self.new)
             (λ L. IfOk result (λ page. IsHeld need.now page (decided.standing (register.own L who)))) }
         ensures part { (standing_of S.Store self.new).doubt ≡ 0 → (L : List register.Entry)
-            → (standing_of S.Store self.old).keeps L → IfOk result (λ page. page ≡ needed_part need.now L who) }
+            → (standing_of S.Store self.old).keeps L → IfOk result
+            (λ page. page ≡ needed_part need.now L who) }
         ensures rest { IfOk result IsHeldAtRest }
         ensures query { IsQuery (standing_of S.Store self.old) (standing_of S.Store self.new) result }
         ensures shut { (standing_of S.Store self.old).shut ≡ true → IsErrOf result Fault.Reopen }
@@ -72,15 +72,18 @@ impl<S: Alter + Drop> Keeper for Book<S> {
     /// until then. 41 where the numbers that SQLite has for entries are used up.
     #[tactic(auto, using(book_statements::proofs::Limited::spends_both, book_statements::proofs::Limited::spends_same))]
     fn commit(&mut self, entry: &Entry, changes: &[Change], outgoing: &[u8]) -> Result<(), Fault>
-        ensures ok { (standing_of S.Store self.new).doubt ≡ 0 → (L : List register.Entry) (e : register.Entry)
+        ensures ok { (standing_of S.Store self.new).doubt ≡ 0
+            → (L : List register.Entry) (e : register.Entry)
             → IsUsable (standing_of S.Store self.old) L
             → IsNext (standing_of S.Store self.old).warehouse L e entry.now changes.now outgoing.now
             → OnOk result (IsUsable (standing_of S.Store self.new) (L ++ e ∷ [])) }
-        ensures keeps { (standing_of S.Store self.new).doubt ≡ 0 → (L : List register.Entry) (e : register.Entry)
+        ensures keeps { (standing_of S.Store self.new).doubt ≡ 0
+            → (L : List register.Entry) (e : register.Entry)
             → (standing_of S.Store self.old).keeps L
             → IsNext (standing_of S.Store self.old).warehouse L e entry.now changes.now outgoing.now
             → OnOk result ((standing_of S.Store self.new).keeps (L ++ e ∷ [])) }
-        ensures left { (standing_of S.Store self.new).doubt ≡ 0 → (L : List register.Entry) (e : register.Entry)
+        ensures left { (standing_of S.Store self.new).doubt ≡ 0
+            → (L : List register.Entry) (e : register.Entry)
             → IsUsable (standing_of S.Store self.old) L
             → IsNext (standing_of S.Store self.old).warehouse L e entry.now changes.now outgoing.now
             → OnErr result (LeavesEither (standing_of S.Store self.new) L (L ++ e ∷ [])) }
@@ -92,7 +95,8 @@ impl<S: Alter + Drop> Keeper for Book<S> {
         ensures broken { OnErr result
             ((standing_of S.Store self.old).refusals < (standing_of S.Store self.new).refusals
             → (standing_of S.Store self.new).shut ≡ true) }
-        ensures used_up { self.old.shut ≡ false → 2 ^ 63 - 1 ≤ self.old.entries → IsErrOf result Fault.Store }
+        ensures used_up { self.old.shut ≡ false → 2 ^ 63 - 1 ≤ self.old.entries
+            → IsErrOf result Fault.Store }
         ensures shut { (standing_of S.Store self.old).shut ≡ true
             → IsErrOf result Fault.Reopen
             × IsUnchanged (standing_of S.Store self.old) (standing_of S.Store self.new) }
@@ -106,7 +110,7 @@ impl<S: Alter + Drop> Keeper for Book<S> {
             self.shut = true;
             return Err(self.tables.use_up());
         }
-        let who = partner_text(self.alloc, &entry.who())?;
+        let who = entry.who().text(self.alloc)?;
         let seq = self.entries + 1;
         match self.tables.append(seq, &who, entry, changes, outgoing) {
             Ok(()) => {

@@ -38,14 +38,17 @@ fn give<K: Keeper>(
     entry: &Entry,
     last: Rules,
 ) -> Result<Option<Rules>, Fault>
-    ensures copy { (K.standing copy.new).doubt ≡ 0 → (W : Partner) → IsCopy last W (K.standing copy.old)
+    ensures copy { (K.standing copy.new).doubt ≡ 0 → (W : Partner)
+        → IsCopy last W (K.standing copy.old)
         → IfOk result (λ given. IfSome given (λ rules. IsCopy rules W (K.standing copy.new))) }
     ensures next { (K.standing copy.new).doubt ≡ 0
         → (L : List register.Entry) (e : register.Entry) (later : List register.Entry)
         → entry.now ≡ written L e → IsLegal Two (K.standing copy.old).warehouse (L ++ e ∷ later)
-        → last ≡ last_rules One L → IsLegal last (K.standing copy.old).warehouse L → IsUsable (K.standing copy.old) L
+        → last ≡ last_rules One L → IsLegal last (K.standing copy.old).warehouse L
+        → IsUsable (K.standing copy.old) L
         → IfOk result (λ given. (given ≡ Some e.rules)
-        × IsLegal e.rules (K.standing copy.new).warehouse (L ++ e ∷ []) × IsUsable (K.standing copy.new) (L ++ e ∷ [])) }
+        × IsLegal e.rules (K.standing copy.new).warehouse (L ++ e ∷ [])
+        × IsUsable (K.standing copy.new) (L ++ e ∷ [])) }
     ensures goes { GoesOn (K.standing copy.old) (K.standing copy.new) }
     ensures named { IfErr result (λ f. f ≡ Fault.OutOfMemory) }
 {
@@ -76,10 +79,13 @@ fn give_entry<S: Alter + Drop, C: Alter + Drop>(
     requires { IsAlwaysClean C.Store }
     ensures copy { (W : Partner) → IsCopy last W (standing_of C.Store copy.old)
         → IfOk result (λ given. IfSome given (λ rules. IsCopy rules W (standing_of C.Store copy.new))) }
-    ensures next { HasCleanDisk (state S.Store tables.new.conn) → (W : Partner) (L : List register.Entry)
-        → before < length L → Follows before last (state S.Store tables.old.conn) W (standing_of C.Store copy.old) L
+    ensures next { HasCleanDisk (state S.Store tables.new.conn)
+        → (W : Partner) (L : List register.Entry)
+        → before < length L → Follows before last (state S.Store tables.old.conn) W
+        (standing_of C.Store copy.old) L
         → IfOk result (λ given. IsSomeAnd given
-        (λ rules. Follows (before + 1) rules (state S.Store tables.new.conn) W (standing_of C.Store copy.new) L)) }
+        (λ rules. Follows (before
+        + 1) rules (state S.Store tables.new.conn) W (standing_of C.Store copy.new) L)) }
     ensures went { Went S.Store tables.old tables.new result }
 {
     if before >= GREATEST {
@@ -104,8 +110,10 @@ pub(crate) fn replayed<S: Alter + Drop, C: Alter + Drop, T: FnMut(u64, u64)>(
     requires clean { IsAlwaysClean C.Store }
     requires empty { IsUsable (standing_of C.Store copy) [] }
     requires told { T.IsAlwaysCallable told }
-    ensures copy { IfOk result (λ o. IfSome o (λ b. IsCopy Two copy.warehouse (standing_of C.Store b))) }
-    ensures whole { HasCleanDisk (state S.Store tables.new.conn) → (L : List register.Entry) → entries ≡ length L
+    ensures copy { IfOk result
+        (λ o. IfSome o (λ b. IsCopy Two copy.warehouse (standing_of C.Store b))) }
+    ensures whole { HasCleanDisk (state S.Store tables.new.conn) → (L : List register.Entry)
+        → entries ≡ length L
         → StandsWhileOpen (state S.Store tables.old.conn) copy.warehouse L
         → IfOk result (λ o. IsSomeAnd o (λ b. Stays entries (state S.Store tables.new.conn) copy.warehouse
         (standing_of C.Store b) L)) }

@@ -85,10 +85,12 @@ abbrev pub take_shape : Shape
 take_shape = subcommand (codes "take") (value_rule (codes "dir") ∷ at_rule ∷ [])
 
 abbrev pub count_shape : Shape
-count_shape = subcommand (codes "count") (who_rule ∷ ticket_rule ∷ number_rule ∷ sheet_rule ∷ at_rule ∷ [])
+count_shape = subcommand (codes "count") (who_rule ∷ ticket_rule ∷ number_rule ∷ sheet_rule
+    ∷ at_rule ∷ [])
 
 abbrev pub pick_shape : Shape
-pick_shape = subcommand (codes "pick") (who_rule ∷ ticket_rule ∷ number_rule ∷ sheet_rule ∷ at_rule ∷ [])
+pick_shape = subcommand (codes "pick") (who_rule ∷ ticket_rule ∷ number_rule ∷ sheet_rule ∷ at_rule
+    ∷ [])
 
 abbrev pub recount_shape : Shape
 recount_shape = subcommand (codes "recount") (who_rule ∷ ticket_rule ∷ sheet_rule ∷ at_rule ∷ [])
@@ -110,7 +112,8 @@ depositors_shape = subcommand (codes "depositors") (at_rule ∷ [])
 
 abbrev pub serve_shape : Shape
 serve_shape = subcommand (codes "serve") (wanted_rule (codes "listen") ∷ wanted_rule (codes "count")
-    ∷ option_rule (codes "patience") ∷ flag_rule (codes "anyone") ∷ flag_rule (codes "clerks") ∷ at_rule ∷ [])
+    ∷ option_rule (codes "patience") ∷ flag_rule (codes "anyone") ∷ flag_rule (codes "clerks")
+    ∷ at_rule ∷ [])
 
 abbrev pub verify_shape : Shape
 verify_shape = subcommand (codes "verify") (at_rule ∷ [])
@@ -129,7 +132,8 @@ over_book s = may_wait (and_rule s (wanted_rule (codes "book")))
 
 -- a subcommand over the book in a file, or over that of a running server
 abbrev pub over_either : Shape → Shape
-over_either s = and_rule (may_wait (and_rule s (option_rule (codes "book")))) (option_rule (codes "server"))
+over_either s = and_rule (may_wait (and_rule s (option_rule (codes "book"))))
+    (option_rule (codes "server"))
 
 -- a subcommand over the book in a file, as it stands at a place: a script has a book of its own
 abbrev pub over_at : Place → Shape → Shape
@@ -152,11 +156,13 @@ top_shape = record (new_shape (codes "whx12")) {
 
 -- those that change a book, and those that show something of it
 abbrev pub act_subcommands : Place → List Shape
-act_subcommands p = over_at p enrol_shape ∷ over_at p roster_shape ∷ either_at p send_shape ∷ over_at p take_shape
+act_subcommands p = over_at p enrol_shape ∷ over_at p roster_shape ∷ either_at p send_shape
+    ∷ over_at p take_shape
     ∷ either_at p count_shape ∷ either_at p pick_shape ∷ either_at p recount_shape ∷ []
 
 abbrev pub show_subcommands : Place → List Shape
-show_subcommands p = either_at p stock_shape ∷ either_at p open_shape ∷ either_at p orders_shape ∷ either_at p outbox_shape
+show_subcommands p = either_at p stock_shape ∷ either_at p open_shape ∷ either_at p orders_shape
+    ∷ either_at p outbox_shape
     ∷ either_at p depositors_shape ∷ []
 
 -- those that may stand in a script, as they stand at a place
@@ -216,11 +222,13 @@ SaysMoment rows at = option_map moment_of (first_of (codes "at") rows) ≡ optio
 
 -- the number that the line says is this one, or it says none
 abbrev pub SaysNumber : List Row → Option ℕ → Type 0
-SaysNumber rows number = option_map number_of (first_of (codes "number") rows) ≡ option_map Some number
+SaysNumber rows number =
+    option_map number_of (first_of (codes "number") rows) ≡ option_map Some number
 
 -- how long a line says that a request is waited for, or it says nothing of it
 abbrev pub SaysPatience : List Row → Option ℕ → Type 0
-SaysPatience rows seconds = option_map count_of (first_of (codes "patience") rows) ≡ option_map Some seconds
+SaysPatience rows seconds =
+    option_map count_of (first_of (codes "patience") rows) ≡ option_map Some seconds
 
 abbrev pub deed_name : Deed → Text
 deed_name deed.Count = codes "count"
@@ -247,8 +255,10 @@ abbrev pub SaysShow : Found → Show → Type 0
 SaysShow f (show.Stock who is_csv) = (f.0 ≡ codes "stock") × Has f.1 (codes "who") who.now
     × (is_csv ≡ has_flag f.1 (codes "csv"))
 SaysShow f (show.Open who) = (f.0 ≡ codes "open") × Has f.1 (codes "who") who.now
-SaysShow f (show.Order who number) = (f.0 ≡ codes "orders") × Has f.1 (codes "who") who.now × Has f.1 (codes "number") number.now
-SaysShow f (show.Outbox who number) = (f.0 ≡ codes "outbox") × Has f.1 (codes "who") who.now × SaysNumber f.1 number
+SaysShow f (show.Order who number) = (f.0 ≡ codes "orders") × Has f.1 (codes "who") who.now
+    × Has f.1 (codes "number") number.now
+SaysShow f (show.Outbox who number) = (f.0 ≡ codes "outbox") × Has f.1 (codes "who") who.now
+    × SaysNumber f.1 number
 SaysShow f show.Depositors = f.0 ≡ codes "depositors"
 
 -- an address is written as std's grammar has it: an IP address, a colon and a port
@@ -261,7 +271,8 @@ SaysCount rows count = (text : Text) × Has rows (codes "count") text × (count_
 
 abbrev pub SaysService : List Row → Service → Type 0
 SaysService rows s = SaysAddress rows (codes "listen") s.address
-    × SaysCount rows s.count × SaysPatience rows s.patience × (s.clerks ≡ has_flag rows (codes "clerks"))
+    × SaysCount rows s.count × SaysPatience rows s.patience
+    × (s.clerks ≡ has_flag rows (codes "clerks"))
 
 abbrev pub SaysTask : Found → Task → Type 0
 SaysTask f (task.Init who) = (f.0 ≡ codes "init") × Has f.1 (codes "who") who.now
@@ -291,18 +302,23 @@ SaysServer rows None = Lacks rows (codes "server")
 
 -- the book is the server's, and so are the moment and how long a book is waited for
 abbrev pub LeavesToServer : List Row → Type 0
-LeavesToServer rows = Lacks rows (codes "book") × Lacks rows (codes "at") × Lacks rows (codes "wait")
+LeavesToServer rows = Lacks rows (codes "book") × Lacks rows (codes "at")
+    × Lacks rows (codes "wait")
 
 -- the subcommands that a running server may be asked for
 abbrev pub takes_server : Text → Bool
-takes_server name = bytes_eq name (codes "send") || (bytes_eq name (codes "count") || (bytes_eq name (codes "pick")
-    || (bytes_eq name (codes "recount") || (bytes_eq name (codes "stock") || (bytes_eq name (codes "open")
-    || (bytes_eq name (codes "orders") || (bytes_eq name (codes "outbox") || bytes_eq name (codes "depositors"))))))))
+takes_server name = bytes_eq name (codes "send")
+    || (bytes_eq name (codes "count") || (bytes_eq name (codes "pick")
+    || (bytes_eq name (codes "recount")
+    || (bytes_eq name (codes "stock") || (bytes_eq name (codes "open")
+    || (bytes_eq name (codes "orders")
+    || (bytes_eq name (codes "outbox") || bytes_eq name (codes "depositors"))))))))
 
 -- the line, at this place, asks for this
 abbrev pub Says : Place → Found → Words → Type 0
 Says p f (words.Script file) = (f.0 ≡ codes "script") × Has f.1 (codes "file") file.now
-Says p f (words.Over book wait t) = SaysBook f.1 book × (has_book p book ≡ true) × SaysServer f.1 None
+Says p f (words.Over book wait t) = SaysBook f.1 book × (has_book p book ≡ true)
+    × SaysServer f.1 None
     × SaysWait f.1 wait × SaysTask f t
 Says p f (words.Remote server t) = SaysServer f.1 (Some server) × LeavesToServer f.1
     × (takes_server f.0 ≡ true) × SaysTask f t

@@ -41,17 +41,22 @@ moment_of text = if is_form text && is_moment (moment_in text) then Some (moment
 abbrev pub most_connections : ℕ
 most_connections = 65535
 
--- the number from 1 to a limit that is written so, in digits alone, with zeros in front or without, if one is
+-- the number from 1 to a limit that is written so, in digits alone, with zeros in front or without,
+-- if one is
 abbrev pub number_to : ℕ → List ℕ → Option ℕ
-number_to most text = if list_all is_digit text && is_between 1 most (value text) then Some (value text) else None
+number_to most text =
+    if list_all is_digit text && is_between 1 most (value text) then Some (value text) else None
 
 -- how many connections are written so, if that many may be
 abbrev pub count_of : List ℕ → Option ℕ
 count_of text = number_to most_connections text
 
--- for how many seconds a book that is in use is waited for, in digits alone, with zeros in front or without: none at all, or so many
+-- for how many seconds a book that is in use is waited for, in digits alone, with zeros in front or
+-- without: none at all, or so many
 abbrev pub wait_of : List ℕ → Option ℕ
-wait_of text = if nat_lt 0 (length text) && (list_all is_digit text && is_between 0 most_connections (value text))
+wait_of text =
+    if nat_lt 0 (length text)
+    && (list_all is_digit text && is_between 0 most_connections (value text))
     then Some (value text) else None
 
 -- the number of an entry that is written so, if one is

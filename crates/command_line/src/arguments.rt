@@ -132,7 +132,8 @@ pub(crate) fn subcommand<'a>(
     help: &'a str,
     first: Arg<'a>,
 ) -> Result<Command<'a>, AllocError>
-    ensures { (r : Rule) → IsRule r first.entry → IfOk result (IsCommand (meant.subcommand name.now (r ∷ []))) }
+    ensures { (r : Rule) → IsRule r first.entry
+        → IfOk result (IsCommand (meant.subcommand name.now (r ∷ []))) }
 {
     described(alloc, name, about, usage, help).arg(first)
 }
@@ -157,7 +158,8 @@ pub(crate) fn with_at<'a>(
     alloc: Global,
     command: Result<Command<'a>, AllocError>,
 ) -> Result<Command<'a>, AllocError>
-    ensures { (s : Shape) → IfOk command.entry (IsCommand s) → IfOk result (IsCommand (meant.and_rule s meant.at_rule)) }
+    ensures { (s : Shape) → IfOk command.entry (IsCommand s)
+        → IfOk result (IsCommand (meant.and_rule s meant.at_rule)) }
 {
     with(command, at(alloc))
 }
@@ -195,7 +197,8 @@ pub(crate) fn of_clerk<'a>(
     usage: &'a str,
     help: &'a str,
 ) -> Result<Command<'a>, AllocError>
-    ensures { IfOk result (IsCommand (meant.subcommand name.now (meant.who_rule ∷ meant.ticket_rule ∷ []))) }
+    ensures { IfOk result (IsCommand (meant.subcommand name.now (meant.who_rule ∷ meant.ticket_rule
+        ∷ []))) }
 {
     let command = of_depositor(alloc, name, about, usage, help);
     with(command, ticket(alloc))
@@ -206,7 +209,8 @@ pub(crate) fn join<'a>(
     parser: Result<Command<'a>, AllocError>,
     command: Result<Command<'a>, AllocError>,
 ) -> Result<Command<'a>, AllocError>
-    ensures { (a : App) (s : Shape) → IfOk parser.entry (λ c. app_of c ≡ a) → IfOk command.entry (IsCommand s)
+    ensures { (a : App) (s : Shape) → IfOk parser.entry (λ c. app_of c ≡ a)
+        → IfOk command.entry (IsCommand s)
         → IfOk result (λ c. app_of c ≡ with_subcommand a s) }
 {
     parser?.subcommand(command?)
@@ -220,7 +224,8 @@ fn with_wait<'a>(
     alloc: Global,
     command: Result<Command<'a>, AllocError>,
 ) -> Result<Command<'a>, AllocError>
-    ensures { (s : Shape) → IfOk command.entry (IsCommand s) → IfOk result (IsCommand (meant.may_wait s)) }
+    ensures { (s : Shape) → IfOk command.entry (IsCommand s)
+        → IfOk result (IsCommand (meant.may_wait s)) }
 {
     with(
         command,
@@ -238,7 +243,8 @@ fn with_book<'a>(
     alloc: Global,
     command: Result<Command<'a>, AllocError>,
 ) -> Result<Command<'a>, AllocError>
-    ensures { (s : Shape) → IfOk command.entry (IsCommand s) → IfOk result (IsCommand (meant.over_book s)) }
+    ensures { (s : Shape) → IfOk command.entry (IsCommand s)
+        → IfOk result (IsCommand (meant.over_book s)) }
 {
     let command = with(command, wanted(alloc, "book", "BOOK", BOOK_HELP));
     with_wait(alloc, command)
@@ -250,7 +256,8 @@ fn with_either<'a>(
     alloc: Global,
     command: Result<Command<'a>, AllocError>,
 ) -> Result<Command<'a>, AllocError>
-    ensures { (s : Shape) → IfOk command.entry (IsCommand s) → IfOk result (IsCommand (meant.over_either s)) }
+    ensures { (s : Shape) → IfOk command.entry (IsCommand s)
+        → IfOk result (IsCommand (meant.over_either s)) }
 {
     let command = with(command, option(alloc, "book", "BOOK", BOOK_HELP));
     let command = with_wait(alloc, command);
@@ -272,7 +279,8 @@ pub(crate) fn join_at<'a>(
     parser: Result<Command<'a>, AllocError>,
     command: Result<Command<'a>, AllocError>,
 ) -> Result<Command<'a>, AllocError>
-    ensures { (a : App) (s : Shape) → IfOk parser.entry (λ c. app_of c ≡ a) → IfOk command.entry (IsCommand s)
+    ensures { (a : App) (s : Shape) → IfOk parser.entry (λ c. app_of c ≡ a)
+        → IfOk command.entry (IsCommand s)
         → IfOk result (λ c. app_of c ≡ with_subcommand a (meant.over_at place s)) }
 {
     match place {
@@ -289,7 +297,8 @@ pub(crate) fn join_either_at<'a>(
     parser: Result<Command<'a>, AllocError>,
     command: Result<Command<'a>, AllocError>,
 ) -> Result<Command<'a>, AllocError>
-    ensures { (a : App) (s : Shape) → IfOk parser.entry (λ c. app_of c ≡ a) → IfOk command.entry (IsCommand s)
+    ensures { (a : App) (s : Shape) → IfOk parser.entry (λ c. app_of c ≡ a)
+        → IfOk command.entry (IsCommand s)
         → IfOk result (λ c. app_of c ≡ with_subcommand a (meant.either_at place s)) }
 {
     match place {

@@ -29,7 +29,8 @@ fn refused(alloc: Global, error: &clap::Error) -> LineFault {
 
 // The number of the advice or the order that a line says, which a recount doesn't have.
 fn number_told<'a>(alloc: Global, deed: Deed, values: &ArgMatches<'a>) -> Result<&'a str, LineFault>
-    ensures { IfOk result (λ number. meant.SaysNumberOf deed (rows_of (found_of values.now)) number.now) }
+    ensures { IfOk result
+        (λ number. meant.SaysNumberOf deed (rows_of (found_of values.now)) number.now) }
 {
     Ok(match deed {
         Deed::Recount => "",
@@ -62,7 +63,8 @@ fn clerk_act_of<'a>(
     name: &str,
     values: &ArgMatches<'a>,
 ) -> Result<Option<BookAct<'a>>, LineFault>
-    ensures { IfOk result (λ act. IfSome act (meant.SaysAct (name.now, rows_of (found_of values.now)))) }
+    ensures { IfOk result
+        (λ act. IfSome act (meant.SaysAct (name.now, rows_of (found_of values.now)))) }
 {
     let act = match name {
         "count" => BookAct::Clerk(told_of(alloc, Deed::Count, values)?),
@@ -79,7 +81,8 @@ fn act_of<'a>(
     name: &str,
     values: &ArgMatches<'a>,
 ) -> Result<Option<BookAct<'a>>, LineFault>
-    ensures { IfOk result (λ act. IfSome act (meant.SaysAct (name.now, rows_of (found_of values.now)))) }
+    ensures { IfOk result
+        (λ act. IfSome act (meant.SaysAct (name.now, rows_of (found_of values.now)))) }
 {
     let act = match name {
         "enrol" => BookAct::Enrol {
@@ -105,7 +108,8 @@ fn show_of<'a>(
     name: &str,
     values: &ArgMatches<'a>,
 ) -> Result<Option<Show<'a>>, LineFault>
-    ensures { IfOk result (λ show. IfSome show (meant.SaysShow (name.now, rows_of (found_of values.now)))) }
+    ensures { IfOk result
+        (λ show. IfSome show (meant.SaysShow (name.now, rows_of (found_of values.now)))) }
 {
     let show = match name {
         "stock" => Show::Stock {
@@ -271,7 +275,8 @@ fn stands_first(words: &[&str], name: &str) -> bool
 pub fn line<'a>(alloc: Global, place: Place, words: &'a [&'a str]) -> Result<Words<'a>, LineFault>
     // The first word names the subcommand, and its values are those that `clap` defines for a
     // simple command.
-    ensures { IfOk result (λ asked. (f : meant.Found) × (meant.found_at place (map (λ w. w.now) words.now) ≡ Some f)
+    ensures { IfOk result
+        (λ asked. (f : meant.Found) × (meant.found_at place (map (λ w. w.now) words.now) ≡ Some f)
         × (meant.stands_first f.0 (map (λ w. w.now) words.now) ≡ true) × meant.Says place f asked) }
 {
     let matches = match parser(alloc, place)?.try_get_matches_from(words) {

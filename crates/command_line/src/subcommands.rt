@@ -288,7 +288,8 @@ fn top<'a>(alloc: Global) -> Command<'a>
 
 // The words that may stand after the program's name.
 fn of_programs<'a>(alloc: Global) -> Result<Command<'a>, AllocError>
-    ensures { IfOk result (λ c. app_of c ≡ record { top = meant.top_shape; subs = meant.program_subcommands }) }
+    ensures { IfOk result
+        (λ c. app_of c ≡ record { top = meant.top_shape; subs = meant.program_subcommands }) }
 {
     let parser = join(Ok(top(alloc)), script(alloc));
     let parser = with_lines(alloc, Place::Program, parser);
@@ -299,7 +300,8 @@ fn of_programs<'a>(alloc: Global) -> Result<Command<'a>, AllocError>
 
 // The words that may stand in a script.
 fn of_scripts<'a>(alloc: Global) -> Result<Command<'a>, AllocError>
-    ensures { IfOk result (λ c. app_of c ≡ record { top = meant.top_shape; subs = meant.script_subcommands }) }
+    ensures { IfOk result
+        (λ c. app_of c ≡ record { top = meant.top_shape; subs = meant.script_subcommands }) }
 {
     with_lines(alloc, Place::Script, Ok(top(alloc)))
 }

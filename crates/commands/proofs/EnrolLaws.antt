@@ -11,7 +11,7 @@ use Rattle.profile.specs.Register.{Entry, Enrol}
 use Rattle.store.proofs.Changes.{clean_before, refused_after}
 use Rattle.store.proofs.Replies.{accepted_on-more, replies_on-more}
 use Rattle.store.specs.Standing.{Standing, IsUsable, KeepsLegal, GoesOn, LeavesEither, IsFault, IsRunFault, OfKept}
-use Rattle.store.specs.declared.fault.Fault.{Fault}
+use Rattle.store.specs.Fault.{Fault}
 use Rattle.commands.proofs.ActLaws.{reply_more}
 use Rattle.commands.proofs.TellingLaws.{appends_nothing}
 use Rattle.commands.specs.Enrolling.{enrolments, status_of, line_of, lines_of, AreEnrolled, AreEnrolledUntil, IsListStopped}

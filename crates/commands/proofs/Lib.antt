@@ -1,3 +1,4 @@
+mod SlipLaws
 pub mod TellingLaws
 pub mod ShownLaws
 pub mod ActLaws

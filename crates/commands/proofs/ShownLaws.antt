@@ -6,7 +6,7 @@ use Rattle.profile.specs.declared.rules.Rules.TheVariants.{Two}
 use Rattle.profile.specs.Accepted.{IsLegal}
 use Rattle.profile.specs.History.{History}
 use Rattle.profile.specs.Need.{Need, need_of_number}
-use Rattle.profile.specs.Refusals.{Refusal}
+use Rattle.profile.specs.declared.refusals.Refusal.{Refusal}
 use Rattle.profile.specs.Register.{Entry}
 use Rattle.profile.specs.Reports.{pick_list, stock_csv, stock_report}
 use Rattle.profile.specs.Rows.{StockRow}
@@ -19,7 +19,7 @@ use Rattle.store.specs.Pages.{PageFacts}
 use Rattle.store.specs.Held.{IsHeld}
 use Rattle.store.specs.Open.{OpenWork, open_on}
 use Rattle.store.specs.Standing.{Standing, IsQueryFault}
-use Rattle.store.specs.declared.fault.Fault.TheVariants as faults
+use Rattle.store.specs.Fault.TheVariants as faults
 use Rattle.commands.specs.Stops.{IsDeviceStop}
 use Rattle.commands.specs.Shown.{Shown, IsShown, IsShowStopped, shown_stock, shown_open, shown_order, shown_sheet}
 use Rattle.commands.specs.declared.told.CommandError.{CommandError}

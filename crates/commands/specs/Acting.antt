@@ -19,8 +19,8 @@ use Rattle.commands.specs.declared.told.ExitStatus.{ExitStatus}
 abbrev pub Ending : Type 0
 Ending = Result ExitStatus CommandError
 
--- One command was handed in: its reply is printed, the register is the one after it, and a stop, of which it is said
--- what it was, leaves the one before it or that one.
+-- One command was handed in: its reply is printed, the register is the one after it, and a stop, of
+-- which it is said what it was, leaves the one before it or that one.
 pub record IsAnswered (old new : Standing) (c : Command) (t : Moment) (before later : Option (List ℕ)) (ending : Ending) : Type 0 where
   pub printed : new.doubt ≡ 0 → (L : List Entry) → old.keeps L → IsLegal Two old.warehouse L
       → IfOk ending (IsPrinted (reply_to Two old.warehouse L c t) before later)
@@ -31,10 +31,14 @@ pub record IsAnswered (old new : Standing) (c : Command) (t : Moment) (before la
   pub stopped : IfErr ending (IsStopped old new c t)
 
 -- what was made ready was done; a list of depositors and a folder are many commands
-abbrev pub IsPerformed : Standing → Standing → Ready → Moment → Option (List ℕ) → Option (List ℕ) → Ending → Type 0
-IsPerformed old new (ready.Enrol who) t before later ending = IsAnswered old new (Enrol who) t before later ending
-IsPerformed old new (ready.Roster partners) t before later ending = IsEnrolling old new partners.items t before later ending
-IsPerformed old new (ready.Send bytes) t before later ending = IsAnswered old new (Interchange bytes.items) t before later ending
+abbrev pub IsPerformed : Standing → Standing → Ready → Moment → Option (List ℕ) → Option (List ℕ)
+    → Ending → Type 0
+IsPerformed old new (ready.Enrol who) t before later ending =
+    IsAnswered old new (Enrol who) t before later ending
+IsPerformed old new (ready.Roster partners) t before later ending =
+    IsEnrolling old new partners.items t before later ending
+IsPerformed old new (ready.Send bytes) t before later ending =
+    IsAnswered old new (Interchange bytes.items) t before later ending
 IsPerformed old new (ready.Take dir) t before later ending = IsTaking old new t before later ending
 IsPerformed old new (ready.Clerk slip) t before later ending =
     IsAnswered old new (command_of slip.who slip.told slip.sheet) t before later ending

@@ -1,14 +1,13 @@
 -- What a clerk did, as the words of a line and a sheet tell it.
-use Rattle.std.specs.Prelude.{◌≡◌, ◌⊎◌, ◌<◌, ℕ, List, length, Option, Some, None, Ok, Err}
+use Rattle.std.specs.Prelude.{◌≡◌, ◌⊎◌, ℕ, nat_lt, if◌then◌else◌, List, length, Option, Some, None, Result, Ok, Err}
 use Rattle.profile.specs.Clerk.{SheetKind, CountSheet, PickSheet, RecountSheet}
 use Rattle.profile.specs.declared.rules.Rules.TheVariants.{Two}
 use Rattle.profile.specs.Header.{Who}
 use Rattle.profile.specs.Means.{Line}
 use Rattle.profile.specs.Register.{Command, Clerk}
 use Rattle.sheet_texts.specs.Texts.{sheet_of_text}
-use Rattle.store.specs.Refusal.{Refusal}
-use Rattle.store.specs.Refusal.TheVariants.{BadText}
-use Rattle.store.specs.Told.{refusal_of}
+use Rattle.profile.specs.declared.refusals.Refusal.{Refusal}
+use Rattle.profile.specs.declared.refusals.Refusal.TheVariants.{BadText, TooManyLines}
 use Rattle.intake.specs.Calls as calls
 use Rattle.commands.specs.declared.files.TheConstants.{MOST_SHEET}
 use Rattle.command_line.specs.declared.words.ClerkWords.{ClerkWords}
@@ -27,19 +26,29 @@ command_of who t sheet = Clerk who t.ticket.now (calls.act_of (kind_of t.deed) t
 abbrev pub depositor_of : ClerkWords → Option Who
 depositor_of t = calls.depositor_of (kind_of t.deed) t.who.now t.ticket.now t.number.now
 
--- what a slip of these words has: the words, the depositor that they name, a text, and the sheet of their kind that the
--- text makes
+-- why a file makes no sheet that is longer than a sheet may be, by what its first bytes make: they
+-- may have too many lines already; else it can't be read
+abbrev pub long_reason : Result (List Line) Refusal → Refusal
+long_reason (Err TooManyLines) = TooManyLines
+long_reason made = BadText
+
+-- the sheet of a file of which this text was read: its first bytes, up to one more than a sheet may
+-- have
+abbrev pub sheet_read : SheetKind → List ℕ → Result (List Line) Refusal
+sheet_read kind text =
+    if nat_lt MOST_SHEET (length text) then Err (long_reason (sheet_of_text Two kind text))
+    else sheet_of_text Two kind text
+
+-- what a slip of these words has: the words, the depositor that they name, a text, and the sheet of
+-- their kind that is read of it
 pub record IsSlipOf (t : ClerkWords) (who : Who) (kept : ClerkWords) (text : List ℕ) (sheet : List Line) : Type 0 where
   pub told : kept ≡ t
   pub named : depositor_of t ≡ Some who
-  pub read : sheet_of_text Two (kind_of t.deed) text ≡ Ok sheet
+  pub read : sheet_read (kind_of t.deed) text ≡ Ok sheet
 
--- a text makes no sheet, for this reason; one that has more bytes than a sheet may have can't be read
-abbrev pub IsNoSheet : SheetKind → List ℕ → Refusal → Type 0
-IsNoSheet kind text refusal =
-    (sheet_of_text Two kind text ≡ Err (refusal_of refusal)) ⊎ ((MOST_SHEET < length text) × (refusal ≡ BadText))
-
--- A clerk's words come to no slip: a word can't be read, or the first bytes of the sheet's file, up to one more than a sheet may
--- have, make no sheet.
+-- A clerk's words come to no slip: a word can't be read, or there is no sheet in what was read of
+-- the file.
 abbrev pub IsNoSlip : ClerkWords → Refusal → Type 0
-IsNoSlip told refusal = ((refusal ≡ BadText) × (depositor_of told ≡ None)) ⊎ ((text : List ℕ) × IsNoSheet (kind_of told.deed) text refusal)
+IsNoSlip told refusal =
+    ((refusal ≡ BadText) × (depositor_of told ≡ None))
+    ⊎ ((text : List ℕ) × (sheet_read (kind_of told.deed) text ≡ Err refusal))

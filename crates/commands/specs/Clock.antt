@@ -15,7 +15,8 @@ minute_in (negsuc n) month day hour minute = None
 
 -- the minute of what a calendar and a clock show
 abbrev pub minute_of : DateTime → Option Moment
-minute_of shown = minute_in shown.date.year shown.date.month shown.date.day shown.time.hour shown.time.minute
+minute_of shown =
+    minute_in shown.date.year shown.date.month shown.date.day shown.time.hour shown.time.minute
 
 -- the minute of what they show in UTC at an instant
 pub record IsCivil (t : Timestamp) (found : Option Moment) : Type 0 where

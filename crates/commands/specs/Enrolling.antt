@@ -29,15 +29,18 @@ status_of told = if list_any was_refused told then Refused else Done
 
 -- the line that is printed of one
 abbrev pub line_of : Who → replies.Reply → List ℕ
-line_of who (replies.Refused r text) = who_text who ++ codes " refused " ++ decimal (refusal_number r) ++ codes "\n"
+line_of who (replies.Refused r text) = who_text who ++ codes " refused "
+    ++ decimal (refusal_number r) ++ codes "\n"
 line_of who other = who_text who ++ codes " enrolled\n"
 
 -- the lines of all, each after what those before it left
 unfoldable pub lines_of : Who → List Entry → Moment → List Who → List ℕ
 lines_of W L t [] = []
-lines_of W L t (who ∷ whos) = line_of who (reply_to Two W L (Enrol who) t) ++ lines_of W (after Two W L (Enrol who, t)) t whos
+lines_of W L t (who ∷ whos) = line_of who (reply_to Two W L (Enrol who) t)
+    ++ lines_of W (after Two W L (Enrol who, t)) t whos
 
--- each of them was handed in: the register is the one after all, this is the status, and a line is printed of each
+-- each of them was handed in: the register is the one after all, this is the status, and a line is
+-- printed of each
 pub record AreEnrolled (old new : Standing) (whos : List Who) (t : Moment) (before later : Option (List ℕ)) (status : ExitStatus) : Type 0 where
   pub usable : new.doubt ≡ 0 → (L : List Entry) → IsUsable old L
       → IsUsable new (accepted_on Two old.warehouse L (enrolments t whos))
@@ -54,13 +57,14 @@ pub record IsUnlisted (old new : Standing) (whos : List Who) (t : Moment) (stop 
       → IsUsable new (accepted_on Two old.warehouse L (enrolments t whos))
   pub why : IsDeviceStop stop
 
--- what stopped a list at the last of these: a fault of the book by which it wasn't answered, or one of a device after
--- that
+-- what stopped a list at the last of these: a fault of the book by which it wasn't answered, or one
+-- of a device after that
 abbrev pub IsListStopped : Standing → Standing → List Who → Moment → CommandError → Type 0
 IsListStopped old new whos t stop =
     IsFaultThat stop (λ fault. IsRunFault fault true old new) ⊎ IsUnlisted old new whos t stop
 
--- so many were handed in, and one more perhaps: a crash leaves the register after those, or after that one too
+-- so many were handed in, and one more perhaps: a crash leaves the register after those, or after
+-- that one too
 pub record AreEnrolledUntil (old new : Standing) (whos : List Who) (t : Moment) (stop : CommandError) : Type 0 where
   pub count : ℕ
   pub within : count < length whos
@@ -70,6 +74,7 @@ pub record AreEnrolledUntil (old new : Standing) (whos : List Who) (t : Moment) 
   pub stopped : IsListStopped old new (take (count + 1) whos) t stop
 
 -- how a list ended
-abbrev pub IsEnrolling : Standing → Standing → List Who → Moment → Option (List ℕ) → Option (List ℕ) → Result ExitStatus CommandError → Type 0
+abbrev pub IsEnrolling : Standing → Standing → List Who → Moment → Option (List ℕ) → Option (List ℕ)
+    → Result ExitStatus CommandError → Type 0
 IsEnrolling old new whos t before later (Ok status) = AreEnrolled old new whos t before later status
 IsEnrolling old new whos t before later (Err stop) = AreEnrolledUntil old new whos t stop

@@ -22,7 +22,8 @@ use Rattle.command_line.specs.declared.words.Words.TheVariants as words
 abbrev pub asked_for : Show → Option Asked
 asked_for (show.Stock name is_csv) = option_map (λ who. asks.Stock who is_csv) (who_of name.now)
 asked_for (show.Open name) = option_map asks.Open (who_of name.now)
-asked_for (show.Order name number) = option_map (λ who. asks.Order who number) (owner_of name.now number.now)
+asked_for (show.Order name number) =
+    option_map (λ who. asks.Order who number) (owner_of name.now number.now)
 asked_for (show.Outbox name number) = option_map (λ who. asks.Outbox who number) (who_of name.now)
 asked_for show.Depositors = Some asks.Depositors
 
@@ -52,15 +53,20 @@ pub record IsUnread (old new : Standing) (s : Show) (before later : Option (List
   pub left : IsLeft old new before later ending
 
 abbrev pub IsView : Standing → Standing → Show → Option (List ℕ) → Option (List ℕ) → Ending → Type 0
-IsView old new s before later ending = IsLookFor old new s before later ending ⊎ IsUnread old new s before later ending
+IsView old new s before later ending = IsLookFor old new s before later ending
+    ⊎ IsUnread old new s before later ending
 
--- what a line of a script asks for was done; one that changes and shows nothing leaves the book as it is
-abbrev pub IsTaskDone : Standing → Standing → Task → Option (List ℕ) → Option (List ℕ) → Ending → Type 0
+-- what a line of a script asks for was done; one that changes and shows nothing leaves the book as
+-- it is
+abbrev pub IsTaskDone : Standing → Standing → Task → Option (List ℕ) → Option (List ℕ) → Ending
+    → Type 0
 IsTaskDone old new (task.Act a at) before later ending = IsChange old new a at before later ending
 IsTaskDone old new (task.Show s) before later ending = IsView old new s before later ending
 IsTaskDone old new other before later ending = IsLeft old new before later ending
 
-abbrev pub IsLineDone : Standing → Standing → Words → Option (List ℕ) → Option (List ℕ) → Ending → Type 0
-IsLineDone old new (words.Over book wait t) before later ending = IsTaskDone old new t before later ending
+abbrev pub IsLineDone : Standing → Standing → Words → Option (List ℕ) → Option (List ℕ) → Ending
+    → Type 0
+IsLineDone old new (words.Over book wait t) before later ending =
+    IsTaskDone old new t before later ending
 IsLineDone old new (words.Script file) before later ending = IsLeft old new before later ending
 IsLineDone old new (words.Remote server t) before later ending = IsLeft old new before later ending

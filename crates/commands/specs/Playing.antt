@@ -35,8 +35,8 @@ pub record IsRead (row : List ℕ) (asked : Words) : Type 0 where
   pub first : stands_first found.0 (parts_at 32 row) ≡ true
   pub says : Says Script found asked
 
--- A row was answered: its words were read, what they ask for was done with this ending, which left the book so, and telling why it was
--- refused changed nothing.
+-- A row was answered: its words were read, what they ask for was done with this ending, which left
+-- the book so, and telling why it was refused changed nothing.
 pub record IsRowAnswered {K : Type 0} (standing : K → Standing) (old new : K) (row : List ℕ) (before later : Option (List ℕ)) (ending : Ending) : Type 0 where
   pub asked : Words
   pub read : IsRead row asked
@@ -44,20 +44,24 @@ pub record IsRowAnswered {K : Type 0} (standing : K → Standing) (old new : K) 
   pub done : IsLineDone (standing old) (standing left) asked before later ending
   pub same : IsUnchanged (standing left) (standing new)
 
--- A row was done, or refused: of a book, what was printed and the status so far the row makes those after it.
+-- A row was done, or refused: of a book, what was printed and the status so far the row makes those
+-- after it.
 pub record IsRowDone {K W : Type 0} (standing : K → Standing) (contents : W → Option (List ℕ)) (p : K × (W × ExitStatus)) (row : List ℕ) (q : K × (W × ExitStatus)) : Type 0 where
   pub status : ExitStatus
   pub answered : IsRowAnswered standing p.0 q.0 row (contents p.1.0) (contents q.1.0) (Ok status)
   pub ends : q.1.1 ≡ and_then p.1.1 status
 
--- a row stopped what was played: it can't be read, and the book is as it was; or what it asks for ended so
-abbrev pub IsRowStopped : {K W : Type 0} → (K → Standing) → (W → Option (List ℕ)) → K → W → List ℕ → K → W → CommandError → Type 0
+-- a row stopped what was played: it can't be read, and the book is as it was; or what it asks for
+-- ended so
+abbrev pub IsRowStopped : {K W : Type 0} → (K → Standing) → (W → Option (List ℕ)) → K → W → List ℕ
+    → K → W → CommandError → Type 0
 IsRowStopped standing contents old out row new after stop =
     (IsUnchanged (standing old) (standing new) × Appends (contents out) (contents after) [])
     ⊎ IsRowAnswered standing old new row (contents out) (contents after) (Err stop)
 
 -- Rows were played to their end, one after the other, each once.
-abbrev pub HasPlayed : {K W : Type 0} → (K → Standing) → (W → Option (List ℕ)) → K × (W × ExitStatus) → List (List ℕ) → K × (W × ExitStatus) → Type 0
+abbrev pub HasPlayed : {K W : Type 0} → (K → Standing) → (W → Option (List ℕ)) → K
+    × (W × ExitStatus) → List (List ℕ) → K × (W × ExitStatus) → Type 0
 HasPlayed standing contents p rows q = FoldsTo (IsRowDone standing contents) p rows q
 
 -- Rows were played, one after the other, up to one that stopped it.

@@ -19,10 +19,12 @@ use Rattle.command_line.specs.declared.words.BookAct.TheVariants as act
 -- it is what these words ask for; the bytes of a file may be any
 abbrev pub IsMadeReady : BookAct → Ready → Type 0
 IsMadeReady (act.Enrol who) (ready.Enrol w) = who_of who.now ≡ Some w
-IsMadeReady (act.Roster file) (ready.Roster partners) = (text : List ℕ) × IsRead text (Some partners.items)
+IsMadeReady (act.Roster file) (ready.Roster partners) = (text : List ℕ)
+    × IsRead text (Some partners.items)
 IsMadeReady (act.Send file) (ready.Send bytes) = Unit {0}
 IsMadeReady (act.Take dir) (ready.Take folder) = folder ≡ dir
-IsMadeReady (act.Clerk told) (ready.Clerk slip) = IsSlipOf told slip.who slip.told slip.text.items slip.sheet
+IsMadeReady (act.Clerk told) (ready.Clerk slip) =
+    IsSlipOf told slip.who slip.told slip.text.items slip.sheet
 IsMadeReady a r = ⊥
 
 -- a file may have more bytes than so many
@@ -33,14 +35,16 @@ IsLonger most = (text : List ℕ) × (most < length text)
 abbrev pub IsNoRoster : Type 0
 IsNoRoster = IsLonger MOST_ROSTER ⊎ ((text : List ℕ) × IsRead text None)
 
--- These words aren't made ready, for this reason. An interchange and a folder are handed in whatever they are.
+-- These words aren't made ready, for this reason. An interchange and a folder are handed in
+-- whatever they are.
 abbrev pub IsUnready : BookAct → Refusal → Type 0
 IsUnready (act.Enrol who) refusal = (refusal ≡ BadText) × (who_of who.now ≡ None)
 IsUnready (act.Roster file) refusal = (refusal ≡ BadText) × IsNoRoster
 IsUnready (act.Clerk told) refusal = IsNoSlip told refusal
 IsUnready a refusal = ⊥
 
--- the words or their files were refused, or a fault came first: the book is as before, and nothing is printed
+-- the words or their files were refused, or a fault came first: the book is as before, and nothing
+-- is printed
 pub record IsLeft (old new : Standing) (before later : Option (List ℕ)) (ending : Ending) : Type 0 where
   pub same : IsUnchanged old new
   pub printed : Appends before later []
@@ -59,5 +63,7 @@ pub record IsDoneAt (old new : Standing) (a : BookAct) (at : Option Moment) (bef
   pub given : IfSome at (λ t. moment ≡ t)
   pub performed : IsPerformed old new ready moment before later ending
 
-abbrev pub IsChange : Standing → Standing → BookAct → Option Moment → Option (List ℕ) → Option (List ℕ) → Ending → Type 0
-IsChange old new a at before later ending = IsDoneAt old new a at before later ending ⊎ IsNotReady old new a before later ending
+abbrev pub IsChange : Standing → Standing → BookAct → Option Moment → Option (List ℕ)
+    → Option (List ℕ) → Ending → Type 0
+IsChange old new a at before later ending = IsDoneAt old new a at before later ending
+    ⊎ IsNotReady old new a before later ending

@@ -37,7 +37,8 @@ is_under kept l = nat_lt l.quantity (reserved_of kept l)
 
 -- the only line that may not have been named, where it is one alone
 abbrev pub only_doubtful : List Kept → List Line → Option Line
-only_doubtful kept lines = if count_by (is_doubtful kept) lines == 1 then find (is_doubtful kept) lines else None
+only_doubtful kept lines =
+    if count_by (is_doubtful kept) lines == 1 then find (is_doubtful kept) lines else None
 
 abbrev pub is_unkept : List Kept → Line → Bool
 is_unkept kept l = is_none (kept_of kept l)

@@ -12,13 +12,16 @@ abbrev pub audience_of : Bool → Audience
 audience_of true = Clerks
 audience_of false = Partners
 
--- The next moment, and the last good one then. Where no clock is asked it is the same again; else the clock is asked once, and where it
--- gives none, it is the last good one.
-abbrev pub NextMoment : {F : Type 0} → (F → Option Moment → F → Type 0) → Bool → F × Moment → Moment → F × Moment → Type 0
+-- The next moment, and the last good one then. Where no clock is asked it is the same again; else
+-- the clock is asked once, and where it gives none, it is the last good one.
+abbrev pub NextMoment : {F : Type 0} → (F → Option Moment → F → Type 0) → Bool → F × Moment → Moment
+    → F × Moment → Type 0
 NextMoment asks false p m q = (m ≡ p.1) × (q ≡ p)
-NextMoment asks true p m q = (found : Option Moment) × asks p.0 found q.0 × (m ≡ unwrap_or found p.1) × (q.1 ≡ m)
+NextMoment asks true p m q = (found : Option Moment) × asks p.0 found q.0
+    × (m ≡ unwrap_or found p.1) × (q.1 ≡ m)
 
--- So many connections were served, one after the other, each as `serves` says, and each at the moment that was next then.
+-- So many connections were served, one after the other, each as `serves` says, and each at the
+-- moment that was next then.
 pub record Comes {F K : Type 0} (asks : F → Option Moment → F → Type 0) (serves : K → Connection → K → Type 0) (has_clock : Bool) (ask : F) (first : Moment) (book left : K) (count : ℕ) : Type 0 where
   pub connections : List Connection
   pub last : F × Moment

@@ -6,7 +6,7 @@ use Rattle.profile.specs.Accepted.{IsLegal}
 use Rattle.profile.specs.Decision.{standing}
 use Rattle.profile.specs.Header.{Who}
 use Rattle.profile.specs.History.{History}
-use Rattle.profile.specs.Refusals.{Refusal}
+use Rattle.profile.specs.declared.refusals.Refusal.{Refusal}
 use Rattle.profile.specs.Register.{Entry, own}
 use Rattle.profile.specs.Reports.{stock_csv, stock_report, outbox_list, pick_list}
 use Rattle.profile.specs.Rows.{StockRow, OutRow, stock_of, outbox_of}
@@ -29,7 +29,10 @@ Shown = List ℕ × ExitStatus
 -- a stranger is shown nothing
 abbrev pub shown_stock : Bool → Option (List StockRow) → Shown
 shown_stock is_csv None = ([], Refused)
-shown_stock is_csv (Some rows) = (if is_csv then stock_csv Two rows else stock_report Two rows, Done)
+shown_stock is_csv (Some rows) = (
+  if is_csv then stock_csv Two rows else stock_report Two rows,
+  Done,
+)
 
 abbrev pub shown_list : Option (List OutRow) → Shown
 shown_list None = ([], Refused)
@@ -73,10 +76,12 @@ pub record IsShown (shown : Shown) (before later : Option (List ℕ)) (status : 
 -- what is to be shown of the register was read, and couldn't be told
 pub record IsUnshown (old new : Standing) (shown : List Entry → Shown) (stop : CommandError) : Type 0 where
   pub what : Shown
-  pub read : new.doubt ≡ 0 → (L : List Entry) → old.keeps L → IsLegal Two old.warehouse L → what ≡ shown L
+  pub read : new.doubt ≡ 0 → (L : List Entry) → old.keeps L → IsLegal Two old.warehouse L
+      → what ≡ shown L
   pub why : IsDeviceStop stop
 
--- what kept it from being shown: a fault of the book by which it wasn't read, or one of a device after that
+-- what kept it from being shown: a fault of the book by which it wasn't read, or one of a device
+-- after that
 abbrev pub IsShowStopped : Standing → Standing → (List Entry → Shown) → CommandError → Type 0
 IsShowStopped old new shown stop =
     IsFaultThat stop (λ fault. IsQueryFault fault old new) ⊎ IsUnshown old new shown stop

@@ -7,8 +7,8 @@ use Rattle.profile.specs.Accepted.{after}
 use Rattle.profile.specs.Moments.{Moment}
 use Rattle.profile.specs.Register.{Entry, Command}
 use Rattle.store.specs.Standing.{Standing, IsUsable, IsFault}
-use Rattle.store.specs.declared.fault.Fault.{Fault}
-use Rattle.store.specs.declared.fault.Fault.TheVariants as faults
+use Rattle.store.specs.Fault.{Fault}
+use Rattle.store.specs.Fault.TheVariants as faults
 use Rattle.folders.specs.Folders.{fault_of_kind}
 use Rattle.commands.specs.declared.told.CommandError.{CommandError}
 use Rattle.commands.specs.declared.told.CommandError.TheVariants as stops
@@ -17,7 +17,8 @@ use Rattle.commands.specs.declared.told.CommandError.TheVariants as stops
 abbrev pub IsDeviceStop : CommandError → Type 0
 IsDeviceStop stop = (stop ≡ stops.Fault faults.OutOfMemory) ⊎ (stop ≡ stops.Fault faults.Device)
 
--- an error of a file, a reader or a writer, by its kind: want of memory, and else a fault of the device
+-- an error of a file, a reader or a writer, by its kind: want of memory, and else a fault of the
+-- device
 pub record IsErrorStop (error : Error) (stop : CommandError) : Type 0 where
   pub told : stop ≡ stops.Fault (fault_of_kind (error_kind error))
   pub device : IsDeviceStop stop
@@ -30,7 +31,8 @@ fault_in (stops.Caused fault cause) = Some fault
 
 -- a device that doesn't serve, or want of memory, whatever is said of it
 abbrev pub IsDeviceFault : CommandError → Type 0
-IsDeviceFault stop = (fault_in stop ≡ Some faults.OutOfMemory) ⊎ (fault_in stop ≡ Some faults.Device)
+IsDeviceFault stop = (fault_in stop ≡ Some faults.OutOfMemory)
+    ⊎ (fault_in stop ≡ Some faults.Device)
 
 -- a fault of which this is so
 abbrev pub IsFaultThat : CommandError → (Fault → Type 0) → Type 0
@@ -45,6 +47,8 @@ pub record IsUntold (old new : Standing) (c : Command) (t : Moment) (stop : Comm
       → IsUsable new (after Two old.warehouse L (c, t))
   pub why : IsDeviceStop stop
 
--- what stopped a command: a fault of the book by which it wasn't answered, or one of a device after that
+-- what stopped a command: a fault of the book by which it wasn't answered, or one of a device after
+-- that
 abbrev pub IsStopped : Standing → Standing → Command → Moment → CommandError → Type 0
-IsStopped old new c t stop = IsFaultThat stop (λ fault. IsFault fault old new) ⊎ IsUntold old new c t stop
+IsStopped old new c t stop = IsFaultThat stop (λ fault. IsFault fault old new)
+    ⊎ IsUntold old new c t stop

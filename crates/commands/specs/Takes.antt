@@ -37,8 +37,8 @@ line_in file = taken_line (string_bytes file.name) (became_in file)
 abbrev pub is_left : PassedOver → Bool
 is_left entry = is_long entry.why
 
--- The interchanges of these texts were taken, and these passed over: what became of each is printed, and the status is 1 where one
--- was refused or can't be answered.
+-- The interchanges of these texts were taken, and these passed over: what became of each is
+-- printed, and the status is 1 where one was refused or can't be answered.
 pub record IsTaken (old new : Standing) (t : Moment) (before later : Option (List ℕ)) (status : ExitStatus) : Type 0 where
   pub texts : List (List ℕ)
   pub files : List Taken
@@ -56,9 +56,11 @@ pub record IsUntold (old new : Standing) (t : Moment) (stop : CommandError) : Ty
 
 -- the folder stopped at a file, or wasn't told
 abbrev pub IsHalted : Standing → Standing → Moment → CommandError → Type 0
-IsHalted old new t stop = IsFaultThat stop (λ fault. IsStopped fault old new t) ⊎ IsUntold old new t stop
+IsHalted old new t stop = IsFaultThat stop (λ fault. IsStopped fault old new t)
+    ⊎ IsUntold old new t stop
 
 -- how taking a folder ended
-abbrev pub IsTaking : Standing → Standing → Moment → Option (List ℕ) → Option (List ℕ) → Result ExitStatus CommandError → Type 0
+abbrev pub IsTaking : Standing → Standing → Moment → Option (List ℕ) → Option (List ℕ)
+    → Result ExitStatus CommandError → Type 0
 IsTaking old new t before later (Ok status) = IsTaken old new t before later status
 IsTaking old new t before later (Err stop) = IsHalted old new t stop

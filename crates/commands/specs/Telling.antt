@@ -1,12 +1,11 @@
--- What is printed of a reply, and the status that it gives; what is told of a refusal, and of what stopped a command.
+-- What is printed of a reply, and the status that it gives; what is told of a refusal, and of what
+-- stopped a command.
 use Rattle.std.specs.Prelude.{◌≡◌, ℕ, Bool, List, [], ◌∷◌, ◌++◌, length, ◌==◌, if◌then◌else◌, Option, codes, string_bytes}
 use Rattle.std.specs.Io.KnownBytes.{Appends}
 use Rattle.profile.specs.Refusals.{told_refusal, told_fault}
 use Rattle.profile.specs.Reply as replies
-use Rattle.store.specs.Told.{refusal_of}
 use Rattle.store.specs.Refusal.{Refusal}
-use Rattle.store.specs.Faults.{fault_of}
-use Rattle.store.specs.declared.fault.Fault.{Fault}
+use Rattle.store.specs.Fault.{Fault}
 use Rattle.commands.specs.declared.told.CommandError.{CommandError}
 use Rattle.commands.specs.declared.told.CommandError.TheVariants as stops
 use Rattle.commands.specs.declared.told.ExitStatus.{ExitStatus}
@@ -33,15 +32,16 @@ pub record IsPrinted (reply : replies.Reply) (before later : Option (List ℕ)) 
 
 -- `refused NUMBER NAME`, and a line feed
 abbrev pub refusal_line : Refusal → List ℕ
-refusal_line r = codes "refused " ++ told_refusal (refusal_of r) ++ codes "\n"
+refusal_line r = codes "refused " ++ told_refusal r ++ codes "\n"
 
 -- `fault NUMBER NAME`, and a line feed
 abbrev pub fault_line : Fault → List ℕ
-fault_line f = codes "fault " ++ told_fault (fault_of f) ++ codes "\n"
+fault_line f = codes "fault " ++ told_fault f ++ codes "\n"
 
--- what is told of what stopped a command: words that can't be read as they are, a fault as a line, and after it what it is about where
--- that is asked for
+-- what is told of what stopped a command: words that can't be read as they are, a fault as a line,
+-- and after it what it is about where that is asked for
 abbrev pub stop_text : Bool → CommandError → List ℕ
 stop_text explains (stops.Usage text) = string_bytes text
 stop_text explains (stops.Fault fault) = fault_line fault
-stop_text explains (stops.Caused fault cause) = fault_line fault ++ (if explains then string_bytes cause ++ codes "\n" else [])
+stop_text explains (stops.Caused fault cause) = fault_line fault ++ (if explains
+    then string_bytes cause ++ codes "\n" else [])

@@ -126,10 +126,14 @@ fn hand_in<K: Keeper, W: io::Write, E: io::Write>(
     ensures printed { OfKept (K.standing book.old) (K.standing book.new)
         (λ L. IfOk result (λ status. IsPrinted (reply_to Two (K.standing book.old).warehouse L
         (asked command.now) moment) (W.contents out.old) (W.contents out.new) status)) }
-    ensures done { (K.standing book.new).doubt ≡ 0 → (L : List Entry) → IsUsable (K.standing book.old) L
-        → OnOk result (IsUsable (K.standing book.new) (after Two (K.standing book.old).warehouse L (asked command.now, moment))) }
-    ensures left { (K.standing book.new).doubt ≡ 0 → (L : List Entry) → IsUsable (K.standing book.old) L
-        → OnErr result (LeavesEither (K.standing book.new) L (after Two (K.standing book.old).warehouse L (asked command.now, moment))) }
+    ensures done { (K.standing book.new).doubt ≡ 0 → (L : List Entry)
+        → IsUsable (K.standing book.old) L
+        → OnOk result (IsUsable (K.standing book.new)
+        (after Two (K.standing book.old).warehouse L (asked command.now, moment))) }
+    ensures left { (K.standing book.new).doubt ≡ 0 → (L : List Entry)
+        → IsUsable (K.standing book.old) L
+        → OnErr result (LeavesEither (K.standing book.new) L
+        (after Two (K.standing book.old).warehouse L (asked command.now, moment))) }
     ensures stopped { IfErr result
         (IsStopped (K.standing book.old) (K.standing book.new) (asked command.now) moment) }
     ensures goes { GoesOn (K.standing book.old) (K.standing book.new) }

@@ -319,7 +319,7 @@ fn about_sheet<R: Files + AllocGlobal>(
     let Some(text) = read_within(rt, file, MOST_SHEET)? else {
         return Ok(Some(named(alloc, file, " has more than 1,048,576 bytes")?));
     };
-    match first_bad(alloc, sheet_kind(told.deed), &text, refusal.number())? {
+    match first_bad(alloc, sheet_kind(told.deed), &text, refusal)? {
         Some(bad) => Ok(Some(at_line(alloc, file, bad.line, &bad.why)?)),
         None => Ok(None),
     }

@@ -41,7 +41,8 @@ fn tell_enrolment<W: io::Write>(
     reply: &Reply,
 ) -> Result<ExitStatus, CommandError>
     ensures says { IfOk result (λ status. status ≡ status_of (told reply.now)) }
-    ensures printed { OnOk result (Appends (W.contents out.old) (W.contents out.new) (line_of who.now (told reply.now))) }
+    ensures printed { OnOk result
+        (Appends (W.contents out.old) (W.contents out.new) (line_of who.now (told reply.now))) }
     ensures halted { IfErr result IsDeviceStop }
 {
     tell_partner(out, who)?;
@@ -72,13 +73,18 @@ fn enrol_one<K: Keeper, W: io::Write>(
     ensures printed { OfKept (K.standing book.old) (K.standing book.new)
         (λ L. OnOk result (Appends (W.contents out.old) (W.contents out.new) (line_of who (reply_to Two
         (K.standing book.old).warehouse L (Enrol who) moment)))) }
-    ensures done { (K.standing book.new).doubt ≡ 0 → (L : List Entry) → IsUsable (K.standing book.old) L
-        → OnOk result (IsUsable (K.standing book.new) (after Two (K.standing book.old).warehouse L (Enrol who, moment))) }
+    ensures done { (K.standing book.new).doubt ≡ 0 → (L : List Entry)
+        → IsUsable (K.standing book.old) L
+        → OnOk result (IsUsable (K.standing book.new)
+        (after Two (K.standing book.old).warehouse L (Enrol who, moment))) }
     ensures keeps { OfKept (K.standing book.old) (K.standing book.new)
-        (λ L. OnOk result (KeepsLegal (K.standing book.new) (after Two (K.standing book.old).warehouse L (Enrol who, moment)))) }
+        (λ L. OnOk result (KeepsLegal (K.standing book.new)
+        (after Two (K.standing book.old).warehouse L (Enrol who, moment)))) }
     ensures opened { OnOk result ((K.standing book.old).shut ≡ (K.standing book.new).shut) }
-    ensures left { (K.standing book.new).doubt ≡ 0 → (L : List Entry) → IsUsable (K.standing book.old) L
-        → OnErr result (LeavesEither (K.standing book.new) L (after Two (K.standing book.old).warehouse L (Enrol who, moment))) }
+    ensures left { (K.standing book.new).doubt ≡ 0 → (L : List Entry)
+        → IsUsable (K.standing book.old) L
+        → OnErr result (LeavesEither (K.standing book.new) L
+        (after Two (K.standing book.old).warehouse L (Enrol who, moment))) }
     ensures stopped { IfErr result
         (IsStopped (K.standing book.old) (K.standing book.new) (Enrol who) moment) }
     ensures goes { GoesOn (K.standing book.old) (K.standing book.new) }
@@ -96,7 +102,8 @@ pub fn enrol_all<K: Keeper, W: io::Write>(
     moment: Moment,
     out: &mut W,
 ) -> Result<ExitStatus, CommandError>
-    ensures enrolled { IfOk result (AreEnrolled (K.standing book.old) (K.standing book.new) partners.now moment
+    ensures enrolled { IfOk result
+        (AreEnrolled (K.standing book.old) (K.standing book.new) partners.now moment
         (W.contents out.old) (W.contents out.new)) }
     ensures stopped { IfErr result
         (AreEnrolledUntil (K.standing book.old) (K.standing book.new) partners.now moment) }
@@ -115,7 +122,8 @@ pub fn read_roster<R: Files + AllocGlobal>(
     rt: &R,
     file: &str,
 ) -> Result<Option<Vec<Who>>, CommandError>
-    ensures read { IfOk result (λ found. IfSome found (λ whos. (text : List ℕ) × meant.IsRead text (Some whos.items))) }
+    ensures read { IfOk result
+        (λ found. IfSome found (λ whos. (text : List ℕ) × meant.IsRead text (Some whos.items))) }
     ensures none { IfOk result (λ found. IfNone found IsNoRoster) }
 {
     match read_within(rt, file, MOST_ROSTER)? {

@@ -206,7 +206,8 @@ pub fn reason(
     text: &[u8],
     kept: &[Kept<'_>],
 ) -> Result<Option<String>, AllocError>
-    ensures blamed { (sheet : List Line) → sheet_of_text Two (kind_of told.now.deed) text.now ≡ Ok sheet
+    ensures blamed { (sheet : List Line)
+        → sheet_of_text Two (kind_of told.now.deed) text.now ≡ Ok sheet
         → IfOk result (λ why. is_some why ≡ is_some (meant.blamed refusal kept.now sheet)) }
 {
     let Some(lines) = lines_in(alloc, told, text)? else {

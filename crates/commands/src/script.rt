@@ -126,7 +126,8 @@ fn answer_row<R: Files + Clock + AllocGlobal + Clone + Drop, K: Keeper, W: io::W
 ) -> Result<ExitStatus, CommandError>
     ensures answered { IfOk result (λ status. IsRowAnswered K.standing book.old book.new row.now
         (W.contents out.old) (W.contents out.new) (Ok status)) }
-    ensures stopped { IfErr result (λ stop. IsRowStopped K.standing W.contents book.old out.old row.now
+    ensures stopped { IfErr result
+        (λ stop. IsRowStopped K.standing W.contents book.old out.old row.now
         book.new out.new stop) }
     ensures goes { GoesOn (K.standing book.old) (K.standing book.new) }
 {

@@ -203,10 +203,12 @@ pub fn serve_on<K: Keeper, A: FnMut() -> bool, W: io::Write, E: io::Write>(
 ) -> Result<ExitStatus, CommandError>
     requires admits { A.IsAlwaysCallable admits }
     ensures served { OnOk result (Came
-        (λ old c new. IsConnection (meant.audience_of service.now.clerks) (K.standing old) (K.standing new) c)
+        (λ old c new. IsConnection (meant.audience_of service.now.clerks) (K.standing old)
+        (K.standing new) c)
         has_clock first book.old book.new service.now.count) }
     ensures ended { OnErr result ((n : ℕ) × (n ≤ service.now.count) × Came
-        (λ old c new. IsConnection (meant.audience_of service.now.clerks) (K.standing old) (K.standing new) c)
+        (λ old c new. IsConnection (meant.audience_of service.now.clerks) (K.standing old)
+        (K.standing new) c)
         has_clock first book.old book.new n) }
 {
     serve_asking(
@@ -248,10 +250,12 @@ pub fn serve<K: Keeper, W: io::Write, E: io::Write>(
     err: &mut E,
 ) -> Result<ExitStatus, CommandError>
     ensures served { OnOk result (Came
-        (λ old c new. IsConnection (meant.audience_of service.now.clerks) (K.standing old) (K.standing new) c)
+        (λ old c new. IsConnection (meant.audience_of service.now.clerks) (K.standing old)
+        (K.standing new) c)
         has_clock first book.old book.new service.now.count) }
     ensures ended { OnErr result ((n : ℕ) × (n ≤ service.now.count) × Came
-        (λ old c new. IsConnection (meant.audience_of service.now.clerks) (K.standing old) (K.standing new) c)
+        (λ old c new. IsConnection (meant.audience_of service.now.clerks) (K.standing old)
+        (K.standing new) c)
         has_clock first book.old book.new n) }
 {
     let listener = match TcpListener::bind(rt, service.address) {

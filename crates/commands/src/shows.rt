@@ -3,7 +3,7 @@ ghost use Rattle.std.specs.Prelude.{◌≡◌, ◌≢◌, false, List, Some, IfE
 ghost use Rattle.profile.specs.declared.rules.Rules.TheVariants.{Two};
 ghost use Rattle.profile.specs.Reports as meant;
 ghost use Rattle.profile.specs.Accepted.{IsLegal};
-ghost use Rattle.profile.specs.Decision.{standing as standing_of};
+ghost use Rattle.profile.specs.Decision.{standing as history_of};
 ghost use Rattle.profile.specs.Header.{who_of};
 ghost use Rattle.profile.specs.Register.{Entry, own};
 ghost use Rattle.profile.specs.Rows.{stock_of, outbox_of};
@@ -71,7 +71,8 @@ fn read<'a>(show: &Show<'a>) -> Option<Asked<'a>>
 /// What a line asks to be shown. Refused is 32, a word that can't be read.
 pub fn ask<'a>(show: &Show<'a>) -> Result<Asked<'a>, Refusal>
     ensures asked { IfOk result (IsAskedFor show.now) }
-    ensures refused { IfErr result (λ refusal. (refusal ≡ Refusal.BadText) × (is_readable show.now ≡ false)) }
+    ensures refused { IfErr result
+        (λ refusal. (refusal ≡ Refusal.BadText) × (is_readable show.now ≡ false)) }
 {
     match read(show) {
         Some(asked) => Ok(asked),
@@ -150,7 +151,8 @@ fn tell_no_sheet<E: io::Write>(
     ensures refused { IfOk result
         (λ status. (status ≡ ExitStatus.Refused) × (why ≢ NoSheet.OutOfMemory)) }
     ensures halted { IfErr result IsDeviceStop }
-    ensures starved { why ≡ NoSheet.OutOfMemory → IsErrOf result (CommandError.Fault Fault.OutOfMemory) }
+    ensures starved { why ≡ NoSheet.OutOfMemory
+        → IsErrOf result (CommandError.Fault Fault.OutOfMemory) }
 {
     match why {
         NoSheet::UnknownOrder => tell_refusal(alloc, err, Refusal::UnknownOrder),
@@ -170,11 +172,11 @@ fn order<K: Keeper, W: io::Write, E: io::Write>(
     err: &mut E,
 ) -> Result<ExitStatus, CommandError>
     ensures shown { OfKept (K.standing book.old) (K.standing book.new)
-        (λ L. IfOk result (λ status. IsShown (shown_order number.now (standing_of (own L who)))
+        (λ L. IfOk result (λ status. IsShown (shown_order number.now (history_of (own L who)))
         (W.contents out.old) (W.contents out.new) status)) }
     ensures same { IsUnchanged (K.standing book.old) (K.standing book.new) }
     ensures stopped { IfErr result (IsShowStopped (K.standing book.old) (K.standing book.new)
-        (λ L. shown_order number.now (standing_of (own L who)))) }
+        (λ L. shown_order number.now (history_of (own L who)))) }
 {
     let need = Need::order(alloc, number.as_bytes())?;
     let Some(page) = book.load(who, &need)? else {
@@ -218,7 +220,8 @@ fn tell_content<W: io::Write>(
     text: Option<Vec<u8>>,
     out: &mut W,
 ) -> Result<ExitStatus, CommandError>
-    ensures shown { IfOk result (λ status. IsShown (shown_text (Some (option_map (λ t. t.items) text)))
+    ensures shown { IfOk result
+        (λ status. IsShown (shown_text (Some (option_map (λ t. t.items) text)))
         (W.contents out.old) (W.contents out.new) status) }
     ensures halted { IfErr result IsDeviceStop }
 {

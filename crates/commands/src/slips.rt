@@ -1,5 +1,5 @@
 //! What clerks did, with their sheets.
-ghost use Rattle.std.specs.Prelude.{◌≡◌, ◌⊎◌, List, true, IsTrue, None, Some, Ok, IfErr, IfNone, IfOk, IfSome, option_map};
+ghost use Rattle.std.specs.Prelude.{◌≡◌, List, true, IsTrue, None, Some, Ok, Err, IfErr, IfNone, IfOk, IfSome, option_map};
 ghost use Rattle.profile.specs.declared.rules.Rules.TheVariants.{Two};
 ghost use Rattle.profile.specs.Accepted.{is_command};
 ghost use Rattle.profile.specs.Clerk.{is_sheet};
@@ -9,14 +9,15 @@ ghost use Rattle.sheet_texts.specs.Kinds.{kind_of};
 ghost use Rattle.sheet_texts.specs.Texts.{sheet_of_text};
 ghost use Rattle.store.specs.Asked.{asked};
 ghost use Rattle.commands.specs.Clerks as meant;
-ghost use Rattle.commands.specs.Clerks.{IsNoSheet, IsNoSlip, IsSlipOf, command_of, depositor_of};
+ghost use Rattle.commands.specs.Clerks.{IsNoSlip, IsSlipOf, command_of, depositor_of, sheet_read};
 
 use crate::causes::about_file;
 use crate::files::MOST_SHEET;
 use crate::told::CommandError;
 use command_line::{ClerkWords, Deed};
-use intake::{act_of, read_first, sheet_in};
+use intake::{act_of, read_first};
 use profile::{MOST_NUMBER, MOST_TICKET};
+use sheet_texts::sheet;
 use std::alloc::{AllocError, Global};
 use std::rt::Files;
 use store::{Command, Goods, Ident, Refusal, Sheet, SheetKind, Who};
@@ -67,7 +68,8 @@ fn read_slip<R: Files + AllocGlobal>(
     rt: &R,
     told: &ClerkWords<'_>,
 ) -> Result<Option<Read>, CommandError>
-    ensures read { IfOk result (λ found. IfSome found (λ read. depositor_of told.now ≡ Some read.who)) }
+    ensures read { IfOk result
+        (λ found. IfSome found (λ read. depositor_of told.now ≡ Some read.who)) }
     ensures none { IfOk result (λ found. IfNone found (depositor_of told.now ≡ None)) }
 {
     let Some(who) = depositor(told) else {
@@ -79,34 +81,39 @@ fn read_slip<R: Files + AllocGlobal>(
     }
 }
 
-// Why a text makes no sheet, where its first bytes make none for this reason. Of a longer one these
-// say only that it has too many lines.
-fn reason_of(refusal: Refusal, is_long: bool) -> Refusal
-    ensures { (result ≡ refusal) ⊎ ((is_long ≡ true) × (result ≡ Refusal.BadText)) }
+// Why a file that is longer than a sheet may be makes none, where its first bytes make none for
+// this reason.
+fn long_reason(refusal: Refusal) -> Refusal
+    ensures { result ≡ meant.long_reason (Err refusal) }
 {
-    if is_long && !matches!(refusal, Refusal::TooManyLines) {
-        Refusal::BadText
-    } else {
-        refusal
+    match refusal {
+        Refusal::TooManyLines => Refusal::TooManyLines,
+        _ => Refusal::BadText,
     }
 }
 
-// The sheet of a kind in the first bytes of a file, or why there is none (30 to 33). A file with
-// more than a sheet may have has too many lines in these already (33), or can't be read (32).
+// The sheet of a kind in what was read of a file, its first bytes up to one more than a sheet may
+// have, or why there is none (30 to 33). A longer file has too many lines in these already (33), or
+// can't be read (32).
 fn sheet_of(
     alloc: Global,
     kind: SheetKind,
     text: &[u8],
 ) -> Result<Result<Sheet, Refusal>, AllocError>
-    ensures ok { IfOk result (λ made. IfOk made (λ sheet. sheet_of_text Two (kind_of kind) text.now ≡ Ok sheet)) }
-    ensures kind { IfOk result (λ made. IfOk made (λ sheet. is_sheet Two (kind_of kind) sheet ≡ true)) }
-    ensures none { IfOk result (λ made. IfErr made (IsNoSheet (kind_of kind) text.now)) }
+    ensures ok { IfOk result
+        (λ made. IfOk made (λ sheet. sheet_read (kind_of kind) text.now ≡ Ok sheet)) }
+    ensures kind { IfOk result
+        (λ made. IfOk made (λ sheet. is_sheet Two (kind_of kind) sheet ≡ true)) }
+    ensures err { IfOk result
+        (λ made. IfErr made (λ refusal. sheet_read (kind_of kind) text.now ≡ Err refusal)) }
 {
-    let is_long = text.len() as u64 > u64::from(MOST_SHEET);
-    match sheet_in(alloc, kind, text)? {
-        Ok(_) if is_long => Ok(Err(Refusal::BadText)),
-        Ok(sheet) => Ok(Ok(sheet)),
-        Err(refusal) => Ok(Err(reason_of(refusal, is_long))),
+    let made = sheet(alloc, kind, text)?;
+    if text.len() as u64 <= u64::from(MOST_SHEET) {
+        return Ok(made);
+    }
+    match made {
+        Ok(_) => Ok(Err(Refusal::BadText)),
+        Err(refusal) => Ok(Err(long_reason(refusal))),
     }
 }
 
@@ -117,7 +124,8 @@ pub fn slip_of<'a, R: Files + AllocGlobal>(
     rt: &R,
     told: &ClerkWords<'a>,
 ) -> Result<Result<Slip<'a>, Refusal>, CommandError>
-    ensures slip { IfOk result (λ made. IfOk made (λ slip. IsSlipOf told.now slip.who slip.told slip.text.items slip.sheet)) }
+    ensures slip { IfOk result
+        (λ made. IfOk made (λ slip. IsSlipOf told.now slip.who slip.told slip.text.items slip.sheet)) }
     ensures none { IfOk result (λ made. IfErr made (IsNoSlip told.now)) }
 {
     let Some(Read { who, text }) = read_slip(rt, told)? else {
@@ -141,7 +149,7 @@ pub fn sheet_text_of<R: Files + AllocGlobal>(
 ) -> Result<Result<Vec<u8>, Refusal>, CommandError>
     ensures text { IfOk result (λ made. IfOk made (λ text. (who : Partner) × (sheet : List Line)
         × (depositor_of told.now ≡ Some who)
-        × (sheet_of_text Two (meant.kind_of told.now.deed) text.items ≡ Ok sheet))) }
+        × (sheet_read (meant.kind_of told.now.deed) text.items ≡ Ok sheet))) }
     ensures none { IfOk result (λ made. IfErr made (IsNoSlip told.now)) }
 {
     let Some(Read { text, .. }) = read_slip(rt, told)? else {
@@ -159,10 +167,11 @@ pub(crate) fn lines_in(
     told: &ClerkWords<'_>,
     text: &[u8],
 ) -> Result<Option<Vec<Goods>>, AllocError>
-    ensures { (sheet : List Line) → sheet_of_text Two (meant.kind_of told.now.deed) text.now ≡ Ok sheet
+    ensures { (sheet : List Line)
+        → sheet_of_text Two (meant.kind_of told.now.deed) text.now ≡ Ok sheet
         → IfOk result (λ found. option_map (λ lines. lines.items) found ≡ Some sheet) }
 {
-    match sheet_in(alloc, sheet_kind(told.deed), text)? {
+    match sheet(alloc, sheet_kind(told.deed), text)? {
         Ok(sheet) => Ok(Some(sheet.lines(alloc)?)),
         Err(_) => Ok(None),
     }

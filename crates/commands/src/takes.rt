@@ -26,8 +26,10 @@ fn status_of(outcome: FileOutcome) -> ExitStatus
 
 // Prints what became of files.
 fn tell_taken<W: io::Write>(out: &mut W, files: &[Taken]) -> Result<ExitStatus, CommandError>
-    ensures status { IfOk result (λ status. status ≡ meant.status_of (map meant.became_in files.now)) }
-    ensures printed { OnOk result (Appends (W.contents out.old) (W.contents out.new) (flat_map meant.line_in files.now)) }
+    ensures status { IfOk result
+        (λ status. status ≡ meant.status_of (map meant.became_in files.now)) }
+    ensures printed { OnOk result
+        (Appends (W.contents out.old) (W.contents out.new) (flat_map meant.line_in files.now)) }
     ensures halted { IfErr result IsDeviceStop }
 {
     let mut status = ExitStatus::Done;

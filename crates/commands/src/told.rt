@@ -58,7 +58,7 @@ pub enum CommandError {
 }
 
 impl From<AllocError> for CommandError {
-    ghost use Rattle.store.specs.declared.fault.Fault.TheVariants as faults;
+    ghost use Rattle.store.specs.Fault.TheVariants as faults;
     ghost use Rattle.commands.specs.declared.told.CommandError.TheVariants as stops;
 
     ghost from_gives = { λ _ stop. stop ≡ stops.Fault faults.OutOfMemory };

@@ -61,7 +61,8 @@ pub fn faulty_element(
     rows: &[ElementRow],
     segment: &Segment<'_>,
 ) -> Option<(usize, u8)>
-    ensures { option_map told_element result ≡ meant.faulty_element delims.now (map row_of rows.now) segment.now.elements }
+    ensures { option_map told_element result
+        ≡ meant.faulty_element delims.now (map row_of rows.now) segment.now.elements }
 {
     for (index, row) in rows.iter().enumerate() {
         if let Some(code) = element_fault(delims, row, segment.element(index + 1)) {

@@ -40,12 +40,15 @@ trailer_note d segments has_rest number =
     if has_rest || not (list_any (has_id (codes "IEA")) segments) then Some 23
     else (if is_trailer_wrong d segments then Some 22
     else (if not (bytes_eq (element (last_segment segments) 2) number) then Some 1
-    else (if not (value (element (last_segment segments) 1) == count_by (has_id (codes "GS")) segments) then Some 21 else None)))
+    else (if not (value (element (last_segment segments) 1) == count_by
+    (has_id (codes "GS")) segments) then Some 21 else None)))
 
 -- the content's conditions on the segments alone
 abbrev pub are_segments_invalid : Delims → List Segment → Bool
-are_segments_invalid d segments = not (list_all (is_well_formed d) segments) || not (list_all (λ s. is_segment_id (id_of s)) segments)
-    || nat_lt 1 (count_by (has_id (codes "ISA")) segments) || list_any (has_id (codes "TA1")) segments || not (is_in_place segments)
+are_segments_invalid d segments = not (list_all (is_well_formed d) segments)
+    || not (list_all (λ s. is_segment_id (id_of s)) segments)
+    || nat_lt 1 (count_by (has_id (codes "ISA")) segments)
+    || list_any (has_id (codes "TA1")) segments || not (is_in_place segments)
 
 -- the content's conditions on the groups
 abbrev pub are_groups_invalid : List Group → Bool
@@ -55,4 +58,5 @@ are_groups_invalid groups = list_any (λ g. length g.sets == 0) groups
 -- the same of the groups as they are held
 abbrev pub are_held_invalid : List GroupOf → Bool
 are_held_invalid groups = list_any (λ g. length g.group.sets == 0) groups
-    || nat_lt most_groups (length groups) || nat_lt most_sets (sum_by (λ g. length g.group.sets) groups)
+    || nat_lt most_groups (length groups)
+    || nat_lt most_sets (sum_by (λ g. length g.group.sets) groups)

@@ -6,7 +6,8 @@ use Rattle.profile.specs.Limits.{most_bytes}
 use Rattle.profile.specs.Header.{places, isa, is_legible, separator_offsets}
 
 abbrev pub is_begun : List ℕ → Bool
-is_begun text = not (nat_lt most_bytes (length text) || nat_lt (length text) 106 || not (bytes_eq (take 3 text) (codes "ISA")))
+is_begun text = not (nat_lt most_bytes (length text) || nat_lt (length text) 106
+    || not (bytes_eq (take 3 text) (codes "ISA")))
 
 -- the separators, the data of the header, its number and the bytes after it
 abbrev pub is_filled : Delims → List ℕ → Bool

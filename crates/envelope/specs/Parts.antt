@@ -1,4 +1,5 @@
--- The parts of an interchange as the program holds them: the definitions' parts, with the delimiters of their text.
+-- The parts of an interchange as the program holds them: the definitions' parts, with the
+-- delimiters of their text.
 use Rattle.std.specs.Prelude.{◌≡◌, ℕ, ◌+◌, ◌≤◌, Bool, List, map, length, if◌then◌else◌, IsTrue, codes, Option, option_map}
 use Rattle.std.specs.List.{position_or_len}
 use Rattle.profile.specs.Limits.{most_bytes}
@@ -33,9 +34,11 @@ pub record GroupsOf : Type 0 where
 -- A set begins with ST. If it is closed its one SE stands last, else it has none.
 pub record IsFramed (s : Set) : Type 0 where
   pub begins : IsTrue (has_id (codes "ST") (head_of s))
-  pub ends : position_or_len (has_id (codes "SE")) s.segments + (if s.is_closed then 1 else 0) ≡ length s.segments
+  pub ends : position_or_len (has_id (codes "SE")) s.segments + (if s.is_closed then 1
+      else 0) ≡ length s.segments
 
--- what is true of the segments that a set holds: its text has no more bytes than an interchange may have
+-- what is true of the segments that a set holds: its text has no more bytes than an interchange may
+-- have
 pub record AreKept (d : Delims) (ps : List Piece) (is_closed : Bool) : Type 0 where
   pub same : AreOf d ps
   pub framed : IsFramed (record { segments = segments_of ps; is_closed = is_closed })

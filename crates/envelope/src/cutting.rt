@@ -10,7 +10,9 @@ fn pieces<'a>(
     text: &'a [u8],
     delims: Delims,
 ) -> Result<(Vec<Segment<'a>>, &'a [u8]), AllocError>
-    ensures { IfOk result (λ p. (p.0.items ≡ cuts.pieces_left (record { delims = delims; text = text.now })) × (p.1.now ≡ (cuts.cut delims text.now).rest)) }
+    ensures { IfOk result
+        (λ p. (p.0.items ≡ cuts.pieces_left (record { delims = delims; text = text.now }))
+        × (p.1.now ≡ (cuts.cut delims text.now).rest)) }
 {
     let mut pieces = Vec::new(alloc);
     let mut left = cut(text, delims);
@@ -27,7 +29,9 @@ pub(crate) fn cut_all<'a>(
     text: &'a [u8],
     delims: Delims,
 ) -> Result<(Vec<Segment<'a>>, &'a [u8]), AllocError>
-    ensures { IfOk result (λ p. (cuts.segments_of p.0.items ≡ (cuts.cut delims text.now).segments) × cuts.AreOf delims p.0.items
+    ensures { IfOk result
+        (λ p. (cuts.segments_of p.0.items ≡ (cuts.cut delims text.now).segments)
+        × cuts.AreOf delims p.0.items
         × (length p.0.items ≤ length text.now) × (p.1.now ≡ (cuts.cut delims text.now).rest)) }
 {
     let (pieces, rest) = pieces(alloc, text, delims)?;

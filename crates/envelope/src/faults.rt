@@ -20,7 +20,9 @@ fn is_read(function: &[u8]) -> bool
 
 // Whether the set number ST01 belongs to the functional identifier GS01.
 fn belongs(function: &[u8], number: &[u8]) -> bool
-    ensures { result ≡ list_any (λ k. bytes_eq (kind_number k) number.now) (option_to_list (find (λ k. bytes_eq (kind_function k) function.now) set_kinds)) }
+    ensures { result ≡ list_any
+        (λ k. bytes_eq (kind_number k) number.now) (option_to_list (find
+        (λ k. bytes_eq (kind_function k) function.now) set_kinds)) }
 {
     match function {
         b"OW" => same(b"940", number),
@@ -32,7 +34,8 @@ fn belongs(function: &[u8], number: &[u8]) -> bool
 
 // Whether GS names the version that is read.
 fn has_version(head: &Segment<'_>) -> bool
-    ensures { result ≡ (bytes_eq (cuts.element head.now.elements 7) (codes "X") && bytes_eq (cuts.element head.now.elements 8) (codes "004010")) }
+    ensures { result ≡ (bytes_eq (cuts.element head.now.elements 7) (codes "X") && bytes_eq
+        (cuts.element head.now.elements 8) (codes "004010")) }
 {
     same(head.element(7), b"X") && same(head.element(8), b"004010")
 }
@@ -82,7 +85,8 @@ impl<'a> Group<'a> {
 
     // The code of the fault of a set's envelope; it is told whether the set's number stood before.
     fn set_fault(&self, set: &Set<'_>, is_repeated: bool) -> Option<u8>
-        ensures { (earlier : List (List ℕ)) → is_repeated ≡ is_one_of earlier (meant.control_of set.now.set)
+        ensures { (earlier : List (List ℕ))
+            → is_repeated ≡ is_one_of earlier (meant.control_of set.now.set)
             → result ≡ meant.envelope_fault (meant.kind_of self.now.group) earlier set.now.set }
     {
         let segments = set.segments();

@@ -70,7 +70,8 @@ impl<'a> Isa<'a> {
     /// The sender, by ISA05 and by ISA06 without the spaces at its end; None where they can't name
     /// a partner.
     pub fn sender(&self) -> Option<Who>
-        ensures { result ≡ (if meant.is_partner (meant.sender self.now) then Some (meant.sender self.now) else None) }
+        ensures { result ≡ (if meant.is_partner (meant.sender self.now) then Some
+            (meant.sender self.now) else None) }
     {
         Who::of(self.element(5), stripped(self.element(6)))
     }

@@ -29,7 +29,8 @@ pub(crate) fn place_of(segments: &[Segment<'_>], id: &[u8]) -> usize
 #[tactic(auto, using(crate::proofs::Bared::before_bare))]
 pub(crate) fn before<'s, 'a>(segments: &'s [Segment<'a>], id: &[u8]) -> &'s [Segment<'a>]
     ensures pieces { result.now ≡ before_first (marked id.now) segments.now }
-    ensures elements { cuts.segments_of result.now ≡ before_first (cuts.has_id id.now) (cuts.segments_of segments.now) }
+    ensures elements { cuts.segments_of result.now
+        ≡ before_first (cuts.has_id id.now) (cuts.segments_of segments.now) }
 {
     &segments[..place_of(segments, id)]
 }
@@ -102,7 +103,8 @@ pub(crate) fn run_from(segments: &[Segment<'_>], from: usize, id: &[u8]) -> Opti
         (λ r. (r.0 < r.1) × (r.1 ≤ length segments.now) × (from < r.1)
         × ((d : cuts.Piece) → marked id.now (get_or segments.now r.0 d) ≡ true)
         × ((d : cuts.Piece) → (parted (marked id.now) (drop from segments.now)).runs
-        ≡ (get_or segments.now r.0 d, take (r.1 - (r.0 + 1)) (drop (r.0 + 1) segments.now)) ∷ (parted (marked id.now) (drop r.1 segments.now)).runs)) }
+        ≡ (get_or segments.now r.0 d, take (r.1 - (r.0 + 1)) (drop (r.0 + 1) segments.now))
+        ∷ (parted (marked id.now) (drop r.1 segments.now)).runs)) }
 {
     let start = place_from(segments, from, id);
     if start == segments.len() {

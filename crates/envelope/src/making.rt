@@ -36,7 +36,8 @@ fn make_set<'a>(
     requires same { AreOf delims (head.now ∷ others.now) }
     requires begins { has_id (codes "ST") head.now.elements ≡ true }
     requires few { length others.now < most_bytes }
-    ensures { IfOk result (λ s. s ≡ held.set_under delims (meant.set_of (held.bare (head.now, others.now)))) }
+    ensures { IfOk result
+        (λ s. s ≡ held.set_under delims (meant.set_of (held.bare (head.now, others.now)))) }
 {
     let segments = copied(alloc, head, through(others, b"SE"))?;
     Ok(Set::new(delims, segments, has(others, b"SE")))
@@ -50,7 +51,9 @@ fn make_sets<'a>(
 ) -> Result<Vec<Set<'a>>, AllocError>
     requires same { AreOf delims segments.now }
     requires few { length segments.now ≤ most_bytes }
-    ensures { IfOk result (λ v. v.items ≡ map (held.set_under delims) (map meant.set_of (parted (has_id (codes "ST")) (segments_of segments.now)).runs)) }
+    ensures { IfOk result
+        (λ v. v.items ≡ map (held.set_under delims)
+        (map meant.set_of (parted (has_id (codes "ST")) (segments_of segments.now)).runs)) }
 {
     let mut sets = Vec::new(alloc);
     let mut from = 0;
@@ -81,7 +84,8 @@ fn make_group<'a>(
 ) -> Result<Group<'a>, AllocError>
     requires same { AreOf delims (head.now ∷ others.now) }
     requires few { length others.now ≤ most_bytes }
-    ensures { IfOk result (λ g. g ≡ held.group_under delims (meant.group_of (held.bare (head.now, others.now)))) }
+    ensures { IfOk result
+        (λ g. g ≡ held.group_under delims (meant.group_of (held.bare (head.now, others.now)))) }
 {
     let sets = make_sets(alloc, delims, before(others, b"GE"))?;
     let tail = again_if(first_with(others, b"GE"));
@@ -96,7 +100,9 @@ fn make_groups<'a>(
 ) -> Result<Vec<Group<'a>>, AllocError>
     requires same { AreOf delims segments.now }
     requires few { length segments.now ≤ most_bytes }
-    ensures { IfOk result (λ v. v.items ≡ map (held.group_under delims) (map meant.group_of (parted (has_id (codes "GS")) (segments_of segments.now)).runs)) }
+    ensures { IfOk result
+        (λ v. v.items ≡ map (held.group_under delims)
+        (map meant.group_of (parted (has_id (codes "GS")) (segments_of segments.now)).runs)) }
 {
     let mut groups = Vec::new(alloc);
     let mut from = 0;
@@ -116,7 +122,8 @@ fn groups_of<'a>(
 ) -> Result<Vec<Group<'a>>, AllocError>
     requires same { AreOf delims segments.now }
     requires few { length segments.now ≤ most_bytes }
-    ensures { IfOk result (λ v. v.items ≡ map (held.group_under delims) (meant.groups_of (segments_of segments.now))) }
+    ensures { IfOk result
+        (λ v. v.items ≡ map (held.group_under delims) (meant.groups_of (segments_of segments.now))) }
 {
     match segments.split_first() {
         Some((_, others)) => make_groups(alloc, delims, before(others, b"IEA")),
@@ -133,7 +140,8 @@ pub(crate) fn interchange_of<'a>(
 ) -> Result<Interchange<'a>, AllocError>
     requires same { AreOf delims segments.now }
     requires few { length segments.now ≤ most_bytes }
-    ensures { IfOk result (λ i. i ≡ record { delims = delims; groups = meant.groups_of (segments_of segments.now) }) }
+    ensures { IfOk result
+        (λ i. i ≡ record { delims = delims; groups = meant.groups_of (segments_of segments.now) }) }
 {
     Ok(Interchange::new(delims, groups_of(alloc, delims, segments)?))
 }

@@ -18,7 +18,10 @@ pub struct Set<'a> {
 impl<'a> Model for Set<'a> {
     ghost Value = { held.SetOf };
 
-    ghost view = { λ s. record { delims = s.delims; set = record { segments = segments_of s.segments.items; is_closed = s.is_closed } } };
+    ghost view = { λ s. record {
+      delims = s.delims;
+      set = record { segments = segments_of s.segments.items; is_closed = s.is_closed };
+    } };
 
     ghost invariant = { λ s. held.AreKept s.delims s.segments.items s.is_closed };
 }
@@ -65,7 +68,10 @@ impl<'a> Set<'a> {
     // A set of these segments.
     pub(crate) fn new(delims: Delims, segments: Vec<Segment<'a>>, is_closed: bool) -> Set<'a>
         requires { held.AreKept delims segments.items is_closed }
-        ensures { result ≡ record { delims = delims; set = record { segments = segments_of segments.entry.items; is_closed = is_closed } } }
+        ensures { result ≡ record {
+          delims = delims;
+          set = record { segments = segments_of segments.entry.items; is_closed = is_closed };
+        } }
     {
         Set {
             delims,
@@ -135,7 +141,10 @@ impl<'a> Interchange<'a> {
     // An interchange of these groups.
     pub(crate) fn new(delims: Delims, groups: Vec<Group<'a>>) -> Interchange<'a>
         requires { groups.items ≡ map (held.group_under delims) (map (λ g. g.group) groups.items) }
-        ensures { result ≡ record { delims = delims; groups = map (λ g. g.group) groups.entry.items } }
+        ensures { result ≡ record {
+          delims = delims;
+          groups = map (λ g. g.group) groups.entry.items;
+        } }
     {
         Interchange { delims, groups }
     }

@@ -26,7 +26,8 @@ fn has_no_rest(segments: &[Segment<'_>], id: &[u8]) -> bool
 // Whether nothing stands after SE in each set's run.
 #[tactic(auto, using(crate::proofs::Bared::tested_bare))]
 fn are_sets_clean(segments: &[Segment<'_>]) -> bool
-    ensures { result ≡ list_all meant.is_set_clean (parted (has_id (codes "ST")) (segments_of segments.now)).runs }
+    ensures { result ≡ list_all meant.is_set_clean
+        (parted (has_id (codes "ST")) (segments_of segments.now)).runs }
 {
     let mut from = 0;
     while let Some((start, end)) = run_from(segments, from, b"ST") {
@@ -55,7 +56,8 @@ fn is_group_clean(others: &[Segment<'_>]) -> bool
 // Whether each group has nothing but sets.
 #[tactic(auto, using(crate::proofs::Bared::tested_bare))]
 fn are_groups_clean(segments: &[Segment<'_>]) -> bool
-    ensures { result ≡ list_all meant.is_group_clean (parted (has_id (codes "GS")) (segments_of segments.now)).runs }
+    ensures { result ≡ list_all meant.is_group_clean
+        (parted (has_id (codes "GS")) (segments_of segments.now)).runs }
 {
     let mut from = 0;
     while let Some((start, end)) = run_from(segments, from, b"GS") {

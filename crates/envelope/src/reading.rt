@@ -36,7 +36,8 @@ fn byte_at(text: &[u8], offset: usize) -> u8
 
 // Whether each separator stands at its offset.
 fn is_separated(delims: &Delims, text: &[u8]) -> bool
-    ensures { result ≡ list_all (λ k. slice_index text.now k == delims.now.separator) meant.separator_offsets }
+    ensures { result ≡ list_all
+        (λ k. slice_index text.now k == delims.now.separator) meant.separator_offsets }
 {
     let separator = delims.separator();
     ISA_SEPARATORS
@@ -47,7 +48,8 @@ fn is_separated(delims: &Delims, text: &[u8]) -> bool
 // Whether ISA01 to ISA15 are data: ISA16 is a delimiter.
 fn has_data(delims: &Delims, text: &[u8]) -> bool
     requires { 106 ≤ length text.now }
-    ensures { result ≡ list_all (λ n. list_all (is_data delims.now) (meant.isa text.now n)) (range_with_len 1 15) }
+    ensures { result ≡ list_all
+        (λ n. list_all (is_data delims.now) (meant.isa text.now n)) (range_with_len 1 15) }
 {
     (1..16).all(|n| all_data(delims, element(text, n)))
 }
@@ -103,7 +105,8 @@ fn is_filled(delims: &Delims, text: &[u8]) -> bool
 // The delimiters of a text that can be read.
 fn read(text: &[u8]) -> Option<Delims>
     ensures { MatchOption result (meant.is_unreadable text.now ≡ true)
-        (λ d. (106 ≤ length text.now) × (meant.is_unreadable text.now ≡ false) × (d ≡ meant.delims_of text.now)) }
+        (λ d. (106 ≤ length text.now) × (meant.is_unreadable text.now ≡ false)
+        × (d ≡ meant.delims_of text.now)) }
 {
     if !is_begun(text) {
         return None;
@@ -119,7 +122,9 @@ fn read(text: &[u8]) -> Option<Delims>
 /// The header of a text, which is read whole for it: Unreadable exactly where the text is no
 /// interchange that can be read. It takes no memory.
 pub fn isa(text: &[u8]) -> Result<Isa<'_>, Unreadable>
-    ensures { MatchResult result (λ i. (meant.is_unreadable text.now ≡ false) × (i ≡ text.now)) (λ _. meant.is_unreadable text.now ≡ true) }
+    ensures { MatchResult result
+        (λ i. (meant.is_unreadable text.now ≡ false)
+        × (i ≡ text.now)) (λ _. meant.is_unreadable text.now ≡ true) }
 {
     match read(text) {
         Some(delims) => Ok(Isa { text, delims }),

@@ -13,7 +13,8 @@ use segments::{Delims, Segment};
 
 // Whether each IEA among the pieces is well formed.
 fn are_trailers(delims: &Delims, segments: &[Segment<'_>]) -> bool
-    ensures { result ≡ list_all (λ p. well_formed delims.now p.elements) (filter (marked (codes "IEA")) segments.now) }
+    ensures { result ≡ list_all
+        (λ p. well_formed delims.now p.elements) (filter (marked (codes "IEA")) segments.now) }
 {
     segments
         .iter()
@@ -23,7 +24,8 @@ fn are_trailers(delims: &Delims, segments: &[Segment<'_>]) -> bool
 
 // Whether each IEA is well formed.
 fn are_trailers_well_formed(delims: &Delims, segments: &[Segment<'_>]) -> bool
-    ensures { result ≡ list_all (well_formed delims.now) (filter (cuts.has_id (codes "IEA")) (cuts.segments_of segments.now)) }
+    ensures { result ≡ list_all (well_formed delims.now)
+        (filter (cuts.has_id (codes "IEA")) (cuts.segments_of segments.now)) }
 {
     are_trailers(delims, segments)
 }
@@ -55,7 +57,8 @@ pub(crate) fn trailer_note(
     has_rest: bool,
     number: &[u8],
 ) -> Option<u8>
-    ensures { result ≡ conditions.trailer_note delims.now (cuts.segments_of segments.now) has_rest number.now }
+    ensures { result ≡ conditions.trailer_note delims.now (cuts.segments_of segments.now) has_rest
+        number.now }
 {
     if has_rest || !has(segments, b"IEA") {
         return Some(23);

@@ -27,7 +27,11 @@ fn is_some_left(rest: &[u8]) -> bool
 pub fn structure<'a>(alloc: Global, text: &'a [u8], isa: &Isa<'a>) -> Result<Interchange<'a>, Halt>
     requires { isa.now ≡ text.now }
     ensures { MatchResult result
-        (λ i. (structure_note text.now ≡ None) × (i ≡ record { delims = delims_of text.now; groups = groups_of (meaning (delims_of text.now) text.now).segments }))
+        (λ i. (structure_note text.now ≡ None)
+        × (i ≡ record {
+          delims = delims_of text.now;
+          groups = groups_of (meaning (delims_of text.now) text.now).segments;
+        }))
         (λ h. IsTold h text.now) }
 {
     let delims = isa.delims();

@@ -1,3 +1,4 @@
+mod HaltLaws
 mod ToldLaws
 mod PathLaws
 mod RowsHeard

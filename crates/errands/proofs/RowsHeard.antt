@@ -1,7 +1,7 @@
 -- Worked examples: what is read of answers.
 use Rattle.std.proofs.Common.{◌≡◌, codes, refl, Some, None, true, false}
 use Rattle.store.specs.Refusal.TheVariants as refusals
-use Rattle.store.specs.declared.fault.Fault.TheVariants as faults
+use Rattle.store.specs.Fault.TheVariants as faults
 use Rattle.errands.specs.Heard.{heard, heard_look, heard_report, note_in, number_in}
 use Rattle.errands.specs.declared.answers.Answered.TheVariants.{Done, Refused, Stopped}
 

@@ -6,8 +6,7 @@ use Rattle.profile.specs.Header.{Who}
 use Rattle.profile.specs.Means.{Line}
 use Rattle.store.specs.Refusal.{Refusal}
 use Rattle.store.specs.Refusal.TheVariants.{BadText, Unreadable}
-use Rattle.intake.specs.Texts.{sheet_of_text}
-use Rattle.commands.specs.Clerks.{IsNoSlip, depositor_of, kind_of}
+use Rattle.commands.specs.Clerks.{IsNoSlip, depositor_of, kind_of, sheet_read}
 use Rattle.commands.specs.Looking.{is_readable}
 use Rattle.commands.specs.Readying.{IsLonger}
 use Rattle.command_line.specs.declared.words.BookAct.TheVariants as act
@@ -22,16 +21,18 @@ pub record IsDeed (t : ClerkWords) (text : List ℕ) : Type 0 where
   pub who : Who
   pub named : depositor_of t ≡ Some who
   pub sheet : List Line
-  pub read : sheet_of_text Two (kind_of t.deed) text ≡ Ok sheet
+  pub read : sheet_read (kind_of t.deed) text ≡ Ok sheet
 
 -- it is what the line asks for; the bytes of an interchange may be any
 abbrev pub IsErrandFor : Task → Errand → Type 0
 IsErrandFor (task.Act (act.Send file) at) (errand.Send bytes) = Unit {0}
-IsErrandFor (task.Act (act.Clerk told) at) (errand.Deed t text) = (t ≡ told) × IsDeed told text.items
+IsErrandFor (task.Act (act.Clerk told) at) (errand.Deed t text) = (t ≡ told)
+    × IsDeed told text.items
 IsErrandFor (task.Show s) (errand.Look shown) = (shown ≡ s) × (is_readable s ≡ true)
 IsErrandFor t e = ⊥
 
--- what the line asks for isn't made ready, for this reason: an interchange is refused for its length alone
+-- what the line asks for isn't made ready, for this reason: an interchange is refused for its
+-- length alone
 abbrev pub IsNoErrandFor : Task → Refusal → Type 0
 IsNoErrandFor (task.Act (act.Send file) at) refusal = (refusal ≡ Unreadable) × IsLonger MOST_BYTES
 IsNoErrandFor (task.Act (act.Clerk told) at) refusal = IsNoSlip told refusal

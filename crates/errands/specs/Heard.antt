@@ -6,9 +6,11 @@ use Rattle.profile.specs.Bytes.{is_digit, value}
 use Rattle.profile.specs.Lists.{first_of}
 use Rattle.store.specs.Refusal.{Refusal}
 use Rattle.store.specs.Refusal.TheVariants as refusals
-use Rattle.store.specs.declared.fault.Fault.{Fault}
-use Rattle.store.specs.declared.fault.Fault.TheVariants as faults
+use Rattle.store.specs.Fault.{Fault}
+use Rattle.store.specs.Fault.TheVariants as faults
 use Rattle.commands.specs.Telling.{line_of}
+use Rattle.commands.specs.Stops.{IsDeviceFault, fault_in}
+use Rattle.commands.specs.declared.told.CommandError.{CommandError}
 use Rattle.commands.specs.declared.told.ExitStatus.{ExitStatus}
 use Rattle.commands.specs.declared.told.ExitStatus.TheVariants as statuses
 use Rattle.errands.specs.declared.answers.Answered.{Answered}
@@ -24,12 +26,17 @@ number_in text = value_of (unwrap_or (slice_get (slice_split (λ b. b == 32) tex
 
 -- the note code that the first three digits of a piece are
 abbrev pub note_of : List ℕ → Option ℕ
-note_of piece = if nat_lt (length piece) 3 then None else (if nat_lt 255 (min (value (take 3 piece)) 1000) then None else Some (min (value (take 3 piece)) 1000))
+note_of piece =
+    if nat_lt (length piece) 3 then None
+    else (if nat_lt 255 (min (value (take 3 piece)) 1000) then None
+    else Some (min (value (take 3 piece)) 1000))
 
--- The code of the note in an interchange that refuses another, which is TA105. What separates its elements is its fourth byte; the
--- sixteen elements of ISA and four of TA1 stand before it.
+-- The code of the note in an interchange that refuses another, which is TA105. What separates its
+-- elements is its fourth byte; the sixteen elements of ISA and four of TA1 stand before it.
 abbrev pub note_in : List ℕ → Option ℕ
-note_in text = if nat_lt (length text) 4 then None else option_and_then note_of (slice_get (slice_split (λ b. b == slice_index text 3) text) 21)
+note_in text =
+    if nat_lt (length text) 4 then None
+    else option_and_then note_of (slice_get (slice_split (λ b. b == slice_index text 3) text) 21)
 
 abbrev pub numbered : ℕ → Option Refusal
 numbered n = first_of None
@@ -62,7 +69,8 @@ fault_numbered n = first_of faults.Device
     ∷ (n == 43, faults.NotThisBook)
     ∷ [])
 
--- whether a server tells the refusal under this status: what can't be read is 404 in a path and 422 in a sheet
+-- whether a server tells the refusal under this status: what can't be read is 404 in a path and 422
+-- in a sheet
 abbrev pub stands_under : ℕ → Refusal → Bool
 stands_under status refusals.Unreadable = status == 400
 stands_under status refusals.UnknownDepositor = status == 404
@@ -85,7 +93,8 @@ heard_note text = by (note_in text)
     by (Some code) = Refused (refusals.Note code)
     by None = Stopped faults.Device
 
--- The answer to a command: what is done has a document, or nothing (204) where an interchange has an empty answer.
+-- The answer to a command: what is done has a document, or nothing (204) where an interchange has
+-- an empty answer.
 abbrev pub heard : ℕ → Bool → List ℕ → Answered
 heard status is_interchange body = first_of (heard_line status body)
     ((status == 200 && is_interchange, Done)
@@ -96,7 +105,8 @@ heard status is_interchange body = first_of (heard_line status body)
     ∷ (status == 503, Stopped (fault_numbered (number_in body)))
     ∷ [])
 
--- The answer to a query, whose report is no interchange. A server says `404 Not Found` of a depositor whom it doesn't know.
+-- The answer to a query, whose report is no interchange. A server says `404 Not Found` of a
+-- depositor whom it doesn't know.
 abbrev pub heard_report : ℕ → Bool → List ℕ → Answered
 heard_report status is_interchange body = first_of (heard_line status body)
     ((status == 200 && not is_interchange, Done)
@@ -104,8 +114,8 @@ heard_report status is_interchange body = first_of (heard_line status body)
     ∷ (status == 503, Stopped (fault_numbered (number_in body)))
     ∷ [])
 
--- The answer to a query of what clerks alone are shown. What it is refused for stands in its body by number, so a 404 without such a
--- number is no server's that takes clerks' requests.
+-- The answer to a query of what clerks alone are shown. What it is refused for stands in its body
+-- by number, so a 404 without such a number is no server's that takes clerks' requests.
 abbrev pub heard_look : ℕ → Bool → List ℕ → Answered
 heard_look status is_interchange body = first_of (heard_line status body)
     ((status == 200 && not is_interchange, Done)
@@ -130,6 +140,20 @@ IsStatus (Stopped f) status = ⊥
 pub record IsTold (printed : List ℕ) (h : Answered) (before after : Option (List ℕ)) (status : ExitStatus) : Type 0 where
   pub text : Appends before after printed
   pub says : IsStatus h status
+
+-- the fault that an answer tells, if it tells one
+abbrev pub stop_of : Answered → Option Fault
+stop_of (Stopped fault) = Some fault
+stop_of h = None
+
+-- what stops a command with an answer: the fault that it tells; and where it tells none, a device
+-- that doesn't take what is printed, or want of memory
+abbrev pub IsHalted : Answered → CommandError → Type 0
+IsHalted h stop = by (stop_of h)
+  where
+    by : Option Fault → Type 0
+    by (Some fault) = fault_in stop ≡ Some fault
+    by None = IsDeviceFault stop
 
 -- nothing went out under the number that was asked for, which the status alone says
 abbrev pub TellsNothing : Option (List ℕ) → Option (List ℕ) → ExitStatus → Type 0

@@ -25,8 +25,8 @@ said (Accepted text) = says.Done
 said (Stored text) = says.Done
 said (Refused refusal text) = says.Refused refusal
 
--- A refusal's answer is what the rules give: an interchange for a known number and for a note, which has the note's code, and nothing
--- for any other.
+-- A refusal's answer is what the rules give: an interchange for a known number and for a note,
+-- which has the note's code, and nothing for any other.
 abbrev pub HasAnswer : Refusal → List ℕ → Type 0
 HasAnswer (refusals.Note code) text = note_in text ≡ Some code
 HasAnswer refusals.Duplicate text = Unit {0}
@@ -37,7 +37,8 @@ IsReply (Accepted text) = Unit {0}
 IsReply (Stored text) = Unit {0}
 IsReply (Refused refusal text) = HasAnswer refusal text.items
 
--- an interchange is refused as one that can't be read, by a note, as a duplicate, or for want of numbers
+-- an interchange is refused as one that can't be read, by a note, as a duplicate, or for want of
+-- numbers
 abbrev pub IsReplyToInterchange : Reply → Type 0
 IsReplyToInterchange (Refused refusals.Unreadable text) = text.items ≡ []
 IsReplyToInterchange (Refused (refusals.Note code) text) = note_in text.items ≡ Some code

@@ -5,7 +5,7 @@ use std::time::Duration;
 
 /// What carries a request to a server, and brings its answer.
 pub trait Courier {
-    ghost use Rattle.std.specs.Prelude.{ℕ, ⊤, List, IfOk};
+    ghost use Rattle.std.specs.Prelude.{ℕ, ⊤, List, IfOk, IfErr};
     ghost use Rattle.remote.specs.declared.answers.Answer.{Answer};
     ghost use Rattle.remote.specs.declared.requests.Verb.{Verb};
 
@@ -13,10 +13,19 @@ pub trait Courier {
     // then. Of a network nothing is said.
     ghost brings: { Self → Verb → List ℕ → List ℕ → Answer → Self → Type 0 } = { λ _ _ _ _ _ _. ⊤ };
 
+    // Relates what it is, the verb, the path and the body of a request to which it brings no
+    // answer, and what it is then.
+    ghost loses: { Self → Verb → List ℕ → List ℕ → Self → Type 0 } = { λ _ _ _ _ _. ⊤ };
+
     /// The answer to a request. Device where none comes: what was asked for may be done all the
     /// same.
     fn carry(&mut self, request: &Request<'_>) -> Result<Answer, Unanswered>
-        ensures { IfOk result (λ answer. brings self.old request.now.verb request.now.path.now request.now.body.now answer self.new) };
+        ensures brought { IfOk result
+            (λ answer. brings self.old request.now.verb request.now.path.now request.now.body.now
+            answer self.new) }
+        ensures lost { IfErr result
+            (λ _. loses self.old request.now.verb request.now.path.now request.now.body.now
+            self.new) };
 }
 
 // How many seconds a server is waited for, in each call. It may have another's large interchange in

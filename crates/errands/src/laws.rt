@@ -22,7 +22,8 @@ pub fn an_act_is_told_as_over_the_book(reply: &Reply)
 
 /// What a server responds to an interchange is told as the reply to it.
 pub fn an_interchange_is_told_as_over_the_book(reply: &Reply)
-    ensures { IsReplyToInterchange reply.now → IsToldAs reply.now (reply_response (told reply.now)) }
+    ensures { IsReplyToInterchange reply.now
+        → IsToldAs reply.now (reply_response (told reply.now)) }
 {
     let _ = reply;
 }

@@ -25,7 +25,8 @@ fn path_without<'a>(
     who: &'a str,
     ticket: &'a str,
 ) -> Result<String, AllocError>
-    ensures { IfOk result (λ path. string_bytes path ≡ meant.path_text (name.now ∷ who.now ∷ ticket.now ∷ [])) }
+    ensures { IfOk result
+        (λ path. string_bytes path ≡ meant.path_text (name.now ∷ who.now ∷ ticket.now ∷ [])) }
 {
     path_of(alloc, &[name, who, ticket])
 }
@@ -38,7 +39,8 @@ fn path_with<'a>(
     ticket: &'a str,
     number: &'a str,
 ) -> Result<String, AllocError>
-    ensures { IfOk result (λ path. string_bytes path ≡ meant.path_text (name.now ∷ who.now ∷ ticket.now ∷ number.now ∷ [])) }
+    ensures { IfOk result
+        (λ path. string_bytes path ≡ meant.path_text (name.now ∷ who.now ∷ ticket.now ∷ number.now ∷ [])) }
 {
     path_of(alloc, &[name, who, ticket, number])
 }

@@ -1,5 +1,8 @@
 //! Why a book at a server refuses what a clerk did, for people. A server says the number of a
 //! refusal alone, so it is asked for what its book has of the sheet's pairs.
+ghost use Rattle.std.specs.Prelude.{◌≡◌, IfErr, None};
+ghost use Rattle.commands.specs.Stops.{IsDeviceFault};
+
 use crate::answers::{Answered, heard};
 use crate::courier::Courier;
 use crate::errand::Errand;
@@ -22,7 +25,9 @@ pub struct Listening<C: Courier> {
 
 impl<C: Courier> Listening<C> {
     /// A courier that has heard nothing yet.
-    pub fn new(inner: C) -> Listening<C> {
+    pub fn new(inner: C) -> Listening<C>
+        ensures { (result.inner ≡ inner) × (result.last ≡ None) }
+    {
         Listening { inner, last: None }
     }
 
@@ -37,6 +42,8 @@ impl<C: Courier> Listening<C> {
 
 impl<C: Courier> Courier for Listening<C> {
     ghost brings = { λ old verb path body answer new. C.brings old.inner verb path body answer new.inner };
+
+    ghost loses = { λ old verb path body new. C.loses old.inner verb path body new.inner };
 
     fn carry(&mut self, request: &Request<'_>) -> Result<Answer, Unanswered> {
         let answer = self.inner.carry(request)?;
@@ -128,7 +135,9 @@ pub fn tell_reason_there<C: Courier, E: io::Write>(
     server: &SocketAddr,
     errand: &Errand<'_>,
     err: &mut E,
-) -> Result<(), CommandError> {
+) -> Result<(), CommandError>
+    ensures { IfErr result IsDeviceFault }
+{
     let (Errand::Deed(told, sheet), Some(refusal)) = (errand, courier.refusal()) else {
         return Ok(());
     };

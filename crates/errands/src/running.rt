@@ -1,7 +1,8 @@
 //! A running server asked, and its answer told.
-ghost use Rattle.std.specs.Prelude.{◌≡◌, [], IfOk};
-ghost use Rattle.errands.specs.Heard.{IsStatus, IsTold, heard as heard_of, heard_look as look_of, heard_report as report_of, printed_document, printed_report};
-ghost use Rattle.errands.specs.Carried.{IsCarried, IsContent, IsExported, IsLooked, IsPosted, IsReported, IsShown};
+ghost use Rattle.std.specs.Prelude.{◌≡◌, [], IfOk, IfErr, None, Some};
+ghost use Rattle.commands.specs.Stops.{IsDeviceFault, fault_in};
+ghost use Rattle.errands.specs.Heard.{IsHalted, IsStatus, IsTold, stop_of, heard as heard_of, heard_look as look_of, heard_report as report_of, printed_document, printed_report};
+ghost use Rattle.errands.specs.Carried.{IsCarried, IsContent, IsHaltedThere, IsExported, IsLooked, IsPosted, IsReported, IsShown};
 ghost use Rattle.errands.specs.Paths.{look_path as path_for};
 
 use crate::answers::{Answered, heard, heard_look, heard_report};
@@ -22,7 +23,8 @@ fn tell_heard<E: io::Write>(
     heard: Answered,
     err: &mut E,
 ) -> Result<ExitStatus, CommandError>
-    ensures { IfOk result (IsStatus heard) }
+    ensures status { IfOk result (IsStatus heard) }
+    ensures halted { IfErr result (IsHalted heard) }
 {
     match heard {
         Answered::Done => Ok(ExitStatus::Done),
@@ -43,11 +45,38 @@ pub fn tell_document<W: io::Write, E: io::Write>(
         (printed_document answer.now.is_interchange answer.now.body.items)
         (heard_of answer.now.status answer.now.is_interchange answer.now.body.items)
         (W.contents out.old) (W.contents out.new) status) }
+    ensures halted { IfErr result
+        (IsHalted (heard_of answer.now.status answer.now.is_interchange answer.now.body.items)) }
 {
+    let heard = heard(answer.status, answer.is_interchange, &answer.body);
+    if let Answered::Stopped(fault) = heard {
+        return Err(CommandError::Fault(fault));
+    }
     if answer.is_interchange {
         tell_text(out, &answer.body)?;
     }
-    let heard = heard(answer.status, answer.is_interchange, &answer.body);
+    tell_heard(alloc, heard, err)
+}
+
+// Tells the answer to a query, as it is heard: the report, or a refusal.
+fn tell_query<W: io::Write, E: io::Write>(
+    alloc: Global,
+    answer: &Answer,
+    heard: Answered,
+    out: &mut W,
+    err: &mut E,
+) -> Result<ExitStatus, CommandError>
+    ensures told { IfOk result (λ status. IsTold
+        (printed_report answer.now.status answer.now.body.items) heard
+        (W.contents out.old) (W.contents out.new) status) }
+    ensures halted { IfErr result (IsHalted heard) }
+{
+    if let Answered::Stopped(fault) = heard {
+        return Err(CommandError::Fault(fault));
+    }
+    if answer.status == 200 {
+        out.write_all(&answer.body)?;
+    }
     tell_heard(alloc, heard, err)
 }
 
@@ -62,15 +91,11 @@ pub fn tell_report<W: io::Write, E: io::Write>(
         (printed_report answer.now.status answer.now.body.items)
         (report_of answer.now.status answer.now.is_interchange answer.now.body.items)
         (W.contents out.old) (W.contents out.new) status) }
+    ensures halted { IfErr result
+        (IsHalted (report_of answer.now.status answer.now.is_interchange answer.now.body.items)) }
 {
-    if answer.status == 200 {
-        out.write_all(&answer.body)?;
-    }
-    tell_heard(
-        alloc,
-        heard_report(answer.status, answer.is_interchange, &answer.body),
-        err,
-    )
+    let heard = heard_report(answer.status, answer.is_interchange, &answer.body);
+    tell_query(alloc, answer, heard, out, err)
 }
 
 /// Tells the answer to a query of what clerks alone are shown: the report, or a refusal.
@@ -84,15 +109,11 @@ pub fn tell_look<W: io::Write, E: io::Write>(
         (printed_report answer.now.status answer.now.body.items)
         (look_of answer.now.status answer.now.is_interchange answer.now.body.items)
         (W.contents out.old) (W.contents out.new) status) }
+    ensures halted { IfErr result
+        (IsHalted (look_of answer.now.status answer.now.is_interchange answer.now.body.items)) }
 {
-    if answer.status == 200 {
-        out.write_all(&answer.body)?;
-    }
-    tell_heard(
-        alloc,
-        heard_look(answer.status, answer.is_interchange, &answer.body),
-        err,
-    )
+    let heard = heard_look(answer.status, answer.is_interchange, &answer.body);
+    tell_query(alloc, answer, heard, out, err)
 }
 
 // Asks a server.
@@ -102,8 +123,11 @@ fn ask_server<C: Courier>(
     server: &SocketAddr,
     request: &Request<'_>,
 ) -> Result<Answer, CommandError>
-    ensures { IfOk result (λ answer. C.brings courier.old request.now.verb request.now.path.now request.now.body.now
+    ensures brought { IfOk result
+        (λ answer. C.brings courier.old request.now.verb request.now.path.now request.now.body.now
         answer courier.new) }
+    ensures lost { IfErr result (λ stop. C.loses courier.old request.now.verb request.now.path.now
+        request.now.body.now courier.new × IsDeviceFault stop) }
 {
     match courier.carry(request) {
         Ok(answer) => Ok(answer),
@@ -119,7 +143,9 @@ fn ask_server<C: Courier>(
 
 // The fault that an answer tells, with what is said of it; Device (44) of an answer that no such
 // server gives.
-fn about_stop(alloc: Global, server: &SocketAddr, fault: Fault) -> CommandError {
+fn about_stop(alloc: Global, server: &SocketAddr, fault: Fault) -> CommandError
+    ensures { fault_in result ≡ Some fault }
+{
     let said = match fault {
         Fault::Device => " gives another answer: is it whx12, started with --clerks?",
         Fault::Reopen => ": its book has to be opened again, so it ends; start it again",
@@ -139,8 +165,9 @@ fn post<C: Courier, W: io::Write, E: io::Write>(
     out: &mut W,
     err: &mut E,
 ) -> Result<ExitStatus, CommandError>
-    ensures { IfOk result (λ status. IsPosted C.brings courier.old courier.new (W.contents out.old)
+    ensures told { IfOk result (λ status. IsPosted C.brings courier.old courier.new (W.contents out.old)
         (W.contents out.new) status path.now body.now) }
+    ensures halted { IfErr result (IsHaltedThere C.brings C.loses) }
 {
     let request = Request {
         verb: Verb::Post,
@@ -161,7 +188,10 @@ pub(crate) fn get_any<C: Courier>(
     server: &SocketAddr,
     show: &Show<'_>,
 ) -> Result<Answer, CommandError>
-    ensures { IfOk result (λ answer. C.brings courier.old Verb.Get (path_for show.now) [] answer courier.new) }
+    ensures brought { IfOk result
+        (λ answer. C.brings courier.old Verb.Get (path_for show.now) [] answer courier.new) }
+    ensures halted { IfErr result (IsHaltedThere C.brings C.loses) }
+    ensures device { IfErr result IsDeviceFault }
 {
     let path = look_path(alloc, show)?;
     let request = Request {
@@ -179,7 +209,11 @@ fn get<C: Courier>(
     server: &SocketAddr,
     show: &Show<'_>,
 ) -> Result<Answer, CommandError>
-    ensures { IfOk result (λ answer. C.brings courier.old Verb.Get (path_for show.now) [] answer courier.new) }
+    ensures brought { IfOk result
+        (λ answer. C.brings courier.old Verb.Get (path_for show.now) [] answer courier.new) }
+    ensures halted { IfErr result (IsHaltedThere C.brings C.loses) }
+    ensures heard { IfOk result (λ answer. stop_of (report_of answer.status answer.is_interchange
+        answer.body.items) ≡ None) }
 {
     let answer = get_any(alloc, courier, server, show)?;
     match heard_report(answer.status, answer.is_interchange, &answer.body) {
@@ -195,7 +229,9 @@ fn get_text<C: Courier>(
     server: &SocketAddr,
     show: &Show<'_>,
 ) -> Result<Answer, CommandError>
-    ensures { IfOk result (λ answer. C.brings courier.old Verb.Get (path_for show.now) [] answer courier.new) }
+    ensures brought { IfOk result
+        (λ answer. C.brings courier.old Verb.Get (path_for show.now) [] answer courier.new) }
+    ensures halted { IfErr result (IsHaltedThere C.brings C.loses) }
 {
     let answer = get_any(alloc, courier, server, show)?;
     match heard(answer.status, answer.is_interchange, &answer.body) {
@@ -215,8 +251,10 @@ fn report<C: Courier, W: io::Write, E: io::Write>(
     out: &mut W,
     err: &mut E,
 ) -> Result<ExitStatus, CommandError>
-    ensures { IfOk result (λ status. IsReported C.brings courier.old courier.new (W.contents out.old)
+    ensures told { IfOk result
+        (λ status. IsReported C.brings courier.old courier.new (W.contents out.old)
         (W.contents out.new) status show.now) }
+    ensures halted { IfErr result (IsHaltedThere C.brings C.loses) }
 {
     let answer = get(alloc, courier, server, show)?;
     tell_report(alloc, &answer, out, err)
@@ -231,8 +269,9 @@ fn clerks_look<C: Courier, W: io::Write, E: io::Write>(
     out: &mut W,
     err: &mut E,
 ) -> Result<ExitStatus, CommandError>
-    ensures { IfOk result (λ status. IsLooked C.brings courier.old courier.new (W.contents out.old)
+    ensures told { IfOk result (λ status. IsLooked C.brings courier.old courier.new (W.contents out.old)
         (W.contents out.new) status show.now) }
+    ensures halted { IfErr result (IsHaltedThere C.brings C.loses) }
 {
     let answer = get_any(alloc, courier, server, show)?;
     match heard_look(answer.status, answer.is_interchange, &answer.body) {
@@ -252,8 +291,10 @@ fn export<C: Courier, W: io::Write, E: io::Write>(
     out: &mut W,
     err: &mut E,
 ) -> Result<ExitStatus, CommandError>
-    ensures { IfOk result (λ status. IsExported C.brings courier.old courier.new (W.contents out.old)
+    ensures told { IfOk result
+        (λ status. IsExported C.brings courier.old courier.new (W.contents out.old)
         (W.contents out.new) status show.now who.now) }
+    ensures halted { IfErr result (IsHaltedThere C.brings C.loses) }
 {
     let answer = get(alloc, courier, server, show)?;
     if answer.status != 404 {
@@ -278,8 +319,9 @@ fn content<C: Courier, W: io::Write, E: io::Write>(
     out: &mut W,
     err: &mut E,
 ) -> Result<ExitStatus, CommandError>
-    ensures { IfOk result (λ status. IsContent C.brings courier.old courier.new (W.contents out.old)
+    ensures told { IfOk result (λ status. IsContent C.brings courier.old courier.new (W.contents out.old)
         (W.contents out.new) status show.now who.now) }
+    ensures halted { IfErr result (IsHaltedThere C.brings C.loses) }
 {
     let answer = get_text(alloc, courier, server, show)?;
     if answer.status != 404 {
@@ -301,8 +343,9 @@ fn look<C: Courier, W: io::Write, E: io::Write>(
     out: &mut W,
     err: &mut E,
 ) -> Result<ExitStatus, CommandError>
-    ensures { IfOk result (λ status. IsShown C.brings courier.old courier.new (W.contents out.old)
+    ensures told { IfOk result (λ status. IsShown C.brings courier.old courier.new (W.contents out.old)
         (W.contents out.new) status show.now) }
+    ensures halted { IfErr result (IsHaltedThere C.brings C.loses) }
 {
     match show {
         Show::Outbox { who, number } => match number {
@@ -334,8 +377,10 @@ pub fn carry_out<C: Courier, W: io::Write, E: io::Write>(
     out: &mut W,
     err: &mut E,
 ) -> Result<ExitStatus, CommandError>
-    ensures carried { IfOk result (λ status. IsCarried C.brings courier.old courier.new (W.contents out.old)
+    ensures carried { IfOk result
+        (λ status. IsCarried C.brings courier.old courier.new (W.contents out.old)
         (W.contents out.new) status errand.now) }
+    ensures halted { IfErr result (IsHaltedThere C.brings C.loses) }
 {
     match errand {
         Errand::Send(bytes) => post(alloc, courier, server, "/x12", bytes, out, err),

@@ -11,8 +11,8 @@ use Rattle.profile.specs.Register.{Entry, Command, Interchange}
 use Rattle.profile.specs.Reply as replies
 use Rattle.profile.specs.Accepted.{accepted_on, replies_on, after, reply_to}
 use Rattle.store.specs.Standing.{Standing, IsUsable, KeepsLegal, IsFault, GoesOn, LeavesEither, OfKept}
-use Rattle.store.specs.declared.fault.Fault.{Fault}
-use Rattle.store.specs.declared.fault.Fault.TheVariants.{OutOfMemory, Store, Reopen, NotThisBook, Device}
+use Rattle.store.specs.Fault.{Fault}
+use Rattle.store.specs.Fault.TheVariants.{OutOfMemory, Store, Reopen, NotThisBook, Device}
 use Rattle.store.proofs.Changes.{clean_before, leaves_first, refused_after, unchanged_refl, usable_stays}
 use Rattle.store.proofs.Replies.{accepted_on-more, replies_on-more}
 use Rattle.folders.specs.Folders.{Became, became, handed, IsDeviceFault, AreTaken, IsFolderFault, IsStopped, IsUntaken, became_of}
@@ -29,9 +29,9 @@ became_more [] r = refl
 became_more (x ∷ rs) r = ap (λ (bs : List Became). became x ∷ bs) (became_more rs r)
 
 -- the register and the replies after one text more
-behind_more : (W : Who) (L : List Entry) (t : Moment) (texts : List (List ℕ)) (text : List ℕ)
+later_more : (W : Who) (L : List Entry) (t : Moment) (texts : List (List ℕ)) (text : List ℕ)
     → accepted_on Two W L (handed t (texts ++ text ∷ [])) ≡ after Two W (accepted_on Two W L (handed t texts)) (Interchange text, t)
-behind_more W L t texts text = ap (accepted_on Two W L) (handed_more t texts text) ∙ accepted_on-more Two W L (handed t texts) (Interchange text, t)
+later_more W L t texts text = ap (accepted_on Two W L) (handed_more t texts text) ∙ accepted_on-more Two W L (handed t texts) (Interchange text, t)
 
 told_more : (W : Who) (L : List Entry) (t : Moment) (texts : List (List ℕ)) (text : List ℕ)
     → map became (replies_on Two W L (handed t (texts ++ text ∷ [])))
@@ -49,10 +49,10 @@ none_taken a t = record { told_is = λ clean L u. refl; usable = λ clean L u. u
 -- One file more.
 
 -- the register after the one text of a file, after those that were taken
-last_behind : (a b : Standing) (t : Moment) (texts : List (List ℕ)) (last : List ℕ) (L : List Entry) → GoesOn a b
+last_later : (a b : Standing) (t : Moment) (texts : List (List ℕ)) (last : List ℕ) (L : List Entry) → GoesOn a b
     → after Two b.warehouse (accepted_on Two a.warehouse L (handed t texts)) (Interchange last, t) ≡ accepted_on Two a.warehouse L (handed t (texts ++ last ∷ []))
-last_behind a b t texts last L p =
-    ap (λ W. after Two W (accepted_on Two a.warehouse L (handed t texts)) (Interchange last, t)) p.warehouse ∙ sym (behind_more a.warehouse L t texts last)
+last_later a b t texts last L p =
+    ap (λ W. after Two W (accepted_on Two a.warehouse L (handed t texts)) (Interchange last, t)) p.warehouse ∙ sym (later_more a.warehouse L t texts last)
 
 pub taken_more : (a b c : Standing) (t : Moment) (texts : List (List ℕ)) (text : List ℕ) (told : List Became) (one : Became) → GoesOn a b → GoesOn b c
     → AreTaken a b t texts told → AreTaken b c t (text ∷ []) (one ∷ []) → AreTaken a c t (texts ++ text ∷ []) (told ++ one ∷ [])
@@ -66,17 +66,17 @@ taken_more a b c t texts text told one p q before file = record {
       ∙ sym (told_more a.warehouse L t texts text);
   usable = λ clean L u.
       let mid = before.usable (clean_before b c q clean) L u in
-      subst (IsUsable c) (last_behind a b t texts text L p) (file.usable clean _ mid);
+      subst (IsUsable c) (last_later a b t texts text L p) (file.usable clean _ mid);
   keeps = λ clean L k legal.
       let mid = before.keeps (clean_before b c q clean) L k legal in
-      subst (KeepsLegal c) (last_behind a b t texts text L p) (file.keeps clean _ mid.keeps mid.legal);
+      subst (KeepsLegal c) (last_later a b t texts text L p) (file.keeps clean _ mid.keeps mid.legal);
 }
 
 -- Stops.
 
-pub fault_behind : (a b c : Standing) (fault : Fault) (t : Moment) (texts : List (List ℕ)) (told : List Became) → GoesOn a b → a.shut ≡ b.shut → GoesOn b c
+pub fault_of_later : (a b c : Standing) (fault : Fault) (t : Moment) (texts : List (List ℕ)) (told : List Became) → GoesOn a b → a.shut ≡ b.shut → GoesOn b c
     → AreTaken a b t texts told → IsFolderFault fault b c → IsFolderFault fault a c
-fault_behind a b c fault t texts told p same q before why = record {
+fault_of_later a b c fault t texts told p same q before why = record {
   grew = λ was is. refused_after a b c p (why.grew (sym same ∙ was) is);
   store = λ h. refused_after a b c p (why.store h);
   reopen = λ h. same ∙ why.reopen h;
@@ -90,20 +90,20 @@ either_usable s M first second last p q (inl u) = inl (subst (IsUsable s) p u)
 either_usable s M first second last p q (inr u) = inr (subst (IsUsable s) q u)
 
 -- a file at which the folder stops, after those that were taken
-pub stopped_behind : (a b c : Standing) (fault : Fault) (t : Moment) (texts : List (List ℕ)) (told : List Became) → GoesOn a b → a.shut ≡ b.shut → GoesOn b c
+pub stopped_later : (a b c : Standing) (fault : Fault) (t : Moment) (texts : List (List ℕ)) (told : List Became) → GoesOn a b → a.shut ≡ b.shut → GoesOn b c
     → AreTaken a b t texts told → IsUntaken fault b c t → IsStopped fault a c t
-stopped_behind a b c fault t texts told p same q before file = record {
+stopped_later a b c fault t texts told p same q before file = record {
   texts = texts;
   last = file.last;
   taken = record {
     usable = λ clean opened L u.
         let mid = before.usable (clean_before b c q clean) L u in
-        either_usable c _ _ _ _ refl (last_behind a b t texts file.last L p) (file.taken.usable clean opened _ mid);
+        either_usable c _ _ _ _ refl (last_later a b t texts file.last L p) (file.taken.usable clean opened _ mid);
     left = λ clean L u.
         let mid = before.usable (clean_before b c q clean) L u in
-        subst (LeavesEither c (accepted_on Two a.warehouse L (handed t texts))) (last_behind a b t texts file.last L p) (file.taken.left clean _ mid);
+        subst (LeavesEither c (accepted_on Two a.warehouse L (handed t texts))) (last_later a b t texts file.last L p) (file.taken.left clean _ mid);
   };
-  why = fault_behind a b c fault t texts told p same q before file.why;
+  why = fault_of_later a b c fault t texts told p same q before file.why;
 }
 
 -- a fault of a device, or want of memory, after which the book is as it was
@@ -135,11 +135,11 @@ stopped_between a b fault t texts told p same before why = record {
 }
 
 -- so many were taken before the file at which the folder stops
-pub counted_behind : (stop : FolderStop) (a b c : Standing) (t : Moment) (texts : List (List ℕ)) (told : List Became) → GoesOn a b → a.shut ≡ b.shut → GoesOn b c
+pub counted_later : (stop : FolderStop) (a b c : Standing) (t : Moment) (texts : List (List ℕ)) (told : List Became) → GoesOn a b → a.shut ≡ b.shut → GoesOn b c
     → AreTaken a b t texts told → IsUntaken stop.fault b c t → stop.taken ≡ length texts → IsFolderStop stop a c t
-unfolding stopped_behind
-counted_behind stop a b c t texts told p same q before file counted = record {
-  stopped = stopped_behind a b c stop.fault t texts told p same q before file;
+unfolding stopped_later
+counted_later stop a b c t texts told p same q before file counted = record {
+  stopped = stopped_later a b c stop.fault t texts told p same q before file;
   counted = counted;
 }
 

@@ -6,12 +6,11 @@ use Rattle.profile.specs.declared.rules.Rules.TheVariants.{Two}
 use Rattle.profile.specs.Moments.{Moment}
 use Rattle.profile.specs.Register.{Entry, Command, Interchange}
 use Rattle.profile.specs.Reply as replies
-use Rattle.profile.specs.Refusals.{Refusal}
+use Rattle.profile.specs.declared.refusals.Refusal.{Refusal}
 use Rattle.profile.specs.Accepted.{accepted_on, replies_on}
-use Rattle.store.specs.Told.{refusal_of}
 use Rattle.store.specs.Standing.{Standing, IsUsable, KeepsLegal, LeavesEither, OfKept, Refused}
-use Rattle.store.specs.declared.fault.Fault.{Fault}
-use Rattle.store.specs.declared.fault.Fault.TheVariants.{OutOfMemory, Store, Reopen, NotThisBook, Device}
+use Rattle.store.specs.Fault.{Fault}
+use Rattle.store.specs.Fault.TheVariants.{OutOfMemory, Store, Reopen, NotThisBook, Device}
 use Rattle.folders.specs.declared.folder.FileOutcome.{FileOutcome}
 use Rattle.folders.specs.declared.folder.FileOutcome.TheVariants as outcomes
 
@@ -29,7 +28,7 @@ became (replies.Refused r text) = WasRefused r
 abbrev pub became_of : FileOutcome → Became
 became_of outcomes.Accepted = WasAccepted
 became_of outcomes.Stored = WasStored
-became_of (outcomes.Refused r) = WasRefused (refusal_of r)
+became_of (outcomes.Refused r) = WasRefused r
 
 -- interchanges of these texts, handed in at the moment
 abbrev pub handed : Moment → List (List ℕ) → List (Command × Moment)
@@ -44,19 +43,24 @@ fault_of_kind kind = Device
 abbrev pub IsDeviceFault : Fault → Type 0
 IsDeviceFault fault = (fault ≡ OutOfMemory) ⊎ (fault ≡ Device)
 
--- The texts were handed in one after the other: this became of them, and the register is the one after them.
+-- The texts were handed in one after the other: this became of them, and the register is the one
+-- after them.
 pub record AreTaken (old new : Standing) (t : Moment) (texts : List (List ℕ)) (told : List Became) : Type 0 where
-  pub told_is : new.doubt ≡ 0 → (L : List Entry) → IsUsable old L → told ≡ map became (replies_on Two old.warehouse L (handed t texts))
-  pub usable : new.doubt ≡ 0 → (L : List Entry) → IsUsable old L → IsUsable new (accepted_on Two old.warehouse L (handed t texts))
+  pub told_is : new.doubt ≡ 0 → (L : List Entry) → IsUsable old L
+      → told ≡ map became (replies_on Two old.warehouse L (handed t texts))
+  pub usable : new.doubt ≡ 0 → (L : List Entry) → IsUsable old L
+      → IsUsable new (accepted_on Two old.warehouse L (handed t texts))
   pub keeps : OfKept old new (λ L. KeepsLegal new (accepted_on Two old.warehouse L (handed t texts)))
 
--- The texts were handed in, and one more perhaps. The register is the one after those, or after that one too; a crash leaves
--- one of the two, also where the book has to be opened again.
+-- The texts were handed in, and one more perhaps. The register is the one after those, or after
+-- that one too; a crash leaves one of the two, also where the book has to be opened again.
 pub record AreTakenUntil (old new : Standing) (t : Moment) (texts : List (List ℕ)) (last : List ℕ) : Type 0 where
   pub usable : new.doubt ≡ 0 → new.shut ≡ false → (L : List Entry) → IsUsable old L
-      → IsUsable new (accepted_on Two old.warehouse L (handed t texts)) ⊎ IsUsable new (accepted_on Two old.warehouse L (handed t (texts ++ last ∷ [])))
+      → IsUsable new (accepted_on Two old.warehouse L (handed t texts))
+      ⊎ IsUsable new (accepted_on Two old.warehouse L (handed t (texts ++ last ∷ [])))
   pub left : new.doubt ≡ 0 → (L : List Entry) → IsUsable old L
-      → LeavesEither new (accepted_on Two old.warehouse L (handed t texts)) (accepted_on Two old.warehouse L (handed t (texts ++ last ∷ [])))
+      → LeavesEither new (accepted_on Two old.warehouse L (handed t texts))
+      (accepted_on Two old.warehouse L (handed t (texts ++ last ∷ [])))
 
 -- Why the rest of a folder wasn't taken.
 pub record IsFolderFault (fault : Fault) (old new : Standing) : Type 0 where

@@ -2,11 +2,14 @@
 use Rattle.std.specs.Prelude.{ℕ, List, ◌++◌, codes, decimal}
 use Rattle.profile.specs.declared.widths.TheConstants.{NOTE_DIGITS}
 use Rattle.profile.specs.Bytes.{zero_filled}
-use Rattle.profile.specs.Refusals.{Refusal, Unreadable, Note, Duplicate, refusal_number}
+use Rattle.profile.specs.Refusals.{refusal_number}
+use Rattle.profile.specs.declared.refusals.Refusal.{Refusal}
+use Rattle.profile.specs.declared.refusals.Refusal.TheVariants.{Unreadable, Note, Duplicate}
 use Rattle.profile.specs.Reports.{ended}
 use Rattle.folders.specs.Folders.{Became, WasAccepted, WasStored, WasRefused}
 
--- a note's code in three digits, that of a repeated control number for a duplicate, and another refusal's number
+-- a note's code in three digits, that of a repeated control number for a duplicate, and another
+-- refusal's number
 abbrev pub refused_as : Refusal → List ℕ
 refused_as (Note code) = zero_filled NOTE_DIGITS code
 refused_as Duplicate = codes "025"

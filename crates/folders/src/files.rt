@@ -9,7 +9,8 @@ use std::{fs, io};
 
 // The first bytes of a reader, `most` of them where it has so many.
 fn first_of<I: Read + Drop>(alloc: Global, input: I, most: u64) -> io::Result<Vec<u8>>
-    ensures { IfOk result (λ bytes. IfSome (I.remaining input) (λ all. bytes.items ≡ take most all)) }
+    ensures { IfOk result
+        (λ bytes. IfSome (I.remaining input) (λ all. bytes.items ≡ take most all)) }
 {
     let mut bytes = Vec::new(alloc);
     let mut front = input.take(most);

@@ -107,8 +107,12 @@ fn take_file<R: Files + AllocGlobal, K: Keeper>(
     keeper: &mut K,
     moment: Moment,
 ) -> Result<FileOutcome, Fault>
-    ensures taken { IfOk result (λ outcome. (text : List ℕ) × AreTaken (K.standing keeper.old) (K.standing keeper.new) moment (text ∷ []) (became_of outcome ∷ [])) }
-    ensures stopped { IfErr result (λ fault. IsUntaken fault (K.standing keeper.old) (K.standing keeper.new) moment) }
+    ensures taken { IfOk result
+        (λ outcome. (text : List ℕ)
+        × AreTaken (K.standing keeper.old) (K.standing keeper.new) moment (text
+        ∷ []) (became_of outcome ∷ [])) }
+    ensures stopped { IfErr result
+        (λ fault. IsUntaken fault (K.standing keeper.old) (K.standing keeper.new) moment) }
     ensures opened { OnOk result ((K.standing keeper.old).shut ≡ (K.standing keeper.new).shut) }
     ensures goes { GoesOn (K.standing keeper.old) (K.standing keeper.new) }
 {
@@ -154,8 +158,12 @@ fn take_named<R: Files + AllocGlobal, K: Keeper>(
     keeper: &mut K,
     moment: Moment,
 ) -> Result<FileOutcome, Fault>
-    ensures taken { IfOk result (λ outcome. (text : List ℕ) × AreTaken (K.standing keeper.old) (K.standing keeper.new) moment (text ∷ []) (became_of outcome ∷ [])) }
-    ensures stopped { IfErr result (λ fault. IsUntaken fault (K.standing keeper.old) (K.standing keeper.new) moment) }
+    ensures taken { IfOk result
+        (λ outcome. (text : List ℕ)
+        × AreTaken (K.standing keeper.old) (K.standing keeper.new) moment (text
+        ∷ []) (became_of outcome ∷ [])) }
+    ensures stopped { IfErr result
+        (λ fault. IsUntaken fault (K.standing keeper.old) (K.standing keeper.new) moment) }
     ensures opened { OnOk result ((K.standing keeper.old).shut ≡ (K.standing keeper.new).shut) }
     ensures goes { GoesOn (K.standing keeper.old) (K.standing keeper.new) }
     ensures kept { files.new.items ≡ files.old.items }
@@ -187,10 +195,16 @@ pub fn take_folder_telling<R: Files + AllocGlobal + Clone + Drop, K: Keeper, T: 
     mut told: T,
 ) -> Result<TakenFolder, FolderStop>
     requires told { T.IsAlwaysCallable told }
-    ensures taken { IfOk result (λ folder. (texts : List (List ℕ)) × AreTaken (K.standing keeper.old) (K.standing keeper.new) moment texts (map (λ file. became_of file.outcome) folder.files.items)) }
-    ensures rising { IfOk result (λ folder. IsSorted ⟦<String as Ord>⟧.cmp (map (λ file. file.name) folder.files.items)) }
-    ensures stopped { IfErr result (λ stop. IsFolderStop stop (K.standing keeper.old) (K.standing keeper.new) moment) }
-    ensures unread { IfErr result (λ stop. IfNone stop.at (IsUnchanged (K.standing keeper.old) (K.standing keeper.new))) }
+    ensures taken { IfOk result
+        (λ folder. (texts : List (List ℕ))
+        × AreTaken (K.standing keeper.old) (K.standing keeper.new) moment texts (map
+        (λ file. became_of file.outcome) folder.files.items)) }
+    ensures rising { IfOk result
+        (λ folder. IsSorted ⟦<String as Ord>⟧.cmp (map (λ file. file.name) folder.files.items)) }
+    ensures stopped { IfErr result
+        (λ stop. IsFolderStop stop (K.standing keeper.old) (K.standing keeper.new) moment) }
+    ensures unread { IfErr result
+        (λ stop. IfNone stop.at (IsUnchanged (K.standing keeper.old) (K.standing keeper.new))) }
     ensures opened { OnOk result ((K.standing keeper.old).shut ≡ (K.standing keeper.new).shut) }
     ensures goes { GoesOn (K.standing keeper.old) (K.standing keeper.new) }
 {
@@ -221,9 +235,14 @@ pub fn take_folder<R: Files + AllocGlobal + Clone + Drop, K: Keeper>(
     keeper: &mut K,
     moment: Moment,
 ) -> Result<Vec<Taken>, Fault>
-    ensures taken { IfOk result (λ files. (texts : List (List ℕ)) × AreTaken (K.standing keeper.old) (K.standing keeper.new) moment texts (map (λ file. became_of file.outcome) files.items)) }
-    ensures rising { IfOk result (λ files. IsSorted ⟦<String as Ord>⟧.cmp (map (λ file. file.name) files.items)) }
-    ensures stopped { IfErr result (λ fault. IsStopped fault (K.standing keeper.old) (K.standing keeper.new) moment) }
+    ensures taken { IfOk result
+        (λ files. (texts : List (List ℕ))
+        × AreTaken (K.standing keeper.old) (K.standing keeper.new) moment texts (map
+        (λ file. became_of file.outcome) files.items)) }
+    ensures rising { IfOk result
+        (λ files. IsSorted ⟦<String as Ord>⟧.cmp (map (λ file. file.name) files.items)) }
+    ensures stopped { IfErr result
+        (λ fault. IsStopped fault (K.standing keeper.old) (K.standing keeper.new) moment) }
     ensures opened { OnOk result ((K.standing keeper.old).shut ≡ (K.standing keeper.new).shut) }
     ensures goes { GoesOn (K.standing keeper.old) (K.standing keeper.new) }
 {

@@ -1,40 +1,28 @@
 //! The line that tells what became of a file.
 ghost use Rattle.std.specs.Prelude.{◌≡◌, OnOk, string_bytes};
 ghost use Rattle.std.specs.Io.KnownBytes.{Appends};
-ghost use Rattle.profile.specs.Bytes.{zero_filled};
-ghost use Rattle.profile.specs.Refusals.{Note};
-ghost use Rattle.store.specs.Told.{refusal_of};
+ghost use Rattle.profile.specs.declared.refusals.Refusal.TheVariants.{Note};
 ghost use Rattle.folders.specs.Folders.{became_of};
 ghost use Rattle.folders.specs.Lines.{became_text, refused_text, taken_line};
 
 use crate::folder::{FileOutcome, Taken};
 use itoa::Buffer;
-use profile::NOTE_DIGITS;
+use profile::{NOTE_DIGITS, zero_filled};
 use std::io;
 use store::Refusal;
-
-// A note's code in three digits.
-fn note_digits(code: u8) -> [u8; NOTE_DIGITS]
-    ensures { result ≡ zero_filled NOTE_DIGITS code }
-{
-    [
-        b'0' + code / 10 / 10 % 10,
-        b'0' + code / 10 % 10,
-        b'0' + code % 10,
-    ]
-}
 
 // Writes what a note is told as.
 fn write_note<W: io::Write>(out: &mut W, code: u8) -> io::Result<()>
     ensures { OnOk result (Appends (W.contents out.old) (W.contents out.new) (refused_text (Note code))) }
 {
     out.write_all(b"refused ")?;
-    out.write_all(&note_digits(code))
+    out.write_all(&zero_filled::<NOTE_DIGITS>(u64::from(code)))
 }
 
 // Writes what a refusal is told as.
 fn write_refused<W: io::Write>(out: &mut W, refusal: Refusal) -> io::Result<()>
-    ensures { OnOk result (Appends (W.contents out.old) (W.contents out.new) (refused_text (refusal_of refusal))) }
+    ensures { OnOk result
+        (Appends (W.contents out.old) (W.contents out.new) (refused_text refusal)) }
 {
     match refusal {
         Refusal::Unreadable => out.write_all(b"unreadable"),
@@ -50,7 +38,8 @@ fn write_refused<W: io::Write>(out: &mut W, refusal: Refusal) -> io::Result<()>
 
 // Writes what became of a file.
 fn write_outcome<W: io::Write>(out: &mut W, outcome: FileOutcome) -> io::Result<()>
-    ensures { OnOk result (Appends (W.contents out.old) (W.contents out.new) (became_text (became_of outcome))) }
+    ensures { OnOk result
+        (Appends (W.contents out.old) (W.contents out.new) (became_text (became_of outcome))) }
 {
     match outcome {
         FileOutcome::Accepted => out.write_all(b"accepted"),

@@ -1,4 +1,5 @@
--- Lists that rise: where an element is put in them, and what lines give a pair, each found by halves.
+-- Lists that rise: where an element is put in them, and what lines give a pair, each found by
+-- halves.
 use Rattle.std.proofs.Common.{◌≡◌, ℕ, zero, suc, ◌<◌, ◌≤◌, Bool, true, false, List, [], ◌∷◌, length, get_or, refl, ap, ◌∙◌, inl, inr, arith}
 use Rattle.std.specs.Cmp.Derive.{both_true}
 use Rattle.std.specs.List.{insert, list_all}

@@ -15,7 +15,7 @@ use Rattle.goods.specs.Keyed.{Pair, key_before, row_key, put_row, IsSorted, ship
 use Rattle.goods.specs.Moved.{IsPlace}
 use Rattle.goods.specs.Pages.{is_shipment, is_number, is_document, advice_at, order_at, document_at, IsAt, is_in_lines}
 use Rattle.goods.specs.Steps.{sent_unless, with_sent, said_of_found, with_said}
-use Rattle.goods.specs.Told.{is_row, told, one, raised, lowered, IsDistinct}
+use Rattle.goods.specs.OfPairs.{is_row, of_pair, one, raised, lowered, IsDistinct}
 use Rattle.goods.proofs.Orders.{IsStrict}
 use Rattle.goods.proofs.Texts.{texts_never, texts_through, texts_total}
 use Rattle.goods.proofs.Keys.{IsTest, all_put, was, sum_found, count_once, find_put, put_rises, set_rises, sum_put, at_set, rank_insert, none_apart, rises_at}
@@ -96,8 +96,8 @@ document_test n = record { says = λ x h. eqb-true x.n n h; said = λ x e. eq-eq
 -- Rows.
 
 -- what sorted rows tell of a pair is what its row says
-pub told_found : (f : LotRow → ℕ) (a b : List ℕ) (rows : List LotRow) → IsSorted rows → told f a b rows ≡ was f (find (is_row a b) rows)
-told_found f a b rows sorted = sum_found key_before pairs_strict row_key f (a, b) (is_row a b) (row_test a b) rows sorted
+pub of_pair_found : (f : LotRow → ℕ) (a b : List ℕ) (rows : List LotRow) → IsSorted rows → of_pair f a b rows ≡ was f (find (is_row a b) rows)
+of_pair_found f a b rows sorted = sum_found key_before pairs_strict row_key f (a, b) (is_row a b) (row_test a b) rows sorted
 
 pub sorted_distinct : (rows : List LotRow) → IsSorted rows → IsDistinct rows
 sorted_distinct rows sorted a b = count_once key_before pairs_strict row_key (a, b) (is_row a b) (row_test a b) rows sorted
@@ -106,13 +106,13 @@ pub put_sorted : (r : LotRow) (rows : List LotRow) → IsSorted rows → IsSorte
 put_sorted r rows sorted = put_rises key_before pairs_strict row_key r rows sorted
 
 -- and with one row more
-pub told_put : (f : LotRow → ℕ) (a b : List ℕ) (r : LotRow) (rows : List LotRow) → IsSorted rows → told f a b (put_row r rows) ≡ cond (is_row a b r) (f r) (told f a b rows)
-told_put f a b r rows sorted =
-    told_found f a b (put_row r rows) (put_sorted r rows sorted)
+pub of_pair_put : (f : LotRow → ℕ) (a b : List ℕ) (r : LotRow) (rows : List LotRow) → IsSorted rows → of_pair f a b (put_row r rows) ≡ cond (is_row a b r) (f r) (of_pair f a b rows)
+of_pair_put f a b r rows sorted =
+    of_pair_found f a b (put_row r rows) (put_sorted r rows sorted)
     ∙ ap (was f) (find_put key_before pairs_strict row_key (a, b) (is_row a b) (row_test a b) r rows)
     ∙ elim (cases_Bool (is_row a b r)) [
       | inl e ↦ rw e refl
-      | inr e ↦ rw e (sym (told_found f a b rows sorted))
+      | inr e ↦ rw e (sym (of_pair_found f a b rows sorted))
     ]
 
 -- a row in the place of one with its key
@@ -254,14 +254,14 @@ documents_put_sorted d ds new e sorted = ap (rises_by nat_lt entry_of) e ∙ put
 pub row_set : (r : LotRow) (rows : List LotRow) (i : ℕ) → IsSorted rows → IsPlace r.item r.lot rows i → set rows i r ≡ put_row r rows
 row_set r rows i sorted at = at_set key_before pairs_strict row_key rows i r sorted at.within ((row_test r.item r.lot).says (get_or rows i r) (at.here r))
 
-pub found_none : (a b : List ℕ) (rows : List LotRow) → IsSorted rows → told one a b rows ≡ 0 → find (is_row a b) rows ≡ None
-found_none a b rows sorted none = by (find (is_row a b) rows) (sym (told_found one a b rows sorted) ∙ none)
+pub found_none : (a b : List ℕ) (rows : List LotRow) → IsSorted rows → of_pair one a b rows ≡ 0 → find (is_row a b) rows ≡ None
+found_none a b rows sorted none = by (find (is_row a b) rows) (sym (of_pair_found one a b rows sorted) ∙ none)
   where
     by : (o : Option LotRow) → was one o ≡ 0 → o ≡ None
     by None h = refl
     by (Some r) h = absurd (omega arith)
 
-pub row_insert : (r : LotRow) (rows : List LotRow) (i : ℕ) → IsSorted rows → IsRank key_before row_key rows (r.item, r.lot) i → told one r.item r.lot rows ≡ 0 → insert rows i r ≡ put_row r rows
+pub row_insert : (r : LotRow) (rows : List LotRow) (i : ℕ) → IsSorted rows → IsRank key_before row_key rows (r.item, r.lot) i → of_pair one r.item r.lot rows ≡ 0 → insert rows i r ≡ put_row r rows
 row_insert r rows i sorted rank none = rank_insert key_before pairs_strict row_key rows i r rank
     (λ d within e. none_apart key_before pairs_strict row_key (r.item, r.lot) (is_row r.item r.lot) (row_test r.item r.lot) rows i d (found_none r.item r.lot rows sorted none) within e)
 
@@ -312,8 +312,8 @@ module _ {X : Type 0} (key : X → Pair) where
     | inr ge ↦ let e : i ≡ j = omega arith in ap (λ (n : ℕ). comes_before (key (get_or xs n d)).0 item) e ∙ here
   ]
 
-  pub behind_parted : (xs : List X) (item : List ℕ) → rises_by key_before key xs ≡ true → IsPartitionedBy (λ x. not (comes_before item (key x).0)) xs
-  behind_parted xs item sorted i j d le within here = elim (cases_lt i j) [
+  pub later_parted : (xs : List X) (item : List ℕ) → rises_by key_before key xs ≡ true → IsPartitionedBy (λ x. not (comes_before item (key x).0)) xs
+  later_parted xs item sorted i j d le within here = elim (cases_lt i j) [
     | inl lt ↦ elim (cases_Bool (comes_before item (key (get_or xs i d)).0)) [
       | inl f ↦
           let later : comes_before item (key (get_or xs j d)).0 ≡ true = elim (items_rise xs i j d sorted lt within) [

@@ -118,11 +118,11 @@ module _ {X K : Type 0} (less : K → K → Bool) (strict : IsStrict less) (key 
           ]
       | inr g ↦
           let put : (zs : List X) → put_by less key x (y ∷ zs) ≡ x ∷ zs = λ zs. rw (f, g) refl in
-          let behind : list_all (λ z. less (key x) (key z)) ys ≡ true = subst (λ (k : K). list_all (λ z. less k (key z)) ys ≡ true) (sym (strict.total (key x) (key y) f g)) a.0 in
+          let back : list_all (λ z. less (key x) (key z)) ys ≡ true = subst (λ (k : K). list_all (λ z. less k (key z)) ys ≡ true) (sym (strict.total (key x) (key y) f g)) a.0 in
           ap (filter p) (put ys) ∙ ap (λ (v : Bool). cond v (x ∷ filter p ys) (filter p ys)) e
           ∙ elim (cases_Bool (p y)) [
             | inl d ↦ sym (put (filter p ys)) ∙ ap (λ (v : Bool). put_by less key x (cond v (y ∷ filter p ys) (filter p ys))) (sym d)
-            | inr d ↦ sym (put_front x (filter p ys) (all_filter (λ z. less (key x) (key z)) p ys behind)) ∙ ap (λ (v : Bool). put_by less key x (cond v (y ∷ filter p ys) (filter p ys))) (sym d)
+            | inr d ↦ sym (put_front x (filter p ys) (all_filter (λ z. less (key x) (key z)) p ys back)) ∙ ap (λ (v : Bool). put_by less key x (cond v (y ∷ filter p ys) (filter p ys))) (sym d)
           ]
     ]
   ]
@@ -142,16 +142,16 @@ module _ {X K : Type 0} (less : K → K → Bool) (strict : IsStrict less) (key 
       last_of [] h = (and_parts (less (key y) (key x)) (list_all (λ z. less (key y) (key z)) zs) h).0
       last_of (w ∷ ws) h = last_of ws (and_parts (less (key y) (key w)) (list_all (λ z. less (key y) (key z)) (ws ++ x ∷ zs)) h).1
 
-  pub puts_behind : (ys zs : List X) → rises_by less key (ys ++ zs) ≡ true → fold (λ (ws : List X) (x : X). put_by less key x ws) ys zs ≡ ys ++ zs
-  puts_behind ys [] h = sym (nothing ys)
+  pub puts_later : (ys zs : List X) → rises_by less key (ys ++ zs) ≡ true → fold (λ (ws : List X) (x : X). put_by less key x ws) ys zs ≡ ys ++ zs
+  puts_later ys [] h = sym (nothing ys)
     where
       nothing : (ws : List X) → ws ++ [] ≡ ws
       nothing [] = refl
       nothing (w ∷ ws) = ap (λ (vs : List X). w ∷ vs) (nothing ws)
-  puts_behind ys (z ∷ zs) h =
+  puts_later ys (z ∷ zs) h =
       let e : (ys ++ z ∷ []) ++ zs ≡ ys ++ z ∷ zs = one_more ys in
       ap (λ (ws : List X). fold (λ (us : List X) (x : X). put_by less key x us) ws zs) (put_last z ys zs h)
-      ∙ puts_behind (ys ++ z ∷ []) zs (ap (rises_by less key) e ∙ h) ∙ e
+      ∙ puts_later (ys ++ z ∷ []) zs (ap (rises_by less key) e ∙ h) ∙ e
     where
       one_more : (ws : List X) → (ws ++ z ∷ []) ++ zs ≡ ws ++ z ∷ zs
       one_more [] = refl

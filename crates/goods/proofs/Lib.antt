@@ -4,7 +4,7 @@ pub mod Keys
 pub mod Finds
 pub mod KeyLemmas
 pub mod Dates
-pub mod Tells
+pub mod OfPairLemmas
 pub mod Sums
 pub mod Pairs
 pub mod Ranks

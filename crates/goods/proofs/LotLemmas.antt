@@ -14,9 +14,9 @@ use Rattle.profile.specs.Bytes.{comes_before}
 use Rattle.goods.proofs.Orders.{Has, AreTotal, in_order_same}
 use Rattle.goods.proofs.Texts.{texts_never}
 use Rattle.goods.proofs.Ranks.{ranks_order, ranks_total}
-use Rattle.goods.specs.Told.{is_row, told, told_date, one, since as first_count, IsDistinct}
+use Rattle.goods.specs.OfPairs.{is_row, of_pair, date_of_pair, one, since as first_count, IsDistinct}
 use Rattle.goods.proofs.Dates.{dates_same}
-use Rattle.goods.proofs.Tells.{told_cons, told_absent, part_yes, part_no, row_is}
+use Rattle.goods.proofs.OfPairLemmas.{of_pair_cons, of_pair_absent, part_yes, part_no, row_is}
 
 pub has_append : {X : Type 0} (z : X) (xs ys : List X) → Has z (xs ++ ys) → Has z xs ⊎ Has z ys
 has_append z [] ys h = inr h
@@ -67,43 +67,43 @@ filter_has {X} p x (y ∷ ys) h = elim (cases_Bool (p y)) [
 ]
 
 -- a row that is there is told of
-pub told_some : (a b : List ℕ) (rows : List LotRow) (r : LotRow) → Has r rows → is_row a b r ≡ true → told one a b rows ≡ 0 → ⊥
-told_some a b [] r h e none = h
-told_some a b (x ∷ xs) r h e none = elim h [
-  | inl same ↦ let here : is_row a b x ≡ true = ap (is_row a b) (sym same) ∙ e in absurd (omega (arith, told_cons one a b x xs, part_yes one a b x here))
-  | inr later ↦ told_some a b xs r later e (omega (arith, told_cons one a b x xs))
+pub of_pair_some : (a b : List ℕ) (rows : List LotRow) (r : LotRow) → Has r rows → is_row a b r ≡ true → of_pair one a b rows ≡ 0 → ⊥
+of_pair_some a b [] r h e none = h
+of_pair_some a b (x ∷ xs) r h e none = elim h [
+  | inl same ↦ let here : is_row a b x ≡ true = ap (is_row a b) (sym same) ∙ e in absurd (omega (arith, of_pair_cons one a b x xs, part_yes one a b x here))
+  | inr later ↦ of_pair_some a b xs r later e (omega (arith, of_pair_cons one a b x xs))
 ]
 
 -- a row that is there is what is told of its pair
-pub told_has : (f : LotRow → ℕ) (a b : List ℕ) (rows : List LotRow) (r : LotRow) → Has r rows → is_row a b r ≡ true → told one a b rows ≤ 1 → told f a b rows ≡ f r
-told_has f a b [] r h e few = absurd h
-told_has f a b (x ∷ xs) r h e few = elim h [
+pub of_pair_has : (f : LotRow → ℕ) (a b : List ℕ) (rows : List LotRow) (r : LotRow) → Has r rows → is_row a b r ≡ true → of_pair one a b rows ≤ 1 → of_pair f a b rows ≡ f r
+of_pair_has f a b [] r h e few = absurd h
+of_pair_has f a b (x ∷ xs) r h e few = elim h [
   | inl same ↦ let here : is_row a b x ≡ true = ap (is_row a b) (sym same) ∙ e in
-      let none : told one a b xs ≡ 0 = omega (arith, told_cons one a b x xs, part_yes one a b x here) in
-      omega (arith, told_cons f a b x xs, part_yes f a b x here, told_absent f a b xs none, ap f same)
+      let none : of_pair one a b xs ≡ 0 = omega (arith, of_pair_cons one a b x xs, part_yes one a b x here) in
+      omega (arith, of_pair_cons f a b x xs, part_yes f a b x here, of_pair_absent f a b xs none, ap f same)
   | inr later ↦ elim (cases_Bool (is_row a b x)) [
     | inl here ↦
-        let none : told one a b xs ≡ 0 = omega (arith, told_cons one a b x xs, part_yes one a b x here) in
-        absurd (told_some a b xs r later e none)
+        let none : of_pair one a b xs ≡ 0 = omega (arith, of_pair_cons one a b x xs, part_yes one a b x here) in
+        absurd (of_pair_some a b xs r later e none)
     | inr other ↦ omega (
       arith,
-      told_cons f a b x xs,
+      of_pair_cons f a b x xs,
       part_no f a b x other,
-      told_has f a b xs r later e (omega (arith, told_cons one a b x xs, part_no one a b x other)),
+      of_pair_has f a b xs r later e (omega (arith, of_pair_cons one a b x xs, part_no one a b x other)),
     )
   ]
 ]
 
 -- the date of a row is what is told of its pair
-pub date_has : (a b : List ℕ) (rows : List LotRow) (r : LotRow) → Has r rows → is_row a b r ≡ true → told one a b rows ≤ 1 → told_date a b rows ≡ r.expiry
+pub date_has : (a b : List ℕ) (rows : List LotRow) (r : LotRow) → Has r rows → is_row a b r ≡ true → of_pair one a b rows ≤ 1 → date_of_pair a b rows ≡ r.expiry
 date_has a b [] r h e few = absurd h
 date_has a b (x ∷ xs) r h e few = elim h [
   | inl same ↦ ap date_if (ap (is_row a b) (sym same) ∙ e) ∙ ap (λ (y : LotRow). y.expiry) (sym same)
   | inr later ↦ elim (cases_Bool (is_row a b x)) [
     | inl here ↦
-        let none : told one a b xs ≡ 0 = omega (arith, told_cons one a b x xs, part_yes one a b x here) in
-        absurd (told_some a b xs r later e none)
-    | inr other ↦ ap date_if other ∙ date_has a b xs r later e (omega (arith, told_cons one a b x xs, part_no one a b x other))
+        let none : of_pair one a b xs ≡ 0 = omega (arith, of_pair_cons one a b x xs, part_yes one a b x here) in
+        absurd (of_pair_some a b xs r later e none)
+    | inr other ↦ ap date_if other ∙ date_has a b xs r later e (omega (arith, of_pair_cons one a b x xs, part_no one a b x other))
   ]
 ]
   where
@@ -112,13 +112,13 @@ date_has a b (x ∷ xs) r h e few = elim h [
 
 -- a page has each lot of an item once
 pub ranks_once : (r : Rules) (item : List ℕ) (rows : List LotRow) → IsDistinct rows → AreTotal (ranks_before r) (ranks_of item rows)
-ranks_once r item rows distinct = ranks_total r (λ lot. told_date item lot rows) (ranks_of item rows) (λ x h.
+ranks_once r item rows distinct = ranks_total r (λ lot. date_of_pair item lot rows) (ranks_of item rows) (λ x h.
     let m = map_has rank_of x (filter (is_lot_of item) rows) h in
     let g = filter_has (is_lot_of item) m.0 rows m.1 in
     let q = and_parts (bytes_eq m.0.item item) (ltb 0 m.0.since) g.1 in
     let here : is_row item m.0.lot m.0 ≡ true = rw (q.0, (bytes_eq-Decides m.0.lot m.0.lot).1 refl) refl in
     ap (λ (k : Ranked). k.expiry) m.2 ∙ sym (date_has item m.0.lot rows m.0 g.0 here (distinct item m.0.lot))
-    ∙ ap (λ (k : Ranked). told_date item k.lot rows) (sym m.2))
+    ∙ ap (λ (k : Ranked). date_of_pair item k.lot rows) (sym m.2))
 
 has_at : (rows : List LotRow) (i : ℕ) (x : LotRow) → i < length rows → x ≡ get_or rows i x → Has x rows
 has_at [] i x within is = absurd (omega arith)
@@ -156,35 +156,35 @@ lots_step_no r item rows i x before within is inv fails =
     inv ∙ ap (in_order (ranks_before r)) (sym (append-nil (ranks_of item (take i rows))) ∙ ap (λ (v : Bool). ranks_of item (take i rows) ++ map rank_of (cond v (x ∷ []) [])) (sym fails) ∙ sym (ranks_more item rows i x within is))
 
 -- a pair that something is told of has a row
-pub told_find : (f : LotRow → ℕ) (a b : List ℕ) (rows : List LotRow) → 0 < told f a b rows → (r : LotRow) × Has r rows × (is_row a b r ≡ true)
-told_find f a b [] h = absurd (omega arith)
-told_find f a b (x ∷ xs) h = elim (cases_Bool (is_row a b x)) [
+pub of_pair_find : (f : LotRow → ℕ) (a b : List ℕ) (rows : List LotRow) → 0 < of_pair f a b rows → (r : LotRow) × Has r rows × (is_row a b r ≡ true)
+of_pair_find f a b [] h = absurd (omega arith)
+of_pair_find f a b (x ∷ xs) h = elim (cases_Bool (is_row a b x)) [
   | inl e ↦ (x, inl refl, e)
-  | inr e ↦ let m = told_find f a b xs (omega (arith, told_cons f a b x xs, part_no f a b x e)) in (m.0, inr m.1, m.2)
+  | inr e ↦ let m = of_pair_find f a b xs (omega (arith, of_pair_cons f a b x xs, part_no f a b x e)) in (m.0, inr m.1, m.2)
 ]
 
 -- rows that tell the same of an item have the same lots of it
 
-ranks_among : (item : List ℕ) (ps qs : List LotRow) → IsDistinct ps → IsDistinct qs → ((f : LotRow → ℕ) (lot : List ℕ) → told f item lot ps ≡ told f item lot qs)
+ranks_among : (item : List ℕ) (ps qs : List LotRow) → IsDistinct ps → IsDistinct qs → ((f : LotRow → ℕ) (lot : List ℕ) → of_pair f item lot ps ≡ of_pair f item lot qs)
     → (z : Ranked) → Has z (ranks_of item ps) → Has z (ranks_of item qs)
 ranks_among item ps qs once only same z h =
     let m = map_has rank_of z (filter (is_lot_of item) ps) h in
     let g = filter_has (is_lot_of item) m.0 ps m.1 in
     let q = and_parts (bytes_eq m.0.item item) (ltb 0 m.0.since) g.1 in
     let here : is_row item m.0.lot m.0 ≡ true = rw (q.0, (bytes_eq-Decides m.0.lot m.0.lot).1 refl) refl in
-    let t : told first_count item m.0.lot ps ≡ m.0.since = told_has first_count item m.0.lot ps m.0 g.0 here (once item m.0.lot) in
-    let r = told_find first_count item m.0.lot qs (omega (arith, t, same first_count m.0.lot, ltb-true 0 m.0.since q.1)) in
+    let t : of_pair first_count item m.0.lot ps ≡ m.0.since = of_pair_has first_count item m.0.lot ps m.0 g.0 here (once item m.0.lot) in
+    let r = of_pair_find first_count item m.0.lot qs (omega (arith, t, same first_count m.0.lot, ltb-true 0 m.0.since q.1)) in
     let keys = row_is item m.0.lot r.0 r.2 in
-    let u : told first_count item m.0.lot qs ≡ r.0.since = told_has first_count item m.0.lot qs r.0 r.1 r.2 (only item m.0.lot) in
+    let u : of_pair first_count item m.0.lot qs ≡ r.0.since = of_pair_has first_count item m.0.lot qs r.0 r.1 r.2 (only item m.0.lot) in
     let number : m.0.since ≡ r.0.since = sym t ∙ same first_count m.0.lot ∙ u in
     let lot : is_lot_of item r.0 ≡ true = rw ((bytes_eq-Decides r.0.item item).1 keys.0, lt-ltb 0 r.0.since (omega (arith, number, ltb-true 0 m.0.since q.1))) refl in
-    let date : m.0.expiry ≡ r.0.expiry = dates_same m.0 r.0 (λ f. sym (told_has f item m.0.lot ps m.0 g.0 here (once item m.0.lot)) ∙ same f m.0.lot
-    ∙ told_has f item m.0.lot qs r.0 r.1 r.2 (only item m.0.lot)) in
+    let date : m.0.expiry ≡ r.0.expiry = dates_same m.0 r.0 (λ f. sym (of_pair_has f item m.0.lot ps m.0 g.0 here (once item m.0.lot)) ∙ same f m.0.lot
+    ∙ of_pair_has f item m.0.lot qs r.0 r.1 r.2 (only item m.0.lot)) in
     subst (λ (w : Ranked). Has w (ranks_of item qs))
     ((λ i. record { expiry = sym date i; since = sym number i; lot = keys.1 i }) ∙ sym m.2)
     (has_map rank_of r.0 (filter (is_lot_of item) qs) (has_filter (is_lot_of item) r.0 qs r.1 lot))
 
-pub ranks_same : (r : Rules) (item : List ℕ) (ps qs : List LotRow) → IsDistinct ps → IsDistinct qs → ((f : LotRow → ℕ) (lot : List ℕ) → told f item lot ps ≡ told f item lot qs)
+pub ranks_same : (r : Rules) (item : List ℕ) (ps qs : List LotRow) → IsDistinct ps → IsDistinct qs → ((f : LotRow → ℕ) (lot : List ℕ) → of_pair f item lot ps ≡ of_pair f item lot qs)
     → in_order (ranks_before r) (ranks_of item ps) ≡ in_order (ranks_before r) (ranks_of item qs)
 ranks_same r item ps qs once only same = in_order_same (ranks_before r) (ranks_order r) (ranks_of item ps) (ranks_of item qs) (ranks_once r item ps once)
     (ranks_among item ps qs once only same) (ranks_among item qs ps only once (λ f lot. sym (same f lot)))
@@ -207,12 +207,12 @@ lots_none_before item (r ∷ rows) (suc i) before =
       | inr e ↦ rw e refl
     ]
 
-pub lots_none_behind : (item : List ℕ) (rows : List LotRow) (i : ℕ) → ((k : ℕ) (d : LotRow) → i ≤ k → k < length rows → comes_before item (get_or rows k d).item ≡ true)
+pub lots_none_later : (item : List ℕ) (rows : List LotRow) (i : ℕ) → ((k : ℕ) (d : LotRow) → i ≤ k → k < length rows → comes_before item (get_or rows k d).item ≡ true)
     → ranks_of item (take i rows) ≡ ranks_of item rows
-lots_none_behind item [] zero behind = refl
-lots_none_behind item (r ∷ rows) zero behind =
-    let apart : is_lot_of item r ≡ false = no_lot item r (behind 0 r (omega arith) (omega arith)) in
-    rw apart (lots_none_behind item rows zero (λ k d le within. behind (suc k) d (omega arith) (omega arith)))
+lots_none_later item [] zero back = refl
+lots_none_later item (r ∷ rows) zero back =
+    let apart : is_lot_of item r ≡ false = no_lot item r (back 0 r (omega arith) (omega arith)) in
+    rw apart (lots_none_later item rows zero (λ k d le within. back (suc k) d (omega arith) (omega arith)))
   where
     no_lot : (item : List ℕ) (r : LotRow) → comes_before item r.item ≡ true → is_lot_of item r ≡ false
     no_lot item r h = elim (cases_Bool (bytes_eq r.item item)) [
@@ -222,8 +222,8 @@ lots_none_behind item (r ∷ rows) zero behind =
           absurd (cc)
       | inr e ↦ rw e refl
     ]
-lots_none_behind item [] (suc i) behind = refl
-lots_none_behind item (r ∷ rows) (suc i) behind = elim (cases_Bool (is_lot_of item r)) [
-  | inl e ↦ rw e (ap (λ (rs : List Ranked). rank_of r ∷ rs) (lots_none_behind item rows i (λ k d le within. behind (suc k) d (omega arith) (omega arith))))
-  | inr e ↦ rw e (lots_none_behind item rows i (λ k d le within. behind (suc k) d (omega arith) (omega arith)))
+lots_none_later item [] (suc i) back = refl
+lots_none_later item (r ∷ rows) (suc i) back = elim (cases_Bool (is_lot_of item r)) [
+  | inl e ↦ rw e (ap (λ (rs : List Ranked). rank_of r ∷ rs) (lots_none_later item rows i (λ k d le within. back (suc k) d (omega arith) (omega arith))))
+  | inr e ↦ rw e (lots_none_later item rows i (λ k d le within. back (suc k) d (omega arith) (omega arith)))
 ]

@@ -12,7 +12,7 @@ use Rattle.profile.specs.Means.{Line}
 use Rattle.profile.specs.Events.{is_pair, quantity_of, pair_before}
 use Rattle.profile.specs.Clerk.{is_ascending, is_sheet, is_sheet_line, RecountSheet}
 use Rattle.goods.proofs.Texts.{texts_never, texts_through, texts_total}
-use Rattle.goods.proofs.Tells.{pair_is}
+use Rattle.goods.proofs.OfPairLemmas.{pair_is}
 use Rattle.goods.proofs.Sums.{share, quantity_as}
 
 -- Pairs.
@@ -76,18 +76,18 @@ count_yes {X} p x xs e = omega (arith, sum_by-cons (λ (y : X). cond (p y) 1 0) 
 pub count_no : {X : Type 0} (p : X → Bool) (x : X) (xs : List X) → p x ≡ false → count_by p (x ∷ xs) ≡ count_by p xs
 count_no {X} p x xs e = omega (arith, sum_by-cons (λ (y : X). cond (p y) 1 0) x xs, ap (λ (v : Bool). cond {A = ℕ} v 1 0) e)
 
-none_behind : (a b : List ℕ) (k : Line) (ls : List Line) → is_pair a b k ≡ true → is_ascending (k ∷ ls) ≡ true → count_by (is_pair a b) ls ≡ 0
-none_behind a b k [] e h = refl
-none_behind a b k (l ∷ ls) e h = elim (cases_Bool (is_pair a b l)) [
+none_further : (a b : List ℕ) (k : Line) (ls : List Line) → is_pair a b k ≡ true → is_ascending (k ∷ ls) ≡ true → count_by (is_pair a b) ls ≡ 0
+none_further a b k [] e h = refl
+none_further a b k (l ∷ ls) e h = elim (cases_Bool (is_pair a b l)) [
   | inl f ↦ absurd (both_ways (pair_before k l) (pair_never a b k l e f) (and_parts (pair_before k l) (is_ascending (l ∷ ls)) h).0)
-  | inr f ↦ count_no (is_pair a b) l ls f ∙ none_behind a b k ls e (ascending_skip k l ls h)
+  | inr f ↦ count_no (is_pair a b) l ls f ∙ none_further a b k ls e (ascending_skip k l ls h)
 ]
 
 -- they name each pair once
 pub ascending_once : (a b : List ℕ) (ls : List Line) → is_ascending ls ≡ true → count_by (is_pair a b) ls ≤ 1
 ascending_once a b [] h = omega arith
 ascending_once a b (k ∷ ls) h = elim (cases_Bool (is_pair a b k)) [
-  | inl e ↦ omega (arith, count_yes (is_pair a b) k ls e, none_behind a b k ls e h)
+  | inl e ↦ omega (arith, count_yes (is_pair a b) k ls e, none_further a b k ls e h)
   | inr e ↦ omega (arith, count_no (is_pair a b) k ls e, ascending_once a b ls (ascending_tail k ls h))
 ]
 

@@ -67,8 +67,8 @@ rank_sooner x y h = rw h refl
 rank_same : (x y : Ranked) → x.expiry ≡ y.expiry → ranks_before Two x y ≡ counted_before x y
 rank_same x y e =
     let before : expires_before x.expiry y.expiry ≡ false = ap (expires_before x.expiry) (sym e) ∙ dates_never x.expiry in
-    let behind : expires_before y.expiry x.expiry ≡ false = ap (expires_before y.expiry) e ∙ dates_never y.expiry in
-    rw (before, behind) refl
+    let back : expires_before y.expiry x.expiry ≡ false = ap (expires_before y.expiry) e ∙ dates_never y.expiry in
+    rw (before, back) refl
 
 not_true : (v : Bool) → not v ≡ true → v ≡ false
 not_true true h = absurd (cc)
@@ -109,8 +109,8 @@ rank_counts : (r : Rules) (x y : Ranked) → ranks_before r x y ≡ false → ra
 rank_counts One x y h g = (h, g)
 rank_counts Two x y h g =
     let before = or_left (expires_before x.expiry y.expiry) (not (expires_before y.expiry x.expiry) && counted_before x y) h in
-    let behind = or_left (expires_before y.expiry x.expiry) (not (expires_before x.expiry y.expiry) && counted_before y x) g in
-    let e = dates_total x.expiry y.expiry before behind in
+    let back = or_left (expires_before y.expiry x.expiry) (not (expires_before x.expiry y.expiry) && counted_before y x) g in
+    let e = dates_total x.expiry y.expiry before back in
     (sym (rank_same x y e) ∙ h, sym (rank_same y x (sym e)) ∙ g)
 
 -- lots of which each has one date

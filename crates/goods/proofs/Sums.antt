@@ -10,9 +10,9 @@ use Rattle.profile.specs.Rows.{LotRow}
 use Rattle.profile.specs.Means.{Line}
 use Rattle.profile.specs.Events.{is_pair, quantity_of}
 use Rattle.profile.specs.Movements.{Column, Expected, OnHand, Reservation, Shipped, column_eq}
-use Rattle.goods.specs.Told.{told, amount, given, named_by}
+use Rattle.goods.specs.OfPairs.{of_pair, amount, given, named_by}
 use Rattle.goods.specs.Moved.{IsAdded, IsTaken}
-use Rattle.goods.proofs.Tells.{same_bytes}
+use Rattle.goods.proofs.OfPairLemmas.{same_bytes}
 
 -- one line's part of what is given to a pair
 abbrev pub share : List ℕ → List ℕ → Line → ℕ
@@ -109,14 +109,14 @@ taken_more k lines i l old mid new within is first next =
 
 -- the next line fits, and is there
 pub next_fits : (k : Column) (lines : List Line) (i : ℕ) (l : Line) (old mid : List LotRow) (m : ℕ) → i < length lines → l ≡ get_or lines i l
-    → IsAdded k (take i lines) old mid → ((a b : List ℕ) → told (amount k) a b old + quantity_of lines a b < m)
-    → told (amount k) l.item l.lot mid + l.quantity < m
+    → IsAdded k (take i lines) old mid → ((a b : List ℕ) → of_pair (amount k) a b old + quantity_of lines a b < m)
+    → of_pair (amount k) l.item l.lot mid + l.quantity < m
 next_fits k lines i l old mid m within is first fits =
     omega (arith, first.amounts k l.item l.lot, given_here k (take i lines) l.item l.lot, fits l.item l.lot, quantity_next lines i l within is)
 
 pub next_there : (k : Column) (lines : List Line) (i : ℕ) (l : Line) (old mid : List LotRow) → i < length lines → l ≡ get_or lines i l
-    → IsTaken k (take i lines) old mid → ((a b : List ℕ) → quantity_of lines a b ≤ told (amount k) a b old)
-    → l.quantity ≤ told (amount k) l.item l.lot mid
+    → IsTaken k (take i lines) old mid → ((a b : List ℕ) → quantity_of lines a b ≤ of_pair (amount k) a b old)
+    → l.quantity ≤ of_pair (amount k) l.item l.lot mid
 next_there k lines i l old mid within is first there =
     omega (arith, first.amounts k l.item l.lot, given_here k (take i lines) l.item l.lot, there l.item l.lot, quantity_next lines i l within is)
 

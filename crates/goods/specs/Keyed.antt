@@ -8,7 +8,9 @@ use Rattle.profile.specs.Page.{PageAdvice, PageOrder, PageDocument}
 -- put by its key: in place of what has the key, else in its place among the others
 abbrev pub put_by : {X K : Type 0} → (K → K → Bool) → (X → K) → X → List X → List X
 put_by less key x [] = x ∷ []
-put_by less key x (y ∷ ys) = if less (key x) (key y) then x ∷ y ∷ ys else (if less (key y) (key x) then y ∷ put_by less key x ys else x ∷ ys)
+put_by less key x (y ∷ ys) =
+    if less (key x) (key y) then x ∷ y ∷ ys
+    else (if less (key y) (key x) then y ∷ put_by less key x ys else x ∷ ys)
 
 -- whether each key comes before all after it
 abbrev pub rises_by : {X K : Type 0} → (K → K → Bool) → (X → K) → List X → Bool
@@ -21,8 +23,8 @@ pub record IsRank {X K : Type 0} (less : K → K → Bool) (key : X → K) (xs :
   pub below : (j : ℕ) (d : X) → j < i → less (key (slice_index_or xs j d)) k ≡ true
   pub above : (j : ℕ) (d : X) → i ≤ j → j < length xs → less (key (slice_index_or xs j d)) k ≡ false
 
--- The keys of a page's lists: rows by item and then lot bytes, advices and orders by the bytes of their numbers, documents by
--- theirs.
+-- The keys of a page's lists: rows by item and then lot bytes, advices and orders by the bytes of
+-- their numbers, documents by theirs.
 
 abbrev pub Pair : Type 0
 Pair = List ℕ × List ℕ

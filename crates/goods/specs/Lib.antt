@@ -1,4 +1,4 @@
-pub mod Told
+pub mod OfPairs
 pub mod Columns
 pub mod Keyed
 pub mod Moved

@@ -6,7 +6,7 @@ use Rattle.profile.specs.Allotment.{Ranked, ranks_before, may_have, shares_from}
 use Rattle.profile.specs.Lists.{in_order}
 use Rattle.profile.specs.Means.{Line, OrderLine}
 use Rattle.profile.specs.Movements.{OnHand, Reservation}
-use Rattle.goods.specs.Told.{told, amount}
+use Rattle.goods.specs.OfPairs.{of_pair, amount}
 
 abbrev pub is_lot_of : List ℕ → LotRow → Bool
 is_lot_of item r = bytes_eq r.item item && nat_lt 0 r.since
@@ -19,15 +19,19 @@ ranks_of item rows = map rank_of (filter (is_lot_of item) rows)
 
 -- what is free of a pair
 abbrev pub free_in : List LotRow → List ℕ → List ℕ → ℕ
-free_in rows item lot = told (amount OnHand) item lot rows - told (amount Reservation) item lot rows
+free_in rows item lot =
+    of_pair (amount OnHand) item lot rows - of_pair (amount Reservation) item lot rows
 
 -- what is given of the lots of an item, where so much is still wanted
 abbrev pub shares_left : List LotRow → List ℕ → Option (List ℕ) → List (List ℕ) → ℕ → List Line
-shares_left rows item pin lots left = shares_from item (filter (may_have pin) lots) (free_in rows item) left
+shares_left rows item pin lots left =
+    shares_from item (filter (may_have pin) lots) (free_in rows item) left
 
 -- what a line is given
 abbrev pub shares_in : Rules → List LotRow → OrderLine → List Line
-shares_in r rows l = shares_left rows l.item l.pin (map (λ k. k.lot) (in_order (ranks_before r) (ranks_of l.item rows))) l.quantity
+shares_in r rows l =
+    shares_left rows l.item l.pin
+    (map (λ k. k.lot) (in_order (ranks_before r) (ranks_of l.item rows))) l.quantity
 
 -- what the lines of an order are given
 abbrev pub all_shares_in : Rules → List LotRow → List OrderLine → List Line

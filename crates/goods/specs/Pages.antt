@@ -8,7 +8,7 @@ use Rattle.profile.specs.Events.{quantity_of}
 use Rattle.profile.specs.Movements.{Column, Expected, OnHand, Reservation}
 use Rattle.profile.specs.Bytes.{comes_before, is_one_of}
 use Rattle.goods.specs.Keyed.{IsSorted, rises_by, shipment_of, number_of, entry_of}
-use Rattle.goods.specs.Told.{told, amount, IsDistinct}
+use Rattle.goods.specs.OfPairs.{of_pair, amount, IsDistinct}
 
 pub record PageFacts : Type 0 where
   pub rows : List LotRow
@@ -67,15 +67,20 @@ pub record AreSorted (p : PageFacts) : Type 0 where
 abbrev pub is_in_lines : PageOrder → Bool
 is_in_lines k = list_all (λ l. is_one_of (map (λ m. m.item) k.lines) l.item) k.reserved
 
--- Of every page: nothing is below 0, no more is reserved than is on hand, what is open is expected and reserved, no sum leaves 64 bits, and each key stands once, in order.
+-- Of every page: nothing is below 0, no more is reserved than is on hand, what is open is expected
+-- and reserved, no sum leaves 64 bits, and each key stands once, in order.
 pub record IsSound (p : PageFacts) : Type 0 where
   pub sorted : AreSorted p
   pub distinct : IsDistinct p.rows
-  pub expected : (item lot : List ℕ) → awaited p.advices item lot ≤ told (amount Expected) item lot p.rows
-  pub reserved : (item lot : List ℕ) → held p.orders item lot ≤ told (amount Reservation) item lot p.rows
+  pub expected : (item lot : List ℕ)
+      → awaited p.advices item lot ≤ of_pair (amount Expected) item lot p.rows
+  pub reserved : (item lot : List ℕ)
+      → held p.orders item lot ≤ of_pair (amount Reservation) item lot p.rows
   pub in_lines : list_all is_in_lines p.orders ≡ true
-  pub covered : (item lot : List ℕ) → told (amount Reservation) item lot p.rows ≤ told (amount OnHand) item lot p.rows
-  pub bounded : (c : Column) (item lot : List ℕ) → told (amount c) item lot p.rows ≤ (most_recounted + 1) * most_events p
+  pub covered : (item lot : List ℕ)
+      → of_pair (amount Reservation) item lot p.rows ≤ of_pair (amount OnHand) item lot p.rows
+  pub bounded : (c : Column) (item lot : List ℕ)
+      → of_pair (amount c) item lot p.rows ≤ (most_recounted + 1) * most_events p
   pub numbered : p.entries ≤ most_entries
   pub few : p.recent ≤ most_sets
   pub advices_once : (shipment : List ℕ) → count_by (is_shipment shipment) p.advices ≤ 1

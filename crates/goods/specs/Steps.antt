@@ -6,7 +6,7 @@ use Rattle.profile.specs.Movements.{OnHand, Reservation}
 use Rattle.profile.specs.Rows.{LotRow}
 use Rattle.profile.specs.Page.{PageAdvice, PageOrder, PageDocument, page_line, reserved_lines}
 use Rattle.goods.specs.Moved.{IsAdvised, IsAdded, IsCounted, IsShipped, IsSet}
-use Rattle.goods.specs.Told.{told, since, amount}
+use Rattle.goods.specs.OfPairs.{of_pair, since, amount}
 use Rattle.goods.specs.Keyed.{put_advice, put_order, put_document, rises_by, entry_of}
 use Rattle.goods.specs.Pages.{PageFacts, document_at}
 
@@ -36,7 +36,8 @@ closed_order k = record k { reserved = []; is_open = false }
 -- a document that is sent, unless one was sent under its number
 abbrev pub sent_unless : Option PageDocument → ℕ → List ℕ → List PageDocument → List PageDocument
 sent_unless (Some d) n function ds = ds
-sent_unless None n function ds = put_document (record { n = n; function = function; said = None }) ds
+sent_unless None n function ds =
+    put_document (record { n = n; function = function; said = None }) ds
 
 abbrev pub with_sent : ℕ → List ℕ → List PageDocument → List PageDocument
 with_sent n function ds = sent_unless (document_at n ds) n function ds
@@ -79,7 +80,8 @@ pub record IsReserved (o : Order) (shares : List Line) (old new : PageFacts) : T
 abbrev pub exceeds : List Line → Line → Bool
 exceeds reserved l = nat_lt (quantity_of reserved l.item l.lot) l.quantity
 
--- goods are picked: the order is closed, the sheet is shipped, and nothing is reserved for the order any more
+-- goods are picked: the order is closed, the sheet is shipped, and nothing is reserved for the
+-- order any more
 pub record IsPicked (n : ℕ) (k : PageOrder) (sheet : List Line) (old new : PageFacts) : Type 0 where
   pub rows : IsShipped k.reserved sheet old.rows new.rows
   pub advices : new.advices ≡ old.advices
@@ -87,15 +89,16 @@ pub record IsPicked (n : ℕ) (k : PageOrder) (sheet : List Line) (old new : Pag
   pub documents : new.documents ≡ with_sent n (codes "SW") old.documents
   pub next : IsNext old new
 
--- whether no count named the pair of a line, whether it is below what is reserved, and whether it is what is on hand
+-- whether no count named the pair of a line, whether it is below what is reserved, and whether it
+-- is what is on hand
 abbrev pub is_unknown : List LotRow → Line → Bool
-is_unknown rows l = told since l.item l.lot rows == 0
+is_unknown rows l = of_pair since l.item l.lot rows == 0
 
 abbrev pub is_below : List LotRow → Line → Bool
-is_below rows l = nat_lt l.quantity (told (amount Reservation) l.item l.lot rows)
+is_below rows l = nat_lt l.quantity (of_pair (amount Reservation) l.item l.lot rows)
 
 abbrev pub is_on_hand : List LotRow → Line → Bool
-is_on_hand rows l = l.quantity == told (amount OnHand) l.item l.lot rows
+is_on_hand rows l = l.quantity == of_pair (amount OnHand) l.item l.lot rows
 
 -- goods are counted again: the sheet says what is on hand
 pub record IsRecounted (n : ℕ) (sheet : List Line) (old new : PageFacts) : Type 0 where
@@ -107,7 +110,8 @@ pub record IsRecounted (n : ℕ) (sheet : List Line) (old new : PageFacts) : Typ
 
 -- an acknowledgment decides a document of an earlier entry that it names, unless one before it did
 abbrev pub decides : ℕ → Acknowledgment → PageDocument → Bool
-decides entries a d = nat_le d.n entries && a.document == d.n && bytes_eq a.function d.function && is_none d.said
+decides entries a d = nat_le d.n entries && a.document == d.n && bytes_eq a.function d.function
+    && is_none d.said
 
 -- a document after an acknowledgment
 abbrev pub heard : ℕ → Acknowledgment → PageDocument → PageDocument
@@ -118,6 +122,7 @@ pub record IsAcknowledged (a : Acknowledgment) (old new : PageFacts) : Type 0 wh
   pub rows : new.rows ≡ old.rows
   pub advices : new.advices ≡ old.advices
   pub orders : new.orders ≡ old.orders
-  pub documents : (n : ℕ) → document_at n new.documents ≡ option_map (heard old.entries a) (document_at n old.documents)
+  pub documents : (n : ℕ)
+      → document_at n new.documents ≡ option_map (heard old.entries a) (document_at n old.documents)
   pub sorted : rises_by nat_lt entry_of new.documents ≡ true
   pub next : IsNext old new

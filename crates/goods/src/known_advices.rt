@@ -22,7 +22,12 @@ pub struct KnownAdvice {
 impl Model for KnownAdvice {
     ghost Value = { PageAdvice };
 
-    ghost view = { λ k. record { shipment = k.shipment.items; order = k.order.items; lines = k.lines.items; is_open = k.is_open } };
+    ghost view = { λ k. record {
+      shipment = k.shipment.items;
+      order = k.order.items;
+      lines = k.lines.items;
+      is_open = k.is_open;
+    } };
 
     ghost invariant = { λ k. length k.lines.items ≤ most_lines Two };
 }
@@ -31,7 +36,12 @@ impl KnownAdvice {
     /// An advice of these numbers and at most 999 lines; it is open until it is counted.
     pub fn new(shipment: Vec<u8>, order: Vec<u8>, lines: Vec<Goods>, is_open: bool) -> KnownAdvice
         requires { length lines.items ≤ most_lines Two }
-        ensures { result ≡ record { shipment = shipment.items; order = order.items; lines = lines.items; is_open = is_open } }
+        ensures { result ≡ record {
+          shipment = shipment.items;
+          order = order.items;
+          lines = lines.items;
+          is_open = is_open;
+        } }
     {
         KnownAdvice {
             shipment,
@@ -107,8 +117,8 @@ impl KnownAdvice {
     }
 }
 
-// The sum of the quantities of lines.
-fn total(lines: &[Goods]) -> u64
+/// The sum of the quantities of lines, in the unit EA.
+pub fn total(lines: &[Goods]) -> u64
     requires { length lines.now ≤ most_lines Two }
     ensures { result ≡ sum_by (λ l. l.quantity) lines.now }
 {

@@ -22,7 +22,11 @@ pub struct KnownLine {
 impl Model for KnownLine {
     ghost Value = { PageLine };
 
-    ghost view = { λ l. record { item = l.item.items; pin = option_map (λ v. v.items) l.pin; quantity = l.quantity } };
+    ghost view = { λ l. record {
+      item = l.item.items;
+      pin = option_map (λ v. v.items) l.pin;
+      quantity = l.quantity;
+    } };
 }
 
 /// An order as a page has it.
@@ -43,7 +47,13 @@ pub struct KnownOrder {
 impl Model for KnownOrder {
     ghost Value = { PageOrder };
 
-    ghost view = { λ k. record { number = k.number.items; address = k.address; lines = k.lines.items; reserved = k.reserved.items; is_open = k.is_open } };
+    ghost view = { λ k. record {
+      number = k.number.items;
+      address = k.address;
+      lines = k.lines.items;
+      reserved = k.reserved.items;
+      is_open = k.is_open;
+    } };
 }
 
 impl KnownOrder {

@@ -14,7 +14,7 @@ mod rows;
 pub use bounds::are_within;
 pub use corrections::{are_on_hand, has_below, has_unknown};
 pub use documents::{Function, KnownDocument};
-pub use known_advices::KnownAdvice;
+pub use known_advices::{KnownAdvice, total};
 pub use known_orders::{KnownLine, KnownOrder};
 pub use lines::{comes_before, exceeds, is_of, pairs_order, quantity_of, rises};
 pub use lots::{all_shares, new_line};

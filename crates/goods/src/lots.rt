@@ -27,7 +27,11 @@ impl Model for Ranked {
 
     ghost Value = { Ranked };
 
-    ghost view = { λ r. record { expiry = option_map (λ v. v.items) r.expiry; since = r.since; lot = r.lot.items } };
+    ghost view = { λ r. record {
+      expiry = option_map (λ v. v.items) r.expiry;
+      since = r.since;
+      lot = r.lot.items;
+    } };
 }
 
 impl Ranked {
@@ -111,7 +115,9 @@ fn rank_among(ranked: &[Ranked], new: &Ranked, rules: Rules) -> usize
 // Where a lot belongs, if it isn't there.
 fn place_among(ranked: &[Ranked], new: &Ranked, rules: Rules) -> Option<usize>
     requires { rises_by (ranks_before rules) (λ r. r) ranked.now ≡ true }
-    ensures { MatchOption result (placed (ranks_before rules) new.now ranked.now ≡ ranked.now) (λ i. (i ≤ length ranked.now) × (placed (ranks_before rules) new.now ranked.now ≡ insert ranked.now i new.now)) }
+    ensures { MatchOption result (placed (ranks_before rules) new.now ranked.now ≡ ranked.now)
+        (λ i. (i ≤ length ranked.now)
+        × (placed (ranks_before rules) new.now ranked.now ≡ insert ranked.now i new.now)) }
 {
     let i = rank_among(ranked, new, rules);
     if i == ranked.len() {
@@ -137,7 +143,8 @@ fn place(ranked: &mut Vec<Ranked>, new: Ranked, rules: Rules) -> Result<(), Allo
 // Where the rows of an item begin: those before are of items before it.
 fn item_start(rows: &[Row], item: &[u8]) -> usize
     requires { IsSorted rows.now }
-    ensures { (k : ℕ) (d : LotRow) → k < result → comes_before (slice_index_or rows.now k d).item item.now ≡ true }
+    ensures { (k : ℕ) (d : LotRow) → k < result
+        → comes_before (slice_index_or rows.now k d).item item.now ≡ true }
 {
     rows.partition_point(|row| row.is_before_item(item))
 }
@@ -146,15 +153,17 @@ fn item_start(rows: &[Row], item: &[u8]) -> usize
 fn item_end(rows: &[Row], item: &[u8]) -> usize
     requires { IsSorted rows.now }
     ensures bound { result ≤ length rows.now }
-    ensures behind { (k : ℕ) (d : LotRow) → result ≤ k → k < length rows.now → comes_before item.now (slice_index_or rows.now k d).item ≡ true }
+    ensures back { (k : ℕ) (d : LotRow) → result ≤ k → k < length rows.now
+        → comes_before item.now (slice_index_or rows.now k d).item ≡ true }
 {
-    rows.partition_point(|row| !row.is_behind_item(item))
+    rows.partition_point(|row| !row.is_after_item(item))
 }
 
 // The lots of an item that a count named, in the order of the rules.
 fn lots(alloc: Global, rows: &[Row], item: &[u8], rules: Rules) -> Result<Vec<Ranked>, AllocError>
     requires { IsSorted rows.now }
-    ensures { IfOk result (λ lots. lots.items ≡ in_order (ranks_before rules) (ranks_of item.now rows.now)) }
+    ensures { IfOk result
+        (λ lots. lots.items ≡ in_order (ranks_before rules) (ranks_of item.now rows.now)) }
 {
     let mut lots = Vec::new(alloc);
     for i in item_start(rows, item)..item_end(rows, item) {
@@ -168,7 +177,8 @@ fn lots(alloc: Global, rows: &[Row], item: &[u8], rules: Rules) -> Result<Vec<Ra
 
 /// A line of so much of a pair; want of memory is the one error.
 pub fn new_line(alloc: Global, item: &[u8], lot: &[u8], quantity: u32) -> Result<Goods, AllocError>
-    ensures { IfOk result (λ line. line ≡ record { item = item.now; lot = lot.now; quantity = quantity }) }
+    ensures { IfOk result
+        (λ line. line ≡ record { item = item.now; lot = lot.now; quantity = quantity }) }
 {
     Ok(Goods {
         item: item.to_vec(alloc)?,

@@ -4,7 +4,7 @@ ghost use Rattle.profile.specs.Bytes.{comes_before};
 ghost use Rattle.profile.specs.Events.{is_other_date, is_redated};
 ghost use Rattle.profile.specs.Movements.{Expected, OnHand, Reservation, Shipped};
 ghost use Rattle.goods.specs.Keyed.{key_before, row_key, IsSorted, IsRank};
-ghost use Rattle.goods.specs.Told.{is_row, told, one, since, amount, same_date, same_row, raised, lowered, marked, dated, blank, with_on_hand};
+ghost use Rattle.goods.specs.OfPairs.{is_row, of_pair, one, since, amount, same_date, same_row, raised, lowered, marked, dated, blank, with_on_hand};
 ghost use Rattle.goods.specs.Moved.{IsPlace};
 ghost use Rattle.goods.specs.Columns.{column_of};
 
@@ -53,7 +53,16 @@ impl Model for Row {
 
     ghost Value = { LotRow };
 
-    ghost view = { λ r. record { item = r.item.items; lot = r.lot.items; expiry = option_map (λ v. v.items) r.expiry; since = r.since; expected = r.expected; on_hand = r.on_hand; reserved = r.reserved; shipped = r.shipped } };
+    ghost view = { λ r. record {
+      item = r.item.items;
+      lot = r.lot.items;
+      expiry = option_map (λ v. v.items) r.expiry;
+      since = r.since;
+      expected = r.expected;
+      on_hand = r.on_hand;
+      reserved = r.reserved;
+      shipped = r.shipped;
+    } };
 }
 
 impl Row {
@@ -82,7 +91,7 @@ impl Row {
     }
 
     // Whether its item comes after another.
-    pub(crate) fn is_behind_item(&self, item: &[u8]) -> bool
+    pub(crate) fn is_after_item(&self, item: &[u8]) -> bool
         ensures { result ≡ comes_before item.now self.now.item }
     {
         item.cmp(&self.item.as_slice()).is_lt()
@@ -239,7 +248,7 @@ pub fn rank_of(rows: &[Row], item: &[u8], lot: &[u8]) -> usize
 /// The place of the row of a pair.
 pub fn place_of(rows: &[Row], item: &[u8], lot: &[u8]) -> Option<usize>
     requires { IsSorted rows.now }
-    ensures { MatchOption result (told one item.now lot.now rows.now ≡ 0)
+    ensures { MatchOption result (of_pair one item.now lot.now rows.now ≡ 0)
         (λ i. IsPlace item.now lot.now rows.now i) }
 {
     let i = rank_of(rows, item, lot);
@@ -255,7 +264,7 @@ pub fn place_of(rows: &[Row], item: &[u8], lot: &[u8]) -> Option<usize>
 /// An amount of a pair: 0 where there is no row of it.
 pub fn amount_of(rows: &[Row], column: Column, item: &[u8], lot: &[u8]) -> u64
     requires { IsSorted rows.now }
-    ensures { result ≡ told (amount (column_of column)) item.now lot.now rows.now }
+    ensures { result ≡ of_pair (amount (column_of column)) item.now lot.now rows.now }
 {
     match place_of(rows, item, lot) {
         None => 0,
@@ -266,7 +275,7 @@ pub fn amount_of(rows: &[Row], column: Column, item: &[u8], lot: &[u8]) -> u64
 // The number of the first count that named a pair, or 0.
 pub(crate) fn since_of(rows: &[Row], item: &[u8], lot: &[u8]) -> u32
     requires { IsSorted rows.now }
-    ensures { result ≡ told since item.now lot.now rows.now }
+    ensures { result ≡ of_pair since item.now lot.now rows.now }
 {
     match place_of(rows, item, lot) {
         None => 0,

@@ -1,4 +1,5 @@
--- the answer to what is asked for at a target is the answer to a request, and so is what is submitted
+-- the answer to what is asked for at a target is the answer to a request, and so is what is
+-- submitted
 use Rattle.std.proofs.Common.{◌≡◌, ℕ, Bool, true, false, List, Option, Some, None, option_map, Result, Err, Ok, sym, ◌∙◌, refl, ap, subst, if◌then◌else◌}
 use Rattle.httparse.specs.Grammar.{RequestHead}
 use Rattle.profile.specs.declared.rules.Rules.TheVariants.{Two}

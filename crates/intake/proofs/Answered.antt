@@ -5,10 +5,9 @@ use Rattle.profile.specs.Moments.{Moment}
 use Rattle.profile.specs.Register.{Command, Entry, Interchange}
 use Rattle.profile.specs.Accepted.{IsLegal, is_accepted, reply_to, after}
 use Rattle.profile.specs.Response.{Response, Method, Route, is_exchange, resp, fault_response}
-use Rattle.store.specs.Faults.{fault_of}
 use Rattle.store.specs.Standing.{Standing, IsUsable, IsUnchanged, IsFault, LeavesEither}
-use Rattle.store.specs.declared.fault.Fault.{Fault}
-use Rattle.store.specs.declared.fault.Fault.TheVariants.{OutOfMemory}
+use Rattle.store.specs.Fault.{Fault}
+use Rattle.store.specs.Fault.TheVariants.{OutOfMemory}
 use Rattle.store.proofs.Changes.{unchanged_refl, leaves_first}
 use Rattle.intake.specs.Serving.{IsAnswered}
 use Rattle.intake.specs.Targets.{handed_in}
@@ -50,7 +49,7 @@ module _ (old new : Standing) (t : Moment) (m : Method) (r : Route) (body : List
     opened = λ c e. opened ((some_handed_in m r body c e).0);
   })
 
-  pub faulted : (answer : Response) (fault : Fault) (meant : List Entry → Response) → answer ≡ fault_response (fault_of fault) → IsFault fault old new
+  pub faulted : (answer : Response) (fault : Fault) (meant : List Entry → Response) → answer ≡ fault_response fault → IsFault fault old new
       → (is_exchange m r ≡ false → IsUnchanged old new) → (is_exchange m r ≡ true → Left old new t (Interchange body)) → IsAnswered old new t (handed_in m r body) meant answer
   faulted answer fault meant response why kept left = inr (record {
     fault = fault;
@@ -62,7 +61,7 @@ module _ (old new : Standing) (t : Moment) (m : Method) (r : Route) (body : List
 
 -- where memory is wanting and nothing was done
 pub no_memory : (s : Standing) (t : Moment) (submits : Option Command) (meant : List Entry → Response) (answer : Response)
-    → answer ≡ fault_response (fault_of OutOfMemory) → IsAnswered s s t submits meant answer
+    → answer ≡ fault_response OutOfMemory → IsAnswered s s t submits meant answer
 no_memory s t submits meant answer response = inr (record {
   fault = OutOfMemory;
   response = response;

@@ -10,9 +10,8 @@ use Rattle.profile.specs.Header.{Who}
 use Rattle.profile.specs.Moments.{Moment}
 use Rattle.profile.specs.Register.{Entry}
 use Rattle.profile.specs.Response.{Response, Method, Head, bare, stated_length, fault_response}
-use Rattle.store.specs.Faults.{fault_of}
 use Rattle.store.specs.Standing.{Standing}
-use Rattle.store.specs.declared.fault.Fault.TheVariants.{OutOfMemory}
+use Rattle.store.specs.Fault.TheVariants.{OutOfMemory}
 use Rattle.store.proofs.Changes.{unchanged_refl}
 use Rattle.intake.specs.Asking.{target_asks, IsShutAnswer}
 use Rattle.intake.specs.Fields.{head_of}
@@ -92,7 +91,7 @@ module _ (audience : Audience) (known : Option (List ℕ)) (t : Moment) (h : Req
         at_test input 400 i (asked_cut_off (head_of h) _ _ n e x l (subst (λ (b : List ℕ). length (b ++ input) < n) same short)) is none
 
     -- where memory is wanting
-    pub wanting : r ≡ fault_response (fault_of OutOfMemory) → sender ≡ None → IsExchangeBehind audience s s known t h start r sender
+    pub wanting : r ≡ fault_response OutOfMemory → sender ≡ None → IsExchangeBehind audience s s known t h start r sender
     wanting is none = record {
       input = unwrap_or known [];
       is_input = own_input known;

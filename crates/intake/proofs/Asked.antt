@@ -4,7 +4,7 @@ use Rattle.std.specs.Prelude.{Result}
 use Rattle.httparse.specs.Grammar.{RequestHead}
 use Rattle.profile.specs.Response.{Method, Post, Response}
 use Rattle.store.specs.Standing.{Standing}
-use Rattle.store.specs.declared.fault.Fault.TheVariants.{OutOfMemory, Reopen}
+use Rattle.store.specs.Fault.TheVariants.{OutOfMemory, Reopen}
 use Rattle.intake.specs.Asking.{asks_in, call_asks, asks_with, target_asks, IsResponseOf, IsShutAnswer}
 use Rattle.intake.specs.Fields.{head_of}
 use Rattle.intake.specs.Targets.{Target, asked_with, seen_call, target_of}

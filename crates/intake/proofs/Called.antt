@@ -8,10 +8,9 @@ use Rattle.profile.specs.Moments.{Moment}
 use Rattle.profile.specs.Register.{Command, Entry}
 use Rattle.profile.specs.Reply as replies
 use Rattle.profile.specs.Response.{Response, Post, OtherMethod, fault_response}
-use Rattle.store.specs.Faults.{fault_of}
 use Rattle.store.specs.Runs.{told, UnlessAccepted}
 use Rattle.store.specs.Standing.{Standing, IsUnchanged, IsFault, IsQueryFault}
-use Rattle.store.specs.declared.fault.Fault.{Fault}
+use Rattle.store.specs.Fault.{Fault}
 use Rattle.store.specs.declared.serving.Reply.{Reply}
 use Rattle.store.proofs.Changes.{unchanged_refl}
 use Rattle.intake.specs.Calls.{deed_reply, deed_response, deed_command, call_command, call_resp}
@@ -36,7 +35,7 @@ module _ (old new : Standing) (t : Moment) where
     opened = λ c e. cc;
   })
 
-  pub unshown : (fault : Fault) (meant : List Entry → Response) (answer : Response) → answer ≡ fault_response (fault_of fault)
+  pub unshown : (fault : Fault) (meant : List Entry → Response) (answer : Response) → answer ≡ fault_response fault
       → IsQueryFault fault old new → IsUnchanged old new → IsAnswered old new t None meant answer
   unshown fault meant answer response why same = inr (record {
     fault = fault;
@@ -62,7 +61,7 @@ module _ (old new : Standing) (t : Moment) where
       }))
 
   -- and one at which a fault happened
-  pub undone : (a c : Command) (fault : Fault) (meant : List Entry → Response) (answer : Response) → a ≡ c → answer ≡ fault_response (fault_of fault)
+  pub undone : (a c : Command) (fault : Fault) (meant : List Entry → Response) (answer : Response) → a ≡ c → answer ≡ fault_response fault
       → IsFault fault old new → Left old new t a → IsAnswered old new t (Some c) meant answer
   undone a c fault meant answer same is why left = inr (record {
     fault = fault;

@@ -5,7 +5,7 @@ use Rattle.std.specs.Str.{IsUtf8, is_utf8, IsCharBoundary}
 use Rattle.std.proofs.lemmas.Str.{is_utf8-from_IsUtf8, IsUtf8-from_is_utf8, IsUtf8-between, IsUtf8-nil, IsCharBoundary-after_ascii, IsCharBoundary-before_ascii, IsCharBoundary-end}
 use Rattle.intake.proofs.Seeking.{found_in, Found, Fits}
 use Rattle.matchit.proofs.OnLiterals.{matchit_on_literals}
-use Rattle.intake.proofs.Slashes.{slash_behind, segment_ends}
+use Rattle.intake.proofs.Slashes.{slash_after, segment_ends}
 use Rattle.matchit.specs.Params.{walk, AllText, part_of, next_at, wild_from, wild_stop, after_token}
 use Rattle.matchit.specs.Router.{RouteOf}
 use Rattle.std.specs.List.{list_all}
@@ -128,7 +128,7 @@ slash_in : (p : List ℕ) → Fits (256 ∷ 47 ∷ 256 ∷ []) p → has_slash p
 slash_in p f =
     let rest = f.1 refl in
     let there = rest.1.0 (omega arith) in
-    slash_behind rest.0 p there.0 there.1
+    slash_after rest.0 p there.0 there.1
 
 abbrev Text : List ℕ → RouteOf RouteKind → Type 0
 Text path r = AllText (walk r.pattern r.text path r.names 0 0)

@@ -4,19 +4,17 @@ use Rattle.std.specs.Fmt.{digits}
 use Rattle.profile.specs.Refusals as meant
 use Rattle.profile.specs.Accepted.{is_accepted}
 use Rattle.profile.specs.Response.{with_body, plain_type, refused_response}
-use Rattle.store.specs.Told.{refusal_of}
 use Rattle.store.specs.Refusal.{Refusal}
 use Rattle.store.specs.Refusal.TheVariants.{Unreadable, Note, Duplicate, UnknownDepositor, TicketUsed, UnknownAdvice, AdviceClosed, UnknownOrder, OrderClosed, NotReserved, UnknownLot, BelowReserved, NoDifference, TooMuch, RepeatedLine, BadText, TooManyLines, NumbersUsedUp, AlreadyEnrolled}
-use Rattle.store.specs.Faults.{fault_of}
 use Rattle.store.specs.Runs.{told, UnlessAccepted}
-use Rattle.store.specs.declared.fault.Fault.{Fault}
-use Rattle.store.specs.declared.fault.Fault.TheVariants.{OutOfMemory, Store, Reopen, NotThisBook, Device}
+use Rattle.store.specs.Fault.{Fault}
+use Rattle.store.specs.Fault.TheVariants.{OutOfMemory, Store, Reopen, NotThisBook, Device}
 use Rattle.store.specs.declared.serving.Reply.{Reply}
 use Rattle.store.specs.declared.serving.Reply.TheVariants.{Accepted, Stored, Refused}
 use Rattle.intake.specs.Calls.{deed_refused}
-use Rattle.intake.specs.Told.{refusal_line, fault_line}
+use Rattle.profile.specs.Refusals.{refusal_line, fault_line}
 
-pub fault_line_is : (f : Fault) → fault_line f ≡ meant.told_fault (fault_of f) ++ codes "\n"
+pub fault_line_is : (f : Fault) → fault_line f ≡ meant.told_fault f ++ codes "\n"
 unfolding digits
 fault_line_is OutOfMemory = refl
 fault_line_is Store = refl
@@ -24,24 +22,24 @@ fault_line_is Reopen = refl
 fault_line_is NotThisBook = refl
 fault_line_is Device = refl
 
-pub unreadable_line : refusal_line Unreadable ≡ meant.told_refusal meant.Unreadable ++ codes "\n"
+pub unreadable_line : refusal_line Unreadable ≡ meant.told_refusal Unreadable ++ codes "\n"
 unfolding digits
 unreadable_line = refl
 
-pub bad_text_line : refusal_line BadText ≡ meant.told_refusal meant.BadText ++ codes "\n"
+pub bad_text_line : refusal_line BadText ≡ meant.told_refusal BadText ++ codes "\n"
 unfolding digits
 bad_text_line = refl
 
-pub stranger_line : refusal_line UnknownDepositor ≡ meant.told_refusal meant.UnknownDepositor ++ codes "\n"
+pub stranger_line : refusal_line UnknownDepositor ≡ meant.told_refusal UnknownDepositor ++ codes "\n"
 unfolding digits
 stranger_line = refl
 
-pub ticket_line : refusal_line TicketUsed ≡ meant.told_refusal meant.TicketUsed ++ codes "\n"
+pub ticket_line : refusal_line TicketUsed ≡ meant.told_refusal TicketUsed ++ codes "\n"
 unfolding digits
 ticket_line = refl
 
 -- any but these two are told of a deed as of an interchange
-pub deed_otherwise : (r : Refusal) (text : List ℕ) → r ≢ UnknownDepositor → r ≢ TicketUsed → refused_response (refusal_of r) text ≡ deed_refused (refusal_of r) text
+pub deed_otherwise : (r : Refusal) (text : List ℕ) → r ≢ UnknownDepositor → r ≢ TicketUsed → refused_response r text ≡ deed_refused r text
 deed_otherwise Unreadable text a b = refl
 deed_otherwise (Note code) text a b = refl
 deed_otherwise Duplicate text a b = refl
@@ -64,7 +62,7 @@ deed_otherwise AlreadyEnrolled text a b = refl
 
 -- any but these three are told by number and name
 pub refused_otherwise : (r : Refusal) (text : List ℕ) → r ≢ Unreadable → ((code : ℕ) → r ≢ Note code) → r ≢ Duplicate
-    → with_body 422 plain_type (refusal_line r) ≡ refused_response (refusal_of r) text
+    → with_body 422 plain_type (refusal_line r) ≡ refused_response r text
 unfolding digits
 refused_otherwise Unreadable text a b c = absurd (a refl)
 refused_otherwise (Note code) text a b c = absurd (b code refl)

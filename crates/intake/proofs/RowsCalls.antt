@@ -2,7 +2,7 @@
 use Rattle.std.specs.Prelude.{◌≡◌, ℕ, List, [], ◌++◌, Some, None, codes}
 use Rattle.std.proofs.Common.{refl}
 use Rattle.profile.specs.Clerk.{CountSheet, PickSheet, RecountSheet}
-use Rattle.profile.specs.Refusals.{UnknownDepositor, TicketUsed, UnknownAdvice, OrderClosed, NumbersUsedUp}
+use Rattle.profile.specs.declared.refusals.Refusal.TheVariants.{UnknownDepositor, TicketUsed, UnknownAdvice, OrderClosed, NumbersUsedUp}
 use Rattle.profile.specs.Reply.{Accepted, Stored, Refused}
 use Rattle.profile.specs.Moments.{Moment}
 use Rattle.profile.specs.Register.{Entry}

@@ -89,7 +89,8 @@ what_is_least : ((head_of least).method ≡ OtherMethod) × ((head_of least).is_
 unfolding httparse_on_literals lib.Utf8.encode
 what_is_least = (refl, refl, refl)
 
--- a length that is stated twice, once in small letters: both are read, and it is refused though they are equal
+-- a length that is stated twice, once in small letters: both are read, and it is refused though
+-- they are equal
 abbrev twice : RequestHead
 twice = got (field (codes "Content-Length") (codes " 3") ∷ field (codes "content-length") (codes "3") ∷ [])
 

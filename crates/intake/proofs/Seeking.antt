@@ -4,7 +4,8 @@ use Rattle.std.proofs.lemmas.Bool.Decides.{nat_tests}
 use Rattle.matchit.specs.Rows.{RowsOf, param_token, catch_all_token}
 use Rattle.matchit.specs.Seek.{own, step, or_else, seek, param_step, has_slash, with_suffix, longest_suffix, segment, same_text}
 
--- the pattern's bytes stand in the path as they are, and a parameter stands for some of the path's bytes
+-- the pattern's bytes stand in the path as they are, and a parameter stands for some of the path's
+-- bytes
 abbrev pub Fits : List ℕ → List ℕ → Type 0
 Fits [] path = Unit {0}
 Fits (x ∷ t) path = (x < 256 → (p : List ℕ) × (path ≡ x ∷ p) × Fits t p) × (x ≡ 256 → (k : ℕ) × Fits t (drop k path))

@@ -6,7 +6,7 @@ use Rattle.profile.specs.Accepted.{depositor_of, subject}
 use Rattle.profile.specs.Clerk.{SheetKind}
 use Rattle.profile.specs.Header.{Who}
 use Rattle.profile.specs.Means.{Line}
-use Rattle.profile.specs.Refusals.{Refusal}
+use Rattle.profile.specs.declared.refusals.Refusal.{Refusal}
 use Rattle.profile.specs.Register.{Command, Interchange, command_mark}
 use Rattle.profile.specs.Response.{Method, Get, Post, OtherMethod, is_exchange}
 use Rattle.sheet_texts.specs.Texts.{sheet_of_text}

@@ -3,11 +3,11 @@ use Rattle.std.proofs.Common.{◌≡◌, ℕ, zero, suc, ◌-◌, ◌<◌, List,
 use Rattle.std.proofs.lemmas.Bool.Decides.{nat_tests}
 use Rattle.matchit.specs.Seek.{has_slash, segment, slash}
 
-pub slash_behind : (k : ℕ) (p q : List ℕ) → drop k p ≡ slash ∷ q → has_slash p ≡ true
-slash_behind zero [] q e = cc
-slash_behind (suc k) [] q e = cc
-slash_behind zero (b ∷ p) q e = let is : b ≡ 47 = cc in rw is refl
-slash_behind (suc k) (b ∷ p) q e = by (b == slash) (slash_behind k p q e)
+pub slash_after : (k : ℕ) (p q : List ℕ) → drop k p ≡ slash ∷ q → has_slash p ≡ true
+slash_after zero [] q e = cc
+slash_after (suc k) [] q e = cc
+slash_after zero (b ∷ p) q e = let is : b ≡ 47 = cc in rw is refl
+slash_after (suc k) (b ∷ p) q e = by (b == slash) (slash_after k p q e)
   where
     by : (v : Bool) → has_slash p ≡ true → cond v true (has_slash p) ≡ true
     by true h = refl

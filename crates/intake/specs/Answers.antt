@@ -37,7 +37,12 @@ body_bytes (Fixed bytes) = bytes.now
 body_bytes (Owned bytes) = bytes.items
 
 abbrev pub seen : Answer → Response
-seen r = record { status = number r.status; kind = option_map type_name r.kind; allow = option_map method_name r.allow; body = body_bytes r.body }
+seen r = record {
+  status = number r.status;
+  kind = option_map type_name r.kind;
+  allow = option_map method_name r.allow;
+  body = body_bytes r.body;
+}
 
 -- the field of the type, and the name of the field of the length
 abbrev pub type_text : Option MediaType → List ℕ
@@ -58,7 +63,8 @@ allow_text (Some method) = header (codes "Allow") (method_name method)
 
 -- the parts of a response, with the digits of its status and of its length
 abbrev pub parts : Answer → List ℕ → List ℕ → List ℕ
-parts r code digits = codes "HTTP/1.1 " ++ (code ++ (codes " " ++ (phrase (number r.status) ++ (codes "\r\n"
+parts r code digits = codes "HTTP/1.1 "
+    ++ (code ++ (codes " " ++ (phrase (number r.status) ++ (codes "\r\n"
     ++ (type_text r.kind ++ (length_text r.kind digits ++ (type_end r.kind ++ (allow_text r.allow
     ++ (codes "Connection: close\r\n\r\n" ++ (body_bytes r.body ++ []))))))))))
 

@@ -11,7 +11,9 @@ use Rattle.profile.specs.Limits.{most_ticket, most_number}
 use Rattle.profile.specs.Means.{Line}
 use Rattle.profile.specs.Moments.{Moment}
 use Rattle.profile.specs.Readings.{parts_at}
-use Rattle.profile.specs.Refusals.{Refusal, UnknownDepositor, TicketUsed, BadText, told_refusal}
+use Rattle.profile.specs.Refusals.{told_refusal}
+use Rattle.profile.specs.declared.refusals.Refusal.{Refusal}
+use Rattle.profile.specs.declared.refusals.Refusal.TheVariants.{UnknownDepositor, TicketUsed, BadText}
 use Rattle.profile.specs.Register.{Act, Count, Pick, Recount, Command, Clerk, Entry, own}
 use Rattle.profile.specs.Reply.{Reply, Accepted, Stored, Refused}
 use Rattle.profile.specs.Reports.{pick_list, stock_csv}
@@ -25,7 +27,8 @@ use Rattle.store.specs.Open.{OpenWork, open_of, enrolled}
 
 -- what a path calls for, with its parts
 pub data Call : Type 0 where
-  -- /count/{who}/{ticket}/{shipment}, /pick/{who}/{ticket}/{order}, and /recount/{who}/{ticket}, which has no number
+  -- /count/{who}/{ticket}/{shipment}, /pick/{who}/{ticket}/{order}, and /recount/{who}/{ticket},
+  -- which has no number
   ToDeed : SheetKind → List ℕ → List ℕ → List ℕ → Call
   -- /orders/{who}/{order}
   ToOrder : List ℕ → List ℕ → Call
@@ -49,7 +52,8 @@ abbrev pub call_of_three : List ℕ → List ℕ → List ℕ → Option Call
 call_of_three name who last =
     if bytes_eq name (codes "recount") then Some (ToDeed RecountSheet who last [])
     else (if bytes_eq name (codes "orders") then Some (ToOrder who last)
-    else (if bytes_eq name (codes "stock") && bytes_eq last (codes "csv") then Some (ToExport who) else None))
+    else (if bytes_eq name (codes "stock") && bytes_eq last (codes "csv") then Some (ToExport who)
+    else None))
 
 -- of four
 abbrev pub call_of_four : List ℕ → List ℕ → List ℕ → List ℕ → Option Call
@@ -92,20 +96,25 @@ is_named kind number = is_identifier 1 most_number number
 
 -- the depositor that the parts of a deed's path name; none where one of the parts can't be read
 abbrev pub depositor_of : SheetKind → List ℕ → List ℕ → List ℕ → Option Who
-depositor_of kind who ticket number = if is_identifier 1 most_ticket ticket && is_named kind number then who_of who else None
+depositor_of kind who ticket number =
+    if is_identifier 1 most_ticket ticket && is_named kind number then who_of who else None
 
-abbrev pub with_sheet : SheetKind → Who → List ℕ → List ℕ → Result (List Line) Refusal → Result Command Response
+abbrev pub with_sheet : SheetKind → Who → List ℕ → List ℕ → Result (List Line) Refusal
+    → Result Command Response
 with_sheet kind w ticket number (Ok sheet) = Ok (Clerk w ticket (act_of kind number sheet))
 with_sheet kind w ticket number (Err r) = Err (refused_response r [])
 
-abbrev pub by_depositor : SheetKind → Option Who → List ℕ → List ℕ → List ℕ → Result Command Response
+abbrev pub by_depositor : SheetKind → Option Who → List ℕ → List ℕ → List ℕ
+    → Result Command Response
 by_depositor kind None ticket number body = Err (line_response 404 BadText)
-by_depositor kind (Some w) ticket number body = with_sheet kind w ticket number (sheet_of_text Two kind body)
+by_depositor kind (Some w) ticket number body =
+    with_sheet kind w ticket number (sheet_of_text Two kind body)
 
--- the command of a deed, its sheet being the body; or the response of the first test that fails: a part of the path that can't
--- be read, and what keeps the text from being a sheet
+-- the command of a deed, its sheet being the body; or the response of the first test that fails: a
+-- part of the path that can't be read, and what keeps the text from being a sheet
 abbrev pub deed_of : SheetKind → List ℕ → List ℕ → List ℕ → List ℕ → Result Command Response
-deed_of kind who ticket number body = by_depositor kind (depositor_of kind who ticket number) ticket number body
+deed_of kind who ticket number body =
+    by_depositor kind (depositor_of kind who ticket number) ticket number body
 
 -- a stranger is 404, a ticket of another deed 409, and any other refusal as that of an interchange
 abbrev pub deed_refused : Refusal → List ℕ → Response
@@ -170,14 +179,18 @@ is_deed method call = false
 
 -- the command that is submitted, if one is
 abbrev pub call_command : Method → Call → List ℕ → Option Command
-call_command Post (ToDeed kind who ticket number) body = deed_command (deed_of kind who ticket number body)
+call_command Post (ToDeed kind who ticket number) body =
+    deed_command (deed_of kind who ticket number body)
 call_command method call body = None
 
--- the response to a request whose head is good, by its method, what its path calls for, and its body
+-- the response to a request whose head is good, by its method, what its path calls for, and its
+-- body
 abbrev pub call_resp : Who → List Entry → Method → Call → List ℕ → Moment → Response
-call_resp W L Post (ToDeed kind who ticket number) body t = deed_response W L t (deed_of kind who ticket number body)
+call_resp W L Post (ToDeed kind who ticket number) body t =
+    deed_response W L t (deed_of kind who ticket number body)
 call_resp W L Get (ToOrder who number) body t = order_response L (owner_of who number) number
-call_resp W L Get (ToExport who) body t = found_for who (stock_of L) (λ rows. with_body 200 plain_type (stock_csv Two rows))
+call_resp W L Get (ToExport who) body t =
+    found_for who (stock_of L) (λ rows. with_body 200 plain_type (stock_csv Two rows))
 call_resp W L Get (ToOpen who) body t = open_response L (who_of who)
 call_resp W L Get ToDepositors body t = depositors_response L
 call_resp W L method (ToDeed kind who ticket number) body t = not_allowed (codes "POST")

@@ -3,7 +3,7 @@ use Rattle.std.specs.Prelude.{◌≡◌, ◌⊎◌, ℕ, List, Option, None, Err
 use Rattle.std.specs.List.{FoldsTo}
 use Rattle.profile.specs.Moments.{Moment}
 use Rattle.store.specs.Standing.{Standing, IsUnchanged}
-use Rattle.store.specs.declared.fault.Fault.TheVariants.{Device}
+use Rattle.store.specs.Fault.TheVariants.{Device}
 use Rattle.intake.specs.Serving.{IsWritten, IsUnread, IsUnwritten}
 use Rattle.intake.specs.declared.audience.Audience.{Audience}
 use Rattle.intake.specs.declared.served.Connection.{Connection}
@@ -15,18 +15,21 @@ IsOutcome c = IfErr c.served.outcome (λ fault. fault ≡ Device)
 abbrev pub moment_of : Connection → Moment
 moment_of c = c.moment
 
--- A connection that was accepted: there is what its peer sent and what was written to it, where these are known, and how often a
--- read and a write of it failed, of which its outcome, its line, its sender and its bytes tell. Where a status is told, the response to what
--- the peer sent was written, at the connection's moment, and it left the book so. Else the reader failed, and the book is as it was; or the
--- writer did, and the book is as the request left it.
+-- A connection that was accepted: there is what its peer sent and what was written to it, where
+-- these are known, and how often a read and a write of it failed, of which its outcome, its line,
+-- its sender and its bytes tell. Where a status is told, the response to what the peer sent was
+-- written, at the connection's moment, and it left the book so. Else the reader failed, and the
+-- book is as it was; or the writer did, and the book is as the request left it.
 pub record IsServedOn (audience : Audience) (old new : Standing) (c : Connection) : Type 0 where
   pub known : Option (List ℕ)
   pub before : Option (List ℕ)
   pub later : Option (List ℕ)
   pub reads : ℕ × ℕ
   pub writes : ℕ × ℕ
-  pub written : IfOk c.served.outcome (λ status. IsWritten audience old new known c.moment before later status c.served.line c.served.sender c.served.bytes)
-  pub stopped : OnErr c.served.outcome (IsUnread old new known before later reads.0 reads.1 c.served.line c.served.sender c.served.bytes
+  pub written : IfOk c.served.outcome
+      (λ status. IsWritten audience old new known c.moment before later status c.served.line c.served.sender c.served.bytes)
+  pub stopped : OnErr c.served.outcome
+      (IsUnread old new known before later reads.0 reads.1 c.served.line c.served.sender c.served.bytes
       ⊎ IsUnwritten audience old new known c.moment before later writes.0 writes.1 c.served.line c.served.sender c.served.bytes)
 
 -- A connection that couldn't be accepted: nothing of it is known.
@@ -37,13 +40,17 @@ pub record IsNotAccepted (c : Connection) : Type 0 where
   pub bytes : c.served.bytes ≡ 0
   pub millis : c.millis ≡ None
 
--- what became of a connection, by whether it has a peer, and of the book meanwhile, which is as it was where it has none
+-- what became of a connection, by whether it has a peer, and of the book meanwhile, which is as it
+-- was where it has none
 abbrev pub IsConnection : Audience → Standing → Standing → Connection → Type 0
-IsConnection audience old new c = MatchOption c.peer (IsUnchanged old new × IsNotAccepted c) (λ peer. IsServedOn audience old new c)
+IsConnection audience old new c =
+    MatchOption c.peer (IsUnchanged old new
+    × IsNotAccepted c) (λ peer. IsServedOn audience old new c)
 
--- A clock was asked so often, and as many connections were handed to a closure, one after the other, each with the moment that the
--- clock gave for it. This took the clock and the closure from one state to another. The same connections, one after the other, took the
--- book from one state to another, each as `serves` says.
+-- A clock was asked so often, and as many connections were handed to a closure, one after the
+-- other, each with the moment that the clock gave for it. This took the clock and the closure from
+-- one state to another. The same connections, one after the other, took the book from one state to
+-- another, each as `serves` says.
 pub record HasTold {K C T : Type 0} (serves : K → Connection → K → Type 0) (gives : C → Moment → C → Type 0) (takes : T → Connection → T → Type 0) (book left : K) (clock after : C) (told last : T) (count : ℕ) : Type 0 where
   pub connections : List Connection
   pub served : FoldsTo serves book connections left

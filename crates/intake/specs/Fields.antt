@@ -21,10 +21,13 @@ has_field name (field ∷ fields) = is_named name field || has_field name fields
 -- the values of the fields of this name
 abbrev pub values : List ℕ → List (List ℕ × List ℕ) → List (List ℕ)
 values name [] = []
-values name (field ∷ fields) = if is_named name field then field.1 ∷ values name fields else values name fields
+values name (field ∷ fields) =
+    if is_named name field then field.1 ∷ values name fields else values name fields
 
 abbrev pub method_of : List ℕ → Method
-method_of name = if bytes_eq name (codes "GET") then Get else (if bytes_eq name (codes "POST") then Post else OtherMethod)
+method_of name =
+    if bytes_eq name (codes "GET") then Get
+    else (if bytes_eq name (codes "POST") then Post else OtherMethod)
 
 abbrev pub seen_method : MethodKind → Method
 seen_method kinds.Get = Get
@@ -46,4 +49,5 @@ head_of h =
 abbrev pub IsValues : Values → List (List ℕ) → Type 0
 IsValues Absent texts = texts ≡ []
 IsValues (Single text) texts = texts ≡ text.now ∷ []
-IsValues Several texts = (first : List ℕ) × (second : List ℕ) × (more : List (List ℕ)) × (texts ≡ first ∷ second ∷ more)
+IsValues Several texts = (first : List ℕ) × (second : List ℕ) × (more : List (List ℕ))
+    × (texts ≡ first ∷ second ∷ more)

@@ -4,7 +4,6 @@ pub mod Routes
 pub mod Requests
 pub mod Fields
 pub mod Lines
-pub mod Told
 pub mod Calls
 pub mod Targets
 pub mod Slips

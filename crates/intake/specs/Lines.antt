@@ -1,4 +1,5 @@
--- What is told of a request: its method and its path, as they stand in its head, and who sent the interchange that it handed in.
+-- What is told of a request: its method and its path, as they stand in its head, and who sent the
+-- interchange that it handed in.
 use Rattle.std.specs.Prelude.{◌≡◌, ◌⊎◌, ℕ, List, Option, Some, None, IfSome, codes, string_bytes}
 use Rattle.httparse.specs.Grammar.{RequestHead}
 use Rattle.httparse.specs.Spans.{span_bytes}
@@ -7,14 +8,14 @@ use Rattle.profile.specs.Accepted.{depositor_of}
 use Rattle.profile.specs.Header.{Who, who_text}
 use Rattle.profile.specs.Register.{Command, Interchange}
 use Rattle.profile.specs.Response.{Response, fault_response}
-use Rattle.store.specs.Faults.{fault_of}
-use Rattle.store.specs.declared.fault.Fault.TheVariants.{OutOfMemory}
+use Rattle.store.specs.Fault.TheVariants.{OutOfMemory}
 use Rattle.intake.specs.Requests.{HasHead, IsInput}
 use Rattle.intake.specs.declared.served.RequestLine.{RequestLine}
 
 -- those that these spans cover
 abbrev pub IsLineAt : List ℕ → RequestSpans → RequestLine → Type 0
-IsLineAt buf spans line = (string_bytes line.method ≡ span_bytes buf spans.method) × (string_bytes line.path ≡ span_bytes buf spans.path)
+IsLineAt buf spans line = (string_bytes line.method ≡ span_bytes buf spans.method)
+    × (string_bytes line.path ≡ span_bytes buf spans.path)
 
 -- those of this head
 abbrev pub IsLineOf : RequestHead → RequestLine → Type 0
@@ -33,15 +34,16 @@ pub record HasLine (known : Option (List ℕ)) (line : RequestLine) : Type 0 whe
   pub begins : HasHead input head rest
   pub told : IsLineOf head line
 
--- the depositor that an interchange names, its sender: none where it is unreadable, or ISA05 and ISA06 can be no partner; any other
--- command isn't sent
+-- the depositor that an interchange names, its sender: none where it is unreadable, or ISA05 and
+-- ISA06 can be no partner; any other command isn't sent
 abbrev pub sender_in : Option Command → Option Who
 sender_in (Some (Interchange text)) = depositor_of (Interchange text)
 sender_in submits = None
 
 -- what is told is the sender of what was submitted; nobody is where there was no memory to read it
 abbrev pub TellsSender : Option Who → Option Command → Response → Type 0
-TellsSender sender submits r = (sender ≡ sender_in submits) ⊎ ((sender ≡ None) × (r ≡ fault_response (fault_of OutOfMemory)))
+TellsSender sender submits r = (sender ≡ sender_in submits)
+    ⊎ ((sender ≡ None) × (r ≡ fault_response OutOfMemory))
 
 -- as a line tells it: `QQ-ID`, or `-`
 abbrev pub sender_text : Option Who → List ℕ

@@ -7,9 +7,8 @@ use Rattle.profile.specs.Header.{Who}
 use Rattle.profile.specs.Register.{Command, Entry, Interchange}
 use Rattle.profile.specs.Accepted.{IsLegal, is_accepted, reply_to, after}
 use Rattle.profile.specs.Response.{Response, fault_response, response_to, submitted, response_bytes}
-use Rattle.store.specs.Faults.{fault_of}
 use Rattle.store.specs.Standing.{Standing, IsUsable, IsUnchanged, IsFault, LeavesEither}
-use Rattle.store.specs.declared.fault.Fault.{Fault}
+use Rattle.store.specs.Fault.{Fault}
 use Rattle.std.specs.Io.KnownBytes.{Appends}
 use Rattle.intake.specs.Gauges.{Grew, AppendsBeginning}
 use Rattle.intake.specs.Asking.{asks_in, IsShutAnswer}
@@ -22,15 +21,18 @@ use Rattle.intake.specs.declared.audience.Audience.{Audience}
 use Rattle.intake.specs.declared.audience.Audience.TheVariants.{Partners, Clerks}
 use Rattle.intake.specs.declared.served.RequestLine.{RequestLine}
 
--- What is asked for: by partners an interchange or a route, as ever; by clerks the same, but where a path calls for something.
+-- What is asked for: by partners an interchange or a route, as ever; by clerks the same, but where
+-- a path calls for something.
 
 abbrev pub call_submitted : Option Call → RequestHead → List ℕ → Option Command
 call_submitted None h rest = option_map Interchange (submitted (Some (head_of h)) rest)
-call_submitted (Some call) h rest = command_with (head_of h).method (ToCall call) (asked_with (head_of h) (ToCall call) rest)
+call_submitted (Some call) h rest =
+    command_with (head_of h).method (ToCall call) (asked_with (head_of h) (ToCall call) rest)
 
 abbrev pub call_answer : Option Call → Who → List Entry → RequestHead → List ℕ → Moment → Response
 call_answer None W L h rest t = response_to Two W L (Some (head_of h)) rest t
-call_answer (Some call) W L h rest t = response_with W L (head_of h).method (ToCall call) t (asked_with (head_of h) (ToCall call) rest)
+call_answer (Some call) W L h rest t =
+    response_with W L (head_of h).method (ToCall call) t (asked_with (head_of h) (ToCall call) rest)
 
 -- the command that a request submits, by its head, if that is good, and the bytes after it
 abbrev pub command_in : Audience → Option RequestHead → List ℕ → Option Command
@@ -44,37 +46,42 @@ answer_of Partners W L head rest t = response_to Two W L (option_map head_of hea
 answer_of Clerks W L None rest t = response_to Two W L None rest t
 answer_of Clerks W L (Some h) rest t = call_answer (call_of h.target) W L h rest t
 
--- The response of the definitions, over a register that the book keeps. The book is left as the command that was submitted
--- leaves it; where none was, or it isn't accepted now, the book is as it was.
+-- The response of the definitions, over a register that the book keeps. The book is left as the
+-- command that was submitted leaves it; where none was, or it isn't accepted now, the book is as it
+-- was.
 pub record IsServed (old new : Standing) (t : Moment) (submits : Option Command) (meant : List Entry → Response) (r : Response) : Type 0 where
-  pub response : new.doubt ≡ 0 → (L : List Entry) → old.keeps L → IsLegal Two old.warehouse L → r ≡ meant L
+  pub response : new.doubt ≡ 0 → (L : List Entry) → old.keeps L → IsLegal Two old.warehouse L
+      → r ≡ meant L
   pub kept : submits ≡ None → IsUnchanged old new
   pub taken : (c : Command) → submits ≡ Some c → new.doubt ≡ 0 → (L : List Entry) → IsUsable old L
       → IsUsable new (after Two old.warehouse L (c, t))
-  pub repeated : (c : Command) → submits ≡ Some c → new.doubt ≡ 0 → (L : List Entry) → old.keeps L → IsLegal Two old.warehouse L
+  pub repeated : (c : Command) → submits ≡ Some c → new.doubt ≡ 0 → (L : List Entry) → old.keeps L
+      → IsLegal Two old.warehouse L
       → is_accepted (reply_to Two old.warehouse L c t) ≡ false → IsUnchanged old new
   pub opened : (c : Command) → submits ≡ Some c → new.shut ≡ false
 
--- The 503 of a fault that happened. The book is as it was, or it has to be opened again; then a crash leaves the register as it
--- was, or with the entry of the command that was submitted.
+-- The 503 of a fault that happened. The book is as it was, or it has to be opened again; then a
+-- crash leaves the register as it was, or with the entry of the command that was submitted.
 pub record IsFaulted (old new : Standing) (t : Moment) (submits : Option Command) (r : Response) : Type 0 where
   pub fault : Fault
-  pub response : r ≡ fault_response (fault_of fault)
+  pub response : r ≡ fault_response fault
   pub why : IsFault fault old new
   pub kept : submits ≡ None → IsUnchanged old new
   pub left : (c : Command) → submits ≡ Some c → new.doubt ≡ 0 → (L : List Entry) → IsUsable old L
       → LeavesEither new L (after Two old.warehouse L (c, t))
 
-abbrev pub IsAnswered : Standing → Standing → Moment → Option Command → (List Entry → Response) → Response → Type 0
-IsAnswered old new t submits meant r = IsServed old new t submits meant r ⊎ IsFaulted old new t submits r
+abbrev pub IsAnswered : Standing → Standing → Moment → Option Command → (List Entry → Response)
+    → Response → Type 0
+IsAnswered old new t submits meant r = IsServed old new t submits meant r
+    ⊎ IsFaulted old new t submits r
 
 -- what an input begins with: a head, and what is after it; or none
 abbrev pub BeginsWith : List ℕ → Option RequestHead → List ℕ → Type 0
 BeginsWith input None rest = HasNoHead input
 BeginsWith input (Some h) rest = HasHead input h rest
 
--- the response to what a reader has, with what became of the book, and what is told of the head and of the sender; a book that has
--- to be opened again answers as `IsShutAnswer` says
+-- the response to what a reader has, with what became of the book, and what is told of the head and
+-- of the sender; a book that has to be opened again answers as `IsShutAnswer` says
 pub record IsExchange (audience : Audience) (old new : Standing) (known : Option (List ℕ)) (t : Moment) (r : Response) (line : Option RequestLine) (sender : Option Who) : Type 0 where
   pub input : List ℕ
   pub is_input : IsInput known input
@@ -83,7 +90,8 @@ pub record IsExchange (audience : Audience) (old new : Standing) (known : Option
   pub begins : BeginsWith input head rest
   pub told : TellsOf line head
   pub sent : TellsSender sender (command_in audience head rest) r
-  pub answered : IsAnswered old new t (command_in audience head rest) (λ L. answer_of audience old.warehouse L head rest t) r
+  pub answered : IsAnswered old new t (command_in audience head rest)
+      (λ L. answer_of audience old.warehouse L head rest t) r
   pub shut : IsShutAnswer old (asks_in audience head rest) r
 
 -- the same of a request whose head was read, with the first bytes of what is after it
@@ -91,11 +99,12 @@ pub record IsExchangeBehind (audience : Audience) (old new : Standing) (known : 
   pub input : List ℕ
   pub is_input : IsInput known input
   pub sent : TellsSender sender (command_in audience (Some h) (start ++ input)) r
-  pub answered : IsAnswered old new t (command_in audience (Some h) (start ++ input)) (λ L. answer_of audience old.warehouse L (Some h) (start ++ input) t) r
+  pub answered : IsAnswered old new t (command_in audience (Some h) (start ++ input))
+      (λ L. answer_of audience old.warehouse L (Some h) (start ++ input) t) r
   pub shut : IsShutAnswer old (asks_in audience (Some h) (start ++ input)) r
 
--- A response was written: it was that to what the reader had. What is told is its status, the line of the request, who sent the
--- interchange that was handed in, and how many bytes the response has.
+-- A response was written: it was that to what the reader had. What is told is its status, the line
+-- of the request, who sent the interchange that was handed in, and how many bytes the response has.
 pub record IsWritten (audience : Audience) (old new : Standing) (known : Option (List ℕ)) (t : Moment) (before later : Option (List ℕ)) (status : ℕ) (line : Option RequestLine) (sender : Option Who) (bytes : ℕ) : Type 0 where
   pub response : Response
   pub exchange : IsExchange audience old new known t response line sender
@@ -103,7 +112,8 @@ pub record IsWritten (audience : Audience) (old new : Standing) (known : Option 
   pub whole : Appends before later (response_bytes response)
   pub counted : bytes ≡ length (response_bytes response)
 
--- The reader failed: nothing was handed in or written, and the book is as it was. The line is told where the head was read.
+-- The reader failed: nothing was handed in or written, and the book is as it was. The line is told
+-- where the head was read.
 pub record IsUnread (old new : Standing) (known before later : Option (List ℕ)) (errors more : ℕ) (line : Option RequestLine) (sender : Option Who) (bytes : ℕ) : Type 0 where
   pub book : IsUnchanged old new
   pub nothing : later ≡ before
@@ -112,7 +122,8 @@ pub record IsUnread (old new : Standing) (known before later : Option (List ℕ)
   pub sent : sender ≡ None
   pub counted : bytes ≡ 0
 
--- The writer failed: a beginning of the response was written, of so many bytes, and the book is as the request left it.
+-- The writer failed: a beginning of the response was written, of so many bytes, and the book is as
+-- the request left it.
 pub record IsUnwritten (audience : Audience) (old new : Standing) (known : Option (List ℕ)) (t : Moment) (before later : Option (List ℕ)) (errors more : ℕ) (line : Option RequestLine) (sender : Option Who) (bytes : ℕ) : Type 0 where
   pub response : Response
   pub exchange : IsExchange audience old new known t response line sender

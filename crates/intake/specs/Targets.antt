@@ -56,15 +56,19 @@ abbrev pub target_resp : Who → List Entry → Method → Target → List ℕ �
 target_resp W L method (ToRoute route) body t = resp Two W L method route body t
 target_resp W L method (ToCall call) body t = call_resp W L method call body t
 
--- the body that is asked with, none where there needn't be one; or the status of the first test that fails
+-- the body that is asked with, none where there needn't be one; or the status of the first test
+-- that fails
 abbrev pub asked_with : Head → Target → List ℕ → Result (List ℕ) ℕ
-asked_with h to rest = if h.is_encoded then Err 501 else (if has_body h.method to then body_after h.lengths rest else Ok [])
+asked_with h to rest =
+    if h.is_encoded then Err 501
+    else (if has_body h.method to then body_after h.lengths rest else Ok [])
 
 abbrev pub command_with : Method → Target → Result (List ℕ) ℕ → Option Command
 command_with method to (Err status) = None
 command_with method to (Ok body) = target_command method to body
 
-abbrev pub response_with : Who → List Entry → Method → Target → Moment → Result (List ℕ) ℕ → Response
+abbrev pub response_with : Who → List Entry → Method → Target → Moment → Result (List ℕ) ℕ
+    → Response
 response_with W L method to t (Err status) = bare status
 response_with W L method to t (Ok body) = target_resp W L method to body t
 

@@ -45,9 +45,11 @@ fn deed_at<K: Keeper>(
 ) -> Response
     ensures answered { IsAnswered (K.standing keeper.old) (K.standing keeper.new) moment
         (call_command Post (seen_deed deed.now) body.now)
-        (λ L. call_resp (K.standing keeper.old).warehouse L Post (seen_deed deed.now) body.now moment) (seen result) }
+        (λ L. call_resp (K.standing keeper.old).warehouse L Post (seen_deed deed.now) body.now
+        moment) (seen result) }
     ensures goes { GoesOn (K.standing keeper.old) (K.standing keeper.new) }
-    ensures shut { IsShutAnswer (K.standing keeper.old) (call_asks Post (seen_deed deed.now) body.now) (seen result) }
+    ensures shut { IsShutAnswer (K.standing keeper.old)
+        (call_asks Post (seen_deed deed.now) body.now) (seen result) }
 {
     let Ok(made) = slip_of(alloc, deed, body) else {
         return of_fault(Fault::OutOfMemory);
@@ -68,9 +70,11 @@ fn posted_to<K: Keeper>(
 ) -> Response
     ensures answered { IsAnswered (K.standing keeper.old) (K.standing keeper.new) moment
         (call_command Post (seen_call call.now) body.now)
-        (λ L. call_resp (K.standing keeper.old).warehouse L Post (seen_call call.now) body.now moment) (seen result) }
+        (λ L. call_resp (K.standing keeper.old).warehouse L Post (seen_call call.now) body.now
+        moment) (seen result) }
     ensures goes { GoesOn (K.standing keeper.old) (K.standing keeper.new) }
-    ensures shut { IsShutAnswer (K.standing keeper.old) (call_asks Post (seen_call call.now) body.now) (seen result) }
+    ensures shut { IsShutAnswer (K.standing keeper.old)
+        (call_asks Post (seen_call call.now) body.now) (seen result) }
 {
     match *call {
         Call::Deed(deed) => deed_at(alloc, keeper, &deed, body, moment),
@@ -88,9 +92,11 @@ fn got_from<K: Keeper>(
 ) -> Response
     ensures answered { IsAnswered (K.standing keeper.old) (K.standing keeper.new) moment
         (call_command Get (seen_call call.now) body.now)
-        (λ L. call_resp (K.standing keeper.old).warehouse L Get (seen_call call.now) body.now moment) (seen result) }
+        (λ L. call_resp (K.standing keeper.old).warehouse L Get (seen_call call.now) body.now
+        moment) (seen result) }
     ensures goes { GoesOn (K.standing keeper.old) (K.standing keeper.new) }
-    ensures shut { IsShutAnswer (K.standing keeper.old) (call_asks Get (seen_call call.now) body.now) (seen result) }
+    ensures shut { IsShutAnswer (K.standing keeper.old)
+        (call_asks Get (seen_call call.now) body.now) (seen result) }
 {
     match looked_at(alloc, keeper, call) {
         Ok(response) => response,
@@ -110,7 +116,8 @@ pub(crate) fn called<K: Keeper>(
 ) -> Response
     ensures answered { IsAnswered (K.standing keeper.old) (K.standing keeper.new) moment
         (call_command (seen_method method) (seen_call call.now) body.now)
-        (λ L. call_resp (K.standing keeper.old).warehouse L (seen_method method) (seen_call call.now) body.now moment)
+        (λ L. call_resp (K.standing keeper.old).warehouse L (seen_method method)
+        (seen_call call.now) body.now moment)
         (seen result) }
     ensures goes { GoesOn (K.standing keeper.old) (K.standing keeper.new) }
     ensures shut { IsShutAnswer (K.standing keeper.old)

@@ -44,7 +44,8 @@ impl<R: Read> Read for Gauge<R> {
 
     fn read(&mut self, buf: &mut [u8]) -> io::Result<usize>
         ensures bound { ReadsAtMost result buf.new }
-        ensures bytes { ReadConsumes (R.remaining self.old.inner) (R.remaining self.new.inner) result buf.new }
+        ensures bytes { ReadConsumes (R.remaining self.old.inner) (R.remaining self.new.inner)
+            result buf.new }
         ensures count { CountsError result self.old.errors self.new.errors }
     {
         let outcome = self.inner.read(buf);
@@ -60,7 +61,8 @@ impl<W: Write> Write for Gauge<W> {
 
     fn write(&mut self, buf: &[u8]) -> io::Result<usize>
         ensures bound { WritesAtMost result buf.now }
-        ensures bytes { WriteAppends (W.contents self.old.inner) (W.contents self.new.inner) result buf.now }
+        ensures bytes { WriteAppends (W.contents self.old.inner) (W.contents self.new.inner) result
+            buf.now }
         ensures count { CountsWrite result self.old.errors self.new.errors }
     {
         let outcome = self.inner.write(buf);

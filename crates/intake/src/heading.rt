@@ -87,7 +87,9 @@ pub(crate) fn values_of<'b>(buf: &'b [u8], fields: &[HeaderSpan], name: &[u8]) -
 
 // The length that digits state, or the status that refuses it.
 fn length_value(text: &[u8]) -> Result<usize, Status>
-    ensures { MatchResult result (λ n. stated_length (text.now ∷ []) ≡ Ok n) (λ status. stated_length (text.now ∷ []) ≡ Err (number status)) }
+    ensures { MatchResult result
+        (λ n. stated_length (text.now ∷ []) ≡ Ok n)
+        (λ status. stated_length (text.now ∷ []) ≡ Err (number status)) }
 {
     if text.is_empty() || !all_digits(text) {
         return Err(Status::BadRequest);
@@ -103,7 +105,8 @@ fn length_value(text: &[u8]) -> Result<usize, Status>
 /// The length of a body that these values of Content-Length state, or the status that refuses them:
 /// 411 for none, 400 for more than one or no digits, 413 for too much.
 pub(crate) fn length_of(values: &Values<'_>) -> Result<usize, Status>
-    ensures { (texts : List (List ℕ)) → IsValues values.now texts → MatchResult result (λ n. stated_length texts ≡ Ok n) (λ status. stated_length texts ≡ Err (number status)) }
+    ensures { (texts : List (List ℕ)) → IsValues values.now texts → MatchResult result
+        (λ n. stated_length texts ≡ Ok n) (λ status. stated_length texts ≡ Err (number status)) }
 {
     match values {
         Values::Absent => Err(Status::LengthRequired),

@@ -15,7 +15,8 @@ ghost use Rattle.intake.specs.declared.audience.Audience.TheVariants.{Partners, 
 /// An input asks for one thing: no two readings of its beginning differ in what they ask for, and
 /// so in the response or in the interchange that is handed in.
 pub fn an_input_asks_for_one_thing()
-    ensures { (input : List ℕ) (g h : Option RequestHead) (r s : List ℕ) → BeginsWith input g r → BeginsWith input h s
+    ensures { (input : List ℕ) (g h : Option RequestHead) (r s : List ℕ) → BeginsWith input g r
+        → BeginsWith input h s
         → asked (option_map head_of g) r ≡ asked (option_map head_of h) s }
 {}
 
@@ -23,7 +24,8 @@ pub fn an_input_asks_for_one_thing()
 /// command that is submitted, nor in the response.
 pub fn an_input_has_one_answer()
     ensures commands { (audience : Audience) (input : List ℕ) (g h : Option RequestHead) (r s : List ℕ)
-        → BeginsWith input g r → BeginsWith input h s → command_in audience g r ≡ command_in audience h s }
+        → BeginsWith input g r → BeginsWith input h s
+        → command_in audience g r ≡ command_in audience h s }
     ensures answers { (audience : Audience) (W : Who) (L : List Entry) (t : Moment) (input : List ℕ)
         (g h : Option RequestHead) (r s : List ℕ) → BeginsWith input g r → BeginsWith input h s
         → answer_of audience W L g r t ≡ answer_of audience W L h s t }

@@ -4,7 +4,7 @@ ghost use Rattle.std.specs.Prelude.{◌≡◌, ◌⊎◌, ℕ, List, Result, tru
 ghost use Rattle.profile.specs.declared.rules.Rules.TheVariants.{Two};
 ghost use Rattle.profile.specs.Header.{Who as Partner, who_of};
 ghost use Rattle.profile.specs.Moments.{Moment as Minute};
-ghost use Rattle.profile.specs.Refusals.{Refusal as Meant};
+ghost use Rattle.profile.specs.declared.refusals.Refusal.{Refusal as Meant};
 ghost use Rattle.profile.specs.Register.{Entry};
 ghost use Rattle.profile.specs.Reports as reports;
 ghost use Rattle.profile.specs.Response.{Get, OtherMethod, found_for, with_body, plain_type};
@@ -52,7 +52,9 @@ fn owner(who: &[u8], number: &[u8]) -> Option<Who>
 
 // Why there is no picking sheet, as a response.
 fn no_sheet(alloc: Global, why: NoSheet) -> Result<Response, Fault>
-    ensures told { IfOk result (λ r. (answer : Result (List ℕ) Meant) → Explains answer why → seen r ≡ sheet_response answer) }
+    ensures told { IfOk result
+        (λ r. (answer : Result (List ℕ) Meant) → Explains answer why
+        → seen r ≡ sheet_response answer) }
     ensures starved { IfErr result (λ fault. fault ≡ Fault.OutOfMemory) }
 {
     match why {
@@ -72,7 +74,8 @@ fn order_at<K: Keeper>(
     ensures response { OfKept (K.standing keeper.old) (K.standing keeper.new)
         (λ L. IfOk result (λ r. seen r ≡ order_response L (owner_of who.now number.now) number.now)) }
     ensures query { IsQuery (K.standing keeper.old) (K.standing keeper.new) result }
-    ensures shut { (K.standing keeper.old).shut ≡ true → is_some (owner_of who.now number.now) ≡ true
+    ensures shut { (K.standing keeper.old).shut ≡ true
+        → is_some (owner_of who.now number.now) ≡ true
         → IsErrOf result Fault.Reopen ⊎ IsErrOf result Fault.OutOfMemory }
 {
     let Some(who) = owner(who, number) else {

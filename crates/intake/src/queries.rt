@@ -83,7 +83,8 @@ fn content_at<K: Keeper>(keeper: &mut K, who: &str, n: &str) -> Result<Response,
         (λ L. IfOk result (λ r. seen r ≡ found_for who.now (outbox_of (K.standing keeper.old).warehouse L)
         (content_response n.now))) }
     ensures query { IsQuery (K.standing keeper.old) (K.standing keeper.new) result }
-    ensures shut { (K.standing keeper.old).shut ≡ true → (is_some (who_of who.now) && is_plain_number n.now) ≡ true
+    ensures shut { (K.standing keeper.old).shut ≡ true
+        → (is_some (who_of who.now) && is_plain_number n.now) ≡ true
         → IsErrOf result Fault.Reopen }
 {
     let Some(who) = Who::new(who.as_bytes()) else {
@@ -106,7 +107,8 @@ pub(crate) fn got<K: Keeper>(
         (λ L. (body : List ℕ) (t : Minute) → IfOk result (λ r. seen r ≡ resp Two
         (K.standing keeper.old).warehouse L Get (seen_route route.now) body t)) }
     ensures query { IsQuery (K.standing keeper.old) (K.standing keeper.new) result }
-    ensures shut { (K.standing keeper.old).shut ≡ true → route_asks Get (seen_route route.now) ≡ true
+    ensures shut { (K.standing keeper.old).shut ≡ true
+        → route_asks Get (seen_route route.now) ≡ true
         → IsErrOf result Fault.Reopen }
 {
     match *route {

@@ -25,7 +25,9 @@ fn read_more<R: Read>(reader: &mut Gauge<R>, buf: &mut [u8], filled: usize) -> R
     requires { filled < length buf.old }
     ensures within { IfOk result (λ n. filled + n ≤ length buf.new) }
     ensures before { take filled buf.new ≡ take filled buf.old }
-    ensures bytes { IfOk result (λ n. Consumes (R.remaining reader.old.inner) (R.remaining reader.new.inner) (take n (drop filled buf.new))) }
+    ensures bytes { IfOk result
+        (λ n. Consumes (R.remaining reader.old.inner) (R.remaining reader.new.inner)
+        (take n (drop filled buf.new))) }
     ensures end { IfOk result (λ n. n ≡ 0 → IsAtEnd (R.remaining reader.new.inner)) }
     ensures count { OnErr result (Grew reader.old.errors reader.new.errors) }
     ensures quiet { OnOk result (reader.new.errors ≡ reader.old.errors) }
@@ -40,7 +42,8 @@ fn read_more<R: Read>(reader: &mut Gauge<R>, buf: &mut [u8], filled: usize) -> R
 // read.
 fn fill<R: Read>(reader: &mut Gauge<R>, buf: &mut [u8]) -> Result<usize, Unread>
     ensures within { IfOk result (λ n. n ≤ length buf.new) }
-    ensures bytes { IfOk result (λ n. Consumes (R.remaining reader.old.inner) (R.remaining reader.new.inner) (take n buf.new)) }
+    ensures bytes { IfOk result
+        (λ n. Consumes (R.remaining reader.old.inner) (R.remaining reader.new.inner) (take n buf.new)) }
     ensures end { IfOk result (λ n. n < length buf.new → IsAtEnd (R.remaining reader.new.inner)) }
     ensures count { OnErr result (Grew reader.old.errors reader.new.errors) }
     ensures quiet { OnOk result (reader.new.errors ≡ reader.old.errors) }
@@ -75,10 +78,16 @@ pub(crate) fn read_head<R: Read>(
     requires room { length buf.old ≡ most_head }
     requires fields { length fields.old ≡ most_fields }
     ensures within { IfOk result (λ read. read.filled ≤ length buf.new) }
-    ensures bytes { IfOk result (λ read. Consumes (R.remaining reader.old.inner) (R.remaining reader.new.inner) (take read.filled buf.new)) }
-    ensures head { IfOk result (λ read. IfSome read.head (IsRequestOf (take read.filled buf.new) fields.new)) }
-    ensures spans { IfOk result (λ read. IfSome read.head (IsRequestWithin (take read.filled buf.new) fields.new)) }
-    ensures none { IfOk result (λ read. IfNone read.head (HasNoHead (take read.filled buf.new ++ unwrap_or (R.remaining reader.new.inner) []))) }
+    ensures bytes { IfOk result
+        (λ read. Consumes (R.remaining reader.old.inner) (R.remaining reader.new.inner)
+        (take read.filled buf.new)) }
+    ensures head { IfOk result
+        (λ read. IfSome read.head (IsRequestOf (take read.filled buf.new) fields.new)) }
+    ensures spans { IfOk result
+        (λ read. IfSome read.head (IsRequestWithin (take read.filled buf.new) fields.new)) }
+    ensures none { IfOk result
+        (λ read. IfNone read.head (HasNoHead (take read.filled buf.new
+        ++ unwrap_or (R.remaining reader.new.inner) []))) }
     ensures count { OnErr result (Grew reader.old.errors reader.new.errors) }
     ensures quiet { OnOk result (reader.new.errors ≡ reader.old.errors) }
 {
@@ -115,7 +124,9 @@ pub(crate) enum Content {
 // Fills the buffer with these bytes and then those of the reader, and says whether there were
 // enough.
 fn fill_after<R: Read>(reader: &mut Gauge<R>, buf: &mut [u8], start: &[u8]) -> Result<bool, Unread>
-    ensures whole { IfOk result (λ is_full. (input : List ℕ) × IsInput (R.remaining reader.old.inner) input × IsFilled is_full buf.new (start.now ++ input)) }
+    ensures whole { IfOk result
+        (λ is_full. (input : List ℕ) × IsInput (R.remaining reader.old.inner) input
+        × IsFilled is_full buf.new (start.now ++ input)) }
     ensures count { OnErr result (Grew reader.old.errors reader.new.errors) }
 {
     let had = start.len().min(buf.len());
@@ -132,7 +143,9 @@ pub(crate) fn read_body<R: Read>(
     start: &[u8],
     size: usize,
 ) -> Result<Content, Unread>
-    ensures body { IfOk result (λ body. (input : List ℕ) × IsInput (R.remaining reader.old.inner) input × IsBody body size (start.now ++ input)) }
+    ensures body { IfOk result
+        (λ body. (input : List ℕ) × IsInput (R.remaining reader.old.inner) input
+        × IsBody body size (start.now ++ input)) }
     ensures count { OnErr result (Grew reader.old.errors reader.new.errors) }
 {
     let Ok(mut body) = vec![in alloc; 0u8; size] else {

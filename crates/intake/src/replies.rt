@@ -1,12 +1,9 @@
 ghost use Rattle.std.specs.Prelude.{◌≡◌};
 ghost use Rattle.profile.specs.Response.{answer_response, refused_response, reply_response, fault_response, with_body};
-ghost use Rattle.store.specs.Told.{refusal_of};
-ghost use Rattle.store.specs.Faults.{fault_of};
 ghost use Rattle.store.specs.Runs.{told};
-ghost use Rattle.profile.specs.Refusals as meant;
+ghost use Rattle.profile.specs.declared.refusals.Refusal.TheVariants as meant;
 ghost use Rattle.intake.specs.Answers.{number, type_name, seen};
 ghost use Rattle.intake.specs.Calls.{line_response, deed_refused, deed_reply};
-ghost use Rattle.intake.specs.Told.{refusal_line, fault_line};
 
 use crate::response::{Body, MediaType, Response, Status};
 use store::{Fault, Refusal, Reply};
@@ -50,43 +47,16 @@ fn answered(text: Vec<u8>) -> Response
     with_text(Status::Okay, MediaType::Interchange, text)
 }
 
-// Number and name of a refusal.
-fn refusal_text(refusal: Refusal) -> &'static [u8]
-    ensures { result.now ≡ refusal_line refusal }
-{
-    match refusal {
-        Refusal::Unreadable => b"1 Unreadable\n",
-        Refusal::Note(_) => b"2 Note\n",
-        Refusal::Duplicate => b"3 Duplicate\n",
-        Refusal::UnknownDepositor => b"20 UnknownDepositor\n",
-        Refusal::TicketUsed => b"21 TicketUsed\n",
-        Refusal::UnknownAdvice => b"22 UnknownAdvice\n",
-        Refusal::AdviceClosed => b"23 AdviceClosed\n",
-        Refusal::UnknownOrder => b"24 UnknownOrder\n",
-        Refusal::OrderClosed => b"25 OrderClosed\n",
-        Refusal::NotReserved => b"26 NotReserved\n",
-        Refusal::UnknownLot => b"27 UnknownLot\n",
-        Refusal::BelowReserved => b"28 BelowReserved\n",
-        Refusal::NoDifference => b"29 NoDifference\n",
-        Refusal::TooMuch => b"30 TooMuch\n",
-        Refusal::RepeatedLine => b"31 RepeatedLine\n",
-        Refusal::BadText => b"32 BadText\n",
-        Refusal::TooManyLines => b"33 TooManyLines\n",
-        Refusal::NumbersUsedUp => b"34 NumbersUsedUp\n",
-        Refusal::AlreadyEnrolled => b"35 AlreadyEnrolled\n",
-    }
-}
-
 /// The response to a refused interchange, with the interchange that answers it; what else is
 /// refused has no answer.
 pub(crate) fn refused(refusal: Refusal, answer: Vec<u8>) -> Response
-    ensures { seen result ≡ refused_response (refusal_of refusal) answer.items }
+    ensures { seen result ≡ refused_response refusal answer.items }
 {
     match refusal {
         Refusal::Duplicate => with_text(Status::Conflict, MediaType::Interchange, answer),
         Refusal::Note(_) => with_text(Status::UnprocessableEntity, MediaType::Interchange, answer),
-        Refusal::Unreadable => with_line(Status::BadRequest, refusal_text(refusal)),
-        _ => with_line(Status::UnprocessableEntity, refusal_text(refusal)),
+        Refusal::Unreadable => with_line(Status::BadRequest, refusal.line()),
+        _ => with_line(Status::UnprocessableEntity, refusal.line()),
     }
 }
 
@@ -105,26 +75,26 @@ pub(crate) fn of_reply(reply: Reply) -> Response
 pub(crate) fn bad_part() -> Response
     ensures { seen result ≡ line_response 404 meant.BadText }
 {
-    with_line(Status::NotFound, refusal_text(Refusal::BadText))
+    with_line(Status::NotFound, Refusal::BadText.line())
 }
 
 /// The response to a path that names a stranger.
 pub(crate) fn stranger() -> Response
     ensures { seen result ≡ line_response 404 meant.UnknownDepositor }
 {
-    with_line(Status::NotFound, refusal_text(Refusal::UnknownDepositor))
+    with_line(Status::NotFound, Refusal::UnknownDepositor.line())
 }
 
 // The response to another deed under a ticket that was used.
 fn ticket_used() -> Response
     ensures { seen result ≡ line_response 409 meant.TicketUsed }
 {
-    with_line(Status::Conflict, refusal_text(Refusal::TicketUsed))
+    with_line(Status::Conflict, Refusal::TicketUsed.line())
 }
 
 // The response to a refused deed.
 fn deed_refusal(refusal: Refusal, answer: Vec<u8>) -> Response
-    ensures { seen result ≡ deed_refused (refusal_of refusal) answer.items }
+    ensures { seen result ≡ deed_refused refusal answer.items }
 {
     match refusal {
         Refusal::UnknownDepositor => stranger(),
@@ -144,22 +114,9 @@ pub(crate) fn of_deed(reply: Reply) -> Response
     }
 }
 
-// Number and name of a fault.
-fn fault_text(fault: Fault) -> &'static [u8]
-    ensures { result.now ≡ fault_line fault }
-{
-    match fault {
-        Fault::OutOfMemory => b"40 OutOfMemory\n",
-        Fault::Store => b"41 Store\n",
-        Fault::Reopen => b"42 Reopen\n",
-        Fault::NotThisBook => b"43 NotThisBook\n",
-        Fault::Device => b"44 Device\n",
-    }
-}
-
 /// The response to a request at which a fault happened. It takes no memory.
 pub(crate) fn of_fault(fault: Fault) -> Response
-    ensures { seen result ≡ fault_response (fault_of fault) }
+    ensures { seen result ≡ fault_response fault }
 {
-    with_line(Status::ServiceUnavailable, fault_text(fault))
+    with_line(Status::ServiceUnavailable, fault.line())
 }

@@ -33,14 +33,18 @@ fn hand_in<K: Keeper>(
     ensures repeated { OfKept (K.standing keeper.old) (K.standing keeper.new)
         (λ L. is_accepted (reply_to Two (K.standing keeper.old).warehouse L (Interchange body.now) moment)
         ≡ false → OnOk result (IsUnchanged (K.standing keeper.old) (K.standing keeper.new))) }
-    ensures taken { (K.standing keeper.new).doubt ≡ 0 → (L : List Entry) → IsUsable (K.standing keeper.old) L
+    ensures taken { (K.standing keeper.new).doubt ≡ 0 → (L : List Entry)
+        → IsUsable (K.standing keeper.old) L
         → OnOk result (IsUsable (K.standing keeper.new) (after Two (K.standing keeper.old).warehouse L
         (Interchange body.now, moment))) }
-    ensures left { (K.standing keeper.new).doubt ≡ 0 → (L : List Entry) → IsUsable (K.standing keeper.old) L
-        → OnErr result (LeavesEither (K.standing keeper.new) L (after Two (K.standing keeper.old).warehouse L
+    ensures left { (K.standing keeper.new).doubt ≡ 0 → (L : List Entry)
+        → IsUsable (K.standing keeper.old) L
+        → OnErr result (LeavesEither (K.standing keeper.new) L
+        (after Two (K.standing keeper.old).warehouse L
         (Interchange body.now, moment))) }
     ensures opened { OnOk result ((K.standing keeper.new).shut ≡ false) }
-    ensures fault { IfErr result (λ fault. IsFault fault (K.standing keeper.old) (K.standing keeper.new)) }
+    ensures fault { IfErr result
+        (λ fault. IsFault fault (K.standing keeper.old) (K.standing keeper.new)) }
     ensures goes { GoesOn (K.standing keeper.old) (K.standing keeper.new) }
     ensures shut { (K.standing keeper.old).shut ≡ true → IsErrOf result Fault.Reopen }
 {
@@ -61,23 +65,29 @@ fn posted<K: Keeper>(
         (seen_route route.now) body.now moment)) }
     ensures kept { is_exchange Post (seen_route route.now) ≡ false
         → IsUnchanged (K.standing keeper.old) (K.standing keeper.new) }
-    ensures repeated { is_exchange Post (seen_route route.now) ≡ true → OfKept (K.standing keeper.old)
+    ensures repeated { is_exchange Post (seen_route route.now) ≡ true
+        → OfKept (K.standing keeper.old)
         (K.standing keeper.new)
         (λ L. is_accepted (reply_to Two (K.standing keeper.old).warehouse L (Interchange body.now) moment)
         ≡ false → OnOk result (IsUnchanged (K.standing keeper.old) (K.standing keeper.new))) }
-    ensures taken { is_exchange Post (seen_route route.now) ≡ true → (K.standing keeper.new).doubt ≡ 0
+    ensures taken { is_exchange Post (seen_route route.now) ≡ true
+        → (K.standing keeper.new).doubt ≡ 0
         → (L : List Entry) → IsUsable (K.standing keeper.old) L
         → OnOk result (IsUsable (K.standing keeper.new) (after Two (K.standing keeper.old).warehouse L
         (Interchange body.now, moment))) }
-    ensures left { is_exchange Post (seen_route route.now) ≡ true → (K.standing keeper.new).doubt ≡ 0
+    ensures left { is_exchange Post (seen_route route.now) ≡ true
+        → (K.standing keeper.new).doubt ≡ 0
         → (L : List Entry) → IsUsable (K.standing keeper.old) L
-        → OnErr result (LeavesEither (K.standing keeper.new) L (after Two (K.standing keeper.old).warehouse L
+        → OnErr result (LeavesEither (K.standing keeper.new) L
+        (after Two (K.standing keeper.old).warehouse L
         (Interchange body.now, moment))) }
     ensures opened { is_exchange Post (seen_route route.now) ≡ true
         → OnOk result ((K.standing keeper.new).shut ≡ false) }
-    ensures fault { IfErr result (λ fault. IsFault fault (K.standing keeper.old) (K.standing keeper.new)) }
+    ensures fault { IfErr result
+        (λ fault. IsFault fault (K.standing keeper.old) (K.standing keeper.new)) }
     ensures goes { GoesOn (K.standing keeper.old) (K.standing keeper.new) }
-    ensures shut { (K.standing keeper.old).shut ≡ true → route_asks Post (seen_route route.now) ≡ true
+    ensures shut { (K.standing keeper.old).shut ≡ true
+        → route_asks Post (seen_route route.now) ≡ true
         → IsErrOf result Fault.Reopen }
 {
     if !is_handed_in(MethodKind::Post, route) {
@@ -102,7 +112,8 @@ fn answered<K: Keeper>(
         → IsUnchanged (K.standing keeper.old) (K.standing keeper.new) }
     ensures repeated { is_exchange (seen_method method) (seen_route route.now) ≡ true
         → OfKept (K.standing keeper.old) (K.standing keeper.new)
-        (λ L. is_accepted (reply_to Two (K.standing keeper.old).warehouse L (Interchange body.now) moment) ≡ false
+        (λ L. is_accepted (reply_to Two (K.standing keeper.old).warehouse L (Interchange body.now)
+        moment) ≡ false
         → OnOk result (IsUnchanged (K.standing keeper.old) (K.standing keeper.new))) }
     ensures taken { is_exchange (seen_method method) (seen_route route.now) ≡ true
         → (K.standing keeper.new).doubt ≡ 0 → (L : List Entry) → IsUsable (K.standing keeper.old) L
@@ -110,14 +121,17 @@ fn answered<K: Keeper>(
         (Interchange body.now, moment))) }
     ensures left { is_exchange (seen_method method) (seen_route route.now) ≡ true
         → (K.standing keeper.new).doubt ≡ 0 → (L : List Entry) → IsUsable (K.standing keeper.old) L
-        → OnErr result (LeavesEither (K.standing keeper.new) L (after Two (K.standing keeper.old).warehouse L
+        → OnErr result (LeavesEither (K.standing keeper.new) L
+        (after Two (K.standing keeper.old).warehouse L
         (Interchange body.now, moment))) }
     ensures opened { is_exchange (seen_method method) (seen_route route.now) ≡ true
         → OnOk result ((K.standing keeper.new).shut ≡ false) }
-    ensures fault { IfErr result (λ fault. IsFault fault (K.standing keeper.old) (K.standing keeper.new)) }
+    ensures fault { IfErr result
+        (λ fault. IsFault fault (K.standing keeper.old) (K.standing keeper.new)) }
     ensures goes { GoesOn (K.standing keeper.old) (K.standing keeper.new) }
     ensures shut { (K.standing keeper.old).shut ≡ true
-        → route_asks (seen_method method) (seen_route route.now) ≡ true → IsErrOf result Fault.Reopen }
+        → route_asks (seen_method method) (seen_route route.now) ≡ true
+        → IsErrOf result Fault.Reopen }
 {
     match method {
         MethodKind::Get => got(alloc, keeper, route),
@@ -138,11 +152,13 @@ pub(crate) fn respond_at<K: Keeper>(
 ) -> Response
     ensures answered { IsAnswered (K.standing keeper.old) (K.standing keeper.new) moment (handed_in
         (seen_method method) (seen_route route.now) body.now)
-        (λ L. resp Two (K.standing keeper.old).warehouse L (seen_method method) (seen_route route.now) body.now
+        (λ L. resp Two (K.standing keeper.old).warehouse L (seen_method method)
+        (seen_route route.now) body.now
         moment) (seen result) }
     ensures goes { GoesOn (K.standing keeper.old) (K.standing keeper.new) }
     ensures shut { (K.standing keeper.old).shut ≡ true
-        → route_asks (seen_method method) (seen_route route.now) ≡ true → IsResponseOf Fault.Reopen (seen result) }
+        → route_asks (seen_method method) (seen_route route.now) ≡ true
+        → IsResponseOf Fault.Reopen (seen result) }
 {
     match answered(alloc, keeper, method, route, body, moment) {
         Ok(response) => response,
@@ -167,7 +183,8 @@ pub fn respond<K: Keeper>(
 ) -> Response
     ensures answered { IsAnswered (K.standing keeper.old) (K.standing keeper.new) moment (handed_in
         (method_of method.now) (route_of path.now) body.now)
-        (λ L. resp Two (K.standing keeper.old).warehouse L (method_of method.now) (route_of path.now) body.now
+        (λ L. resp Two (K.standing keeper.old).warehouse L (method_of method.now)
+        (route_of path.now) body.now
         moment) (seen result) }
     ensures goes { GoesOn (K.standing keeper.old) (K.standing keeper.new) }
     ensures shut { IsShutAnswer (K.standing keeper.old)

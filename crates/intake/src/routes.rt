@@ -54,7 +54,8 @@ fn router(alloc: Global) -> Result<Router<RouteKind>, InsertError>
 // The part of the path that a name took.
 fn part_of<'p>(params: &Params<'_, 'p>, name: &str) -> &'p str
     requires { let p = params.now in AllText (walk p.pattern.now p.text.now p.path.now p.names.now 0 0) }
-    ensures { let p = params.now in result.now ≡ part name.now (walk p.pattern.now p.text.now p.path.now p.names.now 0 0) }
+    ensures { let p = params.now in result.now
+        ≡ part name.now (walk p.pattern.now p.text.now p.path.now p.names.now 0 0) }
 {
     params.get(name).unwrap_or("")
 }
@@ -62,7 +63,8 @@ fn part_of<'p>(params: &Params<'_, 'p>, name: &str) -> &'p str
 // The route of a place, with the parts that the path has for it.
 fn route_at<'p>(place: RouteKind, params: &Params<'_, 'p>) -> Route<'p>
     requires { let p = params.now in AllText (walk p.pattern.now p.text.now p.path.now p.names.now 0 0) }
-    ensures { let p = params.now in seen_route result ≡ route_by place (walk p.pattern.now p.text.now p.path.now p.names.now 0 0) }
+    ensures { let p = params.now in seen_route result
+        ≡ route_by place (walk p.pattern.now p.text.now p.path.now p.names.now 0 0) }
 {
     match place {
         RouteKind::Exchange => Route::Exchange,
@@ -74,7 +76,8 @@ fn route_at<'p>(place: RouteKind, params: &Params<'_, 'p>) -> Route<'p>
 
 // The route of a path that is text.
 fn route_in<'p>(alloc: Global, path: &'p str) -> Result<Route<'p>, AllocError>
-    ensures { IfOk result (λ route. seen_route route ≡ route_by_row path.now (first table path.now)) }
+    ensures { IfOk result
+        (λ route. seen_route route ≡ route_by_row path.now (first table path.now)) }
 {
     let Ok(router) = router(alloc) else {
         return Err(AllocError);

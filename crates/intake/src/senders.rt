@@ -58,7 +58,8 @@ pub(crate) fn answer_at<K: Keeper>(
 ) -> Replied
     ensures answered { IsAnswered (K.standing keeper.old) (K.standing keeper.new) moment
         (target_command (seen_method method) (seen_target target.now) body.now)
-        (λ L. target_resp (K.standing keeper.old).warehouse L (seen_method method) (seen_target target.now) body.now
+        (λ L. target_resp (K.standing keeper.old).warehouse L (seen_method method)
+        (seen_target target.now) body.now
         moment) (seen result.response) }
     ensures sender { result.sender
         ≡ sender_in (target_command (seen_method method) (seen_target target.now) body.now) }

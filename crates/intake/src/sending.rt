@@ -15,7 +15,8 @@ pub(crate) struct Unwritten {
 // Writes all of the bytes, or a beginning of them. No call is made again, an interrupted one
 // neither.
 fn send<W: Write>(writer: &mut Gauge<W>, bytes: &[u8]) -> Result<(), Unwritten>
-    ensures whole { OnOk result (Appends (W.contents writer.old.inner) (W.contents writer.new.inner) bytes.now) }
+    ensures whole { OnOk result
+        (Appends (W.contents writer.old.inner) (W.contents writer.new.inner) bytes.now) }
     ensures beginning { IfErr result (λ stop.
         AppendsBeginning (W.contents writer.old.inner) (W.contents writer.new.inner) bytes.now stop.sent) }
     ensures count { OnErr result (Grew writer.old.errors writer.new.errors) }
@@ -39,7 +40,8 @@ pub(crate) fn send_pieces<W: Write>(
     pieces: &[&[u8]],
 ) -> Result<u64, Unwritten>
     requires { length (joined pieces.now) < 2 ^ 64 }
-    ensures whole { OnOk result (Appends (W.contents writer.old.inner) (W.contents writer.new.inner) (joined pieces.now)) }
+    ensures whole { OnOk result
+        (Appends (W.contents writer.old.inner) (W.contents writer.new.inner) (joined pieces.now)) }
     ensures counted { IfOk result (λ sent. sent ≡ length (joined pieces.now)) }
     ensures beginning { IfErr result (λ stop.
         AppendsBeginning (W.contents writer.old.inner) (W.contents writer.new.inner) (joined pieces.now) stop.sent) }

@@ -36,8 +36,10 @@ fn answer<R: Read, K: Keeper>(
     moment: Moment,
 ) -> Result<Replied, Unread>
     requires { IsRequestWithin got.now fields.now spans.now }
-    ensures answered { IfOk result (λ replied. (h : RequestHead) → IsRequestAt got.now fields.now spans.now h
-        → IsExchangeBehind audience (K.standing keeper.old) (K.standing keeper.new) (R.remaining reader.old.inner)
+    ensures answered { IfOk result
+        (λ replied. (h : RequestHead) → IsRequestAt got.now fields.now spans.now h
+        → IsExchangeBehind audience (K.standing keeper.old) (K.standing keeper.new)
+        (R.remaining reader.old.inner)
         moment h (drop spans.now.len got.now) (seen replied.response) replied.sender) }
     ensures same { OnErr result (IsUnchanged (K.standing keeper.old) (K.standing keeper.new)) }
     ensures count { OnErr result (Grew reader.old.errors reader.new.errors) }
@@ -167,12 +169,14 @@ pub fn serve_telling<R: Read, W: Write, K: Keeper>(
 ) -> Served
     ensures written { IfOk result.outcome (λ status.
         IsWritten audience (K.standing keeper.old) (K.standing keeper.new) (R.remaining reader.old.inner) moment
-        (W.contents writer.old.inner) (W.contents writer.new.inner) status result.line result.sender result.bytes) }
+        (W.contents writer.old.inner) (W.contents writer.new.inner) status result.line result.sender
+        result.bytes) }
     ensures stopped { OnErr result.outcome (
         IsUnread (K.standing keeper.old) (K.standing keeper.new) (R.remaining reader.old.inner)
         (W.contents writer.old.inner) (W.contents writer.new.inner)
         reader.old.errors reader.new.errors result.line result.sender result.bytes
-        ⊎ IsUnwritten audience (K.standing keeper.old) (K.standing keeper.new) (R.remaining reader.old.inner) moment
+        ⊎ IsUnwritten audience (K.standing keeper.old) (K.standing keeper.new)
+        (R.remaining reader.old.inner) moment
         (W.contents writer.old.inner) (W.contents writer.new.inner)
         writer.old.errors writer.new.errors result.line result.sender result.bytes) }
     ensures fault { IfErr result.outcome (λ fault. fault ≡ Fault.Device) }
@@ -212,14 +216,18 @@ pub fn serve_one<R: Read, W: Write, K: Keeper>(
     keeper: &mut K,
     moment: Moment,
 ) -> Result<StatusCode, Fault>
-    ensures written { IfOk result (λ status. (line : Option RequestLine) × (sender : Option Partner) × (bytes : ℕ)
-        × IsWritten Audience.Partners (K.standing keeper.old) (K.standing keeper.new) (R.remaining reader.old.inner) moment
+    ensures written { IfOk result
+        (λ status. (line : Option RequestLine) × (sender : Option Partner) × (bytes : ℕ)
+        × IsWritten Audience.Partners (K.standing keeper.old) (K.standing keeper.new)
+        (R.remaining reader.old.inner) moment
         (W.contents writer.old.inner) (W.contents writer.new.inner) status line sender bytes) }
-    ensures stopped { OnErr result ((line : Option RequestLine) × (sender : Option Partner) × (bytes : ℕ) × (
+    ensures stopped { OnErr result ((line : Option RequestLine) × (sender : Option Partner)
+        × (bytes : ℕ) × (
         IsUnread (K.standing keeper.old) (K.standing keeper.new) (R.remaining reader.old.inner)
         (W.contents writer.old.inner) (W.contents writer.new.inner)
         reader.old.errors reader.new.errors line sender bytes
-        ⊎ IsUnwritten Audience.Partners (K.standing keeper.old) (K.standing keeper.new) (R.remaining reader.old.inner) moment
+        ⊎ IsUnwritten Audience.Partners (K.standing keeper.old) (K.standing keeper.new)
+        (R.remaining reader.old.inner) moment
         (W.contents writer.old.inner) (W.contents writer.new.inner)
         writer.old.errors writer.new.errors line sender bytes)) }
     ensures fault { IfErr result (λ fault. fault ≡ Fault.Device) }

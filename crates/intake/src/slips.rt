@@ -1,15 +1,11 @@
 //! What a clerk did, with the sheet that came with it.
-ghost use Rattle.std.specs.Prelude.{◌≡◌, true, IsTrue, List, Ok, Err, IfOk, IfErr};
+ghost use Rattle.std.specs.Prelude.{◌≡◌, true, IsTrue, Ok, Err, IfOk, IfErr};
 ghost use Rattle.profile.specs.declared.rules.Rules.TheVariants.{Two};
 ghost use Rattle.profile.specs.Accepted.{is_command};
-ghost use Rattle.profile.specs.Clerk.{is_sheet};
 ghost use Rattle.sheet_texts.specs.Kinds.{kind_of};
-ghost use Rattle.sheet_texts.specs.Texts.{sheet_of_text};
 ghost use Rattle.store.specs.Asked.{asked, act_of as asked_act};
-ghost use Rattle.store.specs.Told.{refusal_of as named_refusal};
 ghost use Rattle.intake.specs.Answers.{seen};
 ghost use Rattle.intake.specs.Calls as meant;
-ghost use Rattle.intake.specs.Slips as slips;
 ghost use Rattle.intake.specs.Slips.{command_of};
 
 use crate::calls::Deed;
@@ -18,7 +14,7 @@ use crate::response::Response;
 use profile::{MOST_NUMBER, MOST_TICKET};
 use sheet_texts::sheet;
 use std::alloc::{AllocError, Global};
-use store::{Act, Command, Ident, Refusal, Sheet, SheetKind, Who};
+use store::{Act, Command, Ident, Sheet, SheetKind, Who};
 
 /// What a clerk did, with its sheet: its command can be given.
 #[derive(Drop)]
@@ -42,36 +38,6 @@ fn depositor(deed: &Deed<'_>) -> Option<Who>
     Some(who)
 }
 
-// The refusal of a sheet by its number.
-fn refusal_of(number: u8) -> Refusal
-    ensures { named_refusal result ≡ slips.sheet_refusal number }
-{
-    match number {
-        30 => Refusal::TooMuch,
-        31 => Refusal::RepeatedLine,
-        33 => Refusal::TooManyLines,
-        _ => Refusal::BadText,
-    }
-}
-
-/// The sheet of a kind in a text, or why it makes none (30 to 33). The outer error is want of
-/// memory.
-pub fn sheet_in(
-    alloc: Global,
-    kind: SheetKind,
-    text: &[u8],
-) -> Result<Result<Sheet, Refusal>, AllocError>
-    ensures ok { IfOk result (λ made. IfOk made (λ sheet. sheet_of_text Two (kind_of kind) text.now ≡ Ok sheet)) }
-    ensures kind { IfOk result (λ made. IfOk made (λ sheet. is_sheet Two (kind_of kind) sheet ≡ true)) }
-    ensures err { IfOk result (λ made. IfErr made (λ refusal. sheet_of_text Two (kind_of kind) text.now
-        ≡ Err (named_refusal refusal))) }
-{
-    match sheet(alloc, kind, text)? {
-        Ok(sheet) => Ok(Ok(sheet)),
-        Err(number) => Ok(Err(refusal_of(number))),
-    }
-}
-
 /// What a deed and its sheet come to: a slip, or the response that refuses it. The outer error is
 /// want of memory.
 pub(crate) fn slip_of<'p>(
@@ -79,15 +45,17 @@ pub(crate) fn slip_of<'p>(
     deed: &Deed<'p>,
     text: &[u8],
 ) -> Result<Result<Slip<'p>, Response>, AllocError>
-    ensures made { IfOk result (λ made. IfOk made (λ slip. meant.deed_of (kind_of deed.now.kind) deed.now.who.now
+    ensures made { IfOk result
+        (λ made. IfOk made (λ slip. meant.deed_of (kind_of deed.now.kind) deed.now.who.now
         deed.now.ticket.now deed.now.number.now text.now ≡ Ok (command_of slip.who slip.deed slip.sheet))) }
-    ensures refused { IfOk result (λ made. IfErr made (λ response. meant.deed_of (kind_of deed.now.kind) deed.now.who.now
+    ensures refused { IfOk result
+        (λ made. IfErr made (λ response. meant.deed_of (kind_of deed.now.kind) deed.now.who.now
         deed.now.ticket.now deed.now.number.now text.now ≡ Err (seen response))) }
 {
     let Some(who) = depositor(deed) else {
         return Ok(Err(bad_part()));
     };
-    match sheet_in(alloc, deed.kind, text)? {
+    match sheet(alloc, deed.kind, text)? {
         Ok(sheet) => Ok(Ok(Slip {
             who,
             deed: *deed,

@@ -95,7 +95,8 @@ pub(crate) fn respond_to<K: Keeper>(
 ) -> Response
     ensures answered { IsAnswered (K.standing keeper.old) (K.standing keeper.new) moment
         (target_command (seen_method method) (seen_target target.now) body.now)
-        (λ L. target_resp (K.standing keeper.old).warehouse L (seen_method method) (seen_target target.now) body.now
+        (λ L. target_resp (K.standing keeper.old).warehouse L (seen_method method)
+        (seen_target target.now) body.now
         moment) (seen result) }
     ensures goes { GoesOn (K.standing keeper.old) (K.standing keeper.new) }
     ensures shut { IsShutAnswer (K.standing keeper.old)

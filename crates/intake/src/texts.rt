@@ -87,7 +87,9 @@ pub(crate) fn write_response<W: Write>(
     writer: &mut Gauge<W>,
     response: &Response,
 ) -> Result<u64, Unwritten>
-    ensures whole { OnOk result (Appends (W.contents writer.old.inner) (W.contents writer.new.inner) (response_bytes (seen response.now))) }
+    ensures whole { OnOk result
+        (Appends (W.contents writer.old.inner) (W.contents writer.new.inner)
+        (response_bytes (seen response.now))) }
     ensures counted { IfOk result (λ sent. sent ≡ length (response_bytes (seen response.now))) }
     ensures beginning { IfErr result (λ stop.
         AppendsBeginning (W.contents writer.old.inner) (W.contents writer.new.inner)

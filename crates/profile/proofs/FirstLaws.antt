@@ -11,7 +11,8 @@ use Rattle.profile.specs.Allotment.{Ranked, counted_before, lots_named, lots_of,
 use Rattle.profile.specs.First.{since_before, lots_since, undated_fault}
 use Rattle.profile.proofs.TextLaws.{both_parts}
 
--- what is put in order and then looked at in part is put in order by that part, where the order looks at no more
+-- what is put in order and then looked at in part is put in order by that part, where the order
+-- looks at no more
 module _ {X Y : Type 0} (part : X → Y) (above : X → X → Bool) (before : Y → Y → Bool) (same : (a b : X) → above a b ≡ before (part a) (part b)) where
   placed_part : (x : X) (ys : List X) → map part (placed above x ys) ≡ placed before (part x) (map part ys)
   placed_part x [] = refl

@@ -1,4 +1,5 @@
--- Worked examples of dates that are given later, and of lots that differ in their dates and their counts.
+-- Worked examples of dates that are given later, and of lots that differ in their dates and their
+-- counts.
 use Rattle.std.specs.Prelude.{◌≡◌, ℕ, true, false, List, [], ◌∷◌, ◌++◌, map, Some, None, codes, decimal}
 use Rattle.std.specs.List.{range_with_len}
 use Rattle.std.proofs.Common.{refl}
@@ -33,7 +34,8 @@ second_date : reply_after Two [] (sends (isa_in (codes "000000001") (codes "0") 
 unfolding digits
 second_date = refl
 
--- a group dates a lot that was counted, and an order in the next group of the same interchange takes it first
+-- a group dates a lot that was counted, and an order in the next group of the same interchange
+-- takes it first
 abbrev dates_and_orders : Command × Moment
 dates_and_orders = sends (isa_in (codes "000000002") (codes "0")
     ++ gs_in (codes "AR") (codes "2") ++ advice_of_one (codes "0001") (codes "SHP2") (codes "L1") (codes "20250101") ++ codes "GE*1*2~"
@@ -84,7 +86,8 @@ picked_as_reserved : map (λ lot. balances Two (dated_after ++ does (codes "T2")
 unfolding digits
 picked_as_reserved = refl
 
--- What an entry under rules 1 can't have: an act whose sheet has a hundred lines, or a larger quantity.
+-- What an entry under rules 1 can't have: an act whose sheet has a hundred lines, or a larger
+-- quantity.
 
 abbrev hundred : Act
 hundred = Count (codes "SHP1") (map (λ k. line (codes "BOLT") (codes "L" ++ decimal k) 1) (range_with_len 100 100))

@@ -1,4 +1,5 @@
--- Worked examples of expiries: dated lots, the order in which they are allotted, dates that gainsay others.
+-- Worked examples of expiries: dated lots, the order in which they are allotted, dates that gainsay
+-- others.
 use Rattle.std.specs.Prelude.{◌≡◌, ℕ, List, [], ◌∷◌, ◌++◌, map, Some, None, codes, Option}
 use Rattle.std.proofs.Common.{refl}
 use Rattle.std.specs.Fmt.{digits}

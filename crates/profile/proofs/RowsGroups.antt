@@ -40,7 +40,8 @@ unfolding digits
 groups_in_order One = refl
 groups_in_order Two = refl
 
--- zeros in front: of a control number they count, of a number they don't; groups of ours aren't read
+-- zeros in front: of a control number they count, of a number they don't; groups of ours aren't
+-- read
 zeros_and_others : (r : Rules) → map (of_group r)
     ((codes "AR*ACME*WHSE1*20250304*0915*4*X*004010", codes "1*04")
     ∷ (codes "AR*ACME*WHSE1*20250304*0915*007*X*004010", codes "1*007")

@@ -9,7 +9,8 @@ use Rattle.profile.specs.Movements.{most_expected}
 use Rattle.profile.specs.Reply.{Accepted}
 use Rattle.profile.proofs.Sample.{told_AR, answer_AR, line, does, sends, received, balances}
 
--- a 943 of n lines of 999999, lots distinct, with this W03 and SE01: of 101 lines its sum has nine digits
+-- a 943 of n lines of 999999, lots distinct, with this W03 and SE01: of 101 lines its sum has nine
+-- digits
 abbrev lines_943 : ℕ → List ℕ
 lines_943 n = flat_map (λ k. codes "W04*999999*EA**SK*BOLT~N9*LT*L" ++ decimal k ++ codes "~") (range_with_len 1 n)
 

@@ -27,7 +27,8 @@ needs : map need_of (Interchange first_order ∷ Interchange last_acknowledgment
 unfolding digits
 needs = refl
 
--- a set that is rejected names what stands in it, and one without W06 no shipment; so does a halted text, as far as it goes
+-- a set that is rejected names what stands in it, and one without W06 no shipment; so does a halted
+-- text, as far as it goes
 faulty_need : need_of (Interchange (received (codes "000000001") (codes "0") (codes "AR") (codes "1") (codes "ST*943*0001~W04*1*EA**SK*NUT~SE*3*0001~")))
     ≡ record { items = codes "NUT" ∷ []; shipments = []; orders = []; documents = [] }
 unfolding digits

@@ -1,4 +1,5 @@
--- The numbers of the profile, each beside its literal: whoever changes one of the constants meets it here.
+-- The numbers of the profile, each beside its literal: whoever changes one of the constants meets
+-- it here.
 use Rattle.std.specs.Prelude.{◌≡◌, ◌==◌, ℕ, true, List, [], ◌∷◌}
 use Rattle.std.specs.List.{list_all}
 use Rattle.std.proofs.Common.{refl}

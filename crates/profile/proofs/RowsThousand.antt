@@ -1,4 +1,5 @@
--- Worked examples at the limits of rules 2: 999 lines of a set, and one more. The set is judged by its segments in one pass.
+-- Worked examples at the limits of rules 2: 999 lines of a set, and one more. The set is judged by
+-- its segments in one pass.
 use Rattle.std.specs.Prelude.{◌≡◌, ℕ, ◌+◌, ◌*◌, ◌/◌, ◌%◌, ◌<◌, ◌^◌, map, List, [], ◌∷◌, ◌++◌, codes, decimal, flat_map, Some, None}
 use Rattle.std.specs.List.{range_with_len}
 use Rattle.std.proofs.Common.{refl, ap, ◌∙◌, arith}

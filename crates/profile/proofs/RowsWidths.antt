@@ -1,5 +1,6 @@
 -- The elements of the segments in sets: each at its shortest and at its longest, one byte shorter
--- and one longer, with bytes that may stand in it and bytes that mayn't, and with other values; under both rules.
+-- and one longer, with bytes that may stand in it and bytes that mayn't, and with other values;
+-- under both rules.
 use Rattle.std.specs.Prelude.{◌≡◌, ℕ, ◌+◌, ◌-◌, Bool, true, false, List, [], ◌∷◌, ◌++◌, map, length, take, drop, replicate, if◌then◌else◌, ◌==◌, Some, None, codes, Option, option_and_then}
 use Rattle.std.specs.List.{list_all}
 use Rattle.std.proofs.Common.{refl}

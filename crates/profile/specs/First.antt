@@ -1,4 +1,5 @@
--- Rules 1 as they are by themselves: each part of the definitions that rules decide, told without the others.
+-- Rules 1 as they are by themselves: each part of the definitions that rules decide, told without
+-- the others.
 use Rattle.std.specs.Prelude.{◌≡◌, ◌==◌, ℕ, Bool, ◌&&◌, ◌||◌, List, [], ◌∷◌, Option, is_some, map, flat_map, nat_lt, codes, decimal}
 use Rattle.profile.specs.declared.rules.Rules.TheVariants.{One}
 use Rattle.profile.specs.Bytes.{comes_before, padded, right_aligned}
@@ -15,7 +16,8 @@ use Rattle.profile.specs.Rows.{StockRow}
 use Rattle.profile.specs.Reports.{columns, csv_record}
 use Rattle.profile.specs.Tables.{AllTables, Number, Text, entry_table, outgoing_table, stock_table, advice_table, advice_line_table, orders_table, order_line_table, reservation_table}
 
--- lines of a set or a sheet, the quantity of a line, and the digits of that and of the sums of a 943 and a 940
+-- lines of a set or a sheet, the quantity of a line, and the digits of that and of the sums of a
+-- 943 and a 940
 pub record HasFirstLimits : Type 0 where
   pub lines : most_lines One ≡ 99
   pub quantity : most_quantity One ≡ 99999
@@ -31,7 +33,8 @@ abbrev pub lots_since : List Event → List ℕ → List (List ℕ)
 lots_since es item = map (λ (c : ℕ × List ℕ). c.1)
     (in_order since_before (map (λ lot. (since es item lot, lot)) (flat_map (lots_named item) es)))
 
--- the trade fault of a 943: a shipment number of an earlier advice, a repeated pair, a W03 that isn't the sum
+-- the trade fault of a 943: a shipment number of an earlier advice, a repeated pair, a W03 that
+-- isn't the sum
 abbrev pub undated_fault : List Event → Advice → Option SetFault
 undated_fault es a = first_present
     (fault_where (is_some (advice_under a.shipment es)) (trade_fault (codes "W06") 2 4)
@@ -43,12 +46,14 @@ undated_fault es a = first_present
 abbrev pub undated_line : StockRow → List ℕ
 undated_line row = columns
     (padded most_item row.item ∷ padded most_lot row.lot
-    ∷ map (right_aligned 15) (decimal row.expected ∷ decimal row.on_hand ∷ decimal row.reserved ∷ decimal row.shipped ∷ []))
+    ∷ map (right_aligned 15) (decimal row.expected ∷ decimal row.on_hand ∷ decimal row.reserved
+    ∷ decimal row.shipped ∷ []))
 
 -- a record of the export: the same
 abbrev pub undated_record : StockRow → List ℕ
 undated_record row = csv_record
-    (row.item ∷ row.lot ∷ decimal row.expected ∷ decimal row.on_hand ∷ decimal row.reserved ∷ decimal row.shipped ∷ [])
+    (row.item ∷ row.lot ∷ decimal row.expected ∷ decimal row.on_hand ∷ decimal row.reserved
+    ∷ decimal row.shipped ∷ [])
 
 -- the nine tables of version 1
 abbrev pub nine_tables : Who → List Entry → AllTables

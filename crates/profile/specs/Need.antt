@@ -38,11 +38,13 @@ need_of_number number = record nothing { orders = number ∷ [] }
 abbrev pub items_of : List Line → List (List ℕ)
 items_of lines = map (λ l. l.item) lines
 
--- What an interchange names, by one scan of its segments: whether its sets pass or not, and whether it is halted or not.
+-- What an interchange names, by one scan of its segments: whether its sets pass or not, and whether
+-- it is halted or not.
 
 -- a document's number: digits, as many as a control number has at most
 abbrev pub number_in : List ℕ → List ℕ
-number_in text = if is_number text && nat_le (length text) CONTROL_DIGITS then value text ∷ [] else []
+number_in text =
+    if is_number text && nat_le (length text) CONTROL_DIGITS then value text ∷ [] else []
 
 -- W04 and W01 name an item, W06 a shipment number, W05 an order's number, AK1 a document's
 abbrev pub need_of_segment : Segment → Need
@@ -58,10 +60,12 @@ need_of_segments ss = all_together (map need_of_segment ss)
 
 -- a text without delimiters names nothing
 abbrev pub need_of_text : List ℕ → Need
-need_of_text text = if is_unreadable text then nothing else need_of_segments ((cut (delims_of text) text).segments)
+need_of_text text =
+    if is_unreadable text then nothing else need_of_segments ((cut (delims_of text) text).segments)
 
 abbrev pub need_of_act : Act → Need
-need_of_act (Count shipment sheet) = record nothing { items = items_of sheet; shipments = shipment ∷ [] }
+need_of_act (Count shipment sheet) =
+    record nothing { items = items_of sheet; shipments = shipment ∷ [] }
 need_of_act (Pick number sheet) = record nothing { items = items_of sheet; orders = number ∷ [] }
 need_of_act (Recount sheet) = record nothing { items = items_of sheet }
 
@@ -86,7 +90,8 @@ orders_in need P = filter (λ o. is_one_of need.orders o.number) P.orders
 -- the items that are named, and those that stand in a line of a named advice or order
 abbrev pub items_in : Need → Page → List (List ℕ)
 items_in need P = need.items
-    ++ (flat_map (λ k. items_of k.lines) (advices_in need P) ++ flat_map (λ (o : PageOrder). map (λ l. l.item) o.lines) (orders_in need P))
+    ++ (flat_map (λ k. items_of k.lines) (advices_in need P)
+    ++ flat_map (λ (o : PageOrder). map (λ l. l.item) o.lines) (orders_in need P))
 
 -- the number of entries, the named advices, orders and documents, and the lots of those items
 abbrev pub part : Page → Need → Page
@@ -104,10 +109,12 @@ AgreeOn need P Q = part P need ≡ part Q need
 
 -- what the smaller need names the bigger names too
 pub record Covers (bigger smaller : Need) : Type 0 where
-  pub shipments : (t : List ℕ) → is_one_of smaller.shipments t ≡ true → is_one_of bigger.shipments t ≡ true
+  pub shipments : (t : List ℕ) → is_one_of smaller.shipments t ≡ true
+      → is_one_of bigger.shipments t ≡ true
   pub orders : (t : List ℕ) → is_one_of smaller.orders t ≡ true → is_one_of bigger.orders t ≡ true
   pub items : (t : List ℕ) → is_one_of smaller.items t ≡ true → is_one_of bigger.items t ≡ true
-  pub documents : (n : ℕ) → is_number_of smaller.documents n ≡ true → is_number_of bigger.documents n ≡ true
+  pub documents : (n : ℕ) → is_number_of smaller.documents n ≡ true
+      → is_number_of bigger.documents n ≡ true
 
 -- the number of pairs on a page
 abbrev pub pairs : Page → ℕ

@@ -57,7 +57,8 @@ type_x12 = refl
 type_plain : is_x12 (codes "text/plain" ∷ []) ≡ false
 type_plain = refl
 
--- the head of a response with an interchange, in letters of another case, and that of one with nothing
+-- the head of a response with an interchange, in letters of another case, and that of one with
+-- nothing
 abbrev okay_fields : List Field
 okay_fields = field (codes "Content-Type") (codes "application/EDI-X12") ∷ field (codes "content-LENGTH") (codes "3") ∷ []
 

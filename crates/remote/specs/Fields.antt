@@ -15,7 +15,8 @@ is_named name field = bytes_eq (map to_ascii_lowercase field.0) (map to_ascii_lo
 -- the values of the fields of this name
 abbrev pub values : List ℕ → List (List ℕ × List ℕ) → List (List ℕ)
 values name [] = []
-values name (field ∷ fields) = if is_named name field then field.1 ∷ values name fields else values name fields
+values name (field ∷ fields) =
+    if is_named name field then field.1 ∷ values name fields else values name fields
 
 -- those of a head
 abbrev pub stated : List ℕ → ResponseHead → List (List ℕ)
@@ -25,7 +26,8 @@ stated name h = values name (map name_and_value h.fields)
 abbrev pub IsValues : Values → List (List ℕ) → Type 0
 IsValues Absent texts = texts ≡ []
 IsValues (Single text) texts = texts ≡ text.now ∷ []
-IsValues Several texts = (first : List ℕ) × (second : List ℕ) × (more : List (List ℕ)) × (texts ≡ first ∷ second ∷ more)
+IsValues Several texts = (first : List ℕ) × (second : List ℕ) × (more : List (List ℕ))
+    × (texts ≡ first ∷ second ∷ more)
 
 -- 0 to 9
 abbrev pub is_digit : ℕ → Bool
@@ -43,11 +45,12 @@ value text = fold (λ n b. n * 10 + (b - 48)) 0 text
 abbrev pub most_bytes : ℕ
 most_bytes = 16777216
 
--- the length of a body by the values of Content-Length, 0 where there are none, as in a 204; none where there are several, or
--- one that isn't digits, or one that is too large
+-- the length of a body by the values of Content-Length, 0 where there are none, as in a 204; none
+-- where there are several, or one that isn't digits, or one that is too large
 abbrev pub body_length : List (List ℕ) → Option ℕ
 body_length [] = Some 0
-body_length (text ∷ []) = if is_number text && nat_le (value text) most_bytes then Some (value text) else None
+body_length (text ∷ []) =
+    if is_number text && nat_le (value text) most_bytes then Some (value text) else None
 body_length (text ∷ other ∷ more) = None
 
 -- whether the values of Content-Type are the type of interchanges (RFC 1767) alone

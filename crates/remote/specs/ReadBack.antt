@@ -28,7 +28,8 @@ IsVisible text = (0 < length text) × AllPass is_uri_byte text
 abbrev pub told : List ℕ → RequestHead → List (List ℕ)
 told name h = values name (map name_and_value h.fields)
 
--- a server reads the request as it is meant: its method, its path, its host, and its body with the length of it
+-- a server reads the request as it is meant: its method, its path, its host, and its body with the
+-- length of it
 pub record IsReadBack (verb : Verb) (path host body : List ℕ) : Type 0 where
   pub head : RequestHead
   pub reads : ReadsRequest (request_bytes verb path host body) head (handed_in verb body)

@@ -19,7 +19,8 @@ header name text = name ++ codes ": " ++ text ++ codes "\r\n"
 
 -- the request line, and the field of the host
 abbrev pub opening : List ℕ → List ℕ → List ℕ → List ℕ
-opening method path host = method ++ codes " " ++ path ++ codes " HTTP/1.1\r\n" ++ header (codes "Host") host
+opening method path host = method ++ codes " " ++ path ++ codes " HTTP/1.1\r\n"
+    ++ header (codes "Host") host
 
 -- the field of the body's length
 abbrev pub length_field : List ℕ → List ℕ
@@ -32,4 +33,5 @@ closing = header (codes "Connection") (codes "close") ++ codes "\r\n"
 -- the bytes of a request about a path, to a host: a GET has no body, and doesn't state its length
 abbrev pub request_bytes : Verb → List ℕ → List ℕ → List ℕ → List ℕ
 request_bytes Get path host body = opening (codes "GET") path host ++ closing
-request_bytes Post path host body = opening (codes "POST") path host ++ length_field (decimal (length body)) ++ closing ++ body
+request_bytes Post path host body = opening (codes "POST") path host
+    ++ length_field (decimal (length body)) ++ closing ++ body

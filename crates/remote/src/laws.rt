@@ -7,12 +7,14 @@ ghost use Rattle.remote.specs.declared.answers.Answer.{Answer};
 
 /// An input has one answer: no two readings of it differ in what they say.
 pub fn an_input_has_one_answer()
-    ensures { (input : List ℕ) (a b : Answer) → IsAnswer (Some input) a → IsAnswer (Some input) b → IsSame a b }
+    ensures { (input : List ℕ) (a b : Answer) → IsAnswer (Some input) a → IsAnswer (Some input) b
+        → IsSame a b }
 {}
 
 /// A server reads of a request what it says, where its path and its host have visible bytes alone:
 /// its method, its path, its host, and its body with the length of it.
 pub fn a_server_reads_what_is_asked()
-    ensures { (verb : Verb) (path host body : List ℕ) → IsVisible path → IsUtf8 path → IsVisible host → length body < 2 ^ 64
+    ensures { (verb : Verb) (path host body : List ℕ) → IsVisible path → IsUtf8 path
+        → IsVisible host → length body < 2 ^ 64
         → IsReadBack verb path host body }
 {}

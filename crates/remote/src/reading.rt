@@ -15,7 +15,8 @@ const TRIES: u8 = 100;
 // One read, begun again where it is interrupted.
 fn read_some<R: Read>(reader: &mut R, buf: &mut [u8]) -> Result<usize, Unanswered>
     ensures within { IfOk result (λ n. n ≤ length buf.new) }
-    ensures bytes { IfOk result (λ n. Consumes (R.remaining reader.old) (R.remaining reader.new) (take n buf.new)) }
+    ensures bytes { IfOk result
+        (λ n. Consumes (R.remaining reader.old) (R.remaining reader.new) (take n buf.new)) }
 {
     for _ in 0..TRIES {
         match reader.read(buf) {
@@ -32,7 +33,8 @@ fn read_more<R: Read>(reader: &mut R, buf: &mut [u8], filled: usize) -> Result<u
     requires { filled < length buf.old }
     ensures within { IfOk result (λ n. filled + n ≤ length buf.new) }
     ensures before { take filled buf.new ≡ take filled buf.old }
-    ensures bytes { IfOk result (λ n. Consumes (R.remaining reader.old) (R.remaining reader.new) (take n (drop filled buf.new))) }
+    ensures bytes { IfOk result
+        (λ n. Consumes (R.remaining reader.old) (R.remaining reader.new) (take n (drop filled buf.new))) }
 {
     read_some(reader, &mut buf[filled..])
 }
@@ -56,9 +58,12 @@ pub(crate) fn read_head<R: Read>(
     requires room { length buf.old ≡ 8192 }
     requires fields { length fields.old ≡ 32 }
     ensures within { IfOk result (λ read. read.filled ≤ length buf.new) }
-    ensures bytes { IfOk result (λ read. Consumes (R.remaining reader.old) (R.remaining reader.new) (take read.filled buf.new)) }
-    ensures head { IfOk result (λ read. IsResponseOf (take read.filled buf.new) fields.new read.spans) }
-    ensures spans { IfOk result (λ read. IsResponseWithin (take read.filled buf.new) fields.new read.spans) }
+    ensures bytes { IfOk result
+        (λ read. Consumes (R.remaining reader.old) (R.remaining reader.new) (take read.filled buf.new)) }
+    ensures head { IfOk result
+        (λ read. IsResponseOf (take read.filled buf.new) fields.new read.spans) }
+    ensures spans { IfOk result
+        (λ read. IsResponseWithin (take read.filled buf.new) fields.new read.spans) }
 {
     let mut filled = 0;
     while filled < buf.len() {

@@ -39,7 +39,8 @@ fn get_pieces<'a>(path: &'a str, host: &'a str) -> [&'a [u8]; 5]
 
 // The pieces that a POST is written by, given the digits of its body's length.
 fn post_pieces<'a>(path: &'a str, host: &'a str, digits: &'a [u8], body: &'a [u8]) -> [&'a [u8]; 8]
-    ensures { joined result ≡ opening (codes "POST") path.now host.now ++ length_field digits.now ++ closing ++ body.now }
+    ensures { joined result ≡ opening (codes "POST") path.now host.now ++ length_field digits.now
+        ++ closing ++ body.now }
 {
     let method: &'a [u8] = b"POST ";
     let path: &'a [u8] = path.as_bytes();

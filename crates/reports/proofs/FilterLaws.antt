@@ -10,9 +10,9 @@ module _ {X : Type 0} (less : X → X → Bool) (through : (x y z : X) → less 
   Rises [] = Unit {0}
   Rises (x ∷ xs) = AllByRecursion (λ z. less x z ≡ true) xs × Rises xs
 
-  all_behind : (x y : X) (ys : List X) → less x y ≡ true → AllByRecursion (λ z. less y z ≡ true) ys → AllByRecursion (λ z. less x z ≡ true) ys
-  all_behind x y [] h all = tt
-  all_behind x y (z ∷ zs) h all = (through x y z h all.0, all_behind x y zs h all.1)
+  all_later : (x y : X) (ys : List X) → less x y ≡ true → AllByRecursion (λ z. less y z ≡ true) ys → AllByRecursion (λ z. less x z ≡ true) ys
+  all_later x y [] h all = tt
+  all_later x y (z ∷ zs) h all = (through x y z h all.0, all_later x y zs h all.1)
 
   all_placed : (P : X → Type 0) (x : X) (ys : List X) → P x → AllByRecursion P ys → AllByRecursion P (placed less x ys)
   all_placed P x [] h all = (h, tt)
@@ -28,7 +28,7 @@ module _ {X : Type 0} (less : X → X → Bool) (through : (x y z : X) → less 
   rises_placed x (y ∷ ys) h = by_tests (less x y) (less y x) refl refl (rises_placed x ys h.1)
     where
       by_tests : (s t : Bool) → less x y ≡ s → less y x ≡ t → Rises (placed less x ys) → Rises (placed less x (y ∷ ys))
-      by_tests true t e f rest = rw e ((e, all_behind x y ys e h.0), h)
+      by_tests true t e f rest = rw e ((e, all_later x y ys e h.0), h)
       by_tests false true e f rest = rw (e, f) (all_placed (λ z. less y z ≡ true) x ys f h.0, rest)
       by_tests false false e f rest = rw (e, f) h
 
@@ -63,7 +63,7 @@ module _ {X : Type 0} (less : X → X → Bool) (through : (x y z : X) → less 
         by_tests : (s t u v : Bool) → less x y ≡ s → less y x ≡ t → p x ≡ u → p y ≡ v → filter p (placed less x ys) ≡ cond (p x) (placed less x (filter p ys)) (filter p ys)
             → filter p (placed less x (y ∷ ys)) ≡ cond (p x) (placed less x (filter p (y ∷ ys))) (filter p (y ∷ ys))
         by_tests true t true v e f a b ih =
-            let front = placed_first x (filter p (y ∷ ys)) (all_filtered (λ z. less x z ≡ true) p (y ∷ ys) (e, all_behind x y ys e h.0)) in
+            let front = placed_first x (filter p (y ∷ ys)) (all_filtered (λ z. less x z ≡ true) p (y ∷ ys) (e, all_later x y ys e h.0)) in
             rw (e, a) (sym front)
         by_tests true t false v e f a b ih = rw (e, a) refl
         by_tests false true true true e f a b ih = rw (e, f, a, b) (ap (λ zs. y ∷ zs) (rw a at ih) ∙ sym (placed_later x y (filter p ys) e f))

@@ -8,7 +8,7 @@ use Rattle.profile.specs.Events.{Event, Enrolment, Advised, Ordered, Acknowledge
 use Rattle.profile.specs.History.{History}
 use Rattle.profile.specs.Need.{need_of_number}
 use Rattle.profile.specs.Page.{reserved_lines, page_line, page_order}
-use Rattle.profile.specs.Refusals.{OrderClosed}
+use Rattle.profile.specs.declared.refusals.Refusal.TheVariants.{OrderClosed}
 use Rattle.profile.specs.Reports.{pick_lines, pick_sheet, pick_list}
 use Rattle.profile.proofs.NeedLaws.{alone}
 use Rattle.profile.proofs.TextLaws.{text_is}

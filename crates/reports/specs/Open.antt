@@ -16,22 +16,26 @@ use Rattle.store.specs.Open.{OpenWork}
 abbrev pub or_dash : List ℕ → List ℕ
 or_dash text = if length text == 0 then codes "-" else text
 
--- Advices: shipment number left in 22, how many lines right in 5, the pieces announced right in 15, and the order's number.
+-- Advices: shipment number left in 22, how many lines right in 5, the pieces announced right in 15,
+-- and the order's number.
 
 abbrev pub advice_columns : List ℕ → List ℕ → List ℕ → List ℕ → List ℕ
 advice_columns number lines expected order = columns
-    (padded most_number number ∷ right_aligned LINES_COLUMN lines ∷ right_aligned AMOUNT_COLUMN expected ∷ order ∷ [])
+    (padded most_number number ∷ right_aligned LINES_COLUMN lines
+    ∷ right_aligned AMOUNT_COLUMN expected ∷ order ∷ [])
 
 abbrev pub advice_headings : List ℕ
 advice_headings = advice_columns (codes "advice") (codes "lines") (codes "expected") (codes "order")
 
 abbrev pub advice_line : PageAdvice → List ℕ
-advice_line a = advice_columns a.shipment (decimal (length a.lines)) (decimal (total_of a.lines)) (or_dash a.order)
+advice_line a = advice_columns a.shipment (decimal (length a.lines)) (decimal (total_of a.lines))
+    (or_dash a.order)
 
 -- Orders: number left in 22, how many lines right in 5, and the name that it goes to.
 
 abbrev pub order_columns : List ℕ → List ℕ → List ℕ → List ℕ
-order_columns number lines name = columns (padded most_number number ∷ right_aligned LINES_COLUMN lines ∷ name ∷ [])
+order_columns number lines name =
+    columns (padded most_number number ∷ right_aligned LINES_COLUMN lines ∷ name ∷ [])
 
 abbrev pub order_headings : List ℕ
 order_headings = order_columns (codes "order") (codes "lines") (codes "ship to")
@@ -46,7 +50,8 @@ order_line k = order_columns k.number (decimal (length k.lines)) (or_dash (name_
 
 -- what is short of a line, as a picking sheet says it, after two spaces
 abbrev pub short_part : List Line → PageLine → List ℕ
-short_part reserved l = if short_of reserved l == 0 then [] else codes "  " ++ short_line l.item (short_of reserved l)
+short_part reserved l =
+    if short_of reserved l == 0 then [] else codes "  " ++ short_line l.item (short_of reserved l)
 
 -- an order, and its lines of which not all is reserved
 abbrev pub order_part : PageOrder → List ℕ

@@ -2,7 +2,8 @@
 use Rattle.std.specs.Prelude.{◌≡◌, ℕ, ◌-◌, List, [], ◌++◌, length, if◌then◌else◌, nat_lt, ◌==◌, Some, None, Ok, Err, codes, bytes_eq, filter, flat_map, Option, Result, option_to_list}
 use Rattle.profile.specs.Means.{Line}
 use Rattle.profile.specs.Page.{PageLine, PageOrder}
-use Rattle.profile.specs.Refusals as refusals
+use Rattle.profile.specs.declared.refusals.Refusal.{Refusal}
+use Rattle.profile.specs.declared.refusals.Refusal.TheVariants as refusals
 use Rattle.profile.specs.Reports.{ended, address_lines, pick_line}
 use Rattle.profile.specs.Texts.{total_of}
 use Rattle.reports.specs.declared.picking.NoSheet.{NoSheet}
@@ -24,7 +25,8 @@ short_of reserved l = l.quantity - total_of (held_of reserved l.item)
 
 -- the reservations of a line, and what is short
 abbrev pub order_lines : List Line → PageLine → List ℕ
-order_lines reserved l = held_lines (held_of reserved l.item) ++ short_line l.item (short_of reserved l)
+order_lines reserved l = held_lines (held_of reserved l.item)
+    ++ short_line l.item (short_of reserved l)
 
 -- a line of an address, after three spaces
 abbrev pub address_line : List ℕ → List ℕ
@@ -37,12 +39,12 @@ order_sheet k =
     ++ flat_map (order_lines k.reserved) k.lines
 
 -- the sheet of an order that was looked up
-abbrev pub listed : Option PageOrder → Result (List ℕ) refusals.Refusal
+abbrev pub listed : Option PageOrder → Result (List ℕ) Refusal
 listed None = Err refusals.UnknownOrder
 listed (Some k) = if k.is_open then Ok (order_sheet k) else Err refusals.OrderClosed
 
 -- why there is none; want of memory has no cause here
-abbrev pub Explains : Result (List ℕ) refusals.Refusal → NoSheet → Type 0
+abbrev pub Explains : Result (List ℕ) Refusal → NoSheet → Type 0
 Explains answer UnknownOrder = answer ≡ Err refusals.UnknownOrder
 Explains answer OrderClosed = answer ≡ Err refusals.OrderClosed
 Explains answer OutOfMemory = Unit {0}

@@ -12,7 +12,8 @@ use store::StockRow;
 
 // Appends the columns of an amount each, with a space before each.
 fn append_amounts(out: &mut Vec<u8>, amounts: &[&[u8]]) -> Result<(), AllocError>
-    ensures { OnOk result (out.new.items ≡ out.old.items ++ flat_map (λ a. 32 ∷ right_aligned 15 a.now) amounts.now) }
+    ensures { OnOk result (out.new.items ≡ out.old.items ++ flat_map
+        (λ a. 32 ∷ right_aligned 15 a.now) amounts.now) }
 {
     for amount in amounts {
         out.push(b' ')?;
@@ -29,7 +30,8 @@ fn append_line(
     expiry: &[u8],
     amounts: &[&[u8]; 4],
 ) -> Result<(), AllocError>
-    ensures { OnOk result (out.new.items ≡ out.old.items ++ meant.stock_columns Two item.now lot.now expiry.now (map (λ a. a.now) amounts.now)) }
+    ensures { OnOk result (out.new.items ≡ out.old.items
+        ++ meant.stock_columns Two item.now lot.now expiry.now (map (λ a. a.now) amounts.now)) }
 {
     append_left(out, item, MOST_ITEM)?;
     out.push(b' ')?;

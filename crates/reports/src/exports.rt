@@ -11,7 +11,8 @@ use store::StockRow;
 
 // Writes the record of a row.
 fn write_row(writer: &mut Writer<Vec<u8>>, row: &StockRow) -> Result<(), Error>
-    ensures { OnOk result ((text : List ℕ) → Holds writer.old text → Holds writer.new (text ++ meant.stock_record Two row.now)) }
+    ensures { OnOk result ((text : List ℕ) → Holds writer.old text
+        → Holds writer.new (text ++ meant.stock_record Two row.now)) }
 {
     let mut expected = Buffer::new();
     let mut on_hand = Buffer::new();

@@ -28,7 +28,8 @@ fn append_advice_columns(
     expected: &[u8],
     order: &[u8],
 ) -> Result<(), AllocError>
-    ensures { OnOk result (out.new.items ≡ out.old.items ++ meant.advice_columns number.now lines.now expected.now order.now) }
+    ensures { OnOk result (out.new.items ≡ out.old.items
+        ++ meant.advice_columns number.now lines.now expected.now order.now) }
 {
     append_left(out, number, MOST_NUMBER)?;
     out.push(b' ')?;
@@ -77,7 +78,8 @@ fn append_order_columns(
     lines: &[u8],
     name: &[u8],
 ) -> Result<(), AllocError>
-    ensures { OnOk result (out.new.items ≡ out.old.items ++ meant.order_columns number.now lines.now name.now) }
+    ensures { OnOk result (out.new.items ≡ out.old.items
+        ++ meant.order_columns number.now lines.now name.now) }
 {
     append_left(out, number, MOST_NUMBER)?;
     out.push(b' ')?;

@@ -65,7 +65,8 @@ fn append_address(out: &mut Vec<u8>, address: &Address) -> Result<(), AllocError
 
 // Appends where an order goes, if it says so.
 fn append_destination(out: &mut Vec<u8>, order: &KnownOrder) -> Result<(), AllocError>
-    ensures { OnOk result (out.new.items ≡ out.old.items ++ flat_map meant.address_lines (option_to_list order.now.address)) }
+    ensures { OnOk result (out.new.items ≡ out.old.items
+        ++ flat_map meant.address_lines (option_to_list order.now.address)) }
 {
     match &order.address {
         None => Ok(()),
@@ -161,8 +162,10 @@ fn sheet_of(alloc: Global, order: &KnownOrder) -> Result<Vec<u8>, NoSheet>
 
 // The picking sheet of a page's order, if there is one and it is open.
 fn sheet_on(alloc: Global, page: &Page, number: &[u8]) -> Result<Vec<u8>, NoSheet>
-    ensures ok { IfOk result (λ text. listed (order_at number.now page.now.orders) ≡ Ok text.items) }
-    ensures err { IfErr result (λ why. Explains (listed (order_at number.now page.now.orders)) why) }
+    ensures ok { IfOk result
+        (λ text. listed (order_at number.now page.now.orders) ≡ Ok text.items) }
+    ensures err { IfErr result
+        (λ why. Explains (listed (order_at number.now page.now.orders)) why) }
 {
     match page.order(number) {
         None => Err(NoSheet::UnknownOrder),
@@ -176,12 +179,18 @@ fn sheet_on(alloc: Global, page: &Page, number: &[u8]) -> Result<Vec<u8>, NoShee
 /// where a growth was refused.
 pub fn pick_list(alloc: Global, page: &Page, number: &[u8]) -> Result<Vec<u8>, NoSheet>
     // Of the history of which the page has the part that is needed.
-    ensures ok { IfOk result (λ text. (h : History) → IsHeldPart (need_of_number number.now) page.now h → meant.pick_list h.events number.now ≡ Ok text.items) }
-    ensures err { IfErr result (λ why. (h : History) → IsHeldPart (need_of_number number.now) page.now h → Explains (meant.pick_list h.events number.now) why) }
+    ensures ok { IfOk result
+        (λ text. (h : History) → IsHeldPart (need_of_number number.now) page.now h
+        → meant.pick_list h.events number.now ≡ Ok text.items) }
+    ensures err { IfErr result
+        (λ why. (h : History) → IsHeldPart (need_of_number number.now) page.now h
+        → Explains (meant.pick_list h.events number.now) why) }
 
     // The same of the page alone.
-    ensures sheet { IfOk result (λ text. listed (order_at number.now page.now.orders) ≡ Ok text.items) }
-    ensures none { IfErr result (λ why. Explains (listed (order_at number.now page.now.orders)) why) }
+    ensures sheet { IfOk result
+        (λ text. listed (order_at number.now page.now.orders) ≡ Ok text.items) }
+    ensures none { IfErr result
+        (λ why. Explains (listed (order_at number.now page.now.orders)) why) }
 {
     sheet_on(alloc, page, number)
 }

@@ -24,7 +24,8 @@ listed d = None
 
 -- the depositors that a text lists, if it is such a list
 abbrev pub depositors_of : List ℕ → Option (List Who)
-depositors_of text = option_and_then (λ ms. listed (get_member (codes "depositors") ms)) (parse_document text)
+depositors_of text =
+    option_and_then (λ ms. listed (get_member (codes "depositors") ms)) (parse_document text)
 
 -- what was read of a text; what is no UTF-8 lists nobody
 abbrev pub IsRead : List ℕ → Option (List Who) → Type 0

@@ -19,7 +19,8 @@ fn partner(value: &Value) -> Option<Who>
 
 // The depositors that the values name; None where one of them is no text that names one.
 fn partners(alloc: Global, values: &[Value]) -> Result<Option<Vec<Who>>, AllocError>
-    ensures { IfOk result (λ found. option_map (λ v. v.items) found ≡ meant.partners_in (items_view values.now)) }
+    ensures { IfOk result
+        (λ found. option_map (λ v. v.items) found ≡ meant.partners_in (items_view values.now)) }
 {
     let mut found = Vec::new(alloc);
     for value in values {
@@ -33,7 +34,9 @@ fn partners(alloc: Global, values: &[Value]) -> Result<Option<Vec<Who>>, AllocEr
 
 // The depositors that a table's key `depositors` names; None where that is no array of partners.
 fn listed(alloc: Global, table: &Table) -> Result<Option<Vec<Who>>, AllocError>
-    ensures { IfOk result (λ found. option_map (λ v. v.items) found ≡ meant.listed (get_member (codes "depositors") (table_view table.now))) }
+    ensures { IfOk result
+        (λ found. option_map (λ v. v.items) found
+        ≡ meant.listed (get_member (codes "depositors") (table_view table.now))) }
 {
     let Some(value) = table.get("depositors") else {
         return Ok(None);

@@ -1,4 +1,5 @@
--- The events that an entry adds to those before it: of sets, each new where it stands, or of one act.
+-- The events that an entry adds to those before it: of sets, each new where it stands, or of one
+-- act.
 use Rattle.std.proofs.Common.{◌≡◌, ℕ, Bool, true, false, not, List, [], ◌∷◌, ◌++◌, Option, Some, None, Ok, Err, refl, sym, subst, append_assoc, append-nil}
 use Rattle.std.specs.Prelude.{Result, is_some, is_none, if◌then◌else◌, option_to_list, ◌==◌, nat_lt}
 use Rattle.std.specs.List.{cons_option, list_any, list_all}
@@ -14,14 +15,16 @@ use Rattle.profile.specs.Header.{delims_of}
 use Rattle.profile.specs.Events.{Event, Advised, Ordered, Acknowledged, Counted, Picked, Recounted, Reserved, advice_under, order_under, advice_fault, order_fault, fault_where, expiry, repeated_pair, redated_pair, sooner, repeated_item, wrong_advice_total, wrong_order_total, is_advice_open, is_order_open, quantity_of, since}
 use Rattle.profile.specs.Allotment.{order_shares}
 use Rattle.profile.specs.Movements.{OnHand, Reservation, balance}
-use Rattle.profile.specs.Refusals.{Refusal, UnknownAdvice, AdviceClosed, UnknownOrder, OrderClosed, NotReserved, UnknownLot, BelowReserved, NoDifference}
+use Rattle.profile.specs.declared.refusals.Refusal.{Refusal}
+use Rattle.profile.specs.declared.refusals.Refusal.TheVariants.{UnknownAdvice, AdviceClosed, UnknownOrder, OrderClosed, NotReserved, UnknownLot, BelowReserved, NoDifference}
 use Rattle.profile.specs.Clerk.{counted, picked, recounted, performed, on_hand_now}
 use Rattle.profile.specs.History.{Rejection, event_of, unless, traded, judged, by_segment, outcome_of, verdicts_on, telling_of, events_told, tellings_on, events_added}
 use Rattle.profile.specs.Register.{Act, Count, Pick, Recount, Received}
 use Rattle.rules.specs.Judging.{passed, told_events}
 use Rattle.rules.proofs.Judges.{judged_sound, judged_faulty}
 
--- the event of a set after others: an advice and an order under a new number, an acknowledgment under its entry's
+-- the event of a set after others: an advice and an order under a new number, an acknowledgment
+-- under its entry's
 abbrev pub IsOfSet : List Event → ℕ → Event → Type 0
 IsOfSet es n (Advised a) = advice_under a.shipment es ≡ None
 IsOfSet es n (Ordered o shares) = order_under o.number es ≡ None

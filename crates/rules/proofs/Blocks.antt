@@ -1,4 +1,5 @@
--- Tables of rows that begin with a text: blocks in the order of their texts, and what is put into one of them.
+-- Tables of rows that begin with a text: blocks in the order of their texts, and what is put into
+-- one of them.
 use Rattle.std.proofs.Common.{◌≡◌, ℕ, Bool, true, false, not, ◌&&◌, ◌||◌, cond, List, [], ◌∷◌, ◌++◌, map, refl, sym, ap, ◌∙◌, subst, inl, inr, Some}
 use Rattle.std.specs.Prelude.{fold, find, flat_map, option_to_list, if◌then◌else◌}
 use Rattle.std.specs.List.{list_all}
@@ -71,17 +72,17 @@ module _ (key rest : TableRow → List Cell) (first : (t : List ℕ) (row : Tabl
   level : (t : List ℕ) (q r : TableRow) → key_before (key (Text t ∷ q)) (key (Text t ∷ r)) ≡ key_before (rest q) (rest r)
   level t q r = (λ i. key_before (first t q i) (first t r i)) ∙ (λ i. texts_never t i || (not (texts_never t i) && key_before (rest q) (rest r)))
 
-  put_behind : (t : List ℕ) (r : TableRow) (A T : List TableRow) → list_all (is_below t) A ≡ true
+  put_later : (t : List ℕ) (r : TableRow) (A T : List TableRow) → list_all (is_below t) A ≡ true
       → put_by key_before key (Text t ∷ r) (A ++ T) ≡ A ++ put_by key_before key (Text t ∷ r) T
-  put_behind t r [] T h = refl
-  put_behind t r ((Text s ∷ q) ∷ A) T h =
+  put_later t r [] T h = refl
+  put_later t r ((Text s ∷ q) ∷ A) T h =
       let a = and_parts (comes_before s t) (list_all (is_below t) A) h in
       (λ i. if not_higher s t q r a.0 i then (Text t ∷ r) ∷ (Text s ∷ q) ∷ (A ++ T)
-      else (if lower s t q r a.0 i then (Text s ∷ q) ∷ put_behind t r A T a.1 i else (Text t ∷ r) ∷ (A ++ T)))
-  put_behind t r ([] ∷ A) T h = absurd (cc (h))
-  put_behind t r ((Null ∷ q) ∷ A) T h = absurd (cc (h))
-  put_behind t r ((Number n ∷ q) ∷ A) T h = absurd (cc (h))
-  put_behind t r ((Blob b ∷ q) ∷ A) T h = absurd (cc (h))
+      else (if lower s t q r a.0 i then (Text s ∷ q) ∷ put_later t r A T a.1 i else (Text t ∷ r) ∷ (A ++ T)))
+  put_later t r ([] ∷ A) T h = absurd (cc (h))
+  put_later t r ((Null ∷ q) ∷ A) T h = absurd (cc (h))
+  put_later t r ((Number n ∷ q) ∷ A) T h = absurd (cc (h))
+  put_later t r ((Blob b ∷ q) ∷ A) T h = absurd (cc (h))
 
   put_here : (t : List ℕ) (r : TableRow) (B C : List TableRow) → list_all (is_above t) C ≡ true
       → put_by key_before key (Text t ∷ r) (prefixed t B ++ C) ≡ prefixed t (put_by key_before rest r B) ++ C
@@ -108,7 +109,7 @@ module _ (key rest : TableRow → List Cell) (first : (t : List ℕ) (row : Tabl
   -- what is put into the block of its text
   pub put_within : (t : List ℕ) (r : TableRow) (A B C : List TableRow) → list_all (is_below t) A ≡ true → list_all (is_above t) C ≡ true
       → put_by key_before key (Text t ∷ r) (A ++ (prefixed t B ++ C)) ≡ A ++ (prefixed t (put_by key_before rest r B) ++ C)
-  put_within t r A B C below above = put_behind t r A (prefixed t B ++ C) below ∙ ap (λ (T : List TableRow). A ++ T) (put_here t r B C above)
+  put_within t r A B C below above = put_later t r A (prefixed t B ++ C) below ∙ ap (λ (T : List TableRow). A ++ T) (put_here t r B C above)
 
   pub puts_within : (t : List ℕ) (A B C : List TableRow) (rs : List TableRow) → list_all (is_below t) A ≡ true → list_all (is_above t) C ≡ true
       → fold (λ (T : List TableRow) (r : TableRow). put_by key_before key (Text t ∷ r) T) (A ++ (prefixed t B ++ C)) rs
@@ -124,23 +125,23 @@ module _ (key rest : TableRow → List Cell) (first : (t : List ℕ) (row : Tabl
 pub record IsSplit {X K : Type 0} (less : K → K → Bool) (key : X → K) (is : X → Bool) (x : X) (ys : List X) : Type 0 where
   pub front : List X
   pub old : List X
-  pub behind : List X
-  pub all : ys ≡ front ++ (old ++ behind)
-  pub put : put_by less key x ys ≡ front ++ (x ∷ behind)
+  pub back : List X
+  pub all : ys ≡ front ++ (old ++ back)
+  pub put : put_by less key x ys ≡ front ++ (x ∷ back)
   pub below : list_all (λ y. less (key y) (key x)) front ≡ true
-  pub above : list_all (λ y. less (key x) (key y)) behind ≡ true
+  pub above : list_all (λ y. less (key x) (key y)) back ≡ true
   pub found : option_to_list (find is ys) ≡ old
 
 module _ {X K : Type 0} (less : K → K → Bool) (strict : IsStrict less) (key : X → K) where
   pub split : (is : X → Bool) (x : X) → IsTest key (key x) is → (ys : List X) → rises_by less key ys ≡ true → IsSplit less key is x ys
-  split is x test [] h = record { front = []; old = []; behind = []; all = refl; put = refl; below = refl; above = refl; found = refl }
+  split is x test [] h = record { front = []; old = []; back = []; all = refl; put = refl; below = refl; above = refl; found = refl }
   split is x test (y ∷ ys) h = let a = and_parts (list_all (λ z. less (key y) (key z)) ys) (rises_by less key ys) h in elim (cases_Bool (less (key x) (key y))) [
     | inl f ↦
         let all : list_all (λ z. less (key x) (key z)) (y ∷ ys) ≡ true = both (less (key x) (key y)) (list_all (λ z. less (key x) (key z)) ys) f (all_further less strict key (key x) (key y) ys f a.0) in
         record {
           front = [];
           old = [];
-          behind = y ∷ ys;
+          back = y ∷ ys;
           all = refl;
           put = rw f refl;
           below = refl;
@@ -157,7 +158,7 @@ module _ {X K : Type 0} (less : K → K → Bool) (strict : IsStrict less) (key 
           record {
             front = y ∷ later.front;
             old = later.old;
-            behind = later.behind;
+            back = later.back;
             all = ap (λ (zs : List X). y ∷ zs) later.all;
             put = rw (f, g) (ap (λ (zs : List X). y ∷ zs) later.put);
             below = both (less (key y) (key x)) (list_all (λ z. less (key z) (key x)) later.front) g later.below;
@@ -169,7 +170,7 @@ module _ {X K : Type 0} (less : K → K → Bool) (strict : IsStrict less) (key 
           record {
             front = [];
             old = y ∷ [];
-            behind = ys;
+            back = ys;
             all = refl;
             put = rw (f, g) refl;
             below = refl;

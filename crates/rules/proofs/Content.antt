@@ -1,4 +1,5 @@
--- What is known of the groups of an interchange without a note: each states a small number of sets, and there are few sets.
+-- What is known of the groups of an interchange without a note: each states a small number of sets,
+-- and there are few sets.
 use Rattle.std.proofs.Common.{◌≡◌, ℕ, zero, suc, ◌≤◌, Bool, true, false, List, [], ◌∷◌, Option, Some, None, refl, sym, ap, ◌∙◌, subst, arith, take, drop, map, length}
 use Rattle.std.specs.Prelude.{◌||◌, codes, find, is_none, option_and_then, sum_by, if◌then◌else◌}
 use Rattle.std.specs.List.{list_all, AllByRecursion, before_first, position_or_len}
@@ -38,9 +39,9 @@ module _ (p : Segment → Bool) where
   all_taken (suc n) [] h = refl
   all_taken (suc n) (s ∷ ss) h = let a = and_parts (p s) (list_all p ss) h in rw (a.0, all_taken n ss a.1) refl
 
-  all_behind : (ss : List Segment) → list_all p ss ≡ true → list_all p (drop 1 ss) ≡ true
-  all_behind [] h = refl
-  all_behind (s ∷ ss) h = (and_parts (p s) (list_all p ss) h).1
+  all_later : (ss : List Segment) → list_all p ss ≡ true → list_all p (drop 1 ss) ≡ true
+  all_later [] h = refl
+  all_later (s ∷ ss) h = (and_parts (p s) (list_all p ss) h).1
 
   abbrev Runs : Parted Segment → Type 0
   Runs parts = (list_all p parts.front ≡ true) × AllByRecursion (λ (run : Segment × List Segment). list_all p run.1 ≡ true) parts.runs
@@ -77,7 +78,7 @@ groups_small : (d : Delims) (ss : List Segment) → list_all (is_well_formed d) 
 groups_small d ss h =
     let inner = before_first (has_id (codes "IEA")) (drop 1 ss) in
     let all : list_all (is_well_formed d) inner ≡ true =
-    all_taken (is_well_formed d) (position_or_len (has_id (codes "IEA")) (drop 1 ss)) (drop 1 ss) (all_behind (is_well_formed d) ss h) in
+    all_taken (is_well_formed d) (position_or_len (has_id (codes "IEA")) (drop 1 ss)) (drop 1 ss) (all_later (is_well_formed d) ss h) in
     runs_small d ((parted (has_id (codes "GS")) inner).runs) ((all_parted (is_well_formed d) (has_id (codes "GS")) inner all).1)
 
 -- neither of two tests holds
@@ -88,7 +89,7 @@ neither false b h = (refl, h)
 -- what no note says of the content
 abbrev pub IsContent : List ℕ → Type 0
 IsContent text = AllByRecursion IsSmall (groups_of ((cut (delims_of text) text).segments))
-    × (sum_by (λ (g : Group). length g.sets) (groups_of ((cut (delims_of text) text).segments)) ≤ 1000)
+    × (sum_by (λ (g : Group). length g.sets) (groups_of ((cut (delims_of text) text).segments)) ≤ most_sets)
 
 pub content : (text : List ℕ) → structure_note text ≡ None → IsContent text
 content text none =

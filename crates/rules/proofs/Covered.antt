@@ -8,7 +8,7 @@ use Rattle.profile.specs.Events.{Event}
 use Rattle.profile.specs.History.{events, history}
 use Rattle.profile.specs.Movements.{Column, IsCovered, balance}
 use Rattle.profile.specs.Accepted.{IsLegal}
-use Rattle.stock.proofs.PageLaws.{balance_told, covered_events, small_amounts}
+use Rattle.stock.proofs.PageLaws.{balance_shows, covered_events, small_amounts}
 use Rattle.rules.specs.LegalPages.{IsLegalPage}
 use Rattle.profile.specs.Decision.{standing}
 use Rattle.rules.proofs.LegalPages.{legal_page, some_standing}
@@ -27,7 +27,7 @@ nothing_kept = record {
 page_kept : (M : List Entry) → ((P : _) × IsLegalPage P (history M)) → AreKept (events M)
 page_kept M (P, page) = record {
   covered = covered_events P (events M) page.sound page.page.shows;
-  small = λ c a b. omega (arith, balance_told P (events M) page.page.shows c a b, small_amounts P page.sound c a b);
+  small = λ c a b. omega (arith, balance_shows P (events M) page.page.shows c a b, small_amounts P page.sound c a b);
 }
 
 kept : (r : Rules) (W : Who) (L : List Entry) (w : Who) → IsLegal r W L → (M : List Entry) → own L w ≡ M → AreKept (events M)

@@ -1,4 +1,5 @@
--- The dates of pairs: the first of each stays for good, and a row that is put takes its date into the rows of `lot_expiry`.
+-- The dates of pairs: the first of each stays for good, and a row that is put takes its date into
+-- the rows of `lot_expiry`.
 use Rattle.std.proofs.Common.{◌≡◌, ℕ, Bool, true, false, cond, List, [], ◌∷◌, ◌++◌, map, refl, sym, ap, ◌∙◌, subst, inl, inr, Option, Some, None}
 use Rattle.std.specs.Prelude.{find, filter, flat_map, option_to_list, option_and_then}
 use Rattle.std.specs.List.{list_all}
@@ -10,7 +11,7 @@ use Rattle.profile.specs.Events.{Event, date_naming, expiry}
 use Rattle.profile.specs.Rows.{LotRow}
 use Rattle.profile.specs.Tables.{Text, TableRow, expiry_cells}
 use Rattle.stock.specs.Keyed.{Pair, key_before, put_by, rises_by, row_key, put_row, IsSorted}
-use Rattle.stock.specs.Told.{is_row, told_date, changed_rows}
+use Rattle.stock.specs.OfPairs.{is_row, date_of_pair, changed_rows}
 use Rattle.stock.specs.Pages.{PageFacts}
 use Rattle.stock.specs.Shows.{Shows}
 use Rattle.stock.proofs.Orders.{Has, IsStrict}
@@ -28,7 +29,7 @@ Dates = List ℕ → List ℕ → Option (List ℕ)
 
 -- the dates that rows tell are among these
 abbrev pub AreKept : Dates → List LotRow → Type 0
-AreKept known rows = (item lot : List ℕ) → KeepsDate (told_date item lot rows) (known item lot)
+AreKept known rows = (item lot : List ℕ) → KeepsDate (date_of_pair item lot rows) (known item lot)
 
 -- each row has the date of its pair
 abbrev pub AreDated : Dates → List LotRow → Type 0
@@ -52,10 +53,10 @@ dates_kept p es e shows item lot =
 abbrev date_found : Option LotRow → Option (List ℕ)
 date_found o = option_and_then (λ (q : LotRow). q.expiry) o
 
-pub date_put : (a b : List ℕ) (r : LotRow) (rows : List LotRow) → told_date a b (put_row r rows) ≡ cond (is_row a b r) r.expiry (told_date a b rows)
+pub date_put : (a b : List ℕ) (r : LotRow) (rows : List LotRow) → date_of_pair a b (put_row r rows) ≡ cond (is_row a b r) r.expiry (date_of_pair a b rows)
 date_put a b r rows = ap date_found (find_put key_before pairs_strict row_key (a, b) (is_row a b) (row_test a b) r rows) ∙ by (is_row a b r)
   where
-    by : (v : Bool) → date_found (cond v (Some r) (find (is_row a b) rows)) ≡ cond v r.expiry (told_date a b rows)
+    by : (v : Bool) → date_found (cond v (Some r) (find (is_row a b) rows)) ≡ cond v r.expiry (date_of_pair a b rows)
     by true = refl
     by false = refl
 
@@ -63,7 +64,7 @@ date_put a b r rows = ap date_found (find_put key_before pairs_strict row_key (a
 pub kept_put : (known : Dates) (r : LotRow) (rows : List LotRow) → r.expiry ≡ known r.item r.lot → AreKept known rows → AreKept known (put_row r rows)
 kept_put known r rows is kept a b = subst (λ (o : Option (List ℕ)). KeepsDate o (known a b)) (sym (date_put a b r rows)) (by (is_row a b r) refl)
   where
-    by : (v : Bool) → is_row a b r ≡ v → KeepsDate (cond v r.expiry (told_date a b rows)) (known a b)
+    by : (v : Bool) → is_row a b r ≡ v → KeepsDate (cond v r.expiry (date_of_pair a b rows)) (known a b)
     by true e =
         let date : r.expiry ≡ known a b = is ∙ ap (λ (k : Pair). known k.0 k.1) ((row_test a b).says r e) in
         subst (λ (o : Option (List ℕ)). KeepsDate o (known a b)) (sym date) (same_kept (known a b))
@@ -80,21 +81,21 @@ apart y x before = elim (cases_Bool (is_row x.item x.lot y)) [
   | inr e ↦ e
 ]
 
-dates_behind : (y : LotRow) (ys xs : List LotRow) → list_all (λ x. key_before (row_key y) (row_key x)) xs ≡ true → AreDated (λ a b. told_date a b ys) xs
-    → AreDated (λ a b. told_date a b (y ∷ ys)) xs
-dates_behind y ys [] above dated = tt
-dates_behind y ys (x ∷ xs) above dated =
+dates_later : (y : LotRow) (ys xs : List LotRow) → list_all (λ x. key_before (row_key y) (row_key x)) xs ≡ true → AreDated (λ a b. date_of_pair a b ys) xs
+    → AreDated (λ a b. date_of_pair a b (y ∷ ys)) xs
+dates_later y ys [] above dated = tt
+dates_later y ys (x ∷ xs) above dated =
     let p = and_parts (key_before (row_key y) (row_key x)) (list_all (λ z. key_before (row_key y) (row_key z)) xs) above in (
       dated.0 ∙ sym (ap (λ (v : Bool). date_found (cond v (Some y) (find (is_row x.item x.lot) ys))) (apart y x p.0)),
-      dates_behind y ys xs p.1 dated.1,
+      dates_later y ys xs p.1 dated.1,
     )
 
-rows_dated : (rows : List LotRow) → IsSorted rows → AreDated (λ a b. told_date a b rows) rows
+rows_dated : (rows : List LotRow) → IsSorted rows → AreDated (λ a b. date_of_pair a b rows) rows
 rows_dated [] sorted = tt
 rows_dated (y ∷ ys) sorted =
     let p = and_parts (list_all (λ x. key_before (row_key y) (row_key x)) ys) (rises_by key_before row_key ys) sorted in (
       sym (ap (λ (v : Bool). date_found (cond v (Some y) (find (is_row y.item y.lot) ys))) (own_row y)),
-      dates_behind y ys ys p.0 (rows_dated ys p.1),
+      dates_later y ys ys p.0 (rows_dated ys p.1),
     )
 
 dated_as : (f g : Dates) → ((a b : List ℕ) → f a b ≡ g a b) → (rows : List LotRow) → AreDated f rows → AreDated g rows
@@ -111,7 +112,7 @@ dated_some known p (r ∷ rows) dated = by (p r) (dated_some known p rows dated.
 
 -- the rows of a page have the dates that its events give
 all_dated : (p : PageFacts) (es : List Event) → IsSorted p.rows → Shows p es → AreDated (expiry es) p.rows
-all_dated p es sorted shows = dated_as (λ a b. told_date a b p.rows) (expiry es) (λ a b. sym (shows.expiries a b)) p.rows (rows_dated p.rows sorted)
+all_dated p es sorted shows = dated_as (λ a b. date_of_pair a b p.rows) (expiry es) (λ a b. sym (shows.expiries a b)) p.rows (rows_dated p.rows sorted)
 
 dated_has : (known : Dates) (rows : List LotRow) (r : LotRow) → AreDated known rows → Has r rows → r.expiry ≡ known r.item r.lot
 dated_has known [] r dated has = absurd has
@@ -168,7 +169,7 @@ dates_all p (y ∷ ys) h = let a = and_parts (p (row_key y)) (list_all (λ z. p 
     by None here rest = rest
     by (Some date) here rest = both (p (row_key y)) (list_all (λ (x : Dated). p x.0) (dates_of ys)) here rest
 
--- what is put behind all that come before it
+-- what is put after all that come before it
 module _ {X K : Type 0} (less : K → K → Bool) (strict : IsStrict less) (key : X → K) where
   put_past : (x : X) (A T : List X) → list_all (λ y. less (key y) (key x)) A ≡ true → put_by less key x (A ++ T) ≡ A ++ put_by less key x T
   put_past x [] T below = refl
@@ -181,15 +182,15 @@ module _ {X K : Type 0} (less : K → K → Bool) (strict : IsStrict less) (key 
       rw (back, p.0) (ap (λ (zs : List X). y ∷ zs) (put_past x A T p.1))
 
 -- in the place of the row that was found, if there was one
-module _ (r : LotRow) (date : List ℕ) (behind : List LotRow) (above : list_all (λ y. key_before (row_key r) (row_key y)) behind ≡ true) where
+module _ (r : LotRow) (date : List ℕ) (back : List LotRow) (above : list_all (λ y. key_before (row_key r) (row_key y)) back ≡ true) where
   abbrev dated : Dated
   dated = (row_key r, date)
 
-  first_put : put_by key_before pair_dated dated (dates_of behind) ≡ dated ∷ dates_of behind
-  first_put = put_front key_before pairs_strict pair_dated dated (dates_of behind) (dates_all (λ k. key_before (row_key r) k) behind above)
+  first_put : put_by key_before pair_dated dated (dates_of back) ≡ dated ∷ dates_of back
+  first_put = put_front key_before pairs_strict pair_dated dated (dates_of back) (dates_all (λ k. key_before (row_key r) k) back above)
 
   put_dated : (y : LotRow) (o : Option (List ℕ)) → row_key y ≡ row_key r
-      → put_by key_before pair_dated dated ((dates_at (row_key y) o ++ []) ++ dates_of behind) ≡ dated ∷ dates_of behind
+      → put_by key_before pair_dated dated ((dates_at (row_key y) o ++ []) ++ dates_of back) ≡ dated ∷ dates_of back
   put_dated y None same = first_put
   put_dated y (Some known) same =
       let low : key_before (row_key r) (row_key y) ≡ false = ap (key_before (row_key r)) same ∙ pairs_strict.never (row_key r) in
@@ -197,7 +198,7 @@ module _ (r : LotRow) (date : List ℕ) (behind : List LotRow) (above : list_all
       rw (low, high) refl
 
   put_found : (o : Option LotRow) → ((y : LotRow) → o ≡ Some y → row_key y ≡ row_key r)
-      → put_by key_before pair_dated dated (dates_of (option_to_list o) ++ dates_of behind) ≡ dated ∷ dates_of behind
+      → put_by key_before pair_dated dated (dates_of (option_to_list o) ++ dates_of back) ≡ dated ∷ dates_of back
   put_found None same = first_put
   put_found (Some y) same = put_dated y y.expiry (same y refl)
 
@@ -209,15 +210,15 @@ dated_put r date rows is sorted =
     let s = split key_before pairs_strict row_key (is_row r.item r.lot) r (row_test r.item r.lot) rows sorted in
     let x : Dated = (row_key r, date) in
     let A = dates_of s.front in
-    let C = dates_of s.behind in
+    let C = dates_of s.back in
     let here : dates_of rows ≡ A ++ (dates_of (option_to_list found) ++ C) =
-    ap dates_of s.all ∙ flat_map-append dates_in s.front (s.old ++ s.behind) ∙ ap (λ (T : List Dated). A ++ T) (flat_map-append dates_in s.old s.behind)
+    ap dates_of s.all ∙ flat_map-append dates_in s.front (s.old ++ s.back) ∙ ap (λ (T : List Dated). A ++ T) (flat_map-append dates_in s.old s.back)
     ∙ ap (λ (old : List LotRow). A ++ (dates_of old ++ C)) (sym s.found) in
     let there : dates_of (put_row r rows) ≡ A ++ (x ∷ C) =
-    ap dates_of s.put ∙ flat_map-append dates_in s.front (r ∷ s.behind) ∙ ap (λ (o : Option (List ℕ)). A ++ (dates_at (row_key r) o ++ C)) is in
+    ap dates_of s.put ∙ flat_map-append dates_in s.front (r ∷ s.back) ∙ ap (λ (o : Option (List ℕ)). A ++ (dates_at (row_key r) o ++ C)) is in
     ap (put_by key_before pair_dated x) here
     ∙ put_past key_before pairs_strict pair_dated x A (dates_of (option_to_list found) ++ C) (dates_all (λ k. key_before k (row_key r)) s.front s.below)
-    ∙ ap (λ (T : List Dated). A ++ T) (put_found r date s.behind s.above found (λ y some. (row_test r.item r.lot).says y (found_says (is_row r.item r.lot) rows y some)))
+    ∙ ap (λ (T : List Dated). A ++ T) (put_found r date s.back s.above found (λ y some. (row_test r.item r.lot).says y (found_says (is_row r.item r.lot) rows y some)))
     ∙ sym there
 
 -- and one without a date has none to lose
@@ -229,14 +230,14 @@ none_lost (Some y) kept = by y.expiry kept
     by None none = refl
     by (Some date) none = absurd (cc (none))
 
-pub undated_put : (r : LotRow) (rows : List LotRow) → r.expiry ≡ None → KeepsDate (told_date r.item r.lot rows) r.expiry → IsSorted rows
+pub undated_put : (r : LotRow) (rows : List LotRow) → r.expiry ≡ None → KeepsDate (date_of_pair r.item r.lot rows) r.expiry → IsSorted rows
     → dates_of rows ≡ dates_of (put_row r rows)
 undated_put r rows is kept sorted =
     let found = find (is_row r.item r.lot) rows in
     let s = split key_before pairs_strict row_key (is_row r.item r.lot) r (row_test r.item r.lot) rows sorted in
     let A = dates_of s.front in
-    let C = dates_of s.behind in
-    ap dates_of s.all ∙ flat_map-append dates_in s.front (s.old ++ s.behind) ∙ ap (λ (T : List Dated). A ++ T) (flat_map-append dates_in s.old s.behind)
+    let C = dates_of s.back in
+    ap dates_of s.all ∙ flat_map-append dates_in s.front (s.old ++ s.back) ∙ ap (λ (T : List Dated). A ++ T) (flat_map-append dates_in s.old s.back)
     ∙ ap (λ (old : List LotRow). A ++ (dates_of old ++ C)) (sym s.found)
     ∙ ap (λ (T : List Dated). A ++ (T ++ C)) (none_lost found (subst (KeepsDate (date_found found)) is kept))
-    ∙ sym (ap dates_of s.put ∙ flat_map-append dates_in s.front (r ∷ s.behind) ∙ ap (λ (o : Option (List ℕ)). A ++ (dates_at (row_key r) o ++ C)) is)
+    ∙ sym (ap dates_of s.put ∙ flat_map-append dates_in s.front (r ∷ s.back) ∙ ap (λ (o : Option (List ℕ)). A ++ (dates_at (row_key r) o ++ C)) is)

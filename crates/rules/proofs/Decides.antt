@@ -13,7 +13,7 @@ use Rattle.profile.specs.Structure.{groups_of}
 use Rattle.profile.specs.History.{History, tellings}
 use Rattle.profile.specs.Texts.{Told, answer}
 use Rattle.profile.specs.Register.{Command, Interchange, Deed, Enrolled, Received, Performed, Entry, mark, deed_mark, interchange_mark, body_of}
-use Rattle.profile.specs.Refusals.{Unreadable, Note, Duplicate}
+use Rattle.profile.specs.declared.refusals.Refusal.TheVariants.{Unreadable, Note, Duplicate}
 use Rattle.profile.specs.Reply.{Accepted, Refused, refusal_answer, interchange_entry}
 use Rattle.profile.specs.Decision as known
 use Rattle.sets_out.specs.Headings.{heading_of}

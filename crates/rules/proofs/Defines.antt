@@ -1,4 +1,5 @@
--- A page that stands for the own entries of a legal register is the one that the definitions give for them.
+-- A page that stands for the own entries of a legal register is the one that the definitions give
+-- for them.
 use Rattle.std.proofs.Common.{◌≡◌, ℕ, ◌+◌, ◌<◌, ◌≤◌, Bool, true, false, cond, List, [], ◌∷◌, ◌++◌, Option, Some, None, refl, sym, ap, ◌∙◌, inl, inr, arith, append_assoc, append-nil}
 use Rattle.std.specs.Prelude.{find, flat_map, option_map, if◌then◌else◌, ◌==◌, nat_lt}
 use Rattle.std.specs.List.{list_all}
@@ -40,9 +41,9 @@ is_sent n d = d.0 == n
 -- Documents that were sent stand by their numbers.
 
 -- each has at least this number
-sent_behind : (n k : ℕ) (M : List Entry) → n < k → list_all (λ (d : SentOne). nat_lt n d.0) (sent_on k M) ≡ true
-sent_behind n k [] lt = refl
-sent_behind n k (e ∷ M) lt = by e.deed (sent_behind n (k + (if is_numbered e then 1 else 0)) M (more (is_numbered e)))
+sent_later : (n k : ℕ) (M : List Entry) → n < k → list_all (λ (d : SentOne). nat_lt n d.0) (sent_on k M) ≡ true
+sent_later n k [] lt = refl
+sent_later n k (e ∷ M) lt = by e.deed (sent_later n (k + (if is_numbered e then 1 else 0)) M (more (is_numbered e)))
   where
     more : (b : Bool) → n < k + (if b then 1 else 0)
     more true = omega (arith, lt)
@@ -65,7 +66,7 @@ sent_rises k (e ∷ M) = by e.who e.moment e.deed e.rules (sent_rises (k + (if i
     by w t (Received text) q h same = h
     by w t (Performed ticket act) q h same =
         let lt : k < k + (if is_numbered e then 1 else 0) = omega (arith, ap (λ (b : Bool). cond {A = ℕ} b 1 0) same) in
-        both (list_all (λ (x : SentOne). nat_lt k x.0) (sent_on (k + (if is_numbered e then 1 else 0)) M)) _ (sent_behind k (k + (if is_numbered e then 1 else 0)) M lt) h
+        both (list_all (λ (x : SentOne). nat_lt k x.0) (sent_on (k + (if is_numbered e then 1 else 0)) M)) _ (sent_later k (k + (if is_numbered e then 1 else 0)) M lt) h
 
 -- What is found among them is what the events say.
 

@@ -226,16 +226,17 @@ pub depositors_stay : (L : List Entry) (e : Entry) → is_numbered e ≡ true �
 depositors_stay L e numbered =
     depositors_are (L ++ e ∷ []) ∙ ap (in_order who_before) (enrolled_more L e ∙ ap (λ (ws : List Who). enrolled_in L ++ ws) (numbered_deed e numbered []) ∙ append-nil (enrolled_in L)) ∙ sym (depositors_are L)
 
--- where the depositor of one entry more stands: at its place where it is enrolled, and else between others
+-- where the depositor of one entry more stands: at its place where it is enrolled, and else between
+-- others
 pub record IsAmong (L : List Entry) (e : Entry) : Type 0 where
   pub front : List Who
-  pub behind : List Who
+  pub back : List Who
   pub old : List Who
   pub old_is : old ≡ (if is_numbered e then e.who ∷ [] else [])
-  pub here : depositors L ≡ front ++ (old ++ behind)
-  pub there : depositors (L ++ e ∷ []) ≡ front ++ (e.who ∷ behind)
+  pub here : depositors L ≡ front ++ (old ++ back)
+  pub there : depositors (L ++ e ∷ []) ≡ front ++ (e.who ∷ back)
   pub below : list_all (λ (v : Who). comes_before (who_text v) (who_text e.who)) front ≡ true
-  pub above : list_all (λ (v : Who). comes_before (who_text e.who) (who_text v)) behind ≡ true
+  pub above : list_all (λ (v : Who). comes_before (who_text e.who) (who_text v)) back ≡ true
 
 pub among : (r : Rules) (W : Who) (L : List Entry) (e : Entry) → IsLegal r W L → is_partner e.who ≡ true → is_numbered e ≡ not (length (own L e.who) == 0) → IsAmong L e
 among r W L e legal partner follows = by (is_numbered e) refl
@@ -250,11 +251,11 @@ among r W L e legal partner follows = by (is_numbered e) refl
         let full : s.old ≡ e.who ∷ [] = sym s.found ∙ ap option_to_list found in
         record {
           front = s.front;
-          behind = s.behind;
+          back = s.back;
           old = s.old;
           old_is = full ∙ ap (λ (b : Bool). if b then e.who ∷ [] else []) (sym h);
           here = s.all;
-          there = depositors_stay L e h ∙ s.all ∙ ap (λ (ws : List Who). s.front ++ (ws ++ s.behind)) full;
+          there = depositors_stay L e h ∙ s.all ∙ ap (λ (ws : List Who). s.front ++ (ws ++ s.back)) full;
           below = s.below;
           above = s.above;
         }
@@ -268,7 +269,7 @@ among r W L e legal partner follows = by (is_numbered e) refl
         let gone : s.old ≡ [] = sym s.found ∙ ap option_to_list lost in
         record {
           front = s.front;
-          behind = s.behind;
+          back = s.back;
           old = s.old;
           old_is = gone ∙ ap (λ (b : Bool). if b then e.who ∷ [] else []) (sym h);
           here = s.all;

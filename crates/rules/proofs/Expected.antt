@@ -15,7 +15,7 @@ use Rattle.profile.specs.Structure.{Set, Group, kind_of, group_fault, examined, 
 use Rattle.profile.specs.Means.{Advice}
 use Rattle.profile.specs.Events.{Event, Enrolment, Advised}
 use Rattle.profile.specs.Movements.{Expected, IsExpectedWithin}
-use Rattle.profile.specs.Refusals.{Refusal}
+use Rattle.profile.specs.declared.refusals.Refusal.{Refusal}
 use Rattle.profile.specs.Clerk.{performed}
 use Rattle.profile.specs.Register.{Act, Count, Pick, Recount, Deed, Enrolled, Received, Performed, Entry, own}
 use Rattle.profile.specs.History.{Rejection, event_of, judged, by_segment, outcome_of, verdicts_on, telling_of, events_told, tellings_on, events_added, History, after_entry, history, events}

@@ -9,7 +9,8 @@ use Rattle.profile.specs.Moments.{Moment, is_moment}
 use Rattle.profile.specs.Header.{Who, is_partner, sender, isa, is_unreadable}
 use Rattle.profile.specs.Lists.{or_else}
 use Rattle.profile.specs.Events.{Event}
-use Rattle.profile.specs.Refusals.{Refusal, Unreadable, Duplicate, TicketUsed}
+use Rattle.profile.specs.declared.refusals.Refusal.{Refusal}
+use Rattle.profile.specs.declared.refusals.Refusal.TheVariants.{Unreadable, Duplicate, TicketUsed}
 use Rattle.profile.specs.Clerk.{performed}
 use Rattle.profile.specs.Halt.{header_notes, structure_notes, structure_note}
 use Rattle.profile.specs.Register.{Command, Interchange, Enrol, Clerk, Act, Deed, Enrolled, Received, Performed, Entry, own, command_mark, interchange_mark, ticket_mark, canonical, Known, known as find_known}

@@ -1,4 +1,5 @@
--- Each entry of a legal register, given again under its own rules after those before it, makes the same entry.
+-- Each entry of a legal register, given again under its own rules after those before it, makes the
+-- same entry.
 use Rattle.std.proofs.Common.{◌≡◌, Bool, true, false, List, [], ◌∷◌, ◌++◌, refl, sym, ap, ◌∙◌, subst, append_assoc, append-nil}
 use Rattle.std.specs.Prelude.{◌&&◌, map, if◌then◌else◌}
 use Rattle.profile.specs.declared.rules.Rules.{Rules}

@@ -17,17 +17,17 @@ use Rattle.stock.proofs.Texts.{texts_never, texts_through, texts_total}
 -- those that pass a test, where they stand together
 middle : {X : Type 0} (p : X → Bool) (xs : List X) (s n : ℕ) → s + n ≤ length xs → ((k : ℕ) (d : X) → k < s → p (get_or xs k d) ≡ false) → ((k : ℕ) (d : X) → s ≤ k → k < s + n → p (get_or xs k d) ≡ true)
     → ((k : ℕ) (d : X) → s + n ≤ k → k < length xs → p (get_or xs k d) ≡ false) → filter p xs ≡ take n (drop s xs)
-middle p [] zero zero bound before here behind = refl
-middle p [] zero (suc n) bound before here behind = absurd (omega (arith, bound))
-middle p [] (suc s) n bound before here behind = absurd (omega (arith, bound))
-middle p (x ∷ xs) zero zero bound before here behind =
-    rw (behind 0 x (omega arith) (omega arith)) (middle p xs zero zero (omega arith) (λ k d lt. absurd (omega (arith, lt))) (λ k d le lt. absurd (omega (arith, lt))) (λ k d le within. behind (suc k) d (omega arith) (omega (arith, within))))
-middle {X} p (x ∷ xs) zero (suc n) bound before here behind =
+middle p [] zero zero bound before here back = refl
+middle p [] zero (suc n) bound before here back = absurd (omega (arith, bound))
+middle p [] (suc s) n bound before here back = absurd (omega (arith, bound))
+middle p (x ∷ xs) zero zero bound before here back =
+    rw (back 0 x (omega arith) (omega arith)) (middle p xs zero zero (omega arith) (λ k d lt. absurd (omega (arith, lt))) (λ k d le lt. absurd (omega (arith, lt))) (λ k d le within. back (suc k) d (omega arith) (omega (arith, within))))
+middle {X} p (x ∷ xs) zero (suc n) bound before here back =
     rw (here 0 x (omega arith) (omega arith)) (ap (λ (ys : List X). x ∷ ys) (middle p xs zero n (omega (arith, bound)) (λ k d lt. absurd (omega (arith, lt))) (λ k d le lt. here (suc k) d (omega arith) (omega (arith, lt)))
-    (λ k d le within. behind (suc k) d (omega (arith, le)) (omega (arith, within)))))
-middle p (x ∷ xs) (suc s) n bound before here behind =
+    (λ k d le within. back (suc k) d (omega (arith, le)) (omega (arith, within)))))
+middle p (x ∷ xs) (suc s) n bound before here back =
     rw (before 0 x (omega arith)) (middle p xs s n (omega (arith, bound)) (λ k d lt. before (suc k) d (omega (arith, lt))) (λ k d le lt. here (suc k) d (omega (arith, le)) (omega (arith, lt)))
-    (λ k d le within. behind (suc k) d (omega (arith, le)) (omega (arith, within))))
+    (λ k d le within. back (suc k) d (omega (arith, le)) (omega (arith, within))))
 
 other_item : (l : Line) (item : List ℕ) → (l.item ≡ item → ⊥) → bytes_eq l.item item ≡ false
 other_item l item apart = elim (cases_Bool (bytes_eq l.item item)) [ inl e ↦ absurd (apart ((bytes_eq-Decides l.item item).0 e)) | inr e ↦ e ]
@@ -39,8 +39,8 @@ module _ (sheet : List Line) (item : List ℕ) (s e : ℕ) (start : IsRank comes
         let d : Line = record { item = []; lot = []; quantity = 0 } in
         let l : Line = get_or sheet e d in
         let before : comes_before l.item item ≡ true = start.below e d lt in
-        let behind : comes_before item l.item ≡ true = not_false (comes_before item l.item) (end.above e d (omega arith) (omega (arith, lt, start.bound))) in
-        absurd (both_ways (comes_before item item) (texts_never item) (texts_through item l.item item behind before))
+        let back : comes_before item l.item ≡ true = not_false (comes_before item l.item) (end.above e d (omega arith) (omega (arith, lt, start.bound))) in
+        absurd (both_ways (comes_before item item) (texts_never item) (texts_through item l.item item back before))
     | inr ge ↦ ge
   ]
 

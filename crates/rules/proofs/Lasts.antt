@@ -1,4 +1,5 @@
--- The changes that last make of a page what all make of it, are proper where all are, and name each pair once.
+-- The changes that last make of a page what all make of it, are proper where all are, and name each
+-- pair once.
 use Rattle.std.proofs.Common.{◌≡◌, ◌≢◌, ℕ, ◌+◌, ◌<◌, Bool, true, false, ◌||◌, cond, List, [], ◌∷◌, ◌++◌, length, get_or, set, refl, sym, ap, ◌∙◌, subst, inl, inr, arith, Option, Some, None, append_assoc, not, reverse, get_or-set_same, get_or-set_other}
 use Rattle.std.specs.Prelude.{find, fold, count_by}
 use Rattle.std.specs.List.{list_any}
@@ -9,10 +10,10 @@ use Rattle.profile.specs.History.{History}
 use Rattle.profile.specs.Rows.{LotRow}
 use Rattle.stock.specs.Keyed.{Pair, key_before, row_key, put_row, IsSorted}
 use Rattle.stock.specs.Moved.{IsPlace}
-use Rattle.stock.specs.Told.{is_row, told, told_date, one}
+use Rattle.stock.specs.OfPairs.{is_row, of_pair, date_of_pair, one}
 use Rattle.stock.specs.Pages.{PageFacts}
 use Rattle.stock.proofs.Keys.{find_put, was}
-use Rattle.stock.proofs.KeyLemmas.{pairs_strict, row_test, put_sorted, told_found, sorted_distinct}
+use Rattle.stock.proofs.KeyLemmas.{pairs_strict, row_test, put_sorted, of_pair_found, sorted_distinct}
 use Rattle.stock.proofs.Lefts.{place_once}
 use Rattle.stock.specs.Puts.{put_change}
 use Rattle.stock.specs.declared.steps.Change.{Change}
@@ -84,25 +85,25 @@ date_kept_on None y z first second = tt
 date_kept_on (Some date) y z first second = subst (λ (o : Option (List ℕ)). KeepsDate o z) first second
 
 abbrev dates_of_rows : List LotRow → List ℕ → List ℕ → Option (List ℕ)
-dates_of_rows rows = λ a b. told_date a b rows
+dates_of_rows rows = λ a b. date_of_pair a b rows
 
 -- others tell no dates but those of the rows
-kept_one : (r : LotRow) (rows others : List LotRow) → KeepsDate (told_date r.item r.lot rows) r.expiry → AreKept (dates_of_rows rows) others
+kept_one : (r : LotRow) (rows others : List LotRow) → KeepsDate (date_of_pair r.item r.lot rows) r.expiry → AreKept (dates_of_rows rows) others
     → AreKept (dates_of_rows (put_row r rows)) others
-kept_one r rows others keeps kept a b = subst (KeepsDate (told_date a b others)) (sym (date_put a b r rows)) (by (is_row a b r) refl)
+kept_one r rows others keeps kept a b = subst (KeepsDate (date_of_pair a b others)) (sym (date_put a b r rows)) (by (is_row a b r) refl)
   where
-    by : (v : Bool) → is_row a b r ≡ v → KeepsDate (told_date a b others) (cond v r.expiry (told_date a b rows))
+    by : (v : Bool) → is_row a b r ≡ v → KeepsDate (date_of_pair a b others) (cond v r.expiry (date_of_pair a b rows))
     by true e =
-        let here : KeepsDate (told_date a b rows) r.expiry = subst (λ (k : Pair). KeepsDate (told_date k.0 k.1 rows) r.expiry) ((row_test a b).says r e) keeps in
-        date_kept_on (told_date a b others) (told_date a b rows) r.expiry (kept a b) here
+        let here : KeepsDate (date_of_pair a b rows) r.expiry = subst (λ (k : Pair). KeepsDate (date_of_pair k.0 k.1 rows) r.expiry) ((row_test a b).says r e) keeps in
+        date_kept_on (date_of_pair a b others) (date_of_pair a b rows) r.expiry (kept a b) here
     by false e = kept a b
 
 kept_both : (r : LotRow) (rows others : List LotRow) → AreKept (dates_of_rows rows) others → AreKept (dates_of_rows (put_row r rows)) (put_row r others)
 kept_both r rows others kept a b =
-    subst (λ (o : Option (List ℕ)). KeepsDate o (told_date a b (put_row r rows))) (sym (date_put a b r others))
-    (subst (KeepsDate (cond (is_row a b r) r.expiry (told_date a b others))) (sym (date_put a b r rows)) (by (is_row a b r)))
+    subst (λ (o : Option (List ℕ)). KeepsDate o (date_of_pair a b (put_row r rows))) (sym (date_put a b r others))
+    (subst (KeepsDate (cond (is_row a b r) r.expiry (date_of_pair a b others))) (sym (date_put a b r rows)) (by (is_row a b r)))
   where
-    by : (v : Bool) → KeepsDate (cond v r.expiry (told_date a b others)) (cond v r.expiry (told_date a b rows))
+    by : (v : Bool) → KeepsDate (cond v r.expiry (date_of_pair a b others)) (cond v r.expiry (date_of_pair a b rows))
     by true = same_kept r.expiry
     by false = kept a b
 
@@ -112,7 +113,7 @@ proper (Stock r ∷ cs) p others kept h = elim (cases_Bool (list_any (is_of r.it
   | inl e ↦ subst (λ (v : Bool). AreProper (record p { rows = others }) (cond v (lasting cs) (Stock r ∷ lasting cs))) (sym e)
       (proper cs (put_change p (Stock r)) others (kept_one r p.rows others h.0 kept) h.1)
   | inr e ↦ subst (λ (v : Bool). AreProper (record p { rows = others }) (cond v (lasting cs) (Stock r ∷ lasting cs))) (sym e) (
-    date_kept_on (told_date r.item r.lot others) (told_date r.item r.lot p.rows) r.expiry (kept r.item r.lot) h.0,
+    date_kept_on (date_of_pair r.item r.lot others) (date_of_pair r.item r.lot p.rows) r.expiry (kept r.item r.lot) h.0,
     proper cs (put_change p (Stock r)) (put_row r others) (kept_both r p.rows others kept) h.1,
   )
 ]
@@ -128,7 +129,7 @@ lasting_leads cs p h leads =
     record {
       sorted = leads.sorted;
       page = subst (λ (q : PageFacts). IsPageOf (record q { entries = p.entries + 1; recent = 0 }) h) (sym same) leads.page;
-      proper = proper cs p p.rows (λ a b. same_kept (told_date a b p.rows)) leads.proper;
+      proper = proper cs p p.rows (λ a b. same_kept (date_of_pair a b p.rows)) leads.proper;
     }
 
 -- Each pair once.
@@ -191,7 +192,7 @@ pub rows_there : (cs : List Change) (p : PageFacts) → HaveRows (fold put_chang
 rows_there cs p a b none = (no_row a b cs p none).0
 
 -- so the row of a change's pair is found
-pub row_there : (r : LotRow) (rows : List LotRow) → IsSorted rows → HaveRows rows (Stock r ∷ []) → told one r.item r.lot rows ≡ 0 → ⊥
+pub row_there : (r : LotRow) (rows : List LotRow) → IsSorted rows → HaveRows rows (Stock r ∷ []) → of_pair one r.item r.lot rows ≡ 0 → ⊥
 row_there r rows sorted there none = by (find (is_row r.item r.lot) rows) refl
   where
     own : is_row r.item r.lot r ≡ true
@@ -199,7 +200,7 @@ row_there r rows sorted there none = by (find (is_row r.item r.lot) rows) refl
 
     by : (o : Option LotRow) → find (is_row r.item r.lot) rows ≡ o → ⊥
     by None h = let d : is_row r.item r.lot r ≡ false = (neither (is_row r.item r.lot r) false (there r.item r.lot h)).0 in absurd (cc (own, d))
-    by (Some x) h = let d : 1 ≡ 0 = ap (was one) (sym h) ∙ sym (told_found one r.item r.lot rows sorted) ∙ none in absurd (omega (arith, d))
+    by (Some x) h = let d : 1 ≡ 0 = ap (was one) (sym h) ∙ sym (of_pair_found one r.item r.lot rows sorted) ∙ none in absurd (omega (arith, d))
 
 -- Marks.
 
@@ -259,7 +260,8 @@ other_lasts (Document n accepts) other later = refl
 
 -- Going over changes from the last one on.
 
--- what is kept of those that were gone over, the last one first; those that are left stand before them
+-- what is kept of those that were gone over, the last one first; those that are left stand before
+-- them
 pub record AreKeptFrom (rows : List LotRow) (all left kept : List Change) (marks : List Bool) : Type 0 where
   pub later : List Change
   pub all_are : all ≡ left ++ later

@@ -8,7 +8,7 @@ use Rattle.profile.specs.Header.{Who, delims_of}
 use Rattle.profile.specs.Cut.{cut}
 use Rattle.profile.specs.Structure.{groups_of}
 use Rattle.profile.specs.Events.{Event}
-use Rattle.profile.specs.Refusals.{Refusal}
+use Rattle.profile.specs.declared.refusals.Refusal.{Refusal}
 use Rattle.profile.specs.Clerk.{performed}
 use Rattle.profile.specs.History.{History, events_added, after_entry}
 use Rattle.profile.specs.Texts.{Told}

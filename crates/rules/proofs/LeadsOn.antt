@@ -1,4 +1,5 @@
--- What a decision changes leads from the tables of a register to those of the register with one entry more.
+-- What a decision changes leads from the tables of a register to those of the register with one
+-- entry more.
 use Rattle.std.proofs.Common.{◌≡◌, ℕ, zero, suc, ◌+◌, Bool, true, false, not, List, [], ◌∷◌, ◌++◌, length, map, take, Option, Some, None, Ok, Err, refl, sym, ap, ◌∙◌, subst, arith}
 use Rattle.std.specs.Prelude.{Result, IfOk, bytes_eq, filter, flat_map, codes, ◌==◌, if◌then◌else◌}
 use Rattle.std.specs.List.{list_all}
@@ -47,25 +48,25 @@ use Rattle.rules.proofs.SentRows.{entry_put, entry_rules_put, row_put, all_frame
 
 -- the rows of the other depositors
 abbrev sides : (L : List Entry) (e : Entry) → IsAmong L e → (List Entry → List TableRow) → Sides
-sides L e a rows = record { front = blocks who_text (λ v. rows (own L v)) a.front; behind = blocks who_text (λ v. rows (own L v)) a.behind }
+sides L e a rows = record { front = blocks who_text (λ v. rows (own L v)) a.front; back = blocks who_text (λ v. rows (own L v)) a.back }
 
 beside : (L : List Entry) (e : Entry) (a : IsAmong L e) (rows : List Entry → List TableRow) → IsBeside (who_text e.who) (sides L e a rows)
 beside L e a rows = record {
   below = blocks_below who_text (λ v. rows (own L v)) (who_text e.who) a.front a.below;
-  above = blocks_above who_text (λ v. rows (own L v)) (who_text e.who) a.behind a.above;
+  above = blocks_above who_text (λ v. rows (own L v)) (who_text e.who) a.back a.above;
 }
 
 before : (L : List Entry) (e : Entry) (a : IsAmong L e) (rows : List Entry → List TableRow) → (is_numbered e ≡ false → rows (own L e.who) ≡ [])
     → for_each L rows ≡ framed (who_text e.who) (sides L e a rows) (rows (own L e.who))
 before L e a rows none =
     ap (blocks who_text (λ v. rows (own L v))) a.here
-    ∙ flat_map-append (λ v. prefixed (who_text v) (rows (own L v))) a.front (a.old ++ a.behind)
-    ∙ ap (λ (T : List TableRow). blocks who_text (λ v. rows (own L v)) a.front ++ T) (ap (λ (ws : List Who). blocks who_text (λ v. rows (own L v)) (ws ++ a.behind)) a.old_is ∙ by (is_numbered e) refl)
+    ∙ flat_map-append (λ v. prefixed (who_text v) (rows (own L v))) a.front (a.old ++ a.back)
+    ∙ ap (λ (T : List TableRow). blocks who_text (λ v. rows (own L v)) a.front ++ T) (ap (λ (ws : List Who). blocks who_text (λ v. rows (own L v)) (ws ++ a.back)) a.old_is ∙ by (is_numbered e) refl)
   where
-    by : (b : Bool) → is_numbered e ≡ b → blocks who_text (λ v. rows (own L v)) ((if b then e.who ∷ [] else []) ++ a.behind)
-        ≡ prefixed (who_text e.who) (rows (own L e.who)) ++ blocks who_text (λ v. rows (own L v)) a.behind
+    by : (b : Bool) → is_numbered e ≡ b → blocks who_text (λ v. rows (own L v)) ((if b then e.who ∷ [] else []) ++ a.back)
+        ≡ prefixed (who_text e.who) (rows (own L e.who)) ++ blocks who_text (λ v. rows (own L v)) a.back
     by true h = refl
-    by false h = ap (λ (T : List TableRow). prefixed (who_text e.who) T ++ blocks who_text (λ v. rows (own L v)) a.behind) (sym (none h))
+    by false h = ap (λ (T : List TableRow). prefixed (who_text e.who) T ++ blocks who_text (λ v. rows (own L v)) a.back) (sym (none h))
 
 -- Another depositor's entries stay.
 
@@ -81,20 +82,20 @@ front_same L e rows (v ∷ vs) h =
     let other : who_eq e.who v ≡ false = not_same e.who v (who_eq e.who v) refl (λ s. both_ways (comes_before (who_text v) (who_text v)) (texts_never (who_text v)) (ap (λ (u : Who). comes_before (who_text v) (who_text u)) (sym s) ∙ p.0)) in
     λ i. prefixed (who_text v) (rows (own_without L e v other i)) ++ front_same L e rows vs p.1 i
 
-behind_same : (L : List Entry) (e : Entry) (rows : List Entry → List TableRow) (vs : List Who) → list_all (λ (v : Who). comes_before (who_text e.who) (who_text v)) vs ≡ true
+later_same : (L : List Entry) (e : Entry) (rows : List Entry → List TableRow) (vs : List Who) → list_all (λ (v : Who). comes_before (who_text e.who) (who_text v)) vs ≡ true
     → blocks who_text (λ v. rows (own (L ++ e ∷ []) v)) vs ≡ blocks who_text (λ v. rows (own L v)) vs
-behind_same L e rows [] h = refl
-behind_same L e rows (v ∷ vs) h =
+later_same L e rows [] h = refl
+later_same L e rows (v ∷ vs) h =
     let p = and_parts (comes_before (who_text e.who) (who_text v)) (list_all (λ (u : Who). comes_before (who_text e.who) (who_text u)) vs) h in
     let other : who_eq e.who v ≡ false = not_same e.who v (who_eq e.who v) refl (λ s. both_ways (comes_before (who_text v) (who_text v)) (texts_never (who_text v)) (ap (λ (u : Who). comes_before (who_text u) (who_text v)) (sym s) ∙ p.0)) in
-    λ i. prefixed (who_text v) (rows (own_without L e v other i)) ++ behind_same L e rows vs p.1 i
+    λ i. prefixed (who_text v) (rows (own_without L e v other i)) ++ later_same L e rows vs p.1 i
 
-behind : (L : List Entry) (e : Entry) (a : IsAmong L e) (rows : List Entry → List TableRow)
+back : (L : List Entry) (e : Entry) (a : IsAmong L e) (rows : List Entry → List TableRow)
     → for_each (L ++ e ∷ []) rows ≡ framed (who_text e.who) (sides L e a rows) (rows (own L e.who ++ e ∷ []))
-behind L e a rows =
+back L e a rows =
     ap (blocks who_text (λ v. rows (own (L ++ e ∷ []) v))) a.there
-    ∙ flat_map-append (λ v. prefixed (who_text v) (rows (own (L ++ e ∷ []) v))) a.front (e.who ∷ a.behind)
-    ∙ (λ i. front_same L e rows a.front a.below i ++ (prefixed (who_text e.who) (rows (own_with L e i)) ++ behind_same L e rows a.behind a.above i))
+    ∙ flat_map-append (λ v. prefixed (who_text v) (rows (own (L ++ e ∷ []) v))) a.front (e.who ∷ a.back)
+    ∙ (λ i. front_same L e rows a.front a.below i ++ (prefixed (who_text e.who) (rows (own_with L e i)) ++ later_same L e rows a.back a.above i))
 
 -- All tables.
 
@@ -171,20 +172,20 @@ tables_before r W L e a p first h =
     (entry_rules_table L)
     ((before L e a expiry_rows (nothing expiry_rows e M first refl) ∙ ap (λ (rs : List LotRow). framed t (sides L e a expiry_rows) (flat_map expiry_cells rs)) (sym h.rows)) i)
 
-tables_behind : (r : Rules) (W : Who) (L : List Entry) (e : Entry) (a : IsAmong L e) (q : PageFacts) → IsHeld (own L e.who ++ e ∷ []) q
+tables_later : (r : Rules) (W : Who) (L : List Entry) (e : Entry) (a : IsAmong L e) (q : PageFacts) → IsHeld (own L e.who ++ e ∷ []) q
     → all_tables r W (L ++ e ∷ []) ≡ in_tables r W L e a (entry_table (L ++ e ∷ [])) (entry_rules_table (L ++ e ∷ [])) (own L e.who ++ e ∷ []) q
-tables_behind r W L e a q h =
+tables_later r W L e a q h =
     let t = who_text e.who in
     λ i. eleven (book_table r W) (entry_table (L ++ e ∷ []))
-    (behind L e a (outgoing_part W) i)
-    ((behind L e a stock_rows ∙ ap (λ (rs : List LotRow). framed t (sides L e a stock_rows) (map stock_cells rs)) (sym h.rows)) i)
-    ((behind L e a advice_rows ∙ ap (λ (ks : List PageAdvice). framed t (sides L e a advice_rows) (map advice_cells ks)) (sym h.advices)) i)
-    ((behind L e a advice_line_rows ∙ ap (λ (ks : List PageAdvice). framed t (sides L e a advice_line_rows) (flat_map advice_line_cells ks)) (sym h.advices)) i)
-    ((behind L e a orders_rows ∙ ap (λ (ks : List PageOrder). framed t (sides L e a orders_rows) (map orders_cells ks)) (sym h.orders)) i)
-    ((behind L e a order_line_rows ∙ ap (λ (ks : List PageOrder). framed t (sides L e a order_line_rows) (flat_map order_line_cells ks)) (sym h.orders)) i)
-    ((behind L e a reservation_rows ∙ ap (λ (ks : List PageOrder). framed t (sides L e a reservation_rows) (flat_map reservation_cells ks)) (sym h.orders)) i)
+    (back L e a (outgoing_part W) i)
+    ((back L e a stock_rows ∙ ap (λ (rs : List LotRow). framed t (sides L e a stock_rows) (map stock_cells rs)) (sym h.rows)) i)
+    ((back L e a advice_rows ∙ ap (λ (ks : List PageAdvice). framed t (sides L e a advice_rows) (map advice_cells ks)) (sym h.advices)) i)
+    ((back L e a advice_line_rows ∙ ap (λ (ks : List PageAdvice). framed t (sides L e a advice_line_rows) (flat_map advice_line_cells ks)) (sym h.advices)) i)
+    ((back L e a orders_rows ∙ ap (λ (ks : List PageOrder). framed t (sides L e a orders_rows) (map orders_cells ks)) (sym h.orders)) i)
+    ((back L e a order_line_rows ∙ ap (λ (ks : List PageOrder). framed t (sides L e a order_line_rows) (flat_map order_line_cells ks)) (sym h.orders)) i)
+    ((back L e a reservation_rows ∙ ap (λ (ks : List PageOrder). framed t (sides L e a reservation_rows) (flat_map reservation_cells ks)) (sym h.orders)) i)
     (entry_rules_table (L ++ e ∷ []))
-    ((behind L e a expiry_rows ∙ ap (λ (rs : List LotRow). framed t (sides L e a expiry_rows) (flat_map expiry_cells rs)) (sym h.rows)) i)
+    ((back L e a expiry_rows ∙ ap (λ (rs : List LotRow). framed t (sides L e a expiry_rows) (flat_map expiry_cells rs)) (sym h.rows)) i)
 
 -- A numbered entry.
 
@@ -277,7 +278,7 @@ numbered_leads r W L e p cs legal next numbered of leading =
     ∙ ap (λ (o : List TableRow). of_page (book_table r W) (entry_table (L ++ e ∷ [])) o (entry_rules_table (L ++ e ∷ [])) t (others L e a) q)
     (all_framed w S cs (outgoing_rows W M ++ new_out_row W M e ∷ []) (beside L e a (outgoing_part W))
     ∙ ap (λ (rows : List OutRow). framed t S (map outgoing_cells rows)) (rows_led W M e p q cs states numbered))
-    ∙ sym (tables_behind r W L e a q (held q (M ++ e ∷ []) sorted shows)))
+    ∙ sym (tables_later r W L e a q (held q (M ++ e ∷ []) sorted shows)))
 
 -- An enrolment.
 
@@ -308,13 +309,13 @@ enrolment_leads r W L e legal next unnumbered_one =
     let deed = unnumbered e unnumbered_one in
     let S = sides L e a (outgoing_part W) in
     let out_before : outgoing_rows W (own L e.who) ≡ [] = ap (outgoing_rows W) none in
-    let out_behind : outgoing_rows W (own L e.who ++ e ∷ []) ≡ [] = ap (λ (M : List Entry). outgoing_rows W (M ++ e ∷ [])) none ∙ enrolment_out W e.who e.moment e.deed e.rules deed in
+    let out_later : outgoing_rows W (own L e.who ++ e ∷ []) ≡ [] = ap (λ (M : List Entry). outgoing_rows W (M ++ e ∷ [])) none ∙ enrolment_out W e.who e.moment e.deed e.rules deed in
     lead_on r W L e []
     (ap (λ (ts : AllTables). entered W L e (is_numbered e) ts)
     (tables_before r W L e a blank (λ h. none) (subst (λ (M : List Entry). IsHeld M blank) (sym none) (record { rows = refl; advices = refl; orders = refl })))
     ∙ ap (λ (b : Bool). entered W L e b (in_tables r W L e a (entry_table L) (entry_rules_table L) (own L e.who) blank)) unnumbered_one
-    ∙ (λ i. of_page (book_table r W) (entry_put L e i) (framed t S (map outgoing_cells ((out_before ∙ sym out_behind) i))) (entry_rules_put L e i) t (others L e a) blank)
-    ∙ sym (tables_behind r W L e a blank (subst (λ (M : List Entry). IsHeld (M ++ e ∷ []) blank) (sym none) (enrolment_held e.who e.moment e.deed e.rules deed))))
+    ∙ (λ i. of_page (book_table r W) (entry_put L e i) (framed t S (map outgoing_cells ((out_before ∙ sym out_later) i))) (entry_rules_put L e i) t (others L e a) blank)
+    ∙ sym (tables_later r W L e a blank (subst (λ (M : List Entry). IsHeld (M ++ e ∷ []) blank) (sym none) (enrolment_held e.who e.moment e.deed e.rules deed))))
 
 -- Decisions.
 
@@ -361,7 +362,8 @@ led_from_some r c W L e p cs (Some h) legal next some stands leads =
     let numbered : is_numbered e ≡ true = (legal_follow r W (L ++ e ∷ []) L e [] next refl).numbered ∙ ap not was.some in
     numbered_leads r W L e P cs legal next numbered of (leads (history (own L e.who)) P stands.1 of)
 
--- what a decision changes by the page of the depositor that the command names leads on in the tables
+-- what a decision changes by the page of the depositor that the command names leads on in the
+-- tables
 pub tables_lead : (r : Rules) (page : Option (Bor PageFacts)) (c : Command) (t : Moment) (d : Decision) → LeadsFrom r page c t d
     → (W : Who) (L : List Entry) → StandsFor c page (standing (own_of L c)) → LeadsInTables r W L c t d
 tables_lead r page c t (Stored text) leads W L stands = tt

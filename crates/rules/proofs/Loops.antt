@@ -6,6 +6,7 @@ use Rattle.std.proofs.lemmas.List.{append_assoc, append-nil, map-append, take_mo
 use Rattle.std.proofs.lemmas.List.Sums.{sum_by-append}
 use Rattle.std.proofs.lemmas.List.Elements.{filter-append}
 use Rattle.std.proofs.lemmas.Grind.{flat_map-append}
+use Rattle.profile.specs.Limits.{most_sets}
 use Rattle.profile.specs.declared.rules.Rules.{Rules}
 use Rattle.profile.specs.Bytes.{Delims}
 use Rattle.profile.specs.Words.{SetKind}
@@ -19,7 +20,7 @@ use Rattle.stock.specs.Shows.{Shows}
 use Rattle.stock.specs.declared.steps.Change.{Change}
 use Rattle.stock.specs.Parts.{Named}
 use Rattle.rules.specs.Needs.{NamesSets, NamesGroup, NamesGroups}
-use Rattle.rules.proofs.Led.{after_none, after_both, same_both, part_behind, proper_behind}
+use Rattle.rules.proofs.Led.{after_none, after_both, same_both, part_later, proper_later}
 use Rattle.rules.specs.Judging.{after, passed, told_events, AreTaken, IsGroupTaken, AreGroupsTaken, IsSmall, is_answered, told_with, told_if}
 use Rattle.rules.proofs.Verdicts.{tellings_append}
 use Rattle.rules.proofs.Takes.{examined_length, examined_more, examined_closed, taken_both}
@@ -164,7 +165,7 @@ groups_both r d gs hs old mid new cs ds some more first second = record {
       let q = after cs mid.recent P in
       let later : Shows (after ds new.recent q) ((es ++ told_events ts) ++ told_events us) =
       subst (λ k. Shows (after ds new.recent q) ((es ++ told_events ts) ++ told_events (tellings_on r d (es ++ told_events ts) (k + 1) hs))) first.entries
-      (second.shows n q (es ++ told_events ts) (part_behind n cs old mid P first.same part) both.1 (first.shows n P es part both.0 shows)) in
+      (second.shows n q (es ++ told_events ts) (part_later n cs old mid P first.same part) both.1 (first.shows n P es part both.0 shows)) in
       let all : (es ++ told_events ts) ++ told_events us ≡ es ++ told_events (tellings_on r d es m (gs ++ hs)) =
       append_assoc es (told_events ts) (told_events us)
       ∙ ap (λ (x : List Event). es ++ x) (sym (ap told_events (tellings_append r d es m gs hs) ∙ flat_map-append events_told ts us)) in
@@ -172,8 +173,8 @@ groups_both r d gs hs old mid new cs ds some more first second = record {
   proper = λ n P es part names shows.
       let both = groups_named d n gs hs names in
       let q = after cs mid.recent P in
-      proper_behind cs ds mid.recent P (first.proper n P es part both.0 shows)
-      (second.proper n q (es ++ told_events (tellings_on r d es (old.entries + 1) gs)) (part_behind n cs old mid P first.same part) both.1 (first.shows n P es part both.0 shows));
+      proper_later cs ds mid.recent P (first.proper n P es part both.0 shows)
+      (second.proper n q (es ++ told_events (tellings_on r d es (old.entries + 1) gs)) (part_later n cs old mid P first.same part) both.1 (first.shows n P es part both.0 shows));
   told = λ n P es part names shows.
       let both = groups_named d n gs hs names in
       let m = old.entries + 1 in
@@ -181,7 +182,7 @@ groups_both r d gs hs old mid new cs ds some more first second = record {
       let us = tellings_on r d (es ++ told_events ts) m hs in
       let later : more ≡ map told_of (answered us) =
       subst (λ k. more ≡ map told_of (answered (tellings_on r d (es ++ told_events ts) (k + 1) hs))) first.entries
-      (second.told n (after cs mid.recent P) (es ++ told_events ts) (part_behind n cs old mid P first.same part) both.1 (first.shows n P es part both.0 shows)) in
+      (second.told n (after cs mid.recent P) (es ++ told_events ts) (part_later n cs old mid P first.same part) both.1 (first.shows n P es part both.0 shows)) in
       ap (λ (x : List Told). some ++ x) later ∙ ap (λ (x : List Told). x ++ map told_of (answered us)) (first.told n P es part both.0 shows)
       ∙ sym (ap (λ (x : List Telling). map told_of (answered x)) (tellings_append r d es m gs hs)
       ∙ ap (map told_of) (filter-append (λ (t : Telling). is_answered t.group) ts us) ∙ map-append told_of (answered ts) (answered us));
@@ -206,7 +207,7 @@ groups_go_on r d groups items i x start mid new cs ds told sets same within here
 -- there is room for a group more
 pub group_room : (d : Delims) (groups : List Group) (items : List GroupOf) (i : ℕ) (x : GroupOf) (start page : PageFacts)
     → items ≡ map (group_under d) groups → i < length items → x ≡ get_or items i x → page.recent ≤ start.recent + sum_by (λ (g : Group). length g.sets) (take i groups)
-    → start.recent + sum_by (λ (g : Group). length g.sets) groups ≤ 1000 → (page.recent + length x.group.sets ≤ 1000) × (length x.group.sets ≤ 1000)
+    → start.recent + sum_by (λ (g : Group). length g.sets) groups ≤ most_sets → (page.recent + length x.group.sets ≤ most_sets) × (length x.group.sets ≤ most_sets)
 group_room d groups items i x start page same within here before room =
     let size : Group → ℕ = λ (g : Group). length g.sets in
     let read = read_map (group_under d) groups items i x x.group same within here in

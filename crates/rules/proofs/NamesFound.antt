@@ -1,4 +1,5 @@
--- What is named of lists: what is found by a number that is named stands among those that are named.
+-- What is named of lists: what is found by a number that is named stands among those that are
+-- named.
 use Rattle.std.proofs.Common.{◌≡◌, ℕ, Bool, true, false, cond, ◌||◌, List, [], ◌∷◌, map, refl, ap, ◌∙◌, Option, Some, bytes_eq}
 use Rattle.std.specs.Prelude.{filter, flat_map, find}
 use Rattle.std.specs.List.{list_all}
@@ -37,7 +38,8 @@ module _ {X : Type 0} (number : X → List ℕ) (items : X → List (List ℕ)) 
   abbrev pub items_of_those : List X → List (List ℕ)
   items_of_those xs = flat_map items (those xs)
 
-  -- the items of the one that is found under a named number are among the items of those that are named
+  -- the items of the one that is found under a named number are among the items of those that are
+  -- named
   pub found_among : (s : List ℕ) → is_one_of names s ≡ true → (xs : List X) (k : X) → find (λ x. bytes_eq (number x) s) xs ≡ Some k
       → (t : List ℕ) → is_one_of (items k) t ≡ true → is_one_of (items_of_those xs) t ≡ true
   found_among s named [] k h t i = absurd (cc)

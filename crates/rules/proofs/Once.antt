@@ -1,11 +1,12 @@
--- No shipment number is announced twice and no order number ordered twice: an advice or an order is only added where no earlier one has its number.
+-- No shipment number is announced twice and no order number ordered twice: an advice or an order is
+-- only added where no earlier one has its number.
 use Rattle.std.proofs.Common.{◌≡◌, ℕ, ◌+◌, Bool, true, false, List, [], ◌∷◌, ◌++◌, ◌⊎◌, Option, Some, None, Ok, Err, refl, sym, ap, ◌∙◌, subst, inl, inr, append_assoc, append-nil}
 use Rattle.std.specs.Prelude.{Result, bytes_eq, fold, if◌then◌else◌}
 use Rattle.profile.specs.declared.rules.Rules.{Rules}
 use Rattle.profile.specs.Lists.{first_found}
 use Rattle.profile.specs.Means.{Advice}
 use Rattle.profile.specs.Events.{Event, Enrolment, Advised, Ordered, Acknowledged, Counted, Picked, Recounted, advice_if, advice_under, Reserved, order_if, order_under}
-use Rattle.profile.specs.Refusals.{Refusal}
+use Rattle.profile.specs.declared.refusals.Refusal.{Refusal}
 use Rattle.profile.specs.Clerk.{performed}
 use Rattle.profile.specs.Register.{Act, Count, Pick, Recount, Deed, Enrolled, Received, Performed, Entry}
 use Rattle.profile.specs.History.{History, after_entry, events, events_added}

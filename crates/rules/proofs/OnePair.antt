@@ -1,4 +1,5 @@
--- What a set brings of a pair: one line of it at most, since an advice that passes names no pair twice.
+-- What a set brings of a pair: one line of it at most, since an advice that passes names no pair
+-- twice.
 use Rattle.std.proofs.Common.{◌≡◌, ℕ, ◌*◌, ◌≤◌, Bool, true, false, ◌||◌, cond, List, [], ◌∷◌, ◌++◌, map, Option, Some, None, Ok, Err, length, is_some, refl, sym, ◌∙◌, subst, arith, inl, inr}
 use Rattle.std.proofs.lemmas.Bool.{cases_Bool, both_ways, leb-true}
 use Rattle.std.proofs.lemmas.List.Folds.{list_any-append}
@@ -21,7 +22,7 @@ use Rattle.profile.specs.History.{unless, traded, judged}
 use Rattle.profile.proofs.TextLaws.{both_parts}
 use Rattle.stock.proofs.Events.{or_else_left}
 use Rattle.stock.proofs.Finds.{map_none}
-use Rattle.stock.proofs.Tells.{pair_is}
+use Rattle.stock.proofs.OfPairLemmas.{pair_is}
 use Rattle.stock.proofs.Sums.{given_here}
 use Rattle.stock.proofs.Moves.{came_append, came_push, came_comes, came_goes}
 use Rattle.stock.proofs.Pairs.{quantity_yes, quantity_no}

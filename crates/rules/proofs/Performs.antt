@@ -21,7 +21,8 @@ use Rattle.rules.specs.declared.decisions.Decision.{Decision}
 use Rattle.profile.specs.Page.{PageAdvice, PageOrder, page_advice, page_order, page_line}
 use Rattle.profile.specs.Limits.{most_entries}
 use Rattle.profile.specs.Reply.{Accepted, clerk_entry}
-use Rattle.profile.specs.Refusals.{Refusal, AdviceClosed, OrderClosed, NotReserved, UnknownLot, BelowReserved, NoDifference}
+use Rattle.profile.specs.declared.refusals.Refusal.{Refusal}
+use Rattle.profile.specs.declared.refusals.Refusal.TheVariants.{AdviceClosed, OrderClosed, NotReserved, UnknownLot, BelowReserved, NoDifference}
 use Rattle.profile.specs.Texts.{document_of, document_text, total_of}
 use Rattle.profile.specs.Cut.{Segment}
 use Rattle.sets_out.specs.Documents.{AdjustedLine, ShippedLine, adjusted_for, shipped_for, shipment_body, adjustment_body}
@@ -31,8 +32,8 @@ use Rattle.stock.specs.Pages.{PageFacts, advice_at, order_at}
 use Rattle.stock.specs.Parts.{Named, IsPart, are_items}
 use Rattle.stock.specs.Shows.{Shows}
 use Rattle.rules.specs.Needs.{HasNeeded}
-use Rattle.stock.specs.Told.{told, amount}
-use Rattle.stock.proofs.Tells.{pair_is}
+use Rattle.stock.specs.OfPairs.{of_pair, amount}
+use Rattle.stock.proofs.OfPairLemmas.{pair_is}
 use Rattle.stock.proofs.Sums.{own_pair}
 use Rattle.stock.proofs.Pairs.{count_yes, count_no, quantity_yes, quantity_no, IsSheet, sheet_facts}
 use Rattle.rules.specs.Documents.{receipt_text, shipment_text, shipped_of, adjustment_text, adjusted_from}
@@ -149,7 +150,7 @@ adjusted_lines es p whole (l ∷ ls) shows sheet all =
     let once : count_by (is_pair l.item l.lot) whole ≡ 1 = omega (arith, sheet.once l.item l.lot, all.0) in
     let of : quantity_of (on_hand_now es whole) l.item l.lot ≡ balance es OnHand l.item l.lot =
     on_hand_of es l.item l.lot whole ∙ ap (λ x. x * balance es OnHand l.item l.lot) once ∙ omega arith in
-    let here : told (amount OnHand) l.item l.lot p.rows ≡ quantity_of (on_hand_now es whole) l.item l.lot = omega (arith, of, shows.amounts OnHand l.item l.lot) in
+    let here : of_pair (amount OnHand) l.item l.lot p.rows ≡ quantity_of (on_hand_now es whole) l.item l.lot = omega (arith, of, shows.amounts OnHand l.item l.lot) in
     ap (λ x. record { item = l.item; lot = l.lot; before = x; after = l.quantity } ∷ map (adjusted_from p) ls) here
     ∙ ap (λ (x : List AdjustedLine). adjusted_for (on_hand_now es whole) l ∷ x) (adjusted_lines es p whole ls shows sheet all.1)
 

@@ -9,7 +9,7 @@ use Rattle.profile.specs.Cut.{cut}
 use Rattle.profile.specs.Structure.{groups_of}
 use Rattle.profile.specs.Halt.{structure_note}
 use Rattle.profile.specs.Events.{Event, Enrolment}
-use Rattle.profile.specs.Refusals.{Refusal}
+use Rattle.profile.specs.declared.refusals.Refusal.{Refusal}
 use Rattle.profile.specs.Clerk.{performed, is_act}
 use Rattle.profile.specs.History.{History, tellings, events_added}
 use Rattle.profile.specs.Texts.{Told, told_of, answered, document_of}

@@ -1,4 +1,5 @@
--- What changes put into, take from or set in a depositor's rows, whose elements are blocks by their own numbers.
+-- What changes put into, take from or set in a depositor's rows, whose elements are blocks by their
+-- own numbers.
 use Rattle.std.proofs.Common.{◌≡◌, ℕ, ◌+◌, ◌<◌, Bool, true, false, List, [], ◌∷◌, ◌++◌, ◌⊎◌, map, refl, sym, ap, ◌∙◌, inl, inr, arith, Some, None, drop}
 use Rattle.std.specs.Prelude.{fold, filter, find, flat_map, option_to_list, nat_lt, if◌then◌else◌}
 use Rattle.std.specs.List.{list_all, enumerate_from}
@@ -10,7 +11,7 @@ use Rattle.profile.specs.Tables.{Cell, Null, Number, Text, Blob, TableRow}
 use Rattle.profile.specs.Schema.{Schema, key_before, key_in, cells_in, put_row}
 use Rattle.stock.specs.Keyed.{put_by, rises_by}
 use Rattle.stock.proofs.Orders.{IsStrict}
-use Rattle.stock.proofs.Keys.{IsTest, puts_behind}
+use Rattle.stock.proofs.Keys.{IsTest, puts_later}
 use Rattle.stock.proofs.KeyLemmas.{texts_strict, numbers_strict}
 use Rattle.rules.proofs.KeyedLists.{both}
 use Rattle.rules.proofs.Blocks.{prefixed, is_below, is_above, put_row_by, puts_map, puts_within, split, blocks, blocks_below, blocks_above}
@@ -38,8 +39,8 @@ fold_prefixed key t (r ∷ rs) T = fold_prefixed key t rs (put_by key_before key
 
 module _ {X : Type 0} (key rest : TableRow → List Cell) (first : (t : List ℕ) (row : TableRow) → key (Text t ∷ row) ≡ Text t ∷ rest row)
     (name : X → List ℕ) (rows : X → List TableRow) where
-  apart_blocks : (front behind : List X) → blocks name rows (front ++ behind) ≡ blocks name rows front ++ blocks name rows behind
-  apart_blocks front behind = flat_map-append (λ (x : X). prefixed (name x) (rows x)) front behind
+  apart_blocks : (front back : List X) → blocks name rows (front ++ back) ≡ blocks name rows front ++ blocks name rows back
+  apart_blocks front back = flat_map-append (λ (x : X). prefixed (name x) (rows x)) front back
 
   -- a new element brings its rows
   pub block_opened : (is : X → Bool) (x : X) (xs : List X) → IsTest name (name x) is → rises_by comes_before name xs ≡ true → find is xs ≡ None
@@ -49,14 +50,14 @@ module _ {X : Type 0} (key rest : TableRow → List Cell) (first : (t : List ℕ
       let s = split comes_before texts_strict name is x test xs rises in
       let t = name x in
       let A = blocks name rows s.front in
-      let C = blocks name rows s.behind in
+      let C = blocks name rows s.back in
       let empty : s.old ≡ [] = sym s.found ∙ ap option_to_list none in
       let there : blocks name rows xs ≡ A ++ (prefixed t [] ++ C) =
-      ap (blocks name rows) (s.all ∙ ap (λ (ys : List X). s.front ++ (ys ++ s.behind)) empty) ∙ apart_blocks s.front s.behind in
+      ap (blocks name rows) (s.all ∙ ap (λ (ys : List X). s.front ++ (ys ++ s.back)) empty) ∙ apart_blocks s.front s.back in
       ap (λ (T : List TableRow). fold (λ (U : List TableRow) (r : TableRow). put_by key_before key (Text t ∷ r) U) T (rows x)) there
-      ∙ puts_within key rest first t A [] C (rows x) (blocks_below name rows t s.front s.below) (blocks_above name rows t s.behind s.above)
+      ∙ puts_within key rest first t A [] C (rows x) (blocks_below name rows t s.front s.below) (blocks_above name rows t s.back s.above)
       ∙ ap (λ (B : List TableRow). A ++ (prefixed t B ++ C)) own
-      ∙ sym (ap (blocks name rows) s.put ∙ apart_blocks s.front (x ∷ s.behind))
+      ∙ sym (ap (blocks name rows) s.put ∙ apart_blocks s.front (x ∷ s.back))
 
 -- an element in the place of one with its name and its rows
 pub block_kept : {X : Type 0} (name : X → List ℕ) (rows : X → List TableRow) (is : X → Bool) (x y : X) (xs : List X) → IsTest name (name x) is → rises_by comes_before name xs ≡ true
@@ -64,9 +65,9 @@ pub block_kept : {X : Type 0} (name : X → List ℕ) (rows : X → List TableRo
 block_kept {X} name rows is x y xs test rises some same own =
     let s = split comes_before texts_strict name is x test xs rises in
     let full : s.old ≡ y ∷ [] = sym s.found ∙ ap option_to_list some in
-    ap (blocks name rows) s.put ∙ flat_map-append (λ (z : X). prefixed (name z) (rows z)) s.front (x ∷ s.behind)
-    ∙ (λ i. blocks name rows s.front ++ (prefixed (sym same i) (sym own i) ++ blocks name rows s.behind))
-    ∙ sym (ap (blocks name rows) (s.all ∙ ap (λ (ys : List X). s.front ++ (ys ++ s.behind)) full) ∙ flat_map-append (λ (z : X). prefixed (name z) (rows z)) s.front (y ∷ s.behind))
+    ap (blocks name rows) s.put ∙ flat_map-append (λ (z : X). prefixed (name z) (rows z)) s.front (x ∷ s.back)
+    ∙ (λ i. blocks name rows s.front ++ (prefixed (sym same i) (sym own i) ++ blocks name rows s.back))
+    ∙ sym (ap (blocks name rows) (s.all ∙ ap (λ (ys : List X). s.front ++ (ys ++ s.back)) full) ∙ flat_map-append (λ (z : X). prefixed (name z) (rows z)) s.front (y ∷ s.back))
 
 -- What a test takes away.
 
@@ -95,16 +96,16 @@ block_freed {X} p name rows is x y xs test rises some same none keeps frees =
     let s = split comes_before texts_strict name is x test xs rises in
     let full : s.old ≡ y ∷ [] = sym s.found ∙ ap option_to_list some in
     let A = blocks name rows s.front in
-    let C = blocks name rows s.behind in
+    let C = blocks name rows s.back in
     let there : blocks name rows xs ≡ A ++ (prefixed (name y) (rows y) ++ C) =
-    ap (blocks name rows) (s.all ∙ ap (λ (ys : List X). s.front ++ (ys ++ s.behind)) full) ∙ flat_map-append (λ (z : X). prefixed (name z) (rows z)) s.front (y ∷ s.behind) in
+    ap (blocks name rows) (s.all ∙ ap (λ (ys : List X). s.front ++ (ys ++ s.back)) full) ∙ flat_map-append (λ (z : X). prefixed (name z) (rows z)) s.front (y ∷ s.back) in
     let left : filter p A ≡ A = filter_blocks p name rows (λ (z : X). comes_before (name z) (name x)) s.front (λ z r h. keeps (name z) r (inl h)) s.below in
-    let right : filter p C ≡ C = filter_blocks p name rows (λ (z : X). comes_before (name x) (name z)) s.behind (λ z r h. keeps (name z) r (inr h)) s.above in
+    let right : filter p C ≡ C = filter_blocks p name rows (λ (z : X). comes_before (name x) (name z)) s.back (λ z r h. keeps (name z) r (inr h)) s.above in
     let gone : filter p (prefixed (name y) (rows y)) ≡ [] = ap (λ (t : List ℕ). filter p (prefixed t (rows y))) same ∙ filter_gone p (name x) (rows y) frees in
     ap (filter p) there ∙ filter-append p A (prefixed (name y) (rows y) ++ C)
     ∙ (λ i. left i ++ filter-append p (prefixed (name y) (rows y)) C i)
     ∙ (λ i. A ++ (gone i ++ right i))
-    ∙ sym (ap (blocks name rows) s.put ∙ flat_map-append (λ (z : X). prefixed (name z) (rows z)) s.front (x ∷ s.behind) ∙ (λ i. A ++ (prefixed (name x) (none i) ++ C)))
+    ∙ sym (ap (blocks name rows) s.put ∙ flat_map-append (λ (z : X). prefixed (name z) (rows z)) s.front (x ∷ s.back) ∙ (λ i. A ++ (prefixed (name x) (none i) ++ C)))
 
 -- Within a table.
 
@@ -165,7 +166,7 @@ enumerated_rise {X} n (x ∷ xs) = both (list_all (λ (p : ℕ × X). nat_lt n p
 pub puts_all : {X K : Type 0} (less : K → K → Bool) (strict : IsStrict less) (key : X → K) (rest : TableRow → List Cell) (g : X → TableRow)
     → ((x y : X) → key_before (rest (g x)) (rest (g y)) ≡ less (key x) (key y)) → (xs : List X) → rises_by less key xs ≡ true
     → fold (λ (T : List TableRow) (r : TableRow). put_by key_before rest r T) [] (map g xs) ≡ map g xs
-puts_all less strict key rest g same xs rises = puts_map less key rest g same [] xs ∙ ap (map g) (puts_behind less strict key [] xs rises)
+puts_all less strict key rest g same xs rises = puts_map less key rest g same [] xs ∙ ap (map g) (puts_later less strict key [] xs rises)
 
 pub puts_numbered : {X : Type 0} (rest : TableRow → List Cell) (g : ℕ × X → TableRow) → ((p : ℕ × X) → rest (g p) ≡ Number p.0 ∷ []) → (n : ℕ) (xs : List X)
     → fold (λ (T : List TableRow) (r : TableRow). put_by key_before rest r T) [] (map g (enumerate_from n xs)) ≡ map g (enumerate_from n xs)

@@ -13,7 +13,7 @@ use Rattle.profile.specs.Register.{Count, Pick}
 use Rattle.profile.specs.Page.{PageAdvice, PageOrder, PageDocument, reserved_lines}
 use Rattle.profile.proofs.TextLaws.{same_text}
 use Rattle.stock.specs.Keyed.{key_before, rises_by}
-use Rattle.stock.specs.Told.{told_date, changed_rows}
+use Rattle.stock.specs.OfPairs.{date_of_pair, changed_rows}
 use Rattle.stock.specs.Pages.{PageFacts, AreSorted, advice_at, order_at, document_at}
 use Rattle.stock.specs.Puts.{put, put_change}
 use Rattle.stock.specs.Shows.{Shows}
@@ -80,23 +80,23 @@ keep_dates p es e cs sorted shows next = record {
   dated = changed_dated p.rows (put cs p) (es ++ e ∷ []) (sorted_with_all cs p sorted).rows next;
 }
 
-behind_first : (r : LotRow) (rows : List LotRow) (p : PageFacts) → KeepDates p (r ∷ rows) → KeepDates (put_change p (Stock r)) rows
-behind_first r rows p keep = record { known = keep.known; kept = kept_put keep.known r p.rows keep.dated.0 keep.kept; dated = keep.dated.1 }
+later_first : (r : LotRow) (rows : List LotRow) (p : PageFacts) → KeepDates p (r ∷ rows) → KeepDates (put_change p (Stock r)) rows
+later_first r rows p keep = record { known = keep.known; kept = kept_put keep.known r p.rows keep.dated.0 keep.kept; dated = keep.dated.1 }
 
 row_proper : (r : LotRow) (rows : List LotRow) (p : PageFacts) → KeepDates p (r ∷ rows) → IsProper p (Stock r)
-row_proper r rows p keep = subst (KeepsDate (told_date r.item r.lot p.rows)) (sym keep.dated.0) (keep.kept r.item r.lot)
+row_proper r rows p keep = subst (KeepsDate (date_of_pair r.item r.lot p.rows)) (sym keep.dated.0) (keep.kept r.item r.lot)
 
 -- rows are put in first
 rows_first : (rows : List LotRow) (p : PageFacts) (more : List Change) → KeepDates p rows → ((rs : List LotRow) → AreProper (record p { rows = rs }) more) → AreProper p (map Stock rows ++ more)
 rows_first [] p more keep h = h p.rows
-rows_first (r ∷ rows) p more keep h = (row_proper r rows p keep, rows_first rows (put_change p (Stock r)) more (behind_first r rows p keep) h)
+rows_first (r ∷ rows) p more keep h = (row_proper r rows p keep, rows_first rows (put_change p (Stock r)) more (later_first r rows p keep) h)
 
 -- after the rows what was found, and more
 row_one : (rows : List LotRow) (p : PageFacts) (c : Change) (more : List Change) → KeepDates p rows
     → ((rs : List LotRow) → IsProper (record p { rows = rs }) c × AreProper (put_change (record p { rows = rs }) c) more)
     → AreProper p ((map Stock rows ++ c ∷ []) ++ more)
 row_one [] p c more keep h = h p.rows
-row_one (r ∷ rows) p c more keep h = (row_proper r rows p keep, row_one rows (put_change p (Stock r)) c more (behind_first r rows p keep) h)
+row_one (r ∷ rows) p c more keep h = (row_proper r rows p keep, row_one rows (put_change p (Stock r)) c more (later_first r rows p keep) h)
 
 -- Advices.
 

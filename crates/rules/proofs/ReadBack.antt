@@ -1,4 +1,5 @@
--- What a text looks like, and writes this text again, is the act of which it is the canonical one; and every act is found so.
+-- What a text looks like, and writes this text again, is the act of which it is the canonical one;
+-- and every act is found so.
 use Rattle.std.proofs.Common.{◌≡◌, ℕ, ◌+◌, ◌^◌, ◌<◌, ◌≤◌, Bool, true, false, not, ◌&&◌, ◌||◌, List, [], ◌∷◌, ◌++◌, refl, sym, ap, ◌∙◌, arith, leb-true, le-leb, le-ltb, lt-ltb, eqb-true, suc, decimal, codes, append_assoc, length, Option, Some, None, Ok, Err, flat_map, filter_map, cond, map, inl, inr, subst, take, get_or}
 use Rattle.std.specs.Prelude.{◌==◌, nat_le, nat_lt, bytes_eq, option_and_then, Result, count_by, if◌then◌else◌}
 use Rattle.std.specs.List.{list_all, list_any, cons_option}
@@ -16,7 +17,8 @@ use Rattle.profile.specs.Bytes.{is_between, is_identifier_byte, is_identifier, i
 use Rattle.profile.specs.Lists.{placed, in_order, has_repeats}
 use Rattle.profile.specs.Means.{Line}
 use Rattle.profile.specs.Events.{is_pair, pair_before}
-use Rattle.profile.specs.Refusals.{Refusal, TooMuch, RepeatedLine, BadText, TooManyLines}
+use Rattle.profile.specs.declared.refusals.Refusal.{Refusal}
+use Rattle.profile.specs.declared.refusals.Refusal.TheVariants.{TooMuch, RepeatedLine, BadText, TooManyLines}
 use Rattle.profile.specs.Register.{Act, Count, Pick, Recount, canonical, line_text}
 use Rattle.profile.specs.Clerk as clerk
 use Rattle.profile.specs.Clerk.{RawLine, is_act, is_sheet, is_sheet_line, is_ascending, quantity_limit, least_quantity, is_too_much, picks_nothing, is_bad_line, same_raw_pair, raw_line, line_of, sheet_of}

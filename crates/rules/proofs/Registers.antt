@@ -1,4 +1,5 @@
--- What holds of each accepted entry after its depositor's own holds along a legal register, and along a depositor's part of it.
+-- What holds of each accepted entry after its depositor's own holds along a legal register, and
+-- along a depositor's part of it.
 use Rattle.std.proofs.Common.{◌≡◌, ℕ, ◌+◌, Bool, true, false, List, [], ◌∷◌, ◌++◌, length, Option, Some, None, refl, sym, ap, ◌∙◌, subst, append_assoc, append-nil}
 use Rattle.std.specs.Prelude.{◌&&◌, ◌==◌, bytes_eq, if◌then◌else◌, Result, Ok, Err}
 use Rattle.std.proofs.lemmas.List.Elements.{filter-append}
@@ -6,7 +7,7 @@ use Rattle.profile.specs.declared.rules.Rules.{Rules}
 use Rattle.profile.specs.Moments.{Moment, is_moment}
 use Rattle.profile.specs.Header.{Who, who_eq}
 use Rattle.profile.specs.Events.{Event}
-use Rattle.profile.specs.Refusals.{Refusal}
+use Rattle.profile.specs.declared.refusals.Refusal.{Refusal}
 use Rattle.profile.specs.Clerk.{performed}
 use Rattle.profile.specs.Register.{Command, Interchange, Enrol, Clerk, Act, Deed, Enrolled, Received, Performed, Entry, own, ticket_mark, next_number}
 use Rattle.profile.specs.History.{History, history, events}

@@ -12,13 +12,13 @@ use Rattle.profile.specs.Events.{Event, is_pair, pair_before, first_count}
 use Rattle.profile.specs.Movements.{Column, Expected, OnHand, Reservation, Shipped, balance}
 use Rattle.profile.specs.Rows.{LotRow, named, lot_row, running_rows}
 use Rattle.profile.proofs.TextLaws.{same_text}
-use Rattle.stock.specs.Told.{told, one, since, amount, is_row, named_by, positive}
+use Rattle.stock.specs.OfPairs.{of_pair, one, since, amount, is_row, named_by, positive}
 use Rattle.stock.specs.Pages.{PageFacts, IsSound}
 use Rattle.stock.specs.Shows.{Shows}
 use Rattle.stock.specs.Keyed.{Pair, key_before, rises_by, row_key, IsSorted}
 use Rattle.stock.proofs.KeyLemmas.{pairs_strict, sorted_distinct}
 use Rattle.stock.proofs.Orders.{Has, Rises, order_of, total_of, in_order_rises, has_in_order, in_order_has, rising_same}
-use Rattle.stock.proofs.PageLaws.{balance_told}
+use Rattle.stock.proofs.PageLaws.{balance_shows}
 use Rattle.rules.proofs.Dates.{row_dated}
 
 -- Pairs of an item and a lot, in order.
@@ -82,15 +82,15 @@ line_has a (l ∷ ls) h = elim h [
 abbrev share : (LotRow → ℕ) → Pair → LotRow → ℕ
 share f a r = if is_row a.0 a.1 r then f r else 0
 
-told_yes : (f : LotRow → ℕ) (a : Pair) (r : LotRow) (rs : List LotRow) → is_row a.0 a.1 r ≡ true → told f a.0 a.1 (r ∷ rs) ≡ f r + told f a.0 a.1 rs
-told_yes f a r rs e = sum_by-cons (share f a) r rs ∙ ap (λ (t : Bool). cond t (f r) 0 + told f a.0 a.1 rs) e
+of_pair_yes : (f : LotRow → ℕ) (a : Pair) (r : LotRow) (rs : List LotRow) → is_row a.0 a.1 r ≡ true → of_pair f a.0 a.1 (r ∷ rs) ≡ f r + of_pair f a.0 a.1 rs
+of_pair_yes f a r rs e = sum_by-cons (share f a) r rs ∙ ap (λ (t : Bool). cond t (f r) 0 + of_pair f a.0 a.1 rs) e
 
-told_no : (f : LotRow → ℕ) (a : Pair) (r : LotRow) (rs : List LotRow) → is_row a.0 a.1 r ≡ false → told f a.0 a.1 (r ∷ rs) ≡ told f a.0 a.1 rs
-told_no f a r rs e =
-    let h : told f a.0 a.1 (r ∷ rs) ≡ 0 + told f a.0 a.1 rs = sum_by-cons (share f a) r rs ∙ ap (λ (t : Bool). cond t (f r) 0 + told f a.0 a.1 rs) e in
+of_pair_no : (f : LotRow → ℕ) (a : Pair) (r : LotRow) (rs : List LotRow) → is_row a.0 a.1 r ≡ false → of_pair f a.0 a.1 (r ∷ rs) ≡ of_pair f a.0 a.1 rs
+of_pair_no f a r rs e =
+    let h : of_pair f a.0 a.1 (r ∷ rs) ≡ 0 + of_pair f a.0 a.1 rs = sum_by-cons (share f a) r rs ∙ ap (λ (t : Bool). cond t (f r) 0 + of_pair f a.0 a.1 rs) e in
     omega (arith, h)
 
-has_row : (a : Pair) (rs : List LotRow) → 1 ≤ told one a.0 a.1 rs → Has a (map row_key rs)
+has_row : (a : Pair) (rs : List LotRow) → 1 ≤ of_pair one a.0 a.1 rs → Has a (map row_key rs)
 has_row a [] h = absurd (omega (arith, h))
 has_row a (r ∷ rs) h = elim (cases_Bool (is_row a.0 a.1 r)) [
   | inl e ↦
@@ -98,45 +98,45 @@ has_row a (r ∷ rs) h = elim (cases_Bool (is_row a.0 a.1 r)) [
       let item = (bytes_eq-Decides r.item a.0).0 p.0 in
       let lot = (bytes_eq-Decides r.lot a.1).0 p.1 in
       inl (λ i. (sym item i, sym lot i))
-  | inr e ↦ inr (has_row a rs (omega (arith, h, told_no one a r rs e)))
+  | inr e ↦ inr (has_row a rs (omega (arith, h, of_pair_no one a r rs e)))
 ]
 
 own_row : (r : LotRow) → is_row r.item r.lot r ≡ true
 own_row r = λ i. same_text r.item i && same_text r.lot i
 
-row_has : (a : Pair) (rs : List LotRow) → Has a (map row_key rs) → 1 ≤ told one a.0 a.1 rs
+row_has : (a : Pair) (rs : List LotRow) → Has a (map row_key rs) → 1 ≤ of_pair one a.0 a.1 rs
 row_has a [] h = absurd h
 row_has a (r ∷ rs) h = elim h [
-  | inl e ↦ subst (λ (b : Pair). 1 ≤ told one b.0 b.1 (r ∷ rs)) (sym e) (omega (arith, told_yes one (row_key r) r rs (own_row r)))
+  | inl e ↦ subst (λ (b : Pair). 1 ≤ of_pair one b.0 b.1 (r ∷ rs)) (sym e) (omega (arith, of_pair_yes one (row_key r) r rs (own_row r)))
   | inr f ↦ elim (cases_Bool (is_row a.0 a.1 r)) [
-    | inl e ↦ omega (arith, told_yes one a r rs e)
-    | inr e ↦ omega (arith, row_has a rs f, told_no one a r rs e)
+    | inl e ↦ omega (arith, of_pair_yes one a r rs e)
+    | inr e ↦ omega (arith, row_has a rs f, of_pair_no one a r rs e)
   ]
 ]
 
 -- what a row tells of its pair, where no other does
 
-told_none : (f : LotRow → ℕ) (a : Pair) (rs : List LotRow) → told one a.0 a.1 rs ≡ 0 → told f a.0 a.1 rs ≡ 0
-told_none f a [] h = refl
-told_none f a (r ∷ rs) h = elim (cases_Bool (is_row a.0 a.1 r)) [
-  | inl e ↦ absurd (omega (arith, h, told_yes one a r rs e))
-  | inr e ↦ told_no f a r rs e ∙ told_none f a rs (omega (arith, h, told_no one a r rs e))
+of_pair_none : (f : LotRow → ℕ) (a : Pair) (rs : List LotRow) → of_pair one a.0 a.1 rs ≡ 0 → of_pair f a.0 a.1 rs ≡ 0
+of_pair_none f a [] h = refl
+of_pair_none f a (r ∷ rs) h = elim (cases_Bool (is_row a.0 a.1 r)) [
+  | inl e ↦ absurd (omega (arith, h, of_pair_yes one a r rs e))
+  | inr e ↦ of_pair_no f a r rs e ∙ of_pair_none f a rs (omega (arith, h, of_pair_no one a r rs e))
 ]
 
 has_key : (r : LotRow) (rs : List LotRow) → Has r rs → Has (row_key r) (map row_key rs)
 has_key r [] h = absurd h
 has_key r (q ∷ qs) h = elim h [ inl e ↦ inl (ap row_key e) | inr f ↦ inr (has_key r qs f) ]
 
-told_own : (f : LotRow → ℕ) (r : LotRow) (rs : List LotRow) → Has r rs → told one r.item r.lot rs ≤ 1 → told f r.item r.lot rs ≡ f r
-told_own f r [] h few = absurd h
-told_own f r (q ∷ qs) h few = elim h [
+of_pair_own : (f : LotRow → ℕ) (r : LotRow) (rs : List LotRow) → Has r rs → of_pair one r.item r.lot rs ≤ 1 → of_pair f r.item r.lot rs ≡ f r
+of_pair_own f r [] h few = absurd h
+of_pair_own f r (q ∷ qs) h few = elim h [
   | inl e ↦
       let mine : is_row r.item r.lot q ≡ true = subst (λ (x : LotRow). is_row r.item r.lot x ≡ true) e (own_row r) in
-      let rest : told one r.item r.lot qs ≡ 0 = omega (arith, few, told_yes one (row_key r) q qs mine) in
-      told_yes f (row_key r) q qs mine ∙ (λ i. f (sym e i) + told_none f (row_key r) qs rest i) ∙ omega arith
+      let rest : of_pair one r.item r.lot qs ≡ 0 = omega (arith, few, of_pair_yes one (row_key r) q qs mine) in
+      of_pair_yes f (row_key r) q qs mine ∙ (λ i. f (sym e i) + of_pair_none f (row_key r) qs rest i) ∙ omega arith
   | inr g ↦ elim (cases_Bool (is_row r.item r.lot q)) [
-    | inl e ↦ absurd (omega (arith, few, told_yes one (row_key r) q qs e, row_has (row_key r) qs (has_key r qs g)))
-    | inr e ↦ told_no f (row_key r) q qs e ∙ told_own f r qs g (omega (arith, few, told_no one (row_key r) q qs e))
+    | inl e ↦ absurd (omega (arith, few, of_pair_yes one (row_key r) q qs e, row_has (row_key r) qs (has_key r qs g)))
+    | inr e ↦ of_pair_no f (row_key r) q qs e ∙ of_pair_own f r qs g (omega (arith, few, of_pair_no one (row_key r) q qs e))
   ]
 ]
 
@@ -153,8 +153,8 @@ row_is : (p : PageFacts) (es : List Event) (r : LotRow) → IsSorted p.rows → 
 row_is p es r sorted shows has =
     let once = sorted_distinct p.rows sorted r.item r.lot in
     let date = row_dated p es r sorted shows has in
-    let column : (c : Column) → balance es c r.item r.lot ≡ amount c r = λ c. sym (balance_told p es shows c r.item r.lot) ∙ told_own (amount c) r p.rows has once in
-    let first : unwrap_or (first_count es r.item r.lot) 0 ≡ r.since = since_is (first_count es r.item r.lot) (told since r.item r.lot p.rows) (shows.sinces r.item r.lot) ∙ told_own since r p.rows has once in
+    let column : (c : Column) → balance es c r.item r.lot ≡ amount c r = λ c. sym (balance_shows p es shows c r.item r.lot) ∙ of_pair_own (amount c) r p.rows has once in
+    let first : unwrap_or (first_count es r.item r.lot) 0 ≡ r.since = since_is (first_count es r.item r.lot) (of_pair since r.item r.lot p.rows) (shows.sinces r.item r.lot) ∙ of_pair_own since r p.rows has once in
     let expected = column Expected in
     let on_hand = column OnHand in
     let reserved = column Reservation in

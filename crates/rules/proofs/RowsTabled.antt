@@ -1,4 +1,5 @@
--- Changes of a page as changes of the tables, worked for an advice, its count, an order, its pick and an acknowledgment.
+-- Changes of a page as changes of the tables, worked for an advice, its count, an order, its pick
+-- and an acknowledgment.
 use Rattle.std.specs.Prelude.{◌≡◌, true, false, List, [], ◌∷◌, Some, None, codes}
 use Rattle.std.proofs.Common.{refl, ℕ, Bool}
 use Rattle.profile.specs.Header.{Who}

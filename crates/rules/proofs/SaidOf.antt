@@ -1,4 +1,5 @@
--- What is said of documents: no acknowledgment names a document of a later entry, and proper changes decide the documents that the events decide.
+-- What is said of documents: no acknowledgment names a document of a later entry, and proper
+-- changes decide the documents that the events decide.
 use Rattle.std.proofs.Common.{◌≡◌, ℕ, ◌+◌, ◌<◌, ◌≤◌, Bool, true, false, ◌&&◌, cond, List, [], ◌∷◌, ◌++◌, Option, Some, None, Ok, Err, refl, sym, ap, ◌∙◌, inl, inr, arith}
 use Rattle.std.specs.Prelude.{Result, is_some, fold, option_map, if◌then◌else◌, ◌==◌, nat_lt, bytes_eq}
 use Rattle.std.specs.Option.{option_or}
@@ -9,7 +10,7 @@ use Rattle.profile.specs.Lists.{or_else}
 use Rattle.profile.specs.Moments.{Moment}
 use Rattle.profile.specs.Header.{Who}
 use Rattle.profile.specs.Events.{Event, Enrolment, Advised, Ordered, Acknowledged, Counted, Picked, Recounted}
-use Rattle.profile.specs.Refusals.{Refusal}
+use Rattle.profile.specs.declared.refusals.Refusal.{Refusal}
 use Rattle.profile.specs.Clerk.{performed}
 use Rattle.profile.specs.Rows.{OutRow, acknowledges, said_of, state_text}
 use Rattle.profile.specs.Page.{PageDocument}

@@ -111,8 +111,8 @@ next_more before (e ∷ M) =
         grown true = omega arith
         grown false = omega arith
 
-next_behind : (before : List Entry) (e : Entry) (M : List Entry) → is_numbered e ≡ true → next_number before + 1 ≤ next_number (before ++ e ∷ M)
-next_behind before e M h =
+next_later : (before : List Entry) (e : Entry) (M : List Entry) → is_numbered e ≡ true → next_number before + 1 ≤ next_number (before ++ e ∷ M)
+next_later before e M h =
     omega (arith, next_more (before ++ e ∷ []) M, ap next_number (append_assoc before (e ∷ []) M), next_snoc before e, ap (λ (b : Bool). cond {A = ℕ} b 1 0) h)
 
 row_number : (W : Who) (es : List Event) (before : List Entry) (e : Entry) → (out_row W es before e).n ≡ next_number before
@@ -140,7 +140,7 @@ all_lower W es before (e ∷ M) n le = by (is_numbered e) refl (all_lower W es (
   where
     by : (b : Bool) → is_numbered e ≡ b → list_all (λ (q : OutRow). nat_lt q.n n) (outgoing_on W es (before ++ e ∷ []) M) ≡ true
         → list_all (λ (q : OutRow). nat_lt q.n n) ((if b then out_row W es before e ∷ [] else []) ++ outgoing_on W es (before ++ e ∷ []) M) ≡ true
-    by true h later = both (nat_lt (out_row W es before e).n n) _ (lt-ltb (out_row W es before e).n n (omega (arith, row_number W es before e, next_behind before e M h, le))) later
+    by true h later = both (nat_lt (out_row W es before e).n n) _ (lt-ltb (out_row W es before e).n n (omega (arith, row_number W es before e, next_later before e M h, le))) later
     by false h later = later
 
 -- put after all of lower numbers
@@ -159,7 +159,7 @@ pub row_put : (t : List ℕ) (x : Sides) (r : OutRow) (rows : List OutRow) → I
     → put_row outgoing_schema (Text t ∷ outgoing_cells r) (framed t x (map outgoing_cells rows)) ≡ framed t x (map outgoing_cells (rows ++ r ∷ []))
 row_put t x r rows beside lower =
     put_row_by outgoing_schema (Text t ∷ outgoing_cells r) (framed t x (map outgoing_cells rows))
-    ∙ put_within (key_in outgoing_schema) (rest_in 1 outgoing_schema) (λ u row. refl) t (outgoing_cells r) x.front (map outgoing_cells rows) x.behind beside.below beside.above
+    ∙ put_within (key_in outgoing_schema) (rest_in 1 outgoing_schema) (λ u row. refl) t (outgoing_cells r) x.front (map outgoing_cells rows) x.back beside.below beside.above
     ∙ ap (framed t x) (put_map nat_lt (λ (q : OutRow). q.n) (rest_in 1 outgoing_schema) outgoing_cells (λ a b. last_cell (nat_lt a.n b.n) (nat_lt b.n a.n)) r rows)
     ∙ ap (λ (qs : List OutRow). framed t x (map outgoing_cells qs)) (put_end r rows lower)
 
@@ -222,9 +222,9 @@ said_framed w x (Sent m f) rows beside = ap (λ (qs : List OutRow). framed (who_
 said_framed w x (Document n accepts) rows beside =
     let t = who_text w in
     let F : TableRow → TableRow = with_state t n (state_text (Some accepts)) in
-    map-append F x.front (prefixed t (map outgoing_cells rows) ++ x.behind)
-    ∙ (λ i. states_below t n (state_text (Some accepts)) x.front beside.below i ++ map-append F (prefixed t (map outgoing_cells rows)) x.behind i)
-    ∙ (λ i. x.front ++ (states_own t n accepts rows i ++ states_above t n (state_text (Some accepts)) x.behind beside.above i))
+    map-append F x.front (prefixed t (map outgoing_cells rows) ++ x.back)
+    ∙ (λ i. states_below t n (state_text (Some accepts)) x.front beside.below i ++ map-append F (prefixed t (map outgoing_cells rows)) x.back i)
+    ∙ (λ i. x.front ++ (states_own t n accepts rows i ++ states_above t n (state_text (Some accepts)) x.back beside.above i))
 
 -- in turn
 map_map : (f g : OutRow → OutRow) (rows : List OutRow) → map g (map f rows) ≡ map (λ (r : OutRow). g (f r)) rows
@@ -250,17 +250,17 @@ pub record AreStates (M : List Entry) (e : Entry) (p q : PageFacts) (cs : List C
   pub proper : AreProper p cs
   pub done : Along1 (λ (N : List Entry) (k : Entry). IsDone N k.deed) [] M
 
-row_decided : (W : Who) (M : List Entry) (new : Entry) (p q : PageFacts) (cs : List Change) → AreStates M new p q cs → (before : List Entry) (w : Who) (t : Moment) (d : Deed) (z : Rules) (behind : List Entry)
-    → M ≡ before ++ (record { who = w; moment = t; deed = d; rules = z }) ∷ behind → is_numbered (record { who = w; moment = t; deed = d; rules = z }) ≡ true
+row_decided : (W : Who) (M : List Entry) (new : Entry) (p q : PageFacts) (cs : List Change) → AreStates M new p q cs → (before : List Entry) (w : Who) (t : Moment) (d : Deed) (z : Rules) (back : List Entry)
+    → M ≡ before ++ (record { who = w; moment = t; deed = d; rules = z }) ∷ back → is_numbered (record { who = w; moment = t; deed = d; rules = z }) ≡ true
     → sent_under (next_number before) (events M) ≡ sent_of d → sent_under (next_number before) (events (M ++ new ∷ [])) ≡ sent_of d
     → all_decided cs (out_row W (events M) before (record { who = w; moment = t; deed = d; rules = z })) ≡ out_row W (events (M ++ new ∷ [])) before (record { who = w; moment = t; deed = d; rules = z })
-row_decided W M new p q cs states before w t Enrolled z behind is numbered first second = absurd (cc (numbered))
-row_decided W M new p q cs states before w t (Received text) z behind is numbered first second =
+row_decided W M new p q cs states before w t Enrolled z back is numbered first second = absurd (cc (numbered))
+row_decided W M new p q cs states before w t (Received text) z back is numbered first second =
     let n = next_number before in
     let e : Entry = record { who = w; moment = t; deed = Received text; rules = z } in
     let none : document_at n p.documents ≡ None = states.shows.documents n ∙ ap (option_map (document_of (events M) n)) first in
-    untouched cs p (out_row W (events M) before e) states.proper none (omega (arith, next_behind before e behind refl, ap next_number is, states.entries))
-row_decided W M new p q cs states before w t (Performed ticket act) z behind is numbered first second =
+    untouched cs p (out_row W (events M) before e) states.proper none (omega (arith, next_later before e back refl, ap next_number is, states.entries))
+row_decided W M new p q cs states before w t (Performed ticket act) z back is numbered first second =
     let n = next_number before in
     let f = act_function act in
     let e : Entry = record { who = w; moment = t; deed = Performed ticket act; rules = z } in

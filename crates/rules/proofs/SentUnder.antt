@@ -1,4 +1,5 @@
--- The document of an entry is what the events of its depositor say: an act's function under its number, and nothing under any other's.
+-- The document of an entry is what the events of its depositor say: an act's function under its
+-- number, and nothing under any other's.
 use Rattle.std.proofs.Common.{◌≡◌, ℕ, ◌+◌, ◌<◌, ◌≤◌, Bool, true, false, cond, List, [], ◌∷◌, ◌++◌, Option, Some, None, Ok, Err, refl, sym, ap, ◌∙◌, subst, arith}
 use Rattle.std.specs.Prelude.{Result, if◌then◌else◌, fold, ◌==◌}
 use Rattle.std.proofs.lemmas.Bool.{ne_eqb, eq-eqb}
@@ -8,7 +9,7 @@ use Rattle.profile.specs.Header.{Who}
 use Rattle.profile.specs.Moments.{Moment}
 use Rattle.profile.specs.Lists.{or_else}
 use Rattle.profile.specs.Events.{Event, Enrolment, Advised, Ordered, Acknowledged, Counted, Picked, Recounted}
-use Rattle.profile.specs.Refusals.{Refusal}
+use Rattle.profile.specs.declared.refusals.Refusal.{Refusal}
 use Rattle.profile.specs.Clerk.{performed}
 use Rattle.profile.specs.Rows.{act_function}
 use Rattle.profile.specs.Register.{Act, Count, Pick, Recount, Deed, Enrolled, Received, Performed, Entry, is_numbered, own, next_number}
@@ -115,35 +116,35 @@ sent_above M n le = above no_history M (λ k lt. refl) n (omega (arith, le, hist
 -- Own entries of a legal register.
 
 -- among own entries, what the events say of an entry's number is what its deed sent
-pub sent_at : (before : List Entry) (e : Entry) (behind : List Entry) → is_numbered e ≡ true → IsDone before e.deed
-    → sent_under (next_number before) (events (before ++ e ∷ behind)) ≡ sent_of e.deed
-sent_at before e behind numbered done =
+pub sent_at : (before : List Entry) (e : Entry) (back : List Entry) → is_numbered e ≡ true → IsDone before e.deed
+    → sent_under (next_number before) (events (before ++ e ∷ back)) ≡ sent_of e.deed
+sent_at before e back numbered done =
     let n = next_number before in
     let h = history before in
     let is : h.numbered + 1 ≡ n = history-numbered before in
     let more : n ≤ (after_entry h e).numbered = omega (arith, is, ap (λ (b : Bool). h.numbered + cond b 1 0) numbered) in
-    ap (λ (g : History). sent_under n g.events) (fold-append after_entry no_history before (e ∷ behind))
-    ∙ sent_kept (after_entry h e) behind n more
+    ap (λ (g : History). sent_under n g.events) (fold-append after_entry no_history before (e ∷ back))
+    ∙ sent_kept (after_entry h e) back n more
     ∙ ap (λ (k : ℕ). sent_under n (h.events ++ events_added e.rules h.events k e.deed)) is
     ∙ first_found-append (sent_if n) h.events (events_added e.rules h.events n e.deed)
     ∙ ap (λ (o : Option (List ℕ)). or_else o (sent_under n (events_added e.rules h.events n e.deed))) (sent_above before n (omega arith))
     ∙ added_own e.rules before e.deed done
 
-pub sent_under_own : (r : Rules) (W : Who) (L : List Entry) (who : Who) (before : List Entry) (e : Entry) (behind : List Entry) → IsLegal r W L → own L who ≡ before ++ e ∷ behind → is_numbered e ≡ true
+pub sent_under_own : (r : Rules) (W : Who) (L : List Entry) (who : Who) (before : List Entry) (e : Entry) (back : List Entry) → IsLegal r W L → own L who ≡ before ++ e ∷ back → is_numbered e ≡ true
     → sent_under (next_number before) (events (own L who)) ≡ sent_of e.deed
-sent_under_own r W L who before e behind legal is numbered =
-    let done = along_at (λ (M : List Entry) (x : Entry). IsDone M x.deed) [] before e behind (subst (Along1 (λ (M : List Entry) (x : Entry). IsDone M x.deed) []) is (done_own r W L who legal)) in
-    ap (λ (M : List Entry). sent_under (next_number before) (events M)) is ∙ sent_at before e behind numbered done
+sent_under_own r W L who before e back legal is numbered =
+    let done = along_at (λ (M : List Entry) (x : Entry). IsDone M x.deed) [] before e back (subst (Along1 (λ (M : List Entry) (x : Entry). IsDone M x.deed) []) is (done_own r W L who legal)) in
+    ap (λ (M : List Entry). sent_under (next_number before) (events M)) is ∙ sent_at before e back numbered done
 
 numbered_by : (e : Entry) (d : Deed) → e.deed ≡ d → is_numbered (record { who = e.who; moment = e.moment; deed = d; rules = e.rules }) ≡ true → is_numbered e ≡ true
 numbered_by e d is numbered = ap (λ (x : Deed). is_numbered (record { who = e.who; moment = e.moment; deed = x; rules = e.rules })) is ∙ numbered
 
-pub act_sent_own : (r : Rules) (W : Who) (L : List Entry) (who : Who) (before : List Entry) (e : Entry) (behind : List Entry) (ticket : List ℕ) (act : Act) → IsLegal r W L
-    → own L who ≡ before ++ e ∷ behind → e.deed ≡ Performed ticket act → sent_under (next_number before) (events (own L who)) ≡ Some (act_function act)
-act_sent_own r W L who before e behind ticket act legal is deed =
-    sent_under_own r W L who before e behind legal is (numbered_by e (Performed ticket act) deed refl) ∙ ap sent_of deed
+pub act_sent_own : (r : Rules) (W : Who) (L : List Entry) (who : Who) (before : List Entry) (e : Entry) (back : List Entry) (ticket : List ℕ) (act : Act) → IsLegal r W L
+    → own L who ≡ before ++ e ∷ back → e.deed ≡ Performed ticket act → sent_under (next_number before) (events (own L who)) ≡ Some (act_function act)
+act_sent_own r W L who before e back ticket act legal is deed =
+    sent_under_own r W L who before e back legal is (numbered_by e (Performed ticket act) deed refl) ∙ ap sent_of deed
 
-pub text_sent_own : (r : Rules) (W : Who) (L : List Entry) (who : Who) (before : List Entry) (e : Entry) (behind : List Entry) (text : List ℕ) → IsLegal r W L
-    → own L who ≡ before ++ e ∷ behind → e.deed ≡ Received text → sent_under (next_number before) (events (own L who)) ≡ None
-text_sent_own r W L who before e behind text legal is deed =
-    sent_under_own r W L who before e behind legal is (numbered_by e (Received text) deed refl) ∙ ap sent_of deed
+pub text_sent_own : (r : Rules) (W : Who) (L : List Entry) (who : Who) (before : List Entry) (e : Entry) (back : List Entry) (text : List ℕ) → IsLegal r W L
+    → own L who ≡ before ++ e ∷ back → e.deed ≡ Received text → sent_under (next_number before) (events (own L who)) ≡ None
+text_sent_own r W L who before e back text legal is deed =
+    sent_under_own r W L who before e back legal is (numbered_by e (Received text) deed refl) ∙ ap sent_of deed

@@ -1,4 +1,5 @@
--- Sets without fault by rules, and so the events of any entries under them, are small: their lines are few, and their quantities too.
+-- Sets without fault by rules, and so the events of any entries under them, are small: their lines
+-- are few, and their quantities too.
 use Rattle.std.proofs.Common.{◌≡◌, ℕ, ◌+◌, ◌-◌, ◌≤◌, min, suc, Bool, true, false, ◌&&◌, cond, List, [], ◌∷◌, ◌++◌, map, length, Option, Some, None, Ok, Err, refl, sym, ap, ◌∙◌, subst, arith, le-leb, leb-true}
 use Rattle.std.specs.Prelude.{Result, codes, nat_le, zip, filter, flat_map, slice_get, unwrap_or}
 use Rattle.std.specs.Cmp.Derive.{both_true}

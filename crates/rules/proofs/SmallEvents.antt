@@ -12,7 +12,7 @@ use Rattle.profile.specs.Words.{SetKind}
 use Rattle.profile.specs.Faults.{SetFault}
 use Rattle.profile.specs.Structure.{Set, Group, kind_of, group_fault, examined, groups_of}
 use Rattle.profile.specs.Events.{Event}
-use Rattle.profile.specs.Refusals.{Refusal}
+use Rattle.profile.specs.declared.refusals.Refusal.{Refusal}
 use Rattle.profile.specs.Clerk.{performed}
 use Rattle.profile.specs.Register.{Act, Count, Pick, Recount, Deed, Enrolled, Received, Performed, Entry}
 use Rattle.profile.specs.History.{Rejection, event_of, judged, by_segment, outcome_of, verdicts_on, telling_of, events_told, tellings_on, events_added, History, after_entry, events}

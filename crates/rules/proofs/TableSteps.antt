@@ -1,4 +1,5 @@
--- A proper change of a depositor's page, as changes of the tables, makes of the page's rows in the tables those of the page with the change.
+-- A proper change of a depositor's page, as changes of the tables, makes of the page's rows in the
+-- tables those of the page with the change.
 use Rattle.std.proofs.Common.{◌≡◌, ℕ, Bool, true, false, not, ◌&&◌, List, [], ◌∷◌, ◌++◌, ◌⊎◌, map, refl, sym, ap, ◌∙◌, inl, inr, Option, Some, None}
 use Rattle.std.specs.Prelude.{fold, filter, flat_map, codes, bytes_eq, option_to_list}
 use Rattle.std.specs.List.{list_all, enumerate_from}
@@ -12,7 +13,7 @@ use Rattle.profile.specs.Schema.{Schema, key_before, key_in, put_row, stock_sche
 use Rattle.profile.specs.Changes.{is_reserved_for}
 use Rattle.profile.proofs.TextLaws.{same_text, text_is}
 use Rattle.stock.specs.Keyed.{put_by, rises_by, row_key, shipment_of, number_of, put_advice, put_order, key_before as pairs_in_order, put_row as put_lot, IsSorted}
-use Rattle.stock.specs.Told.{told_date}
+use Rattle.stock.specs.OfPairs.{date_of_pair}
 use Rattle.stock.specs.Pages.{PageFacts, is_shipment, is_number, advice_at, order_at}
 use Rattle.stock.specs.Steps.{closed_advice, closed_order}
 use Rattle.stock.proofs.Texts.{texts_never}
@@ -26,14 +27,14 @@ use Rattle.rules.proofs.Portions.{rest_in, folds_same, filter_within, map_prefix
 -- the rows of a table before and after those of a depositor
 pub record Sides : Type 0 where
   pub front : List TableRow
-  pub behind : List TableRow
+  pub back : List TableRow
 
 pub record IsBeside (t : List ℕ) (x : Sides) : Type 0 where
   pub below : list_all (is_below t) x.front ≡ true
-  pub above : list_all (is_above t) x.behind ≡ true
+  pub above : list_all (is_above t) x.back ≡ true
 
 abbrev pub framed : List ℕ → Sides → List TableRow → List TableRow
-framed t x rows = x.front ++ (prefixed t rows ++ x.behind)
+framed t x rows = x.front ++ (prefixed t rows ++ x.back)
 
 -- the tables by their rows: those of version 1, and the two that come with version 2
 abbrev pub eleven : List TableRow → List TableRow → List TableRow → List TableRow → List TableRow → List TableRow → List TableRow → List TableRow → List TableRow → List TableRow → List TableRow → AllTables
@@ -89,13 +90,13 @@ HasFirst s = (t : List ℕ) (row : TableRow) → key_in s (Text t ∷ row) ≡ T
 
 put_framed : (s : Schema) → HasFirst s → (t : List ℕ) (x : Sides) (r : TableRow) (B : List TableRow) → IsBeside t x
     → put_row s (Text t ∷ r) (framed t x B) ≡ framed t x (put_by key_before (rest_in 1 s) r B)
-put_framed s first t x r B beside = put_row_by s (Text t ∷ r) (framed t x B) ∙ put_within (key_in s) (rest_in 1 s) first t r x.front B x.behind beside.below beside.above
+put_framed s first t x r B beside = put_row_by s (Text t ∷ r) (framed t x B) ∙ put_within (key_in s) (rest_in 1 s) first t r x.front B x.back beside.below beside.above
 
 puts_framed : (s : Schema) → HasFirst s → (t : List ℕ) (x : Sides) (rs B : List TableRow) → IsBeside t x
     → fold (λ (U : List TableRow) (r : TableRow). put_row s (Text t ∷ r) U) (framed t x B) rs
     ≡ framed t x (fold (λ (U : List TableRow) (r : TableRow). put_by key_before (rest_in 1 s) r U) B rs)
 puts_framed s first t x rs B beside =
-    folds_same s t rs (framed t x B) ∙ puts_within (key_in s) (rest_in 1 s) first t x.front B x.behind rs beside.below beside.above
+    folds_same s t rs (framed t x B) ∙ puts_within (key_in s) (rest_in 1 s) first t x.front B x.back rs beside.below beside.above
 
 -- Stock.
 
@@ -107,7 +108,7 @@ stock_part t x r rows beside =
 
 -- Expiries: a row brings its date, and leaves the one that its pair has.
 
-pub expiries_part : (t : List ℕ) (x : Sides) (r : LotRow) (rows : List LotRow) → IsBeside t x → IsSorted rows → KeepsDate (told_date r.item r.lot rows) r.expiry
+pub expiries_part : (t : List ℕ) (x : Sides) (r : LotRow) (rows : List LotRow) → IsBeside t x → IsSorted rows → KeepsDate (date_of_pair r.item r.lot rows) r.expiry
     → fold (λ (U : List TableRow) (q : TableRow). put_row lot_expiry_schema (Text t ∷ q) U) (framed t x (flat_map expiry_cells rows)) (expiry_cells r)
     ≡ framed t x (flat_map expiry_cells (put_lot r rows))
 expiries_part t x r rows beside sorted kept =
@@ -241,7 +242,7 @@ stays_apart s t n (Blob b ∷ q) h = refl
 pub reservations_freed : (t : List ℕ) (x : Sides) (k o : PageOrder) (ks : List PageOrder) → IsBeside t x → rises_by comes_before number_of ks ≡ true → order_at k.number ks ≡ Some o → k ≡ closed_order o
     → filter (stays t k.number) (framed t x (flat_map reservation_cells ks)) ≡ framed t x (flat_map reservation_cells (put_order k ks))
 reservations_freed t x k o ks beside rises some closed =
-    filter_within (stays t k.number) t x.front (flat_map reservation_cells ks) x.behind (λ s r h. stays_apart s t k.number r (text_apart s t h)) beside.below beside.above
+    filter_within (stays t k.number) t x.front (flat_map reservation_cells ks) x.back (λ s r h. stays_apart s t k.number r (text_apart s t h)) beside.below beside.above
     ∙ ap (framed t x)
     (ap (filter own) (cells_blocks (rest_in 1 reservation_schema) (rest_in 2 reservation_schema) (λ u row. refl) number_of share_rows reservation_cells share_block ks)
     ∙ block_freed own number_of share_rows (is_number k.number) k o ks (number_test k.number) rises some (sym (ap (λ (z : PageOrder). z.number) closed)) (ap share_rows closed)

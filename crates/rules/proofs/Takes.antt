@@ -25,7 +25,7 @@ use Rattle.stock.specs.declared.steps.Change.{Change}
 use Rattle.stock.specs.Parts.{Named, IsPart}
 use Rattle.rules.specs.Needs.{NamesUnder}
 use Rattle.rules.proofs.SetsNamed.{NamesPassed, sets_named}
-use Rattle.rules.proofs.Led.{after_none, after_both, same_both, part_behind, proper_behind}
+use Rattle.rules.proofs.Led.{after_none, after_both, same_both, part_later, proper_later}
 use Rattle.rules.specs.Judging.{after, passed, IsVerdict, AreTaken}
 use Rattle.rules.proofs.Verdicts.{verdicts_append}
 
@@ -93,15 +93,15 @@ taken_both r d kind ps qs old mid new cs ds some more first second = record {
       let q = after cs mid.recent P in
       let later : Shows (after ds new.recent q) ((es ++ passed vs) ++ passed ws) =
       subst (λ k. Shows (after ds new.recent q) ((es ++ passed vs) ++ passed (verdicts_on r d (es ++ passed vs) (k + 1) kind qs))) first.entries
-      (second.shows n q (es ++ passed vs) (part_behind n cs old mid P first.same part) both.1 (first.shows n P es part both.0 shows)) in
+      (second.shows n q (es ++ passed vs) (part_later n cs old mid P first.same part) both.1 (first.shows n P es part both.0 shows)) in
       let all : (es ++ passed vs) ++ passed ws ≡ es ++ passed (verdicts_on r d es m kind (ps ++ qs)) =
       append_assoc es (passed vs) (passed ws) ∙ ap (λ (x : List Event). es ++ x) (sym (ap passed (verdicts_append r d es m kind ps qs) ∙ passed_append vs ws)) in
       subst (λ (x : PageFacts). Shows x (es ++ passed (verdicts_on r d es m kind (ps ++ qs)))) (after_both cs ds mid.recent new.recent P) (subst (Shows (after ds new.recent q)) all later);
   proper = λ n P es part names shows.
       let both = sets_named d n kind ps qs names in
       let q = after cs mid.recent P in
-      proper_behind cs ds mid.recent P (first.proper n P es part both.0 shows)
-      (second.proper n q (es ++ passed (verdicts_on r d es (old.entries + 1) kind ps)) (part_behind n cs old mid P first.same part) both.1 (first.shows n P es part both.0 shows));
+      proper_later cs ds mid.recent P (first.proper n P es part both.0 shows)
+      (second.proper n q (es ++ passed (verdicts_on r d es (old.entries + 1) kind ps)) (part_later n cs old mid P first.same part) both.1 (first.shows n P es part both.0 shows));
   told = λ n P es part names shows.
       let both = sets_named d n kind ps qs names in
       let m = old.entries + 1 in
@@ -109,7 +109,7 @@ taken_both r d kind ps qs old mid new cs ds some more first second = record {
       let ws = verdicts_on r d (es ++ passed vs) m kind qs in
       let later : more ≡ map told_set ws =
       subst (λ k. more ≡ map told_set (verdicts_on r d (es ++ passed vs) (k + 1) kind qs)) first.entries
-      (second.told n (after cs mid.recent P) (es ++ passed vs) (part_behind n cs old mid P first.same part) both.1 (first.shows n P es part both.0 shows)) in
+      (second.told n (after cs mid.recent P) (es ++ passed vs) (part_later n cs old mid P first.same part) both.1 (first.shows n P es part both.0 shows)) in
       ap (λ (x : List ToldSet). some ++ x) later ∙ ap (λ (x : List ToldSet). x ++ map told_set ws) (first.told n P es part both.0 shows)
       ∙ sym (ap (map told_set) (verdicts_append r d es m kind ps qs) ∙ map-append told_set vs ws);
   entries = second.entries ∙ first.entries;
@@ -155,8 +155,8 @@ examined_closed kind earlier (s ∷ ss) (suc i) d within none = examined_closed 
 abbrev ends : Segment → Bool
 ends s = has_id (codes "SE") s
 
-last_behind : (x y : Segment) (xs : List Segment) → last_segment (x ∷ y ∷ xs) ≡ last_segment (y ∷ xs)
-last_behind x y xs = let n : length (x ∷ y ∷ xs) - 1 ≡ suc (length (y ∷ xs) - 1) = omega arith in ap (λ k. unwrap_or (slice_get (x ∷ y ∷ xs) k) []) n
+last_later : (x y : Segment) (xs : List Segment) → last_segment (x ∷ y ∷ xs) ≡ last_segment (y ∷ xs)
+last_later x y xs = let n : length (x ∷ y ∷ xs) - 1 ≡ suc (length (y ∷ xs) - 1) = omega arith in ap (λ k. unwrap_or (slice_get (x ∷ y ∷ xs) k) []) n
 
 place_last : (xs : List Segment) → position_or_len ends xs + 1 ≡ length xs → ends (last_segment xs) ≡ true
 place_last [] at = absurd (omega (arith, at))
@@ -172,7 +172,7 @@ place_last (x ∷ y ∷ xs) at = by_test (ends x) refl (place_last (y ∷ xs))
         let e : position_or_len ends (x ∷ y ∷ xs) ≡ 0 = ap (λ (b : Bool). cond (not b) (1 + position_or_len ends (y ∷ xs)) 0) is in absurd (omega (arith, e, at))
     by_test false is later =
         let e : position_or_len ends (x ∷ y ∷ xs) ≡ 1 + position_or_len ends (y ∷ xs) = ap (λ (b : Bool). cond (not b) (1 + position_or_len ends (y ∷ xs)) 0) is in
-        ap ends (last_behind x y xs) ∙ later (omega (arith, e, at))
+        ap ends (last_later x y xs) ∙ later (omega (arith, e, at))
 
 pub framed_ends : (s : Set) → IsFramed s → s.is_closed ≡ true → ends (last_segment s.segments) ≡ true
 framed_ends s framed closed = place_last s.segments (rw closed at framed.ends)

@@ -3,6 +3,9 @@ use Rattle.std.specs.Prelude.{ℕ, ◌++◌, List, codes, Option, Some, None, if
 use Rattle.profile.specs.Header.{Who, is_partner, sender}
 use Rattle.profile.specs.Means.{Line}
 use Rattle.profile.specs.Register as meant
+use Rattle.profile.specs.Reply.{clerk_entry}
+use Rattle.profile.specs.declared.rules.Rules.{Rules}
+use Rattle.sets_out.specs.declared.envelopes.Envelope.{Envelope}
 use Rattle.sheets.specs.declared.kinds.SheetKind.{SheetKind}
 use Rattle.sheets.specs.declared.kinds.SheetKind.TheVariants as kinds
 use Rattle.rules.specs.declared.readings.ReadAct.{ReadAct}
@@ -17,6 +20,14 @@ abbrev pub act_of : Act → meant.Act
 act_of (Count shipment sheet) = meant.Count shipment.now sheet.now
 act_of (Pick order sheet) = meant.Pick order.now sheet.now
 act_of (Recount sheet) = meant.Recount sheet.now
+
+-- a clerk's act under an envelope and a ticket: the command, and the entry that it comes to
+abbrev pub command_of : Envelope → List ℕ → Act → meant.Command
+command_of envelope ticket act = meant.Clerk envelope.depositor ticket (act_of act)
+
+abbrev pub entry_of : Rules → Envelope → List ℕ → Act → meant.Entry
+entry_of r envelope ticket act =
+    clerk_entry r envelope.depositor ticket (act_of act) envelope.moment
 
 abbrev pub asked : Command → meant.Command
 asked (Interchange text) = meant.Interchange text.now

@@ -17,7 +17,6 @@ use Rattle.stock.specs.Shows.{Shows}
 use Rattle.rules.specs.Naming.{named_of}
 use Rattle.rules.specs.Needs.{HasNeeded}
 use Rattle.rules.specs.Proper.{AreProper}
-use Rattle.rules.specs.Told.{refusal_of}
 use Rattle.rules.specs.Written.{Recalled, written_as, unnumbered}
 use Rattle.rules.specs.declared.decisions.Decision.{Decision}
 use Rattle.rules.specs.declared.decisions.Decision.TheVariants.{Stored, Refused, Accepted}
@@ -56,7 +55,8 @@ abbrev pub IsUnder : List ℕ → Option known.Recalled → Type 0
 IsUnder key None = Unit {0}
 IsUnder key (Some k) = meant.mark k.entry ≡ key
 
--- what a decision on a command is given: the page of the depositor that it names, and what is known under its key
+-- what a decision on a command is given: the page of the depositor that it names, and what is known
+-- under its key
 pub record IsGiven (held : Option (Bor PageFacts)) (recalled : Option Recalled) (c : meant.Command) (h : Option History) (k : Option known.Recalled) : Type 0 where
   pub page : StandsFor c held h
   pub known : IsRecalled recalled k
@@ -79,15 +79,17 @@ IsHeldAtRest None = Unit {0}
 IsHeldAtRest (Some page) = page.recent ≡ 0
 
 -- the number of a command's entry after so many numbered ones
-abbrev pub number_behind : ℕ → meant.Command → ℕ
-number_behind n (meant.Enrol w) = 0
-number_behind n c = n + 1
+abbrev pub number_later : ℕ → meant.Command → ℕ
+number_later n (meant.Enrol w) = 0
+number_later n c = n + 1
 
--- the decision that is this reply, after so many numbered entries and under the rules of the day, which the new entry has
+-- the decision that is this reply, after so many numbered entries and under the rules of the day,
+-- which the new entry has
 abbrev pub IsReply : Rules → ℕ → meant.Command → Moment → replies.Reply → Decision → Type 0
 IsReply r n c t reply (Stored text) = reply ≡ replies.Stored text.items
-IsReply r n c t reply (Refused refusal text) = reply ≡ replies.Refused (refusal_of refusal) text.items
-IsReply r n c t reply (Accepted e changes text) = (reply ≡ replies.Accepted text.items) × (e ≡ written_as (number_behind n c) (entry_of r c t))
+IsReply r n c t reply (Refused refusal text) = reply ≡ replies.Refused refusal text.items
+IsReply r n c t reply (Accepted e changes text) = (reply ≡ replies.Accepted text.items)
+    × (e ≡ written_as (number_later n c) (entry_of r c t))
 
 -- a page with changes put in, when the entry ends
 abbrev pub led_to : List Change → PageFacts → PageFacts
@@ -99,12 +101,13 @@ pub record AreLeading (p : PageFacts) (cs : List Change) (h : History) : Type 0 
   pub page : IsPageOf (led_to cs p) h
   pub proper : AreProper p cs
 
--- the changes of an accepted command lead from each page that p has the needed part of, the page of a history, to that of the
--- history with the command's entry
+-- the changes of an accepted command lead from each page that p has the needed part of, the page of
+-- a history, to that of the history with the command's entry
 abbrev pub LeadsOn : Rules → PageFacts → meant.Command → Moment → Decision → Type 0
 LeadsOn r p c t (Stored text) = Unit {0}
 LeadsOn r p c t (Refused refusal text) = Unit {0}
-LeadsOn r p c t (Accepted e changes text) = (h : History) (P : PageFacts) → HasNeeded c p P → IsPageOf P h → AreLeading P changes.items (after_entry h (entry_of r c t))
+LeadsOn r p c t (Accepted e changes text) = (h : History) (P : PageFacts) → HasNeeded c p P
+    → IsPageOf P h → AreLeading P changes.items (after_entry h (entry_of r c t))
 
 -- a depositor that enrols has no page, and nothing changes on one
 abbrev pub ChangesNothing : Decision → Type 0

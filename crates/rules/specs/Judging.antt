@@ -3,20 +3,20 @@ use Rattle.std.specs.Prelude.{ℕ, ◌≡◌, ◌+◌, ◌≤◌, List, [], ◌�
 use Rattle.profile.specs.declared.rules.Rules.{Rules}
 use Rattle.profile.specs.Bytes.{Delims}
 use Rattle.profile.specs.Words.{SetKind}
-use Rattle.profile.specs.Cut.{Segment, element}
+use Rattle.profile.specs.Cut.{Segment, element, segments_of}
 use Rattle.profile.specs.Structure.{Set, Group, group_fault}
 use Rattle.profile.specs.Faults.{SetFault}
 use Rattle.profile.specs.Events.{Event}
-use Rattle.profile.specs.History.{Rejection, Verdict as Told, event_of, verdicts_on, Telling, telling_of, events_told, tellings_on}
+use Rattle.profile.specs.History.{Rejection, Verdict as Told, event_of, traded, verdicts_on, Telling, telling_of, events_told, tellings_on}
 use Rattle.profile.specs.Texts.{ToldSet, Told as ToldGroup, told_set, told_of, stated_sets, answered}
 use Rattle.sets_in.specs.Amounts.{IsAmount}
-use Rattle.tables.specs.Judged.{told}
+use Rattle.tables.specs.Judged.{Whole, told}
 use Rattle.stock.specs.Pages.{PageFacts, IsSound}
 use Rattle.stock.specs.Puts.{put, put_change}
 use Rattle.stock.specs.declared.steps.Change.{Change}
 use Rattle.stock.specs.Parts.{Named, IsPart}
 use Rattle.stock.specs.Shows.{Shows}
-use Rattle.rules.specs.Needs.{NamesSets, NamesGroup, NamesGroups}
+use Rattle.rules.specs.Needs.{NamesSet, NamesSets, NamesGroup, NamesGroups}
 use Rattle.stock.specs.declared.steps.SetStop.{SetStop}
 use Rattle.rules.specs.Proper.{AreProper}
 use Rattle.stock.specs.declared.steps.SetStop.TheVariants as stopped
@@ -25,7 +25,8 @@ use Rattle.rules.specs.declared.judging.Verdict.TheVariants.{Passed, Rejected}
 
 -- a step of this outcome: its changes are proper, and put in they are the page with the event
 abbrev pub IsStep : PageFacts → List Event → Result Event SetFault → List Change → Type 0
-IsStep p es outcome cs = (e : Event) × (outcome ≡ Ok e) × Shows (put cs p) (es ++ e ∷ []) × AreProper p cs
+IsStep p es outcome cs = (e : Event) × (outcome ≡ Ok e) × Shows (put cs p) (es ++ e ∷ [])
+    × AreProper p cs
 
 -- the trade fault of this outcome, or want of memory
 abbrev pub IsStop : Result Event SetFault → SetStop → Type 0
@@ -34,7 +35,17 @@ IsStop outcome stopped.OutOfMemory = Unit {0}
 
 -- changes of this outcome are proper, and put in they are the page with its event
 abbrev pub IsOutcome : PageFacts → List Event → Result Event Rejection → List Change → Type 0
-IsOutcome p es outcome cs = (e : Event) × (outcome ≡ Ok e) × Shows (put cs p) (es ++ e ∷ []) × AreProper p cs
+IsOutcome p es outcome cs = (e : Event) × (outcome ≡ Ok e) × Shows (put cs p) (es ++ e ∷ [])
+    × AreProper p cs
+
+-- what is so of each page of which this one is a part that has what a checked set names, of each
+-- list of events that it shows, and of what the set comes to there
+abbrev pub OnPages : PageFacts → Whole → (PageFacts → List Event → Result Event SetFault → Type 0)
+    → Type 0
+OnPages part set IsSo =
+    (n : Named) (P : PageFacts) (es : List Event) → IsPart n part P
+    → NamesSet n set.kind (segments_of set.pieces) → Shows P es
+    → IsSo P es (traded set.rules es (part.entries + 1) set.kind (segments_of set.pieces))
 
 -- what a judged set came to over a page
 abbrev pub IsVerdict : PageFacts → List Event → Result Event Rejection → Verdict → Type 0
@@ -57,22 +68,30 @@ passed vs = filter_map event_of vs
 abbrev pub told_events : List Telling → List Event
 told_events ts = flat_map events_told ts
 
--- examined sets were taken one after another by the rules, under the number of the next entry: what holds for each page of which the old
--- one is a part that has what the sets name
+-- examined sets were taken one after another by the rules, under the number of the next entry: what
+-- holds for each page of which the old one is a part that has what the sets name
 pub record AreTaken (r : Rules) (d : Delims) (kind : Option SetKind) (ps : List (Set × Option ℕ)) (old new : PageFacts) (cs : List Change) (sets : List ToldSet) : Type 0 where
   pub same : new ≡ after cs new.recent old
-  pub shows : (n : Named) (P : PageFacts) (es : List Event) → IsPart n old P → NamesSets d n kind ps → Shows P es → Shows (after cs new.recent P) (es ++ passed (verdicts_on r d es (old.entries + 1) kind ps))
-  pub proper : (n : Named) (P : PageFacts) (es : List Event) → IsPart n old P → NamesSets d n kind ps → Shows P es → AreProper P cs
-  pub told : (n : Named) (P : PageFacts) (es : List Event) → IsPart n old P → NamesSets d n kind ps → Shows P es → sets ≡ map told_set (verdicts_on r d es (old.entries + 1) kind ps)
+  pub shows : (n : Named) (P : PageFacts) (es : List Event) → IsPart n old P → NamesSets d n kind ps
+      → Shows P es → Shows (after cs new.recent P) (es
+      ++ passed (verdicts_on r d es (old.entries + 1) kind ps))
+  pub proper : (n : Named) (P : PageFacts) (es : List Event) → IsPart n old P
+      → NamesSets d n kind ps → Shows P es → AreProper P cs
+  pub told : (n : Named) (P : PageFacts) (es : List Event) → IsPart n old P → NamesSets d n kind ps
+      → Shows P es → sets ≡ map told_set (verdicts_on r d es (old.entries + 1) kind ps)
   pub entries : new.entries ≡ old.entries
   pub recent : new.recent ≤ old.recent + length ps
 
 -- a group was taken: its sets, or none of them where it has a fault
 pub record IsGroupTaken (r : Rules) (d : Delims) (g : Group) (old new : PageFacts) (cs : List Change) (sets : List ToldSet) : Type 0 where
   pub same : new ≡ after cs new.recent old
-  pub shows : (n : Named) (P : PageFacts) (es : List Event) → IsPart n old P → NamesGroup d n g → Shows P es → Shows (after cs new.recent P) (es ++ events_told (telling_of r d es (old.entries + 1) g))
-  pub proper : (n : Named) (P : PageFacts) (es : List Event) → IsPart n old P → NamesGroup d n g → Shows P es → AreProper P cs
-  pub told : (n : Named) (P : PageFacts) (es : List Event) → IsPart n old P → NamesGroup d n g → Shows P es → sets ≡ map told_set ((telling_of r d es (old.entries + 1) g).verdicts)
+  pub shows : (n : Named) (P : PageFacts) (es : List Event) → IsPart n old P → NamesGroup d n g
+      → Shows P es → Shows (after cs new.recent P) (es
+      ++ events_told (telling_of r d es (old.entries + 1) g))
+  pub proper : (n : Named) (P : PageFacts) (es : List Event) → IsPart n old P → NamesGroup d n g
+      → Shows P es → AreProper P cs
+  pub told : (n : Named) (P : PageFacts) (es : List Event) → IsPart n old P → NamesGroup d n g
+      → Shows P es → sets ≡ map told_set ((telling_of r d es (old.entries + 1) g).verdicts)
   pub entries : new.entries ≡ old.entries
   pub recent : new.recent ≤ old.recent + length g.sets
 
@@ -101,8 +120,12 @@ IsSmall g = (ge : Segment) → g.tail ≡ Some ge → IsAmount 9 (element ge 1)
 -- groups were taken one after another
 pub record AreGroupsTaken (r : Rules) (d : Delims) (gs : List Group) (old new : PageFacts) (cs : List Change) (groups : List ToldGroup) : Type 0 where
   pub same : new ≡ after cs new.recent old
-  pub shows : (n : Named) (P : PageFacts) (es : List Event) → IsPart n old P → NamesGroups d n gs → Shows P es → Shows (after cs new.recent P) (es ++ told_events (tellings_on r d es (old.entries + 1) gs))
-  pub proper : (n : Named) (P : PageFacts) (es : List Event) → IsPart n old P → NamesGroups d n gs → Shows P es → AreProper P cs
-  pub told : (n : Named) (P : PageFacts) (es : List Event) → IsPart n old P → NamesGroups d n gs → Shows P es → groups ≡ map told_of (answered (tellings_on r d es (old.entries + 1) gs))
+  pub shows : (n : Named) (P : PageFacts) (es : List Event) → IsPart n old P → NamesGroups d n gs
+      → Shows P es → Shows (after cs new.recent P) (es
+      ++ told_events (tellings_on r d es (old.entries + 1) gs))
+  pub proper : (n : Named) (P : PageFacts) (es : List Event) → IsPart n old P → NamesGroups d n gs
+      → Shows P es → AreProper P cs
+  pub told : (n : Named) (P : PageFacts) (es : List Event) → IsPart n old P → NamesGroups d n gs
+      → Shows P es → groups ≡ map told_of (answered (tellings_on r d es (old.entries + 1) gs))
   pub entries : new.entries ≡ old.entries
   pub recent : new.recent ≤ old.recent + sum_by (λ g. length g.sets) gs

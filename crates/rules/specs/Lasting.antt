@@ -1,9 +1,10 @@
--- Which of the changes of several events last: of the rows of a pair the one that is put in last, and every other change.
+-- Which of the changes of several events last: of the rows of a pair the one that is put in last,
+-- and every other change.
 use Rattle.std.specs.Prelude.{ℕ, ◌≡◌, ◌≤◌, Bool, false, List, [], ◌∷◌, if◌then◌else◌, find, count_by, length, slice_index_or, None}
 use Rattle.std.specs.List.{list_any}
 use Rattle.profile.specs.Rows.{LotRow}
 use Rattle.stock.specs.Moved.{IsPlace}
-use Rattle.stock.specs.Told.{is_row}
+use Rattle.stock.specs.OfPairs.{is_row}
 use Rattle.stock.specs.declared.steps.Change.{Change}
 use Rattle.stock.specs.declared.steps.Change.TheVariants.{Stock}
 use Rattle.rules.specs.declared.decisions.Decision.{Decision}
@@ -30,12 +31,14 @@ HasPairsOnce cs = (item lot : List ℕ) → count_by (is_of item lot) cs ≤ 1
 
 -- each pair whose row is put in has one among these rows
 abbrev pub HaveRows : List LotRow → List Change → Type 0
-HaveRows rows cs = (item lot : List ℕ) → find (is_row item lot) rows ≡ None → list_any (is_of item lot) cs ≡ false
+HaveRows rows cs = (item lot : List ℕ) → find (is_row item lot) rows ≡ None
+    → list_any (is_of item lot) cs ≡ false
 
 -- beside each row stands whether one of these changes puts in the row of its pair
 pub record AreMarked (rows : List LotRow) (cs : List Change) (marks : List Bool) : Type 0 where
   pub beside : length marks ≡ length rows
-  pub here : (item lot : List ℕ) (i : ℕ) → IsPlace item lot rows i → slice_index_or marks i false ≡ list_any (is_of item lot) cs
+  pub here : (item lot : List ℕ) (i : ℕ) → IsPlace item lot rows i
+      → slice_index_or marks i false ≡ list_any (is_of item lot) cs
 
 -- an accepted command puts in the row of no pair twice
 abbrev pub PutsOnce : Decision → Type 0

@@ -1,4 +1,3 @@
-pub mod Told
 pub mod Written
 pub mod Asked
 pub mod Judging

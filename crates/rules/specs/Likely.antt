@@ -6,7 +6,7 @@ use Rattle.profile.specs.Bytes.{is_identifier}
 use Rattle.profile.specs.Lists.{first_of}
 use Rattle.profile.specs.Means.{Line}
 use Rattle.profile.specs.Register.{Act}
-use Rattle.profile.specs.Refusals.{Refusal}
+use Rattle.profile.specs.declared.refusals.Refusal.{Refusal}
 use Rattle.profile.specs.Clerk.{RawLine, raw_line, sheet_of}
 use Rattle.profile.specs.Readings.{parts_at}
 use Rattle.sheets.specs.Kinds.{kind_of}
@@ -47,7 +47,8 @@ act_from r lines h = with_sheet h (sheet_of r (kind_of h.kind) lines)
 
 abbrev pub act_among : Rules → List (List ℕ) → Option Act
 act_among r [] = None
-act_among r (head ∷ lines) = option_and_then (act_from r (filter_map record_in lines)) (head_in (parts_at 32 head))
+act_among r (head ∷ lines) =
+    option_and_then (act_from r (filter_map record_in lines)) (head_in (parts_at 32 head))
 
 -- the act that a text looks like
 abbrev pub likely_act : Rules → List ℕ → Option Act

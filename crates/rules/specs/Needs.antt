@@ -1,6 +1,6 @@
 -- What is named of sets that are taken, and of a command.
--- A set's names are asked for only where it has no fault, neither one of its envelope nor, by some rules, one of its segments: so
--- what one scan of all segments names is enough.
+-- A set's names are asked for only where it has no fault, neither one of its envelope nor, by some
+-- rules, one of its segments: so what one scan of all segments names is enough.
 use Rattle.std.specs.Prelude.{ℕ, ◌≡◌, true, false, List, [], ◌∷◌, Option, Some, None}
 use Rattle.profile.specs.declared.rules.Rules.{Rules}
 use Rattle.profile.specs.Bytes.{Delims}
@@ -24,7 +24,8 @@ NamesSet n FunctionalAcknowledgment ss = n.documents (acknowledgment_of ss).docu
 -- of a set that has no fault by some rules
 abbrev pub NamesJudged : Delims → Named → SetKind → Set → Option ℕ → Type 0
 NamesJudged d n kind s (Some code) = Unit {0}
-NamesJudged d n kind s None = (r : Rules) → set_fault r d (kind_words r kind) s.segments ≡ None → NamesSet n kind s.segments
+NamesJudged d n kind s None = (r : Rules) → set_fault r d (kind_words r kind) s.segments ≡ None
+    → NamesSet n kind s.segments
 
 abbrev pub NamesUnder : Delims → Named → Option SetKind → Set × Option ℕ → Type 0
 NamesUnder d n None p = Unit {0}
@@ -48,7 +49,8 @@ NamesAct n p (Count shipment sheet) = NamesCount n p shipment sheet
 NamesAct n p (Pick number sheet) = NamesPick n p number sheet
 NamesAct n p (Recount sheet) = are_items n sheet ≡ true
 
--- what a command needs of the page is named; of an interchange that can't be read, or is halted, nothing
+-- what a command needs of the page is named; of an interchange that can't be read, or is halted,
+-- nothing
 abbrev pub NamesFor : Named → PageFacts → Command → Type 0
 NamesFor n p (Interchange text) = is_unreadable text ≡ false → structure_note text ≡ None
     → NamesGroups (delims_of text) n (groups_of ((cut (delims_of text) text).segments))

@@ -24,12 +24,14 @@ abbrev pub IsBefore : Option PageFacts → History → Entry → Type 0
 IsBefore None h e = (h ≡ no_history) × (is_numbered e ≡ false)
 IsBefore (Some p) h e = IsPageOf p h × (is_numbered e ≡ true)
 
--- an interchange that can be read, and of which no condition on the segments holds, as every accepted one
+-- an interchange that can be read, and of which no condition on the segments holds, as every
+-- accepted one
 abbrev pub is_clean : Deed → Bool
 is_clean (Received text) = not (is_unreadable text) && is_none (structure_note text)
 is_clean deed = true
 
--- a numbered entry's events are added to the page of a history, and its text went out; the entry doesn't count yet
+-- a numbered entry's events are added to the page of a history, and its text went out; the entry
+-- doesn't count yet
 pub record IsPlayed (W : Who) (h : History) (e : Entry) (p : PageFacts) (text : List ℕ) : Type 0 where
   pub shows : Shows p (h.events ++ events_added e.rules h.events (h.numbered + 1) e.deed)
   pub entries : p.entries ≡ h.numbered
@@ -40,7 +42,8 @@ pub record IsReplayed (W : Who) (h : History) (e : Entry) (p : PageFacts) (text 
   pub page : IsPageOf p (after_entry h e)
   pub outgoing : text ≡ out_by W h e
 
--- an entry that can be replayed after these of its depositor: the first is the enrolment, and no other is one
+-- an entry that can be replayed after these of its depositor: the first is the enrolment, and no
+-- other is one
 pub record CanFollow (M : List Entry) (e : Entry) : Type 0 where
   pub numbered : is_numbered e ≡ not (length M == 0)
   pub few : number_after (history M) e ≤ most_entries

@@ -1,10 +1,10 @@
--- Changes of a page that are proper: each leaves the expiry that a pair has, opens what is new or closes what is open, or is about
--- the document of its own entry or of one that was sent.
+-- Changes of a page that are proper: each leaves the expiry that a pair has, opens what is new or
+-- closes what is open, or is about the document of its own entry or of one that was sent.
 use Rattle.std.specs.Prelude.{ℕ, ◌≡◌, ◌≤◌, ◌+◌, true, List, [], ◌∷◌, Option, Some, None, is_some}
 use Rattle.profile.specs.Means.{Line}
 use Rattle.profile.specs.Page.{PageAdvice, PageOrder}
 use Rattle.stock.specs.Keyed.{Pair, key_before, rises_by}
-use Rattle.stock.specs.Told.{told_date}
+use Rattle.stock.specs.OfPairs.{date_of_pair}
 use Rattle.stock.specs.Pages.{PageFacts, advice_at, order_at, document_at}
 use Rattle.stock.specs.Puts.{put_change}
 use Rattle.stock.specs.Steps.{closed_advice, closed_order}
@@ -16,7 +16,8 @@ abbrev pub KeepsDate : Option (List ℕ) → Option (List ℕ) → Type 0
 KeepsDate None new = Unit {0}
 KeepsDate (Some known) new = new ≡ Some known
 
--- an advice is opened where there is none under its number, and else the one that is there is closed
+-- an advice is opened where there is none under its number, and else the one that is there is
+-- closed
 abbrev pub IsProperAdvice : Option PageAdvice → PageAdvice → Type 0
 IsProperAdvice None k = k.is_open ≡ true
 IsProperAdvice (Some known) k = k ≡ closed_advice known
@@ -30,7 +31,7 @@ IsProperOrder None k = (k.is_open ≡ true) × (rises_by key_before pair_of k.re
 IsProperOrder (Some known) k = k ≡ closed_order known
 
 abbrev pub IsProper : PageFacts → Change → Type 0
-IsProper p (Stock row) = KeepsDate (told_date row.item row.lot p.rows) row.expiry
+IsProper p (Stock row) = KeepsDate (date_of_pair row.item row.lot p.rows) row.expiry
 IsProper p (Advice k) = IsProperAdvice (advice_at k.shipment p.advices) k
 IsProper p (Order k) = IsProperOrder (order_at k.number p.orders) k
 IsProper p (Sent n function) = n ≡ p.entries + 1

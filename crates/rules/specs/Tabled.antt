@@ -38,19 +38,24 @@ with_rows rows more = fold (λ rs row. put_row stock_schema row rs) rows more
 abbrev pub puts_into : List ℕ → Who → List TableRow → List tables.Change
 puts_into name w rows = map (λ (row : TableRow). tables.Puts name (Text (who_text w) ∷ row)) rows
 
--- A row of a pair comes with its expiry, if the pair has one: version 1 has no table of it, and no pair an expiry.
+-- A row of a pair comes with its expiry, if the pair has one: version 1 has no table of it, and no
+-- pair an expiry.
 abbrev pub row_changes : Who → LotRow → List tables.Change
-row_changes w row = puts_into (codes "stock") w (stock_cells row ∷ []) ++ puts_into (codes "lot_expiry") w (expiry_cells row)
+row_changes w row = puts_into (codes "stock") w (stock_cells row ∷ [])
+    ++ puts_into (codes "lot_expiry") w (expiry_cells row)
 
 -- An advice that is opened brings its lines; one that is closed has them.
 abbrev pub advice_changes : Who → PageAdvice → List tables.Change
 advice_changes w k = puts_into (codes "advice") w (advice_cells k ∷ [])
     ++ (if k.is_open then puts_into (codes "advice_line") w (advice_line_cells k) else [])
 
--- An order that is opened brings its lines and what is reserved for it; one that is closed frees that.
+-- An order that is opened brings its lines and what is reserved for it; one that is closed frees
+-- that.
 abbrev pub order_changes : Who → PageOrder → List tables.Change
 order_changes w k = puts_into (codes "orders") w (orders_cells k ∷ [])
-    ++ (if k.is_open then puts_into (codes "order_line") w (order_line_cells k) ++ puts_into (codes "reservation") w (reservation_cells k)
+    ++ (if k.is_open
+    then puts_into (codes "order_line") w (order_line_cells k)
+    ++ puts_into (codes "reservation") w (reservation_cells k)
     else tables.Frees (who_text w) k.number ∷ [])
 
 -- A document that is sent comes with its entry's outgoing text, whose state is open.
@@ -61,12 +66,14 @@ table_changes_of w (Order k) = order_changes w k
 table_changes_of w (Sent n function) = []
 table_changes_of w (Document n accepts) = tables.SetsState (who_text w) n (Some accepts) ∷ []
 
--- what an accepted command of a depositor changes in the tables, besides its entry and its outgoing text
+-- what an accepted command of a depositor changes in the tables, besides its entry and its outgoing
+-- text
 abbrev pub table_changes : Who → List Change → List tables.Change
 table_changes w cs = flat_map (table_changes_of w) cs
 
--- the changes of a command that is accepted under these rules make of the tables of a legal register, in the version of its book,
--- those of the register with the command's entry, if that is one
+-- the changes of a command that is accepted under these rules make of the tables of a legal
+-- register, in the version of its book, those of the register with the command's entry, if that is
+-- one
 abbrev pub LeadsInTables : Rules → Who → List Entry → Command → Moment → Decision → Type 0
 LeadsInTables r W L c t (decided.Stored text) = Unit {0}
 LeadsInTables r W L c t (decided.Refused refusal text) = Unit {0}

@@ -1,4 +1,5 @@
--- An entry as it is written down: whose it is, its key, its number, its moment, its body and its rules.
+-- An entry as it is written down: whose it is, its key, its number, its moment, its body and its
+-- rules.
 use Rattle.std.specs.Prelude.{ℕ, List}
 use Rattle.profile.specs.declared.rules.Rules.{Rules}
 use Rattle.profile.specs.Header.{Who}
@@ -18,7 +19,15 @@ pub record Written : Type 0 where
 
 -- an entry under a number
 abbrev pub written_as : ℕ → Entry → Written
-written_as n e = record { who = e.who; key = mark e; n = n; moment = e.moment; body = body_of e.deed; rules = e.rules }
+written_as n e =
+    record {
+      who = e.who;
+      key = mark e;
+      n = n;
+      moment = e.moment;
+      body = body_of e.deed;
+      rules = e.rules;
+    }
 
 -- an entry when these stand before it in the register
 abbrev pub written : List Entry → Entry → Written

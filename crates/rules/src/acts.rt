@@ -9,15 +9,13 @@ ghost use Rattle.profile.specs.Header.{Who};
 ghost use Rattle.profile.specs.Moments.{Moment};
 ghost use Rattle.profile.specs.History.{History, after_entry};
 ghost use Rattle.profile.specs.Register as register;
-ghost use Rattle.profile.specs.Reply as replies;
 ghost use Rattle.stock.specs.Pages.{PageFacts, IsSound};
 ghost use Rattle.stock.specs.Parts.{Named, IsPart};
 ghost use Rattle.rules.specs.Needs.{NamesAct, HasNeeded};
 ghost use Rattle.stock.specs.Puts.{put};
 ghost use Rattle.stock.specs.Shows.{Shows};
 ghost use Rattle.stock.specs.Stops.{StopsAct};
-ghost use Rattle.rules.specs.Asked.{act_of};
-ghost use Rattle.rules.specs.Told.{refusal_of, numbered};
+ghost use Rattle.rules.specs.Asked.{act_of, command_of, entry_of};
 ghost use Rattle.rules.specs.Written.{written_as};
 ghost use Rattle.rules.specs.Decided.{IsNoEntry, Makes, IsPageOf, IsEntry, IsRecalled, IsUnder, IsReply, LeadsOn, AreLeading};
 ghost use Rattle.rules.specs.Proper.{AreProper};
@@ -26,8 +24,7 @@ use crate::commands::{Act, Key};
 use crate::decisions::Decision;
 use crate::documents::document;
 use crate::entries::{Entry, Known};
-use crate::refusals::Refusal;
-use profile::{MOST_ENTRIES, Rules};
+use profile::{MOST_ENTRIES, Refusal, Rules};
 use sets_out::Envelope;
 use std::alloc::{AllocError, Global};
 use stock::{ActStop, Change, Page, Step, pick, receive, recount};
@@ -35,11 +32,13 @@ use stock::{ActStop, Change, Page, Step, pick, receive, recount};
 /// What an act's event changes on the page.
 pub(crate) fn perform(alloc: Global, page: &Page, act: &Act<'_>) -> Result<Step, ActStop>
     requires { page.now.recent < most_sets }
-    ensures ok { IfOk result (λ step. (n : Named) (P : PageFacts) (es : List Event) → IsPart n page.now P
+    ensures ok { IfOk result
+        (λ step. (n : Named) (P : PageFacts) (es : List Event) → IsPart n page.now P
         → NamesAct n page.now (act_of act.now) → Shows P es
         → (e : Event) × (performed es (page.now.entries + 1) (act_of act.now) ≡ Ok e)
         × Shows (put step.changes.items P) (es ++ e ∷ []) × AreProper P step.changes.items) }
-    ensures err { IfErr result (λ stop. (n : Named) (P : PageFacts) (es : List Event) → IsPart n page.now P
+    ensures err { IfErr result
+        (λ stop. (n : Named) (P : PageFacts) (es : List Event) → IsPart n page.now P
         → NamesAct n page.now (act_of act.now) → Shows P es
         → StopsAct (performed es (page.now.entries + 1) (act_of act.now)) stop) }
     ensures sound { IfOk result (λ step. IsSound (put step.changes.items page.now)) }
@@ -51,22 +50,6 @@ pub(crate) fn perform(alloc: Global, page: &Page, act: &Act<'_>) -> Result<Step,
     }
 }
 
-// The refusal of an act that has this number.
-fn numbered(number: u8) -> Refusal
-    ensures { refusal_of result ≡ numbered number }
-{
-    match number {
-        22 => Refusal::UnknownAdvice,
-        23 => Refusal::AdviceClosed,
-        24 => Refusal::UnknownOrder,
-        25 => Refusal::OrderClosed,
-        26 => Refusal::NotReserved,
-        27 => Refusal::UnknownLot,
-        28 => Refusal::BelowReserved,
-        _ => Refusal::NoDifference,
-    }
-}
-
 // The entry of an act, under these rules.
 fn entry(
     alloc: Global,
@@ -75,8 +58,8 @@ fn entry(
     act: &Act<'_>,
     rules: Rules,
 ) -> Result<Entry, AllocError>
-    ensures { IfOk result (λ e. e ≡ written_as envelope.now.number (replies.clerk_entry rules
-        envelope.now.depositor ticket.now (act_of act.now) envelope.now.moment)) }
+    ensures { IfOk result
+        (λ e. e ≡ written_as envelope.now.number (entry_of rules envelope.now ticket.now act.now)) }
 {
     Ok(Entry {
         who: envelope.depositor,
@@ -93,11 +76,12 @@ fn refused(alloc: Global, stop: ActStop) -> Result<Decision, AllocError>
     ensures comes { IfOk result (IsNoEntry) }
     ensures reply { IfOk result (λ d. (es : List Event) (number : ℕ) (act : register.Act)
         → StopsAct (performed es number act) stop
-        → (r : Rules) (W : Who) (h : History) (e : register.Entry) (n : ℕ) (c : register.Command) (t : Moment)
+        → (r : Rules) (W : Who) (h : History) (e : register.Entry) (n : ℕ) (c : register.Command)
+        (t : Moment)
         → IsReply r n c t (recalled.act_told W h e (performed es number act)) d) }
 {
     match stop {
-        ActStop::Refused(number) => Ok(Decision::Refused(numbered(number), Vec::new(alloc))),
+        ActStop::Refused(refusal) => Ok(Decision::Refused(refusal, Vec::new(alloc))),
         ActStop::OutOfMemory => Err(AllocError),
     }
 }
@@ -114,21 +98,21 @@ fn accepted(
 ) -> Result<Decision, AllocError>
     requires number { envelope.now.number ≡ page.now.entries + 1 }
     requires led { (h : History) (P : PageFacts)
-        → HasNeeded (register.Clerk envelope.now.depositor ticket.now (act_of act.now)) page.now P
+        → HasNeeded (command_of envelope.now ticket.now act.now) page.now P
         → IsPageOf P h
-        → AreLeading P changes.items (after_entry h (replies.clerk_entry rules envelope.now.depositor ticket.now
-        (act_of act.now) envelope.now.moment)) }
-    ensures comes { IfOk result (Makes rules (register.Clerk envelope.now.depositor ticket.now (act_of act.now))
-        envelope.now.moment) }
-    ensures leads { IfOk result (LeadsOn rules page.now (register.Clerk envelope.now.depositor ticket.now (act_of
-        act.now)) envelope.now.moment) }
+        → AreLeading P changes.items
+        (after_entry h (entry_of rules envelope.now ticket.now act.now)) }
+    ensures comes { IfOk result
+        (Makes rules (command_of envelope.now ticket.now act.now) envelope.now.moment) }
+    ensures leads { IfOk result
+        (LeadsOn rules page.now (command_of envelope.now ticket.now act.now) envelope.now.moment) }
     ensures reply { IfOk result (λ d. (h : History) (P : PageFacts) (e : Event)
-        → HasNeeded (register.Clerk envelope.now.depositor ticket.now (act_of act.now)) page.now P
+        → HasNeeded (command_of envelope.now ticket.now act.now) page.now P
         → IsPageOf P h → performed h.events (page.now.entries + 1) (act_of act.now) ≡ Ok e
-        → IsReply rules page.now.entries (register.Clerk envelope.now.depositor ticket.now (act_of act.now))
+        → IsReply rules page.now.entries (command_of envelope.now ticket.now act.now)
         envelope.now.moment
-        (recalled.accepted_by envelope.now.warehouse h (replies.clerk_entry rules envelope.now.depositor
-        ticket.now (act_of act.now) envelope.now.moment)) d) }
+        (recalled.accepted_by envelope.now.warehouse h
+        (entry_of rules envelope.now ticket.now act.now)) d) }
 {
     if page.entries() >= MOST_ENTRIES {
         return Ok(Decision::Refused(Refusal::NumbersUsedUp, Vec::new(alloc)));
@@ -153,17 +137,17 @@ fn fresh(
 ) -> Result<Decision, AllocError>
     requires number { envelope.now.number ≡ page.now.entries + 1 }
     requires rest { page.now.recent ≡ 0 }
-    ensures comes { IfOk result (Makes rules (register.Clerk envelope.now.depositor ticket.now (act_of act.now))
-        envelope.now.moment) }
-    ensures leads { IfOk result (LeadsOn rules page.now (register.Clerk envelope.now.depositor ticket.now (act_of
-        act.now)) envelope.now.moment) }
+    ensures comes { IfOk result
+        (Makes rules (command_of envelope.now ticket.now act.now) envelope.now.moment) }
+    ensures leads { IfOk result
+        (LeadsOn rules page.now (command_of envelope.now ticket.now act.now) envelope.now.moment) }
     ensures reply { IfOk result (λ d. (h : History) (P : PageFacts)
-        → HasNeeded (register.Clerk envelope.now.depositor ticket.now (act_of act.now)) page.now P
+        → HasNeeded (command_of envelope.now ticket.now act.now) page.now P
         → IsPageOf P h
-        → IsReply rules page.now.entries (register.Clerk envelope.now.depositor ticket.now (act_of act.now))
+        → IsReply rules page.now.entries (command_of envelope.now ticket.now act.now)
         envelope.now.moment
-        (recalled.act_new envelope.now.warehouse h (replies.clerk_entry rules envelope.now.depositor ticket.now
-        (act_of act.now) envelope.now.moment) (act_of act.now)) d) }
+        (recalled.act_new envelope.now.warehouse h
+        (entry_of rules envelope.now ticket.now act.now) (act_of act.now)) d) }
 {
     // what is known of every page
     let _ = page.rows();
@@ -179,7 +163,8 @@ pub(crate) fn again(alloc: Global, known: &Known, act: &Act<'_>) -> Result<Decis
     ensures reply { IfOk result
         (λ d. (r : Rules) (n : ℕ) (k : recalled.Recalled) (who : Who) (ticket : List ℕ) (t : Moment)
         → IsEntry known.now k → register.mark k.entry ≡ register.ticket_mark ticket
-        → IsReply r n (register.Clerk who ticket (act_of act.now)) t (recalled.act_again (act_of act.now) k) d) }
+        → IsReply r n (register.Clerk who ticket (act_of act.now)) t
+        (recalled.act_again (act_of act.now) k) d) }
 {
     let text = act.canonical(alloc)?;
     if known.is_of(&text) {
@@ -203,15 +188,15 @@ pub(crate) fn clerk(
 ) -> Result<Decision, AllocError>
     requires number { envelope.now.number ≡ page.now.entries + 1 }
     requires rest { page.now.recent ≡ 0 }
-    ensures comes { IfOk result (Makes rules (register.Clerk envelope.now.depositor ticket.now (act_of act.now))
-        envelope.now.moment) }
-    ensures leads { IfOk result (LeadsOn rules page.now (register.Clerk envelope.now.depositor ticket.now (act_of
-        act.now)) envelope.now.moment) }
+    ensures comes { IfOk result
+        (Makes rules (command_of envelope.now ticket.now act.now) envelope.now.moment) }
+    ensures leads { IfOk result
+        (LeadsOn rules page.now (command_of envelope.now ticket.now act.now) envelope.now.moment) }
     ensures reply { IfOk result (λ d. (h : History) (P : PageFacts) (k : Option recalled.Recalled)
-        → HasNeeded (register.Clerk envelope.now.depositor ticket.now (act_of act.now)) page.now P
+        → HasNeeded (command_of envelope.now ticket.now act.now) page.now P
         → IsPageOf P h → IsRecalled (option_copied known.entry) k
         → IsUnder (register.ticket_mark ticket.now) k
-        → IsReply rules page.now.entries (register.Clerk envelope.now.depositor ticket.now (act_of act.now))
+        → IsReply rules page.now.entries (command_of envelope.now ticket.now act.now)
         envelope.now.moment
         (recalled.clerk_by rules envelope.now.warehouse (Some h) k envelope.now.depositor ticket.now (act_of
         act.now) envelope.now.moment) d) }

@@ -32,7 +32,9 @@ pub(crate) fn answer(
     header: &Isa<'_>,
     groups: &[ToldGroup<'_>],
 ) -> Result<Vec<u8>, AllocError>
-    ensures { IfOk result (λ text. text.items ≡ answer_of (delims_of header.now) envelope.warehouse envelope.depositor envelope.moment envelope.number (heading_of header.now) groups.now) }
+    ensures { IfOk result
+        (λ text. text.items ≡ answer_of (delims_of header.now) envelope.warehouse envelope.depositor
+        envelope.moment envelope.number (heading_of header.now) groups.now) }
 {
     let heading = heading(header);
     let answer = Answer {
@@ -55,7 +57,8 @@ pub(crate) fn refusal(
     moment: Moment,
     note: u8,
 ) -> Result<Vec<u8>, AllocError>
-    ensures { IfOk result (λ text. text.items ≡ refusal_interchange warehouse header.now moment note) }
+    ensures { IfOk result
+        (λ text. text.items ≡ refusal_interchange warehouse header.now moment note) }
 {
     let heading = heading(header);
     let refusal = NoteAnswer {

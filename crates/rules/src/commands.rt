@@ -121,7 +121,9 @@ impl<'a> Act<'a> {
 // The sender of an interchange by its header, if ISA05 and ISA06 name a partner, and the key of its
 // entry.
 fn named<'a>(header: &Isa<'a>) -> Option<(Who, Key<'a>)>
-    ensures { MatchOption result (sender_named header.now ≡ None) (λ p. (sender_named header.now ≡ Some p.0) × (mark_of p.1 ≡ interchange_mark (meant_isa header.now 13))) }
+    ensures { MatchOption result (sender_named header.now ≡ None)
+        (λ p. (sender_named header.now ≡ Some p.0)
+        × (mark_of p.1 ≡ interchange_mark (meant_isa header.now 13))) }
 {
     match header.sender() {
         Some(who) => Some((who, Key::Interchange(header.element(13)))),
@@ -131,7 +133,8 @@ fn named<'a>(header: &Isa<'a>) -> Option<(Who, Key<'a>)>
 
 // The sender of an interchange, and the key of its entry.
 fn sender_of(text: &[u8]) -> Option<(Who, Key<'_>)>
-    ensures { MatchOption result (meant.subject (Received text.now) ≡ None) (λ p. meant.subject (Received text.now) ≡ Some (p.0, mark_of p.1)) }
+    ensures { MatchOption result (meant.subject (Received text.now) ≡ None)
+        (λ p. meant.subject (Received text.now) ≡ Some (p.0, mark_of p.1)) }
 {
     match isa(text) {
         Ok(header) => named(&header),
@@ -142,7 +145,8 @@ fn sender_of(text: &[u8]) -> Option<(Who, Key<'_>)>
 /// The depositor that a command names, and the key of the entry that it makes; None where an
 /// interchange can't be read, or its ISA05 and ISA06 can be no partner. It takes no memory.
 pub fn subject<'a>(command: &Command<'a>) -> Option<(Who, Key<'a>)>
-    ensures { MatchOption result (meant.subject (asked command.now) ≡ None) (λ p. meant.subject (asked command.now) ≡ Some (p.0, mark_of p.1)) }
+    ensures { MatchOption result (meant.subject (asked command.now) ≡ None)
+        (λ p. meant.subject (asked command.now) ≡ Some (p.0, mark_of p.1)) }
 {
     match command {
         Command::Interchange(text) => sender_of(text),

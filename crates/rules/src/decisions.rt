@@ -16,8 +16,7 @@ use crate::commands::{Act, Command, Key};
 use crate::entries::{Entry, Known};
 use crate::house::Warehouse;
 use crate::interchanges::interchange;
-use crate::refusals::Refusal;
-use profile::Rules;
+use profile::{Refusal, Rules};
 use segments::{Moment, Who};
 use sets_out::Envelope;
 use std::alloc::{AllocError, Global};
@@ -65,8 +64,11 @@ fn enrol(
 ) -> Result<Decision, AllocError>
     ensures comes { IfOk result (Makes rules (register.Enrol who) moment) }
     ensures leads { IfOk result (LeadsFrom rules page.entry (register.Enrol who) moment) }
-    ensures reply { IfOk result (λ d. (h : Option History) (k : Option meant.Recalled) (W : Partner) → StandsFor (register.Enrol who) page.entry h
-        → IsReply rules (entries_of page.entry) (register.Enrol who) moment (meant.reply_by rules W h k (register.Enrol who) moment) d) }
+    ensures reply { IfOk result
+        (λ d. (h : Option History) (k : Option meant.Recalled) (W : Partner)
+        → StandsFor (register.Enrol who) page.entry h
+        → IsReply rules (entries_of page.entry) (register.Enrol who) moment
+        (meant.reply_by rules W h k (register.Enrol who) moment) d) }
 {
     if page.is_some() {
         return Ok(Decision::Refused(Refusal::AlreadyEnrolled, Vec::new(alloc)));
@@ -92,9 +94,14 @@ fn perform(
 ) -> Result<Decision, AllocError>
     requires { IsAtRest page }
     ensures comes { IfOk result (Makes rules (register.Clerk who ticket.now (act_of act.now)) moment) }
-    ensures leads { IfOk result (LeadsFrom rules page.entry (register.Clerk who ticket.now (act_of act.now)) moment) }
-    ensures reply { IfOk result (λ d. (h : Option History) (k : Option meant.Recalled) → IsGiven page.entry (option_copied known.entry) (register.Clerk who ticket.now (act_of act.now)) h k
-        → IsReply rules (entries_of page.entry) (register.Clerk who ticket.now (act_of act.now)) moment (meant.clerk_by rules warehouse.now h k who ticket.now (act_of act.now) moment) d) }
+    ensures leads { IfOk result
+        (LeadsFrom rules page.entry (register.Clerk who ticket.now (act_of act.now)) moment) }
+    ensures reply { IfOk result
+        (λ d. (h : Option History) (k : Option meant.Recalled)
+        → IsGiven page.entry (option_copied known.entry)
+        (register.Clerk who ticket.now (act_of act.now)) h k
+        → IsReply rules (entries_of page.entry) (register.Clerk who ticket.now (act_of act.now))
+        moment (meant.clerk_by rules warehouse.now h k who ticket.now (act_of act.now) moment) d) }
 {
     let Some(page) = page else {
         return Ok(Decision::Refused(Refusal::UnknownDepositor, Vec::new(alloc)));
@@ -125,9 +132,15 @@ pub fn decide(
     requires { IsAtRest page }
     ensures comes { IfOk result (Makes rules (asked command.now) moment) }
     ensures leads { IfOk result (LeadsFrom rules page.entry (asked command.now) moment) }
-    ensures tables { IfOk result (λ d. (W : Partner) (L : List register.Entry) → StandsFor (asked command.now) page.entry (standing (own_of L (asked command.now))) → LeadsInTables rules W L (asked command.now) moment d) }
-    ensures reply { IfOk result (λ d. (h : Option History) (k : Option meant.Recalled) → IsGiven page.entry (option_copied known.entry) (asked command.now) h k
-        → IsReply rules (entries_of page.entry) (asked command.now) moment (meant.reply_by rules warehouse.now h k (asked command.now) moment) d) }
+    ensures tables { IfOk result
+        (λ d. (W : Partner) (L : List register.Entry)
+        → StandsFor (asked command.now) page.entry (standing (own_of L (asked command.now)))
+        → LeadsInTables rules W L (asked command.now) moment d) }
+    ensures reply { IfOk result
+        (λ d. (h : Option History) (k : Option meant.Recalled)
+        → IsGiven page.entry (option_copied known.entry) (asked command.now) h k
+        → IsReply rules (entries_of page.entry) (asked command.now) moment
+        (meant.reply_by rules warehouse.now h k (asked command.now) moment) d) }
 {
     match command {
         Command::Interchange(text) => interchange(

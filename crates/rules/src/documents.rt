@@ -26,7 +26,7 @@ use sets_out::{
 };
 use std::alloc::{AllocError, Global};
 use std::marker::Model;
-use stock::{KnownAdvice, KnownLine, KnownOrder, Page, Sheet, quantity_of};
+use stock::{KnownAdvice, KnownLine, KnownOrder, Page, Sheet, quantity_of, total};
 
 /// A quantity of a pair of an item and a lot.
 #[derive(Drop)]
@@ -63,7 +63,9 @@ fn rank_among(lines: &[Pair<'_>], new: &Pair<'_>) -> usize
 // Where a line belongs, if its pair isn't there.
 fn place_among(lines: &[Pair<'_>], new: &Pair<'_>) -> Option<usize>
     requires { rises_by pair_before (λ l. l) lines.now ≡ true }
-    ensures { MatchOption result (placed pair_before new.now lines.now ≡ lines.now) (λ i. (i ≤ length lines.now) × (placed pair_before new.now lines.now ≡ insert lines.now i new.now)) }
+    ensures { MatchOption result (placed pair_before new.now lines.now ≡ lines.now)
+        (λ i. (i ≤ length lines.now)
+        × (placed pair_before new.now lines.now ≡ insert lines.now i new.now)) }
 {
     let i = rank_among(lines, new);
     if i == lines.len() {
@@ -124,18 +126,6 @@ fn lend<'a>(lines: &mut Vec<Pair<'a>>, goods: &'a [Goods]) -> Result<(), AllocEr
     Ok(())
 }
 
-// The sum of the quantities of lines.
-fn total(goods: &[Goods]) -> u64
-    requires { length goods.now ≤ most_lines Two }
-    ensures { result ≡ sum_by (λ l. l.quantity) goods.now }
-{
-    let mut total: u64 = 0;
-    for line in goods {
-        total += u64::from(line.quantity);
-    }
-    total
-}
-
 // Each pair with what the sheet gives it.
 fn received<'a>(
     alloc: Global,
@@ -177,7 +167,9 @@ fn receipt_lines<'a>(
     counted: &'a [Goods],
 ) -> Result<Vec<CountedLine<'a>>, AllocError>
     requires { is_ascending counted.now ≡ true }
-    ensures { IfOk result (λ lines. lines.items ≡ map (received_line counted.now) (in_order pair_before (advised.now ++ counted.now))) }
+    ensures { IfOk result
+        (λ lines. lines.items
+        ≡ map (received_line counted.now) (in_order pair_before (advised.now ++ counted.now))) }
 {
     let mut pairs = Vec::new(alloc);
     lend(&mut pairs, advised)?;
@@ -216,7 +208,7 @@ fn is_before_item(line: &Goods, item: &[u8]) -> bool
 }
 
 // Whether a line is of an item after another.
-fn is_behind_item(line: &Goods, item: &[u8]) -> bool
+fn is_after_item(line: &Goods, item: &[u8]) -> bool
     ensures { result ≡ comes_before item.now line.now.item }
 {
     item.cmp(&line.item.as_slice()).is_lt()
@@ -235,7 +227,7 @@ fn item_end(sheet: &[Goods], item: &[u8]) -> usize
     requires { is_ascending sheet.now ≡ true }
     ensures { IsRank (λ a b. not (comes_before b a)) (λ l. l.item) sheet.now item.now result }
 {
-    sheet.partition_point(|line| !is_behind_item(line, item))
+    sheet.partition_point(|line| !is_after_item(line, item))
 }
 
 // The lines of an item, which stand together.
@@ -345,7 +337,8 @@ fn adjustment(
     page: &Page,
     sheet: &Sheet,
 ) -> Result<Vec<u8>, AllocError>
-    ensures text { IfOk result (λ text. text.items ≡ adjustment_text envelope.now page.now sheet.now) }
+    ensures text { IfOk result
+        (λ text. text.items ≡ adjustment_text envelope.now page.now sheet.now) }
     ensures sheet { is_sheet Two RecountSheet sheet.now ≡ true }
 {
     let goods = sheet.lines(alloc)?;
@@ -362,9 +355,12 @@ pub(crate) fn document(
     page: &Page,
     act: &Act<'_>,
 ) -> Result<Vec<u8>, AllocError>
-    ensures { IfOk result (λ text. (n : Named) (P : PageFacts) (es : List Event) (e : Event) → IsPart n page.now P → NamesAct n page.now (act_of act.now) → Shows P es
+    ensures { IfOk result
+        (λ text. (n : Named) (P : PageFacts) (es : List Event) (e : Event) → IsPart n page.now P
+        → NamesAct n page.now (act_of act.now) → Shows P es
         → performed es envelope.now.number (act_of act.now) ≡ Ok e
-        → text.items ≡ document_of envelope.now.warehouse envelope.now.depositor envelope.now.moment envelope.now.number e) }
+        → text.items ≡ document_of envelope.now.warehouse envelope.now.depositor envelope.now.moment
+        envelope.now.number e) }
 {
     match act {
         Act::Count { shipment, sheet } => match page.advice(shipment) {

@@ -29,7 +29,14 @@ pub struct Entry {
 impl Model for Entry {
     ghost Value = { Written };
 
-    ghost view = { λ e. record { who = e.who; key = e.key.items; n = e.n; moment = e.moment; body = e.body.items; rules = e.rules } };
+    ghost view = { λ e. record {
+      who = e.who;
+      key = e.key.items;
+      n = e.n;
+      moment = e.moment;
+      body = e.body.items;
+      rules = e.rules;
+    } };
 }
 
 impl Entry {

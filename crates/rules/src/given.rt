@@ -77,7 +77,8 @@ fn performed<'a>(
     text: &'a [u8],
     rules: Rules,
 ) -> Result<Option<Given<'a>>, AllocError>
-    ensures { IfOk result (λ o. (act : register.Act) → is_deed rules (register.Performed ticket.now act) ≡ true
+    ensures { IfOk result
+        (λ o. (act : register.Act) → is_deed rules (register.Performed ticket.now act) ≡ true
         → text.now ≡ register.canonical act → o ≡ Some (rules, register.Clerk who ticket.now act)) }
 {
     if Ident::new(ticket, MOST_TICKET).is_none() {
@@ -96,7 +97,8 @@ fn performed<'a>(
 /// its rules: of another key, an enrolment with a body, a ticket that is none, or a text that is no
 /// act's under them. Want of memory is the one error.
 pub fn command_of(alloc: Global, entry: &Entry) -> Result<Option<Given<'_>>, AllocError>
-    ensures { IfOk result (λ o. (n : ℕ) (e : register.Entry) → entry.now ≡ written_as n e → is_entry e ≡ true
+    ensures { IfOk result
+        (λ o. (n : ℕ) (e : register.Entry) → entry.now ≡ written_as n e → is_entry e ≡ true
         → o ≡ Some (ruled_by e)) }
 {
     let (who, body, rules) = (entry.who(), entry.body(), entry.rules());

@@ -5,7 +5,7 @@ ghost use Rattle.profile.specs.Header.{is_unreadable, isa as meant_isa, sender};
 ghost use Rattle.profile.specs.Halt.{structure_note};
 ghost use Rattle.profile.specs.History.{History};
 ghost use Rattle.profile.specs.Register as register;
-ghost use Rattle.profile.specs.Refusals as refusals;
+ghost use Rattle.profile.specs.declared.refusals.Refusal.TheVariants as refusals;
 ghost use Rattle.profile.specs.Reply as replies;
 ghost use Rattle.profile.specs.Decision as recalled;
 ghost use Rattle.profile.specs.Cut.{cut};
@@ -23,10 +23,9 @@ use crate::decisions::Decision;
 use crate::entries::{Entry, Known};
 use crate::house::Warehouse;
 use crate::lasting::lasting;
-use crate::refusals::Refusal;
 use crate::taking::take_groups;
 use envelope::{Halt, Interchange, Isa, header_note, isa, structure};
-use profile::{MOST_ENTRIES, Rules};
+use profile::{MOST_ENTRIES, Refusal, Rules};
 use segments::{Moment, Who};
 use sets_out::Envelope;
 use std::alloc::{AllocError, Global};
@@ -61,7 +60,8 @@ pub(crate) fn again(
 ) -> Result<Decision, AllocError>
     requires { header.now ≡ text.now }
     ensures comes { IfOk result (IsNoEntry) }
-    ensures reply { IfOk result (λ d. (r : Rules) (n : ℕ) (k : recalled.Recalled) → IsEntry known.now k
+    ensures reply { IfOk result
+        (λ d. (r : Rules) (n : ℕ) (k : recalled.Recalled) → IsEntry known.now k
         → register.mark k.entry ≡ register.interchange_mark (meant_isa text.now 13)
         → IsReply r n (register.Interchange text.now) moment (recalled.interchange_again warehouse.now
         text.now moment k) d) }
@@ -128,7 +128,8 @@ fn accepted(
     ensures once { IfOk result (PutsOnce) }
     ensures reply { IfOk result (λ d. (h : History) (P : PageFacts)
         → HasNeeded (register.Interchange text.now) page.now P → IsPageOf P h
-        → IsReply rules page.now.entries (register.Interchange text.now) envelope.moment (recalled.accepted_by
+        → IsReply rules page.now.entries (register.Interchange text.now) envelope.moment
+        (recalled.accepted_by
         envelope.warehouse h (replies.interchange_entry rules text.now envelope.moment)) d) }
 {
     if page.entries() >= MOST_ENTRIES {
@@ -155,9 +156,11 @@ fn halted(
     halt: Halt,
 ) -> Result<Decision, AllocError>
     ensures comes { IfOk result (IsNoEntry) }
-    ensures reply { IfOk result (λ d. (r : Rules) (text : List ℕ) (h : History) (n : ℕ) → IsTold halt text
+    ensures reply { IfOk result
+        (λ d. (r : Rules) (text : List ℕ) (h : History) (n : ℕ) → IsTold halt text
         → header.now ≡ text
-        → IsReply r n (register.Interchange text) moment (recalled.interchange_new r warehouse.now h text moment
+        → IsReply r n (register.Interchange text) moment
+        (recalled.interchange_new r warehouse.now h text moment
         (structure_note text)) d) }
 {
     match halt {
@@ -221,7 +224,8 @@ fn readable(
     ensures leads { IfOk result (LeadsFrom rules page.entry (register.Interchange text.now) moment) }
     ensures reply { IfOk result (λ d. (h : Option History) (k : Option recalled.Recalled)
         → IsGiven page.entry (option_copied known.entry) (register.Interchange text.now) h k
-        → IsReply rules (entries_of page.entry) (register.Interchange text.now) moment (recalled.interchange_known
+        → IsReply rules (entries_of page.entry) (register.Interchange text.now) moment
+        (recalled.interchange_known
         rules warehouse.now h k text.now moment) d) }
 {
     let (Some(page), Some(who)) = (page, header.sender()) else {
@@ -251,7 +255,8 @@ pub(crate) fn interchange(
     ensures leads { IfOk result (LeadsFrom rules page.entry (register.Interchange text.now) moment) }
     ensures reply { IfOk result (λ d. (h : Option History) (k : Option recalled.Recalled)
         → IsGiven page.entry (option_copied known.entry) (register.Interchange text.now) h k
-        → IsReply rules (entries_of page.entry) (register.Interchange text.now) moment (recalled.interchange_by
+        → IsReply rules (entries_of page.entry) (register.Interchange text.now) moment
+        (recalled.interchange_by
         rules warehouse.now h k text.now moment) d) }
 {
     match isa(text) {

@@ -15,7 +15,7 @@ ghost use Rattle.stock.specs.Shows.{Shows};
 ghost use Rattle.tables.specs.Judged.{IsClosed, told};
 ghost use Rattle.tables.specs.Kinds.{kind_of};
 ghost use Rattle.rules.specs.Needs.{NamesSet};
-ghost use Rattle.rules.specs.Judging.{IsStep, IsStop, IsVerdict, CanBePut};
+ghost use Rattle.rules.specs.Judging.{IsStep, IsStop, IsVerdict, CanBePut, OnPages};
 
 use profile::Rules;
 use segments::Segment;
@@ -57,13 +57,10 @@ fn in_segment<'a>(fault: &SetFault<'a>) -> Rejection<'a>
 fn advised(alloc: Global, page: &Page, set: &Checked<'_>) -> Result<Step, SetStop>
     requires kind { set.now.kind ≡ kinds.ShipmentAdvice }
     requires room { page.now.recent < most_sets }
-    ensures ok { IfOk result (λ step. (n : Named) (P : PageFacts) (es : List Event) → IsPart n page.now P
-        → NamesSet n set.now.kind (segments_of set.now.pieces) → Shows P es
-        → IsStep P es (meant.traded set.now.rules es (page.now.entries + 1) set.now.kind (segments_of set.now.pieces))
-        step.changes.items) }
-    ensures err { IfErr result (λ stop. (n : Named) (P : PageFacts) (es : List Event) → IsPart n page.now P
-        → NamesSet n set.now.kind (segments_of set.now.pieces) → Shows P es
-        → IsStop (meant.traded set.now.rules es (page.now.entries + 1) set.now.kind (segments_of set.now.pieces)) stop) }
+    ensures ok { IfOk result (λ step. OnPages page.now set.now
+        (λ P es outcome. IsStep P es outcome step.changes.items)) }
+    ensures err { IfErr result
+        (λ stop. OnPages page.now set.now (λ _ _ outcome. IsStop outcome stop)) }
     ensures sound { IfOk result (λ step. IsSound (put step.changes.items page.now)) }
 {
     let advice = advice(alloc, set)?;
@@ -74,13 +71,10 @@ fn advised(alloc: Global, page: &Page, set: &Checked<'_>) -> Result<Step, SetSto
 fn ordered(alloc: Global, page: &Page, set: &Checked<'_>) -> Result<Step, SetStop>
     requires kind { set.now.kind ≡ kinds.ShippingOrder }
     requires room { page.now.recent < most_sets }
-    ensures ok { IfOk result (λ step. (n : Named) (P : PageFacts) (es : List Event) → IsPart n page.now P
-        → NamesSet n set.now.kind (segments_of set.now.pieces) → Shows P es
-        → IsStep P es (meant.traded set.now.rules es (page.now.entries + 1) set.now.kind (segments_of set.now.pieces))
-        step.changes.items) }
-    ensures err { IfErr result (λ stop. (n : Named) (P : PageFacts) (es : List Event) → IsPart n page.now P
-        → NamesSet n set.now.kind (segments_of set.now.pieces) → Shows P es
-        → IsStop (meant.traded set.now.rules es (page.now.entries + 1) set.now.kind (segments_of set.now.pieces)) stop) }
+    ensures ok { IfOk result (λ step. OnPages page.now set.now
+        (λ P es outcome. IsStep P es outcome step.changes.items)) }
+    ensures err { IfErr result
+        (λ stop. OnPages page.now set.now (λ _ _ outcome. IsStop outcome stop)) }
     ensures sound { IfOk result (λ step. IsSound (put step.changes.items page.now)) }
 {
     let order = order(alloc, set)?;
@@ -91,13 +85,10 @@ fn ordered(alloc: Global, page: &Page, set: &Checked<'_>) -> Result<Step, SetSto
 fn acknowledged(alloc: Global, page: &Page, set: &Checked<'_>) -> Result<Step, SetStop>
     requires kind { set.now.kind ≡ kinds.FunctionalAcknowledgment }
     requires room { page.now.recent < most_sets }
-    ensures ok { IfOk result (λ step. (n : Named) (P : PageFacts) (es : List Event) → IsPart n page.now P
-        → NamesSet n set.now.kind (segments_of set.now.pieces) → Shows P es
-        → IsStep P es (meant.traded set.now.rules es (page.now.entries + 1) set.now.kind (segments_of set.now.pieces))
-        step.changes.items) }
-    ensures err { IfErr result (λ stop. (n : Named) (P : PageFacts) (es : List Event) → IsPart n page.now P
-        → NamesSet n set.now.kind (segments_of set.now.pieces) → Shows P es
-        → IsStop (meant.traded set.now.rules es (page.now.entries + 1) set.now.kind (segments_of set.now.pieces)) stop) }
+    ensures ok { IfOk result (λ step. OnPages page.now set.now
+        (λ P es outcome. IsStep P es outcome step.changes.items)) }
+    ensures err { IfErr result
+        (λ stop. OnPages page.now set.now (λ _ _ outcome. IsStop outcome stop)) }
     ensures sound { IfOk result (λ step. IsSound (put step.changes.items page.now)) }
 {
     let ack = ack(alloc, set)?;
@@ -107,13 +98,10 @@ fn acknowledged(alloc: Global, page: &Page, set: &Checked<'_>) -> Result<Step, S
 // The step of a set without a fault of its own, or its trade fault.
 fn traded(alloc: Global, page: &Page, set: &Checked<'_>) -> Result<Step, SetStop>
     requires { page.now.recent < most_sets }
-    ensures ok { IfOk result (λ step. (n : Named) (P : PageFacts) (es : List Event) → IsPart n page.now P
-        → NamesSet n set.now.kind (segments_of set.now.pieces) → Shows P es
-        → IsStep P es (meant.traded set.now.rules es (page.now.entries + 1) set.now.kind (segments_of set.now.pieces))
-        step.changes.items) }
-    ensures err { IfErr result (λ stop. (n : Named) (P : PageFacts) (es : List Event) → IsPart n page.now P
-        → NamesSet n set.now.kind (segments_of set.now.pieces) → Shows P es
-        → IsStop (meant.traded set.now.rules es (page.now.entries + 1) set.now.kind (segments_of set.now.pieces)) stop) }
+    ensures ok { IfOk result (λ step. OnPages page.now set.now
+        (λ P es outcome. IsStep P es outcome step.changes.items)) }
+    ensures err { IfErr result
+        (λ stop. OnPages page.now set.now (λ _ _ outcome. IsStop outcome stop)) }
     ensures sound { IfOk result (λ step. IsSound (put step.changes.items page.now)) }
 {
     match set.kind() {
@@ -126,10 +114,8 @@ fn traded(alloc: Global, page: &Page, set: &Checked<'_>) -> Result<Step, SetStop
 // What a set without a fault of its own came to.
 fn settled<'a>(alloc: Global, page: &Page, set: &Checked<'a>) -> Result<Verdict<'a>, AllocError>
     requires { page.now.recent < most_sets }
-    ensures value { IfOk result (λ v. (n : Named) (P : PageFacts) (es : List Event) → IsPart n page.now P
-        → NamesSet n set.now.kind (segments_of set.now.pieces) → Shows P es
-        → IsVerdict P es (meant.by_segment (meant.traded set.now.rules es (page.now.entries + 1) set.now.kind (segments_of
-        set.now.pieces))) v) }
+    ensures value { IfOk result (λ v. OnPages page.now set.now
+        (λ P es outcome. IsVerdict P es (meant.by_segment outcome) v)) }
     ensures fits { IfOk result (CanBePut page.now) }
 {
     match traded(alloc, page, set) {

@@ -35,7 +35,8 @@ impl OutKind {
 impl Entry {
     /// The kind of the text that goes out for it, by its key and its canonical text.
     pub fn kind(&self) -> OutKind
-        ensures { (deed : Deed) → self.now.key ≡ deed_mark deed → self.now.body ≡ body_of deed → kind_text result ≡ kind_by deed }
+        ensures { (deed : Deed) → self.now.key ≡ deed_mark deed → self.now.body ≡ body_of deed
+            → kind_text result ≡ kind_by deed }
     {
         if !self.is_ticketed() {
             OutKind::Answer

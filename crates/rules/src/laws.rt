@@ -44,7 +44,8 @@ pub fn a_known_interchange_is_answered_again()
     ensures { (r : Rules) (W : Who) (L : List Entry) (text : List ℕ) (t : Moment) (k : Known)
         → known (interchange_mark (isa text 13)) (own_of L (Interchange text)) ≡ Some k
         → k.entry.deed ≡ Received text
-        → (reply_to r W L (Interchange text) t ≡ Stored (stored W k)) × (after r W L (Interchange text, t) ≡ L) }
+        → (reply_to r W L (Interchange text) t ≡ Stored (stored W k))
+        × (after r W L (Interchange text, t) ≡ L) }
 {}
 
 /// An act that is known under its ticket is answered with its document, and nothing comes of it.
@@ -60,19 +61,20 @@ pub fn a_known_act_is_answered_again()
 /// Each entry of a legal register can be replayed after those of its depositor that stand before
 /// it.
 pub fn legal_entries_can_be_replayed()
-    ensures { (r : Rules) (W : Who) (L before : List Entry) (e : Entry) (behind : List Entry) → IsLegal r W L
-        → L ≡ before ++ e ∷ behind → CanFollow (own before e.who) e }
+    ensures { (r : Rules) (W : Who) (L before : List Entry) (e : Entry) (back : List Entry)
+        → IsLegal r W L
+        → L ≡ before ++ e ∷ back → CanFollow (own before e.who) e }
 {}
 
 /// Each entry of a legal register, given again under its own rules after those before it, makes the
 /// same entry; so the register is left by its own entries, given in turn, and each is of a command
 /// that can be given under its rules.
 pub fn legal_entries_can_be_given_again()
-    ensures again { (r : Rules) (W : Who) (L before : List Entry) (e : Entry) (behind : List Entry)
-        → IsLegal r W L → L ≡ before ++ e ∷ behind
+    ensures again { (r : Rules) (W : Who) (L before : List Entry) (e : Entry) (back : List Entry)
+        → IsLegal r W L → L ≡ before ++ e ∷ back
         → after e.rules W before (given_by e, e.moment) ≡ before ++ e ∷ [] }
-    ensures command { (r : Rules) (W : Who) (L before : List Entry) (e : Entry) (behind : List Entry)
-        → IsLegal r W L → L ≡ before ++ e ∷ behind → is_command e.rules (given_by e) ≡ true }
+    ensures command { (r : Rules) (W : Who) (L before : List Entry) (e : Entry) (back : List Entry)
+        → IsLegal r W L → L ≡ before ++ e ∷ back → is_command e.rules (given_by e) ≡ true }
     ensures all { (r : Rules) (W : Who) (L : List Entry) → IsLegal r W L
         → left_by W [] (map given_under L) ≡ L }
 {}
@@ -80,13 +82,15 @@ pub fn legal_entries_can_be_given_again()
 /// The rows of a page are those that the definitions give for the events that it stands for, by
 /// item and lot bytes.
 pub fn rows_are_the_running_rows()
-    ensures { (p : PageFacts) (es : List Event) → IsSound p → Shows p es → p.rows ≡ running_rows es }
+    ensures { (p : PageFacts) (es : List Event) → IsSound p → Shows p es
+        → p.rows ≡ running_rows es }
 {}
 
 /// The rows of pairs among the changes of an event lead from a depositor's rows of the table
 /// `stock` to those of one event more.
 pub fn changed_rows_lead_on_in_the_table()
-    ensures { (w : Who) (p : PageFacts) (es fs : List Event) (cs : List Change) → IsSound p → Shows p es
+    ensures { (w : Who) (p : PageFacts) (es fs : List Event) (cs : List Change) → IsSound p
+        → Shows p es
         → IsSound (put cs p) → Shows (put cs p) fs
         → with_rows (stock_part w (running_rows es)) (stock_puts w cs) ≡ stock_part w (running_rows fs) }
 {}
@@ -94,20 +98,23 @@ pub fn changed_rows_lead_on_in_the_table()
 /// In a legal register the events of a depositor say of an act's number which document it sent, and
 /// of any other entry's number that there is none.
 pub fn events_say_what_was_sent()
-    ensures acts { (r : Rules) (W : Who) (L : List Entry) (w : Who) (before : List Entry) (e : Entry) (behind : List
+    ensures acts { (r : Rules) (W : Who) (L : List Entry) (w : Who) (before : List Entry)
+        (e : Entry) (back : List
         Entry) (ticket : List ℕ) (act : Act) → IsLegal r W L
-        → own L w ≡ before ++ e ∷ behind → e.deed ≡ Performed ticket act
+        → own L w ≡ before ++ e ∷ back → e.deed ≡ Performed ticket act
         → sent_under (next_number before) (events (own L w)) ≡ Some (act_function act) }
-    ensures others { (r : Rules) (W : Who) (L : List Entry) (w : Who) (before : List Entry) (e : Entry) (behind : List
+    ensures others { (r : Rules) (W : Who) (L : List Entry) (w : Who) (before : List Entry)
+        (e : Entry) (back : List
         Entry) (text : List ℕ) → IsLegal r W L
-        → own L w ≡ before ++ e ∷ behind → e.deed ≡ Received text
+        → own L w ≡ before ++ e ∷ back → e.deed ≡ Received text
         → sent_under (next_number before) (events (own L w)) ≡ None }
 {}
 
 /// A page that stands for the own entries of a depositor of a legal register is the one that the
 /// definitions give for them.
 pub fn pages_are_the_defined_ones()
-    ensures { (r : Rules) (W : Who) (L : List Entry) (w : Who) (p : PageFacts) → IsLegal r W L → IsSound p
+    ensures { (r : Rules) (W : Who) (L : List Entry) (w : Who) (p : PageFacts) → IsLegal r W L
+        → IsSound p
         → IsPageOf p (history (own L w)) → IsDefined p (page_of (own L w)) }
 {}
 
@@ -125,7 +132,8 @@ pub fn what_is_named_is_closed()
 
 /// A whole page is the part of itself that is needed, whatever is.
 pub fn a_whole_page_is_a_part_of_itself()
-    ensures { (need : Need) (P : PageFacts) (h : History) → IsSound P → IsPageOf P h → IsHeldPart need P h }
+    ensures { (need : Need) (P : PageFacts) (h : History) → IsSound P → IsPageOf P h
+        → IsHeldPart need P h }
 {}
 
 /// The part that a command's need names of a depositor's page is all that a decision on it is
@@ -163,7 +171,8 @@ pub fn what_is_expected_is_bounded()
 /// The quantities of an order, and of what was reserved for it, have the places of the picking
 /// sheet's column.
 pub fn an_order_fits_the_picking_sheet()
-    ensures { (M : List Entry) (number : List ℕ) (o : Reserved) → order_under number (events M) ≡ Some o
+    ensures { (M : List Entry) (number : List ℕ) (o : Reserved)
+        → order_under number (events M) ≡ Some o
         → has_columns o ≡ true }
 {}
 

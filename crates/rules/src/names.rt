@@ -55,7 +55,12 @@ pub struct Need {
 impl Model for Need {
     ghost Value = { meant.Need };
 
-    ghost view = { λ n. record { items = n.items.items; shipments = n.shipments.items; orders = n.orders.items; documents = n.documents.items } };
+    ghost view = { λ n. record {
+      items = n.items.items;
+      shipments = n.shipments.items;
+      orders = n.orders.items;
+      documents = n.documents.items;
+    } };
 }
 
 impl Need {
@@ -88,7 +93,8 @@ pub(crate) fn add_if(
     named: bool,
     text: &[u8],
 ) -> Result<(), AllocError>
-    ensures { IfOk result (λ done. names.new.items ≡ names.old.items ++ (if named then text.now ∷ [] else [])) }
+    ensures { IfOk result
+        (λ done. names.new.items ≡ names.old.items ++ (if named then text.now ∷ [] else [])) }
 {
     if named {
         names.push(Name::of(alloc, text)?)?;
@@ -98,7 +104,9 @@ pub(crate) fn add_if(
 
 // Puts the number of a document after the numbers, where a text is one: digits, and at most nine.
 pub(crate) fn add_number(numbers: &mut Vec<u32>, named: bool, text: &[u8]) -> Result<(), AllocError>
-    ensures { IfOk result (λ done. numbers.new.items ≡ numbers.old.items ++ (if named then meant.number_in text.now else [])) }
+    ensures { IfOk result
+        (λ done. numbers.new.items ≡ numbers.old.items
+        ++ (if named then meant.number_in text.now else [])) }
 {
     if named && !text.is_empty() && all_digits(text) && text.len() <= CONTROL_DIGITS {
         numbers.push(number(text))?;

@@ -14,7 +14,8 @@ use stock::Sheet;
 // Puts after a need what a segment names: W04 and W01 an item, W06 a shipment number, W05 the
 // number of an order, AK1 that of a document.
 fn with_segment(alloc: Global, need: Need, segment: &Segment<'_>) -> Result<Need, AllocError>
-    ensures { IfOk result (λ all. all ≡ meant.together need (meant.need_of_segment segment.now.elements)) }
+    ensures { IfOk result
+        (λ all. all ≡ meant.together need (meant.need_of_segment segment.now.elements)) }
 {
     let Need {
         mut items,
@@ -47,7 +48,8 @@ fn with_segment(alloc: Global, need: Need, segment: &Segment<'_>) -> Result<Need
 
 // What the segments of a text name.
 fn named_in(alloc: Global, text: &[u8], delims: Delims) -> Result<Need, AllocError>
-    ensures { IfOk result (λ need. need ≡ meant.need_of_segments (meant_cut delims text.now).segments) }
+    ensures { IfOk result
+        (λ need. need ≡ meant.need_of_segments (meant_cut delims text.now).segments) }
 {
     let mut need = Need::nothing(alloc);
     let mut left = cut(text, delims);

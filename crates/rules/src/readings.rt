@@ -117,7 +117,8 @@ fn line(alloc: Global, text: &[u8]) -> Result<Option<Line>, AllocError>
 
 // The lines of a sheet among these texts.
 fn lines(alloc: Global, texts: &[&[u8]]) -> Result<Vec<Line>, AllocError>
-    ensures { IfOk result (λ lines. lines.items ≡ filter_map record_in (map (λ text. text.now) texts.now)) }
+    ensures { IfOk result
+        (λ lines. lines.items ≡ filter_map record_in (map (λ text. text.now) texts.now)) }
 {
     let mut lines = Vec::new(alloc);
     for text in texts {

@@ -11,9 +11,9 @@ use crate::commands::Command;
 use crate::decisions::Decision;
 use crate::entries::Known;
 use crate::house::Warehouse;
-use crate::refusals::Refusal;
 use crate::{acts, interchanges};
 use envelope::isa;
+use profile::Refusal;
 use segments::Moment;
 use std::alloc::{AllocError, Global};
 
@@ -26,9 +26,11 @@ fn interchange_again(
     moment: Moment,
 ) -> Result<Decision, AllocError>
     ensures comes { IfOk result (IsNoEntry) }
-    ensures reply { IfOk result (λ d. (r : Rules) (n : ℕ) (h : History) (k : meant.Recalled) → IsEntry known.now k
+    ensures reply { IfOk result
+        (λ d. (r : Rules) (n : ℕ) (h : History) (k : meant.Recalled) → IsEntry known.now k
         → register.mark k.entry ≡ register.command_mark (register.Interchange text.now)
-        → IsReply r n (register.Interchange text.now) moment (meant.reply_by r warehouse.now (Some h) (Some k)
+        → IsReply r n (register.Interchange text.now) moment
+        (meant.reply_by r warehouse.now (Some h) (Some k)
         (register.Interchange text.now) moment) d) }
 {
     match isa(text) {
@@ -48,7 +50,8 @@ pub fn decide_again(
     moment: Moment,
 ) -> Result<Decision, AllocError>
     ensures comes { IfOk result (IsNoEntry) }
-    ensures reply { IfOk result (λ d. (r : Rules) (n : ℕ) (h : History) (k : meant.Recalled) → IsEntry known.now k
+    ensures reply { IfOk result
+        (λ d. (r : Rules) (n : ℕ) (h : History) (k : meant.Recalled) → IsEntry known.now k
         → register.mark k.entry ≡ register.command_mark (asked command.now)
         → IsReply r n (asked command.now) moment (meant.reply_by r warehouse.now (Some h) (Some k)
         (asked command.now) moment) d) }

@@ -9,7 +9,7 @@ ghost use Rattle.profile.specs.Header.{delims_of};
 ghost use Rattle.profile.specs.History.{History};
 ghost use Rattle.profile.specs.Limits.{most_entries};
 ghost use Rattle.profile.specs.Readings.{is_entry};
-ghost use Rattle.profile.specs.Refusals.{Refusal};
+ghost use Rattle.profile.specs.declared.refusals.Refusal.{Refusal};
 ghost use Rattle.profile.specs.Register as register;
 ghost use Rattle.profile.specs.Reply.{clerk_entry};
 ghost use Rattle.profile.specs.Structure.{groups_of};
@@ -75,7 +75,8 @@ fn grouped(
     requires clean { structure_note header.now ≡ None }
     requires rest { page.recent ≡ 0 }
     ensures entries { IfOk result (λ r. r.page.entries ≡ page.entries) }
-    ensures played { IfOk result (λ r. (h : History) → IsPageOf page h → envelope.number ≡ h.numbered + 1
+    ensures played { IfOk result
+        (λ r. (h : History) → IsPageOf page h → envelope.number ≡ h.numbered + 1
         → IsPlayed envelope.warehouse h (record {
           who = envelope.depositor;
           moment = envelope.moment;
@@ -97,7 +98,8 @@ fn grouped(
 // An interchange with a note is none that was accepted.
 fn halted(alloc: Global, page: Page, halt: Halt) -> Result<Replayed, AllocError>
     ensures entries { IfOk result (λ r. r.page.entries ≡ page.entries) }
-    ensures never { IfOk result (λ r. (text : List ℕ) → IsTold halt text → structure_note text ≡ None → ⊥) }
+    ensures never { IfOk result
+        (λ r. (text : List ℕ) → IsTold halt text → structure_note text ≡ None → ⊥) }
 {
     match halt {
         Halt::Note(_) => Ok(nothing(alloc, page)),
@@ -117,7 +119,8 @@ fn structured(
     requires same { header.now ≡ text.now }
     requires rest { page.recent ≡ 0 }
     ensures entries { IfOk result (λ r. r.page.entries ≡ page.entries) }
-    ensures played { IfOk result (λ r. (h : History) → IsPageOf page h → envelope.number ≡ h.numbered + 1
+    ensures played { IfOk result
+        (λ r. (h : History) → IsPageOf page h → envelope.number ≡ h.numbered + 1
         → structure_note text.now ≡ None
         → IsPlayed envelope.warehouse h (record {
           who = envelope.depositor;
@@ -143,7 +146,8 @@ fn received(
 ) -> Result<Replayed, AllocError>
     requires { page.recent ≡ 0 }
     ensures entries { IfOk result (λ r. r.page.entries ≡ page.entries) }
-    ensures played { IfOk result (λ r. (h : History) → IsPageOf page h → envelope.number ≡ h.numbered + 1
+    ensures played { IfOk result
+        (λ r. (h : History) → IsPageOf page h → envelope.number ≡ h.numbered + 1
         → is_clean (register.Received text.now) ≡ true
         → IsPlayed envelope.warehouse h (record {
           who = envelope.depositor;
@@ -230,7 +234,8 @@ fn performed(
     ensures played { IfOk result (λ r. (h : History) (ticket : List ℕ) (act : register.Act)
         → IsPageOf page h → envelope.number ≡ h.numbered + 1
         → is_act rules act ≡ true → text.now ≡ register.canonical act
-        → IsPlayed envelope.warehouse h (clerk_entry rules envelope.depositor ticket act envelope.moment) r.page
+        → IsPlayed envelope.warehouse h
+        (clerk_entry rules envelope.depositor ticket act envelope.moment) r.page
         r.outgoing.items) }
 {
     match read(alloc, text, rules)? {
@@ -261,7 +266,8 @@ fn numbered(
     ensures rest { IfOk result (λ r. r.page.recent ≡ 0) }
     ensures replayed { IfOk result (λ r. (h : History) (e : register.Entry) → IsPageOf page h
         → register.is_numbered e ≡ true
-        → entry.now ≡ written_as (number_after h e) e → number_after h e ≤ most_entries → is_entry e ≡ true
+        → entry.now ≡ written_as (number_after h e) e → number_after h e ≤ most_entries
+        → is_entry e ≡ true
         → is_clean e.deed ≡ true
         → IsReplayed warehouse.now h e r.page r.outgoing.items) }
 {
@@ -297,7 +303,8 @@ pub fn replay(
     requires { IsHeldAtRest page }
     ensures rest { IfOk result (λ r. r.page.recent ≡ 0) }
     ensures replayed { IfOk result (λ r. (h : History) (e : register.Entry) → IsBefore page h e
-        → entry.now ≡ written_as (number_after h e) e → number_after h e ≤ most_entries → is_entry e ≡ true
+        → entry.now ≡ written_as (number_after h e) e → number_after h e ≤ most_entries
+        → is_entry e ≡ true
         → is_clean e.deed ≡ true
         → IsReplayed warehouse.now h e r.page r.outgoing.items) }
 {

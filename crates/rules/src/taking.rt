@@ -48,7 +48,11 @@ fn head_element<'a>(set: &Set<'a>, n: usize) -> &'a [u8]
 
 // What is told of a set.
 fn told<'a>(set: &Set<'a>, rejection: Option<Rejection<'a>>) -> ToldSet<'a>
-    ensures { result ≡ record { number = element (meant.head_of set.now.set) 1; control = meant.control_of set.now.set; rejection = rejection.entry } }
+    ensures { result ≡ record {
+      number = element (meant.head_of set.now.set) 1;
+      control = meant.control_of set.now.set;
+      rejection = rejection.entry;
+    } }
 {
     ToldSet {
         number: head_element(set, 1),
@@ -61,7 +65,11 @@ fn told<'a>(set: &Set<'a>, rejection: Option<Rejection<'a>>) -> ToldSet<'a>
 fn rejected<'a>(alloc: Global, page: Page, set: &Set<'a>, rejection: Rejection<'a>) -> TakenSet<'a>
     ensures page { result.page ≡ page }
     ensures changes { result.changes.items ≡ [] }
-    ensures told { result.told ≡ record { number = element (meant.head_of set.now.set) 1; control = meant.control_of set.now.set; rejection = Some rejection.entry } }
+    ensures told { result.told ≡ record {
+      number = element (meant.head_of set.now.set) 1;
+      control = meant.control_of set.now.set;
+      rejection = Some rejection.entry;
+    } }
 {
     TakenSet {
         page,
@@ -73,8 +81,13 @@ fn rejected<'a>(alloc: Global, page: Page, set: &Set<'a>, rejection: Rejection<'
 // A set that passed, with what its event changes put into the page.
 fn passed<'a>(page: Page, set: &Set<'a>, step: Step) -> Result<TakenSet<'a>, AllocError>
     requires { IsSound (put step.changes.items page) }
-    ensures { IfOk result (λ t. (t.page ≡ put step.changes.items page) × (t.changes.items ≡ step.changes.items)
-        × (t.told ≡ record { number = element (meant.head_of set.now.set) 1; control = meant.control_of set.now.set; rejection = None })) }
+    ensures { IfOk result
+        (λ t. (t.page ≡ put step.changes.items page) × (t.changes.items ≡ step.changes.items)
+        × (t.told ≡ record {
+          number = element (meant.head_of set.now.set) 1;
+          control = meant.control_of set.now.set;
+          rejection = None;
+        })) }
 {
     Ok(TakenSet {
         page: page.with(&step)?,
@@ -94,7 +107,9 @@ fn take_set<'a>(
 ) -> Result<TakenSet<'a>, AllocError>
     requires room { page.recent < most_sets }
     requires closed { fault ≡ None → set.now.set.is_closed ≡ true }
-    ensures { IfOk result (λ t. AreTaken rules set.now.delims (Some (kind_of kind)) ((set.now.set, fault) ∷ []) page t.page t.changes.items (t.told ∷ [])) }
+    ensures { IfOk result
+        (λ t. AreTaken rules set.now.delims (Some (kind_of kind)) ((set.now.set, fault)
+        ∷ []) page t.page t.changes.items (t.told ∷ [])) }
 {
     if let Some(code) = fault {
         let rejection = Rejection {
@@ -118,7 +133,9 @@ fn take_sets<'a>(
     rules: Rules,
 ) -> Result<TakenSets<'a>, AllocError>
     requires { start.recent + length group.now.group.sets ≤ most_sets }
-    ensures { IfOk result (λ t. AreTaken rules group.now.delims (Some (kind_of kind)) (meant.examined group.now.group) start t.page t.changes.items t.told.items) }
+    ensures { IfOk result
+        (λ t. AreTaken rules group.now.delims (Some (kind_of kind)) (meant.examined group.now.group)
+        start t.page t.changes.items t.told.items) }
 {
     let faults = group.set_faults(alloc)?;
     let mut page = start;
@@ -152,7 +169,9 @@ fn take_group<'a>(
     rules: Rules,
 ) -> Result<TakenSets<'a>, AllocError>
     requires { start.recent + length group.now.group.sets ≤ most_sets }
-    ensures { IfOk result (λ t. IsGroupTaken rules group.now.delims group.now.group start t.page t.changes.items t.told.items) }
+    ensures { IfOk result
+        (λ t. IsGroupTaken rules group.now.delims group.now.group start t.page t.changes.items
+        t.told.items) }
 {
     let kind = SetKind::of_function(function(group));
     match (group.fault(), kind) {
@@ -237,7 +256,9 @@ pub(crate) fn take_groups<'a>(
 ) -> Result<TakenGroups<'a>, AllocError>
     requires room { start.recent + sum_by (λ g. length g.sets) interchange.now.groups ≤ most_sets }
     requires small { AllByRecursion IsSmall interchange.now.groups }
-    ensures { IfOk result (λ t. AreGroupsTaken rules interchange.now.delims interchange.now.groups start t.page t.changes.items t.told.items) }
+    ensures { IfOk result
+        (λ t. AreGroupsTaken rules interchange.now.delims interchange.now.groups start t.page
+        t.changes.items t.told.items) }
 {
     let mut page = start;
     let mut changes = Vec::new(alloc);

@@ -18,7 +18,8 @@ told_whole n = codes "ok " ++ decimal n ++ 10 ∷ []
 
 -- a book was checked whole, and is as before
 pub record IsChecked (old new : Standing) (before later : Option (List ℕ)) (ending : Ending) : Type 0 where
-  pub told : new.doubt ≡ 0 → (L : List Entry) → old.keeps L → OnOk ending (Appends before later (told_whole (length L)))
+  pub told : new.doubt ≡ 0 → (L : List Entry) → old.keeps L
+      → OnOk ending (Appends before later (told_whole (length L)))
   pub same : IsUnchanged old new
 
 -- the database stands for a register, and how many entries that has is printed
@@ -28,16 +29,18 @@ pub record TellsWhole (db : Database) (before later : Option (List ℕ)) : Type 
   pub stands : StandsForMany warehouse entries db
   pub told : Appends before later (told_whole entries)
 
--- What was committed to a database, read anew with the schema that it lists: where that is a book of version 2, the rows of its tables
--- rise by their rowids, and opening the book leaves them as they are.
+-- What was committed to a database, read anew with the schema that it lists: where that is a book
+-- of version 2, the rows of its tables rise by their rowids, and opening the book leaves them as
+-- they are.
 pub record IsReadAnew (file opened : State) : Type 0 where
   pub read : Database
   pub sound : IsDatabase read
   pub trees : read.trees ≡ (let db = file.committed in db.trees)
-  pub tables : IsLayout read.schema → (IsOfFirst read → ⊥) → IsTrue opened.is_open → (opened.now ≡ read) × AreTables read
+  pub tables : IsLayout read.schema → (IsOfFirst read → ⊥) → IsTrue opened.is_open
+      → (opened.now ≡ read) × AreTables read
 
--- what was committed to a database is read anew with the schema that it lists; where that is a book of version 2, it stands for a register
--- of so many entries as are printed
+-- what was committed to a database is read anew with the schema that it lists; where that is a book
+-- of version 2, it stands for a register of so many entries as are printed
 pub record IsFoundWhole (file : State) (before later : Option (List ℕ)) : Type 0 where
   pub read : Database
   pub sound : IsDatabase read

@@ -3,10 +3,11 @@ use Rattle.std.specs.Prelude.{Bool, true, false}
 use Rattle.sqlite.specs.declared.error.Error.{Error}
 use Rattle.sqlite.specs.declared.error.Error.TheVariants.{SqliteFailure}
 use Rattle.sqlite.specs.declared.error.ErrorCode.TheVariants as failures
-use Rattle.store.specs.declared.fault.Fault.{Fault}
-use Rattle.store.specs.declared.fault.Fault.TheVariants.{OutOfMemory, NotThisBook, Device}
+use Rattle.store.specs.Fault.{Fault}
+use Rattle.store.specs.Fault.TheVariants.{OutOfMemory, NotThisBook, Device}
 
--- a file that holds anything else, or is damaged, is not this book; all else is a device that failed
+-- a file that holds anything else, or is damaged, is not this book; all else is a device that
+-- failed
 abbrev pub fault_of : Error → Fault
 fault_of (SqliteFailure failures.OutOfMemory) = OutOfMemory
 fault_of (SqliteFailure failures.NotADatabase) = NotThisBook

@@ -1,4 +1,5 @@
--- Which job over a book in a file a line asks for, and what the job comes to (Checking: that of a check).
+-- Which job over a book in a file a line asks for, and what the job comes to (Checking: that of a
+-- check).
 use Rattle.std.specs.Prelude.{◌≡◌, ℕ, Bool, true, false, List, Option, Some, None, IfSome}
 use Rattle.profile.specs.Header.{who_of}
 use Rattle.profile.specs.Moments.{Moment}
@@ -17,10 +18,12 @@ abbrev pub says_none : Option Moment → Bool
 says_none None = true
 says_none (Some t) = false
 
--- it is what the line asks for, at the moment that the line says, if it says one; a server goes by the clock where the line says none
+-- it is what the line asks for, at the moment that the line says, if it says one; a server goes by
+-- the clock where the line says none
 abbrev pub IsJobFor : Task → Job → Type 0
 IsJobFor (task.Init who) (job.Make warehouse) = who_of who.now ≡ Some warehouse
-IsJobFor (task.Act a at) (job.Change ready moment) = IsMadeReady a ready × IfSome at (λ t. moment ≡ t)
+IsJobFor (task.Act a at) (job.Change ready moment) = IsMadeReady a ready
+    × IfSome at (λ t. moment ≡ t)
 IsJobFor (task.Show s) (job.Look asked) = IsAskedFor s asked
 IsJobFor (task.Batch file) (job.Play text) = Unit {0}
 IsJobFor task.Verify job.Check = Unit {0}
@@ -28,7 +31,8 @@ IsJobFor (task.Serve s at) (job.Listen service first has_clock file) =
     (service ≡ s) × IfSome at (λ t. first ≡ t) × (has_clock ≡ says_none at)
 IsJobFor t j = ⊥
 
--- what the line asks for isn't made ready, for this reason; a batch, a check and a server are never refused
+-- what the line asks for isn't made ready, for this reason; a batch, a check and a server are never
+-- refused
 abbrev pub IsNoJobFor : Task → Refusal → Type 0
 IsNoJobFor (task.Init who) refusal = (refusal ≡ BadText) × (who_of who.now ≡ None)
 IsNoJobFor (task.Act a at) refusal = IsUnready a refusal
@@ -37,7 +41,8 @@ IsNoJobFor t refusal = ⊥
 
 -- what was made ready was done at its moment, and what was asked for was shown
 abbrev pub IsWork : Standing → Standing → Job → Option (List ℕ) → Option (List ℕ) → Ending → Type 0
-IsWork old new (job.Change ready moment) before later ending = IsPerformed old new ready moment before later ending
+IsWork old new (job.Change ready moment) before later ending =
+    IsPerformed old new ready moment before later ending
 IsWork old new (job.Look asked) before later ending = IsLook old new asked before later ending
 IsWork old new (job.Play text) before later ending = GoesOn old new
 IsWork old new other before later ending = Unit {0}

@@ -26,7 +26,8 @@ use store::{Fault, Warehouse};
 /// that failed.
 pub fn fault(error: &Error) -> Fault
     ensures told { result ≡ meant.fault_of error.now }
-    ensures named { (result ≡ Fault.NotThisBook) ⊎ ((result ≡ Fault.OutOfMemory) ⊎ (result ≡ Fault.Device)) }
+    ensures named { (result ≡ Fault.NotThisBook)
+        ⊎ ((result ≡ Fault.OutOfMemory) ⊎ (result ≡ Fault.Device)) }
 {
     match error {
         Error::SqliteFailure(ErrorCode::OutOfMemory) => Fault::OutOfMemory,
@@ -71,7 +72,8 @@ pub fn make<S: Alter + Drop>(
     ensures free { IfErr result (λ stop. stop ≡ CommandError.Fault Fault.NotThisBook
         → (state S.Store database).now.schema ≢ no_layout) }
     ensures named { IfErr result (λ stop. (stop ≡ CommandError.Fault Fault.NotThisBook)
-        ⊎ ((stop ≡ CommandError.Fault Fault.OutOfMemory) ⊎ (stop ≡ CommandError.Fault Fault.Store))) }
+        ⊎ ((stop ≡ CommandError.Fault Fault.OutOfMemory)
+        ⊎ (stop ≡ CommandError.Fault Fault.Store))) }
 {
     if !is_blank(&database) {
         return Err(CommandError::Fault(Fault::NotThisBook));
@@ -101,7 +103,8 @@ pub fn open<S: Alter + Drop, T: FnMut(u64, u64)>(
         → b.warehouse ≡ W) }
     ensures opened { IfOk result (λ b. b.shut ≡ false) }
     ensures named { IfErr result (λ stop. (stop ≡ CommandError.Fault Fault.NotThisBook)
-        ⊎ ((stop ≡ CommandError.Fault Fault.OutOfMemory) ⊎ (stop ≡ CommandError.Fault Fault.Store))) }
+        ⊎ ((stop ≡ CommandError.Fault Fault.OutOfMemory)
+        ⊎ (stop ≡ CommandError.Fault Fault.Store))) }
 {
     match Book::open_from_telling(alloc, Tables::new(database), told) {
         Ok(book) => Ok(book),

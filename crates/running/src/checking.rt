@@ -1,13 +1,12 @@
 //! A book in a database checked whole: its tables are read anew, and compared with what its
 //! register gives.
-ghost use Rattle.std.specs.Prelude.{◌≡◌, List, false, length, IfOk, IsTrue};
-ghost use Rattle.profile.specs.Register.{Entry};
+ghost use Rattle.std.specs.Prelude.{◌≡◌, false, IfOk, IsTrue};
 ghost use Rattle.sqlite.specs.Held.{state};
 ghost use Rattle.sqlite.specs.State.{HasCleanDisk};
 ghost use Rattle.store.specs.Standing.{IsUnchanged};
 ghost use Rattle.book_tables.specs.Comparing.{AreTables, IsLaid};
 ghost use Rattle.books.specs.Opened.{standing_of};
-ghost use Rattle.books.specs.Verified.{StandsForMany};
+ghost use Rattle.books.specs.Verified.{CountsKept, StandsChecked};
 ghost use Rattle.running.specs.Checking.{IsChecked, IsFoundWhole, TellsWhole};
 
 use crate::book_files::close;
@@ -25,13 +24,8 @@ fn watched<S: Alter + Drop, E: io::Write>(
     verbosity: Verbosity,
     err: &mut E,
 ) -> Result<u64, Fault>
-    ensures stands { (standing_of S.Store book.new).doubt ≡ 0 → IsLaid (state S.Store book.old.tables.conn)
-        → (IsTrue (state S.Store book.old.tables.conn).is_open
-        → AreTables (state S.Store book.old.tables.conn).now)
-        → IfOk result (λ n. IsTrue (state S.Store book.old.tables.conn).is_open
-        × StandsForMany book.old.warehouse n (state S.Store book.old.tables.conn).now) }
-    ensures whole { (standing_of S.Store book.new).doubt ≡ 0 → (L : List Entry)
-        → (standing_of S.Store book.old).keeps L → IfOk result (λ n. n ≡ length L) }
+    ensures stands { StandsChecked S.Store book.old book.new result }
+    ensures whole { CountsKept S.Store book.old book.new result }
     ensures same { IsUnchanged (standing_of S.Store book.old) (standing_of S.Store book.new) }
 {
     if !verbosity.watches {
@@ -55,7 +49,8 @@ fn check<S: Alter + Drop, W: io::Write, E: io::Write>(
 ) -> Result<ExitStatus, CommandError>
     ensures checked { IsChecked (standing_of S.Store book.old) (standing_of S.Store book.new)
         (W.contents out.old) (W.contents out.new) result }
-    ensures stands { (standing_of S.Store book.new).doubt ≡ 0 → IsLaid (state S.Store book.old.tables.conn)
+    ensures stands { (standing_of S.Store book.new).doubt ≡ 0
+        → IsLaid (state S.Store book.old.tables.conn)
         → (IsTrue (state S.Store book.old.tables.conn).is_open
         → AreTables (state S.Store book.old.tables.conn).now)
         → IfOk result (λ _. IsTrue (state S.Store book.old.tables.conn).is_open

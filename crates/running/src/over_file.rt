@@ -75,7 +75,8 @@ fn open_for<S: Alter + Drop, T: FnMut(u64, u64)>(
 ) -> Result<Book<S>, CommandError>
     requires free { database.in_transaction ≡ false }
     requires told { T.IsAlwaysCallable told }
-    ensures anew { job.now ≡ Job.Check → IfOk result (λ b. HasCleanDisk (state S.Store b.tables.conn)
+    ensures anew { job.now ≡ Job.Check → IfOk result
+        (λ b. HasCleanDisk (state S.Store b.tables.conn)
         → IsReadAnew (state S.Store database) (state S.Store b.tables.conn)) }
 {
     match job {
@@ -94,7 +95,8 @@ pub(crate) fn open_watched<S: Alter + Drop, E: io::Write>(
     err: &mut E,
 ) -> Result<Book<S>, CommandError>
     requires { database.in_transaction ≡ false }
-    ensures anew { job.now ≡ Job.Check → IfOk result (λ b. HasCleanDisk (state S.Store b.tables.conn)
+    ensures anew { job.now ≡ Job.Check → IfOk result
+        (λ b. HasCleanDisk (state S.Store b.tables.conn)
         → IsReadAnew (state S.Store database) (state S.Store b.tables.conn)) }
 {
     if !verbosity.watches {

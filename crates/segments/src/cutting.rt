@@ -18,7 +18,10 @@ pub struct Segment<'a> {
 impl<'a> Model for Segment<'a> {
     ghost Value = { meant.Piece };
 
-    ghost view = { λ s. record { delims = s.delims; elements = slice_split (λ b. b == s.delims.separator) s.text.now } };
+    ghost view = { λ s. record {
+      delims = s.delims;
+      elements = slice_split (λ b. b == s.delims.separator) s.text.now;
+    } };
 }
 
 /// The cut of a text, as far as it is not done.
@@ -61,7 +64,10 @@ fn skip_line_ends(text: &[u8]) -> &[u8]
 
 // The segment of that text.
 fn segment_of(text: &[u8], delims: Delims) -> Segment<'_>
-    ensures { result ≡ record { delims = delims; elements = slice_split (λ b. b == delims.separator) text.now } }
+    ensures { result ≡ record {
+      delims = delims;
+      elements = slice_split (λ b. b == delims.separator) text.now;
+    } }
 {
     Segment { text, delims }
 }
@@ -69,9 +75,11 @@ fn segment_of(text: &[u8], delims: Delims) -> Segment<'_>
 // The first segment, and what stands after it and its CR and LF.
 fn first_segment<'a>(text: &'a [u8], delims: &Delims) -> Option<(Segment<'a>, &'a [u8])>
     ensures { MatchOption result
-        (((meant.cut delims.now text.now).segments ≡ []) × ((meant.cut delims.now text.now).rest ≡ text.now))
+        (((meant.cut delims.now text.now).segments ≡ [])
+        × ((meant.cut delims.now text.now).rest ≡ text.now))
         (λ p. (p.0.delims ≡ delims.now)
-        × ((meant.cut delims.now text.now).segments ≡ p.0.elements ∷ (meant.cut delims.now p.1.now).segments)
+        × ((meant.cut delims.now text.now).segments ≡ p.0.elements
+        ∷ (meant.cut delims.now p.1.now).segments)
         × ((meant.cut delims.now text.now).rest ≡ (meant.cut delims.now p.1.now).rest)
         × ((skip : List ℕ) × (text.now ≡ meant.spelled delims.now p.0.elements ++ (skip ++ p.1.now))
         × IsTrue (list_all is_line_end skip) × meant.StartsClean p.1.now)) }

@@ -17,7 +17,11 @@ pub struct Delims {
 impl Model for Delims {
     ghost Value = { Bounds };
 
-    ghost view = { λ d. record { separator = d.separator; component = d.component; terminator = d.terminator } };
+    ghost view = { λ d. record {
+      separator = d.separator;
+      component = d.component;
+      terminator = d.terminator;
+    } };
 
     ghost invariant = { λ d. IsTrue (are_delimiters (record { separator = d.separator; component = d.component; terminator = d.terminator })) };
 

@@ -56,7 +56,8 @@ pub(crate) fn is_ident(text: &[u8], least: usize, most: usize) -> bool
 impl<'a> Ident<'a> {
     /// The text, where it is 1 to `most` identifier bytes; else None.
     pub fn new(text: &'a [u8], most: usize) -> Option<Ident<'a>>
-        ensures { MatchOption result (is_identifier 1 most text.now ≡ false) (λ i. (is_identifier 1 most text.now ≡ true) × (i ≡ text.now)) }
+        ensures { MatchOption result (is_identifier 1 most text.now ≡ false)
+            (λ i. (is_identifier 1 most text.now ≡ true) × (i ≡ text.now)) }
     {
         if is_ident(text, 1, most) {
             Some(Ident { text })

@@ -1,7 +1,8 @@
 ghost use Rattle.std.specs.Prelude.{◌≡◌, IsTrue, true, false, MatchOption};
-ghost use Rattle.profile.specs.Moments.{Moment as Parts, is_moment, is_day};
+ghost use Rattle.profile.specs.Moments.{Moment as Parts, is_moment, is_day, date8, time4, stamp};
 
 use jiff::civil::Date;
+use profile::zero_filled;
 use std::marker::Model;
 
 /// A minute of the years 2000 to 2099, in UTC.
@@ -17,7 +18,13 @@ pub struct Moment {
 impl Model for Moment {
     ghost Value = { Parts };
 
-    ghost view = { λ m. record { year = m.year; month = m.month; day = m.day; hour = m.hour; minute = m.minute } };
+    ghost view = { λ m. record {
+      year = m.year;
+      month = m.month;
+      day = m.day;
+      hour = m.hour;
+      minute = m.minute;
+    } };
 
     ghost invariant = { λ m. IsTrue (is_moment (record { year = m.year; month = m.month; day = m.day; hour = m.hour; minute = m.minute })) };
 
@@ -38,7 +45,13 @@ impl Moment {
     /// The minute with these parts, by the Gregorian calendar; None where the year isn't one of
     /// 2000 to 2099, or there is no such day, hour or minute.
     pub fn new(year: u16, month: u8, day: u8, hour: u8, minute: u8) -> Option<Moment>
-        ensures { let m : Parts = record { year = year; month = month; day = day; hour = hour; minute = minute } in
+        ensures { let m : Parts = record {
+          year = year;
+          month = month;
+          day = day;
+          hour = hour;
+          minute = minute;
+        } in
             MatchOption result (is_moment m ≡ false) (λ r. (is_moment m ≡ true) × (r ≡ m)) }
     {
         if year < 2000 || year > 2099 || hour > 23 || minute > 59 {
@@ -89,5 +102,38 @@ impl Moment {
         ensures { result ≡ self.now.minute }
     {
         self.minute
+    }
+
+    /// CCYYMMDD; from its third byte on it is YYMMDD.
+    pub fn date(&self) -> [u8; 8]
+        ensures { result ≡ date8 self.now }
+    {
+        let year = zero_filled::<4>(u64::from(self.year));
+        let month = zero_filled::<2>(u64::from(self.month));
+        let day = zero_filled::<2>(u64::from(self.day));
+        [
+            year[0], year[1], year[2], year[3], month[0], month[1], day[0], day[1],
+        ]
+    }
+
+    /// HHMM.
+    pub fn time(&self) -> [u8; 4]
+        ensures { result ≡ time4 self.now }
+    {
+        let hour = zero_filled::<2>(u64::from(self.hour));
+        let minute = zero_filled::<2>(u64::from(self.minute));
+        [hour[0], hour[1], minute[0], minute[1]]
+    }
+
+    /// CCYYMMDDHHMM, as it is kept.
+    pub fn stamp(&self) -> [u8; 12]
+        ensures { result ≡ stamp self.now }
+    {
+        let date = self.date();
+        let time = self.time();
+        [
+            date[0], date[1], date[2], date[3], date[4], date[5], date[6], date[7], time[0],
+            time[1], time[2], time[3],
+        ]
     }
 }

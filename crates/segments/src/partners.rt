@@ -1,10 +1,11 @@
-ghost use Rattle.std.specs.Prelude.{◌≡◌, ◌≤◌, ◌-◌, ◌++◌, ◌&&◌, true, false, Some, None, if◌then◌else◌, IsTrue, take, drop, replicate, length, bytes_eq};
-ghost use Rattle.profile.specs.Header.{Who as Partner, is_partner, who_eq, who_of};
+ghost use Rattle.std.specs.Prelude.{◌≡◌, ◌≤◌, ◌-◌, ◌++◌, ◌&&◌, true, false, Some, None, IfOk, if◌then◌else◌, IsTrue, take, drop, replicate, length, bytes_eq};
+ghost use Rattle.profile.specs.Header.{Who as Partner, is_partner, who_eq, who_of, who_text};
 ghost use Rattle.profile.specs.Limits.{most_partner};
 ghost use Rattle.segments.specs.Filled.{length_front, filled_front};
 
 use crate::idents::{all_alphanumeric, is_ident};
 use profile::{LEAST_PARTNER, MOST_PARTNER, QUALIFIER_BYTES};
+use std::alloc::{AllocError, Global};
 use std::marker::Model;
 
 /// A trading partner, as two elements of ISA name it: a qualifier of two of A to Z and 0 to 9, and
@@ -33,7 +34,10 @@ impl Who {
     /// The partner with this qualifier and id, without the spaces that fill ISA06; None where they
     /// name none.
     pub fn of(qualifier: &[u8], id: &[u8]) -> Option<Who>
-        ensures { let w : Partner = record { qualifier = qualifier.now; id = id.now } in result ≡ (if is_partner w then Some w else None) }
+        ensures { let w : Partner = record {
+          qualifier = qualifier.now;
+          id = id.now;
+        } in result ≡ (if is_partner w then Some w else None) }
     {
         if qualifier.len() != QUALIFIER_BYTES || !all_alphanumeric(qualifier) {
             return None;
@@ -74,6 +78,17 @@ impl Who {
         ensures { result.now ≡ self.now.id }
     {
         &self.id[..self.len]
+    }
+
+    /// Its text, qualifier, hyphen and id, as `ZZ-ACME`. Want of memory is the one error.
+    pub fn text(&self, alloc: Global) -> Result<Vec<u8>, AllocError>
+        ensures { IfOk result (λ text. text.items ≡ who_text self.now) }
+    {
+        let mut text = Vec::new(alloc);
+        text.extend_from_slice(self.qualifier())?;
+        text.push(b'-')?;
+        text.extend_from_slice(self.id())?;
+        Ok(text)
     }
 
     /// Whether the two are one partner.

@@ -19,7 +19,8 @@ fn append_part(out: &mut Vec<u8>, separator: u8, element: &[u8]) -> Result<(), A
 // Appends each element after a separator, or a beginning of that.
 #[tactic(auto, using(crate::proofs::ExtendsLemmas::extends_trans, crate::proofs::ExtendsLemmas::extends_append))]
 fn append_parts(out: &mut Vec<u8>, separator: u8, elements: &[&[u8]]) -> Result<(), AllocError>
-    ensures ok { OnOk result (out.new.items ≡ out.old.items ++ flat_map (λ e. separator ∷ e.now) elements.now) }
+    ensures ok { OnOk result (out.new.items ≡ out.old.items ++ flat_map
+        (λ e. separator ∷ e.now) elements.now) }
     ensures kept { Extends out.old.items out.new.items }
 {
     for element in elements {
@@ -31,7 +32,8 @@ fn append_parts(out: &mut Vec<u8>, separator: u8, elements: &[&[u8]]) -> Result<
 // Appends the elements with the separator between each two, or a beginning of that.
 #[tactic(auto, using(crate::proofs::ExtendsLemmas::extends_trans, crate::proofs::ExtendsLemmas::extends_append))]
 fn append_elements(out: &mut Vec<u8>, separator: u8, elements: &[&[u8]]) -> Result<(), AllocError>
-    ensures ok { OnOk result (out.new.items ≡ out.old.items ++ meaning.joined separator (map (λ e. e.now) elements.now)) }
+    ensures ok { OnOk result (out.new.items ≡ out.old.items
+        ++ meaning.joined separator (map (λ e. e.now) elements.now)) }
     ensures kept { Extends out.old.items out.new.items }
 {
     match elements.split_first() {
@@ -46,7 +48,8 @@ fn append_elements(out: &mut Vec<u8>, separator: u8, elements: &[&[u8]]) -> Resu
 // Appends the segment, or a beginning of it.
 #[tactic(auto, using(crate::proofs::ExtendsLemmas::extends_trans, crate::proofs::ExtendsLemmas::extends_append))]
 fn append(out: &mut Vec<u8>, delims: Delims, elements: &[&[u8]]) -> Result<(), AllocError>
-    ensures ok { OnOk result (out.new.items ≡ out.old.items ++ meaning.spelled delims (map (λ e. e.now) elements.now)) }
+    ensures ok { OnOk result (out.new.items ≡ out.old.items
+        ++ meaning.spelled delims (map (λ e. e.now) elements.now)) }
     ensures kept { Extends out.old.items out.new.items }
 {
     append_elements(out, delims.separator(), elements)?;
@@ -61,7 +64,8 @@ pub fn write_segment(
     delims: Delims,
     elements: &[&[u8]],
 ) -> Result<(), AllocError>
-    ensures ok { OnOk result (out.new.items ≡ out.old.items ++ meaning.spelled delims (map (λ e. e.now) elements.now)) }
+    ensures ok { OnOk result (out.new.items ≡ out.old.items
+        ++ meaning.spelled delims (map (λ e. e.now) elements.now)) }
     ensures err { OnErr result (out.new.items ≡ out.old.items) }
 {
     let start = out.len();

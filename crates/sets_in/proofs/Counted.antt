@@ -1,4 +1,5 @@
--- What is known of the numbers of a set without a fault, whichever rules it was judged by: what rules 1 allow rules 2 allow.
+-- What is known of the numbers of a set without a fault, whichever rules it was judged by: what
+-- rules 1 allow rules 2 allow.
 use Rattle.std.proofs.Common.{◌≡◌, List, [], None, sym, ◌∙◌, subst}
 use Rattle.std.specs.Prelude.{codes}
 use Rattle.profile.specs.declared.rules.Rules.{Rules}

@@ -1,4 +1,5 @@
--- The lines of a set stand after its head and before its total, so its trade fault is at the least position.
+-- The lines of a set stand after its head and before its total, so its trade fault is at the least
+-- position.
 use Rattle.std.proofs.Common.{◌≡◌, ℕ, ◌+◌, ◌*◌, ◌≤◌, true, List, [], ◌∷◌, length, refl, sym, subst, arith, le-leb, length-append, Some, None, Option}
 use Rattle.std.specs.Prelude.{flat_map}
 use Rattle.std.specs.List.{list_all}

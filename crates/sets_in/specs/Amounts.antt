@@ -1,4 +1,5 @@
--- Elements that are numbers, and what is known so of the segments of a set without a fault, by rules 1 or 2.
+-- Elements that are numbers, and what is known so of the segments of a set without a fault, by
+-- rules 1 or 2.
 use Rattle.std.specs.Prelude.{◌≡◌, ◌≤◌, ℕ, List, true, length}
 use Rattle.std.specs.List.{list_all, AllByRecursion}
 use Rattle.profile.specs.declared.rules.Rules.TheVariants.{Two}
@@ -19,7 +20,8 @@ HasAmount id place most s = has_id id s ≡ true → IsAmount most (element s pl
 abbrev pub HaveAmounts : List ℕ → ℕ → ℕ → List Segment → Type 0
 HaveAmounts id place most ss = AllByRecursion (HasAmount id place most) ss
 
--- lines begin at the segments with an id, whose first element is a quantity; another has their sum, of at most some digits
+-- lines begin at the segments with an id, whose first element is a quantity; another has their sum,
+-- of at most some digits
 pub record IsCounted (line total : List ℕ) (most : ℕ) (ss : List Segment) : Type 0 where
   pub few : length (places_of line ss) ≤ most_lines Two
   pub quantities : HaveAmounts line 1 QUANTITY_DIGITS_TWO ss

@@ -17,7 +17,8 @@ abbrev pub printed : AckSet → List Segment
 printed t = t.st ∷ t.ak1 ∷ t.body ++ t.ak9 ∷ t.se ∷ []
 
 abbrev pub IsToldOfSets : List ℕ → Type 0
-IsToldOfSets id = (id ≡ codes "AK2") ⊎ ((id ≡ codes "AK3") ⊎ ((id ≡ codes "AK4") ⊎ (id ≡ codes "AK5")))
+IsToldOfSets id = (id ≡ codes "AK2")
+    ⊎ ((id ≡ codes "AK3") ⊎ ((id ≡ codes "AK4") ⊎ (id ≡ codes "AK5")))
 
 -- each segment has its id
 pub record IsAckSet (t : AckSet) : Type 0 where

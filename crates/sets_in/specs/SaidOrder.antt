@@ -36,16 +36,19 @@ abbrev pub in_goods : {X : Type 0} → Goods X → List X
 in_goods g = g.lx ∷ g.w01 ∷ option_to_list g.n9
 
 abbrev pub printed : {X : Type 0} → OrderSet X → List X
-printed t = t.st ∷ t.w05 ∷ flat_map in_party t.parties ++ (t.header ++ (flat_map in_goods t.goods ++ t.w76 ∷ t.se ∷ []))
+printed t = t.st ∷ t.w05 ∷ flat_map in_party t.parties
+    ++ (t.header ++ (flat_map in_goods t.goods ++ t.w76 ∷ t.se ∷ []))
 
 abbrev pub IsHeader : List ℕ → Type 0
 IsHeader id = (id ≡ codes "N9") ⊎ (id ≡ codes "G62")
 
 abbrev pub IsParty : {X : Type 0} → (X → List ℕ) → Party X → Type 0
-IsParty id p = (id p.n1 ≡ codes "N1") × IfSome p.n3 (λ s. id s ≡ codes "N3") × IfSome p.n4 (λ s. id s ≡ codes "N4")
+IsParty id p = (id p.n1 ≡ codes "N1") × IfSome p.n3 (λ s. id s ≡ codes "N3")
+    × IfSome p.n4 (λ s. id s ≡ codes "N4")
 
 abbrev pub IsGoods : {X : Type 0} → (X → List ℕ) → Goods X → Type 0
-IsGoods id g = (id g.lx ≡ codes "LX") × (id g.w01 ≡ codes "W01") × IfSome g.n9 (λ s. id s ≡ codes "N9")
+IsGoods id g = (id g.lx ≡ codes "LX") × (id g.w01 ≡ codes "W01")
+    × IfSome g.n9 (λ s. id s ≡ codes "N9")
 
 -- each segment has its id
 pub record IsOrderSet {X : Type 0} (id : X → List ℕ) (t : OrderSet X) : Type 0 where

@@ -25,7 +25,11 @@ pub struct AckIn {
 impl Model for AckIn {
     ghost Value = { meant.Acknowledgment };
 
-    ghost view = { λ a. record { function = a.function.items; document = a.document; accepts = a.accepts } };
+    ghost view = { λ a. record {
+      function = a.function.items;
+      document = a.document;
+      accepts = a.accepts;
+    } };
 }
 
 // The segments of an acknowledgment, with what is known of the document's number.

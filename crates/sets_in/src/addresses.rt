@@ -18,14 +18,16 @@ fn is_ship_to(segment: &Segment<'_>) -> bool
 
 // Whether it is an N3 or N4, which belong to the N1 before them.
 fn belongs(segment: &Segment<'_>) -> bool
-    ensures { result ≡ (has_id (codes "N3") segment.now.elements || has_id (codes "N4") segment.now.elements) }
+    ensures { result ≡ (has_id (codes "N3") segment.now.elements || has_id (codes "N4")
+        segment.now.elements) }
 {
     segment.has_id(b"N3") || segment.has_id(b"N4")
 }
 
 // The segments in front that belong to the N1 before them.
 fn belonging<'a, 's>(segments: &'s [Segment<'a>]) -> &'s [Segment<'a>]
-    ensures { segments_of result.now ≡ take_while (λ s. has_id (codes "N3") s || has_id (codes "N4") s) (segments_of segments.now) }
+    ensures { segments_of result.now ≡ take_while
+        (λ s. has_id (codes "N3") s || has_id (codes "N4") s) (segments_of segments.now) }
 {
     for (index, segment) in segments.iter().enumerate() {
         if !belongs(segment) {

@@ -20,7 +20,8 @@ fn advised<'a>(set: &Checked<'a>) -> &'a [Segment<'a>]
     requires { set.now.kind ≡ kinds.ShipmentAdvice }
     ensures same { result.now ≡ set.now.pieces }
     ensures short { length result.now < 2 ^ 32 - 1 }
-    ensures counted { IsCounted (codes "W04") (codes "W03") ADVICE_TOTAL_DIGITS_TWO (segments_of result.now) }
+    ensures counted { IsCounted (codes "W04") (codes "W03") ADVICE_TOTAL_DIGITS_TWO
+        (segments_of result.now) }
     ensures says { SaysAdvice (segments_of result.now) (meant.advice_of (segments_of result.now)) }
 {
     set.segments()
@@ -32,7 +33,9 @@ fn expiry_at(
     segments: &[Segment<'_>],
     position: usize,
 ) -> Result<Option<Vec<u8>>, AllocError>
-    ensures { IfOk result (λ e. option_map (λ v. v.items) e ≡ meant.expiry_of (meant.segment_at (segments_of segments.now) position)) }
+    ensures { IfOk result
+        (λ e. option_map (λ v. v.items) e
+        ≡ meant.expiry_of (meant.segment_at (segments_of segments.now) position)) }
 {
     let expiry = element_at(segments, position, 4);
     if has_id_at(segments, position, b"N9") && !expiry.is_empty() {
@@ -48,7 +51,8 @@ fn advice_line(
     segments: &[Segment<'_>],
     position: u32,
 ) -> Result<AdviceLine, AllocError>
-    requires { IsAmount QUANTITY_DIGITS_TWO (element (meant.segment_at (segments_of segments.now) position) 1) }
+    requires { IsAmount QUANTITY_DIGITS_TWO
+        (element (meant.segment_at (segments_of segments.now) position) 1) }
     ensures line { IfOk result (λ l. l ≡ meant.advice_line (segments_of segments.now) position) }
     ensures small { IfOk result (λ l. l.line.quantity ≤ most_quantity Two) }
 {
@@ -72,9 +76,13 @@ fn advice_line(
 fn advice_lines(alloc: Global, segments: &[Segment<'_>]) -> Result<Vec<AdviceLine>, AllocError>
     requires short { length segments.now < 2 ^ 32 - 1 }
     requires quantities { HaveAmounts (codes "W04") 1 QUANTITY_DIGITS_TWO (segments_of segments.now) }
-    ensures lines { IfOk result (λ v. v.items ≡ map (meant.advice_line (segments_of segments.now)) (places_of (codes "W04") (segments_of segments.now))) }
-    ensures small { IfOk result (λ v. All (λ (l : meant.AdviceLine). l.line.quantity ≤ most_quantity Two) v.items) }
-    ensures placed { IfOk result (λ v. All (λ (l : meant.AdviceLine). l.position < 2 ^ 32 - 1) v.items) }
+    ensures lines { IfOk result
+        (λ v. v.items ≡ map (meant.advice_line (segments_of segments.now))
+        (places_of (codes "W04") (segments_of segments.now))) }
+    ensures small { IfOk result
+        (λ v. All (λ (l : meant.AdviceLine). l.line.quantity ≤ most_quantity Two) v.items) }
+    ensures placed { IfOk result
+        (λ v. All (λ (l : meant.AdviceLine). l.position < 2 ^ 32 - 1) v.items) }
 {
     let mut lines = Vec::new(alloc);
     for (index, segment) in segments.iter().enumerate() {
@@ -89,7 +97,8 @@ fn advice_lines(alloc: Global, segments: &[Segment<'_>]) -> Result<Vec<AdviceLin
 // What the segments of an advice say.
 fn told(alloc: Global, segments: &[Segment<'_>]) -> Result<Advice, AllocError>
     requires short { length segments.now < 2 ^ 32 - 1 }
-    requires counted { IsCounted (codes "W04") (codes "W03") ADVICE_TOTAL_DIGITS_TWO (segments_of segments.now) }
+    requires counted { IsCounted (codes "W04") (codes "W03") ADVICE_TOTAL_DIGITS_TWO
+        (segments_of segments.now) }
     ensures { IfOk result (λ a. a ≡ meant.advice_of (segments_of segments.now)) }
 {
     let shipment = copied(alloc, element_with(segments, b"W06", 4))?;

@@ -10,10 +10,12 @@ ghost use Rattle.sets_in.specs.TradeFaults.{IsLeastOf, faults_of_advice, faults_
 
 /// The trade fault of an advice is one at the least position of those that its set may be told.
 pub fn advice_fault_is_the_least()
-    ensures { (es : List Event) (ss : List Segment) (a : Advice) (f : SetFault) → SaysAdvice ss a → advice_fault es a ≡ Some f → IsLeastOf f (faults_of_advice es a) }
+    ensures { (es : List Event) (ss : List Segment) (a : Advice) (f : SetFault) → SaysAdvice ss a
+        → advice_fault es a ≡ Some f → IsLeastOf f (faults_of_advice es a) }
 {}
 
 /// The trade fault of an order is one at the least position of those that its set may be told.
 pub fn order_fault_is_the_least()
-    ensures { (es : List Event) (ss : List Segment) (o : Order) (f : SetFault) → SaysOrder ss o → order_fault es o ≡ Some f → IsLeastOf f (faults_of_order es o) }
+    ensures { (es : List Event) (ss : List Segment) (o : Order) (f : SetFault) → SaysOrder ss o
+        → order_fault es o ≡ Some f → IsLeastOf f (faults_of_order es o) }
 {}

@@ -35,5 +35,9 @@ pub struct AdviceLine {
 impl Model for AdviceLine {
     ghost Value = { AdviceLineSaid };
 
-    ghost view = { λ l. record { line = l.line; expiry = option_map (λ v. v.items) l.expiry; position = l.position } };
+    ghost view = { λ l. record {
+      line = l.line;
+      expiry = option_map (λ v. v.items) l.expiry;
+      position = l.position;
+    } };
 }

@@ -20,7 +20,8 @@ fn ordered<'a>(set: &Checked<'a>) -> &'a [Segment<'a>]
     requires { set.now.kind ≡ kinds.ShippingOrder }
     ensures same { result.now ≡ set.now.pieces }
     ensures short { length result.now < 2 ^ 32 - 1 }
-    ensures counted { IsCounted (codes "W01") (codes "W76") ORDER_TOTAL_DIGITS_TWO (segments_of result.now) }
+    ensures counted { IsCounted (codes "W01") (codes "W76") ORDER_TOTAL_DIGITS_TWO
+        (segments_of result.now) }
     ensures says { SaysOrder (segments_of result.now) (meant.order_of (segments_of result.now)) }
 {
     set.segments()
@@ -32,7 +33,9 @@ fn pin_at(
     segments: &[Segment<'_>],
     position: usize,
 ) -> Result<Option<Vec<u8>>, AllocError>
-    ensures { IfOk result (λ p. option_map (λ v. v.items) p ≡ meant.pin_of (meant.segment_at (segments_of segments.now) position)) }
+    ensures { IfOk result
+        (λ p. option_map (λ v. v.items) p
+        ≡ meant.pin_of (meant.segment_at (segments_of segments.now) position)) }
 {
     if has_id_at(segments, position, b"N9") {
         Ok(Some(copied(alloc, element_at(segments, position, 2))?))
@@ -47,7 +50,8 @@ fn order_line(
     segments: &[Segment<'_>],
     position: u32,
 ) -> Result<OrderLine, AllocError>
-    requires { IsAmount QUANTITY_DIGITS_TWO (element (meant.segment_at (segments_of segments.now) position) 1) }
+    requires { IsAmount QUANTITY_DIGITS_TWO
+        (element (meant.segment_at (segments_of segments.now) position) 1) }
     ensures line { IfOk result (λ l. l ≡ meant.order_line (segments_of segments.now) position) }
     ensures small { IfOk result (λ l. l.quantity ≤ most_quantity Two) }
 {
@@ -67,8 +71,11 @@ fn order_line(
 fn order_lines(alloc: Global, segments: &[Segment<'_>]) -> Result<Vec<OrderLine>, AllocError>
     requires short { length segments.now < 2 ^ 32 - 1 }
     requires quantities { HaveAmounts (codes "W01") 1 QUANTITY_DIGITS_TWO (segments_of segments.now) }
-    ensures lines { IfOk result (λ v. v.items ≡ map (meant.order_line (segments_of segments.now)) (places_of (codes "W01") (segments_of segments.now))) }
-    ensures small { IfOk result (λ v. All (λ (l : meant.OrderLine). l.quantity ≤ most_quantity Two) v.items) }
+    ensures lines { IfOk result
+        (λ v. v.items ≡ map (meant.order_line (segments_of segments.now))
+        (places_of (codes "W01") (segments_of segments.now))) }
+    ensures small { IfOk result
+        (λ v. All (λ (l : meant.OrderLine). l.quantity ≤ most_quantity Two) v.items) }
 {
     let mut lines = Vec::new(alloc);
     for (index, segment) in segments.iter().enumerate() {
@@ -83,7 +90,8 @@ fn order_lines(alloc: Global, segments: &[Segment<'_>]) -> Result<Vec<OrderLine>
 // What the segments of an order say.
 fn told(alloc: Global, segments: &[Segment<'_>]) -> Result<Order, AllocError>
     requires short { length segments.now < 2 ^ 32 - 1 }
-    requires counted { IsCounted (codes "W01") (codes "W76") ORDER_TOTAL_DIGITS_TWO (segments_of segments.now) }
+    requires counted { IsCounted (codes "W01") (codes "W76") ORDER_TOTAL_DIGITS_TWO
+        (segments_of segments.now) }
     ensures { IfOk result (λ o. o ≡ meant.order_of (segments_of segments.now)) }
 {
     let number_text = copied(alloc, element_with(segments, b"W05", 2))?;

@@ -18,7 +18,13 @@ pub struct Advice {
 impl Model for Advice {
     ghost Value = { meant.Advice };
 
-    ghost view = { λ a. record { shipment = a.shipment.items; order = a.order.items; lines = a.lines.items; total = a.total; total_position = a.place_of_total } };
+    ghost view = { λ a. record {
+      shipment = a.shipment.items;
+      order = a.order.items;
+      lines = a.lines.items;
+      total = a.total;
+      total_position = a.place_of_total;
+    } };
 
     ghost invariant = { λ a. HasFewLines a.lines.items };
 }
@@ -79,5 +85,10 @@ pub struct Address {
 impl Model for Address {
     ghost Value = { meant.Address };
 
-    ghost view = { λ a. record { name = a.name.items; one = a.one.items; two = a.two.items; place = a.place.items } };
+    ghost view = { λ a. record {
+      name = a.name.items;
+      one = a.one.items;
+      two = a.two.items;
+      place = a.place.items;
+    } };
 }

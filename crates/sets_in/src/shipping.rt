@@ -21,7 +21,12 @@ pub struct OrderLine {
 impl Model for OrderLine {
     ghost Value = { meant.OrderLine };
 
-    ghost view = { λ l. record { item = l.item.items; pin = option_map (λ v. v.items) l.pin; quantity = l.quantity; position = l.position } };
+    ghost view = { λ l. record {
+      item = l.item.items;
+      pin = option_map (λ v. v.items) l.pin;
+      quantity = l.quantity;
+      position = l.position;
+    } };
 }
 
 /// What a shipping order (940) says.
@@ -37,7 +42,13 @@ pub struct Order {
 impl Model for Order {
     ghost Value = { meant.Order };
 
-    ghost view = { λ o. record { number = o.number.items; address = o.address; lines = o.lines.items; total = o.total; total_position = o.place_of_total } };
+    ghost view = { λ o. record {
+      number = o.number.items;
+      address = o.address;
+      lines = o.lines.items;
+      total = o.total;
+      total_position = o.place_of_total;
+    } };
 
     ghost invariant = { λ o. HasFewOrderLines o.lines.items };
 }
@@ -52,7 +63,8 @@ impl Order {
 
     /// Where it goes; None where no N1 has the code ST.
     pub fn address(&self) -> Option<&Address>
-        ensures { MatchOption result (self.now.address ≡ None) (λ a. self.now.address ≡ Some a.now) }
+        ensures { MatchOption result (self.now.address ≡ None)
+            (λ a. self.now.address ≡ Some a.now) }
     {
         self.address.as_ref()
     }

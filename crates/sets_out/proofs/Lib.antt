@@ -1,4 +1,3 @@
-pub mod Digits
 pub mod AppendsLaws
 pub mod IsaLaws
 pub mod Numbered

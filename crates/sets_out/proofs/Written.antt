@@ -1,4 +1,5 @@
--- What is written can be cut again, where no separator and no terminator stands in what was handed over.
+-- What is written can be cut again, where no separator and no terminator stands in what was handed
+-- over.
 use Rattle.std.proofs.Common.{◌≡◌, ℕ, ◌+◌, true, false, List, [], ◌∷◌, ◌++◌, length, map, refl, ap, Option, Some, None}
 use Rattle.std.specs.Prelude.{codes, decimal, ◌||◌, ◌==◌, IsTrue, flat_map}
 use Rattle.std.specs.List.{list_all, AllByRecursion, enumerate_from}

@@ -1,4 +1,5 @@
--- The bodies of sets can be cut again, where no separator and no terminator stands in what was handed over.
+-- The bodies of sets can be cut again, where no separator and no terminator stands in what was
+-- handed over.
 use Rattle.std.proofs.Common.{◌≡◌, ℕ, ◌-◌, Bool, true, false, List, [], ◌∷◌, refl, Option, Some, None, option_map}
 use Rattle.std.specs.Prelude.{codes, decimal, ◌==◌, if◌then◌else◌, IfSome, flat_map, option_to_list}
 use Rattle.std.specs.List.{AllByRecursion, enumerate_from}

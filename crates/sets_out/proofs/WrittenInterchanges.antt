@@ -1,4 +1,5 @@
--- Interchanges can be cut again, where no separator and no terminator stands in what was handed over.
+-- Interchanges can be cut again, where no separator and no terminator stands in what was handed
+-- over.
 use Rattle.std.proofs.Common.{◌≡◌, ℕ, Bool, true, false, not, List, [], ◌∷◌, ◌++◌, length, map, refl, sym, ◌∙◌, ap, Option, Some, None, arith}
 use Rattle.std.specs.Prelude.{codes, ◌||◌, ◌==◌, if◌then◌else◌}
 use Rattle.std.specs.List.{AllByRecursion}

@@ -13,8 +13,8 @@ lot_of lot = codes "N9" ∷ codes "LT" ∷ lot ∷ []
 
 -- 944.
 
--- what was received: order and shipment of the advice, each pair with what was counted of it, and the sums of what was
--- counted and of what was advised
+-- what was received: order and shipment of the advice, each pair with what was counted of it, and
+-- the sums of what was counted and of what was advised
 pub record Receipt : Type 0 where
   pub order : List ℕ
   pub shipment : List ℕ
@@ -56,7 +56,8 @@ shipped_lot k = codes "N9" ∷ codes "LT" ∷ k.lot ∷ decimal k.quantity ∷ [
 abbrev pub shipped_line : ℕ → ShippedLine → List Segment
 shipped_line place l =
     (codes "LX" ∷ decimal place ∷ [])
-    ∷ (codes "W12" ∷ (if l.shipped == l.ordered then codes "CC" else codes "CP") ∷ decimal l.ordered ∷ decimal l.shipped
+    ∷ (codes "W12" ∷ (if l.shipped == l.ordered then codes "CC" else codes "CP") ∷ decimal l.ordered
+    ∷ decimal l.shipped
     ∷ decimal (l.ordered - l.shipped) ∷ goods l.item)
     ∷ map shipped_lot l.lots
 
@@ -76,7 +77,8 @@ pub record AdjustedLine : Type 0 where
   pub after : ℕ
 
 abbrev pub adjusted_line : AdjustedLine → List Segment
-adjusted_line l = (codes "W19" ∷ codes "AA" ∷ difference l.after l.before ∷ goods l.item) ∷ lot_of l.lot ∷ []
+adjusted_line l = (codes "W19" ∷ codes "AA" ∷ difference l.after l.before ∷ goods l.item)
+    ∷ lot_of l.lot ∷ []
 
 -- only a line that differs is told
 abbrev pub changed_line : AdjustedLine → List Segment
@@ -91,7 +93,11 @@ abbrev pub receipt_for : Advice → List Line → Receipt
 receipt_for a sheet = record {
   order = a.order;
   shipment = a.shipment;
-  lines = map (λ l. record { item = l.item; lot = l.lot; quantity = quantity_of sheet l.item l.lot }) (in_order pair_before (advised a ++ sheet));
+  lines = map (λ l. record {
+    item = l.item;
+    lot = l.lot;
+    quantity = quantity_of sheet l.item l.lot;
+  }) (in_order pair_before (advised a ++ sheet));
   counted = total_of sheet;
   advised = total_of (advised a);
 }
@@ -108,7 +114,14 @@ shipped_for sheet l = record {
 }
 
 abbrev pub shipment_for : Order → List Line → Shipment
-shipment_for o sheet = record { order = o.number; lines = map (shipped_for sheet) o.lines; shipped = total_of sheet }
+shipment_for o sheet =
+    record { order = o.number; lines = map (shipped_for sheet) o.lines; shipped = total_of sheet }
 
 abbrev pub adjusted_for : List Line → Line → AdjustedLine
-adjusted_for before l = record { item = l.item; lot = l.lot; before = quantity_of before l.item l.lot; after = l.quantity }
+adjusted_for before l =
+    record {
+      item = l.item;
+      lot = l.lot;
+      before = quantity_of before l.item l.lot;
+      after = l.quantity;
+    }

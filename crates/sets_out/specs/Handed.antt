@@ -9,7 +9,13 @@ use Rattle.sets_out.specs.declared.sheets.Receipt.{Receipt}
 use Rattle.sets_out.specs.declared.sheets.Shipment.{Shipment}
 
 abbrev pub receipt_of : Receipt → meant.Receipt
-receipt_of r = record { order = r.order.now; shipment = r.shipment.now; lines = r.lines.now; counted = r.counted; advised = r.advised }
+receipt_of r = record {
+  order = r.order.now;
+  shipment = r.shipment.now;
+  lines = r.lines.now;
+  counted = r.counted;
+  advised = r.advised;
+}
 
 abbrev pub shipment_of : Shipment → meant.Shipment
 shipment_of s = record { order = s.order.now; lines = s.lines.now; shipped = s.shipped }

@@ -1,4 +1,5 @@
--- What an answer repeats of the ISA of the interchange that it answers, and what is written from that.
+-- What an answer repeats of the ISA of the interchange that it answers, and what is written from
+-- that.
 use Rattle.std.specs.Prelude.{ℕ, Bool, List, [], ◌∷◌, codes, bytes_eq, Option, Some, None}
 use Rattle.profile.specs.Bytes.{zero_filled}
 use Rattle.profile.specs.Cut.{Segment}
@@ -27,4 +28,5 @@ heading_of text = record {
 -- TA1: accepted, or rejected with a note code
 abbrev pub ta1_of : Heading → Option ℕ → Segment
 ta1_of h None = codes "TA1" ∷ h.control ∷ h.date ∷ h.time ∷ codes "A" ∷ codes "000" ∷ []
-ta1_of h (Some note) = codes "TA1" ∷ h.control ∷ h.date ∷ h.time ∷ codes "R" ∷ zero_filled 3 note ∷ []
+ta1_of h (Some note) = codes "TA1" ∷ h.control ∷ h.date ∷ h.time ∷ codes "R" ∷ zero_filled 3 note
+    ∷ []

@@ -21,11 +21,13 @@ IsHeadingInside d h = IsInside d h.control × IsInside d h.date × IsInside d h.
 
 -- what a 997 tells of a set
 abbrev pub IsSetInside : Delims → ToldSet → Type 0
-IsSetInside d s = IsInside d s.number × IsInside d s.control × IfSome s.rejection (λ r. IfSome r.segment (λ f. IsInside d f.id))
+IsSetInside d s = IsInside d s.number × IsInside d s.control
+    × IfSome s.rejection (λ r. IfSome r.segment (λ f. IsInside d f.id))
 
 -- and of a group
 abbrev pub IsToldInside : Delims → Told → Type 0
-IsToldInside d t = IsInside d t.function × IsInside d t.number × AllByRecursion (IsSetInside d) t.sets
+IsToldInside d t = IsInside d t.function × IsInside d t.number
+    × AllByRecursion (IsSetInside d) t.sets
 
 -- Documents have delimiters of their own.
 

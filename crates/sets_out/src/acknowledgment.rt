@@ -17,7 +17,8 @@ fn append_element(
     delims: Delims,
     element: &Option<ElementFault>,
 ) -> Result<usize, AllocError>
-    ensures ok { IfOk result (λ n. Appends delims out.old.items out.new.items (ak4_segments element.now) n) }
+    ensures ok { IfOk result
+        (λ n. Appends delims out.old.items out.new.items (ak4_segments element.now) n) }
     ensures kept { Extends out.old.items out.new.items }
 {
     match element {
@@ -38,7 +39,8 @@ fn append_fault(
     delims: Delims,
     fault: &Option<SegmentFault<'_>>,
 ) -> Result<usize, AllocError>
-    ensures ok { IfOk result (λ n. Appends delims out.old.items out.new.items (ak3_segments fault.now) n) }
+    ensures ok { IfOk result
+        (λ n. Appends delims out.old.items out.new.items (ak3_segments fault.now) n) }
     ensures kept { Extends out.old.items out.new.items }
 {
     match fault {
@@ -61,7 +63,8 @@ fn append_verdict(
     delims: Delims,
     rejection: &Option<Rejection<'_>>,
 ) -> Result<usize, AllocError>
-    ensures ok { IfOk result (λ n. Appends delims out.old.items out.new.items (ak5_segments rejection.now) n) }
+    ensures ok { IfOk result
+        (λ n. Appends delims out.old.items out.new.items (ak5_segments rejection.now) n) }
     ensures kept { Extends out.old.items out.new.items }
 {
     match rejection {
@@ -78,7 +81,8 @@ fn append_verdict(
 
 // AK2 to AK5 of a set.
 fn append_set(out: &mut Vec<u8>, delims: Delims, set: &ToldSet<'_>) -> Result<usize, AllocError>
-    ensures ok { IfOk result (λ n. Appends delims out.old.items out.new.items (told_segments set.now) n) }
+    ensures ok { IfOk result
+        (λ n. Appends delims out.old.items out.new.items (told_segments set.now) n) }
     ensures kept { Extends out.old.items out.new.items }
 {
     let first = append_segment(out, delims, &[b"AK2", set.number, set.control])?;
@@ -88,7 +92,8 @@ fn append_set(out: &mut Vec<u8>, delims: Delims, set: &ToldSet<'_>) -> Result<us
 
 // AK2 to AK5 of each set.
 fn append_sets(out: &mut Vec<u8>, delims: Delims, sets: &[ToldSet<'_>]) -> Result<usize, AllocError>
-    ensures ok { IfOk result (λ n. Appends delims out.old.items out.new.items (flat_map told_segments sets.now) n) }
+    ensures ok { IfOk result
+        (λ n. Appends delims out.old.items out.new.items (flat_map told_segments sets.now) n) }
     ensures kept { Extends out.old.items out.new.items }
 {
     let mut count = 0;
@@ -107,7 +112,8 @@ fn accepted(sets: &[ToldSet<'_>]) -> usize
 
 // AK901: A where all sets passed, P where some did, else R.
 fn code_of(accepted: usize, received: usize) -> &'static [u8]
-    ensures { result.now ≡ first_of (codes "P") ((accepted == 0, codes "R") ∷ (accepted == received, codes "A") ∷ []) }
+    ensures { result.now
+        ≡ first_of (codes "P") ((accepted == 0, codes "R") ∷ (accepted == received, codes "A") ∷ []) }
 {
     if accepted == 0 {
         b"R"
@@ -120,7 +126,9 @@ fn code_of(accepted: usize, received: usize) -> &'static [u8]
 
 // AK9.
 fn append_last(out: &mut Vec<u8>, delims: Delims, told: &ToldGroup<'_>) -> Result<usize, AllocError>
-    ensures ok { IfOk result (λ n. Appends delims out.old.items out.new.items ((codes "AK9" ∷ ak901 told.now ∷ decimal told.now.stated ∷ decimal told.now.received ∷ decimal (accepted_sets told.now)
+    ensures ok { IfOk result
+        (λ n. Appends delims out.old.items out.new.items ((codes "AK9" ∷ ak901 told.now
+        ∷ decimal told.now.stated ∷ decimal told.now.received ∷ decimal (accepted_sets told.now)
         ∷ option_to_list (option_map decimal told.now.fault)) ∷ []) n) }
     ensures kept { Extends out.old.items out.new.items }
 {
@@ -148,7 +156,8 @@ fn append_last(out: &mut Vec<u8>, delims: Delims, told: &ToldGroup<'_>) -> Resul
 
 // AK1 to AK9.
 fn append_body(out: &mut Vec<u8>, delims: Delims, told: &ToldGroup<'_>) -> Result<usize, AllocError>
-    ensures ok { IfOk result (λ n. Appends delims out.old.items out.new.items (body_997 told.now) n) }
+    ensures ok { IfOk result
+        (λ n. Appends delims out.old.items out.new.items (body_997 told.now) n) }
     ensures kept { Extends out.old.items out.new.items }
 {
     let first = append_segment(out, delims, &[b"AK1", told.function, told.number])?;
@@ -164,7 +173,9 @@ pub(crate) fn append_997(
     place: u64,
     told: &ToldGroup<'_>,
 ) -> Result<usize, AllocError>
-    ensures ok { IfOk result (λ n. Appends delims out.old.items out.new.items (set_of_segments (codes "997") place (body_997 told.now)) n) }
+    ensures ok { IfOk result
+        (λ n. Appends delims out.old.items out.new.items
+        (set_of_segments (codes "997") place (body_997 told.now)) n) }
     ensures kept { Extends out.old.items out.new.items }
 {
     append_st(out, delims, b"997", place)?;
@@ -182,7 +193,8 @@ pub fn write_997(
     place: u64,
     told: &ToldGroup<'_>,
 ) -> Result<(), AllocError>
-    ensures ok { OnOk result (out.new.items ≡ out.old.items ++ text_of delims (set_of_segments (codes "997") place (body_997 told.now))) }
+    ensures ok { OnOk result (out.new.items ≡ out.old.items
+        ++ text_of delims (set_of_segments (codes "997") place (body_997 told.now))) }
     ensures err { OnErr result (out.new.items ≡ out.old.items) }
 {
     let start = out.len();

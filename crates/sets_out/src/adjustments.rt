@@ -4,7 +4,6 @@ ghost use Rattle.segments.specs.Extends.{Extends};
 ghost use Rattle.sets_out.specs.Appends.{Appends};
 ghost use Rattle.sets_out.specs.Documents.{changed_line, adjustment_body};
 
-use crate::numbers::date;
 use crate::sheets::AdjustedLine;
 use crate::writing::append_segment;
 use itoa::Buffer;
@@ -18,7 +17,9 @@ fn append_goods(
     change: &[u8],
     item: &[u8],
 ) -> Result<usize, AllocError>
-    ensures ok { IfOk result (λ n. Appends delims out.old.items out.new.items ((codes "W19" ∷ codes "AA" ∷ change.now ∷ goods item.now) ∷ []) n) }
+    ensures ok { IfOk result
+        (λ n. Appends delims out.old.items out.new.items ((codes "W19" ∷ codes "AA" ∷ change.now
+        ∷ goods item.now) ∷ []) n) }
     ensures kept { Extends out.old.items out.new.items }
 {
     append_segment(
@@ -45,7 +46,9 @@ fn append_loss(
     loss: u64,
     item: &[u8],
 ) -> Result<usize, AllocError>
-    ensures ok { IfOk result (λ n. Appends delims out.old.items out.new.items ((codes "W19" ∷ codes "AA" ∷ (codes "-" ++ decimal loss) ∷ goods item.now) ∷ []) n) }
+    ensures ok { IfOk result
+        (λ n. Appends delims out.old.items out.new.items ((codes "W19" ∷ codes "AA"
+        ∷ (codes "-" ++ decimal loss) ∷ goods item.now) ∷ []) n) }
     ensures kept { Extends out.old.items out.new.items }
 {
     let mut buffer = Buffer::new();
@@ -62,7 +65,9 @@ fn append_change(
     before: u64,
     after: u64,
 ) -> Result<usize, AllocError>
-    ensures ok { IfOk result (λ n. Appends delims out.old.items out.new.items ((codes "W19" ∷ codes "AA" ∷ difference after before ∷ goods item.now) ∷ []) n) }
+    ensures ok { IfOk result
+        (λ n. Appends delims out.old.items out.new.items ((codes "W19" ∷ codes "AA"
+        ∷ difference after before ∷ goods item.now) ∷ []) n) }
     ensures kept { Extends out.old.items out.new.items }
 {
     if after < before {
@@ -79,7 +84,8 @@ fn append_line(
     delims: Delims,
     line: &AdjustedLine<'_>,
 ) -> Result<usize, AllocError>
-    ensures ok { IfOk result (λ n. Appends delims out.old.items out.new.items (changed_line line.now) n) }
+    ensures ok { IfOk result
+        (λ n. Appends delims out.old.items out.new.items (changed_line line.now) n) }
     ensures kept { Extends out.old.items out.new.items }
 {
     if line.after == line.before {
@@ -96,7 +102,8 @@ fn append_lines(
     delims: Delims,
     lines: &[AdjustedLine<'_>],
 ) -> Result<usize, AllocError>
-    ensures ok { IfOk result (λ n. Appends delims out.old.items out.new.items (flat_map changed_line lines.now) n) }
+    ensures ok { IfOk result
+        (λ n. Appends delims out.old.items out.new.items (flat_map changed_line lines.now) n) }
     ensures kept { Extends out.old.items out.new.items }
 {
     let mut count = 0;
@@ -114,10 +121,11 @@ pub(crate) fn append_body(
     number: u32,
     lines: &[AdjustedLine<'_>],
 ) -> Result<usize, AllocError>
-    ensures ok { IfOk result (λ n. Appends delims out.old.items out.new.items (adjustment_body moment.now number lines.now) n) }
+    ensures ok { IfOk result
+        (λ n. Appends delims out.old.items out.new.items (adjustment_body moment.now number lines.now) n) }
     ensures kept { Extends out.old.items out.new.items }
 {
-    let date = date(moment);
+    let date = moment.date();
     let mut buffer = Buffer::new();
     let number = buffer.format(number).as_bytes();
     let first = append_segment(out, delims, &[b"W15", &date, number])?;

@@ -147,7 +147,8 @@ fn append_group(
     document: &Document<'_>,
 ) -> Result<usize, AllocError>
     ensures ok { IfOk result (λ n. Appends delims out.old.items out.new.items
-        (group_of_sets envelope.now.warehouse envelope.now.depositor envelope.now.moment envelope.now.number (function_of document.now) (number_of document.now)
+        (group_of_sets envelope.now.warehouse envelope.now.depositor envelope.now.moment
+        envelope.now.number (function_of document.now) (number_of document.now)
         (body_of envelope.now.moment envelope.now.number document.now ∷ [])) n) }
     ensures kept { Extends out.old.items out.new.items }
 {
@@ -163,8 +164,11 @@ pub(crate) fn append_document(
     envelope: &Envelope,
     document: &Document<'_>,
 ) -> Result<(), AllocError>
-    ensures ok { OnOk result (out.new.items ≡ out.old.items ++ document_text envelope.now.warehouse envelope.now.depositor envelope.now.moment envelope.now.number
-        (function_of document.now) (number_of document.now) (body_of envelope.now.moment envelope.now.number document.now)) }
+    ensures ok { OnOk result (out.new.items ≡ out.old.items
+        ++ document_text envelope.now.warehouse envelope.now.depositor envelope.now.moment
+        envelope.now.number
+        (function_of document.now) (number_of document.now)
+        (body_of envelope.now.moment envelope.now.number document.now)) }
     ensures kept { Extends out.old.items out.new.items }
 {
     let delims = Delims::of_documents();

@@ -7,10 +7,9 @@ ghost use Rattle.profile.specs.Texts.{Receiver, receiver_of, isa_segment};
 ghost use Rattle.segments.specs.Extends.{Extends};
 ghost use Rattle.sets_out.specs.Appends.{Appends};
 
-use crate::numbers::{date, digits, time};
 use crate::writing::append_segment;
 use itoa::Buffer;
-use profile::{BLANK_BYTES, CONTROL_DIGITS, LEAST_SET_CONTROL, MOST_PARTNER};
+use profile::{BLANK_BYTES, CONTROL_DIGITS, LEAST_SET_CONTROL, MOST_PARTNER, zero_filled};
 use segments::{Delims, Moment, Who};
 use std::alloc::AllocError;
 use std::marker::Model;
@@ -65,7 +64,8 @@ pub(crate) fn filled(who: &Who) -> Party<'_>
 
 // Appends each element after a separator, or a beginning of that.
 fn append_elements(out: &mut Vec<u8>, separator: u8, elements: &[&[u8]]) -> Result<(), AllocError>
-    ensures ok { OnOk result (out.new.items ≡ out.old.items ++ flat_map (λ e. separator ∷ e.now) elements.now) }
+    ensures ok { OnOk result (out.new.items ≡ out.old.items ++ flat_map
+        (λ e. separator ∷ e.now) elements.now) }
     ensures kept { Extends out.old.items out.new.items }
 {
     for element in elements {
@@ -122,9 +122,9 @@ fn append_closing(
         ∷ [])) }
     ensures kept { Extends out.old.items out.new.items }
 {
-    let date = date(moment);
-    let time = time(moment);
-    let control = digits::<CONTROL_DIGITS>(u64::from(number));
+    let date = moment.date();
+    let time = moment.time();
+    let control = zero_filled::<CONTROL_DIGITS>(u64::from(number));
     let component = [delims.component()];
     append_tail(
         out,
@@ -175,7 +175,7 @@ pub(crate) fn append_iea(
 {
     let mut buffer = Buffer::new();
     let groups = buffer.format(groups).as_bytes();
-    let control = digits::<CONTROL_DIGITS>(u64::from(number));
+    let control = zero_filled::<CONTROL_DIGITS>(u64::from(number));
     append_segment(out, delims, &[b"IEA", groups, &control])
 }
 
@@ -192,8 +192,8 @@ pub(crate) fn append_gs(
         ∷ decimal envelope.now.number ∷ codes "X" ∷ codes "004010" ∷ []) ∷ []) n) }
     ensures kept { Extends out.old.items out.new.items }
 {
-    let date = date(&envelope.moment);
-    let time = time(&envelope.moment);
+    let date = envelope.moment.date();
+    let time = envelope.moment.time();
     let mut buffer = Buffer::new();
     let number = buffer.format(envelope.number).as_bytes();
     let (from, to) = (envelope.warehouse.id(), envelope.depositor.id());
@@ -235,7 +235,7 @@ pub(crate) fn append_st(
         ((codes "ST" ∷ number.now ∷ zero_filled 4 place ∷ []) ∷ []) n) }
     ensures kept { Extends out.old.items out.new.items }
 {
-    let control = digits::<LEAST_SET_CONTROL>(place);
+    let control = zero_filled::<LEAST_SET_CONTROL>(place);
     append_segment(out, delims, &[b"ST", number, &control])
 }
 
@@ -252,6 +252,6 @@ pub(crate) fn append_se(
 {
     let mut buffer = Buffer::new();
     let segments = buffer.format(segments).as_bytes();
-    let control = digits::<LEAST_SET_CONTROL>(place);
+    let control = zero_filled::<LEAST_SET_CONTROL>(place);
     append_segment(out, delims, &[b"SE", segments, &control])
 }

@@ -4,9 +4,8 @@ ghost use Rattle.segments.specs.Extends.{Extends};
 ghost use Rattle.sets_out.specs.Appends.{Appends};
 ghost use Rattle.sets_out.specs.Headings.{Heading as Meant, ta1_of};
 
-use crate::numbers::digits;
 use crate::writing::append_segment;
-use profile::NOTE_DIGITS;
+use profile::{NOTE_DIGITS, zero_filled};
 use segments::{Delims, write_segment};
 use std::alloc::AllocError;
 use std::marker::Model;
@@ -31,7 +30,14 @@ pub struct Heading<'a> {
 impl<'a> Model for Heading<'a> {
     ghost Value = { Meant };
 
-    ghost view = { λ h. record { qualifier = h.qualifier.now; id = h.id.now; date = h.date.now; time = h.time.now; control = h.control.now; asks = h.asks } };
+    ghost view = { λ h. record {
+      qualifier = h.qualifier.now;
+      id = h.id.now;
+      date = h.date.now;
+      time = h.time.now;
+      control = h.control.now;
+      asks = h.asks;
+    } };
 }
 
 // Appends TA1, or nothing.
@@ -41,14 +47,15 @@ pub(crate) fn append_ta1(
     heading: &Heading<'_>,
     note: Option<u16>,
 ) -> Result<usize, AllocError>
-    ensures ok { IfOk result (λ n. Appends delims out.old.items out.new.items (ta1_of heading.now note ∷ []) n) }
+    ensures ok { IfOk result
+        (λ n. Appends delims out.old.items out.new.items (ta1_of heading.now note ∷ []) n) }
     ensures kept { Extends out.old.items out.new.items }
 {
     let (control, date, time) = (heading.control, heading.date, heading.time);
     match note {
         None => append_segment(out, delims, &[b"TA1", control, date, time, b"A", b"000"]),
         Some(note) => {
-            let note = digits::<NOTE_DIGITS>(u64::from(note));
+            let note = zero_filled::<NOTE_DIGITS>(u64::from(note));
             append_segment(out, delims, &[b"TA1", control, date, time, b"R", &note])
         }
     }

@@ -60,7 +60,9 @@ fn append_997s(
     delims: Delims,
     told: &[ToldGroup<'_>],
 ) -> Result<usize, AllocError>
-    ensures ok { IfOk result (λ n. Appends delims out.old.items out.new.items (sets_of_segments (codes "997") (map body_997 told.now)) n) }
+    ensures ok { IfOk result
+        (λ n. Appends delims out.old.items out.new.items
+        (sets_of_segments (codes "997") (map body_997 told.now)) n) }
     ensures kept { Extends out.old.items out.new.items }
 {
     let mut count = 0;
@@ -76,7 +78,8 @@ fn append_requested(
     delims: Delims,
     heading: &Heading<'_>,
 ) -> Result<usize, AllocError>
-    ensures ok { IfOk result (λ n. Appends delims out.old.items out.new.items (acknowledged heading.now) n) }
+    ensures ok { IfOk result
+        (λ n. Appends delims out.old.items out.new.items (acknowledged heading.now) n) }
     ensures kept { Extends out.old.items out.new.items }
 {
     if heading.asks {
@@ -89,7 +92,8 @@ fn append_requested(
 // Appends the group of acknowledgments, if there are any, or a beginning of it.
 fn append_group(out: &mut Vec<u8>, answer: &Answer<'_>) -> Result<usize, AllocError>
     ensures ok { IfOk result (λ n. Appends answer.now.delims out.old.items out.new.items
-        (answers_group answer.now.envelope.warehouse answer.now.envelope.depositor answer.now.envelope.moment answer.now.envelope.number answer.now.told.now) n) }
+        (answers_group answer.now.envelope.warehouse answer.now.envelope.depositor
+        answer.now.envelope.moment answer.now.envelope.number answer.now.told.now) n) }
     ensures kept { Extends out.old.items out.new.items }
 {
     if answer.told.is_empty() {
@@ -109,7 +113,9 @@ fn append_group(out: &mut Vec<u8>, answer: &Answer<'_>) -> Result<usize, AllocEr
 // Appends what stands between ISA and IEA, or a beginning of that.
 fn append_between(out: &mut Vec<u8>, answer: &Answer<'_>) -> Result<usize, AllocError>
     ensures ok { IfOk result (λ n. Appends answer.now.delims out.old.items out.new.items
-        (between answer.now.envelope.warehouse answer.now.envelope.depositor answer.now.envelope.moment answer.now.envelope.number answer.now.heading.now answer.now.told.now) n) }
+        (between answer.now.envelope.warehouse answer.now.envelope.depositor
+        answer.now.envelope.moment answer.now.envelope.number answer.now.heading.now
+        answer.now.told.now) n) }
     ensures kept { Extends out.old.items out.new.items }
 {
     let acknowledged = append_requested(out, answer.delims, answer.heading)?;

@@ -58,7 +58,8 @@ pub fn data_may_be_written()
 
 /// A TA1 is the one segment of the cut of its text.
 pub fn ta1_is_cut_again()
-    ensures { (d : Delims) (h : Heading) (note : Option ℕ) → are_delimiters d ≡ true → IsHeadingInside d h
+    ensures { (d : Delims) (h : Heading) (note : Option ℕ) → are_delimiters d ≡ true
+        → IsHeadingInside d h
         → cut d (spelled d (ta1_of h note)) ≡ record { segments = ta1_of h note ∷ []; rest = [] } }
 {}
 
@@ -91,7 +92,8 @@ pub fn answer_is_cut_again()
     ensures { (d : Delims) (W w : Who) (t : Moment) (n : ℕ) (h : Heading) (ts : List Told)
         → are_delimiters d ≡ true → is_partner W ≡ true → is_partner w ≡ true
         → IsHeadingInside d h → AllByRecursion (IsToldInside d) ts
-        → IsCutAgain d (interchange_segments d W (receiver_of w) t n (between W w t n h ts) (groups_for ts)) }
+        → IsCutAgain d (interchange_segments d W (receiver_of w) t n (between W w t n h ts)
+        (groups_for ts)) }
 {}
 
 /// A refusal is the cut of its text.
@@ -99,7 +101,10 @@ pub fn refusal_is_cut_again()
     ensures { (d : Delims) (W : Who) (t : Moment) (h : Heading) (note : ℕ) → are_delimiters d ≡ true
         → is_partner W ≡ true
         → IsHeadingInside d h → IsInside d h.qualifier → IsInside d h.id
-        → IsCutAgain d (interchange_segments d W (record { qualifier = h.qualifier; id = h.id }) t 0 (ta1_of
+        → IsCutAgain d (interchange_segments d W (record {
+          qualifier = h.qualifier;
+          id = h.id;
+        }) t 0 (ta1_of
         h (Some note) ∷ []) 0) }
 {}
 

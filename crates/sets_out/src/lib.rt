@@ -8,7 +8,6 @@ mod envelopes;
 mod headings;
 mod interchanges;
 pub mod laws;
-mod numbers;
 mod receipts;
 mod sheets;
 mod shipments;

@@ -5,7 +5,6 @@ ghost use Rattle.sets_out.specs.Appends.{Appends};
 ghost use Rattle.sets_out.specs.Documents.{received_line, receipt_body};
 ghost use Rattle.sets_out.specs.Handed.{receipt_of};
 
-use crate::numbers::date;
 use crate::sheets::{CountedLine, Receipt};
 use crate::writing::append_segment;
 use itoa::Buffer;
@@ -18,7 +17,8 @@ fn append_line(
     delims: Delims,
     line: &CountedLine<'_>,
 ) -> Result<usize, AllocError>
-    ensures ok { IfOk result (λ n. Appends delims out.old.items out.new.items (received_line line.now) n) }
+    ensures ok { IfOk result
+        (λ n. Appends delims out.old.items out.new.items (received_line line.now) n) }
     ensures kept { Extends out.old.items out.new.items }
 {
     let mut buffer = Buffer::new();
@@ -38,7 +38,8 @@ fn append_lines(
     delims: Delims,
     lines: &[CountedLine<'_>],
 ) -> Result<usize, AllocError>
-    ensures ok { IfOk result (λ n. Appends delims out.old.items out.new.items (flat_map received_line lines.now) n) }
+    ensures ok { IfOk result
+        (λ n. Appends delims out.old.items out.new.items (flat_map received_line lines.now) n) }
     ensures kept { Extends out.old.items out.new.items }
 {
     let mut count = 0;
@@ -57,10 +58,11 @@ fn append_first(
     receipt: &Receipt<'_>,
 ) -> Result<usize, AllocError>
     ensures ok { IfOk result (λ n. Appends delims out.old.items out.new.items
-        ((codes "W17" ∷ codes "F" ∷ date8 moment.now ∷ decimal number ∷ receipt.now.order.now ∷ receipt.now.shipment.now ∷ []) ∷ []) n) }
+        ((codes "W17" ∷ codes "F" ∷ date8 moment.now ∷ decimal number ∷ receipt.now.order.now
+        ∷ receipt.now.shipment.now ∷ []) ∷ []) n) }
     ensures kept { Extends out.old.items out.new.items }
 {
-    let date = date(moment);
+    let date = moment.date();
     let mut buffer = Buffer::new();
     let number = buffer.format(number).as_bytes();
     append_segment(
@@ -95,7 +97,9 @@ pub(crate) fn append_body(
     number: u32,
     receipt: &Receipt<'_>,
 ) -> Result<usize, AllocError>
-    ensures ok { IfOk result (λ n. Appends delims out.old.items out.new.items (receipt_body moment.now number (receipt_of receipt.now)) n) }
+    ensures ok { IfOk result
+        (λ n. Appends delims out.old.items out.new.items
+        (receipt_body moment.now number (receipt_of receipt.now)) n) }
     ensures kept { Extends out.old.items out.new.items }
 {
     let first = append_first(out, delims, moment, number, receipt)?;

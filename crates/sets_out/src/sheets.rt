@@ -67,7 +67,12 @@ pub struct ShippedLine<'a> {
 impl<'a> Model for ShippedLine<'a> {
     ghost Value = { MeantShipped };
 
-    ghost view = { λ l. record { item = l.item.now; ordered = l.ordered; shipped = l.shipped; lots = l.lots.items } };
+    ghost view = { λ l. record {
+      item = l.item.now;
+      ordered = l.ordered;
+      shipped = l.shipped;
+      lots = l.lots.items;
+    } };
 }
 
 /// What a 945 tells of a pick.
@@ -97,7 +102,12 @@ pub struct AdjustedLine<'a> {
 impl<'a> Model for AdjustedLine<'a> {
     ghost Value = { MeantAdjusted };
 
-    ghost view = { λ l. record { item = l.item.now; lot = l.lot.now; before = l.before; after = l.after } };
+    ghost view = { λ l. record {
+      item = l.item.now;
+      lot = l.lot.now;
+      before = l.before;
+      after = l.after;
+    } };
 }
 
 /// A document, written from what a clerk's act found.

@@ -7,7 +7,6 @@ ghost use Rattle.sets_out.specs.Appends.{Appends};
 ghost use Rattle.sets_out.specs.Documents.{shipped_lot, shipped_line, shipment_body};
 ghost use Rattle.sets_out.specs.Handed.{shipment_of};
 
-use crate::numbers::date;
 use crate::sheets::{PickedLot, Shipment, ShippedLine};
 use crate::writing::append_segment;
 use itoa::Buffer;
@@ -16,7 +15,8 @@ use std::alloc::AllocError;
 
 // N9 of a lot, or nothing.
 fn append_lot(out: &mut Vec<u8>, delims: Delims, lot: &PickedLot<'_>) -> Result<usize, AllocError>
-    ensures ok { IfOk result (λ n. Appends delims out.old.items out.new.items (shipped_lot lot.now ∷ []) n) }
+    ensures ok { IfOk result
+        (λ n. Appends delims out.old.items out.new.items (shipped_lot lot.now ∷ []) n) }
     ensures kept { Extends out.old.items out.new.items }
 {
     let mut buffer = Buffer::new();
@@ -30,7 +30,8 @@ fn append_lots(
     delims: Delims,
     lots: &[PickedLot<'_>],
 ) -> Result<usize, AllocError>
-    ensures ok { IfOk result (λ n. Appends delims out.old.items out.new.items (map shipped_lot lots.now) n) }
+    ensures ok { IfOk result
+        (λ n. Appends delims out.old.items out.new.items (map shipped_lot lots.now) n) }
     ensures kept { Extends out.old.items out.new.items }
 {
     let mut count = 0;
@@ -57,7 +58,9 @@ fn append_w12(
     missing: &[u8],
     item: &[u8],
 ) -> Result<usize, AllocError>
-    ensures ok { IfOk result (λ n. Appends delims out.old.items out.new.items ((codes "W12" ∷ code.now ∷ ordered.now ∷ shipped.now ∷ missing.now ∷ goods item.now) ∷ []) n) }
+    ensures ok { IfOk result
+        (λ n. Appends delims out.old.items out.new.items ((codes "W12" ∷ code.now ∷ ordered.now
+        ∷ shipped.now ∷ missing.now ∷ goods item.now) ∷ []) n) }
     ensures kept { Extends out.old.items out.new.items }
 {
     append_segment(
@@ -78,7 +81,8 @@ fn append_goods(
     shipped: u64,
 ) -> Result<usize, AllocError>
     ensures ok { IfOk result (λ n. Appends delims out.old.items out.new.items
-        ((codes "W12" ∷ (if shipped == ordered then codes "CC" else codes "CP") ∷ decimal ordered ∷ decimal shipped ∷ decimal (ordered - shipped) ∷ goods item.now) ∷ []) n) }
+        ((codes "W12" ∷ (if shipped == ordered then codes "CC" else codes "CP") ∷ decimal ordered
+        ∷ decimal shipped ∷ decimal (ordered - shipped) ∷ goods item.now) ∷ []) n) }
     ensures kept { Extends out.old.items out.new.items }
 {
     let code = code_of(ordered, shipped);
@@ -94,7 +98,8 @@ fn append_goods(
 
 // LX, or nothing.
 fn append_place(out: &mut Vec<u8>, delims: Delims, place: u64) -> Result<usize, AllocError>
-    ensures ok { IfOk result (λ n. Appends delims out.old.items out.new.items ((codes "LX" ∷ decimal place ∷ []) ∷ []) n) }
+    ensures ok { IfOk result
+        (λ n. Appends delims out.old.items out.new.items ((codes "LX" ∷ decimal place ∷ []) ∷ []) n) }
     ensures kept { Extends out.old.items out.new.items }
 {
     let mut buffer = Buffer::new();
@@ -109,7 +114,8 @@ fn append_line(
     place: u64,
     line: &ShippedLine<'_>,
 ) -> Result<usize, AllocError>
-    ensures ok { IfOk result (λ n. Appends delims out.old.items out.new.items (shipped_line place line.now) n) }
+    ensures ok { IfOk result
+        (λ n. Appends delims out.old.items out.new.items (shipped_line place line.now) n) }
     ensures kept { Extends out.old.items out.new.items }
 {
     let first = append_place(out, delims, place)?;
@@ -124,7 +130,9 @@ fn append_lines(
     delims: Delims,
     lines: &[ShippedLine<'_>],
 ) -> Result<usize, AllocError>
-    ensures ok { IfOk result (λ n. Appends delims out.old.items out.new.items (flat_map (λ p. shipped_line p.0 p.1) (enumerate_from 1 lines.now)) n) }
+    ensures ok { IfOk result
+        (λ n. Appends delims out.old.items out.new.items (flat_map
+        (λ p. shipped_line p.0 p.1) (enumerate_from 1 lines.now)) n) }
     ensures kept { Extends out.old.items out.new.items }
 {
     let mut count = 0;
@@ -146,7 +154,7 @@ fn append_first(
         ((codes "W06" ∷ codes "F" ∷ order.now ∷ date8 moment.now ∷ decimal number ∷ []) ∷ []) n) }
     ensures kept { Extends out.old.items out.new.items }
 {
-    let date = date(moment);
+    let date = moment.date();
     let mut buffer = Buffer::new();
     let number = buffer.format(number).as_bytes();
     append_segment(out, delims, &[b"W06", b"F", order, &date, number])
@@ -154,7 +162,8 @@ fn append_first(
 
 // W03, or nothing.
 fn append_sum(out: &mut Vec<u8>, delims: Delims, shipped: u64) -> Result<usize, AllocError>
-    ensures ok { IfOk result (λ n. Appends delims out.old.items out.new.items ((codes "W03" ∷ decimal shipped ∷ []) ∷ []) n) }
+    ensures ok { IfOk result
+        (λ n. Appends delims out.old.items out.new.items ((codes "W03" ∷ decimal shipped ∷ []) ∷ []) n) }
     ensures kept { Extends out.old.items out.new.items }
 {
     let mut buffer = Buffer::new();
@@ -170,7 +179,9 @@ pub(crate) fn append_body(
     number: u32,
     shipment: &Shipment<'_>,
 ) -> Result<usize, AllocError>
-    ensures ok { IfOk result (λ n. Appends delims out.old.items out.new.items (shipment_body moment.now number (shipment_of shipment.now)) n) }
+    ensures ok { IfOk result
+        (λ n. Appends delims out.old.items out.new.items
+        (shipment_body moment.now number (shipment_of shipment.now)) n) }
     ensures kept { Extends out.old.items out.new.items }
 {
     let first = append_first(out, delims, moment, number, shipment.order)?;

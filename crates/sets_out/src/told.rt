@@ -38,7 +38,12 @@ impl Model for ElementFault {
 impl<'a> Model for SegmentFault<'a> {
     ghost Value = { MeantFault };
 
-    ghost view = { λ f. record { id = f.id.now; position = f.position; code = f.code; element = f.element } };
+    ghost view = { λ f. record {
+      id = f.id.now;
+      position = f.position;
+      code = f.code;
+      element = f.element;
+    } };
 }
 
 /// Why a set is rejected.
@@ -70,7 +75,11 @@ pub struct ToldSet<'a> {
 impl<'a> Model for ToldSet<'a> {
     ghost Value = { MeantSet };
 
-    ghost view = { λ s. record { number = s.number.now; control = s.control.now; rejection = s.rejection } };
+    ghost view = { λ s. record {
+      number = s.number.now;
+      control = s.control.now;
+      rejection = s.rejection;
+    } };
 }
 
 /// What a 997 tells of a group.
@@ -93,5 +102,12 @@ pub struct ToldGroup<'a> {
 impl<'a> Model for ToldGroup<'a> {
     ghost Value = { Meant };
 
-    ghost view = { λ t. record { function = t.function.now; number = t.number.now; stated = t.stated; received = t.received; fault = t.fault; sets = t.sets.items } };
+    ghost view = { λ t. record {
+      function = t.function.now;
+      number = t.number.now;
+      stated = t.stated;
+      received = t.received;
+      fault = t.fault;
+      sets = t.sets.items;
+    } };
 }

@@ -11,7 +11,8 @@ pub(crate) fn append_segment(
     delims: Delims,
     elements: &[&[u8]],
 ) -> Result<usize, AllocError>
-    ensures ok { IfOk result (λ n. Appends delims out.old.items out.new.items (map (λ e. e.now) elements.now ∷ []) n) }
+    ensures ok { IfOk result
+        (λ n. Appends delims out.old.items out.new.items (map (λ e. e.now) elements.now ∷ []) n) }
     ensures kept { Extends out.old.items out.new.items }
 {
     write_segment(out, delims, elements)?;

@@ -7,7 +7,7 @@ use Rattle.std.proofs.lemmas.List.{length-take, take_all}
 use Rattle.profile.specs.declared.rules.Rules.{Rules}
 use Rattle.profile.specs.Limits.{most_lines}
 use Rattle.profile.specs.Clerk.{SheetKind, raw_line, sheet_of, sheet_of_records}
-use Rattle.profile.specs.Refusals.{TooManyLines, BadText}
+use Rattle.profile.specs.declared.refusals.Refusal.TheVariants.{TooManyLines, BadText}
 use Rattle.csv.specs.Records.{field_at}
 use Rattle.sheet_texts.specs.Texts.{field_of}
 

@@ -6,6 +6,7 @@ use Rattle.std.specs.Option.{option_or}
 use Rattle.std.proofs.lemmas.List.{append-nil}
 use Rattle.std.proofs.lemmas.List.Folds.{find-append}
 use Rattle.profile.specs.Clerk.{SheetKind}
+use Rattle.profile.specs.declared.refusals.Refusal.{Refusal}
 use Rattle.sheet_texts.specs.Reasons.{each_after, first_reason, is_reason, reason_text, where_so}
 
 -- Lists.
@@ -65,14 +66,14 @@ each_after-append before (x ∷ xs) ys =
     ∙ ap (λ zs. each_after (before ++ x ∷ []) xs ++ each_after zs ys) (append_assoc before (x ∷ []) xs))
 
 -- records before which none is a reason
-after_none : (kind : SheetKind) (n : ℕ) (xs ys : List (List (List ℕ))) → first_reason kind n xs ≡ None
+after_none : (kind : SheetKind) (n : Refusal) (xs ys : List (List (List ℕ))) → first_reason kind n xs ≡ None
     → first_reason kind n (xs ++ ys) ≡ find (λ p. is_reason kind p.0 p.1 n) (each_after xs ys)
 after_none kind n xs ys none =
     ap (find (λ p. is_reason kind p.0 p.1 n)) (each_after-append [] xs ys)
     ∙ find-append (λ p. is_reason kind p.0 p.1 n) (each_after [] xs) (each_after xs ys)
     ∙ ap (λ found. option_or found (find (λ p. is_reason kind p.0 p.1 n) (each_after xs ys))) none
 
-first_at : (kind : SheetKind) (n : ℕ) (before : List (List (List ℕ))) (fields : List (List ℕ)) (rest : List (List (List ℕ))) (t : Bool) → is_reason kind before fields n ≡ t
+first_at : (kind : SheetKind) (n : Refusal) (before : List (List (List ℕ))) (fields : List (List ℕ)) (rest : List (List (List ℕ))) (t : Bool) → is_reason kind before fields n ≡ t
     → find (λ p. is_reason kind p.0 p.1 n) (each_after before (fields ∷ rest)) ≡ cond t (Some (before, fields)) (find (λ p. is_reason kind p.0 p.1 n) (each_after (before ++ fields ∷ []) rest))
 first_at kind n before fields rest t e = ap (λ b. cond b (Some (before, fields)) (find (λ p. is_reason kind p.0 p.1 n) (each_after (before ++ fields ∷ []) rest))) e
 
@@ -85,7 +86,7 @@ not_so : (t : Bool) (text : List ℕ) → None ≡ where_so t text → t ≡ fal
 not_so true text h = absurd (cc)
 not_so false text h = refl
 
-pub reason_next : (kind : SheetKind) (n : ℕ) (rows : List (List (List ℕ))) (i : ℕ) (fields : List (List ℕ)) → i < length rows → fields ≡ get_or rows i fields
+pub reason_next : (kind : SheetKind) (n : Refusal) (rows : List (List (List ℕ))) (i : ℕ) (fields : List (List ℕ)) → i < length rows → fields ≡ get_or rows i fields
     → first_reason kind n (take i rows) ≡ None → None ≡ where_so (is_reason kind (take i rows) fields n) (reason_text kind fields n) → first_reason kind n (take (i + 1) rows) ≡ None
 reason_next kind n rows i fields lt is none h =
     ap (λ k. first_reason kind n (take k rows)) (add-one i)
@@ -93,7 +94,7 @@ reason_next kind n rows i fields lt is none h =
     ∙ after_none kind n (take i rows) (fields ∷ []) none
     ∙ first_at kind n (take i rows) fields [] false (not_so (is_reason kind (take i rows) fields n) (reason_text kind fields n) h)
 
-pub reason_here : (kind : SheetKind) (n : ℕ) (rows : List (List (List ℕ))) (i : ℕ) (fields : List (List ℕ)) (why : List ℕ) → i < length rows → fields ≡ get_or rows i fields
+pub reason_here : (kind : SheetKind) (n : Refusal) (rows : List (List (List ℕ))) (i : ℕ) (fields : List (List ℕ)) (why : List ℕ) → i < length rows → fields ≡ get_or rows i fields
     → first_reason kind n (take i rows) ≡ None → Some why ≡ where_so (is_reason kind (take i rows) fields n) (reason_text kind fields n)
     → (first_reason kind n rows ≡ Some (take i rows, fields)) × (why ≡ reason_text kind fields n)
 reason_here kind n rows i fields why lt is none h =

@@ -11,7 +11,8 @@ use Rattle.profile.specs.Limits.{most_lines, most_item, most_lot, most_recounted
 use Rattle.profile.specs.Lists.{has_repeats, in_order}
 use Rattle.profile.specs.Events.{pair_before}
 use Rattle.profile.specs.Means.{Line}
-use Rattle.profile.specs.Refusals.{Refusal, refusal_number, TooMuch, RepeatedLine, BadText, TooManyLines}
+use Rattle.profile.specs.declared.refusals.Refusal.{Refusal}
+use Rattle.profile.specs.declared.refusals.Refusal.TheVariants.{TooMuch, RepeatedLine, BadText, TooManyLines}
 use Rattle.profile.specs.Clerk.{RawLine, SheetKind, CountSheet, PickSheet, RecountSheet, raw_line, line_of, is_bad_line, is_too_much, picks_nothing, same_raw_pair, sheet_of, sheet_of_records}
 use Rattle.profile.proofs.TextLaws.{both_parts}
 use Rattle.csv.specs.Records.{field_at}
@@ -152,16 +153,16 @@ over_one kind (r ∷ ls) good h =
 
 -- one of the records is a reason
 abbrev Reasoned : SheetKind → List (List (List ℕ)) → Refusal → Type 0
-Reasoned kind rows r = is_some (first_reason kind (refusal_number r) rows) ≡ true
+Reasoned kind rows r = is_some (first_reason kind r rows) ≡ true
 
-reasoned : (kind : SheetKind) (rows : List (List (List ℕ))) (r : Refusal) → list_any (λ p. is_reason kind p.0 p.1 (refusal_number r)) (each_after [] rows) ≡ true → Reasoned kind rows r
-reasoned kind rows r h = is_some-find (λ p. is_reason kind p.0 p.1 (refusal_number r)) (each_after [] rows) ∙ h
+reasoned : (kind : SheetKind) (rows : List (List (List ℕ))) (r : Refusal) → list_any (λ p. is_reason kind p.0 p.1 r) (each_after [] rows) ≡ true → Reasoned kind rows r
+reasoned kind rows r h = is_some-find (λ p. is_reason kind p.0 p.1 r) (each_after [] rows) ∙ h
 
 unread_reason : (kind : SheetKind) (rows : List (List (List ℕ))) (q : List (List ℕ) → Bool) → ((x : List (List ℕ)) → q x ≡ true → is_unread kind x ≡ true) → list_any q rows ≡ true → Reasoned kind rows BadText
-unread_reason kind rows q f h = reasoned kind rows BadText (one_is q (λ p. is_reason kind p.0 p.1 32) (λ before x e. f x e) [] rows h)
+unread_reason kind rows q f h = reasoned kind rows BadText (one_is q (λ p. is_reason kind p.0 p.1 BadText) (λ before x e. f x e) [] rows h)
 
 over_reason : (kind : SheetKind) (rows : List (List (List ℕ))) → list_any (λ x. is_over kind (line_in x)) rows ≡ true → Reasoned kind rows TooMuch
-over_reason kind rows h = reasoned kind rows TooMuch (one_is (λ x. is_over kind (line_in x)) (λ p. is_reason kind p.0 p.1 30) (λ before x e. e) [] rows h)
+over_reason kind rows h = reasoned kind rows TooMuch (one_is (λ x. is_over kind (line_in x)) (λ p. is_reason kind p.0 p.1 TooMuch) (λ before x e. e) [] rows h)
 
 repeated_reason : (kind : SheetKind) (rows : List (List (List ℕ))) → has_repeats (λ a b. same_raw_pair (line_in a) (line_in b)) rows ≡ true → Reasoned kind rows RepeatedLine
 repeated_reason kind rows h = reasoned kind rows RepeatedLine (again (λ a b. same_raw_pair (line_in a) (line_in b)) [] rows h)

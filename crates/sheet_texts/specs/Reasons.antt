@@ -6,13 +6,15 @@ use Rattle.profile.specs.declared.widths.TheConstants.{SHEET_DIGITS}
 use Rattle.profile.specs.Limits.{most_lines, most_item, most_lot}
 use Rattle.profile.specs.Bytes.{is_identifier, is_number}
 use Rattle.profile.specs.Lists.{first_of}
-use Rattle.profile.specs.Refusals.{refusal_number, TooMuch, RepeatedLine, BadText, TooManyLines}
+use Rattle.profile.specs.declared.refusals.Refusal.{Refusal}
+use Rattle.profile.specs.declared.refusals.Refusal.TheVariants.{TooMuch, RepeatedLine, BadText, TooManyLines}
 use Rattle.profile.specs.Clerk.{RawLine, SheetKind, RecountSheet, is_too_much, is_bad_line, same_raw_pair, raw_line}
 use Rattle.sheet_texts.specs.Texts.{field_of, records_of}
 
 -- a record as a line, however many fields it has: one that isn't there is empty
 abbrev pub line_in : List (List ℕ) → RawLine
-line_in fields = record { item = field_of fields 0; lot = field_of fields 1; quantity = field_of fields 2 }
+line_in fields =
+    record { item = field_of fields 0; lot = field_of fields 1; quantity = field_of fields 2 }
 
 -- the records that are read of a text: all, or one more than a sheet may have
 abbrev pub first_records : List ℕ → List (List (List ℕ))
@@ -31,25 +33,27 @@ is_over kind l = is_too_much Two kind l
 
 -- whether the pair of a record stands in one of those before it
 abbrev pub is_repeated : List (List (List ℕ)) → List (List ℕ) → Bool
-is_repeated before fields = list_any (λ other. same_raw_pair (line_in other) (line_in fields)) before
+is_repeated before fields =
+    list_any (λ other. same_raw_pair (line_in other) (line_in fields)) before
 
--- whether a record is a reason of the refusal of this number, given those before it
-abbrev pub is_reason : SheetKind → List (List (List ℕ)) → List (List ℕ) → ℕ → Bool
-is_reason kind before fields number = first_of false
-    ((number == refusal_number BadText, is_unread kind fields)
-    ∷ (number == refusal_number TooMuch, is_over kind (line_in fields))
-    ∷ (number == refusal_number RepeatedLine, is_repeated before fields)
-    ∷ (number == refusal_number TooManyLines, length before == most_lines Two)
-    ∷ [])
+-- whether a record is a reason of this refusal, given those before it
+abbrev pub is_reason : SheetKind → List (List (List ℕ)) → List (List ℕ) → Refusal → Bool
+is_reason kind before fields BadText = is_unread kind fields
+is_reason kind before fields TooMuch = is_over kind (line_in fields)
+is_reason kind before fields RepeatedLine = is_repeated before fields
+is_reason kind before fields TooManyLines = length before == most_lines Two
+is_reason kind before fields refusal = false
 
 -- each record after those that stand before it
-abbrev pub each_after : List (List (List ℕ)) → List (List (List ℕ)) → List (List (List (List ℕ)) × List (List ℕ))
+abbrev pub each_after : List (List (List ℕ)) → List (List (List ℕ))
+    → List (List (List (List ℕ)) × List (List ℕ))
 each_after before [] = []
 each_after before (fields ∷ rows) = (before, fields) ∷ each_after (before ++ fields ∷ []) rows
 
 -- the first of the records that is a reason, with those before it
-abbrev pub first_reason : SheetKind → ℕ → List (List (List ℕ)) → Option (List (List (List ℕ)) × List (List ℕ))
-first_reason kind number rows = find (λ p. is_reason kind p.0 p.1 number) (each_after [] rows)
+abbrev pub first_reason : SheetKind → Refusal → List (List (List ℕ))
+    → Option (List (List (List ℕ)) × List (List ℕ))
+first_reason kind refusal rows = find (λ p. is_reason kind p.0 p.1 refusal) (each_after [] rows)
 
 -- Texts.
 
@@ -61,8 +65,16 @@ where_so is_so text = if is_so then Some text else None
 abbrev pub unread_text : List (List ℕ) → List ℕ
 unread_text fields = first_of (codes "a picked quantity is 1 at least")
     ((is_none (raw_line fields), codes "a line has three fields: item, lot and quantity")
-    ∷ (not (is_identifier 1 most_item (field_of fields 0)), codes "an item has 1 to 20 characters of A to Z, 0 to 9, - and .")
-    ∷ (not (is_identifier 1 most_lot (field_of fields 1)), codes "a lot has 1 to 12 characters of A to Z, 0 to 9, - and .")
+    ∷ (
+      not (is_identifier 1 most_item
+          (field_of fields 0)),
+      codes "an item has 1 to 20 characters of A to Z, 0 to 9, - and .",
+    )
+    ∷ (
+      not (is_identifier 1 most_lot
+          (field_of fields 1)),
+      codes "a lot has 1 to 12 characters of A to Z, 0 to 9, - and .",
+    )
     ∷ (not (is_number (field_of fields 2)), codes "a quantity is digits alone")
     ∷ [])
 
@@ -77,13 +89,12 @@ abbrev pub many_text : List ℕ
 many_text = codes "a sheet has at most 999 lines"
 
 -- the text of a reason
-abbrev pub reason_text : SheetKind → List (List ℕ) → ℕ → List ℕ
-reason_text kind fields number = first_of []
-    ((number == refusal_number BadText, unread_text fields)
-    ∷ (number == refusal_number TooMuch, over_text kind)
-    ∷ (number == refusal_number RepeatedLine, repeated_text)
-    ∷ (number == refusal_number TooManyLines, many_text)
-    ∷ [])
+abbrev pub reason_text : SheetKind → List (List ℕ) → Refusal → List ℕ
+reason_text kind fields BadText = unread_text fields
+reason_text kind fields TooMuch = over_text kind
+reason_text kind fields RepeatedLine = repeated_text
+reason_text kind fields TooManyLines = many_text
+reason_text kind fields refusal = []
 
 -- what is wrong with a record, after its item and its lot where both can be read: `ITEM LOT: WHY`
 abbrev pub told : List (List ℕ) → List ℕ → List ℕ
@@ -92,9 +103,11 @@ told fields why =
     then field_of fields 0 ++ codes " " ++ field_of fields 1 ++ codes ": " ++ why
     else why
 
--- what is told of a text that is refused by this number: of the first record that is a reason
-abbrev pub told_of_text : SheetKind → ℕ → List ℕ → Option (List ℕ)
-told_of_text kind number text = option_map (λ p. told p.1 (reason_text kind p.1 number)) (first_reason kind number (first_records text))
+-- what is told of a text that is refused so: of the first record that is a reason
+abbrev pub told_of_text : SheetKind → Refusal → List ℕ → Option (List ℕ)
+told_of_text kind refusal text =
+    option_map (λ p. told p.1 (reason_text kind p.1 refusal))
+    (first_reason kind refusal (first_records text))
 
 -- Pairs.
 

@@ -5,7 +5,7 @@ use Rattle.csv.specs.Records.{field_at}
 use Rattle.profile.specs.declared.rules.Rules.{Rules}
 use Rattle.profile.specs.Clerk.{SheetKind, sheet_of_records}
 use Rattle.profile.specs.Means.{Line}
-use Rattle.profile.specs.Refusals.{Refusal}
+use Rattle.profile.specs.declared.refusals.Refusal.{Refusal}
 
 -- the records of a text that has no header, a byte order mark at its start taken off
 abbrev pub records_of : List ℕ → List (List (List ℕ))

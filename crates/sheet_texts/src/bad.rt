@@ -5,7 +5,6 @@ ghost use Rattle.std.specs.String.{string_bytes};
 ghost use Rattle.csv.specs.Records.{fields_of};
 ghost use Rattle.profile.specs.declared.rules.Rules.TheVariants.{Two};
 ghost use Rattle.profile.specs.Bytes.{is_identifier_byte};
-ghost use Rattle.profile.specs.Refusals.{Refusal, refusal_number};
 ghost use Rattle.sheets.specs.Kinds.{kind_of};
 ghost use Rattle.sheet_texts.specs.Texts.{sheet_of_text};
 ghost use Rattle.sheet_texts.specs.Reasons as reasons;
@@ -13,19 +12,10 @@ ghost use Rattle.sheet_texts.specs.Reasons as reasons;
 use crate::records::first_records;
 use crate::texts::field;
 use csv::ByteRecord;
-use profile::{MOST_ITEM, MOST_LINES_TWO, MOST_LOT, MOST_QUANTITY_TWO, SHEET_DIGITS};
+use profile::{MOST_ITEM, MOST_LINES_TWO, MOST_LOT, MOST_QUANTITY_TWO, Refusal, SHEET_DIGITS};
 use segments::{Ident, all_digits, value_up_to};
 use sheets::SheetKind;
 use std::alloc::{AllocError, Global};
-
-// The numbers of the refusals that a line is the reason of.
-const TOO_MUCH: u8 = 30;
-
-const REPEATED_LINE: u8 = 31;
-
-const BAD_TEXT: u8 = 32;
-
-const TOO_MANY_LINES: u8 = 33;
 
 /// What a sheet is refused for, and at which line of its text.
 #[derive(Drop)]
@@ -150,17 +140,17 @@ fn bad_in(
     kind: SheetKind,
     row: &ByteRecord,
     before: &[ByteRecord],
-    number: u8,
+    refusal: Refusal,
 ) -> Option<&'static str>
     ensures { option_map (λ why. why.now) result ≡ reasons.where_so
-        (reasons.is_reason (kind_of kind) (map fields_of before.now) (fields_of row.now) number)
-        (reasons.reason_text (kind_of kind) (fields_of row.now) number) }
+        (reasons.is_reason (kind_of kind) (map fields_of before.now) (fields_of row.now) refusal)
+        (reasons.reason_text (kind_of kind) (fields_of row.now) refusal) }
 {
-    match number {
-        BAD_TEXT => unread_in(kind, row),
-        TOO_MUCH => too_much_in(kind, row),
-        REPEATED_LINE => repeated_in(before, row),
-        TOO_MANY_LINES if before.len() == usize::from(MOST_LINES_TWO) => {
+    match refusal {
+        Refusal::BadText => unread_in(kind, row),
+        Refusal::TooMuch => too_much_in(kind, row),
+        Refusal::RepeatedLine => repeated_in(before, row),
+        Refusal::TooManyLines if before.len() == usize::from(MOST_LINES_TWO) => {
             Some("a sheet has at most 999 lines")
         }
         _ => None,
@@ -171,39 +161,37 @@ fn bad_in(
 fn first_bad_in(
     kind: SheetKind,
     rows: &[ByteRecord],
-    number: u8,
+    refusal: Refusal,
 ) -> Option<(&ByteRecord, &'static str)>
     ensures row { option_map (λ found. fields_of found.0.now) result ≡ option_map (λ p. p.1)
-        (reasons.first_reason (kind_of kind) number (map fields_of rows.now)) }
+        (reasons.first_reason (kind_of kind) refusal (map fields_of rows.now)) }
     ensures why { option_map (λ found. found.1.now) result
-        ≡ option_map (λ p. reasons.reason_text (kind_of kind) p.1 number)
-        (reasons.first_reason (kind_of kind) number (map fields_of rows.now)) }
+        ≡ option_map (λ p. reasons.reason_text (kind_of kind) p.1 refusal)
+        (reasons.first_reason (kind_of kind) refusal (map fields_of rows.now)) }
 {
     for (at, row) in rows.iter().enumerate() {
-        if let Some(why) = bad_in(kind, row, &rows[..at], number) {
+        if let Some(why) = bad_in(kind, row, &rows[..at], refusal) {
             return Some((row, why));
         }
     }
     None
 }
 
-/// The first line of a sheet's text for which it is refused by this number (30 to 33), and why;
-/// None where there is none. A text that is refused by the number has one. The one error is want of
-/// memory.
+/// The first line of a sheet's text that is a reason of this refusal (30 to 33), and why it is; None
+/// where there is none. A text that is refused so has one. The one error is want of memory.
 pub fn first_bad(
     alloc: Global,
     kind: SheetKind,
     text: &[u8],
-    number: u8,
+    refusal: Refusal,
 ) -> Result<Option<BadLine>, AllocError>
     ensures told { IfOk result (λ found. option_map (λ bad. string_bytes bad.why) found
-        ≡ reasons.told_of_text (kind_of kind) number text.now) }
-    ensures refused { IfOk result (λ found. (r : Refusal)
-        → sheet_of_text Two (kind_of kind) text.now ≡ Err r → refusal_number r ≡ number
+        ≡ reasons.told_of_text (kind_of kind) refusal text.now) }
+    ensures refused { IfOk result (λ found. sheet_of_text Two (kind_of kind) text.now ≡ Err refusal
         → is_some found ≡ true) }
 {
     let rows = first_records(alloc, text)?;
-    let Some((row, why)) = first_bad_in(kind, &rows, number) else {
+    let Some((row, why)) = first_bad_in(kind, &rows, refusal) else {
         return Ok(None);
     };
     Ok(Some(BadLine {

@@ -11,7 +11,8 @@ use std::alloc::{AllocError, Global};
 /// The first records of a text that has no header: all, or one more than a sheet may have. The one
 /// error is want of memory.
 pub(crate) fn first_records(alloc: Global, text: &[u8]) -> Result<Vec<ByteRecord>, AllocError>
-    ensures { IfOk result (λ rows. map fields_of rows.items ≡ take (most_lines Two + 1) (records_of text.now)) }
+    ensures { IfOk result
+        (λ rows. map fields_of rows.items ≡ take (most_lines Two + 1) (records_of text.now)) }
 {
     let reader = ReaderBuilder::new()
         .has_headers(false)

@@ -3,20 +3,14 @@ ghost use Rattle.std.specs.List.{filter_map, list_any};
 ghost use Rattle.csv.specs.Records.{fields_of, field_at};
 ghost use Rattle.profile.specs.declared.rules.Rules.TheVariants.{Two};
 ghost use Rattle.profile.specs.Clerk.{is_sheet, raw_line};
-ghost use Rattle.profile.specs.Refusals.{Refusal, refusal_number};
 ghost use Rattle.sheets.specs.Kinds.{kind_of};
 ghost use Rattle.sheet_texts.specs.Texts.{sheet_of_text, field_of};
 
 use crate::records::first_records;
 use csv::ByteRecord;
-use profile::{MOST_LINES_TWO, Rules};
+use profile::{MOST_LINES_TWO, Refusal, Rules};
 use sheets::{Line, Sheet, SheetKind};
 use std::alloc::{AllocError, Global};
-
-// The numbers of a text's own refusals.
-const BAD_TEXT: u8 = 32;
-
-const TOO_MANY_LINES: u8 = 33;
 
 /// The field of a record at a place, an empty one where there is none.
 pub(crate) fn field(row: &ByteRecord, at: usize) -> &[u8]
@@ -41,8 +35,10 @@ fn line_of(alloc: Global, row: &ByteRecord) -> Result<Option<Line>, AllocError>
 
 // The lines of records; None where one hasn't three fields.
 fn lines_of(alloc: Global, rows: &[ByteRecord]) -> Result<Option<Vec<Line>>, AllocError>
-    ensures lines { IfOk result (λ found. IfSome found (λ lines. lines.items ≡ filter_map raw_line (map fields_of rows.now))) }
-    ensures uneven { IfOk result (λ found. is_none found ≡ list_any (λ fields. is_none (raw_line fields)) (map fields_of rows.now)) }
+    ensures lines { IfOk result
+        (λ found. IfSome found (λ lines. lines.items ≡ filter_map raw_line (map fields_of rows.now))) }
+    ensures uneven { IfOk result
+        (λ found. is_none found ≡ list_any (λ fields. is_none (raw_line fields)) (map fields_of rows.now)) }
 {
     let mut lines = Vec::new(alloc);
     for row in rows {
@@ -55,20 +51,28 @@ fn lines_of(alloc: Global, rows: &[ByteRecord]) -> Result<Option<Vec<Line>>, All
 }
 
 /// The sheet of a text of CSV (RFC 4180) without a header: records of three fields, item, lot and
-/// quantity. The inner error is the number of the first refusal that holds: 33 over 999 records; 32
-/// a record that hasn't three fields, or a text in one that can't be read, or a pick of 0; 30 a
-/// quantity over its limit; 31 a pair of item and lot twice. The outer one is want of memory.
-pub fn sheet(alloc: Global, kind: SheetKind, text: &[u8]) -> Result<Result<Sheet, u8>, AllocError>
-    ensures ok { IfOk result (λ made. IfOk made (λ sheet. sheet_of_text Two (kind_of kind) text.now ≡ Ok sheet)) }
-    ensures kind { IfOk result (λ made. IfOk made (λ sheet. is_sheet Two (kind_of kind) sheet ≡ true)) }
-    ensures err { IfOk result (λ made. IfErr made (λ n. (r : Refusal) × (sheet_of_text Two (kind_of kind) text.now ≡ Err r) × (refusal_number r ≡ n))) }
+/// quantity. The inner error is the first refusal that holds: 33 over 999 records; 32 a record that
+/// hasn't three fields, or a text in one that can't be read, or a pick of 0; 30 a quantity over its
+/// limit; 31 a pair of item and lot twice. The outer one is want of memory.
+pub fn sheet(
+    alloc: Global,
+    kind: SheetKind,
+    text: &[u8],
+) -> Result<Result<Sheet, Refusal>, AllocError>
+    ensures ok { IfOk result
+        (λ made. IfOk made (λ sheet. sheet_of_text Two (kind_of kind) text.now ≡ Ok sheet)) }
+    ensures kind { IfOk result
+        (λ made. IfOk made (λ sheet. is_sheet Two (kind_of kind) sheet ≡ true)) }
+    ensures err { IfOk result
+        (λ made. IfErr made
+        (λ refusal. sheet_of_text Two (kind_of kind) text.now ≡ Err refusal)) }
 {
     let rows = first_records(alloc, text)?;
     if rows.len() > usize::from(MOST_LINES_TWO) {
-        return Ok(Err(TOO_MANY_LINES));
+        return Ok(Err(Refusal::TooManyLines));
     }
     let Some(lines) = lines_of(alloc, &rows)? else {
-        return Ok(Err(BAD_TEXT));
+        return Ok(Err(Refusal::BadText));
     };
     Ok(Sheet::new(kind, lines, Rules::Two))
 }

@@ -20,11 +20,11 @@ neither false b h = (refl, h)
 
 -- how many of the lines are of a pair
 
-abbrev pub of_pair : List ℕ → List ℕ → Line → Bool
-of_pair item lot l = bytes_eq item l.item && bytes_eq lot l.lot
+abbrev pub is_of_pair : List ℕ → List ℕ → Line → Bool
+is_of_pair item lot l = bytes_eq item l.item && bytes_eq lot l.lot
 
 abbrev pub one_of : List ℕ → List ℕ → Line → ℕ
-one_of item lot l = cond (of_pair item lot l) 1 0
+one_of item lot l = cond (is_of_pair item lot l) 1 0
 
 abbrev pub told : List ℕ → List ℕ → List Line → ℕ
 told item lot ls = sum_by (one_of item lot) ls
@@ -41,9 +41,9 @@ pub told_once : (ls : List RawLine) → has_repeats same_raw_pair ls ≡ false �
 told_once [] h item lot = omega arith
 told_once (l ∷ ls) h item lot =
     let p = neither (list_any (same_raw_pair l) ls) (has_repeats same_raw_pair ls) h in
-    by_test (of_pair item lot (line_of l)) refl p.0 (told_once ls p.1 item lot)
+    by_test (is_of_pair item lot (line_of l)) refl p.0 (told_once ls p.1 item lot)
   where
-    by_test : (t : Bool) → of_pair item lot (line_of l) ≡ t → list_any (same_raw_pair l) ls ≡ false → told item lot (map line_of ls) ≤ 1 → told item lot (map line_of (l ∷ ls)) ≤ 1
+    by_test : (t : Bool) → is_of_pair item lot (line_of l) ≡ t → list_any (same_raw_pair l) ls ≡ false → told item lot (map line_of ls) ≤ 1 → told item lot (map line_of (l ∷ ls)) ≤ 1
     by_test false e lone rest =
         let here : one_of item lot (line_of l) ≡ 0 = ap (λ (t : Bool). cond {A = ℕ} t 1 0) e in
         omega (arith, sum_by-cons (one_of item lot) (line_of l) (map line_of ls), here, rest)
@@ -117,12 +117,12 @@ first_not_ahead k l ks ls h e = by_test (pair_before l k) refl
 
 -- the quantity of a pair
 abbrev much_of : List ℕ → List ℕ → Line → ℕ
-much_of item lot l = cond (of_pair item lot l) l.quantity 0
+much_of item lot l = cond (is_of_pair item lot l) l.quantity 0
 
-apart : (k z : Line) → pair_before k z ≡ true → of_pair k.item k.lot z ≡ false
-apart k z h = by_test (of_pair k.item k.lot z) refl
+apart : (k z : Line) → pair_before k z ≡ true → is_of_pair k.item k.lot z ≡ false
+apart k z h = by_test (is_of_pair k.item k.lot z) refl
   where
-    by_test : (t : Bool) → of_pair k.item k.lot z ≡ t → of_pair k.item k.lot z ≡ false
+    by_test : (t : Bool) → is_of_pair k.item k.lot z ≡ t → is_of_pair k.item k.lot z ≡ false
     by_test false e = e
     by_test true e =
         let q = both_parts (bytes_eq k.item z.item) (bytes_eq k.lot z.lot) e in
@@ -155,14 +155,14 @@ ascending_same (k ∷ ks) (l ∷ ls) h g e =
 
 -- Lines ascend just where no pair stands twice, however they stood before they were sorted.
 
-once_of : (item lot : List ℕ) (t : Bool) (l : Line) → of_pair item lot l ≡ t → one_of item lot l ≡ cond {A = ℕ} t 1 0
+once_of : (item lot : List ℕ) (t : Bool) (l : Line) → is_of_pair item lot l ≡ t → one_of item lot l ≡ cond {A = ℕ} t 1 0
 once_of item lot t l e = ap (λ (b : Bool). cond {A = ℕ} b 1 0) e
 
 pub ascending_once : (ls : List Line) → is_ascending ls ≡ true → (item lot : List ℕ) → told item lot ls ≤ 1
 ascending_once [] h item lot = omega arith
-ascending_once (k ∷ ks) h item lot = by_test (of_pair item lot k) refl (ascending_once ks (rest_ascends k ks h) item lot)
+ascending_once (k ∷ ks) h item lot = by_test (is_of_pair item lot k) refl (ascending_once ks (rest_ascends k ks h) item lot)
   where
-    by_test : (t : Bool) → of_pair item lot k ≡ t → told item lot ks ≤ 1 → told item lot (k ∷ ks) ≤ 1
+    by_test : (t : Bool) → is_of_pair item lot k ≡ t → told item lot ks ≤ 1 → told item lot (k ∷ ks) ≤ 1
     by_test false e rest = omega (arith, sum_by-cons (one_of item lot) k ks, once_of item lot false k e, rest)
     by_test true e rest =
         let q = both_parts (bytes_eq item k.item) (bytes_eq lot k.lot) e in

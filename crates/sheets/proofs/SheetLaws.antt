@@ -14,7 +14,8 @@ use Rattle.profile.specs.Limits.{most_lines, most_item, most_lot, most_quantity,
 use Rattle.profile.specs.Lists.{in_order}
 use Rattle.profile.specs.Means.{Line}
 use Rattle.profile.specs.Events.{pair_before}
-use Rattle.profile.specs.Refusals.{Refusal, RepeatedLine}
+use Rattle.profile.specs.declared.refusals.Refusal.{Refusal}
+use Rattle.profile.specs.declared.refusals.Refusal.TheVariants.{RepeatedLine}
 use Rattle.profile.specs.Clerk.{RawLine, SheetKind, CountSheet, PickSheet, RecountSheet, line_of, sheet_of, is_sheet, is_sheet_line, is_ascending, least_quantity, quantity_limit}
 use Rattle.profile.proofs.SheetLaws.{sheet_of-is, is_sheet-later}
 use Rattle.profile.proofs.TextLaws.{both_parts}

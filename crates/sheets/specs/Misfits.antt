@@ -1,16 +1,17 @@
--- The refusals of a sheet by their numbers, but for that of a repeated pair.
-use Rattle.std.specs.Prelude.{ℕ, List, [], ◌∷◌, length, nat_lt, Some, None, Option}
+-- Why lines make no sheet, but for a repeated pair.
+use Rattle.std.specs.Prelude.{List, [], ◌∷◌, length, nat_lt, Some, None, Option}
 use Rattle.std.specs.List.{list_any}
 use Rattle.profile.specs.declared.rules.Rules.{Rules}
 use Rattle.profile.specs.Limits.{most_lines}
 use Rattle.profile.specs.Lists.{first_of}
-use Rattle.profile.specs.Refusals.{refusal_number, TooMuch, BadText, TooManyLines}
+use Rattle.profile.specs.declared.refusals.Refusal.{Refusal}
+use Rattle.profile.specs.declared.refusals.Refusal.TheVariants.{TooMuch, BadText, TooManyLines}
 use Rattle.profile.specs.Clerk.{RawLine, SheetKind, is_bad_line, is_too_much}
 
 -- the first that holds, each over all lines
-abbrev pub misfit_of : Rules → SheetKind → List RawLine → Option ℕ
+abbrev pub misfit_of : Rules → SheetKind → List RawLine → Option Refusal
 misfit_of r kind lines = first_of None
-    ((nat_lt (most_lines r) (length lines), Some (refusal_number TooManyLines))
-    ∷ (list_any (is_bad_line kind) lines, Some (refusal_number BadText))
-    ∷ (list_any (is_too_much r kind) lines, Some (refusal_number TooMuch))
+    ((nat_lt (most_lines r) (length lines), Some TooManyLines)
+    ∷ (list_any (is_bad_line kind) lines, Some BadText)
+    ∷ (list_any (is_too_much r kind) lines, Some TooMuch)
     ∷ [])

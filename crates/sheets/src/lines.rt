@@ -23,7 +23,11 @@ pub struct Line {
 impl Model for Line {
     ghost Value = { clerk.RawLine };
 
-    ghost view = { λ l. record { item = l.item.items; lot = l.lot.items; quantity = l.quantity.items } };
+    ghost view = { λ l. record {
+      item = l.item.items;
+      lot = l.lot.items;
+      quantity = l.quantity.items;
+    } };
 }
 
 // Whether the text is digits, at least one.
@@ -43,7 +47,11 @@ fn is_identifier(text: &[u8], most: usize) -> bool
 impl Line {
     /// The texts of an item, a lot and a quantity, whatever they are.
     pub fn new(item: Vec<u8>, lot: Vec<u8>, quantity: Vec<u8>) -> Line
-        ensures { result ≡ record { item = item.items; lot = lot.items; quantity = quantity.items } }
+        ensures { result ≡ record {
+          item = item.items;
+          lot = lot.items;
+          quantity = quantity.items;
+        } }
     {
         Line {
             item,

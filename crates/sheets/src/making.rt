@@ -6,7 +6,6 @@ ghost use Rattle.profile.specs.Clerk as clerk;
 ghost use Rattle.profile.specs.Limits as limits;
 ghost use Rattle.profile.specs.Means as meant;
 ghost use Rattle.profile.specs.Register.{line_text};
-ghost use Rattle.profile.specs.Refusals.{Refusal, refusal_number};
 ghost use Rattle.sheets.specs.Kinds.{kind_of};
 ghost use Rattle.sheets.specs.Pairs.{pair_cmp};
 ghost use Rattle.sheets.specs.Misfits.{misfit_of};
@@ -14,18 +13,9 @@ ghost use Rattle.sheets.specs.Misfits.{misfit_of};
 use crate::kinds::SheetKind;
 use crate::lines::Line;
 use crate::writing::append_lines;
-use profile::{MOST_LINES, MOST_LINES_TWO, Rules};
+use profile::{MOST_LINES, MOST_LINES_TWO, Refusal, Rules};
 use std::alloc::{AllocError, Global};
 use std::marker::Model;
-
-// The numbers of a sheet's refusals.
-const TOO_MUCH: u8 = 30;
-
-const REPEATED_LINE: u8 = 31;
-
-const BAD_TEXT: u8 = 32;
-
-const TOO_MANY_LINES: u8 = 33;
 
 /// A sheet of a clerk's act: at most 99 lines under rules 1 and 999 under rules 2, of identifiers
 /// and quantities within their limits, by item and then lot bytes, each pair once.
@@ -64,18 +54,18 @@ fn most_lines(rules: Rules) -> u16
     }
 }
 
-// The number of the first refusal but for a repeated pair, each over all lines.
-fn misfit(kind: SheetKind, lines: &[Line], rules: Rules) -> Option<u8>
+// The first refusal but for a repeated pair, each over all lines.
+fn misfit(kind: SheetKind, lines: &[Line], rules: Rules) -> Option<Refusal>
     ensures { result ≡ misfit_of rules (kind_of kind) lines.now }
 {
     if lines.len() > usize::from(most_lines(rules)) {
-        return Some(TOO_MANY_LINES);
+        return Some(Refusal::TooManyLines);
     }
     if has_bad_line(kind, lines) {
-        return Some(BAD_TEXT);
+        return Some(Refusal::BadText);
     }
     if has_too_much(kind, lines, rules) {
-        return Some(TOO_MUCH);
+        return Some(Refusal::TooMuch);
     }
     None
 }
@@ -98,20 +88,22 @@ fn ascends(lines: &[Line]) -> bool
 
 impl Sheet {
     /// The sheet of these lines under the rules, in order. It takes no memory. The error is the
-    /// number of the first refusal that holds: 33 more lines than the rules allow, 99 or 999; 32 an
-    /// item, a lot or a quantity that can't be read, or a pick of 0; 30 a quantity of more than
-    /// nine digits or over its limit; 31 a pair of item and lot twice.
-    pub fn new(kind: SheetKind, lines: Vec<Line>, rules: Rules) -> Result<Sheet, u8>
-        ensures ok { IfOk result (λ sheet. clerk.sheet_of rules (kind_of kind) lines.items ≡ Ok sheet) }
+    /// first refusal that holds: 33 more lines than the rules allow, 99 or 999; 32 an item, a lot
+    /// or a quantity that can't be read, or a pick of 0; 30 a quantity of more than nine digits or
+    /// over its limit; 31 a pair of item and lot twice.
+    pub fn new(kind: SheetKind, lines: Vec<Line>, rules: Rules) -> Result<Sheet, Refusal>
+        ensures ok { IfOk result
+            (λ sheet. clerk.sheet_of rules (kind_of kind) lines.items ≡ Ok sheet) }
         ensures kind { IfOk result (λ sheet. clerk.is_sheet rules (kind_of kind) sheet ≡ true) }
-        ensures err { IfErr result (λ n. (r : Refusal) × (clerk.sheet_of rules (kind_of kind) lines.items ≡ Err r) × (refusal_number r ≡ n)) }
+        ensures err { IfErr result
+            (λ refusal. clerk.sheet_of rules (kind_of kind) lines.items ≡ Err refusal) }
     {
-        if let Some(number) = misfit(kind, &lines, rules) {
-            return Err(number);
+        if let Some(refusal) = misfit(kind, &lines, rules) {
+            return Err(refusal);
         }
         let lines = in_order(lines);
         if !ascends(&lines) {
-            return Err(REPEATED_LINE);
+            return Err(Refusal::RepeatedLine);
         }
         Ok(Sheet { lines })
     }

@@ -5,6 +5,7 @@ use Rattle.std.proofs.lemmas.List.{append-nil}
 use Rattle.std.proofs.lemmas.Grind.{flat_map-append}
 use Rattle.std.specs.Prelude.{bytes_eq, option_map, flat_map, find, is_none, nat_lt}
 use Rattle.std.specs.List.{list_any, list_all}
+use Rattle.profile.specs.Limits.{most_sets}
 use Rattle.profile.specs.Bytes.{comes_before}
 use Rattle.profile.specs.Lists.{or_else}
 use Rattle.profile.specs.Means.{Line, Acknowledgment}
@@ -13,7 +14,7 @@ use Rattle.profile.specs.Page.{PageAdvice, PageOrder, PageDocument}
 use Rattle.profile.specs.Events.{Event, Acknowledged, count_naming, date_naming}
 use Rattle.profile.specs.Movements.{OnHand, Expected, Reservation}
 use Rattle.stock.specs.declared.steps.Change.TheVariants as change
-use Rattle.goods.specs.Told.{told, told_date, one, amount, since, named_by, positive}
+use Rattle.goods.specs.OfPairs.{of_pair, date_of_pair, one, amount, since, named_by, positive}
 use Rattle.goods.specs.Keyed.{rises_by, key_before, row_key, shipment_of, number_of, entry_of}
 use Rattle.goods.specs.Pages.{PageFacts, is_document, advice_at, order_at, document_at, awaited, held, IsSound, AreSorted, is_in_lines}
 use Rattle.stock.specs.Puts.{put}
@@ -28,15 +29,15 @@ use Rattle.stock.proofs.Moves.{came_push, went_push}
 use Rattle.stock.proofs.PageLemmas.{all_numbered_same, own_number}
 use Rattle.stock.proofs.Events.{found_kept, all_push, advice_kept, order_kept, shares_kept, counted_kept, picked_kept}
 
-pub acknowledged_sound : (a : Acknowledgment) (old new : PageFacts) → IsAcknowledged a old new → old.recent < 1000 → IsSound old → IsSound new
+pub acknowledged_sound : (a : Acknowledgment) (old new : PageFacts) → IsAcknowledged a old new → old.recent < most_sets → IsSound old → IsSound new
 acknowledged_sound a old new step room sound = record {
   sorted = sorted;
   distinct = sorted_distinct new.rows sorted.rows;
-  expected = λ x y. omega (arith, ap (told (amount Expected) x y) step.rows, sound.expected x y, ap (λ (ks : List PageAdvice). awaited ks x y) step.advices);
-  reserved = λ x y. omega (arith, ap (told (amount Reservation) x y) step.rows, sound.reserved x y, ap (λ (ks : List PageOrder). held ks x y) step.orders);
+  expected = λ x y. omega (arith, ap (of_pair (amount Expected) x y) step.rows, sound.expected x y, ap (λ (ks : List PageAdvice). awaited ks x y) step.advices);
+  reserved = λ x y. omega (arith, ap (of_pair (amount Reservation) x y) step.rows, sound.reserved x y, ap (λ (ks : List PageOrder). held ks x y) step.orders);
   in_lines = ap (list_all is_in_lines) step.orders ∙ sound.in_lines;
-  covered = λ x y. omega (arith, ap (told (amount Reservation) x y) step.rows, ap (told (amount OnHand) x y) step.rows, sound.covered x y);
-  bounded = λ c x y. omega (arith, ap (told (amount c) x y) step.rows, sound.bounded c x y, step.next.entries, step.next.recent);
+  covered = λ x y. omega (arith, ap (of_pair (amount Reservation) x y) step.rows, ap (of_pair (amount OnHand) x y) step.rows, sound.covered x y);
+  bounded = λ c x y. omega (arith, ap (of_pair (amount c) x y) step.rows, sound.bounded c x y, step.next.entries, step.next.recent);
   numbered = omega (arith, sound.numbered, step.next.entries);
   few = omega (arith, step.next.recent);
   advices_once = advices_once new.advices sorted.advices;
@@ -204,12 +205,12 @@ heard_shown es k a m f = ap (λ (o : Option Bool). record { n = m; function = f;
 
 pub acknowledged_shows : (a : Acknowledgment) (old new : PageFacts) (es : List Event) → IsAcknowledged a old new → Shows old es → Shows new (es ++ Acknowledged (old.entries + 1) a ∷ [])
 acknowledged_shows a old new es step shows = let e = Acknowledged (old.entries + 1) a in record {
-  amounts = λ c x y. omega (arith, ap (told (amount c) x y) step.rows, shows.amounts c x y, came_push es e c x y, went_push es e c x y);
-  sinces = λ x y. found_kept (count_naming x y) es e refl ∙ shows.sinces x y ∙ ap (λ (rows : List LotRow). positive (told since x y rows)) (sym step.rows);
-  expiries = λ x y. found_kept (date_naming x y) es e refl ∙ shows.expiries x y ∙ ap (told_date x y) (sym step.rows);
+  amounts = λ c x y. omega (arith, ap (of_pair (amount c) x y) step.rows, shows.amounts c x y, came_push es e c x y, went_push es e c x y);
+  sinces = λ x y. found_kept (count_naming x y) es e refl ∙ shows.sinces x y ∙ ap (λ (rows : List LotRow). positive (of_pair since x y rows)) (sym step.rows);
+  expiries = λ x y. found_kept (date_naming x y) es e refl ∙ shows.expiries x y ∙ ap (date_of_pair x y) (sym step.rows);
   pairs = λ x y. omega (
     arith,
-    ap (told one x y) step.rows,
+    ap (of_pair one x y) step.rows,
     shows.pairs x y,
     ap (λ (ls : List Line). named_by ls x y) (flat_map-append named es (e ∷ []) ∙ append-nil (flat_map named es)),
   );

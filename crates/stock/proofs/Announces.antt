@@ -6,6 +6,7 @@ use Rattle.std.specs.List.{list_all}
 use Rattle.std.proofs.lemmas.Bool.{and_parts}
 use Rattle.std.specs.Prelude.{bytes_eq, codes, find, is_some, option_map, flat_map, nat_lt}
 use Rattle.std.specs.Option.{option_or}
+use Rattle.profile.specs.Limits.{most_sets}
 use Rattle.profile.specs.Faults.{SetFault}
 use Rattle.profile.specs.Lists.{or_else, first_present}
 use Rattle.profile.specs.Means.{Line, AdviceLine, Advice, advised}
@@ -14,7 +15,7 @@ use Rattle.profile.specs.Page.{PageAdvice, PageOrder, page_advice}
 use Rattle.profile.specs.Events.{Event, Advised, quantity_of, advice_if, advice_under, counts, count_naming, date_naming, is_other_date, is_redated, trade_fault, fault_where, repeated_pair, sooner, wrong_advice_total, advice_fault, advice_fault_where}
 use Rattle.profile.specs.Movements.{Expected, OnHand, Reservation}
 use Rattle.sets_in.specs.Limits.{HasFewLines}
-use Rattle.goods.specs.Told.{told, told_date, amount, named_by, date_of, positive}
+use Rattle.goods.specs.OfPairs.{of_pair, date_of_pair, amount, named_by, date_of, positive}
 use Rattle.goods.specs.Pages.{PageFacts, advice_at, order_at, document_at, awaited, held, IsSound, AreSorted, is_in_lines}
 use Rattle.stock.specs.Parts.{Named, IsPart, NamesAdvice, are_items}
 use Rattle.stock.specs.Shows.{Shows, is_numbered_within}
@@ -22,7 +23,7 @@ use Rattle.goods.specs.Steps.{opened, IsAnnounced}
 use Rattle.goods.proofs.Sums.{named_append}
 use Rattle.profile.specs.Bytes.{comes_before}
 use Rattle.goods.specs.Keyed.{rises_by, number_of, entry_of}
-use Rattle.goods.proofs.Dates.{dates_told}
+use Rattle.goods.proofs.Dates.{same_dates_of}
 use Rattle.goods.proofs.Keys.{was}
 use Rattle.goods.proofs.KeyLemmas.{sorted_distinct, advice_sum, advice_put_new, advices_put_sorted, advices_once, orders_once, documents_once}
 use Rattle.stock.proofs.Moves.{came_push, went_push, came_comes, went_comes, given_le, quantity_le, advised_le}
@@ -32,10 +33,10 @@ use Rattle.stock.proofs.Views.{advice_seen, uncounted, advice_view}
 use Rattle.stock.proofs.Events.{found_kept, any_kept, all_push, order_kept, document_kept, shares_kept, counted_kept, picked_kept}
 
 -- the lines fit
-pub advised_fits : (a : Advice) (p : PageFacts) → HasFewLines a.lines → IsSound p → (item lot : List ℕ) → told (amount Expected) item lot p.rows + quantity_of (advised a) item lot < 2 ^ 64
+pub advised_fits : (a : Advice) (p : PageFacts) → HasFewLines a.lines → IsSound p → (item lot : List ℕ) → of_pair (amount Expected) item lot p.rows + quantity_of (advised a) item lot < 2 ^ 64
 advised_fits a p few sound item lot = omega (arith, sound.bounded Expected item lot, sound.numbered, sound.few, quantity_le (advised a) item lot, advised_le a few)
 
-pub announced_sound : (a : Advice) (old new : PageFacts) → IsAnnounced a old new → HasFewLines a.lines → advice_at a.shipment old.advices ≡ None → old.recent < 1000 → IsSound old → IsSound new
+pub announced_sound : (a : Advice) (old new : PageFacts) → IsAnnounced a old new → HasFewLines a.lines → advice_at a.shipment old.advices ≡ None → old.recent < most_sets → IsSound old → IsSound new
 announced_sound a old new step few unknown room sound = record {
   sorted = sorted;
   distinct = sorted_distinct new.rows step.rows.sorted;
@@ -101,9 +102,9 @@ is_some_view f None = refl
 
 -- the fault that the page tells is that of the events
 pub advice_fault_shown : (p : PageFacts) (es : List Event) (a : Advice) → Shows p es
-    → advice_fault_where (is_some (advice_at a.shipment p.advices)) (λ i l. told_date i l p.rows) a ≡ advice_fault es a
+    → advice_fault_where (is_some (advice_at a.shipment p.advices)) (λ i l. date_of_pair i l p.rows) a ≡ advice_fault es a
 advice_fault_shown p es a shows =
-    ap (λ (v : Bool). advice_fault_where v (λ i l. told_date i l p.rows) a) (ap is_some (shows.advices a.shipment) ∙ is_some_view (page_advice es) (advice_under a.shipment es))
+    ap (λ (v : Bool). advice_fault_where v (λ i l. date_of_pair i l p.rows) a) (ap is_some (shows.advices a.shipment) ∙ is_some_view (page_advice es) (advice_under a.shipment es))
     ∙ (λ j. advice_fault_where (is_some (advice_under a.shipment es)) (λ i l. sym (shows.expiries i l) j) a)
 
 -- and a part of the page tells it where it has the items of the lines
@@ -123,16 +124,16 @@ fault_by v a o = first_present
     ∷ [])
 
 advice_fault_part : (n : Named) (p P : PageFacts) (v : Bool) (a : Advice) → IsPart n p P → NamesAdvice n a
-    → advice_fault_where v (λ i l. told_date i l p.rows) a ≡ advice_fault_where v (λ i l. told_date i l P.rows) a
-advice_fault_part n p P v a part names = ap (fault_by v a) (redated_same n (λ i l. told_date i l p.rows) (λ i l. told_date i l P.rows)
-    (λ i l is. dates_told i l p.rows P.rows part.in_order.rows part.sorted.rows (λ f. part.rows f i l is)) a.lines names.items)
+    → advice_fault_where v (λ i l. date_of_pair i l p.rows) a ≡ advice_fault_where v (λ i l. date_of_pair i l P.rows) a
+advice_fault_part n p P v a part names = ap (fault_by v a) (redated_same n (λ i l. date_of_pair i l p.rows) (λ i l. date_of_pair i l P.rows)
+    (λ i l is. same_dates_of i l p.rows P.rows part.in_order.rows part.sorted.rows (λ f. part.rows f i l is)) a.lines names.items)
 
 pub advice_fault_told : (n : Named) (p P : PageFacts) (es : List Event) (v : Bool) (rows : List LotRow) (a : Advice) → IsPart n p P → NamesAdvice n a → Shows P es
-    → v ≡ is_some (advice_at a.shipment p.advices) → rows ≡ p.rows → advice_fault_where v (λ i l. told_date i l rows) a ≡ advice_fault es a
+    → v ≡ is_some (advice_at a.shipment p.advices) → rows ≡ p.rows → advice_fault_where v (λ i l. date_of_pair i l rows) a ≡ advice_fault es a
 advice_fault_told n p P es v rows a part names shows known same =
-    (λ j. advice_fault_where (known j) (λ i l. told_date i l (same j)) a)
+    (λ j. advice_fault_where (known j) (λ i l. date_of_pair i l (same j)) a)
     ∙ advice_fault_part n p P (is_some (advice_at a.shipment p.advices)) a part names
-    ∙ ap (λ (o : Option PageAdvice). advice_fault_where (is_some o) (λ i l. told_date i l P.rows) a) (part.advices a.shipment names.shipment)
+    ∙ ap (λ (o : Option PageAdvice). advice_fault_where (is_some o) (λ i l. date_of_pair i l P.rows) a) (part.advices a.shipment names.shipment)
     ∙ advice_fault_shown P es a shows
 
 is_none : {X : Type 0} (o : Option X) → is_some o ≡ false → o ≡ None

@@ -5,15 +5,15 @@ use Rattle.std.proofs.lemmas.List.{append-nil}
 use Rattle.std.proofs.lemmas.Grind.{flat_map-append}
 use Rattle.std.specs.Prelude.{flat_map, count_by, codes, unwrap_or}
 use Rattle.std.specs.List.{list_any, list_all}
-use Rattle.profile.specs.Limits.{most_recounted}
+use Rattle.profile.specs.Limits.{most_recounted, most_sets}
 use Rattle.profile.specs.Means.{Line}
 use Rattle.profile.specs.Rows.{LotRow, named}
-use Rattle.profile.specs.Refusals.{UnknownLot, BelowReserved, NoDifference}
+use Rattle.profile.specs.declared.refusals.Refusal.TheVariants.{UnknownLot, BelowReserved, NoDifference}
 use Rattle.profile.specs.Clerk.{recounted, on_hand_now}
 use Rattle.profile.specs.Page.{PageAdvice, PageOrder}
 use Rattle.profile.specs.Events.{Event, Recounted, is_pair, quantity_of, count_naming, date_naming, since as since_events}
 use Rattle.profile.specs.Movements.{Column, Expected, OnHand, Reservation, Shipped, comes, goes, balance}
-use Rattle.goods.specs.Told.{told, one, amount, since, given, named_by, positive}
+use Rattle.goods.specs.OfPairs.{of_pair, one, amount, since, given, named_by, positive}
 use Rattle.goods.specs.Moved.{set_by}
 use Rattle.profile.specs.Bytes.{comes_before}
 use Rattle.goods.specs.Keyed.{rises_by, shipment_of, number_of}
@@ -21,7 +21,7 @@ use Rattle.goods.specs.Pages.{PageFacts, advice_at, order_at, awaited, held, IsS
 use Rattle.goods.proofs.KeyLemmas.{sorted_distinct, sent_sorted, advices_once, orders_once, documents_once}
 use Rattle.stock.specs.Shows.{Shows, is_numbered_within}
 use Rattle.goods.specs.Steps.{is_unknown, is_below, is_on_hand, IsRecounted}
-use Rattle.goods.proofs.Tells.{pair_is, told_absent}
+use Rattle.goods.proofs.OfPairLemmas.{pair_is, of_pair_absent}
 use Rattle.stock.proofs.Moves.{came_push, went_push, came_append, went_append, came_comes, went_comes, came_goes, went_goes}
 use Rattle.stock.proofs.PageLemmas.{all_numbered_same, own_number}
 use Rattle.goods.proofs.Pairs.{IsSheet, count_yes, count_no, quantity_yes, quantity_no, quantity_none}
@@ -91,36 +91,36 @@ unnamed a b (l ∷ ls) h = let u = unlike (is_pair a b l) (list_any (is_pair a b
 -- What no line of the sheet is.
 
 -- a pair of the sheet has a row
-pub named_known : (rows : List LotRow) (ls : List Line) (a b : List ℕ) → list_any (is_unknown rows) ls ≡ false → named_by ls a b ≤ told one a b rows
+pub named_known : (rows : List LotRow) (ls : List Line) (a b : List ℕ) → list_any (is_unknown rows) ls ≡ false → named_by ls a b ≤ of_pair one a b rows
 named_known rows [] a b h = omega arith
 named_known rows (l ∷ ls) a b h =
     let u = unlike (is_unknown rows l) (list_any (is_unknown rows) ls) h in
     elim (cases_Bool (is_pair a b l)) [
-      | inl e ↦ rw e (by (told one a b rows) refl u.0 (pair_is a b l e))
+      | inl e ↦ rw e (by (of_pair one a b rows) refl u.0 (pair_is a b l e))
       | inr e ↦ rw e (named_known rows ls a b u.1)
     ]
   where
-    by : (m : ℕ) → told one a b rows ≡ m → is_unknown rows l ≡ false → (l.item ≡ a) × (l.lot ≡ b) → 1 ≤ told one a b rows
+    by : (m : ℕ) → of_pair one a b rows ≡ m → is_unknown rows l ≡ false → (l.item ≡ a) × (l.lot ≡ b) → 1 ≤ of_pair one a b rows
     by zero e f same =
-        let none : told since l.item l.lot rows ≡ 0 = (λ i. told since (same.0 i) (same.1 i) rows) ∙ told_absent since a b rows e in
-        absurd (eqb-false (told since l.item l.lot rows) 0 f none)
+        let none : of_pair since l.item l.lot rows ≡ 0 = (λ i. of_pair since (same.0 i) (same.1 i) rows) ∙ of_pair_absent since a b rows e in
+        absurd (eqb-false (of_pair since l.item l.lot rows) 0 f none)
     by (suc m) e f same = omega (arith, e)
 
 -- and what is reserved of it isn't above the sheet's amount
-not_below : (rows : List LotRow) (ls : List Line) (a b : List ℕ) → list_any (is_below rows) ls ≡ false → list_any (is_pair a b) ls ≡ true → told (amount Reservation) a b rows ≤ quantity_of ls a b
+not_below : (rows : List LotRow) (ls : List Line) (a b : List ℕ) → list_any (is_below rows) ls ≡ false → list_any (is_pair a b) ls ≡ true → of_pair (amount Reservation) a b rows ≤ quantity_of ls a b
 not_below rows [] a b h t = absurd (cc)
 not_below rows (l ∷ ls) a b h t =
     let u = unlike (is_below rows l) (list_any (is_below rows) ls) h in
     elim (cases_Bool (is_pair a b l)) [
       | inl e ↦
           let same = pair_is a b l e in
-          let there : told (amount Reservation) l.item l.lot rows ≡ told (amount Reservation) a b rows = (λ i. told (amount Reservation) (same.0 i) (same.1 i) rows) in
-          omega (arith, quantity_yes a b l ls e, ltb-false l.quantity (told (amount Reservation) l.item l.lot rows) u.0, there)
+          let there : of_pair (amount Reservation) l.item l.lot rows ≡ of_pair (amount Reservation) a b rows = (λ i. of_pair (amount Reservation) (same.0 i) (same.1 i) rows) in
+          omega (arith, quantity_yes a b l ls e, ltb-false l.quantity (of_pair (amount Reservation) l.item l.lot rows) u.0, there)
       | inr e ↦ omega (arith, quantity_no a b l ls e, not_below rows ls a b u.1 (rw e at t))
     ]
 
 pub recounted_sound : (n : ℕ) (sheet : List Line) (old new : PageFacts) → IsRecounted n sheet old new → IsSheet sheet → list_any (is_below old.rows) sheet ≡ false
-    → old.recent < 1000 → IsSound old → IsSound new
+    → old.recent < most_sets → IsSound old → IsSound new
 recounted_sound n sheet old new step is_sheet covers room sound = record {
   sorted = sorted;
   distinct = sorted_distinct new.rows step.rows.sorted;
@@ -128,8 +128,8 @@ recounted_sound n sheet old new step is_sheet covers room sound = record {
   reserved = λ a b. omega (arith, step.rows.others Reservation a b refl, sound.reserved a b, ap (λ (ks : List PageOrder). held ks a b) step.orders);
   in_lines = ap (list_all is_in_lines) step.orders ∙ sound.in_lines;
   covered = λ a b. elim (cases_Bool (list_any (is_pair a b) sheet)) [
-    | inl e ↦ omega (arith, now a b, ap (λ (v : Bool). cond v (quantity_of sheet a b) (told (amount OnHand) a b old.rows)) e, step.rows.others Reservation a b refl, not_below old.rows sheet a b covers e)
-    | inr e ↦ omega (arith, now a b, ap (λ (v : Bool). cond v (quantity_of sheet a b) (told (amount OnHand) a b old.rows)) e, step.rows.others Reservation a b refl, sound.covered a b)
+    | inl e ↦ omega (arith, now a b, ap (λ (v : Bool). cond v (quantity_of sheet a b) (of_pair (amount OnHand) a b old.rows)) e, step.rows.others Reservation a b refl, not_below old.rows sheet a b covers e)
+    | inr e ↦ omega (arith, now a b, ap (λ (v : Bool). cond v (quantity_of sheet a b) (of_pair (amount OnHand) a b old.rows)) e, step.rows.others Reservation a b refl, sound.covered a b)
   ];
   bounded = bounded;
   numbered = omega (arith, sound.numbered, step.next.entries);
@@ -147,27 +147,27 @@ recounted_sound n sheet old new step is_sheet covers room sound = record {
       documents = sent_sorted n (codes "AW") old.documents new.documents step.documents sound.sorted.documents;
     }
 
-    now : (a b : List ℕ) → told (amount OnHand) a b new.rows ≡ cond (list_any (is_pair a b) sheet) (quantity_of sheet a b) (told (amount OnHand) a b old.rows)
-    now a b = step.rows.on_hand a b ∙ set_once a b sheet (told (amount OnHand) a b old.rows) (is_sheet.once a b)
+    now : (a b : List ℕ) → of_pair (amount OnHand) a b new.rows ≡ cond (list_any (is_pair a b) sheet) (quantity_of sheet a b) (of_pair (amount OnHand) a b old.rows)
+    now a b = step.rows.on_hand a b ∙ set_once a b sheet (of_pair (amount OnHand) a b old.rows) (is_sheet.once a b)
 
-    bounded : (c : Column) (a b : List ℕ) → told (amount c) a b new.rows ≤ (most_recounted + 1) * (1000 * new.entries + new.recent)
+    bounded : (c : Column) (a b : List ℕ) → of_pair (amount c) a b new.rows ≤ (most_recounted + 1) * (most_sets * new.entries + new.recent)
     bounded Expected a b = omega (arith, step.rows.others Expected a b refl, sound.bounded Expected a b, step.next.entries, step.next.recent)
     bounded Reservation a b = omega (arith, step.rows.others Reservation a b refl, sound.bounded Reservation a b, step.next.entries, step.next.recent)
     bounded Shipped a b = omega (arith, step.rows.others Shipped a b refl, sound.bounded Shipped a b, step.next.entries, step.next.recent)
     bounded OnHand a b = elim (cases_Bool (list_any (is_pair a b) sheet)) [
-      | inl e ↦ omega (arith, now a b, ap (λ (v : Bool). cond v (quantity_of sheet a b) (told (amount OnHand) a b old.rows)) e, is_sheet.little a b, step.next.entries, step.next.recent)
-      | inr e ↦ omega (arith, now a b, ap (λ (v : Bool). cond v (quantity_of sheet a b) (told (amount OnHand) a b old.rows)) e, sound.bounded OnHand a b, step.next.entries, step.next.recent)
+      | inl e ↦ omega (arith, now a b, ap (λ (v : Bool). cond v (quantity_of sheet a b) (of_pair (amount OnHand) a b old.rows)) e, is_sheet.little a b, step.next.entries, step.next.recent)
+      | inr e ↦ omega (arith, now a b, ap (λ (v : Bool). cond v (quantity_of sheet a b) (of_pair (amount OnHand) a b old.rows)) e, sound.bounded OnHand a b, step.next.entries, step.next.recent)
     ]
 
 -- What the page tells is what the events tell.
 
-since_shown : (p : PageFacts) (es : List Event) (a b : List ℕ) → Shows p es → since_events es a b ≡ told since a b p.rows
-since_shown p es a b shows = ap (λ (o : Option ℕ). unwrap_or o 0) (shows.sinces a b) ∙ by (told since a b p.rows)
+since_shown : (p : PageFacts) (es : List Event) (a b : List ℕ) → Shows p es → since_events es a b ≡ of_pair since a b p.rows
+since_shown p es a b shows = ap (λ (o : Option ℕ). unwrap_or o 0) (shows.sinces a b) ∙ by (of_pair since a b p.rows)
   where
     by : (t : ℕ) → unwrap_or (positive t) 0 ≡ t
     by t = elim (cases_Bool (eqb t 0)) [ inl e ↦ rw e (sym (eqb-true t 0 e)) | inr e ↦ rw e refl ]
 
-balance_shown : (p : PageFacts) (es : List Event) (c : Column) (a b : List ℕ) → Shows p es → balance es c a b ≡ told (amount c) a b p.rows
+balance_shown : (p : PageFacts) (es : List Event) (c : Column) (a b : List ℕ) → Shows p es → balance es c a b ≡ of_pair (amount c) a b p.rows
 balance_shown p es c a b shows = omega (arith, shows.amounts c a b)
 
 all_same : {X : Type 0} (p q : X → Bool) (xs : List X) → ((x : X) → p x ≡ q x) → list_all p xs ≡ list_all q xs
@@ -247,14 +247,14 @@ recounted_shows n sheet old new es follows step is_sheet shows =
     before : List Line
     before = on_hand_now es sheet
 
-    moved : (c : Column) (a b : List ℕ) → told (amount c) a b new.rows + given OnHand before c a b ≡ told (amount c) a b old.rows + given OnHand sheet c a b
+    moved : (c : Column) (a b : List ℕ) → of_pair (amount c) a b new.rows + given OnHand before c a b ≡ of_pair (amount c) a b old.rows + given OnHand sheet c a b
     moved Expected a b = omega (arith, step.rows.others Expected a b refl)
     moved Reservation a b = omega (arith, step.rows.others Reservation a b refl)
     moved Shipped a b = omega (arith, step.rows.others Shipped a b refl)
     moved OnHand a b =
-        let t = told (amount OnHand) a b old.rows in
+        let t = of_pair (amount OnHand) a b old.rows in
         let q = quantity_of sheet a b in
-        let now : told (amount OnHand) a b new.rows ≡ cond (list_any (is_pair a b) sheet) q t = step.rows.on_hand a b ∙ set_once a b sheet t (is_sheet.once a b) in
+        let now : of_pair (amount OnHand) a b new.rows ≡ cond (list_any (is_pair a b) sheet) q t = step.rows.on_hand a b ∙ set_once a b sheet t (is_sheet.once a b) in
         let was : quantity_of before a b ≡ cond (list_any (is_pair a b) sheet) (balance es OnHand a b) 0 = before_once (balance es OnHand) a b sheet (is_sheet.once a b) in
         elim (cases_Bool (list_any (is_pair a b) sheet)) [
           | inl e ↦ omega (arith, now, was, ap (λ (v : Bool). cond v q t) e, ap (λ (v : Bool). cond v (balance es OnHand a b) 0) e, balance_shown old es OnHand a b shows)

@@ -5,7 +5,7 @@ use Rattle.profile.specs.Rows.{LotRow}
 use Rattle.profile.specs.Means.{Line}
 use Rattle.profile.specs.Events.{is_pair}
 use Rattle.profile.specs.Movements.{Expected, OnHand}
-use Rattle.goods.specs.Told.{first_number}
+use Rattle.goods.specs.OfPairs.{first_number}
 use Rattle.goods.specs.Moved.{IsAdded, IsTaken, IsMarked, IsCounted}
 
 pub counted_made : (n : ℕ) (expected sheet : List Line) (r0 r1 r2 r3 : List LotRow)

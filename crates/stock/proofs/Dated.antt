@@ -9,12 +9,12 @@ use Rattle.profile.specs.Events.{is_pair, date_given}
 use Rattle.profile.specs.Movements.{Column, Expected, OnHand, Reservation, Shipped}
 use Rattle.goods.specs.Keyed.{IsSorted}
 use Rattle.goods.specs.Moved.{IsPlace, IsAdded, IsDated, IsAdvised}
-use Rattle.goods.specs.Told.{is_row, told, told_date, one, since, amount, named_by, date_of, dated}
+use Rattle.goods.specs.OfPairs.{is_row, of_pair, date_of_pair, one, since, amount, named_by, date_of, dated}
 use Rattle.goods.proofs.Dates.{date_set, date_here}
 use Rattle.goods.proofs.Finds.{or_else_none, or_else_assoc, first_found-append}
 use Rattle.goods.proofs.KeyLemmas.{sorted_kept}
 use Rattle.stock.proofs.Marks.{named_own}
-use Rattle.goods.proofs.Tells.{told_kept, row_at, row_as_line}
+use Rattle.goods.proofs.OfPairLemmas.{of_pair_kept, row_at, row_as_line}
 
 amount_dated : (c : Column) (date : Option (List ℕ)) (r : LotRow) → amount c (dated date r) ≡ amount c r
 amount_dated Expected date r = refl
@@ -29,25 +29,25 @@ dated_at line rows i r sorted place is =
     let at = row_at line.line rows i r place is in
     let y = dated line.expiry r in record {
       sorted = sorted_kept rows i r y sorted at.within is refl;
-      amounts = λ c a b. told_kept (amount c) line.line rows i r y at (λ a b. refl) (amount_dated c line.expiry r) a b;
-      sinces = λ a b. told_kept since line.line rows i r y at (λ a b. refl) refl a b;
+      amounts = λ c a b. of_pair_kept (amount c) line.line rows i r y at (λ a b. refl) (amount_dated c line.expiry r) a b;
+      sinces = λ a b. of_pair_kept since line.line rows i r y at (λ a b. refl) refl a b;
       expiries = λ a b. date_set a b rows i r y sorted at.within is refl ∙ by a b at.here (is_pair a b line.line) refl;
-      named = λ a b. told_kept one line.line rows i r y at (λ a b. refl) refl a b;
+      named = λ a b. of_pair_kept one line.line rows i r y at (λ a b. refl) refl a b;
     }
   where
     by : (a b : List ℕ) → is_row line.line.item line.line.lot r ≡ true → (v : Bool) → is_pair a b line.line ≡ v
-        → cond (is_row a b r) (or_else r.expiry line.expiry) (told_date a b rows) ≡ or_else (told_date a b rows) (date_of (line ∷ []) a b)
+        → cond (is_row a b r) (or_else r.expiry line.expiry) (date_of_pair a b rows) ≡ or_else (date_of_pair a b rows) (date_of (line ∷ []) a b)
     by a b own true e =
         let here : is_row a b r ≡ true = row_as_line a b line.line r own ∙ e in
-        let old : told_date a b rows ≡ r.expiry = date_here a b rows i r sorted place.within is here in
-        ap (λ (v : Bool). cond v (or_else r.expiry line.expiry) (told_date a b rows)) here
+        let old : date_of_pair a b rows ≡ r.expiry = date_here a b rows i r sorted place.within is here in
+        ap (λ (v : Bool). cond v (or_else r.expiry line.expiry) (date_of_pair a b rows)) here
         ∙ ap (λ (o : Option (List ℕ)). or_else o line.expiry) (sym old)
-        ∙ ap (or_else (told_date a b rows)) (sym (or_else_none line.expiry) ∙ ap (λ (v : Bool). or_else (cond v line.expiry None) None) (sym e))
+        ∙ ap (or_else (date_of_pair a b rows)) (sym (or_else_none line.expiry) ∙ ap (λ (v : Bool). or_else (cond v line.expiry None) None) (sym e))
     by a b own false e =
         let away : is_row a b r ≡ false = row_as_line a b line.line r own ∙ e in
-        ap (λ (v : Bool). cond v (or_else r.expiry line.expiry) (told_date a b rows)) away
-        ∙ sym (or_else_none (told_date a b rows))
-        ∙ ap (λ (v : Bool). or_else (told_date a b rows) (or_else (cond v line.expiry None) None)) (sym e)
+        ap (λ (v : Bool). cond v (or_else r.expiry line.expiry) (date_of_pair a b rows)) away
+        ∙ sym (or_else_none (date_of_pair a b rows))
+        ∙ ap (λ (v : Bool). or_else (date_of_pair a b rows) (or_else (cond v line.expiry None) None)) (sym e)
 
 pub dated_more : (lines : List AdviceLine) (i : ℕ) (l : AdviceLine) (old mid new : List LotRow) → i < length lines → l ≡ get_or lines i l
     → IsDated (take i lines) old mid → IsDated (l ∷ []) mid new → IsDated (take (i + 1) lines) old new
@@ -58,14 +58,14 @@ dated_more lines i l old mid new within is first next =
       amounts = λ c a b. next.amounts c a b ∙ first.amounts c a b;
       sinces = λ a b. next.sinces a b ∙ first.sinces a b;
       expiries = λ a b. next.expiries a b ∙ ap (λ (o : Option (List ℕ)). or_else o (date_of (l ∷ []) a b)) (first.expiries a b)
-          ∙ or_else_assoc (told_date a b old) (date_of (take i lines) a b) (date_of (l ∷ []) a b)
-          ∙ ap (or_else (told_date a b old)) (sym (first_found-append (date_given a b) (take i lines) (l ∷ [])));
+          ∙ or_else_assoc (date_of_pair a b old) (date_of (take i lines) a b) (date_of (l ∷ []) a b)
+          ∙ ap (or_else (date_of_pair a b old)) (sym (first_found-append (date_given a b) (take i lines) (l ∷ [])));
       named = λ a b. next.named a b ∙ first.named a b;
     })
 
 pub next_dated : (lines : List AdviceLine) (i : ℕ) (l : AdviceLine) (old mid : List LotRow) → i < length lines → l ≡ get_or lines i l
-    → IsDated (take i lines) old mid → ((a b : List ℕ) → named_by (map (λ l. l.line) lines) a b ≤ told one a b old)
-    → 1 ≤ told one l.line.item l.line.lot mid
+    → IsDated (take i lines) old mid → ((a b : List ℕ) → named_by (map (λ l. l.line) lines) a b ≤ of_pair one a b old)
+    → 1 ≤ of_pair one l.line.item l.line.lot mid
 next_dated lines i l old mid within is first there =
     let goods : AdviceLine → Line = λ k. k.line in
     let inside : i < length (map goods lines) = omega (arith, within, length-map lines goods) in

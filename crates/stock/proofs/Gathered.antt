@@ -43,8 +43,8 @@ none_more p is (x ∷ xs) none = elim (cases_Bool (is x)) [
 ]
 
 module _ {X K : Type 0} (less : K → K → Bool) (strict : IsStrict less) (key : X → K) where
-  put_behind : (x z : X) (ys : List X) → less (key x) (key z) ≡ true → put_by less key z (x ∷ ys) ≡ x ∷ put_by less key z ys
-  put_behind x z ys before = elim (cases_Bool (less (key z) (key x))) [
+  put_later : (x z : X) (ys : List X) → less (key x) (key z) ≡ true → put_by less key z (x ∷ ys) ≡ x ∷ put_by less key z ys
+  put_later x z ys before = elim (cases_Bool (less (key z) (key x))) [
     | inl f ↦ absurd (both_ways (less (key x) (key x)) (strict.never (key x)) (strict.through (key x) (key z) (key x) before f))
     | inr f ↦ rw (f, before) refl
   ]
@@ -58,7 +58,7 @@ module _ {X K : Type 0} (less : K → K → Bool) (strict : IsStrict less) (key 
   puts_after x ys [] all = refl
   puts_after x ys (z ∷ zs) all =
       let a = and_parts (less (key x) (key z)) (list_all (λ z. less (key x) (key z)) zs) all in
-      ap (λ (us : List X). fold (λ (ws : List X) (z : X). put_by less key z ws) us zs) (put_behind x z ys a.0)
+      ap (λ (us : List X). fold (λ (ws : List X) (z : X). put_by less key z ws) us zs) (put_later x z ys a.0)
       ∙ puts_after x (put_by less key z ys) zs a.1
 
   -- what passes one test, put into what passes another

@@ -16,9 +16,9 @@ use Rattle.profile.specs.Cut.{Segment, cut, element, has_id, places_of}
 use Rattle.profile.specs.Events.{Event, Advised, Ordered, Acknowledged, advice_fault, order_fault}
 use Rattle.profile.specs.Faults.{SetFault, set_fault}
 use Rattle.profile.specs.History.{Rejection, unless, traded, judged, by_segment, outcome_of, event_of, verdicts_on, telling_of, events_told, tellings_on, events_added}
-use Rattle.profile.specs.Limits.{most_lines, most_quantity, most_recounted, most_item, most_lot, most_number}
+use Rattle.profile.specs.Limits.{most_lines, most_quantity, most_recounted, most_item, most_lot, most_number, most_sets}
 use Rattle.profile.specs.Header.{delims_of}
-use Rattle.profile.specs.Refusals.{Refusal}
+use Rattle.profile.specs.declared.refusals.Refusal.{Refusal}
 use Rattle.profile.specs.Register.{Act, Count, Pick, Recount, Received, Performed}
 use Rattle.profile.specs.Clerk.{SheetKind as Sheets, CountSheet, PickSheet, RecountSheet, quantity_limit, least_quantity, is_sheet_line, is_sheet, is_ascending, is_act, performed}
 use Rattle.profile.specs.Means.{Line, AdviceLine, advice_of, advice_line, order_of, acknowledgment_of, segment_at}
@@ -81,7 +81,7 @@ event_is None e f h = (refl, cc (h))
 event_is (Some x) e f h = absurd (cc (h))
 
 traded_more : (r : Rules) (d : Delims) (p : PageFacts) (es : List Event) (n : ℕ) (kind : SetKind) (ss : List Segment) (e : Event)
-    → IsSound p → Shows p es → p.recent < 1000 → n ≡ p.entries + 1
+    → IsSound p → Shows p es → p.recent < most_sets → n ≡ p.entries + 1
     → set_fault r d (kind_words r kind) ss ≡ None → traded r es n kind ss ≡ Ok e → (q : PageFacts) × IsOneMore p es e q
 traded_more r d p es n ShipmentAdvice ss e sound shows room follows none is =
     let a = advice_of ss in
@@ -99,7 +99,7 @@ traded_more r d p es n FunctionalAcknowledgment ss e sound shows room follows no
     subst (λ (x : Event). (q : PageFacts) × IsOneMore p es x q) same (acknowledged_more p es a sound shows room)
 
 judged_more : (r : Rules) (d : Delims) (p : PageFacts) (es : List Event) (n : ℕ) (kind : SetKind) (ss : List Segment) (e : Event)
-    → IsSound p → Shows p es → p.recent < 1000 → n ≡ p.entries + 1
+    → IsSound p → Shows p es → p.recent < most_sets → n ≡ p.entries + 1
     → judged r d es n kind ss ≡ Ok e → (q : PageFacts) × IsOneMore p es e q
 judged_more r d p es n kind ss e sound shows room follows is = by (set_fault r d (kind_words r kind) ss) refl
   where
@@ -114,7 +114,7 @@ segment_ok (Ok f) e h = ap Ok (cc (h))
 segment_ok (Err f) e h = absurd (cc (h))
 
 set_more : (r : Rules) (d : Delims) (p : PageFacts) (es : List Event) (n : ℕ) (kind : Option SetKind) (code : Option ℕ) (s : Set) (e : Event)
-    → IsSound p → Shows p es → p.recent < 1000
+    → IsSound p → Shows p es → p.recent < most_sets
     → n ≡ p.entries + 1 → outcome_of r d es n kind code s ≡ Ok e → (q : PageFacts) × IsOneMore p es e q
 set_more r d p es n kind (Some code) s e sound shows room follows is = absurd (cc (is))
 set_more r d p es n None None s e sound shows room follows is = absurd (cc (is))
@@ -148,7 +148,7 @@ both_more p q r es fs gs a b first second = record {
 }
 
 outcome_more : (r : Rules) (d : Delims) (p : PageFacts) (es : List Event) (n : ℕ) (kind : Option SetKind) (code : Option ℕ) (s : Set)
-    (o : Result Event Rejection) → IsSound p → Shows p es → p.recent < 1000 → n ≡ p.entries + 1 → outcome_of r d es n kind code s ≡ o
+    (o : Result Event Rejection) → IsSound p → Shows p es → p.recent < most_sets → n ≡ p.entries + 1 → outcome_of r d es n kind code s ≡ o
     → (q : PageFacts) × IsMore p es (option_to_list (event_of (record { set = s; outcome = o }))) 1 q
 outcome_more r d p es n kind code s (Ok e) sound shows room follows is =
     let m = set_more r d p es n kind code s e sound shows room follows is in
@@ -161,7 +161,7 @@ cons_same (Some e) fs = refl
 
 sets_more : (r : Rules) (d : Delims) (p : PageFacts) (es : List Event) (n : ℕ) (kind : Option SetKind) (ps : List (Set × Option ℕ))
     → IsSound p → Shows p es
-    → p.recent + length ps ≤ 1000 → n ≡ p.entries + 1
+    → p.recent + length ps ≤ most_sets → n ≡ p.entries + 1
     → (q : PageFacts) × IsMore p es (filter_map event_of (verdicts_on r d es n kind ps)) (length ps) q
 sets_more r d p es n kind [] sound shows room follows = (p, none_more p es 0 sound shows)
 sets_more r d p es n kind (s ∷ ps) sound shows room follows =
@@ -187,7 +187,7 @@ examined_length kind earlier [] = refl
 examined_length kind earlier (s ∷ ss) = ap (λ (k : ℕ). suc k) (examined_length kind (control_of s ∷ earlier) ss)
 
 group_more : (r : Rules) (d : Delims) (p : PageFacts) (es : List Event) (n : ℕ) (g : Group) → IsSound p → Shows p es
-    → p.recent + length g.sets ≤ 1000 → n ≡ p.entries + 1
+    → p.recent + length g.sets ≤ most_sets → n ≡ p.entries + 1
     → (q : PageFacts) × IsMore p es (events_told (telling_of r d es n g)) (length g.sets) q
 group_more r d p es n g sound shows room follows = by (is_none (group_fault g))
   where
@@ -202,7 +202,7 @@ group_more r d p es n g sound shows room follows = by (is_none (group_fault g))
     by false = (p, none_more p es (length g.sets) sound shows)
 
 groups_more : (r : Rules) (d : Delims) (p : PageFacts) (es : List Event) (n : ℕ) (gs : List Group) → IsSound p → Shows p es
-    → p.recent + sum_by (λ g. length g.sets) gs ≤ 1000 → n ≡ p.entries + 1
+    → p.recent + sum_by (λ g. length g.sets) gs ≤ most_sets → n ≡ p.entries + 1
     → (q : PageFacts) × IsMore p es (flat_map events_told (tellings_on r d es n gs)) (sum_by (λ g. length g.sets) gs) q
 groups_more r d p es n [] sound shows room follows = (p, none_more p es 0 sound shows)
 groups_more r d p es n (g ∷ gs) sound shows room follows =
@@ -217,7 +217,7 @@ groups_more r d p es n (g ∷ gs) sound shows room follows =
 
 -- the events of an interchange
 pub received_more : (r : Rules) (p : PageFacts) (es : List Event) (n : ℕ) (text : List ℕ) → IsSound p → Shows p es
-    → p.recent + sum_by (λ g. length g.sets) (groups_of ((cut (delims_of text) text).segments)) ≤ 1000
+    → p.recent + sum_by (λ g. length g.sets) (groups_of ((cut (delims_of text) text).segments)) ≤ most_sets
     → n ≡ p.entries + 1
     → (q : PageFacts) × IsMore p es (events_added r es n (Received text)) (sum_by (λ g. length g.sets) (groups_of ((cut (delims_of text) text).segments))) q
 received_more r p es n text sound shows room follows =
@@ -262,7 +262,7 @@ sheet_is r kind ls h =
     let q = and_parts (nat_le (length ls) (most_lines r)) (list_all (is_sheet_line r kind) ls) p.0 in
     sheet_facts ls (both_true (both_true (le-leb (length ls) (most_lines Two) (omega (arith, leb-true (length ls) (most_lines r) q.0, few r))) (widened_lines r kind ls q.1)) p.1)
 
-act_more : (r : Rules) (p : PageFacts) (es : List Event) (n : ℕ) (act : Act) (e : Event) → IsSound p → Shows p es → p.recent < 1000
+act_more : (r : Rules) (p : PageFacts) (es : List Event) (n : ℕ) (act : Act) (e : Event) → IsSound p → Shows p es → p.recent < most_sets
     → n ≡ p.entries + 1 → is_act r act ≡ true
     → performed es n act ≡ Ok e → (q : PageFacts) × IsOneMore p es e q
 act_more r p es n (Count shipment sheet) e sound shows room follows good is =
@@ -280,7 +280,7 @@ added_of (Err r) = []
 
 -- the event of an act, if it was performed
 pub performed_more : (r : Rules) (p : PageFacts) (es : List Event) (n : ℕ) (ticket : List ℕ) (act : Act) → IsSound p → Shows p es
-    → p.recent < 1000 → n ≡ p.entries + 1 → is_act r act ≡ true
+    → p.recent < most_sets → n ≡ p.entries + 1 → is_act r act ≡ true
     → (q : PageFacts) × IsMore p es (events_added r es n (Performed ticket act)) 1 q
 performed_more r p es n ticket act sound shows room follows good = by (performed es n act) refl
   where

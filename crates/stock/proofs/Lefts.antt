@@ -9,34 +9,34 @@ use Rattle.profile.specs.Rows.{LotRow}
 use Rattle.goods.specs.Keyed.{IsSorted}
 use Rattle.stock.specs.Left.{IsLeft, IsLess}
 use Rattle.goods.specs.Moved.{IsPlace}
-use Rattle.goods.specs.Told.{blank, is_row, one, told}
+use Rattle.goods.specs.OfPairs.{blank, is_row, one, of_pair}
 use Rattle.goods.proofs.KeyLemmas.{sorted_distinct}
 use Rattle.goods.proofs.Pairs.{quantity_no, quantity_yes}
 use Rattle.stock.proofs.SoundLaws.{all_open, at_most, every_open, open_pass, opens, taken_next, taken_sum}
 use Rattle.goods.proofs.Sums.{own_pair, quantity_as, share}
-use Rattle.goods.proofs.Tells.{part_no, part_yes, pair_is, row_as_line, told_absent, told_cons, told_here, told_there}
+use Rattle.goods.proofs.OfPairLemmas.{part_no, part_yes, pair_is, row_as_line, of_pair_absent, of_pair_cons, of_pair_here, of_pair_there}
 
 -- a pair that is told of has a row
-pub place_found : (a b : List ℕ) (rows : List LotRow) → 1 ≤ told one a b rows → (i : ℕ) × IsPlace a b rows i
+pub place_found : (a b : List ℕ) (rows : List LotRow) → 1 ≤ of_pair one a b rows → (i : ℕ) × IsPlace a b rows i
 place_found a b [] h = absurd (omega (arith, h))
 place_found a b (r ∷ rows) h = elim (cases_Bool (is_row a b r)) [
   | inl e ↦ (0, record { within = omega arith; here = λ d. e })
   | inr e ↦
-      let m = place_found a b rows (omega (arith, h, told_cons one a b r rows, part_no one a b r e)) in
+      let m = place_found a b rows (omega (arith, h, of_pair_cons one a b r rows, part_no one a b r e)) in
       (suc m.0, record { within = omega (arith, m.1.within); here = m.1.here })
 ]
 
 -- and one row where pairs are distinct
-pub place_once : (a b : List ℕ) (rows : List LotRow) (i j : ℕ) → IsPlace a b rows i → IsPlace a b rows j → told one a b rows ≤ 1 → i ≡ j
+pub place_once : (a b : List ℕ) (rows : List LotRow) (i j : ℕ) → IsPlace a b rows i → IsPlace a b rows j → of_pair one a b rows ≤ 1 → i ≡ j
 place_once a b [] i j p q few = absurd (omega (arith, p.within))
 place_once a b (r ∷ rows) zero zero p q few = refl
 place_once a b (r ∷ rows) zero (suc j) p q few =
-    absurd (omega (arith, few, told_cons one a b r rows, part_yes one a b r (p.here r), told_there a b rows j r (omega (arith, q.within)) (q.here r)))
+    absurd (omega (arith, few, of_pair_cons one a b r rows, part_yes one a b r (p.here r), of_pair_there a b rows j r (omega (arith, q.within)) (q.here r)))
 place_once a b (r ∷ rows) (suc i) zero p q few =
-    absurd (omega (arith, few, told_cons one a b r rows, part_yes one a b r (q.here r), told_there a b rows i r (omega (arith, p.within)) (p.here r)))
+    absurd (omega (arith, few, of_pair_cons one a b r rows, part_yes one a b r (q.here r), of_pair_there a b rows i r (omega (arith, p.within)) (p.here r)))
 place_once a b (r ∷ rows) (suc i) (suc j) p q few =
     ap suc (place_once a b rows i j (record { within = omega (arith, p.within); here = p.here }) (record { within = omega (arith, q.within); here = q.here })
-    (omega (arith, few, told_cons one a b r rows)))
+    (omega (arith, few, of_pair_cons one a b r rows)))
 
 -- at first all is left
 pub left_first : (f : LotRow → ℕ) (rows : List LotRow) (left : List ℕ) → IsSorted rows → left ≡ map f rows → IsLeft f (λ a b. 0) rows left
@@ -48,14 +48,14 @@ left_first f rows left sorted is = record {
         arith,
         ap (λ (l : List ℕ). get_or l i d) is,
         get_or-map f rows i r d place.within,
-        told_here f a b rows i r place.within (place.here r) (sorted_distinct rows sorted a b),
+        of_pair_here f a b rows i r place.within (place.here r) (sorted_distinct rows sorted a b),
       );
   absent = λ a b none. refl;
 }
 
 -- what was taken was there
-pub left_most : (f : LotRow → ℕ) (taken : List ℕ → List ℕ → ℕ) (rows : List LotRow) (left : List ℕ) → IsLeft f taken rows left → (a b : List ℕ) → taken a b ≤ told f a b rows
-left_most f taken rows left is a b = elim (cases_eq (told one a b rows) 0) [
+pub left_most : (f : LotRow → ℕ) (taken : List ℕ → List ℕ → ℕ) (rows : List LotRow) (left : List ℕ) → IsLeft f taken rows left → (a b : List ℕ) → taken a b ≤ of_pair f a b rows
+left_most f taken rows left is a b = elim (cases_eq (of_pair one a b rows) 0) [
   | inl none ↦ omega (arith, is.absent a b none)
   | inr some ↦ let m = place_found a b rows (omega (arith, some)) in omega (arith, is.here a b m.0 0 m.1)
 ]
@@ -72,7 +72,7 @@ given_nothing : (a b : List ℕ) (line : Line) → line.quantity ≡ 0 → quant
 given_nothing a b line none = elim (cases_Bool (is_pair a b line)) [ inl e ↦ given_yes a b line e ∙ none | inr e ↦ given_no a b line e ]
 
 -- of a pair without a row only nothing can be taken
-pub less_none : (line : Line) (rows : List LotRow) (left : List ℕ) (enough : Bool) → told one line.item line.lot rows ≡ 0 → enough ≡ eqb line.quantity 0
+pub less_none : (line : Line) (rows : List LotRow) (left : List ℕ) (enough : Bool) → of_pair one line.item line.lot rows ≡ 0 → enough ≡ eqb line.quantity 0
     → IsLess rows (quantity_of (line ∷ [])) left left enough
 less_none line rows left enough none is = record {
   beside = refl;
@@ -87,7 +87,7 @@ less_none line rows left enough none is = record {
       absurd (some (omega (
         arith,
         all line.item line.lot,
-        told_absent f line.item line.lot rows none,
+        of_pair_absent f line.item line.lot rows none,
         given_yes line.item line.lot line (own_pair line),
       )));
 }
@@ -137,7 +137,7 @@ less_taken line rows left i d less sorted same place is = record {
     absent = λ a b none. elim (cases_Bool (is_pair a b line)) [
       | inl e ↦
           let r = blank line in
-          absurd (omega (arith, none, told_there a b rows i r place.within (row_as_line a b line (get_or rows i r) (place.here r) ∙ e)))
+          absurd (omega (arith, none, of_pair_there a b rows i r place.within (row_as_line a b line (get_or rows i r) (place.here r) ∙ e)))
       | inr e ↦ omega (arith, l.absent a b none, given_no a b line e)
     ];
   };
@@ -246,18 +246,18 @@ module _ {X : Type 0} (is_open : X → Bool) (lines : X → List Line) where
   -- from the amounts of the rows all can be taken just where each line of what is open passes
   pub taken_once : (f : LotRow → ℕ) (rows : List LotRow) (ks : List X) (left new : List ℕ) (enough : Bool) → IsSorted rows → left ≡ map f rows
       → IsLess rows (opens is_open lines ks) left new enough
-      → enough ≡ all_open is_open lines (λ l. nat_le (opens is_open lines ks l.item l.lot) (told f l.item l.lot rows)) ks
+      → enough ≡ all_open is_open lines (λ l. nat_le (opens is_open lines ks l.item l.lot) (of_pair f l.item l.lot rows)) ks
   taken_once f rows ks left new true sorted is less =
       let l = less.went refl f (λ a b. 0) (left_first f rows left sorted is) in
-      sym (every_open is_open lines (λ l. nat_le (opens is_open lines ks l.item l.lot) (told f l.item l.lot rows))
+      sym (every_open is_open lines (λ l. nat_le (opens is_open lines ks l.item l.lot) (of_pair f l.item l.lot rows))
       (λ m. le-leb _ _ (omega (arith, left_most f (λ a b. 0 + opens is_open lines ks a b) rows new l m.item m.lot))) ks)
   taken_once f rows ks left new false sorted is less =
-      let passes : Line → Bool = λ l. nat_le (opens is_open lines ks l.item l.lot) (told f l.item l.lot rows) in
+      let passes : Line → Bool = λ l. nat_le (opens is_open lines ks l.item l.lot) (of_pair f l.item l.lot rows) in
       elim (cases_Bool (all_open is_open lines passes ks)) [
         | inr e ↦ sym e
         | inl e ↦ absurd (less.short refl f (λ a b. 0) (left_first f rows left sorted is) (λ a b. omega (
           arith,
-          at_most (opens is_open lines ks a b) (told f a b rows)
-              (open_pass is_open lines passes (λ a b. nat_le (opens is_open lines ks a b) (told f a b rows)) (λ l. refl) a b ks e),
+          at_most (opens is_open lines ks a b) (of_pair f a b rows)
+              (open_pass is_open lines passes (λ a b. nat_le (opens is_open lines ks a b) (of_pair f a b rows)) (λ l. refl) a b ks e),
         )))
       ]

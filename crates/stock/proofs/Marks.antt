@@ -9,12 +9,12 @@ use Rattle.profile.specs.Rows.{LotRow}
 use Rattle.profile.specs.Means.{Line}
 use Rattle.profile.specs.Events.{is_pair}
 use Rattle.profile.specs.Movements.{Column, Expected, OnHand, Reservation, Shipped}
-use Rattle.goods.specs.Told.{is_row, told, one, since, amount, named_by, marked, positive, first_number}
+use Rattle.goods.specs.OfPairs.{is_row, of_pair, one, since, amount, named_by, marked, positive, first_number}
 use Rattle.goods.specs.Keyed.{IsSorted}
 use Rattle.goods.specs.Moved.{IsPlace, IsMarked}
 use Rattle.goods.proofs.Dates.{date_kept}
 use Rattle.goods.proofs.KeyLemmas.{sorted_distinct, sorted_kept}
-use Rattle.goods.proofs.Tells.{part, part_yes, part_no, told_set, told_kept, told_here, row_at, row_as_line}
+use Rattle.goods.proofs.OfPairLemmas.{part, part_yes, part_no, of_pair_set, of_pair_kept, of_pair_here, row_at, row_as_line}
 use Rattle.goods.proofs.Sums.{own_pair}
 
 pub first_no : (n x : ℕ) → first_number n false x ≡ x
@@ -48,18 +48,18 @@ marked_at n line rows i r sorted place is =
     let at = row_at line rows i r place is in
     let y = marked n r in record {
       sorted = sorted_kept rows i r y sorted at.within is refl;
-      amounts = λ c a b. told_kept (amount c) line rows i r y at (λ a b. refl) (amount_marked c n r) a b;
+      amounts = λ c a b. of_pair_kept (amount c) line rows i r y at (λ a b. refl) (amount_marked c n r) a b;
       sinces = λ a b. elim (cases_Bool (is_pair a b line)) [
         | inl e ↦ let here : is_row a b r ≡ true = row_as_line a b line r at.here ∙ e in
-            let old : told since a b rows ≡ since r = told_here since a b rows i r place.within (ap (is_row a b) (sym is) ∙ here) (distinct a b) ∙ ap since (sym is) in
-            let t : told since a b (set rows i y) ≡ since y = omega (arith, told_set since a b rows i y r place.within, ap (part since a b) is, part_yes since a b r here, part_yes since a b y here, old) in
-            t ∙ ap (first_number n true) (sym old) ∙ ap (λ (v : Bool). first_number n v (told since a b rows)) (sym (or_false (is_pair a b line) ∙ e))
+            let old : of_pair since a b rows ≡ since r = of_pair_here since a b rows i r place.within (ap (is_row a b) (sym is) ∙ here) (distinct a b) ∙ ap since (sym is) in
+            let t : of_pair since a b (set rows i y) ≡ since y = omega (arith, of_pair_set since a b rows i y r place.within, ap (part since a b) is, part_yes since a b r here, part_yes since a b y here, old) in
+            t ∙ ap (first_number n true) (sym old) ∙ ap (λ (v : Bool). first_number n v (of_pair since a b rows)) (sym (or_false (is_pair a b line) ∙ e))
         | inr e ↦ let here : is_row a b r ≡ false = row_as_line a b line r at.here ∙ e in
-            let t : told since a b (set rows i y) ≡ told since a b rows = omega (arith, told_set since a b rows i y r place.within, ap (part since a b) is, part_no since a b r here, part_no since a b y here) in
-            t ∙ sym (first_no n (told since a b rows)) ∙ ap (λ (v : Bool). first_number n v (told since a b rows)) (sym (or_false (is_pair a b line) ∙ e))
+            let t : of_pair since a b (set rows i y) ≡ of_pair since a b rows = omega (arith, of_pair_set since a b rows i y r place.within, ap (part since a b) is, part_no since a b r here, part_no since a b y here) in
+            t ∙ sym (first_no n (of_pair since a b rows)) ∙ ap (λ (v : Bool). first_number n v (of_pair since a b rows)) (sym (or_false (is_pair a b line) ∙ e))
       ];
       expiries = date_kept rows i r y sorted at.within is refl refl;
-      named = λ a b. told_kept one line rows i r y at (λ a b. refl) refl a b;
+      named = λ a b. of_pair_kept one line rows i r y at (λ a b. refl) refl a b;
     }
 
 pub marked_more : (n : ℕ) (lines : List Line) (i : ℕ) (l : Line) (old mid new : List LotRow) → 0 < n → i < length lines → l ≡ get_or lines i l
@@ -70,8 +70,8 @@ marked_more n lines i l old mid new positive within is first next =
       sorted = next.sorted;
       amounts = λ c a b. next.amounts c a b ∙ first.amounts c a b;
       sinces = λ a b. next.sinces a b ∙ ap (first_number n (list_any (is_pair a b) (l ∷ []))) (first.sinces a b)
-          ∙ first_twice n (told since a b old) (list_any (is_pair a b) (take i lines)) (list_any (is_pair a b) (l ∷ [])) positive
-          ∙ ap (λ (v : Bool). first_number n v (told since a b old)) (sym (list_any-append (is_pair a b) (take i lines) (l ∷ [])));
+          ∙ first_twice n (of_pair since a b old) (list_any (is_pair a b) (take i lines)) (list_any (is_pair a b) (l ∷ [])) positive
+          ∙ ap (λ (v : Bool). first_number n v (of_pair since a b old)) (sym (list_any-append (is_pair a b) (take i lines) (l ∷ [])));
       expiries = λ a b. next.expiries a b ∙ first.expiries a b;
       named = λ a b. next.named a b ∙ first.named a b;
     })
@@ -81,7 +81,7 @@ pub named_own : (lines : List Line) (i : ℕ) (l : Line) → i < length lines �
 named_own lines i l within is = ap (λ (v : Bool). cond v 1 0) (list_any_at (is_pair l.item l.lot) lines i l within (ap (is_pair l.item l.lot) (sym is) ∙ own_pair l))
 
 pub next_named : (n : ℕ) (lines : List Line) (i : ℕ) (l : Line) (old mid : List LotRow) → i < length lines → l ≡ get_or lines i l
-    → IsMarked n (take i lines) old mid → ((a b : List ℕ) → named_by lines a b ≤ told one a b old) → 1 ≤ told one l.item l.lot mid
+    → IsMarked n (take i lines) old mid → ((a b : List ℕ) → named_by lines a b ≤ of_pair one a b old) → 1 ≤ of_pair one l.item l.lot mid
 next_named n lines i l old mid within is first there = omega (arith, first.named l.item l.lot, there l.item l.lot, named_own lines i l within is)
 
 -- the first count that names a pair, after one more

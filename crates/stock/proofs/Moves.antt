@@ -11,7 +11,7 @@ use Rattle.profile.specs.Means.{Line, AdviceLine, Advice, advised, OrderLine}
 use Rattle.profile.specs.Limits.{most_lines, most_quantity}
 use Rattle.profile.specs.Events.{Event, is_pair, quantity_of}
 use Rattle.profile.specs.Movements.{Column, column_eq, Movement, comes, goes, moves, came_to, went_from}
-use Rattle.goods.specs.Told.{given}
+use Rattle.goods.specs.OfPairs.{given}
 use Rattle.sets_in.specs.Limits.{HasFewLines, HasFewOrderLines}
 use Rattle.goods.proofs.Sums.{share, quantity_as}
 

@@ -4,6 +4,7 @@ use Rattle.std.proofs.lemmas.Bool.{cases_Bool, eqb-false}
 use Rattle.std.proofs.lemmas.Slice.Eq.{bytes_eq-Decides}
 use Rattle.std.specs.Prelude.{codes}
 use Rattle.std.specs.List.{list_any, list_all}
+use Rattle.profile.specs.Limits.{most_sets}
 use Rattle.profile.specs.Events.{Event, Counted, Picked, Recounted, is_pair, quantity_of}
 use Rattle.profile.specs.Clerk.{counted, picked, recounted, on_hand_now}
 use Rattle.profile.specs.Means.{Line}
@@ -15,7 +16,7 @@ use Rattle.goods.specs.Moved.{IsCounted, IsShipped, IsSet, set_by}
 use Rattle.goods.specs.Pages.{PageFacts, IsSound, is_shipment, is_number, advice_at, order_at}
 use Rattle.stock.specs.Shows.{Shows}
 use Rattle.goods.specs.Steps.{closed_advice, closed_order, with_sent, exceeds, is_unknown, is_below, is_on_hand, IsReceived, IsPicked, IsRecounted}
-use Rattle.goods.specs.Told.{told, told_date, one, since, amount, given, first_number}
+use Rattle.goods.specs.OfPairs.{of_pair, date_of_pair, one, since, amount, given, first_number}
 use Rattle.goods.proofs.Dates.{date_absent}
 use Rattle.stock.proofs.Existing.{rows_made}
 use Rattle.goods.proofs.Pairs.{IsSheet}
@@ -23,7 +24,7 @@ use Rattle.goods.proofs.Finds.{found_says}
 use Rattle.stock.proofs.Corrects.{recounted_unknown, recounted_below, recounted_same, recounted_ok, recounted_sound, recounted_shows}
 use Rattle.stock.proofs.Ships.{held_there, within_reserved, order_known, picked_unknown, picked_closed, picked_excess, picked_ok, picked_sound, picked_shows}
 use Rattle.stock.proofs.Receives.{given_at_most, expected_there, advice_known, counted_unknown, counted_closed, counted_ok, received_sound, received_shows}
-use Rattle.goods.proofs.Tells.{told_absent, pair_is}
+use Rattle.goods.proofs.OfPairLemmas.{of_pair_absent, pair_is}
 use Rattle.stock.proofs.OneMore.{IsOneMore, neither, unnamed}
 
 -- A count.
@@ -32,7 +33,7 @@ same_ok : {X Y : Type 0} (r : Result X Y) (x y : X) → r ≡ Ok x → r ≡ Ok 
 same_ok r x y h k = cc (h, k)
 
 rows_counted : (n : ℕ) (lines sheet : List Line) (p : PageFacts) → IsSound p
-    → ((a b : List ℕ) → quantity_of lines a b ≤ told (amount Expected) a b p.rows)
+    → ((a b : List ℕ) → quantity_of lines a b ≤ of_pair (amount Expected) a b p.rows)
     → (new : List LotRow) × IsCounted n lines sheet p.rows new
 rows_counted n lines sheet p sound enough =
     let m = rows_made date number left sheet p.rows sound.sorted.rows nothing in (
@@ -47,30 +48,30 @@ rows_counted n lines sheet p sound enough =
     )
   where
     date : List ℕ → List ℕ → Option (List ℕ)
-    date a b = told_date a b p.rows
+    date a b = date_of_pair a b p.rows
 
     number : List ℕ → List ℕ → ℕ
-    number a b = first_number n (list_any (is_pair a b) sheet) (told since a b p.rows)
+    number a b = first_number n (list_any (is_pair a b) sheet) (of_pair since a b p.rows)
 
     left : Column → List ℕ → List ℕ → ℕ
-    left c a b = told (amount c) a b p.rows + given OnHand sheet c a b - given Expected lines c a b
+    left c a b = of_pair (amount c) a b p.rows + given OnHand sheet c a b - given Expected lines c a b
 
-    within : (c : Column) (a b : List ℕ) → given Expected lines c a b ≤ told (amount c) a b p.rows
+    within : (c : Column) (a b : List ℕ) → given Expected lines c a b ≤ of_pair (amount c) a b p.rows
     within Expected a b = enough a b
     within OnHand a b = omega arith
     within Reservation a b = omega arith
     within Shipped a b = omega arith
 
-    nothing : (a b : List ℕ) → told one a b p.rows ≡ 0 → list_any (is_pair a b) sheet ≡ false
+    nothing : (a b : List ℕ) → of_pair one a b p.rows ≡ 0 → list_any (is_pair a b) sheet ≡ false
         → (number a b ≡ 0) × ((c : Column) → left c a b ≡ 0) × (date a b ≡ None)
     nothing a b none unnamed_it = (
-      rw (unnamed_it, told_absent since a b p.rows none) refl,
-      λ c. omega (arith, told_absent (amount c) a b p.rows none, given_at_most OnHand sheet c a b, unnamed a b sheet unnamed_it),
+      rw (unnamed_it, of_pair_absent since a b p.rows none) refl,
+      λ c. omega (arith, of_pair_absent (amount c) a b p.rows none, given_at_most OnHand sheet c a b, unnamed a b sheet unnamed_it),
       date_absent a b p.rows sound.sorted.rows none,
     )
 
 pub counted_more : (p : PageFacts) (es : List Event) (n : ℕ) (s : List ℕ) (sheet : List Line) (e : Event) → IsSound p
-    → Shows p es → p.recent < 1000
+    → Shows p es → p.recent < most_sets
     → n ≡ p.entries + 1 → IsSheet sheet → counted es n s sheet ≡ Ok e → (q : PageFacts) × IsOneMore p es e q
 counted_more p es n s sheet e sound shows room follows is_sheet is = by (advice_at s p.advices) refl
   where
@@ -117,7 +118,7 @@ counted_more p es n s sheet e sound shows room follows is_sheet is = by (advice_
 -- A pick.
 
 rows_shipped : (reserved sheet : List Line) (p : PageFacts) → IsSound p
-    → ((a b : List ℕ) → quantity_of reserved a b ≤ told (amount Reservation) a b p.rows)
+    → ((a b : List ℕ) → quantity_of reserved a b ≤ of_pair (amount Reservation) a b p.rows)
     → ((a b : List ℕ) → quantity_of sheet a b ≤ quantity_of reserved a b)
     → (new : List LotRow) × IsShipped reserved sheet p.rows new
 rows_shipped reserved sheet p sound enough covers =
@@ -133,38 +134,38 @@ rows_shipped reserved sheet p sound enough covers =
     )
   where
     date : List ℕ → List ℕ → Option (List ℕ)
-    date a b = told_date a b p.rows
+    date a b = date_of_pair a b p.rows
 
     number : List ℕ → List ℕ → ℕ
-    number a b = told since a b p.rows
+    number a b = of_pair since a b p.rows
 
     left : Column → List ℕ → List ℕ → ℕ
-    left c a b = told (amount c) a b p.rows + given Shipped sheet c a b - given OnHand sheet c a b - given Reservation reserved c a b
+    left c a b = of_pair (amount c) a b p.rows + given Shipped sheet c a b - given OnHand sheet c a b - given Reservation reserved c a b
 
     within : (c : Column) (a b : List ℕ)
-        → given OnHand sheet c a b + given Reservation reserved c a b ≤ told (amount c) a b p.rows
+        → given OnHand sheet c a b + given Reservation reserved c a b ≤ of_pair (amount c) a b p.rows
     within Expected a b = omega arith
     within OnHand a b = omega (arith, covers a b, enough a b, sound.covered a b)
     within Reservation a b = omega (arith, enough a b)
     within Shipped a b = omega arith
 
-    nothing : (a b : List ℕ) → told one a b p.rows ≡ 0 → list_any (is_pair a b) [] ≡ false
+    nothing : (a b : List ℕ) → of_pair one a b p.rows ≡ 0 → list_any (is_pair a b) [] ≡ false
         → (number a b ≡ 0) × ((c : Column) → left c a b ≡ 0) × (date a b ≡ None)
     nothing a b none unnamed_it = (
-      told_absent since a b p.rows none,
+      of_pair_absent since a b p.rows none,
       λ c. omega (
         arith,
-        told_absent (amount c) a b p.rows none,
+        of_pair_absent (amount c) a b p.rows none,
         given_at_most Shipped sheet c a b,
         covers a b,
         enough a b,
-        told_absent (amount Reservation) a b p.rows none,
+        of_pair_absent (amount Reservation) a b p.rows none,
       ),
       date_absent a b p.rows sound.sorted.rows none,
     )
 
 pub picked_more : (p : PageFacts) (es : List Event) (n : ℕ) (s : List ℕ) (sheet : List Line) (e : Event) → IsSound p
-    → Shows p es → p.recent < 1000
+    → Shows p es → p.recent < most_sets
     → n ≡ p.entries + 1 → IsSheet sheet → picked es n s sheet ≡ Ok e → (q : PageFacts) × IsOneMore p es e q
 picked_more p es n s sheet e sound shows room follows is_sheet is = by (order_at s p.orders) refl
   where
@@ -222,16 +223,16 @@ picked_more p es n s sheet e sound shows room follows is_sheet is = by (order_at
 
 -- a pair that a sheet of known pairs names has a row
 unknown_unnamed : (rows : List LotRow) (ls : List Line) (a b : List ℕ) → list_any (is_unknown rows) ls ≡ false
-    → told one a b rows ≡ 0 → list_any (is_pair a b) ls ≡ false
+    → of_pair one a b rows ≡ 0 → list_any (is_pair a b) ls ≡ false
 unknown_unnamed rows [] a b h none = refl
 unknown_unnamed rows (l ∷ ls) a b h none =
     let u = neither (is_unknown rows l) (list_any (is_unknown rows) ls) h in
     elim (cases_Bool (is_pair a b l)) [
       | inl e ↦
           let same = pair_is a b l e in
-          let nought : told since l.item l.lot rows ≡ 0 =
-          (λ i. told since (same.0 i) (same.1 i) rows) ∙ told_absent since a b rows none in
-          absurd (eqb-false (told since l.item l.lot rows) 0 u.0 nought)
+          let nought : of_pair since l.item l.lot rows ≡ 0 =
+          (λ i. of_pair since (same.0 i) (same.1 i) rows) ∙ of_pair_absent since a b rows none in
+          absurd (eqb-false (of_pair since l.item l.lot rows) 0 u.0 nought)
       | inr e ↦ rw e (unknown_unnamed rows ls a b u.1 none)
     ]
 
@@ -257,37 +258,37 @@ rows_set sheet p sound known =
     )
   where
     date : List ℕ → List ℕ → Option (List ℕ)
-    date a b = told_date a b p.rows
+    date a b = date_of_pair a b p.rows
 
     number : List ℕ → List ℕ → ℕ
-    number a b = told since a b p.rows
+    number a b = of_pair since a b p.rows
 
     left : Column → List ℕ → List ℕ → ℕ
-    left OnHand a b = set_by sheet a b (told (amount OnHand) a b p.rows)
-    left Expected a b = told (amount Expected) a b p.rows
-    left Reservation a b = told (amount Reservation) a b p.rows
-    left Shipped a b = told (amount Shipped) a b p.rows
+    left OnHand a b = set_by sheet a b (of_pair (amount OnHand) a b p.rows)
+    left Expected a b = of_pair (amount Expected) a b p.rows
+    left Reservation a b = of_pair (amount Reservation) a b p.rows
+    left Shipped a b = of_pair (amount Shipped) a b p.rows
 
-    kept : (c : Column) (a b : List ℕ) → column_eq OnHand c ≡ false → left c a b ≡ told (amount c) a b p.rows
+    kept : (c : Column) (a b : List ℕ) → column_eq OnHand c ≡ false → left c a b ≡ of_pair (amount c) a b p.rows
     kept OnHand a b apart = absurd (cc)
     kept Expected a b apart = refl
     kept Reservation a b apart = refl
     kept Shipped a b apart = refl
 
-    nought : (a b : List ℕ) → told one a b p.rows ≡ 0 → (c : Column) → left c a b ≡ 0
+    nought : (a b : List ℕ) → of_pair one a b p.rows ≡ 0 → (c : Column) → left c a b ≡ 0
     nought a b none OnHand =
-        set_unnamed a b sheet (told (amount OnHand) a b p.rows) (unknown_unnamed p.rows sheet a b known none)
-        ∙ told_absent (amount OnHand) a b p.rows none
-    nought a b none Expected = told_absent (amount Expected) a b p.rows none
-    nought a b none Reservation = told_absent (amount Reservation) a b p.rows none
-    nought a b none Shipped = told_absent (amount Shipped) a b p.rows none
+        set_unnamed a b sheet (of_pair (amount OnHand) a b p.rows) (unknown_unnamed p.rows sheet a b known none)
+        ∙ of_pair_absent (amount OnHand) a b p.rows none
+    nought a b none Expected = of_pair_absent (amount Expected) a b p.rows none
+    nought a b none Reservation = of_pair_absent (amount Reservation) a b p.rows none
+    nought a b none Shipped = of_pair_absent (amount Shipped) a b p.rows none
 
-    nothing : (a b : List ℕ) → told one a b p.rows ≡ 0 → list_any (is_pair a b) [] ≡ false
+    nothing : (a b : List ℕ) → of_pair one a b p.rows ≡ 0 → list_any (is_pair a b) [] ≡ false
         → (number a b ≡ 0) × ((c : Column) → left c a b ≡ 0) × (date a b ≡ None)
-    nothing a b none unnamed_it = (told_absent since a b p.rows none, nought a b none, date_absent a b p.rows sound.sorted.rows none)
+    nothing a b none unnamed_it = (of_pair_absent since a b p.rows none, nought a b none, date_absent a b p.rows sound.sorted.rows none)
 
 pub recounted_more : (p : PageFacts) (es : List Event) (n : ℕ) (sheet : List Line) (e : Event) → IsSound p → Shows p es
-    → p.recent < 1000
+    → p.recent < most_sets
     → n ≡ p.entries + 1 → IsSheet sheet → recounted es n sheet ≡ Ok e → (q : PageFacts) × IsOneMore p es e q
 recounted_more p es n sheet e sound shows room follows is_sheet is =
     by (list_any (is_unknown p.rows) sheet) (list_any (is_below p.rows) sheet) (list_all (is_on_hand p.rows) sheet) refl refl refl

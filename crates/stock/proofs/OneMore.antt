@@ -1,4 +1,5 @@
--- The page with one event more exists: with an advice, an order or an acknowledgment that a set brings.
+-- The page with one event more exists: with an advice, an order or an acknowledgment that a set
+-- brings.
 use Rattle.std.proofs.Common.{◌≡◌, ℕ, ◌+◌, ◌-◌, ◌<◌, ◌≤◌, ◌^◌, max, Bool, true, false, ◌||◌, List, [], ◌∷◌, ◌++◌, refl, ap, sym, ◌∙◌, subst, arith, Option, None}
 use Rattle.std.specs.Prelude.{length, All, map}
 use Rattle.std.proofs.lemmas.List.{length-map}
@@ -9,7 +10,7 @@ use Rattle.profile.specs.declared.rules.Rules.TheVariants.{Two}
 use Rattle.profile.specs.Events.{Event, Advised, Ordered, Acknowledged, is_pair, quantity_of, date_given, advice_fault, order_fault}
 use Rattle.profile.specs.Allotment.{order_shares}
 use Rattle.profile.specs.Lists.{or_else}
-use Rattle.profile.specs.Limits.{most_lines, most_quantity}
+use Rattle.profile.specs.Limits.{most_lines, most_quantity, most_sets}
 use Rattle.profile.specs.Means.{Line, AdviceLine, Advice, advised, Order, Acknowledgment}
 use Rattle.profile.specs.Movements.{Column, Expected, Reservation}
 use Rattle.profile.specs.Page.{reserved_lines}
@@ -23,7 +24,7 @@ use Rattle.stock.specs.Puts.{put}
 use Rattle.stock.specs.Shows.{Shows}
 use Rattle.goods.specs.Steps.{opened, opened_order, IsAnnounced, IsReserved, IsAcknowledged}
 use Rattle.stock.specs.Stops.{document_changes}
-use Rattle.goods.specs.Told.{told, told_date, one, since, amount, given, named_by, date_of}
+use Rattle.goods.specs.OfPairs.{of_pair, date_of_pair, one, since, amount, given, named_by, date_of}
 use Rattle.stock.proofs.Acknowledges.{acknowledged_put, acknowledged_sound, acknowledged_shows}
 use Rattle.stock.proofs.Allots.{IsAllotted, allotted}
 use Rattle.stock.proofs.Announces.{announced_sound, announced_shows, advice_fault_shown, advice_unknown}
@@ -35,7 +36,7 @@ use Rattle.goods.proofs.Pairs.{quantity_no}
 use Rattle.stock.proofs.Receives.{given_at_most}
 use Rattle.stock.proofs.Reserves.{reserved_sound, reserved_shows, order_fault_shown, order_unknown, order_items_once}
 use Rattle.stock.proofs.ShownShares.{all_shares_shown}
-use Rattle.goods.proofs.Tells.{told_absent}
+use Rattle.goods.proofs.OfPairLemmas.{of_pair_absent}
 
 -- a page that stands for one event more
 pub record IsOneMore (p : PageFacts) (es : List Event) (e : Event) (q : PageFacts) : Type 0 where
@@ -58,17 +59,17 @@ unnamed a b (l ∷ ls) h =
 rows_added : (column : Column) (lines : List Line) (p : PageFacts) → IsSound p
     → (new : List LotRow) × IsAdded column lines p.rows new
 rows_added column lines p sound =
-    let date : List ℕ → List ℕ → Option (List ℕ) = λ a b. told_date a b p.rows in
-    let number : List ℕ → List ℕ → ℕ = λ a b. told since a b p.rows in
-    let more : Column → List ℕ → List ℕ → ℕ = λ c a b. told (amount c) a b p.rows + given column lines c a b in
+    let date : List ℕ → List ℕ → Option (List ℕ) = λ a b. date_of_pair a b p.rows in
+    let number : List ℕ → List ℕ → ℕ = λ a b. of_pair since a b p.rows in
+    let more : Column → List ℕ → List ℕ → ℕ = λ c a b. of_pair (amount c) a b p.rows + given column lines c a b in
     let m = rows_made date number more lines p.rows sound.sorted.rows nothing in
     (m.0, record { sorted = m.1.sorted; amounts = m.1.amounts; sinces = m.1.sinces; expiries = m.1.expiries; named = m.1.named })
   where
-    nothing : (a b : List ℕ) → told one a b p.rows ≡ 0 → list_any (is_pair a b) lines ≡ false
-        → (told since a b p.rows ≡ 0) × ((c : Column) → told (amount c) a b p.rows + given column lines c a b ≡ 0) × (told_date a b p.rows ≡ None)
+    nothing : (a b : List ℕ) → of_pair one a b p.rows ≡ 0 → list_any (is_pair a b) lines ≡ false
+        → (of_pair since a b p.rows ≡ 0) × ((c : Column) → of_pair (amount c) a b p.rows + given column lines c a b ≡ 0) × (date_of_pair a b p.rows ≡ None)
     nothing a b none unnamed_it = (
-      told_absent since a b p.rows none,
-      λ c. omega (arith, told_absent (amount c) a b p.rows none, given_at_most column lines c a b, unnamed a b lines unnamed_it),
+      of_pair_absent since a b p.rows none,
+      λ c. omega (arith, of_pair_absent (amount c) a b p.rows none, given_at_most column lines c a b, unnamed a b lines unnamed_it),
       date_absent a b p.rows sound.sorted.rows none,
     )
 
@@ -81,19 +82,19 @@ rows_advised lines p sound =
     goods = map (λ l. l.line) lines
 
     date : List ℕ → List ℕ → Option (List ℕ)
-    date a b = or_else (told_date a b p.rows) (date_of lines a b)
+    date a b = or_else (date_of_pair a b p.rows) (date_of lines a b)
 
     number : List ℕ → List ℕ → ℕ
-    number a b = told since a b p.rows
+    number a b = of_pair since a b p.rows
 
     more : Column → List ℕ → List ℕ → ℕ
-    more c a b = told (amount c) a b p.rows + given Expected goods c a b
+    more c a b = of_pair (amount c) a b p.rows + given Expected goods c a b
 
-    nothing : (a b : List ℕ) → told one a b p.rows ≡ 0 → list_any (is_pair a b) goods ≡ false
+    nothing : (a b : List ℕ) → of_pair one a b p.rows ≡ 0 → list_any (is_pair a b) goods ≡ false
         → (number a b ≡ 0) × ((c : Column) → more c a b ≡ 0) × (date a b ≡ None)
     nothing a b none unnamed_it = (
-      told_absent since a b p.rows none,
-      λ c. omega (arith, told_absent (amount c) a b p.rows none, given_at_most Expected goods c a b, unnamed a b goods unnamed_it),
+      of_pair_absent since a b p.rows none,
+      λ c. omega (arith, of_pair_absent (amount c) a b p.rows none, given_at_most Expected goods c a b, unnamed a b goods unnamed_it),
       ap (λ (o : Option (List ℕ)). or_else o (date_of lines a b)) (date_absent a b p.rows sound.sorted.rows none) ∙ no_date lines a b unnamed_it,
     )
 
@@ -114,10 +115,10 @@ same_dates (l ∷ ls) a b = ap (or_else (date_given a b l)) (same_dates ls a b)
 advised_placeless : (ls : List AdviceLine) (old new : List LotRow) → IsAdvised ls old new → IsAdvised (map placeless ls) old new
 advised_placeless ls old new step = record {
   sorted = step.sorted;
-  amounts = λ c a b. step.amounts c a b ∙ ap (λ (goods : List Line). told (amount c) a b old + given Expected goods c a b) (sym (same_lines ls));
+  amounts = λ c a b. step.amounts c a b ∙ ap (λ (goods : List Line). of_pair (amount c) a b old + given Expected goods c a b) (sym (same_lines ls));
   sinces = step.sinces;
-  expiries = λ a b. step.expiries a b ∙ ap (or_else (told_date a b old)) (sym (same_dates ls a b));
-  named = λ a b. step.named a b ∙ ap (λ (goods : List Line). max (told one a b old) (named_by goods a b)) (sym (same_lines ls));
+  expiries = λ a b. step.expiries a b ∙ ap (or_else (date_of_pair a b old)) (sym (same_dates ls a b));
+  named = λ a b. step.named a b ∙ ap (λ (goods : List Line). max (of_pair one a b old) (named_by goods a b)) (sym (same_lines ls));
 }
 
 little : (ls : List AdviceLine) → length ls ≤ most_lines Two → All (λ (l : AdviceLine). l.line.quantity ≤ most_quantity Two) ls
@@ -129,14 +130,14 @@ little ls few small = record {
   placed = All-map (λ (l : AdviceLine). l.position < 2 ^ 32 - 1) placeless ls (λ i d within. omega arith);
 }
 
-pub announced_more : (p : PageFacts) (es : List Event) (a : Advice) → IsSound p → Shows p es → p.recent < 1000
+pub announced_more : (p : PageFacts) (es : List Event) (a : Advice) → IsSound p → Shows p es → p.recent < most_sets
     → length a.lines ≤ most_lines Two → All (λ (l : AdviceLine). l.line.quantity ≤ most_quantity Two) a.lines
     → advice_fault es a ≡ None
     → (q : PageFacts) × IsOneMore p es (Advised a) q
 announced_more p es a sound shows room few small none =
     let rows = rows_advised a.lines p sound in
     let q : PageFacts = record p { rows = rows.0; advices = put_advice (opened a) p.advices; recent = p.recent + 1 } in
-    let unknown = advice_unknown (advice_at a.shipment p.advices) (λ i l. told_date i l p.rows) a (advice_fault_shown p es a shows ∙ none) in
+    let unknown = advice_unknown (advice_at a.shipment p.advices) (λ i l. date_of_pair i l p.rows) a (advice_fault_shown p es a shows ∙ none) in
     let step : IsAnnounced a p q = record {
       rows = rows.1;
       advices = refl;
@@ -162,7 +163,7 @@ announced_more p es a sound shows room few small none =
       },
     )
 
-pub ordered_more : (r : Rules) (p : PageFacts) (es : List Event) (o : Order) → IsSound p → Shows p es → p.recent < 1000
+pub ordered_more : (r : Rules) (p : PageFacts) (es : List Event) (o : Order) → IsSound p → Shows p es → p.recent < most_sets
     → order_fault es o ≡ None
     → (q : PageFacts) × IsOneMore p es (Ordered o (order_shares r es o)) q
 ordered_more r p es o sound shows room none =
@@ -196,7 +197,7 @@ ordered_more r p es o sound shows room none =
 -- An acknowledgment.
 
 pub acknowledged_more : (p : PageFacts) (es : List Event) (a : Acknowledgment) → IsSound p → Shows p es
-    → p.recent < 1000
+    → p.recent < most_sets
     → (q : PageFacts) × IsOneMore p es (Acknowledged (p.entries + 1) a) q
 acknowledged_more p es a sound shows room =
     let q = put (document_changes p a) p in

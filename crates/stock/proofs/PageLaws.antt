@@ -8,31 +8,31 @@ use Rattle.profile.specs.Events.{Event, Reserved, expiry, counts, picks, advice_
 use Rattle.std.specs.Prelude.{is_some}
 use Rattle.profile.specs.Means.{Line, Advice}
 use Rattle.profile.specs.Movements.{Column, OnHand, Reservation, IsCovered, balance}
-use Rattle.profile.specs.Refusals.{UnknownAdvice, AdviceClosed, UnknownOrder, OrderClosed}
+use Rattle.profile.specs.declared.refusals.Refusal.TheVariants.{UnknownAdvice, AdviceClosed, UnknownOrder, OrderClosed}
 use Rattle.profile.proofs.EventsLaws.{expiry-append}
 use Rattle.goods.specs.Pages.{PageFacts, IsSound}
 use Rattle.stock.specs.Shows.{Shows}
-use Rattle.goods.specs.Told.{told, told_date, amount}
+use Rattle.goods.specs.OfPairs.{of_pair, date_of_pair, amount}
 
-pub balance_told : (p : PageFacts) (es : List Event) → Shows p es → (c : Column) (a b : List ℕ) → told (amount c) a b p.rows ≡ balance es c a b
-balance_told p es shows c a b = omega (arith, shows.amounts c a b)
+pub balance_shows : (p : PageFacts) (es : List Event) → Shows p es → (c : Column) (a b : List ℕ) → of_pair (amount c) a b p.rows ≡ balance es c a b
+balance_shows p es shows c a b = omega (arith, shows.amounts c a b)
 
-pub date_told : (p : PageFacts) (es : List Event) → Shows p es → (a b : List ℕ) → told_date a b p.rows ≡ expiry es a b
-date_told p es shows a b = sym (shows.expiries a b)
+pub date_shows : (p : PageFacts) (es : List Event) → Shows p es → (a b : List ℕ) → date_of_pair a b p.rows ≡ expiry es a b
+date_shows p es shows a b = sym (shows.expiries a b)
 
 pub date_stays : (p q : PageFacts) (es more : List Event) → Shows p es → Shows q (es ++ more)
-    → (a b date : List ℕ) → told_date a b p.rows ≡ Some date → told_date a b q.rows ≡ Some date
+    → (a b date : List ℕ) → date_of_pair a b p.rows ≡ Some date → date_of_pair a b q.rows ≡ Some date
 date_stays p q es more shows after a b date is =
-    date_told q (es ++ more) after a b ∙ expiry-append es more a b
+    date_shows q (es ++ more) after a b ∙ expiry-append es more a b
     ∙ ap (λ (o : Option (List ℕ)). or_else o (expiry more a b)) (shows.expiries a b ∙ is)
 
 pub covered_events : (p : PageFacts) (es : List Event) → IsSound p → Shows p es → IsCovered es
 covered_events p es sound shows = record {
   nothing_below = λ c a b. omega (arith, shows.amounts c a b);
-  reserved_on_hand = λ a b. omega (arith, sound.covered a b, balance_told p es shows Reservation a b, balance_told p es shows OnHand a b);
+  reserved_on_hand = λ a b. omega (arith, sound.covered a b, balance_shows p es shows Reservation a b, balance_shows p es shows OnHand a b);
 }
 
-pub small_amounts : (p : PageFacts) → IsSound p → (c : Column) (a b : List ℕ) → told (amount c) a b p.rows < 2 ^ 64
+pub small_amounts : (p : PageFacts) → IsSound p → (c : Column) (a b : List ℕ) → of_pair (amount c) a b p.rows < 2 ^ 64
 small_amounts p sound c a b = omega (arith, sound.bounded c a b, sound.numbered, sound.few)
 
 pub counted_once : (es : List Event) (n : ℕ) (s : List ℕ) (sheet : List Line) (e : Event) → counted es n s sheet ≡ Ok e → list_any (counts s) es ≡ false

@@ -6,7 +6,7 @@ use Rattle.std.specs.Prelude.{nat_le, nat_lt}
 use Rattle.profile.specs.Limits.{most_entries}
 use Rattle.profile.specs.Events.{Event, Enrolment, Advised, Ordered, Acknowledged, Counted, Picked, Recounted}
 use Rattle.profile.specs.Movements.{OnHand, balance}
-use Rattle.goods.specs.Told.{told, amount}
+use Rattle.goods.specs.OfPairs.{of_pair, amount}
 use Rattle.goods.specs.Pages.{PageFacts, IsSound, next_entry}
 use Rattle.stock.specs.Shows.{Shows, is_numbered_within}
 
@@ -58,7 +58,7 @@ next_sound p room sound = record {
 }
 
 -- what is on hand of a pair
-pub on_hand_shown : (p : PageFacts) (es : List Event) (i l : List ℕ) → Shows p es → told (amount OnHand) i l p.rows ≡ balance es OnHand i l
+pub on_hand_shown : (p : PageFacts) (es : List Event) (i l : List ℕ) → Shows p es → of_pair (amount OnHand) i l p.rows ≡ balance es OnHand i l
 on_hand_shown p es i l shows = omega (arith, shows.amounts OnHand i l)
 
 -- numbers from 1 to the most

@@ -15,38 +15,38 @@ use Rattle.profile.specs.Bytes.{comes_before}
 use Rattle.std.specs.Prelude.{nat_lt}
 use Rattle.goods.specs.Pages.{PageFacts, IsSound, AreSorted, is_in_lines, is_shipment, is_number, is_document, awaited, held}
 use Rattle.stock.specs.Parts.{Named, IsPart, IsClosed, part_of, are_items}
-use Rattle.goods.specs.Told.{is_row, told, amount}
+use Rattle.goods.specs.OfPairs.{is_row, of_pair, amount}
 use Rattle.goods.proofs.Keys.{all_filter, filter_rises}
 use Rattle.goods.proofs.KeyLemmas.{pairs_strict, texts_strict, numbers_strict, sorted_distinct, advices_once, orders_once, documents_once}
 use Rattle.goods.proofs.Pairs.{quantity_no}
-use Rattle.goods.proofs.Tells.{told_cons, part_no}
+use Rattle.goods.proofs.OfPairLemmas.{of_pair_cons, part_no}
 
 -- what is told of a pair whose item is named
-told_kept : (q : List ℕ → Bool) (f : LotRow → ℕ) (a b : List ℕ) (rows : List LotRow) → q a ≡ true → told f a b (filter (λ r. q r.item) rows) ≡ told f a b rows
-told_kept q f a b [] is = refl
-told_kept q f a b (r ∷ rs) is = elim (cases_Bool (q r.item)) [
-  | inl e ↦ rw e (omega (arith, told_cons f a b r (filter (λ (x : LotRow). q x.item) rs), told_cons f a b r rs, told_kept q f a b rs is))
+of_pair_kept : (q : List ℕ → Bool) (f : LotRow → ℕ) (a b : List ℕ) (rows : List LotRow) → q a ≡ true → of_pair f a b (filter (λ r. q r.item) rows) ≡ of_pair f a b rows
+of_pair_kept q f a b [] is = refl
+of_pair_kept q f a b (r ∷ rs) is = elim (cases_Bool (q r.item)) [
+  | inl e ↦ rw e (omega (arith, of_pair_cons f a b r (filter (λ (x : LotRow). q x.item) rs), of_pair_cons f a b r rs, of_pair_kept q f a b rs is))
   | inr e ↦ rw e (elim (cases_Bool (is_row a b r)) [
     | inl g ↦
         let same : r.item ≡ a = (bytes_eq-Decides r.item a).0 (and_parts (bytes_eq r.item a) (bytes_eq r.lot b) g).0 in
         let no : true ≡ false = sym is ∙ ap q (sym same) ∙ e in
         absurd (cc (no))
-    | inr g ↦ omega (arith, told_cons f a b r rs, part_no f a b r g, told_kept q f a b rs is)
+    | inr g ↦ omega (arith, of_pair_cons f a b r rs, part_no f a b r g, of_pair_kept q f a b rs is)
   ])
 ]
 
 -- and of one whose item isn't
-told_gone : (q : List ℕ → Bool) (f : LotRow → ℕ) (a b : List ℕ) (rows : List LotRow) → q a ≡ false → told f a b (filter (λ r. q r.item) rows) ≡ 0
-told_gone q f a b [] is = refl
-told_gone q f a b (r ∷ rs) is = elim (cases_Bool (q r.item)) [
+of_pair_gone : (q : List ℕ → Bool) (f : LotRow → ℕ) (a b : List ℕ) (rows : List LotRow) → q a ≡ false → of_pair f a b (filter (λ r. q r.item) rows) ≡ 0
+of_pair_gone q f a b [] is = refl
+of_pair_gone q f a b (r ∷ rs) is = elim (cases_Bool (q r.item)) [
   | inl e ↦ rw e (elim (cases_Bool (is_row a b r)) [
     | inl g ↦
         let same : r.item ≡ a = (bytes_eq-Decides r.item a).0 (and_parts (bytes_eq r.item a) (bytes_eq r.lot b) g).0 in
         let no : true ≡ false = sym e ∙ ap q same ∙ is in
         absurd (cc (no))
-    | inr g ↦ omega (arith, told_cons f a b r (filter (λ (x : LotRow). q x.item) rs), part_no f a b r g, told_gone q f a b rs is)
+    | inr g ↦ omega (arith, of_pair_cons f a b r (filter (λ (x : LotRow). q x.item) rs), part_no f a b r g, of_pair_gone q f a b rs is)
   ])
-  | inr e ↦ rw e (told_gone q f a b rs is)
+  | inr e ↦ rw e (of_pair_gone q f a b rs is)
 ]
 
 -- what is found among what is kept
@@ -73,7 +73,7 @@ pub part_is_part : (n : Named) (P : PageFacts) → AreSorted P → IsPart n (par
 part_is_part n P s = record {
   in_order = part_sorted n P s;
   sorted = s;
-  rows = λ f a b is. told_kept n.items f a b P.rows is;
+  rows = λ f a b is. of_pair_kept n.items f a b P.rows is;
   advices = λ t is. found_kept (is_shipment t) (λ k. n.shipments k.shipment) P.advices (λ k e. ap n.shipments ((bytes_eq-Decides k.shipment t).0 e) ∙ is);
   orders = λ t is. found_kept (is_number t) (λ k. n.orders k.number) P.orders (λ k e. ap n.orders ((bytes_eq-Decides k.number t).0 e) ∙ is);
   documents = λ m is. found_kept (is_document m) (λ d. n.documents d.n) P.documents (λ d e. ap n.documents (eqb-true d.n m e) ∙ is);
@@ -122,21 +122,21 @@ part_sound n P closed sound = record {
   sorted = sorted;
   distinct = sorted_distinct (filter (λ (r : LotRow). n.items r.item) P.rows) sorted.rows;
   expected = λ a b. elim (cases_Bool (n.items a)) [
-    | inl e ↦ omega (arith, sound.expected a b, told_kept n.items (amount Expected) a b P.rows e, sum_fewer (λ (k : PageAdvice). cond k.is_open (quantity_of k.lines a b) 0) (λ k. n.shipments k.shipment) P.advices)
+    | inl e ↦ omega (arith, sound.expected a b, of_pair_kept n.items (amount Expected) a b P.rows e, sum_fewer (λ (k : PageAdvice). cond k.is_open (quantity_of k.lines a b) 0) (λ k. n.shipments k.shipment) P.advices)
     | inr e ↦ omega (arith, none_awaited n (filter (λ (k : PageAdvice). n.shipments k.shipment) P.advices) a b closed.advices e)
   ];
   reserved = λ a b. elim (cases_Bool (n.items a)) [
-    | inl e ↦ omega (arith, sound.reserved a b, told_kept n.items (amount Reservation) a b P.rows e, sum_fewer (λ (k : PageOrder). cond k.is_open (quantity_of k.reserved a b) 0) (λ k. n.orders k.number) P.orders)
+    | inl e ↦ omega (arith, sound.reserved a b, of_pair_kept n.items (amount Reservation) a b P.rows e, sum_fewer (λ (k : PageOrder). cond k.is_open (quantity_of k.reserved a b) 0) (λ k. n.orders k.number) P.orders)
     | inr e ↦ omega (arith, none_held n (filter (λ (k : PageOrder). n.orders k.number) P.orders) a b closed.orders e)
   ];
   in_lines = all_filter is_in_lines (λ (k : PageOrder). n.orders k.number) P.orders sound.in_lines;
   covered = λ a b. elim (cases_Bool (n.items a)) [
-    | inl e ↦ omega (arith, sound.covered a b, told_kept n.items (amount Reservation) a b P.rows e, told_kept n.items (amount OnHand) a b P.rows e)
-    | inr e ↦ omega (arith, told_gone n.items (amount Reservation) a b P.rows e)
+    | inl e ↦ omega (arith, sound.covered a b, of_pair_kept n.items (amount Reservation) a b P.rows e, of_pair_kept n.items (amount OnHand) a b P.rows e)
+    | inr e ↦ omega (arith, of_pair_gone n.items (amount Reservation) a b P.rows e)
   ];
   bounded = λ c a b. elim (cases_Bool (n.items a)) [
-    | inl e ↦ omega (arith, sound.bounded c a b, told_kept n.items (amount c) a b P.rows e)
-    | inr e ↦ omega (arith, told_gone n.items (amount c) a b P.rows e)
+    | inl e ↦ omega (arith, sound.bounded c a b, of_pair_kept n.items (amount c) a b P.rows e)
+    | inr e ↦ omega (arith, of_pair_gone n.items (amount c) a b P.rows e)
   ];
   numbered = sound.numbered;
   few = sound.few;

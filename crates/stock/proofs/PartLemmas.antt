@@ -20,15 +20,15 @@ use Rattle.goods.specs.declared.documents.Function.TheVariants.{Receipt, Shipmen
 use Rattle.goods.specs.Moved.{IsAdded, IsAdvised, IsCounted, IsShipped, IsSet}
 use Rattle.goods.specs.Steps.{opened, opened_order, closed_advice, closed_order, with_said, said_of_found, is_unknown, is_below, is_on_hand, IsAnnounced, IsReserved, IsReceived, IsPicked, IsRecounted}
 use Rattle.stock.specs.Stops.{row_changes, advice_changes, order_changes}
-use Rattle.goods.specs.Told.{is_row, told, told_date, one, since, amount, same_row, changed_rows}
+use Rattle.goods.specs.OfPairs.{is_row, of_pair, date_of_pair, one, since, amount, same_row, changed_rows}
 use Rattle.stock.specs.Touched.{IsTouched}
 use Rattle.stock.proofs.ChangeLaws.{same_is}
-use Rattle.goods.proofs.Dates.{dates_told}
-use Rattle.goods.proofs.KeyLemmas.{told_put, advice_put, order_put, document_put, sent_found}
+use Rattle.goods.proofs.Dates.{same_dates_of}
+use Rattle.goods.proofs.KeyLemmas.{of_pair_put, advice_put, order_put, document_put, sent_found}
 use Rattle.goods.proofs.Finds.{found_says}
 use Rattle.stock.proofs.Leads.{touched_none, not_named, among_second}
 use Rattle.stock.proofs.Steppings.{Makes, change_sorted, announced_put, reserved_put, received_put, picked_put, recounted_put}
-use Rattle.goods.proofs.Tells.{told_cons, part_yes, part_no}
+use Rattle.goods.proofs.OfPairLemmas.{of_pair_cons, part_yes, part_no}
 
 -- a page is a part of itself
 pub part_of_self : (n : Named) (p : PageFacts) → AreSorted p → IsPart n p p
@@ -43,8 +43,8 @@ all_ordered [] = refl
 all_ordered (l ∷ ls) = all_ordered ls
 
 -- a part tells the dates of named items
-pub part_date : (n : Named) (p P : PageFacts) → IsPart n p P → (a b : List ℕ) → n.items a ≡ true → told_date a b p.rows ≡ told_date a b P.rows
-part_date n p P part a b is = dates_told a b p.rows P.rows part.in_order.rows part.sorted.rows (λ f. part.rows f a b is)
+pub part_date : (n : Named) (p P : PageFacts) → IsPart n p P → (a b : List ℕ) → n.items a ≡ true → date_of_pair a b p.rows ≡ date_of_pair a b P.rows
+part_date n p P part a b is = same_dates_of a b p.rows P.rows part.in_order.rows part.sorted.rows (λ f. part.rows f a b is)
 
 -- A row is on the part where it is on the page.
 
@@ -54,24 +54,24 @@ is_same r x = cond (same_row r x) 1 0
 own : (r : LotRow) → is_row r.item r.lot r ≡ true
 own r = rw ((bytes_eq-Decides r.item r.item).1 refl, (bytes_eq-Decides r.lot r.lot).1 refl) refl
 
-told_any : (r : LotRow) (rows : List LotRow) → list_any (same_row r) rows ≡ ltb 0 (told (is_same r) r.item r.lot rows)
-told_any r [] = refl
-told_any r (x ∷ xs) = elim (cases_Bool (same_row r x)) [
+of_pair_any : (r : LotRow) (rows : List LotRow) → list_any (same_row r) rows ≡ ltb 0 (of_pair (is_same r) r.item r.lot rows)
+of_pair_any r [] = refl
+of_pair_any r (x ∷ xs) = elim (cases_Bool (same_row r x)) [
   | inl e ↦
       let here : is_row r.item r.lot x ≡ true = ap (is_row r.item r.lot) (sym (same_is r x e)) ∙ own r in
-      ap (λ (v : Bool). v || list_any (same_row r) xs) e ∙ sym (lt-ltb 0 (told (is_same r) r.item r.lot (x ∷ xs))
-      (omega (arith, told_cons (is_same r) r.item r.lot x xs, part_yes (is_same r) r.item r.lot x here, ap (λ (v : Bool). cond {A = ℕ} v 1 0) e)))
+      ap (λ (v : Bool). v || list_any (same_row r) xs) e ∙ sym (lt-ltb 0 (of_pair (is_same r) r.item r.lot (x ∷ xs))
+      (omega (arith, of_pair_cons (is_same r) r.item r.lot x xs, part_yes (is_same r) r.item r.lot x here, ap (λ (v : Bool). cond {A = ℕ} v 1 0) e)))
   | inr e ↦
       let nothing : is_same r x ≡ 0 = ap (λ (v : Bool). cond {A = ℕ} v 1 0) e in
-      let same : told (is_same r) r.item r.lot (x ∷ xs) ≡ told (is_same r) r.item r.lot xs = elim (cases_Bool (is_row r.item r.lot x)) [
-        | inl f ↦ omega (arith, told_cons (is_same r) r.item r.lot x xs, part_yes (is_same r) r.item r.lot x f, nothing)
-        | inr f ↦ omega (arith, told_cons (is_same r) r.item r.lot x xs, part_no (is_same r) r.item r.lot x f)
+      let same : of_pair (is_same r) r.item r.lot (x ∷ xs) ≡ of_pair (is_same r) r.item r.lot xs = elim (cases_Bool (is_row r.item r.lot x)) [
+        | inl f ↦ omega (arith, of_pair_cons (is_same r) r.item r.lot x xs, part_yes (is_same r) r.item r.lot x f, nothing)
+        | inr f ↦ omega (arith, of_pair_cons (is_same r) r.item r.lot x xs, part_no (is_same r) r.item r.lot x f)
       ] in
-      ap (λ (v : Bool). v || list_any (same_row r) xs) e ∙ told_any r xs ∙ ap (ltb 0) (sym same)
+      ap (λ (v : Bool). v || list_any (same_row r) xs) e ∙ of_pair_any r xs ∙ ap (ltb 0) (sym same)
 ]
 
 any_same : (n : Named) (p P : PageFacts) → IsPart n p P → (r : LotRow) → n.items r.item ≡ true → list_any (same_row r) p.rows ≡ list_any (same_row r) P.rows
-any_same n p P part r is = told_any r p.rows ∙ ap (ltb 0) (part.rows (is_same r) r.item r.lot is) ∙ sym (told_any r P.rows)
+any_same n p P part r is = of_pair_any r p.rows ∙ ap (ltb 0) (part.rows (is_same r) r.item r.lot is) ∙ sym (of_pair_any r P.rows)
 
 -- so rows of named items changed on the part where they changed on the page
 pub changed_same : (n : Named) (p P : PageFacts) → IsPart n p P → (rows : List LotRow) → list_all (λ r. n.items r.item) rows ≡ true → changed_rows p.rows rows ≡ changed_rows P.rows rows
@@ -103,14 +103,14 @@ touched_whole n p P lines t part all touched = record {
 }
 
 -- rows of pairs that lines name are of named items
-pub rows_named : (n : Named) (lines : List Line) (rows : List LotRow) → are_items n lines ≡ true → ((a b : List ℕ) → list_any (is_pair a b) lines ≡ false → told one a b rows ≡ 0)
+pub rows_named : (n : Named) (lines : List Line) (rows : List LotRow) → are_items n lines ≡ true → ((a b : List ℕ) → list_any (is_pair a b) lines ≡ false → of_pair one a b rows ≡ 0)
     → list_all (λ r. n.items r.item) rows ≡ true
 rows_named n lines [] all none = refl
 rows_named n lines (r ∷ rs) all none =
-    let later = rows_named n lines rs all (λ a b e. omega (arith, none a b e, told_cons one a b r rs)) in
+    let later = rows_named n lines rs all (λ a b e. omega (arith, none a b e, of_pair_cons one a b r rs)) in
     elim (cases_Bool (list_any (is_pair r.item r.lot) lines)) [
       | inl e ↦ rw (item_of_pair n lines r.item r.lot all e) later
-      | inr e ↦ absurd (omega (arith, none r.item r.lot e, told_cons one r.item r.lot r rs, part_yes one r.item r.lot r (own r)))
+      | inr e ↦ absurd (omega (arith, none r.item r.lot e, of_pair_cons one r.item r.lot r rs, part_yes one r.item r.lot r (own r)))
     ]
 
 -- Changes keep a part a part.
@@ -147,7 +147,7 @@ change_part : (n : Named) (c : Change) (p P : PageFacts) → IsPart n p P → Is
 change_part n (change.Stock r) p P part = record {
   in_order = change_sorted (change.Stock r) p part.in_order;
   sorted = change_sorted (change.Stock r) P part.sorted;
-  rows = λ f a b is. told_put f a b r p.rows part.in_order.rows ∙ ap (cond (is_row a b r) (f r)) (part.rows f a b is) ∙ sym (told_put f a b r P.rows part.sorted.rows);
+  rows = λ f a b is. of_pair_put f a b r p.rows part.in_order.rows ∙ ap (cond (is_row a b r) (f r)) (part.rows f a b is) ∙ sym (of_pair_put f a b r P.rows part.sorted.rows);
   advices = part.advices;
   orders = part.orders;
   documents = part.documents;
@@ -292,7 +292,7 @@ below_part n p P ls part all = any_line n (is_below p.rows) (is_below P.rows) ls
 pub on_hand_part : (n : Named) (p P : PageFacts) (ls : List Line) → IsPart n p P → are_items n ls ≡ true → list_all (is_on_hand p.rows) ls ≡ list_all (is_on_hand P.rows) ls
 on_hand_part n p P ls part all = all_line n (is_on_hand p.rows) (is_on_hand P.rows) ls all (λ l is. ap (eqb l.quantity) (part.rows (amount OnHand) l.item l.lot is))
 
--- any changes, with any number of events behind them
+-- any changes, with any number of events after them
 pub after_part : (n : Named) (cs : List Change) (r : ℕ) (p P : PageFacts) → IsPart n p P
     → IsPart n (record (fold put_change p cs) { entries = p.entries; recent = r }) (record (fold put_change P cs) { entries = P.entries; recent = r })
 after_part n cs r p P part =

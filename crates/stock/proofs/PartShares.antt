@@ -19,7 +19,7 @@ use Rattle.goods.specs.Lots.{ranks_of, free_in, shares_in, all_shares_in}
 use Rattle.goods.specs.Pages.{PageFacts, is_in_lines}
 use Rattle.stock.specs.Parts.{Named, IsPart, all_named, are_items}
 use Rattle.goods.specs.Steps.{opened_order}
-use Rattle.goods.specs.Told.{amount, IsDistinct}
+use Rattle.goods.specs.OfPairs.{amount, IsDistinct}
 use Rattle.stock.proofs.Allots.{is_given, all_in_order}
 use Rattle.goods.proofs.Keys.{all_filter}
 use Rattle.goods.proofs.KeyLemmas.{sorted_distinct}

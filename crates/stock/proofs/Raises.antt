@@ -7,12 +7,12 @@ use Rattle.profile.specs.Rows.{LotRow}
 use Rattle.profile.specs.Means.{Line}
 use Rattle.profile.specs.Events.{is_pair, quantity_of}
 use Rattle.profile.specs.Movements.{Column, Expected, OnHand, Reservation, Shipped, column_eq}
-use Rattle.goods.specs.Told.{is_row, told, one, since, amount, named_by, raised, with_on_hand, IsDistinct}
+use Rattle.goods.specs.OfPairs.{is_row, of_pair, one, since, amount, named_by, raised, with_on_hand, IsDistinct}
 use Rattle.goods.specs.Keyed.{IsSorted}
 use Rattle.goods.proofs.Dates.{date_kept}
 use Rattle.goods.proofs.KeyLemmas.{sorted_distinct, sorted_kept}
 use Rattle.goods.specs.Moved.{IsPlace, IsTaken, IsRaised, IsShipped, IsSet, set_by}
-use Rattle.goods.proofs.Tells.{part, part_yes, part_no, told_set, told_kept, told_here, IsRowAt, row_at, row_as_line, told_named, placed_there, added_at, given_one, told_absent}
+use Rattle.goods.proofs.OfPairLemmas.{part, part_yes, part_no, of_pair_set, of_pair_kept, of_pair_here, IsRowAt, row_at, row_as_line, of_pair_named, placed_there, added_at, given_one, of_pair_absent}
 use Rattle.goods.proofs.Sums.{given_append, given_here, quantity_next}
 use Rattle.stock.proofs.Marks.{named_own}
 
@@ -24,7 +24,7 @@ raised_at k line rows i r sorted place is =
       amounts = added.amounts;
       sinces = added.sinces;
       expiries = added.expiries;
-      named = λ a b. omega (arith, added.named a b, told_named line rows i place a b);
+      named = λ a b. omega (arith, added.named a b, of_pair_named line rows i place a b);
     }
 
 -- nothing comes to a pair without a row
@@ -54,14 +54,14 @@ raised_more k lines i l old mid new within is first next =
     })
 
 pub next_raised_fits : (k : Column) (lines : List Line) (i : ℕ) (l : Line) (old mid : List LotRow) (m : ℕ) → i < length lines → l ≡ get_or lines i l
-    → IsRaised k (take i lines) old mid → ((a b : List ℕ) → told (amount k) a b old + quantity_of lines a b < m)
-    → told (amount k) l.item l.lot mid + l.quantity < m
+    → IsRaised k (take i lines) old mid → ((a b : List ℕ) → of_pair (amount k) a b old + quantity_of lines a b < m)
+    → of_pair (amount k) l.item l.lot mid + l.quantity < m
 next_raised_fits k lines i l old mid m within is first fits =
     omega (arith, first.amounts k l.item l.lot, given_here k (take i lines) l.item l.lot, fits l.item l.lot, quantity_next lines i l within is)
 
 pub next_raised_there : (k : Column) (lines : List Line) (i : ℕ) (l : Line) (old mid : List LotRow) → i < length lines → l ≡ get_or lines i l
-    → IsRaised k (take i lines) old mid → ((a b : List ℕ) → told one a b old ≡ 0 → quantity_of lines a b ≡ 0)
-    → told one l.item l.lot mid ≡ 0 → l.quantity ≡ 0
+    → IsRaised k (take i lines) old mid → ((a b : List ℕ) → of_pair one a b old ≡ 0 → quantity_of lines a b ≡ 0)
+    → of_pair one l.item l.lot mid ≡ 0 → l.quantity ≡ 0
 next_raised_there k lines i l old mid within is first there none =
     omega (arith, there l.item l.lot (sym (first.named l.item l.lot) ∙ none), quantity_next lines i l within is)
 
@@ -83,21 +83,21 @@ amount_set OnHand n r h = absurd (cc)
 amount_set Reservation n r h = refl
 amount_set Shipped n r h = refl
 
-set_told : (line : Line) (rows : List LotRow) (i : ℕ) (r : LotRow) → IsDistinct rows → IsRowAt line rows i r → (a b : List ℕ)
-    → told (amount OnHand) a b (set rows i (with_on_hand line.quantity r)) ≡ set_by (line ∷ []) a b (told (amount OnHand) a b rows)
-set_told line rows i r distinct at a b =
+set_of_pair : (line : Line) (rows : List LotRow) (i : ℕ) (r : LotRow) → IsDistinct rows → IsRowAt line rows i r → (a b : List ℕ)
+    → of_pair (amount OnHand) a b (set rows i (with_on_hand line.quantity r)) ≡ set_by (line ∷ []) a b (of_pair (amount OnHand) a b rows)
+set_of_pair line rows i r distinct at a b =
     let y = with_on_hand line.quantity r in
-    let changed = told_set (amount OnHand) a b rows i y r at.within in
+    let changed = of_pair_set (amount OnHand) a b rows i y r at.within in
     elim (cases_Bool (is_pair a b line)) [
       | inl e ↦
           let here : is_row a b r ≡ true = row_as_line a b line r at.here ∙ e in
-          let old : told (amount OnHand) a b rows ≡ amount OnHand r = told_here (amount OnHand) a b rows i r at.within (ap (is_row a b) (sym at.is) ∙ here) (distinct a b) ∙ ap (amount OnHand) (sym at.is) in
-          let all : told (amount OnHand) a b (set rows i y) ≡ line.quantity =
+          let old : of_pair (amount OnHand) a b rows ≡ amount OnHand r = of_pair_here (amount OnHand) a b rows i r at.within (ap (is_row a b) (sym at.is) ∙ here) (distinct a b) ∙ ap (amount OnHand) (sym at.is) in
+          let all : of_pair (amount OnHand) a b (set rows i y) ≡ line.quantity =
           omega (arith, changed, ap (part (amount OnHand) a b) at.is, part_yes (amount OnHand) a b r here, part_yes (amount OnHand) a b y here, old) in
           rw e all
       | inr e ↦
           let here : is_row a b r ≡ false = row_as_line a b line r at.here ∙ e in
-          let all : told (amount OnHand) a b (set rows i y) ≡ told (amount OnHand) a b rows =
+          let all : of_pair (amount OnHand) a b (set rows i y) ≡ of_pair (amount OnHand) a b rows =
           omega (arith, changed, ap (part (amount OnHand) a b) at.is, part_no (amount OnHand) a b r here, part_no (amount OnHand) a b y here) in
           rw e all
     ]
@@ -109,11 +109,11 @@ set_at line rows i r sorted place is =
     let at = row_at line rows i r place is in
     let y = with_on_hand line.quantity r in record {
       sorted = sorted_kept rows i r y sorted at.within is refl;
-      on_hand = set_told line rows i r distinct at;
-      others = λ c a b e. told_kept (amount c) line rows i r y at (λ a b. refl) (amount_set c line.quantity r e) a b;
-      sinces = λ a b. told_kept since line rows i r y at (λ a b. refl) refl a b;
+      on_hand = set_of_pair line rows i r distinct at;
+      others = λ c a b e. of_pair_kept (amount c) line rows i r y at (λ a b. refl) (amount_set c line.quantity r e) a b;
+      sinces = λ a b. of_pair_kept since line rows i r y at (λ a b. refl) refl a b;
       expiries = date_kept rows i r y sorted at.within is refl refl;
-      named = λ a b. told_kept one line rows i r y at (λ a b. refl) refl a b;
+      named = λ a b. of_pair_kept one line rows i r y at (λ a b. refl) refl a b;
     }
 
 pub set_more : (lines : List Line) (i : ℕ) (l : Line) (old mid new : List LotRow) → i < length lines → l ≡ get_or lines i l
@@ -123,7 +123,7 @@ set_more lines i l old mid new within is first next =
     rw e (record {
       sorted = next.sorted;
       on_hand = λ a b. next.on_hand a b ∙ ap (set_by (l ∷ []) a b) (first.on_hand a b)
-          ∙ sym (fold-append (λ (m : ℕ) (k : Line). cond (is_pair a b k) k.quantity m) (told (amount OnHand) a b old) (take i lines) (l ∷ []));
+          ∙ sym (fold-append (λ (m : ℕ) (k : Line). cond (is_pair a b k) k.quantity m) (of_pair (amount OnHand) a b old) (take i lines) (l ∷ []));
       others = λ c a b e. next.others c a b e ∙ first.others c a b e;
       sinces = λ a b. next.sinces a b ∙ first.sinces a b;
       expiries = λ a b. next.expiries a b ∙ first.expiries a b;
@@ -131,9 +131,9 @@ set_more lines i l old mid new within is first next =
     })
 
 pub next_set : (lines : List Line) (i : ℕ) (l : Line) (old mid : List LotRow) → i < length lines → l ≡ get_or lines i l
-    → IsSet (take i lines) old mid → ((a b : List ℕ) → named_by lines a b ≤ told one a b old) → 1 ≤ told one l.item l.lot mid
+    → IsSet (take i lines) old mid → ((a b : List ℕ) → named_by lines a b ≤ of_pair one a b old) → 1 ≤ of_pair one l.item l.lot mid
 next_set lines i l old mid within is first there = omega (arith, first.named l.item l.lot, there l.item l.lot, named_own lines i l within is)
 
-pub sheet_there : (sheet : List Line) (old new : List LotRow) → IsTaken OnHand sheet old new → ((a b : List ℕ) → quantity_of sheet a b ≤ told (amount OnHand) a b old)
-    → (a b : List ℕ) → told one a b new ≡ 0 → quantity_of sheet a b ≡ 0
-sheet_there sheet old new taken enough a b none = omega (arith, enough a b, told_absent (amount OnHand) a b old (sym (taken.named a b) ∙ none))
+pub sheet_there : (sheet : List Line) (old new : List LotRow) → IsTaken OnHand sheet old new → ((a b : List ℕ) → quantity_of sheet a b ≤ of_pair (amount OnHand) a b old)
+    → (a b : List ℕ) → of_pair one a b new ≡ 0 → quantity_of sheet a b ≡ 0
+sheet_there sheet old new taken enough a b none = omega (arith, enough a b, of_pair_absent (amount OnHand) a b old (sym (taken.named a b) ∙ none))

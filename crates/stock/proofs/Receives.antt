@@ -7,15 +7,16 @@ use Rattle.std.proofs.lemmas.Slice.Eq.{bytes_eq-Decides}
 use Rattle.std.specs.Prelude.{bytes_eq, option_map, flat_map, codes, nat_lt, nat_le}
 use Rattle.std.specs.Option.{option_or}
 use Rattle.std.specs.List.{list_any, list_all}
+use Rattle.profile.specs.Limits.{most_sets}
 use Rattle.profile.specs.Lists.{or_else}
 use Rattle.profile.specs.Means.{Line, Advice, advised}
 use Rattle.profile.specs.Rows.{named, said_of, acknowledges}
-use Rattle.profile.specs.Refusals.{UnknownAdvice, AdviceClosed}
+use Rattle.profile.specs.declared.refusals.Refusal.TheVariants.{UnknownAdvice, AdviceClosed}
 use Rattle.profile.specs.Clerk.{counted}
 use Rattle.profile.specs.Page.{PageAdvice, PageOrder, PageDocument, page_advice}
 use Rattle.profile.specs.Events.{Event, Enrolment, Advised, Ordered, Acknowledged, Counted, Picked, Recounted, is_pair, quantity_of, advice_if, advice_under, counts, is_advice_open, count_naming, date_naming}
 use Rattle.profile.specs.Movements.{Column, Expected, OnHand, Reservation, column_eq, comes, goes}
-use Rattle.goods.specs.Told.{told, amount, since, given, named_by, positive}
+use Rattle.goods.specs.OfPairs.{of_pair, amount, since, given, named_by, positive}
 use Rattle.profile.specs.Bytes.{comes_before}
 use Rattle.goods.specs.Keyed.{rises_by, number_of, put_advice}
 use Rattle.goods.specs.Pages.{PageFacts, is_shipment, advice_at, order_at, document_at, awaited, held, IsSound, AreSorted, is_in_lines}
@@ -37,18 +38,18 @@ open_part i l k = cond k.is_open (quantity_of k.lines i l) 0
 
 -- what an open advice brings is expected
 pub expected_there : (p : PageFacts) (s : List ℕ) (k : PageAdvice) → IsSound p → advice_at s p.advices ≡ Some k → k.is_open ≡ true
-    → (a b : List ℕ) → quantity_of k.lines a b ≤ told (amount Expected) a b p.rows
+    → (a b : List ℕ) → quantity_of k.lines a b ≤ of_pair (amount Expected) a b p.rows
 expected_there p s k sound known opened a b =
     omega (arith, sound.expected a b, found_le (open_part a b) (is_shipment s) p.advices k known, ap (λ (v : Bool). cond v (quantity_of k.lines a b) 0) opened)
 
 pub given_at_most : (k : Column) (lines : List Line) (c : Column) (a b : List ℕ) → given k lines c a b ≤ quantity_of lines a b
 given_at_most k lines c a b = elim (cases_Bool (column_eq k c)) [ inl e ↦ rw e (omega arith) | inr e ↦ rw e (omega arith) ]
 
-pub sheet_fits : (p : PageFacts) (sheet : List Line) → IsSheet sheet → IsSound p → (item lot : List ℕ) → told (amount OnHand) item lot p.rows + quantity_of sheet item lot < 2 ^ 64
+pub sheet_fits : (p : PageFacts) (sheet : List Line) → IsSheet sheet → IsSound p → (item lot : List ℕ) → of_pair (amount OnHand) item lot p.rows + quantity_of sheet item lot < 2 ^ 64
 sheet_fits p sheet is_sheet sound item lot = omega (arith, sound.bounded OnHand item lot, sound.numbered, sound.few, is_sheet.little item lot)
 
 pub received_sound : (n : ℕ) (k : PageAdvice) (sheet : List Line) (old new : PageFacts) → IsReceived n k sheet old new
-    → advice_at k.shipment old.advices ≡ Some k → k.is_open ≡ true → IsSheet sheet → old.recent < 1000 → IsSound old → IsSound new
+    → advice_at k.shipment old.advices ≡ Some k → k.is_open ≡ true → IsSheet sheet → old.recent < most_sets → IsSound old → IsSound new
 received_sound n k sheet old new step known opened is_sheet room sound = record {
   sorted = sorted;
   distinct = sorted_distinct new.rows step.rows.sorted;
@@ -199,7 +200,7 @@ received_shows n k a sheet shipment old new es number step known found seen show
         went_comes OnHand sheet c x y,
       );
       sinces = λ x y. first_found_push (count_naming x y) es e ∙ ap (λ (o : Option ℕ). or_else o (count_naming x y e)) (shows.sinces x y)
-          ∙ first_positive n (told since x y old.rows) (list_any (is_pair x y) sheet) (omega (arith, number)) ∙ ap positive (sym (step.rows.sinces x y));
+          ∙ first_positive n (of_pair since x y old.rows) (list_any (is_pair x y) sheet) (omega (arith, number)) ∙ ap positive (sym (step.rows.sinces x y));
       expiries = λ x y. found_kept (date_naming x y) es e refl ∙ shows.expiries x y ∙ sym (step.rows.expiries x y);
       pairs = λ x y. omega (
         arith,

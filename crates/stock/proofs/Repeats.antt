@@ -12,14 +12,14 @@ use Rattle.goods.specs.Soundness.{item_alone}
 use Rattle.profile.specs.Events.{is_pair, repeated, same_advice_pair, same_order_item}
 use Rattle.profile.specs.Rows.{LotRow}
 use Rattle.goods.specs.Keyed.{IsSorted}
-use Rattle.goods.specs.Told.{told, one, named_by, AreRowsOf}
+use Rattle.goods.specs.OfPairs.{of_pair, one, named_by, AreRowsOf}
 use Rattle.goods.specs.Moved.{IsPlace, IsPlaced}
 use Rattle.goods.proofs.Sums.{named_append}
-use Rattle.goods.proofs.Tells.{told_there}
+use Rattle.goods.proofs.OfPairLemmas.{of_pair_there}
 
 -- no row of a pair: none of the lines is of it
 pub none_among : (item lot : List ℕ) (lines : List Line) (rows : List LotRow) → AreRowsOf lines rows
-    → told one item lot rows ≡ 0 → list_any (is_pair item lot) lines ≡ false
+    → of_pair one item lot rows ≡ 0 → list_any (is_pair item lot) lines ≡ false
 none_among item lot lines rows are none = by (list_any (is_pair item lot) lines) (sym (are item lot) ∙ none)
   where
     by : (v : Bool) → cond {A = ℕ} v 1 0 ≡ 0 → v ≡ false
@@ -30,7 +30,7 @@ none_among item lot lines rows are none = by (list_any (is_pair item lot) lines)
 pub one_among : (item lot : List ℕ) (lines : List Line) (rows : List LotRow) (i : ℕ) → AreRowsOf lines rows
     → IsPlace item lot rows i → (d : LotRow) → list_any (is_pair item lot) lines ≡ true
 one_among item lot lines rows i are place d =
-    let there = told_there item lot rows i d place.within (place.here d) in
+    let there = of_pair_there item lot rows i d place.within (place.here d) in
     by (list_any (is_pair item lot) lines) (omega (arith, there, are item lot))
   where
     by : (v : Bool) → 1 ≤ cond {A = ℕ} v 1 0 → v ≡ true

@@ -4,14 +4,14 @@ use Rattle.std.proofs.lemmas.List.{append-nil}
 use Rattle.std.proofs.lemmas.Grind.{flat_map-append}
 use Rattle.std.specs.Prelude.{bytes_eq, is_some, option_map, flat_map, nat_lt}
 use Rattle.std.specs.Option.{option_or}
-use Rattle.profile.specs.Limits.{most_recounted}
+use Rattle.profile.specs.Limits.{most_recounted, most_sets}
 use Rattle.profile.specs.Lists.{or_else}
 use Rattle.profile.specs.Means.{Line, Order}
 use Rattle.profile.specs.Rows.{named}
 use Rattle.profile.specs.Page.{PageAdvice, PageOrder, page_order, reserved_lines}
 use Rattle.profile.specs.Events.{Event, Ordered, quantity_of, order_if, order_under, Reserved, picks, count_naming, date_naming, order_fault, order_fault_where, repeated, same_order_item, repeated_item, wrong_order_total}
 use Rattle.profile.specs.Movements.{Column, Expected, OnHand, Reservation, Shipped}
-use Rattle.goods.specs.Told.{told, amount, given, named_by, positive}
+use Rattle.goods.specs.OfPairs.{of_pair, amount, given, named_by, positive}
 use Rattle.goods.specs.Pages.{PageFacts, advice_at, order_at, document_at, awaited, held, IsSound, AreSorted, is_in_lines}
 use Rattle.stock.specs.Shows.{Shows, is_numbered_within, NamesEachOnce}
 use Rattle.goods.specs.Steps.{opened_order, IsReserved}
@@ -28,18 +28,18 @@ use Rattle.stock.proofs.Allots.{IsAllotted}
 
 -- the shares fit
 pub reserved_fits : (p : PageFacts) (shares : List Line) → IsAllotted p.rows shares → IsSound p → (a b : List ℕ)
-    → told (amount Reservation) a b p.rows + quantity_of (reserved_lines shares) a b < 2 ^ 64
+    → of_pair (amount Reservation) a b p.rows + quantity_of (reserved_lines shares) a b < 2 ^ 64
 reserved_fits p shares allotted sound a b = omega (arith, sound.bounded OnHand a b, sound.covered a b, sound.numbered, sound.few, allotted.within a b)
 
 within_bound : (p : PageFacts) (shares : List Line) → IsAllotted p.rows shares → IsSound p → (c : Column) (a b : List ℕ)
-    → told (amount c) a b p.rows + given Reservation (reserved_lines shares) c a b ≤ (most_recounted + 1) * (1000 * p.entries + p.recent)
+    → of_pair (amount c) a b p.rows + given Reservation (reserved_lines shares) c a b ≤ (most_recounted + 1) * (most_sets * p.entries + p.recent)
 within_bound p shares allotted sound Expected a b = omega (arith, sound.bounded Expected a b)
 within_bound p shares allotted sound OnHand a b = omega (arith, sound.bounded OnHand a b)
 within_bound p shares allotted sound Reservation a b = omega (arith, sound.bounded OnHand a b, sound.covered a b, allotted.within a b)
 within_bound p shares allotted sound Shipped a b = omega (arith, sound.bounded Shipped a b)
 
 pub reserved_sound : (o : Order) (shares : List Line) (old new : PageFacts) → IsReserved o shares old new → IsAllotted old.rows shares
-    → is_in_lines (opened_order o shares) ≡ true → order_at o.number old.orders ≡ None → old.recent < 1000 → IsSound old → IsSound new
+    → is_in_lines (opened_order o shares) ≡ true → order_at o.number old.orders ≡ None → old.recent < most_sets → IsSound old → IsSound new
 reserved_sound o shares old new step allotted lies unknown room sound = record {
   sorted = sorted;
   distinct = sorted_distinct new.rows step.rows.sorted;

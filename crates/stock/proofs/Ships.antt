@@ -6,14 +6,15 @@ use Rattle.std.proofs.lemmas.Grind.{flat_map-append}
 use Rattle.std.proofs.lemmas.Slice.Eq.{bytes_eq-Decides}
 use Rattle.std.specs.Prelude.{bytes_eq, option_map, flat_map, count_by, codes}
 use Rattle.std.specs.List.{list_any, list_all}
+use Rattle.profile.specs.Limits.{most_sets}
 use Rattle.profile.specs.Means.{Line, Order}
 use Rattle.profile.specs.Rows.{named}
-use Rattle.profile.specs.Refusals.{UnknownOrder, OrderClosed, NotReserved}
+use Rattle.profile.specs.declared.refusals.Refusal.TheVariants.{UnknownOrder, OrderClosed, NotReserved}
 use Rattle.profile.specs.Clerk.{picked}
 use Rattle.profile.specs.Page.{PageAdvice, PageOrder, page_order, reserved_lines}
 use Rattle.profile.specs.Events.{Event, Picked, is_pair, quantity_of, order_if, order_under, Reserved, picks, is_order_open, count_naming, date_naming}
 use Rattle.profile.specs.Movements.{Column, Expected, OnHand, Reservation, Shipped, comes, goes}
-use Rattle.goods.specs.Told.{told, amount, given, named_by, positive}
+use Rattle.goods.specs.OfPairs.{of_pair, amount, given, named_by, positive}
 use Rattle.profile.specs.Bytes.{comes_before}
 use Rattle.goods.specs.Keyed.{rises_by, shipment_of, put_order}
 use Rattle.goods.specs.Pages.{PageFacts, is_number, advice_at, order_at, awaited, held, IsSound, AreSorted}
@@ -25,7 +26,7 @@ use Rattle.stock.proofs.Moves.{came_push, went_push, came_append, went_append, c
 use Rattle.goods.proofs.Finds.{found_says, found_le, map_some, map_none}
 use Rattle.stock.proofs.PageLemmas.{all_numbered_same, own_number}
 use Rattle.goods.proofs.Pairs.{IsSheet, count_yes, count_no, quantity_yes, quantity_no, quantity_none}
-use Rattle.goods.proofs.Tells.{pair_is}
+use Rattle.goods.proofs.OfPairLemmas.{pair_is}
 use Rattle.stock.proofs.Views.{order_seen, unpicked, order_view, order_found_under}
 use Rattle.stock.proofs.Events.{found_kept, any_push, all_push, advice_kept, counted_kept}
 use Rattle.stock.proofs.Receives.{given_at_most, sent_shown}
@@ -35,7 +36,7 @@ held_part i l k = cond k.is_open (quantity_of k.reserved i l) 0
 
 -- what is held for an open order is reserved, and so on hand
 pub held_there : (p : PageFacts) (s : List ℕ) (k : PageOrder) → IsSound p → order_at s p.orders ≡ Some k → k.is_open ≡ true
-    → (a b : List ℕ) → quantity_of k.reserved a b ≤ told (amount Reservation) a b p.rows
+    → (a b : List ℕ) → quantity_of k.reserved a b ≤ of_pair (amount Reservation) a b p.rows
 held_there p s k sound known opened a b =
     omega (arith, sound.reserved a b, found_le (held_part a b) (is_number s) p.orders k known, ap (λ (v : Bool). cond v (quantity_of k.reserved a b) 0) opened)
 
@@ -63,7 +64,7 @@ within_reserved reserved (l ∷ ls) a b h few =
     ]
 
 pub picked_sound : (n : ℕ) (k : PageOrder) (sheet : List Line) (old new : PageFacts) → IsPicked n k sheet old new
-    → order_at k.number old.orders ≡ Some k → k.is_open ≡ true → IsSheet sheet → list_any (exceeds k.reserved) sheet ≡ false → old.recent < 1000 → IsSound old → IsSound new
+    → order_at k.number old.orders ≡ Some k → k.is_open ≡ true → IsSheet sheet → list_any (exceeds k.reserved) sheet ≡ false → old.recent < most_sets → IsSound old → IsSound new
 picked_sound n k sheet old new step known opened is_sheet covers room sound = record {
   sorted = sorted;
   distinct = sorted_distinct new.rows step.rows.sorted;

@@ -12,11 +12,11 @@ use Rattle.profile.specs.Events.{Event, Enrolment, Advised, Ordered, Acknowledge
 use Rattle.goods.specs.Lots.{is_lot_of, rank_of, ranks_of}
 use Rattle.goods.proofs.Orders.{Has, in_order_same}
 use Rattle.goods.proofs.Ranks.{ranks_order}
-use Rattle.goods.specs.Told.{is_row, told, since as first_count, positive, IsDistinct}
+use Rattle.goods.specs.OfPairs.{is_row, of_pair, since as first_count, positive, IsDistinct}
 use Rattle.goods.specs.Pages.{PageFacts}
 use Rattle.stock.specs.Shows.{Shows}
-use Rattle.goods.proofs.Tells.{row_is}
-use Rattle.goods.proofs.LotLemmas.{has_append, append_has, has_map, map_has, has_filter, filter_has, told_has, date_has, ranks_once, told_find}
+use Rattle.goods.proofs.OfPairLemmas.{row_is}
+use Rattle.goods.proofs.LotLemmas.{has_append, append_has, has_map, map_has, has_filter, filter_has, of_pair_has, date_has, ranks_once, of_pair_find}
 
 -- a list of events names a lot where a count of it does
 lot_in_sheet : (item lot : List ℕ) (sheet : List Line) → Has lot (map (λ l. l.lot) (filter (λ l. bytes_eq l.item item) sheet)) → list_any (is_pair item lot) sheet ≡ true
@@ -92,7 +92,7 @@ lots_shown r p es item shows distinct = in_order_same (ranks_before r) (ranks_or
     let g = filter_has (is_lot_of item) m.0 p.rows m.1 in
     let q = and_parts (bytes_eq m.0.item item) (ltb 0 m.0.since) g.1 in
     let here : is_row item m.0.lot m.0 ≡ true = rw (q.0, (bytes_eq-Decides m.0.lot m.0.lot).1 refl) refl in
-    let t : told first_count item m.0.lot p.rows ≡ m.0.since = told_has first_count item m.0.lot p.rows m.0 g.0 here (distinct item m.0.lot) in
+    let t : of_pair first_count item m.0.lot p.rows ≡ m.0.since = of_pair_has first_count item m.0.lot p.rows m.0 g.0 here (distinct item m.0.lot) in
     let found : first_found (count_naming item m.0.lot) es ≡ Some m.0.since = shows.sinces item m.0.lot ∙ ap positive t ∙ some_positive m.0.since (ltb-true 0 m.0.since q.1) in
     let date : expiry es item m.0.lot ≡ m.0.expiry = shows.expiries item m.0.lot ∙ date_has item m.0.lot p.rows m.0 g.0 here (distinct item m.0.lot) in
     subst (λ (w : Ranked). Has w (map rank (flat_map (lots_named item) es)))
@@ -101,10 +101,10 @@ lots_shown r p es item shows distinct = in_order_same (ranks_before r) (ranks_or
     (λ z h.
     let m = map_has rank z (flat_map (lots_named item) es) h in
     let f = has_naming item m.0 es m.1 in
-    let t = positive_some (told first_count item m.0 p.rows) f.0 (sym (shows.sinces item m.0) ∙ f.1) in
-    let r = told_find first_count item m.0 p.rows t.1 in
+    let t = positive_some (of_pair first_count item m.0 p.rows) f.0 (sym (shows.sinces item m.0) ∙ f.1) in
+    let r = of_pair_find first_count item m.0 p.rows t.1 in
     let q = row_is item m.0 r.0 r.2 in
-    let is : told first_count item m.0 p.rows ≡ r.0.since = told_has first_count item m.0 p.rows r.0 r.1 r.2 (distinct item m.0) in
+    let is : of_pair first_count item m.0 p.rows ≡ r.0.since = of_pair_has first_count item m.0 p.rows r.0 r.1 r.2 (distinct item m.0) in
     let lot : is_lot_of item r.0 ≡ true = rw ((bytes_eq-Decides r.0.item item).1 q.0, lt-ltb 0 r.0.since (omega arith)) refl in
     let number : since es item m.0 ≡ r.0.since = ap (λ (o : Option ℕ). unwrap_or o 0) f.1 ∙ sym t.0 ∙ is in
     let date : expiry es item m.0 ≡ r.0.expiry = shows.expiries item m.0 ∙ date_has item m.0 p.rows r.0 r.1 r.2 (distinct item m.0) in

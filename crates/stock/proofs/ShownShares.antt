@@ -7,14 +7,14 @@ use Rattle.profile.specs.Events.{Event}
 use Rattle.profile.specs.Movements.{Column, OnHand, Reservation, balance, free}
 use Rattle.profile.specs.declared.rules.Rules.{Rules}
 use Rattle.profile.specs.Allotment.{Ranked, ranks_before, allot, lots_of, lots_for, may_have, line_shares, order_shares}
-use Rattle.goods.specs.Told.{told, amount, IsDistinct}
+use Rattle.goods.specs.OfPairs.{of_pair, amount, IsDistinct}
 use Rattle.goods.specs.Pages.{PageFacts}
 use Rattle.stock.specs.Shows.{Shows}
 use Rattle.goods.specs.Lots.{ranks_of, free_in, shares_in, all_shares_in}
 use Rattle.stock.proofs.ShownLots.{lots_shown}
 use Rattle.goods.proofs.Shares.{map_same}
 
-balance_shown : (p : PageFacts) (es : List Event) → Shows p es → (c : Column) (i l : List ℕ) → told (amount c) i l p.rows ≡ balance es c i l
+balance_shown : (p : PageFacts) (es : List Event) → Shows p es → (c : Column) (i l : List ℕ) → of_pair (amount c) i l p.rows ≡ balance es c i l
 balance_shown p es shows c i l = omega (arith, shows.amounts c i l)
 
 free_shown : (p : PageFacts) (es : List Event) → Shows p es → (i l : List ℕ) → free_in p.rows i l ≡ free es i l

@@ -14,14 +14,14 @@ use Rattle.profile.specs.Page.{PageAdvice, PageOrder}
 use Rattle.profile.specs.Rows.{LotRow}
 use Rattle.goods.specs.Pages.{AreSorted, IsSound, PageFacts, awaited, held, is_in_lines}
 use Rattle.goods.specs.Soundness.{all_expected, all_reserved, is_expected, is_kept, is_reserved, is_within, most_of}
-use Rattle.goods.specs.Told.{IsDistinct, amount, is_row, one, told}
+use Rattle.goods.specs.OfPairs.{IsDistinct, amount, is_row, one, of_pair}
 use Rattle.profile.proofs.TextLaws.{same_text}
 use Rattle.goods.proofs.Keys.{all_at}
 use Rattle.goods.proofs.KeyLemmas.{advices_once, documents_once, orders_once, sorted_distinct}
-use Rattle.goods.proofs.LotLemmas.{told_has}
+use Rattle.goods.proofs.LotLemmas.{of_pair_has}
 use Rattle.goods.proofs.Orders.{Has}
 use Rattle.goods.proofs.Pairs.{quantity_no, quantity_yes}
-use Rattle.goods.proofs.Tells.{pair_is, part_no, part_yes, told_absent, told_cons}
+use Rattle.goods.proofs.OfPairLemmas.{pair_is, part_no, part_yes, of_pair_absent, of_pair_cons}
 
 -- what stands before a place, and what stands there
 pub taken_sum : {X : Type 0} (f : X → ℕ) (xs : List X) (i : ℕ) (d : X) → i < length xs → sum_by f (take i xs) + f (get_or xs i d) ≤ sum_by f xs
@@ -59,28 +59,28 @@ not_all p xs i d within h = elim (cases_Bool (list_all p xs)) [
 -- ---- amounts of rows
 
 -- one amount of each row is at most another
-pub told_at_most : (f g : LotRow → ℕ) (p : LotRow → Bool) → ((r : LotRow) → p r ≡ true → f r ≤ g r) → (a b : List ℕ) (rows : List LotRow) → list_all p rows ≡ true → told f a b rows ≤ told g a b rows
-told_at_most f g p le a b [] h = omega arith
-told_at_most f g p le a b (r ∷ rows) h =
+pub of_pair_at_most : (f g : LotRow → ℕ) (p : LotRow → Bool) → ((r : LotRow) → p r ≡ true → f r ≤ g r) → (a b : List ℕ) (rows : List LotRow) → list_all p rows ≡ true → of_pair f a b rows ≤ of_pair g a b rows
+of_pair_at_most f g p le a b [] h = omega arith
+of_pair_at_most f g p le a b (r ∷ rows) h =
     let q = and_parts (p r) (list_all p rows) h in
-    let more = told_at_most f g p le a b rows q.1 in
+    let more = of_pair_at_most f g p le a b rows q.1 in
     elim (cases_Bool (is_row a b r)) [
-      | inl e ↦ omega (arith, told_cons f a b r rows, told_cons g a b r rows, part_yes f a b r e, part_yes g a b r e, le r q.0, more)
-      | inr e ↦ omega (arith, told_cons f a b r rows, told_cons g a b r rows, part_no f a b r e, part_no g a b r e, more)
+      | inl e ↦ omega (arith, of_pair_cons f a b r rows, of_pair_cons g a b r rows, part_yes f a b r e, part_yes g a b r e, le r q.0, more)
+      | inr e ↦ omega (arith, of_pair_cons f a b r rows, of_pair_cons g a b r rows, part_no f a b r e, part_no g a b r e, more)
     ]
 
 -- each at most so much, and so the one of a pair
-pub told_bound : (f : LotRow → ℕ) (m : ℕ) (p : LotRow → Bool) → ((r : LotRow) → p r ≡ true → f r ≤ m) → (a b : List ℕ) (rows : List LotRow) → told one a b rows ≤ 1 → list_all p rows ≡ true → told f a b rows ≤ m
-told_bound f m p le a b [] few h = omega arith
-told_bound f m p le a b (r ∷ rows) few h =
+pub of_pair_bound : (f : LotRow → ℕ) (m : ℕ) (p : LotRow → Bool) → ((r : LotRow) → p r ≡ true → f r ≤ m) → (a b : List ℕ) (rows : List LotRow) → of_pair one a b rows ≤ 1 → list_all p rows ≡ true → of_pair f a b rows ≤ m
+of_pair_bound f m p le a b [] few h = omega arith
+of_pair_bound f m p le a b (r ∷ rows) few h =
     let q = and_parts (p r) (list_all p rows) h in
     elim (cases_Bool (is_row a b r)) [
       | inl e ↦
-          let none : told one a b rows ≡ 0 = omega (arith, told_cons one a b r rows, part_yes one a b r e, few) in
-          omega (arith, told_cons f a b r rows, part_yes f a b r e, le r q.0, told_absent f a b rows none)
+          let none : of_pair one a b rows ≡ 0 = omega (arith, of_pair_cons one a b r rows, part_yes one a b r e, few) in
+          omega (arith, of_pair_cons f a b r rows, part_yes f a b r e, le r q.0, of_pair_absent f a b rows none)
       | inr e ↦
-          let rest : told one a b rows ≤ 1 = omega (arith, told_cons one a b r rows, part_no one a b r e, few) in
-          omega (arith, told_cons f a b r rows, part_no f a b r e, told_bound f m p le a b rows rest q.1)
+          let rest : of_pair one a b rows ≤ 1 = omega (arith, of_pair_cons one a b r rows, part_no one a b r e, few) in
+          omega (arith, of_pair_cons f a b r rows, part_no f a b r e, of_pair_bound f m p le a b rows rest q.1)
     ]
 
 -- and the other way: what holds of each pair holds of its row
@@ -92,8 +92,8 @@ own_row : (r : LotRow) → is_row r.item r.lot r ≡ true
 own_row r = both_true (same_text r.item) (same_text r.lot)
 
 -- what is told of a row's pair is what the row says
-told_own : (f : LotRow → ℕ) (rows : List LotRow) (r : LotRow) → IsDistinct rows → Has r rows → told f r.item r.lot rows ≡ f r
-told_own f rows r distinct has = told_has f r.item r.lot rows r has (own_row r) (distinct r.item r.lot)
+of_pair_own : (f : LotRow → ℕ) (rows : List LotRow) (r : LotRow) → IsDistinct rows → Has r rows → of_pair f r.item r.lot rows ≡ f r
+of_pair_own f rows r distinct has = of_pair_has f r.item r.lot rows r has (own_row r) (distinct r.item r.lot)
 
 within_parts : (m : ℕ) (r : LotRow) → is_within m r ≡ true → (r.reserved ≤ r.on_hand) × (r.expected ≤ m) × (r.on_hand ≤ m) × (r.shipped ≤ m)
 within_parts m r h =
@@ -189,12 +189,12 @@ kept_sound p rest sorted h = record {
   sorted = sorted;
   distinct = distinct;
   expected = λ a b. at_most _ _ (open_pass (λ (k : PageAdvice). k.is_open) (λ k. k.lines) (is_expected p.rows p.advices)
-      (λ a b. nat_le (awaited p.advices a b) (told (amount Expected) a b p.rows)) (λ l. refl) a b p.advices k.expected);
+      (λ a b. nat_le (awaited p.advices a b) (of_pair (amount Expected) a b p.rows)) (λ l. refl) a b p.advices k.expected);
   reserved = λ a b. at_most _ _ (open_pass (λ (k : PageOrder). k.is_open) (λ k. k.reserved) (is_reserved p.rows p.orders)
-      (λ a b. nat_le (held p.orders a b) (told (amount Reservation) a b p.rows)) (λ l. refl) a b p.orders k.reserved);
+      (λ a b. nat_le (held p.orders a b) (of_pair (amount Reservation) a b p.rows)) (λ l. refl) a b p.orders k.reserved);
   in_lines = k.in_lines;
-  covered = λ a b. told_at_most (amount Reservation) (amount OnHand) (is_within m) (λ r e. (within_parts m r e).0) a b p.rows k.rows;
-  bounded = λ c a b. omega (arith, told_bound (amount c) m (is_within m) (λ r e. column_within m c r e) a b p.rows (distinct a b) k.rows, rest);
+  covered = λ a b. of_pair_at_most (amount Reservation) (amount OnHand) (is_within m) (λ r e. (within_parts m r e).0) a b p.rows k.rows;
+  bounded = λ c a b. omega (arith, of_pair_bound (amount c) m (is_within m) (λ r e. column_within m c r e) a b p.rows (distinct a b) k.rows, rest);
   numbered = leb-true p.entries most_entries k.few;
   few = omega (arith, rest);
   advices_once = advices_once p.advices sorted.advices;
@@ -223,9 +223,9 @@ sound_kept p rest sound = both_true (both_true (both_true (both_true (le-leb p.e
     m = most_of p.entries
 
     at : (c : Column) (r : LotRow) → Has r p.rows → amount c r ≤ m
-    at c r has = omega (arith, told_own (amount c) p.rows r sound.distinct has, sound.bounded c r.item r.lot, rest)
+    at c r has = omega (arith, of_pair_own (amount c) p.rows r sound.distinct has, sound.bounded c r.item r.lot, rest)
 
     within : (r : LotRow) → Has r p.rows → is_within m r ≡ true
     within r has = both_true (both_true (both_true
-        (le-leb r.reserved r.on_hand (omega (arith, told_own (amount Reservation) p.rows r sound.distinct has, told_own (amount OnHand) p.rows r sound.distinct has, sound.covered r.item r.lot)))
+        (le-leb r.reserved r.on_hand (omega (arith, of_pair_own (amount Reservation) p.rows r sound.distinct has, of_pair_own (amount OnHand) p.rows r sound.distinct has, sound.covered r.item r.lot)))
         (le-leb r.expected m (at Expected r has))) (le-leb r.on_hand m (at OnHand r has))) (le-leb r.shipped m (at Shipped r has))

@@ -17,7 +17,7 @@ use Rattle.goods.specs.Pages.{PageFacts, AreSorted, advice_at, order_at}
 use Rattle.stock.specs.Puts.{put, put_change}
 use Rattle.goods.specs.Steps.{opened, opened_order, closed_advice, closed_order, with_sent, IsAnnounced, IsReserved, IsReceived, IsPicked, IsRecounted}
 use Rattle.stock.specs.Stops.{row_changes, advice_changes, order_changes}
-use Rattle.goods.specs.Told.{changed_rows}
+use Rattle.goods.specs.OfPairs.{changed_rows}
 use Rattle.stock.specs.Touched.{IsTouched}
 use Rattle.goods.proofs.Keys.{put_rises}
 use Rattle.goods.proofs.KeyLemmas.{advice_put, order_put, put_sorted, texts_strict, said_sorted, sent_sorted}

@@ -9,14 +9,16 @@ use Rattle.goods.specs.Steps.{with_sent, with_said}
 
 -- a page of which nothing was put in yet, of a depositor with so many numbered entries
 abbrev pub nothing_yet : ℕ → PageFacts
-nothing_yet entries = record { rows = []; advices = []; orders = []; documents = []; entries = entries; recent = 0 }
+nothing_yet entries =
+    record { rows = []; advices = []; orders = []; documents = []; entries = entries; recent = 0 }
 
 -- one change
 abbrev pub put_change : PageFacts → Change → PageFacts
 put_change p (Stock r) = record p { rows = put_row r p.rows }
 put_change p (Advice k) = record p { advices = put_advice k p.advices }
 put_change p (Order k) = record p { orders = put_order k p.orders }
-put_change p (Sent n function) = record p { documents = with_sent n (function_text function) p.documents }
+put_change p (Sent n function) =
+    record p { documents = with_sent n (function_text function) p.documents }
 put_change p (Document n accepts) = record p { documents = with_said n accepts p.documents }
 
 -- the changes of one event, in turn: there is one event more since the last entry

@@ -4,7 +4,7 @@ use Rattle.std.specs.List.{list_any}
 use Rattle.profile.specs.Faults.{SetFault}
 use Rattle.profile.specs.Means.{Acknowledgment}
 use Rattle.profile.specs.Events.{Event}
-use Rattle.profile.specs.Refusals.{Refusal, refusal_number}
+use Rattle.profile.specs.declared.refusals.Refusal.{Refusal}
 use Rattle.tables.specs.Judged.{told}
 use Rattle.stock.specs.declared.steps.SetStop.{SetStop}
 use Rattle.stock.specs.declared.steps.SetStop.TheVariants as sets
@@ -12,7 +12,7 @@ use Rattle.stock.specs.declared.steps.ActStop.{ActStop}
 use Rattle.stock.specs.declared.steps.ActStop.TheVariants as acts
 use Rattle.stock.specs.declared.steps.Change.{Change}
 use Rattle.stock.specs.declared.steps.Change.TheVariants.{Stock, Advice, Order, Document}
-use Rattle.goods.specs.Told.{changed_rows}
+use Rattle.goods.specs.OfPairs.{changed_rows}
 use Rattle.goods.specs.Pages.{PageFacts, advice_at, order_at}
 use Rattle.goods.specs.Steps.{decides}
 
@@ -23,7 +23,7 @@ StopsFor fault sets.OutOfMemory = Unit {0}
 
 -- an act's refusal, or want of memory
 abbrev pub StopsAct : Result Event Refusal → ActStop → Type 0
-StopsAct outcome (acts.Refused n) = (r : Refusal) × (outcome ≡ Err r) × (refusal_number r ≡ n)
+StopsAct outcome (acts.Refused r) = outcome ≡ Err r
 StopsAct outcome acts.OutOfMemory = Unit {0}
 
 -- the rows of pairs that changed
@@ -32,11 +32,14 @@ row_changes old new = map Stock (changed_rows old.rows new.rows)
 
 -- and the advice or the order as the new page has it
 abbrev pub advice_changes : List ℕ → PageFacts → PageFacts → List Change
-advice_changes shipment old new = row_changes old new ++ option_to_list (option_map Advice (advice_at shipment new.advices))
+advice_changes shipment old new = row_changes old new
+    ++ option_to_list (option_map Advice (advice_at shipment new.advices))
 
 abbrev pub order_changes : List ℕ → PageFacts → PageFacts → List Change
-order_changes number old new = row_changes old new ++ option_to_list (option_map Order (order_at number new.orders))
+order_changes number old new = row_changes old new
+    ++ option_to_list (option_map Order (order_at number new.orders))
 
 -- the document that an acknowledgment decides, if it decides one
 abbrev pub document_changes : PageFacts → Acknowledgment → List Change
-document_changes p a = if list_any (decides p.entries a) p.documents then Document a.document a.accepts ∷ [] else []
+document_changes p a =
+    if list_any (decides p.entries a) p.documents then Document a.document a.accepts ∷ [] else []

@@ -5,15 +5,18 @@ use Rattle.profile.specs.Events.{is_pair}
 use Rattle.profile.specs.Means.{Line}
 use Rattle.profile.specs.Rows.{LotRow}
 use Rattle.goods.specs.Keyed.{IsSorted}
-use Rattle.goods.specs.Told.{told, one}
+use Rattle.goods.specs.OfPairs.{of_pair, one}
 
 -- the rows of the pairs that lines name, as they are
 pub record IsTouched (lines : List Line) (rows touched : List LotRow) : Type 0 where
   pub sorted : IsSorted touched
-  pub same : (f : LotRow → ℕ) (item lot : List ℕ) → told f item lot touched ≡ (if list_any (is_pair item lot) lines then told f item lot rows else 0)
+  pub same : (f : LotRow → ℕ) (item lot : List ℕ)
+      → of_pair f item lot touched ≡ (if list_any (is_pair item lot) lines
+      then of_pair f item lot rows else 0)
 
 -- and that of one line's pair more, if there is one
 pub record IsTouchedBy (line : Line) (rows old new : List LotRow) : Type 0 where
   pub sorted : IsSorted new
   pub same : (f : LotRow → ℕ) (item lot : List ℕ)
-      → told f item lot new ≡ (if is_pair item lot line && nat_lt 0 (told one item lot rows) then told f item lot rows else told f item lot old)
+      → of_pair f item lot new ≡ (if is_pair item lot line && nat_lt 0 (of_pair one item lot rows)
+      then of_pair f item lot rows else of_pair f item lot old)

@@ -36,8 +36,12 @@ fn opened(alloc: Global, advice: &Advice, lines: Vec<Goods>) -> Result<KnownAdvi
 fn changes(alloc: Global, page: &Page, advice: &Advice) -> Result<Vec<Change>, AllocError>
     requires unknown { advice_at advice.now.shipment page.now.advices ≡ None }
     requires room { page.now.recent < most_sets }
-    ensures made { IfOk result (λ changes. (n : Named) (P : PageFacts) → IsPart n page.now P → NamesAdvice n advice.now → IsAnnounced advice.now P (put changes.items P)) }
-    ensures exact { IfOk result (λ changes. (n : Named) (P : PageFacts) → IsPart n page.now P → NamesAdvice n advice.now → changes.items ≡ advice_changes advice.now.shipment P (put changes.items P)) }
+    ensures made { IfOk result
+        (λ changes. (n : Named) (P : PageFacts) → IsPart n page.now P → NamesAdvice n advice.now
+        → IsAnnounced advice.now P (put changes.items P)) }
+    ensures exact { IfOk result
+        (λ changes. (n : Named) (P : PageFacts) → IsPart n page.now P → NamesAdvice n advice.now
+        → changes.items ≡ advice_changes advice.now.shipment P (put changes.items P)) }
     ensures sound { IfOk result (λ changes. IsSound (put changes.items page.now)) }
 {
     let set_lines = advice.lines();
@@ -57,9 +61,16 @@ fn changes(alloc: Global, page: &Page, advice: &Advice) -> Result<Vec<Change>, A
 /// isn't the sum), or want of memory.
 pub fn announce(alloc: Global, page: &Page, advice: &Advice) -> Result<Step, SetStop>
     requires { page.now.recent < most_sets }
-    ensures ok { IfOk result (λ step. (n : Named) (P : PageFacts) (es : List Event) → IsPart n page.now P → NamesAdvice n advice.now → Shows P es → (advice_fault es advice.now ≡ None) × Shows (put step.changes.items P) (es ++ Advised advice.now ∷ [])) }
-    ensures err { IfErr result (λ stop. (n : Named) (P : PageFacts) (es : List Event) → IsPart n page.now P → NamesAdvice n advice.now → Shows P es → StopsFor (advice_fault es advice.now) stop) }
-    ensures changes { IfOk result (λ step. (n : Named) (P : PageFacts) → IsPart n page.now P → NamesAdvice n advice.now → step.changes.items ≡ advice_changes advice.now.shipment P (put step.changes.items P)) }
+    ensures ok { IfOk result
+        (λ step. (n : Named) (P : PageFacts) (es : List Event) → IsPart n page.now P
+        → NamesAdvice n advice.now → Shows P es → (advice_fault es advice.now ≡ None)
+        × Shows (put step.changes.items P) (es ++ Advised advice.now ∷ [])) }
+    ensures err { IfErr result
+        (λ stop. (n : Named) (P : PageFacts) (es : List Event) → IsPart n page.now P
+        → NamesAdvice n advice.now → Shows P es → StopsFor (advice_fault es advice.now) stop) }
+    ensures changes { IfOk result
+        (λ step. (n : Named) (P : PageFacts) → IsPart n page.now P → NamesAdvice n advice.now
+        → step.changes.items ≡ advice_changes advice.now.shipment P (put step.changes.items P)) }
     ensures sound { IfOk result (λ step. IsSound (put step.changes.items page.now)) }
 {
     let is_known = page.has_advice(advice.shipment());

@@ -1,6 +1,6 @@
 ghost use Rattle.std.specs.Prelude.{◌≡◌, IfOk, map};
 ghost use Rattle.goods.specs.Keyed.{IsSorted};
-ghost use Rattle.goods.specs.Told.{changed_rows};
+ghost use Rattle.goods.specs.OfPairs.{changed_rows};
 ghost use Rattle.stock.specs.declared.steps.Change.TheVariants.{Stock};
 
 use crate::places::has_row;
@@ -15,7 +15,8 @@ pub(crate) fn row_changes(
     touched: &[Row],
 ) -> Result<Vec<Change>, AllocError>
     requires { IsSorted rows.now }
-    ensures { IfOk result (λ changes. changes.items ≡ map Stock (changed_rows rows.now touched.now)) }
+    ensures { IfOk result
+        (λ changes. changes.items ≡ map Stock (changed_rows rows.now touched.now)) }
 {
     let mut changes = Vec::new(alloc);
     for row in touched {

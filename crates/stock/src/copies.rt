@@ -82,7 +82,9 @@ pub(crate) fn known_lines(alloc: Global, lines: &[OrderLine]) -> Result<Vec<Know
 
 // Where a line belongs, if its pair isn't there.
 fn place_among(lines: &[Goods], new: &Goods) -> Option<usize>
-    ensures { MatchOption result (placed pair_before new.now lines.now ≡ lines.now) (λ i. (i ≤ length lines.now) × (placed pair_before new.now lines.now ≡ insert lines.now i new.now)) }
+    ensures { MatchOption result (placed pair_before new.now lines.now ≡ lines.now)
+        (λ i. (i ≤ length lines.now)
+        × (placed pair_before new.now lines.now ≡ insert lines.now i new.now)) }
 {
     for (i, other) in lines.iter().enumerate() {
         if comes_before(new, other) {
@@ -107,7 +109,9 @@ fn place(lines: &mut Vec<Goods>, new: Goods) -> Result<(), AllocError>
 
 // Puts a copy of a share in its place, if it is above 0.
 fn reserve_share(lines: &mut Vec<Goods>, share: &Goods) -> Result<(), AllocError>
-    ensures { OnOk result (lines.new.items ≡ (if nat_lt 0 share.now.quantity then placed pair_before share.now lines.old.items else lines.old.items)) }
+    ensures { OnOk result (lines.new.items
+        ≡ (if nat_lt 0 share.now.quantity then placed pair_before share.now lines.old.items else
+        lines.old.items)) }
 {
     if share.quantity > 0 {
         place(lines, copied(share)?)?;

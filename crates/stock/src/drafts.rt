@@ -27,7 +27,14 @@ pub struct Draft {
 impl Model for Draft {
     ghost Value = { PageFacts };
 
-    ghost view = { λ p. record { rows = p.rows.items; advices = p.advices.items; orders = p.orders.items; documents = p.documents.items; entries = p.entries; recent = p.recent } };
+    ghost view = { λ p. record {
+      rows = p.rows.items;
+      advices = p.advices.items;
+      orders = p.orders.items;
+      documents = p.documents.items;
+      entries = p.entries;
+      recent = p.recent;
+    } };
 
     ghost invariant = { λ p. AreSorted (record { rows = p.rows.items; advices = p.advices.items; orders = p.orders.items; documents = p.documents.items; entries = p.entries; recent = p.recent }) };
 }
@@ -66,7 +73,8 @@ impl Draft {
     /// something reserved for an order of an item of none of its lines; or an amount above what so
     /// many entries can bring.
     pub fn page(self) -> Option<Page>
-        ensures { let lists : PageFacts = record self { recent = 0 } in MatchOption result (IsSound lists → ⊥) (λ page. page ≡ lists) }
+        ensures { let lists : PageFacts = record self { recent = 0 } in MatchOption result
+            (IsSound lists → ⊥) (λ page. page ≡ lists) }
     {
         let Draft {
             rows,
@@ -128,7 +136,8 @@ impl Draft {
     /// With an advice, in the place of that of its shipment number; want of memory is the one
     /// error.
     pub fn with_advice(self, advice: KnownAdvice) -> Result<Draft, AllocError>
-        ensures { IfOk result (λ draft. draft ≡ record self { advices = put_advice advice self.advices }) }
+        ensures { IfOk result
+            (λ draft. draft ≡ record self { advices = put_advice advice self.advices }) }
     {
         let Draft {
             rows,
@@ -151,7 +160,8 @@ impl Draft {
 
     /// With an order, in the place of that of its number; want of memory is the one error.
     pub fn with_order(self, order: KnownOrder) -> Result<Draft, AllocError>
-        ensures { IfOk result (λ draft. draft ≡ record self { orders = put_order order self.orders }) }
+        ensures { IfOk result
+            (λ draft. draft ≡ record self { orders = put_order order self.orders }) }
     {
         let Draft {
             rows,
@@ -174,7 +184,8 @@ impl Draft {
 
     /// With a document, in the place of that of its number; want of memory is the one error.
     pub fn with_document(self, document: KnownDocument) -> Result<Draft, AllocError>
-        ensures { IfOk result (λ draft. draft ≡ record self { documents = put_document document self.documents }) }
+        ensures { IfOk result
+            (λ draft. draft ≡ record self { documents = put_document document self.documents }) }
     {
         let Draft {
             rows,

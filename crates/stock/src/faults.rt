@@ -2,7 +2,7 @@ ghost use Rattle.std.specs.Prelude.{◌≡◌, ◌<◌, ◌-◌, ◌^◌, IfOk, 
 ghost use Rattle.profile.specs.Means as meant;
 ghost use Rattle.profile.specs.Events as events;
 ghost use Rattle.goods.specs.Keyed.{IsSorted};
-ghost use Rattle.goods.specs.Told.{told_date};
+ghost use Rattle.goods.specs.OfPairs.{date_of_pair};
 ghost use Rattle.sets_in.specs.Limits.{HasFewLines, HasFewOrderLines};
 ghost use Rattle.tables.specs.Judged.{told};
 
@@ -29,7 +29,9 @@ fn trade_fault(segment: &'static [u8], position: u32, place: u32) -> SetFault<'s
 fn repeated_pair(alloc: Global, lines: &[AdviceLine]) -> Result<Option<u32>, AllocError>
     requires { HasFewLines lines.now }
     ensures room { IfOk result (λ o. IfSome o (λ n. n < 2 ^ 32 - 1)) }
-    ensures first { IfOk result (λ o. o ≡ option_map (λ (l : meant.AdviceLine). l.position) (events.repeated events.same_advice_pair [] lines.now)) }
+    ensures first { IfOk result
+        (λ o. o ≡ option_map
+        (λ (l : meant.AdviceLine). l.position) (events.repeated events.same_advice_pair [] lines.now)) }
 {
     let mut seen = Vec::new(alloc);
     for line in lines {
@@ -47,7 +49,9 @@ fn redated_pair(lines: &[AdviceLine], rows: &[Row]) -> Option<u32>
     requires few { HasFewLines lines.now }
     requires sorted { IsSorted rows.now }
     ensures room { IfSome result (λ n. n < 2 ^ 32 - 1) }
-    ensures first { result ≡ option_map (λ (l : meant.AdviceLine). l.position) (find (events.is_redated (λ item lot. told_date item lot rows.now)) lines.now) }
+    ensures first { result ≡ option_map
+        (λ (l : meant.AdviceLine). l.position) (find (events.is_redated
+        (λ item lot. date_of_pair item lot rows.now)) lines.now) }
 {
     for line in lines {
         if is_redated(rows, line) {
@@ -62,7 +66,8 @@ fn sooner(
     fault: Option<SetFault<'static>>,
     other: Option<SetFault<'static>>,
 ) -> Option<SetFault<'static>>
-    ensures { option_map told result ≡ events.sooner (option_map told fault.entry) (option_map told other.entry) }
+    ensures { option_map told result
+        ≡ events.sooner (option_map told fault.entry) (option_map told other.entry) }
 {
     let Some(fault) = fault else {
         return other;
@@ -85,7 +90,10 @@ fn pair_fault(
     rows: &[Row],
 ) -> Result<Option<SetFault<'static>>, AllocError>
     requires { IsSorted rows.now }
-    ensures { IfOk result (λ f. option_map told f ≡ events.sooner (events.repeated_pair advice.now) (events.redated_pair (λ item lot. told_date item lot rows.now) advice.now)) }
+    ensures { IfOk result
+        (λ f. option_map told f
+        ≡ events.sooner (events.repeated_pair advice.now) (events.redated_pair
+        (λ item lot. date_of_pair item lot rows.now) advice.now)) }
 {
     let lines = advice.lines();
     let repeated = repeated_pair(alloc, lines)?.map(|position| trade_fault(b"N9", position + 1, 2));
@@ -115,7 +123,9 @@ pub(crate) fn advice_fault(
     rows: &[Row],
 ) -> Result<Option<SetFault<'static>>, AllocError>
     requires { IsSorted rows.now }
-    ensures { IfOk result (λ f. option_map told f ≡ events.advice_fault_where is_known (λ item lot. told_date item lot rows.now) advice.now) }
+    ensures { IfOk result
+        (λ f. option_map told f ≡ events.advice_fault_where is_known
+        (λ item lot. date_of_pair item lot rows.now) advice.now) }
 {
     let lines = advice.lines();
     if is_known {
@@ -133,7 +143,9 @@ pub(crate) fn advice_fault(
 // The position of the first line whose item stood before in the set. The items of the lines before
 // it are kept as rows of no lot, in order, so that each is found by halves.
 fn repeated_item(alloc: Global, lines: &[OrderLine]) -> Result<Option<u32>, AllocError>
-    ensures { IfOk result (λ o. o ≡ option_map (λ (l : meant.OrderLine). l.position) (events.repeated events.same_order_item [] lines.now)) }
+    ensures { IfOk result
+        (λ o. o ≡ option_map
+        (λ (l : meant.OrderLine). l.position) (events.repeated events.same_order_item [] lines.now)) }
 {
     let mut seen = Vec::new(alloc);
     for line in lines {

@@ -5,7 +5,7 @@ ghost use Rattle.goods.specs.Columns.{column_of};
 ghost use Rattle.goods.specs.Keyed.{IsSorted};
 ghost use Rattle.stock.specs.Left.{IsLess};
 ghost use Rattle.goods.specs.Pages as pages;
-ghost use Rattle.goods.specs.Told.{amount};
+ghost use Rattle.goods.specs.OfPairs.{amount};
 
 use goods::{Column, KnownAdvice, KnownOrder, Row, place_of};
 use sets_in::Goods;

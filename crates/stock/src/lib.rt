@@ -27,7 +27,7 @@ pub use allotment::allot;
 pub use announcements::announce;
 pub use drafts::Draft;
 pub use goods::{
-    Function, KnownAdvice, KnownDocument, KnownLine, KnownOrder, Row, place_of, quantity_of,
+    Function, KnownAdvice, KnownDocument, KnownLine, KnownOrder, Row, place_of, quantity_of, total,
 };
 pub use page::Page;
 pub use picks::pick;

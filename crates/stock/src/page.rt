@@ -6,7 +6,7 @@ ghost use Rattle.goods.specs.Pages.{PageFacts, IsSound, advice_at, order_at, doc
 ghost use Rattle.stock.specs.Parts.{Named, IsPart};
 ghost use Rattle.stock.specs.Puts.{put};
 ghost use Rattle.stock.specs.Shows.{Shows};
-ghost use Rattle.goods.specs.Told.{told, amount};
+ghost use Rattle.goods.specs.OfPairs.{of_pair, amount};
 
 use crate::drafts::Draft;
 use crate::searches::{place_of_advice, place_of_document, place_of_order};
@@ -29,7 +29,14 @@ pub struct Page {
 impl Model for Page {
     ghost Value = { PageFacts };
 
-    ghost view = { λ p. record { rows = p.rows.items; advices = p.advices.items; orders = p.orders.items; documents = p.documents.items; entries = p.entries; recent = p.recent } };
+    ghost view = { λ p. record {
+      rows = p.rows.items;
+      advices = p.advices.items;
+      orders = p.orders.items;
+      documents = p.documents.items;
+      entries = p.entries;
+      recent = p.recent;
+    } };
 
     ghost invariant = { λ p. IsSound (record { rows = p.rows.items; advices = p.advices.items; orders = p.orders.items; documents = p.documents.items; entries = p.entries; recent = p.recent }) };
 }
@@ -125,7 +132,8 @@ impl Page {
 
     /// The advice under a shipment number, if there is one.
     pub fn advice(&self, shipment: &[u8]) -> Option<&KnownAdvice>
-        ensures { MatchOption result (advice_at shipment.now self.now.advices ≡ None) (λ k. advice_at shipment.now self.now.advices ≡ Some k.now) }
+        ensures { MatchOption result (advice_at shipment.now self.now.advices ≡ None)
+            (λ k. advice_at shipment.now self.now.advices ≡ Some k.now) }
     {
         match place_of_advice(&self.advices, shipment) {
             None => None,
@@ -155,7 +163,8 @@ impl Page {
 
     /// The order under a number, if there is one.
     pub fn order(&self, number: &[u8]) -> Option<&KnownOrder>
-        ensures { MatchOption result (order_at number.now self.now.orders ≡ None) (λ k. order_at number.now self.now.orders ≡ Some k.now) }
+        ensures { MatchOption result (order_at number.now self.now.orders ≡ None)
+            (λ k. order_at number.now self.now.orders ≡ Some k.now) }
     {
         match place_of_order(&self.orders, number) {
             None => None,
@@ -165,8 +174,9 @@ impl Page {
 
     /// What is on hand of a pair, in the unit EA: 0 where there is no row of it.
     pub fn on_hand(&self, item: &[u8], lot: &[u8]) -> u64
-        ensures told { result ≡ told (amount OnHand) item.now lot.now self.now.rows }
-        ensures balance { (n : Named) (P : PageFacts) (es : List Event) → IsPart n self.now P → n.items item.now ≡ true → Shows P es → result ≡ balance es OnHand item.now lot.now }
+        ensures amount { result ≡ of_pair (amount OnHand) item.now lot.now self.now.rows }
+        ensures balance { (n : Named) (P : PageFacts) (es : List Event) → IsPart n self.now P
+            → n.items item.now ≡ true → Shows P es → result ≡ balance es OnHand item.now lot.now }
     {
         let rows = self.rows();
         amount_of(rows, Column::OnHand, item, lot)
@@ -174,7 +184,8 @@ impl Page {
 
     // The document with a number, if there is one.
     pub(crate) fn document(&self, n: u32) -> Option<&KnownDocument>
-        ensures { MatchOption result (document_at n self.now.documents ≡ None) (λ d. document_at n self.now.documents ≡ Some d.now) }
+        ensures { MatchOption result (document_at n self.now.documents ≡ None)
+            (λ d. document_at n self.now.documents ≡ Some d.now) }
     {
         match place_of_document(&self.documents, n) {
             None => None,

@@ -19,6 +19,7 @@ use crate::places::touched;
 use crate::postings::ship;
 use crate::steps::{ActStop, Change, Step};
 use goods::{Function, KnownOrder, exceeds};
+use profile::Refusal;
 use sheets::Sheet;
 use std::alloc::{AllocError, Global};
 
@@ -33,10 +34,15 @@ fn changes(
     requires known { order_at order.now.number page.now.orders ≡ Some order.now }
     requires is_open { order.now.is_open ≡ true }
     requires covered { list_any (exceeds order.now.reserved) sheet.now ≡ false }
-    ensures made { IfOk result (λ changes. (n : Named) (P : PageFacts) → IsPart n page.now P → are_items n order.now.reserved ≡ true → are_items n sheet.now ≡ true
+    ensures made { IfOk result
+        (λ changes. (n : Named) (P : PageFacts) → IsPart n page.now P
+        → are_items n order.now.reserved ≡ true → are_items n sheet.now ≡ true
         → IsPicked (page.now.entries + 1) order.now sheet.now P (put changes.items P)) }
-    ensures exact { IfOk result (λ changes. (n : Named) (P : PageFacts) → IsPart n page.now P → are_items n order.now.reserved ≡ true → are_items n sheet.now ≡ true
-        → changes.items ≡ order_changes order.now.number P (put changes.items P) ++ Sent (page.now.entries + 1) Shipment ∷ []) }
+    ensures exact { IfOk result
+        (λ changes. (n : Named) (P : PageFacts) → IsPart n page.now P
+        → are_items n order.now.reserved ≡ true → are_items n sheet.now ≡ true
+        → changes.items ≡ order_changes order.now.number P (put changes.items P)
+        ++ Sent (page.now.entries + 1) Shipment ∷ []) }
     ensures sound { IfOk result (λ changes. IsSound (put changes.items page.now)) }
 {
     let goods = sheet.lines(alloc)?;
@@ -59,24 +65,33 @@ fn changes(
 /// each over all lines, or want of memory.
 pub fn pick(alloc: Global, page: &Page, number: &[u8], sheet: &Sheet) -> Result<Step, ActStop>
     requires { page.now.recent < most_sets }
-    ensures ok { IfOk result (λ step. (n : Named) (P : PageFacts) (es : List Event) → IsPart n page.now P → NamesPick n page.now number.now sheet.now → Shows P es
-        → (e : Event) × (picked es (page.now.entries + 1) number.now sheet.now ≡ Ok e) × Shows (put step.changes.items P) (es ++ e ∷ [])) }
-    ensures err { IfErr result (λ stop. (n : Named) (P : PageFacts) (es : List Event) → IsPart n page.now P → n.orders number.now ≡ true → Shows P es → StopsAct (picked es (page.now.entries + 1) number.now sheet.now) stop) }
-    ensures changes { IfOk result (λ step. (n : Named) (P : PageFacts) → IsPart n page.now P → NamesPick n page.now number.now sheet.now
-        → step.changes.items ≡ order_changes number.now P (put step.changes.items P) ++ Sent (page.now.entries + 1) Shipment ∷ []) }
+    ensures ok { IfOk result
+        (λ step. (n : Named) (P : PageFacts) (es : List Event) → IsPart n page.now P
+        → NamesPick n page.now number.now sheet.now → Shows P es
+        → (e : Event) × (picked es (page.now.entries + 1) number.now sheet.now ≡ Ok e)
+        × Shows (put step.changes.items P) (es ++ e ∷ [])) }
+    ensures err { IfErr result
+        (λ stop. (n : Named) (P : PageFacts) (es : List Event) → IsPart n page.now P
+        → n.orders number.now ≡ true → Shows P es
+        → StopsAct (picked es (page.now.entries + 1) number.now sheet.now) stop) }
+    ensures changes { IfOk result
+        (λ step. (n : Named) (P : PageFacts) → IsPart n page.now P
+        → NamesPick n page.now number.now sheet.now
+        → step.changes.items ≡ order_changes number.now P (put step.changes.items P)
+        ++ Sent (page.now.entries + 1) Shipment ∷ []) }
     ensures sound { IfOk result (λ step. IsSound (put step.changes.items page.now)) }
 {
     // what is known of every page
     let _ = page.rows();
     let Some(order) = page.order(number) else {
-        return Err(ActStop::Refused(24));
+        return Err(ActStop::Refused(Refusal::UnknownOrder));
     };
     if !order.is_open {
-        return Err(ActStop::Refused(25));
+        return Err(ActStop::Refused(Refusal::OrderClosed));
     }
     let goods = sheet.lines(alloc)?;
     if exceeds(&order.reserved, &goods) {
-        return Err(ActStop::Refused(26));
+        return Err(ActStop::Refused(Refusal::NotReserved));
     }
     let changes = changes(alloc, page, order, sheet)?;
     Ok(Step { changes })

@@ -4,7 +4,7 @@ ghost use Rattle.std.specs.List.{list_any};
 ghost use Rattle.profile.specs.Events.{is_pair, is_redated};
 ghost use Rattle.profile.specs.Means.{Line};
 ghost use Rattle.goods.specs.Keyed.{put_row, IsSorted};
-ghost use Rattle.goods.specs.Told.{AreRowsOf, told_date, one, same_row, blank};
+ghost use Rattle.goods.specs.OfPairs.{AreRowsOf, date_of_pair, one, same_row, blank};
 ghost use Rattle.stock.specs.Touched.{IsTouched, IsTouchedBy};
 ghost use Rattle.goods.specs.Moved.{IsPlaced};
 
@@ -15,7 +15,8 @@ use std::alloc::{AllocError, Global};
 // Whether one of the lines of which these are the rows is of the pair.
 pub(crate) fn is_among(seen: &[Row], item: &[u8], lot: &[u8]) -> bool
     requires { IsSorted seen.now }
-    ensures { (lines : List Line) → AreRowsOf lines seen.now → result ≡ list_any (is_pair item.now lot.now) lines }
+    ensures { (lines : List Line) → AreRowsOf lines seen.now
+        → result ≡ list_any (is_pair item.now lot.now) lines }
 {
     match place_of(seen, item, lot) {
         None => false,
@@ -64,7 +65,7 @@ fn touch(rows: &[Row], touched: &mut Vec<Row>, line: &Goods) -> Result<(), Alloc
 // Whether a line gives a date to a pair whose row has another.
 pub(crate) fn is_redated(rows: &[Row], line: &AdviceLine) -> bool
     requires { IsSorted rows.now }
-    ensures { result ≡ is_redated (λ item lot. told_date item lot rows.now) line.now }
+    ensures { result ≡ is_redated (λ item lot. date_of_pair item lot rows.now) line.now }
 {
     let goods = &line.line;
     match place_of(rows, &goods.item, &goods.lot) {

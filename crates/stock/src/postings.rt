@@ -3,7 +3,7 @@ ghost use Rattle.std.specs.Prelude.{◌≡◌, [], ◌∷◌, ◌≤◌, ◌<◌
 ghost use Rattle.profile.specs.Events.{quantity_of};
 ghost use Rattle.profile.specs.Movements.{Expected, OnHand, Reservation, Shipped};
 ghost use Rattle.goods.specs.Keyed.{IsSorted};
-ghost use Rattle.goods.specs.Told.{told, one, amount, named_by};
+ghost use Rattle.goods.specs.OfPairs.{of_pair, one, amount, named_by};
 ghost use Rattle.goods.specs.Moved.{IsAdded, IsTaken, IsMarked, IsDated, IsCounted, IsRaised, IsShipped, IsSet};
 ghost use Rattle.goods.specs.Columns.{column_of};
 
@@ -20,7 +20,7 @@ fn add_line(
     line: &Goods,
 ) -> Result<(), AllocError>
     requires sorted { IsSorted rows.old.items }
-    requires fits { told (amount (column_of column)) line.now.item line.now.lot rows.old.items +
+    requires fits { of_pair (amount (column_of column)) line.now.item line.now.lot rows.old.items +
         line.now.quantity < 2 ^ 64 }
     ensures { OnOk result (IsAdded (column_of column) (line.now ∷ []) rows.old.items rows.new.items) }
 {
@@ -33,7 +33,7 @@ fn add_line(
 // Takes a line from a column.
 fn take_line(rows: &mut Vec<Row>, column: Column, line: &Goods)
     requires sorted { IsSorted rows.old.items }
-    requires there { line.now.quantity ≤ told (amount (column_of column)) line.now.item line.now.lot
+    requires there { line.now.quantity ≤ of_pair (amount (column_of column)) line.now.item line.now.lot
         rows.old.items }
     ensures { IsTaken (column_of column) (line.now ∷ []) rows.old.items rows.new.items }
 {
@@ -46,9 +46,10 @@ fn take_line(rows: &mut Vec<Row>, column: Column, line: &Goods)
 // Adds a line to a column of its row, if there is one.
 fn raise_line(rows: &mut Vec<Row>, column: Column, line: &Goods)
     requires sorted { IsSorted rows.old.items }
-    requires fits { told (amount (column_of column)) line.now.item line.now.lot rows.old.items +
+    requires fits { of_pair (amount (column_of column)) line.now.item line.now.lot rows.old.items +
         line.now.quantity < 2 ^ 64 }
-    requires there { told one line.now.item line.now.lot rows.old.items ≡ 0 → line.now.quantity ≡ 0 }
+    requires there { of_pair one line.now.item line.now.lot rows.old.items ≡ 0
+        → line.now.quantity ≡ 0 }
     ensures { IsRaised (column_of column) (line.now ∷ []) rows.old.items rows.new.items }
 {
     if let Some(i) = place_of(rows, &line.item, &line.lot) {
@@ -61,8 +62,9 @@ fn raise_line(rows: &mut Vec<Row>, column: Column, line: &Goods)
 pub(crate) fn raise_lines(rows: &mut Vec<Row>, column: Column, lines: &[Goods])
     requires sorted { IsSorted rows.old.items }
     requires fits { (item lot : List ℕ)
-        → told (amount (column_of column)) item lot rows.old.items + quantity_of lines.now item lot < 2 ^ 64 }
-    requires there { (item lot : List ℕ) → told one item lot rows.old.items ≡ 0
+        → of_pair (amount (column_of column)) item lot rows.old.items
+        + quantity_of lines.now item lot < 2 ^ 64 }
+    requires there { (item lot : List ℕ) → of_pair one item lot rows.old.items ≡ 0
         → quantity_of lines.now item lot ≡ 0 }
     ensures { IsRaised (column_of column) lines.now rows.old.items rows.new.items }
 {
@@ -75,11 +77,11 @@ pub(crate) fn raise_lines(rows: &mut Vec<Row>, column: Column, lines: &[Goods])
 pub(crate) fn ship(rows: &mut Vec<Row>, reserved: &[Goods], sheet: &[Goods])
     requires sorted { IsSorted rows.old.items }
     requires on_hand { (item lot : List ℕ)
-        → quantity_of sheet.now item lot ≤ told (amount OnHand) item lot rows.old.items }
+        → quantity_of sheet.now item lot ≤ of_pair (amount OnHand) item lot rows.old.items }
     requires fits { (item lot : List ℕ)
-        → told (amount Shipped) item lot rows.old.items + quantity_of sheet.now item lot < 2 ^ 64 }
+        → of_pair (amount Shipped) item lot rows.old.items + quantity_of sheet.now item lot < 2 ^ 64 }
     requires there { (item lot : List ℕ)
-        → quantity_of reserved.now item lot ≤ told (amount Reservation) item lot rows.old.items }
+        → quantity_of reserved.now item lot ≤ of_pair (amount Reservation) item lot rows.old.items }
     ensures { IsShipped reserved.now sheet.now rows.old.items rows.new.items }
 {
     take_lines(rows, Column::OnHand, sheet);
@@ -90,7 +92,7 @@ pub(crate) fn ship(rows: &mut Vec<Row>, reserved: &[Goods], sheet: &[Goods])
 // Sets what is on hand of the line's pair.
 fn set_line(rows: &mut Vec<Row>, line: &Goods)
     requires sorted { IsSorted rows.old.items }
-    requires there { 1 ≤ told one line.now.item line.now.lot rows.old.items }
+    requires there { 1 ≤ of_pair one line.now.item line.now.lot rows.old.items }
     ensures { IsSet (line.now ∷ []) rows.old.items rows.new.items }
 {
     if let Some(i) = place_of(rows, &line.item, &line.lot) {
@@ -102,7 +104,8 @@ fn set_line(rows: &mut Vec<Row>, line: &Goods)
 // Sets what is on hand of the lines' pairs.
 pub(crate) fn set_lines(rows: &mut Vec<Row>, lines: &[Goods])
     requires sorted { IsSorted rows.old.items }
-    requires there { (item lot : List ℕ) → named_by lines.now item lot ≤ told one item lot rows.old.items }
+    requires there { (item lot : List ℕ)
+        → named_by lines.now item lot ≤ of_pair one item lot rows.old.items }
     ensures { IsSet lines.now rows.old.items rows.new.items }
 {
     for line in lines {
@@ -119,7 +122,8 @@ pub(crate) fn add_lines(
 ) -> Result<(), AllocError>
     requires sorted { IsSorted rows.old.items }
     requires fits { (item lot : List ℕ)
-        → told (amount (column_of column)) item lot rows.old.items + quantity_of lines.now item lot < 2 ^ 64 }
+        → of_pair (amount (column_of column)) item lot rows.old.items
+        + quantity_of lines.now item lot < 2 ^ 64 }
     ensures { OnOk result (IsAdded (column_of column) lines.now rows.old.items rows.new.items) }
 {
     for line in lines {
@@ -132,7 +136,7 @@ pub(crate) fn add_lines(
 pub(crate) fn take_lines(rows: &mut Vec<Row>, column: Column, lines: &[Goods])
     requires sorted { IsSorted rows.old.items }
     requires there { (item lot : List ℕ)
-        → quantity_of lines.now item lot ≤ told (amount (column_of column)) item lot rows.old.items }
+        → quantity_of lines.now item lot ≤ of_pair (amount (column_of column)) item lot rows.old.items }
     ensures { IsTaken (column_of column) lines.now rows.old.items rows.new.items }
 {
     for line in lines {
@@ -143,7 +147,7 @@ pub(crate) fn take_lines(rows: &mut Vec<Row>, column: Column, lines: &[Goods])
 // Numbers the line's row, if it has no number.
 fn mark_line(rows: &mut Vec<Row>, n: u32, line: &Goods)
     requires sorted { IsSorted rows.old.items }
-    requires there { 1 ≤ told one line.now.item line.now.lot rows.old.items }
+    requires there { 1 ≤ of_pair one line.now.item line.now.lot rows.old.items }
     ensures { IsMarked n (line.now ∷ []) rows.old.items rows.new.items }
 {
     if let Some(i) = place_of(rows, &line.item, &line.lot) {
@@ -156,7 +160,8 @@ fn mark_line(rows: &mut Vec<Row>, n: u32, line: &Goods)
 pub(crate) fn mark_lines(rows: &mut Vec<Row>, n: u32, lines: &[Goods])
     requires positive { 0 < n }
     requires sorted { IsSorted rows.old.items }
-    requires there { (item lot : List ℕ) → named_by lines.now item lot ≤ told one item lot rows.old.items }
+    requires there { (item lot : List ℕ)
+        → named_by lines.now item lot ≤ of_pair one item lot rows.old.items }
     ensures { IsMarked n lines.now rows.old.items rows.new.items }
 {
     for line in lines {
@@ -167,7 +172,7 @@ pub(crate) fn mark_lines(rows: &mut Vec<Row>, n: u32, lines: &[Goods])
 // Gives the line's row the date of the line, if it has none.
 fn date_line(alloc: Global, rows: &mut Vec<Row>, line: &AdviceLine) -> Result<(), AllocError>
     requires sorted { IsSorted rows.old.items }
-    requires there { 1 ≤ told one line.now.line.item line.now.line.lot rows.old.items }
+    requires there { 1 ≤ of_pair one line.now.line.item line.now.line.lot rows.old.items }
     ensures { OnOk result (IsDated (line.now ∷ []) rows.old.items rows.new.items) }
 {
     let goods = &line.line;
@@ -185,7 +190,8 @@ pub(crate) fn date_lines(
     lines: &[AdviceLine],
 ) -> Result<(), AllocError>
     requires sorted { IsSorted rows.old.items }
-    requires there { (item lot : List ℕ) → named_by (map (λ l. l.line) lines.now) item lot ≤ told one item lot rows.old.items }
+    requires there { (item lot : List ℕ)
+        → named_by (map (λ l. l.line) lines.now) item lot ≤ of_pair one item lot rows.old.items }
     ensures { OnOk result (IsDated lines.now rows.old.items rows.new.items) }
 {
     for line in lines {
@@ -205,9 +211,9 @@ pub(crate) fn count(
     requires positive { 0 < n }
     requires sorted { IsSorted rows.old.items }
     requires there { (item lot : List ℕ)
-        → quantity_of expected.now item lot ≤ told (amount Expected) item lot rows.old.items }
+        → quantity_of expected.now item lot ≤ of_pair (amount Expected) item lot rows.old.items }
     requires fits { (item lot : List ℕ)
-        → told (amount OnHand) item lot rows.old.items + quantity_of sheet.now item lot < 2 ^ 64 }
+        → of_pair (amount OnHand) item lot rows.old.items + quantity_of sheet.now item lot < 2 ^ 64 }
     ensures { OnOk result (IsCounted n expected.now sheet.now rows.old.items rows.new.items) }
 {
     take_lines(rows, Column::Expected, expected);

@@ -18,6 +18,7 @@ use crate::places::touched;
 use crate::postings::count;
 use crate::steps::{ActStop, Change, Step};
 use goods::{Function, KnownAdvice};
+use profile::Refusal;
 use sheets::Sheet;
 use std::alloc::{AllocError, Global};
 
@@ -31,10 +32,15 @@ fn changes(
     requires room { page.now.recent < most_sets }
     requires known { advice_at advice.now.shipment page.now.advices ≡ Some advice.now }
     requires is_open { advice.now.is_open ≡ true }
-    ensures made { IfOk result (λ changes. (n : Named) (P : PageFacts) → IsPart n page.now P → are_items n advice.now.lines ≡ true → are_items n sheet.now ≡ true
+    ensures made { IfOk result
+        (λ changes. (n : Named) (P : PageFacts) → IsPart n page.now P
+        → are_items n advice.now.lines ≡ true → are_items n sheet.now ≡ true
         → IsReceived (page.now.entries + 1) advice.now sheet.now P (put changes.items P)) }
-    ensures exact { IfOk result (λ changes. (n : Named) (P : PageFacts) → IsPart n page.now P → are_items n advice.now.lines ≡ true → are_items n sheet.now ≡ true
-        → changes.items ≡ advice_changes advice.now.shipment P (put changes.items P) ++ Sent (page.now.entries + 1) Receipt ∷ []) }
+    ensures exact { IfOk result
+        (λ changes. (n : Named) (P : PageFacts) → IsPart n page.now P
+        → are_items n advice.now.lines ≡ true → are_items n sheet.now ≡ true
+        → changes.items ≡ advice_changes advice.now.shipment P (put changes.items P)
+        ++ Sent (page.now.entries + 1) Receipt ∷ []) }
     ensures sound { IfOk result (λ changes. IsSound (put changes.items page.now)) }
 {
     let goods = sheet.lines(alloc)?;
@@ -62,18 +68,27 @@ fn changes(
 /// counted), or want of memory.
 pub fn receive(alloc: Global, page: &Page, shipment: &[u8], sheet: &Sheet) -> Result<Step, ActStop>
     requires { page.now.recent < most_sets }
-    ensures ok { IfOk result (λ step. (n : Named) (P : PageFacts) (es : List Event) → IsPart n page.now P → NamesCount n page.now shipment.now sheet.now → Shows P es
-        → (e : Event) × (counted es (page.now.entries + 1) shipment.now sheet.now ≡ Ok e) × Shows (put step.changes.items P) (es ++ e ∷ [])) }
-    ensures err { IfErr result (λ stop. (n : Named) (P : PageFacts) (es : List Event) → IsPart n page.now P → n.shipments shipment.now ≡ true → Shows P es → StopsAct (counted es (page.now.entries + 1) shipment.now sheet.now) stop) }
-    ensures changes { IfOk result (λ step. (n : Named) (P : PageFacts) → IsPart n page.now P → NamesCount n page.now shipment.now sheet.now
-        → step.changes.items ≡ advice_changes shipment.now P (put step.changes.items P) ++ Sent (page.now.entries + 1) Receipt ∷ []) }
+    ensures ok { IfOk result
+        (λ step. (n : Named) (P : PageFacts) (es : List Event) → IsPart n page.now P
+        → NamesCount n page.now shipment.now sheet.now → Shows P es
+        → (e : Event) × (counted es (page.now.entries + 1) shipment.now sheet.now ≡ Ok e)
+        × Shows (put step.changes.items P) (es ++ e ∷ [])) }
+    ensures err { IfErr result
+        (λ stop. (n : Named) (P : PageFacts) (es : List Event) → IsPart n page.now P
+        → n.shipments shipment.now ≡ true → Shows P es
+        → StopsAct (counted es (page.now.entries + 1) shipment.now sheet.now) stop) }
+    ensures changes { IfOk result
+        (λ step. (n : Named) (P : PageFacts) → IsPart n page.now P
+        → NamesCount n page.now shipment.now sheet.now
+        → step.changes.items ≡ advice_changes shipment.now P (put step.changes.items P)
+        ++ Sent (page.now.entries + 1) Receipt ∷ []) }
     ensures sound { IfOk result (λ step. IsSound (put step.changes.items page.now)) }
 {
     let Some(advice) = page.advice(shipment) else {
-        return Err(ActStop::Refused(22));
+        return Err(ActStop::Refused(Refusal::UnknownAdvice));
     };
     if !advice.is_open() {
-        return Err(ActStop::Refused(23));
+        return Err(ActStop::Refused(Refusal::AdviceClosed));
     }
     let changes = changes(alloc, page, advice, sheet)?;
     Ok(Step { changes })

@@ -18,6 +18,7 @@ use crate::places::touched;
 use crate::postings::set_lines;
 use crate::steps::{ActStop, Change, Step};
 use goods::{Function, are_on_hand, has_below, has_unknown};
+use profile::Refusal;
 use sheets::Sheet;
 use std::alloc::{AllocError, Global};
 
@@ -26,8 +27,13 @@ fn changes(alloc: Global, page: &Page, sheet: &Sheet) -> Result<Vec<Change>, All
     requires room { page.now.recent < most_sets }
     requires known { list_any (is_unknown page.now.rows) sheet.now ≡ false }
     requires covered { list_any (is_below page.now.rows) sheet.now ≡ false }
-    ensures made { IfOk result (λ changes. (n : Named) (P : PageFacts) → IsPart n page.now P → are_items n sheet.now ≡ true → IsRecounted (page.now.entries + 1) sheet.now P (put changes.items P)) }
-    ensures exact { IfOk result (λ changes. (n : Named) (P : PageFacts) → IsPart n page.now P → are_items n sheet.now ≡ true → changes.items ≡ row_changes P (put changes.items P) ++ Sent (page.now.entries + 1) Adjustment ∷ []) }
+    ensures made { IfOk result
+        (λ changes. (n : Named) (P : PageFacts) → IsPart n page.now P → are_items n sheet.now ≡ true
+        → IsRecounted (page.now.entries + 1) sheet.now P (put changes.items P)) }
+    ensures exact { IfOk result
+        (λ changes. (n : Named) (P : PageFacts) → IsPart n page.now P → are_items n sheet.now ≡ true
+        → changes.items ≡ row_changes P (put changes.items P)
+        ++ Sent (page.now.entries + 1) Adjustment ∷ []) }
     ensures sound { IfOk result (λ changes. IsSound (put changes.items page.now)) }
 {
     let goods = sheet.lines(alloc)?;
@@ -47,22 +53,31 @@ fn changes(alloc: Global, page: &Page, sheet: &Sheet) -> Result<Vec<Change>, All
 /// differs from what is on hand), each over all lines, or want of memory.
 pub fn recount(alloc: Global, page: &Page, sheet: &Sheet) -> Result<Step, ActStop>
     requires { page.now.recent < most_sets }
-    ensures ok { IfOk result (λ step. (n : Named) (P : PageFacts) (es : List Event) → IsPart n page.now P → are_items n sheet.now ≡ true → Shows P es
-        → (e : Event) × (recounted es (page.now.entries + 1) sheet.now ≡ Ok e) × Shows (put step.changes.items P) (es ++ e ∷ [])) }
-    ensures err { IfErr result (λ stop. (n : Named) (P : PageFacts) (es : List Event) → IsPart n page.now P → are_items n sheet.now ≡ true → Shows P es → StopsAct (recounted es (page.now.entries + 1) sheet.now) stop) }
-    ensures changes { IfOk result (λ step. (n : Named) (P : PageFacts) → IsPart n page.now P → are_items n sheet.now ≡ true → step.changes.items ≡ row_changes P (put step.changes.items P) ++ Sent (page.now.entries + 1) Adjustment ∷ []) }
+    ensures ok { IfOk result
+        (λ step. (n : Named) (P : PageFacts) (es : List Event) → IsPart n page.now P
+        → are_items n sheet.now ≡ true → Shows P es
+        → (e : Event) × (recounted es (page.now.entries + 1) sheet.now ≡ Ok e)
+        × Shows (put step.changes.items P) (es ++ e ∷ [])) }
+    ensures err { IfErr result
+        (λ stop. (n : Named) (P : PageFacts) (es : List Event) → IsPart n page.now P
+        → are_items n sheet.now ≡ true → Shows P es
+        → StopsAct (recounted es (page.now.entries + 1) sheet.now) stop) }
+    ensures changes { IfOk result
+        (λ step. (n : Named) (P : PageFacts) → IsPart n page.now P → are_items n sheet.now ≡ true
+        → step.changes.items ≡ row_changes P (put step.changes.items P)
+        ++ Sent (page.now.entries + 1) Adjustment ∷ []) }
     ensures sound { IfOk result (λ step. IsSound (put step.changes.items page.now)) }
 {
     let goods = sheet.lines(alloc)?;
     let rows = page.rows();
     if has_unknown(rows, &goods) {
-        return Err(ActStop::Refused(27));
+        return Err(ActStop::Refused(Refusal::UnknownLot));
     }
     if has_below(rows, &goods) {
-        return Err(ActStop::Refused(28));
+        return Err(ActStop::Refused(Refusal::BelowReserved));
     }
     if are_on_hand(rows, &goods) {
-        return Err(ActStop::Refused(29));
+        return Err(ActStop::Refused(Refusal::NoDifference));
     }
     let changes = changes(alloc, page, sheet)?;
     Ok(Step { changes })

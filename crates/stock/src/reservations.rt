@@ -67,8 +67,12 @@ fn changes(
     requires unknown { order_at order.now.number page.now.orders ≡ None }
     requires once { repeated same_order_item [] order.now.lines ≡ None }
     requires allotted { (r : Rules) × (shares.now ≡ all_shares_in r page.now.rows order.now.lines) }
-    ensures made { IfOk result (λ changes. (n : Named) (P : PageFacts) → IsPart n page.now P → NamesOrder n order.now → IsReserved order.now shares.now P (put changes.items P)) }
-    ensures exact { IfOk result (λ changes. (n : Named) (P : PageFacts) → IsPart n page.now P → NamesOrder n order.now → changes.items ≡ order_changes order.now.number P (put changes.items P)) }
+    ensures made { IfOk result
+        (λ changes. (n : Named) (P : PageFacts) → IsPart n page.now P → NamesOrder n order.now
+        → IsReserved order.now shares.now P (put changes.items P)) }
+    ensures exact { IfOk result
+        (λ changes. (n : Named) (P : PageFacts) → IsPart n page.now P → NamesOrder n order.now
+        → changes.items ≡ order_changes order.now.number P (put changes.items P)) }
     ensures sound { IfOk result (λ changes. IsSound (put changes.items page.now)) }
 {
     let lines = reserved(alloc, shares)?;
@@ -88,10 +92,19 @@ fn changes(
 /// want of memory.
 pub fn reserve(alloc: Global, page: &Page, order: &Order, rules: Rules) -> Result<Step, SetStop>
     requires { page.now.recent < most_sets }
-    ensures ok { IfOk result (λ step. (n : Named) (P : PageFacts) (es : List Event) → IsPart n page.now P → NamesOrder n order.now → Shows P es
-        → (order_fault es order.now ≡ None) × Shows (put step.changes.items P) (es ++ Ordered order.now (order_shares rules es order.now) ∷ [])) }
-    ensures err { IfErr result (λ stop. (n : Named) (P : PageFacts) (es : List Event) → IsPart n page.now P → n.orders order.now.number ≡ true → Shows P es → StopsFor (order_fault es order.now) stop) }
-    ensures changes { IfOk result (λ step. (n : Named) (P : PageFacts) → IsPart n page.now P → NamesOrder n order.now → step.changes.items ≡ order_changes order.now.number P (put step.changes.items P)) }
+    ensures ok { IfOk result
+        (λ step. (n : Named) (P : PageFacts) (es : List Event) → IsPart n page.now P
+        → NamesOrder n order.now → Shows P es
+        → (order_fault es order.now ≡ None)
+        × Shows (put step.changes.items P) (es
+        ++ Ordered order.now (order_shares rules es order.now) ∷ [])) }
+    ensures err { IfErr result
+        (λ stop. (n : Named) (P : PageFacts) (es : List Event) → IsPart n page.now P
+        → n.orders order.now.number ≡ true → Shows P es
+        → StopsFor (order_fault es order.now) stop) }
+    ensures changes { IfOk result
+        (λ step. (n : Named) (P : PageFacts) → IsPart n page.now P → NamesOrder n order.now
+        → step.changes.items ≡ order_changes order.now.number P (put step.changes.items P)) }
     ensures sound { IfOk result (λ step. IsSound (put step.changes.items page.now)) }
 {
     let is_known = page.has_order(order.number());

@@ -19,7 +19,8 @@ fn rank_of_advice(advices: &[KnownAdvice], shipment: &[u8]) -> usize
 /// The place of the advice under a shipment number.
 pub(crate) fn place_of_advice(advices: &[KnownAdvice], shipment: &[u8]) -> Option<usize>
     requires { rises_by comes_before shipment_of advices.now ≡ true }
-    ensures { MatchOption result (advice_at shipment.now advices.now ≡ None) (λ i. IsAt (is_shipment shipment.now) advices.now i) }
+    ensures { MatchOption result (advice_at shipment.now advices.now ≡ None)
+        (λ i. IsAt (is_shipment shipment.now) advices.now i) }
 {
     let i = rank_of_advice(advices, shipment);
     if i == advices.len() {
@@ -59,7 +60,8 @@ fn rank_of_order(orders: &[KnownOrder], number: &[u8]) -> usize
 /// The place of the order under a number.
 pub(crate) fn place_of_order(orders: &[KnownOrder], number: &[u8]) -> Option<usize>
     requires { rises_by comes_before number_of orders.now ≡ true }
-    ensures { MatchOption result (order_at number.now orders.now ≡ None) (λ i. IsAt (is_number number.now) orders.now i) }
+    ensures { MatchOption result (order_at number.now orders.now ≡ None)
+        (λ i. IsAt (is_number number.now) orders.now i) }
 {
     let i = rank_of_order(orders, number);
     if i == orders.len() {
@@ -96,7 +98,8 @@ fn rank_of_document(documents: &[KnownDocument], n: u32) -> usize
 /// The place of the document with a number.
 pub(crate) fn place_of_document(documents: &[KnownDocument], n: u32) -> Option<usize>
     requires { rises_by nat_lt entry_of documents.now ≡ true }
-    ensures { MatchOption result (document_at n documents.now ≡ None) (λ i. IsAt (is_document n) documents.now i) }
+    ensures { MatchOption result (document_at n documents.now ≡ None)
+        (λ i. IsAt (is_document n) documents.now i) }
 {
     let i = rank_of_document(documents, n);
     if i == documents.len() {

@@ -6,7 +6,7 @@ ghost use Rattle.profile.specs.Events as events;
 ghost use Rattle.goods.specs.Keyed.{IsSorted};
 ghost use Rattle.goods.specs.Pages as pages;
 ghost use Rattle.goods.specs.Soundness as meant;
-ghost use Rattle.goods.specs.Told.{AreRowsOf};
+ghost use Rattle.goods.specs.OfPairs.{AreRowsOf};
 
 use crate::left::{amounts, take_awaited, take_held};
 use crate::places::{is_among, placed};
@@ -19,7 +19,8 @@ use std::alloc::{AllocError, Global};
 
 // What is left of an amount after what lines give a pair; None where they give more.
 fn left_after(lines: &[Goods], item: &[u8], lot: &[u8], amount: u64) -> Option<u64>
-    ensures { MatchOption result (amount < events.quantity_of lines.now item.now lot.now) (λ left. left + events.quantity_of lines.now item.now lot.now ≡ amount) }
+    ensures { MatchOption result (amount < events.quantity_of lines.now item.now lot.now)
+        (λ left. left + events.quantity_of lines.now item.now lot.now ≡ amount) }
 {
     let mut left = amount;
     for line in lines {
@@ -112,7 +113,8 @@ fn are_reserved(rows: &[Row], orders: &[KnownOrder], lines: &[Goods]) -> bool
 // Whether what an open advice brings is expected.
 fn advice_expected(rows: &[Row], advices: &[KnownAdvice], advice: &KnownAdvice) -> bool
     requires { IsSorted rows.now }
-    ensures { result ≡ (if advice.now.is_open then list_all (meant.is_expected rows.now advices.now) advice.now.lines else true) }
+    ensures { result ≡ (if advice.now.is_open then list_all (meant.is_expected rows.now advices.now)
+        advice.now.lines else true) }
 {
     !advice.is_open() || are_expected(rows, advices, advice.lines())
 }
@@ -120,7 +122,8 @@ fn advice_expected(rows: &[Row], advices: &[KnownAdvice], advice: &KnownAdvice) 
 // Whether what an open order holds is reserved.
 fn order_reserved(rows: &[Row], orders: &[KnownOrder], order: &KnownOrder) -> bool
     requires { IsSorted rows.now }
-    ensures { result ≡ (if order.now.is_open then list_all (meant.is_reserved rows.now orders.now) order.now.reserved else true) }
+    ensures { result ≡ (if order.now.is_open then list_all (meant.is_reserved rows.now orders.now)
+        order.now.reserved else true) }
 {
     !order.is_open || are_reserved(rows, orders, &order.reserved)
 }
@@ -278,7 +281,8 @@ pub(crate) fn is_kept(
     entries: u32,
 ) -> bool
     requires { IsSorted rows.now }
-    ensures { (p : pages.PageFacts) → p.rows ≡ rows.now → p.advices ≡ advices.now → p.orders ≡ orders.now → p.entries ≡ entries → result ≡ meant.is_kept p }
+    ensures { (p : pages.PageFacts) → p.rows ≡ rows.now → p.advices ≡ advices.now
+        → p.orders ≡ orders.now → p.entries ≡ entries → result ≡ meant.is_kept p }
 {
     entries <= MOST_ENTRIES
         && are_within(rows, entries)

@@ -1,6 +1,7 @@
 ghost use Rattle.std.specs.Prelude.{◌≡◌};
 
 use goods::{Function, KnownAdvice, KnownOrder, Row};
+use profile::Refusal;
 use std::alloc::AllocError;
 use tables::SetFault;
 
@@ -60,8 +61,8 @@ impl From<AllocError> for SetStop {
 /// Why a clerk's act comes to no step.
 #[derive(Drop)]
 pub enum ActStop {
-    /// Its first refusal, by its number, 22 to 29.
-    Refused(u8),
+    /// Its first refusal, one of 22 to 29.
+    Refused(Refusal),
     /// A growth was refused.
     OutOfMemory,
 }

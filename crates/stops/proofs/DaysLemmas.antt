@@ -10,7 +10,7 @@ use Rattle.profile.specs.Register.{Command, Entry}
 use Rattle.profile.specs.Accepted.{accepted_on}
 use Rattle.profile.proofs.HistoryLaws.{accepted_on-append}
 use Rattle.profile.proofs.TextLaws.{both_parts}
-use Rattle.store.specs.declared.fault.Fault.{Fault}
+use Rattle.store.specs.Fault.{Fault}
 use Rattle.book_statements.specs.Carrying.{LeavesCarried}
 use Rattle.stops.specs.Days.{AllCarried, KeepsAnswers, Pass, Passes, PassesTo, reached, reached_on, day_by_day}
 use Rattle.stops.specs.Stopped.{IsAnswered}

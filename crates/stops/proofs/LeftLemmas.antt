@@ -9,8 +9,8 @@ use Rattle.profile.specs.Header.{Who}
 use Rattle.profile.specs.Moments.{Moment}
 use Rattle.profile.specs.Register.{Command, Entry}
 use Rattle.store.specs.Standing.{Standing, IsUsable, IsRunFault}
-use Rattle.store.specs.declared.fault.Fault.{Fault}
-use Rattle.store.specs.declared.fault.Fault.TheVariants.{OutOfMemory, Store, Reopen, NotThisBook, Device}
+use Rattle.store.specs.Fault.{Fault}
+use Rattle.store.specs.Fault.TheVariants.{OutOfMemory, Store, Reopen, NotThisBook, Device}
 use Rattle.store.specs.declared.serving.Outcome.{Outcome}
 use Rattle.book_statements.specs.Standing.{StandsIn}
 use Rattle.books.specs.Opened.{Opened, standing_of}

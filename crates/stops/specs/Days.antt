@@ -1,4 +1,5 @@
--- Days of a book. Each opens what the stop before it left, in version 1 or in version 2, answers commands, and ends in a stop.
+-- Days of a book. Each opens what the stop before it left, in version 1 or in version 2, answers
+-- commands, and ends in a stop.
 use Rattle.std.specs.Prelude.{◌≡◌, ℕ, ◌+◌, false, List, [], ◌∷◌, Result, Ok, Err, IfErr, All, Some, length, map, take, drop, slice_get}
 use Rattle.sqlite.specs.Tree.{Trees}
 use Rattle.profile.specs.declared.rules.Rules.TheVariants.{Two}
@@ -10,7 +11,7 @@ use Rattle.profile.specs.Accepted.{reply_to}
 use Rattle.store.specs.Again.{is_enrolment}
 use Rattle.store.specs.Runs.{told}
 use Rattle.store.specs.Standing.{Standing, IsUsable}
-use Rattle.store.specs.declared.fault.Fault.{Fault}
+use Rattle.store.specs.Fault.{Fault}
 use Rattle.book_statements.specs.Carrying.{LeavesCarried}
 use Rattle.stops.specs.Faults.{IsCallFault, IsOpeningFault}
 use Rattle.stops.specs.Stopped.{IsAnswered}
@@ -21,7 +22,8 @@ abbrev pub day_by_day : {X : Type 0} → List ℕ → List X → List (List X)
 day_by_day [] xs = []
 day_by_day (n ∷ ns) xs = take n xs ∷ day_by_day ns (drop n xs)
 
--- those of a day's commands that it came to: the ones that were answered and the next, and none where the book wasn't opened
+-- those of a day's commands that it came to: the ones that were answered and the next, and none
+-- where the book wasn't opened
 abbrev pub reached_on : {X : Type 0} → List X → Result Answered Fault → List X
 reached_on cs (Ok day) = take (length day.outcome.replies.items + 1) cs
 reached_on cs (Err fault) = []
@@ -51,22 +53,30 @@ module _ (left : Trees → Type 0) (W : Who) (all : AllCarried left W) where
     pub stands : LeavesCarried W (all found was).0 db
 
 -- on a day on which the book wasn't opened, for 40 or 41, nothing changed
-abbrev pub Passes : Who → List Entry → List (Command × Moment) → Result Answered Fault → List Entry → Type 0
+abbrev pub Passes : Who → List Entry → List (Command × Moment) → Result Answered Fault → List Entry
+    → Type 0
 Passes W L given (Ok day) M = IsAnswered W L given day M
 Passes W L given (Err fault) M = IsCallFault fault × (M ≡ L)
 
 -- days after one another, from the register L to the register M
-abbrev pub Pass : Who → List Entry → List (List (Command × Moment)) → List (Result Answered Fault) → List Entry → Type 0
+abbrev pub Pass : Who → List Entry → List (List (Command × Moment)) → List (Result Answered Fault)
+    → List Entry → Type 0
 Pass W L given [] M = M ≡ L
 Pass W L [] (day ∷ days) M = ⊥
-Pass W L (cs ∷ given) (day ∷ days) M = (N : List Entry) × Passes W L cs day N × Pass W N given days M
+Pass W L (cs ∷ given) (day ∷ days) M = (N : List Entry) × Passes W L cs day N
+    × Pass W N given days M
 
--- What was accepted on one of the days is stored from then on: an interchange or an act that is given again, at whatever moment,
--- is answered by the same text.
-abbrev pub KeepsAnswers : Who → List (List (Command × Moment)) → List (Result Answered Fault) → List Entry → Type 0
+-- What was accepted on one of the days is stored from then on: an interchange or an act that is
+-- given again, at whatever moment, is answered by the same text.
+abbrev pub KeepsAnswers : Who → List (List (Command × Moment)) → List (Result Answered Fault)
+    → List Entry → Type 0
 KeepsAnswers W given days M =
-    (d i : ℕ) (cs : List (Command × Moment)) (day : Answered) (c : Command) (t s : Moment) (text : List ℕ) → is_enrolment c ≡ false → slice_get given d ≡ Some cs → slice_get days d ≡ Some (Ok day)
-    → slice_get cs i ≡ Some (c, t) → slice_get (map told day.outcome.replies.items) i ≡ Some (Accepted text) → reply_to Two W M c s ≡ Stored text
+    (d i : ℕ) (cs : List (Command
+    × Moment)) (day : Answered) (c : Command) (t s : Moment) (text : List ℕ)
+    → is_enrolment c ≡ false → slice_get given d ≡ Some cs → slice_get days d ≡ Some (Ok day)
+    → slice_get cs i ≡ Some (c, t)
+    → slice_get (map told day.outcome.replies.items) i ≡ Some (Accepted text)
+    → reply_to Two W M c s ≡ Stored text
 
 -- trees stand for the register that one day leaves of something that was left before
 pub record PassesTo (left : Trees → Type 0) (W : Who) (all : AllCarried left W) (given : List (Command × Moment)) (day : Result Answered Fault) (db : Trees) : Type 0 where

@@ -5,8 +5,8 @@ use Rattle.sqlite.specs.declared.error.Error.TheVariants.{SqliteFailure}
 use Rattle.sqlite.specs.declared.error.ErrorCode.TheVariants as failures
 use Rattle.sqlite_trees.specs.declared.error.StoreError.{StoreError}
 use Rattle.sqlite_trees.specs.declared.error.StoreError.TheVariants as stops
-use Rattle.store.specs.declared.fault.Fault.{Fault}
-use Rattle.store.specs.declared.fault.Fault.TheVariants.{OutOfMemory, Store, NotThisBook}
+use Rattle.store.specs.Fault.{Fault}
+use Rattle.store.specs.Fault.TheVariants.{OutOfMemory, Store, NotThisBook}
 
 -- of what is left by a stop: want of memory is 40, all else 41
 abbrev pub fault_of_stop : StoreError → Fault

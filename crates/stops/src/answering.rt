@@ -24,7 +24,8 @@ pub(crate) fn answer<K: Keeper>(
     keeper: &mut K,
     commands: &[(Command<'_>, Moment)],
 ) -> Answered
-    ensures all { IsNone result.outcome.fault → length result.outcome.replies.items ≡ length commands.now }
+    ensures all { IsNone result.outcome.fault
+        → length result.outcome.replies.items ≡ length commands.now }
     ensures must_reopen { result.must_reopen ≡ (K.standing keeper.new).shut }
     ensures runs { (L : List register.Entry) → IsUsable (K.standing keeper.old) L
         → can_be_given (take (length result.outcome.replies.items + 1) commands.now) ≡ true

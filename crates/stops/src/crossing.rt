@@ -27,7 +27,8 @@ pub fn across<S: Alter + Reopen + Drop>(
     first: &[(Command<'_>, Moment)],
     second: &[(Command<'_>, Moment)],
 ) -> (Answered, Result<(Outcome, Book<S>), (Fault, S)>)
-    ensures all { IsNone result.0.outcome.fault → length result.0.outcome.replies.items ≡ length first.now }
+    ensures all { IsNone result.0.outcome.fault
+        → length result.0.outcome.replies.items ≡ length first.now }
     ensures later { IfOk result.1 (λ r. IsNone r.0.fault
         → length r.0.replies.items ≡ length second.now) }
     ensures named { IfErr result.1 (λ e. (e.0 ≡ Fault.NotThisBook) ⊎ ((e.0 ≡ Fault.OutOfMemory)

@@ -25,11 +25,14 @@ fn day<S: Alter + Reopen + Drop>(
     commands: &[(Command<'_>, Moment)],
 ) -> (Result<Answered, Fault>, S, bool)
     requires { IsClean (S.Store.view store) → IsTrue (S.Store.view store).is_numbered }
-    ensures passes { IsClean (S.Store.view result.1) → can_be_given (reached_on commands.now result.0) ≡ true
-        → (W : Partner) (all : AllCarried (S.Store.recovers store) W) → (db : Trees) → S.Store.recovers result.1 db
+    ensures passes { IsClean (S.Store.view result.1)
+        → can_be_given (reached_on commands.now result.0) ≡ true
+        → (W : Partner) (all : AllCarried (S.Store.recovers store) W) → (db : Trees)
+        → S.Store.recovers result.1 db
         → PassesTo (S.Store.recovers store) W all (all_asked commands.now) result.0 db }
     ensures doubt { doubt (S.Store.view store).is_clean ≤ doubt (S.Store.view result.1).is_clean }
-    ensures again { result.2 ≡ true → IsClean (S.Store.view result.1) → IsTrue (S.Store.view result.1).is_numbered }
+    ensures again { result.2 ≡ true → IsClean (S.Store.view result.1)
+        → IsTrue (S.Store.view result.1).is_numbered }
     ensures named { IfErr result.0 IsOpeningFault }
 {
     match opened_after(alloc, store) {
@@ -75,7 +78,8 @@ pub fn days<S: Alter + Reopen + Drop>(
     requires { IsClean (S.Store.view store) → IsTrue (S.Store.view store).is_numbered }
     ensures led { IsClean (S.Store.view result.2)
         → list_all can_be_given (reached (day_by_day counts.now asked.now) result.0.items) ≡ true
-        → (W : Partner) (L : List Entry) → ((db : Trees) → S.Store.recovers store db → LeavesCarried W L db)
+        → (W : Partner) (L : List Entry)
+        → ((db : Trees) → S.Store.recovers store db → LeavesCarried W L db)
         → (db : Trees) → S.Store.recovers result.2 db
         → AreLed W L (map all_asked (day_by_day counts.now asked.now)) result.0.items db }
     ensures all { result.1 ≡ true → length result.0.items ≡ length counts.now }

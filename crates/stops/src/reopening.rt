@@ -33,8 +33,10 @@ fn store_fault(error: StoreError) -> Fault
 // What a failure to open a store is told as: 43 where its trees are no database.
 fn open_fault(error: Error) -> Fault
     ensures told { result ≡ fault_of_opening error }
-    ensures not_this { result ≡ Fault.NotThisBook → error ≡ Error.SqliteFailure ErrorCode.NotADatabase }
-    ensures named { (result ≡ Fault.NotThisBook) ⊎ ((result ≡ Fault.OutOfMemory) ⊎ (result ≡ Fault.Store)) }
+    ensures not_this { result ≡ Fault.NotThisBook
+        → error ≡ Error.SqliteFailure ErrorCode.NotADatabase }
+    ensures named { (result ≡ Fault.NotThisBook)
+        ⊎ ((result ≡ Fault.OutOfMemory) ⊎ (result ≡ Fault.Store)) }
 {
     match error {
         Error::SqliteFailure(ErrorCode::OutOfMemory) => Fault::OutOfMemory,
@@ -55,18 +57,21 @@ pub(crate) fn opened_after<S: Alter + Reopen + Drop>(
     ensures opened { IfOk result (λ b. (standing_of S.Store b).doubt ≡ 0
         → (W : Partner) (all : AllCarried (S.Store.recovers store) W)
         → IsOpenedOf (S.Store.recovers store) W all (standing_of S.Store b)) }
-    ensures anew { IfOk result (λ b. (b.shut ≡ false) × (b.tables.refused ≡ 0) × (b.tables.limit ≡ None)) }
+    ensures anew { IfOk result
+        (λ b. (b.shut ≡ false) × (b.tables.refused ≡ 0) × (b.tables.limit ≡ None)) }
     ensures still { IfErr result (λ e. IsClean (S.Store.view e.1)
         → (W : Partner) (all : AllCarried (S.Store.recovers store) W)
         → (db : Trees) → S.Store.recovers e.1 db → IsStill (S.Store.recovers store) W all db) }
     ensures same { IfErr result (λ e. IsClean (S.Store.view e.1)
-        → (W : Partner) → ((db : Trees) → S.Store.recovers store db → (L : List Entry) × StandsIn W L db)
+        → (W : Partner) → ((db : Trees) → S.Store.recovers store db → (L : List Entry)
+        × StandsIn W L db)
         → (db : Trees) → S.Store.recovers e.1 db → S.Store.recovers store db) }
     ensures this { IfErr result (λ e. IsClean (S.Store.view e.1)
         → (W : Partner) → AllCarried (S.Store.recovers store) W → e.0 ≢ Fault.NotThisBook) }
     ensures again { IfErr result (λ e. e.2 ≡ true → IsClean (S.Store.view e.1)
         → IsTrue (S.Store.view e.1).is_numbered) }
-    ensures doubt { IfOk result (λ b. doubt (S.Store.view store).is_clean ≤ (standing_of S.Store b).doubt) }
+    ensures doubt { IfOk result
+        (λ b. doubt (S.Store.view store).is_clean ≤ (standing_of S.Store b).doubt) }
     ensures doubt_back { IfErr result (λ e. doubt (S.Store.view store).is_clean
         ≤ doubt (S.Store.view e.1).is_clean) }
     ensures named { IfErr result (λ e. (e.0 ≡ Fault.NotThisBook) ⊎ ((e.0 ≡ Fault.OutOfMemory)
@@ -86,7 +91,8 @@ pub(crate) fn opened_after<S: Alter + Reopen + Drop>(
 
 // The store of a book, whatever of a transaction is left in it.
 pub(crate) fn stopped<S: Alter + Drop>(book: Book<S>) -> S
-    ensures left { (db : Trees) → S.Store.recovers result db → (state S.Store book.tables.conn).may_leave db }
+    ensures left { (db : Trees) → S.Store.recovers result db
+        → (state S.Store book.tables.conn).may_leave db }
     ensures doubt { (standing_of S.Store book).doubt ≤ doubt (S.Store.view result).is_clean }
     ensures numbered { IsClean (S.Store.view result) → IsTrue (S.Store.view result).is_numbered }
 {
@@ -105,15 +111,19 @@ pub fn reopened<S: Alter + Reopen + Drop>(
     ensures left { IfOk result (λ b. (standing_of S.Store b).doubt ≡ 0
         → (standing_of S.Store book).all_stand
         → IsReopened (standing_of S.Store book) (standing_of S.Store b)) }
-    ensures anew { IfOk result (λ b. (b.shut ≡ false) × (b.tables.refused ≡ 0) × (b.tables.limit ≡ None)) }
-    ensures doubt { IfOk result (λ b. (standing_of S.Store book).doubt ≤ (standing_of S.Store b).doubt) }
+    ensures anew { IfOk result
+        (λ b. (b.shut ≡ false) × (b.tables.refused ≡ 0) × (b.tables.limit ≡ None)) }
+    ensures doubt { IfOk result
+        (λ b. (standing_of S.Store book).doubt ≤ (standing_of S.Store b).doubt) }
     ensures doubt_back { IfErr result (λ e. (standing_of S.Store book).doubt
         ≤ doubt (S.Store.view e.1).is_clean) }
     ensures named { IfErr result (λ e. (e.0 ≡ Fault.NotThisBook) ⊎ ((e.0 ≡ Fault.OutOfMemory)
         ⊎ (e.0 ≡ Fault.Store))) }
-    ensures this { IfErr result (λ e. IsClean (S.Store.view e.1) → (standing_of S.Store book).all_stand
+    ensures this { IfErr result
+        (λ e. IsClean (S.Store.view e.1) → (standing_of S.Store book).all_stand
         → e.0 ≢ Fault.NotThisBook) }
-    ensures kept { IfErr result (λ e. IsClean (S.Store.view e.1) → (standing_of S.Store book).all_stand
+    ensures kept { IfErr result
+        (λ e. IsClean (S.Store.view e.1) → (standing_of S.Store book).all_stand
         → (db : Trees) → S.Store.recovers e.1 db → (state S.Store book.tables.conn).may_leave db) }
 {
     match opened_after(alloc, stopped(book)) {

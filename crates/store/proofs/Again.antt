@@ -1,4 +1,5 @@
--- An accepted command that is given again, however much later, is answered by the text that went out for it.
+-- An accepted command that is given again, however much later, is answered by the text that went
+-- out for it.
 use Rattle.std.proofs.Common.{◌≡◌, ℕ, suc, inl, inr, arith, ne_eqb, Bool, true, false, List, [], ◌∷◌, ◌++◌, length, refl, sym, ap, ◌∙◌, Option, Some, None, option_map, bytes_eq, append_assoc, append-nil}
 use Rattle.std.specs.Prelude.{◌==◌}
 use Rattle.std.specs.Cmp.Derive.{both_true}

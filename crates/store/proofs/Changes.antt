@@ -2,7 +2,7 @@
 use Rattle.std.proofs.Common.{◌≡◌, ◌∙◌, sym, refl, arith, List, ◌⊎◌, inl, inr, Result, Ok, Err, OnErr}
 use Rattle.std.proofs.lemmas.Result.{IfErr-weaker}
 use Rattle.profile.specs.Register.{Entry}
-use Rattle.store.specs.declared.fault.Fault.{Fault}
+use Rattle.store.specs.Fault.{Fault}
 use Rattle.store.specs.Standing.{Standing, IsUsable, KeepsLegal, IsUnchanged, GoesOn, LeavesEither, IsFault, IsQuery, IsQueryFault, Refused}
 
 pub goes_trans : (a b c : Standing) → GoesOn a b → GoesOn b c → GoesOn a c

@@ -100,8 +100,8 @@ who_is a b h =
 number_is : (before : List Entry) (e : Entry) → number_of before e ≡ number_after (history (own before e.who)) e
 number_is before e = ap (λ n. if is_numbered e then n else 0) (sym (history-numbered (own before e.who)))
 
-pub written_behind : (before : List Entry) (e : Entry) (w : Written) → w ≡ written before e → w ≡ written_as (number_after (history (own before e.who)) e) e
-written_behind before e w h = h ∙ ap (λ n. written_as n e) (number_is before e)
+pub written_later : (before : List Entry) (e : Entry) (w : Written) → w ≡ written before e → w ≡ written_as (number_after (history (own before e.who)) e) e
+written_later before e w h = h ∙ ap (λ n. written_as n e) (number_is before e)
 
 none_empty : (M : List Entry) → (length M == 0) ≡ true → history M ≡ no_history
 none_empty [] h = refl
@@ -254,7 +254,7 @@ pub replayed_at : (W : Who) (X : List Entry) (e : Entry) (later : List Entry) (w
 replayed_at W X e later who w page p text legal row same held replays =
     let follow = legal_follow Two W (X ++ e ∷ later) X e later legal refl in
     let at : IsHeldFor page (standing (own X e.who)) = subst (λ d. IsHeldFor page (standing (own X d))) (sym same) held in
-    replays (history (own X e.who)) e (before_is page (own X e.who) e at follow.numbered) (written_behind X e w row) follow.few follow.good follow.clean
+    replays (history (own X e.who)) e (before_is page (own X e.who) e at follow.numbered) (written_later X e w row) follow.few follow.good follow.clean
 
 pub text_at : (W : Who) (X : List Entry) (e : Entry) (later : List Entry) (who : Who) (w : Written) (page : Option PageFacts) (p : PageFacts) (text : List ℕ)
     → IsLegal Two W (X ++ e ∷ later) → w ≡ written X e → e.who ≡ who → IsHeldFor page (standing (own X who)) → Replays W page w p text

@@ -9,7 +9,8 @@ use Rattle.profile.specs.declared.rules.Rules.TheVariants.{One, Two}
 use Rattle.profile.specs.Moments.{Moment, is_moment}
 use Rattle.profile.specs.Header.{Who, is_partner, sender, is_unreadable}
 use Rattle.profile.specs.Register.{Act, Command, Interchange, Enrol, Clerk, Entry, Deed, Enrolled, Received, Performed, Known, known, own, command_mark, ticket_mark, next_number, mark, canonical}
-use Rattle.profile.specs.Refusals.{Refusal, NumbersUsedUp, AlreadyEnrolled, TicketUsed, UnknownDepositor}
+use Rattle.profile.specs.declared.refusals.Refusal.{Refusal}
+use Rattle.profile.specs.declared.refusals.Refusal.TheVariants.{NumbersUsedUp, AlreadyEnrolled, TicketUsed, UnknownDepositor}
 use Rattle.profile.specs.Halt.{Halt, Refuses, Repeats, halt}
 use Rattle.profile.specs.Clerk.{performed}
 use Rattle.profile.specs.Events.{Event}
@@ -37,7 +38,7 @@ use Rattle.profile.proofs.HistoryLaws.{history-numbered}
 use Rattle.profile.specs.Changes.{LeadOn}
 use Rattle.rules.specs.Change.{Change}
 use Rattle.rules.specs.Tabled.{table_changes}
-use Rattle.rules.specs.Decided.{number_behind}
+use Rattle.rules.specs.Decided.{number_later}
 use Rattle.rules.specs.Written.{Written, written, written_as}
 
 -- Whose entries a command looks at.
@@ -100,16 +101,16 @@ accepted_owner r W L (Interchange text) t h = by_test (not (is_unreadable text) 
 accepted_owner r W L (Enrol w) t h = refl
 accepted_owner r W L (Clerk w ticket act) t h = refl
 
-number_is : (r : Rules) (L : List Entry) (c : Command) (t : Moment) → number_of L (entry_of r c t) ≡ number_behind ((history (own L (entry_of r c t).who)).numbered) c
+number_is : (r : Rules) (L : List Entry) (c : Command) (t : Moment) → number_of L (entry_of r c t) ≡ number_later ((history (own L (entry_of r c t).who)).numbered) c
 number_is r L (Interchange text) t = sym (history-numbered (own L (sender text)))
 number_is r L (Enrol w) t = refl
 number_is r L (Clerk w ticket act) t = sym (history-numbered (own L w))
 
 -- the entry of an accepted command as it is written down
 pub accepted_entry : (r : Rules) (W : Who) (L : List Entry) (c : Command) (t : Moment) → is_accepted (reply_to r W L c t) ≡ true
-    → written_as (number_behind ((history (own_of L c)).numbered) c) (entry_of r c t) ≡ written L (entry_of r c t)
+    → written_as (number_later ((history (own_of L c)).numbered) c) (entry_of r c t) ≡ written L (entry_of r c t)
 accepted_entry r W L c t h =
-    ap (λ M. written_as (number_behind ((history M).numbered) c) (entry_of r c t)) (accepted_owner r W L c t h)
+    ap (λ M. written_as (number_later ((history M).numbered) c) (entry_of r c t)) (accepted_owner r W L c t h)
     ∙ ap (λ n. written_as n (entry_of r c t)) (sym (number_is r L c t))
 
 -- the text of a reply
@@ -314,28 +315,28 @@ accepted_is r W L c t text h = ap is_accepted h
 
 pub next_is : (r : Rules) (W : Who) (L : List Entry) (c : Command) (t : Moment) (row : Written) (changes : List Change) (text : List ℕ)
     → IsLegal Two W L → IsLegal Two W (after r W L (c, t))
-    → reply_to r W L c t ≡ Accepted text → row ≡ written_as (number_behind ((history (own_of L c)).numbered) c) (entry_of r c t)
+    → reply_to r W L c t ≡ Accepted text → row ≡ written_as (number_later ((history (own_of L c)).numbered) c) (entry_of r c t)
     → ((v : Rules) → IsLegal v W L → IsLegal v W (L ++ entry_of r c t ∷ []) → LeadOn v W L (entry_of r c t) (table_changes (entry_of r c t).who changes))
     → IsNext W L (entry_of r c t) row changes text
 next_is r W L c t row changes text legal later accepts is leads =
     let taken = accepted_is r W L c t text accepts in
-    let behind : IsLegal Two W (L ++ entry_of r c t ∷ []) = subst (IsLegal Two W) (after_accepted r W L c t taken) later in
+    let back : IsLegal Two W (L ++ entry_of r c t ∷ []) = subst (IsLegal Two W) (after_accepted r W L c t taken) later in
     record {
       entry = is ∙ accepted_entry r W L c t taken;
-      legal = behind;
-      leads = leads Two legal behind;
+      legal = back;
+      leads = leads Two legal back;
       outgoing = accepted_text r W (own_of L c) c t text accepts ∙ ap (λ M. out W M (entry_of r c t)) (accepted_owner r W L c t taken);
     }
 
 -- the register after a command that was answered so
-pub behind_accepted : (r : Rules) (W : Who) (L : List Entry) (c : Command) (t : Moment) (text : List ℕ) → reply_to r W L c t ≡ Accepted text → L ++ entry_of r c t ∷ [] ≡ after r W L (c, t)
-behind_accepted r W L c t text h = sym (after_accepted r W L c t (accepted_is r W L c t text h))
+pub later_accepted : (r : Rules) (W : Who) (L : List Entry) (c : Command) (t : Moment) (text : List ℕ) → reply_to r W L c t ≡ Accepted text → L ++ entry_of r c t ∷ [] ≡ after r W L (c, t)
+later_accepted r W L c t text h = sym (after_accepted r W L c t (accepted_is r W L c t text h))
 
-pub behind_stored : (r : Rules) (W : Who) (L : List Entry) (c : Command) (t : Moment) (text : List ℕ) → reply_to r W L c t ≡ Stored text → L ≡ after r W L (c, t)
-behind_stored r W L c t text h = sym (after_other r W L c t (ap is_accepted h))
+pub later_stored : (r : Rules) (W : Who) (L : List Entry) (c : Command) (t : Moment) (text : List ℕ) → reply_to r W L c t ≡ Stored text → L ≡ after r W L (c, t)
+later_stored r W L c t text h = sym (after_other r W L c t (ap is_accepted h))
 
-pub behind_refused : (r : Rules) (W : Who) (L : List Entry) (c : Command) (t : Moment) (refusal : Refusal) (text : List ℕ) → reply_to r W L c t ≡ Refused refusal text → L ≡ after r W L (c, t)
-behind_refused r W L c t refusal text h = sym (after_other r W L c t (ap is_accepted h))
+pub later_refused : (r : Rules) (W : Who) (L : List Entry) (c : Command) (t : Moment) (refusal : Refusal) (text : List ℕ) → reply_to r W L c t ≡ Refused refusal text → L ≡ after r W L (c, t)
+later_refused r W L c t refusal text h = sym (after_other r W L c t (ap is_accepted h))
 
 pub next_at : {V W : Who} {L : List Entry} {e : Entry} {row : Written} {changes given : List Change} {text said : List ℕ} → V ≡ W → changes ≡ given → text ≡ said
     → IsNext V L e row changes text → IsNext W L e row given said

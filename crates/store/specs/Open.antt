@@ -29,6 +29,7 @@ open_work M = open_among (page_advices (events M)) (page_orders (events M))
 abbrev pub open_of : List Entry → Who → Option OpenWork
 open_of L d = let M = own L d in if length M == 0 then None else Some (open_work M)
 
--- the depositors, in the order in which they were enrolled: an enrolment is the one entry that has no number
+-- the depositors, in the order in which they were enrolled: an enrolment is the one entry that has
+-- no number
 abbrev pub enrolled : List Entry → List Who
 enrolled L = map (λ e. e.who) (filter (λ e. not (is_numbered e)) L)

@@ -7,7 +7,6 @@ use Rattle.profile.specs.Register as meant
 use Rattle.profile.specs.Reply as replies
 use Rattle.profile.specs.Accepted.{is_command}
 use Rattle.rules.specs.Asked.{asked}
-use Rattle.rules.specs.Told.{refusal_of}
 use Rattle.rules.specs.declared.commands.Command.{Command}
 use Rattle.store.specs.declared.serving.Reply.{Reply}
 use Rattle.store.specs.declared.serving.Reply.TheVariants.{Accepted, Stored, Refused}
@@ -16,7 +15,7 @@ use Rattle.store.specs.declared.serving.Reply.TheVariants.{Accepted, Stored, Ref
 abbrev pub told : Reply → replies.Reply
 told (Accepted text) = replies.Accepted text.items
 told (Stored text) = replies.Stored text.items
-told (Refused refusal text) = replies.Refused (refusal_of refusal) text.items
+told (Refused refusal text) = replies.Refused refusal text.items
 
 -- what is asked at a moment
 abbrev pub asked_at : Command × Moment → meant.Command × Moment
@@ -25,7 +24,8 @@ asked_at c = (asked c.0, c.1)
 abbrev pub all_asked : List (Command × Moment) → List (meant.Command × Moment)
 all_asked cs = map asked_at cs
 
--- commands that can be given: a clerk's ticket, shipment and order are identifiers, and the sheet is one of its act
+-- commands that can be given: a clerk's ticket, shipment and order are identifiers, and the sheet
+-- is one of its act
 abbrev pub can_be_given : List (Command × Moment) → Bool
 can_be_given cs = list_all (λ (c : Command × Moment). is_command Two (asked c.0)) cs
 

@@ -34,7 +34,8 @@ text_under W M n = option_map (λ r. r.content) (find (λ r. r.n == n) (outbox_r
 
 -- the same of a depositor of a register; none of a stranger
 abbrev pub text_of : Who → List Entry → Who → ℕ → Option (Option (List ℕ))
-text_of W L who n = option_map (λ rows. option_map (λ r. r.content) (find (λ r. r.n == n) rows)) (outbox_of W L who)
+text_of W L who n =
+    option_map (λ rows. option_map (λ r. r.content) (find (λ r. r.n == n) rows)) (outbox_of W L who)
 
 -- the rows of what a depositor's entries sent out, when these are all of its events
 abbrev pub sent_on : Who → List Event → List Entry → List OutRow

@@ -9,12 +9,12 @@ use Rattle.profile.specs.Changes.{LeadOn}
 use Rattle.rules.specs.Change.{Change}
 use Rattle.rules.specs.Tabled.{table_changes}
 use Rattle.rules.specs.Written.{Written, written}
-use Rattle.store.specs.declared.fault.Fault.{Fault}
-use Rattle.store.specs.declared.fault.Fault.TheVariants.{OutOfMemory, Store, Reopen, NotThisBook, Device}
+use Rattle.store.specs.Fault.{Fault}
+use Rattle.store.specs.Fault.TheVariants.{OutOfMemory, Store, Reopen, NotThisBook, Device}
 
--- the warehouse; the registers that the store stands for (one at most, while it is open); those that a crash may
--- leave, and that it leaves nothing else; how far the disk is in doubt; how many calls the store refused; and
--- whether the book has to be opened again
+-- the warehouse; the registers that the store stands for (one at most, while it is open); those
+-- that a crash may leave, and that it leaves nothing else; how far the disk is in doubt; how many
+-- calls the store refused; and whether the book has to be opened again
 pub record Standing : Type 1 where
   pub warehouse : Who
   pub keeps : List Entry → Type 0
@@ -29,7 +29,8 @@ pub record LeavesEither (s : Standing) (first second : List Entry) : Type 0 wher
   pub stand : s.all_stand
   pub each : (M : List Entry) → s.left M → (M ≡ first) ⊎ (M ≡ second)
 
--- a book that serves: its store stands for a legal register, and a crash leaves what stands for that register alone
+-- a book that serves: its store stands for a legal register, and a crash leaves what stands for
+-- that register alone
 pub record IsUsable (s : Standing) (L : List Entry) : Type 0 where
   pub opened : s.shut ≡ false
   pub legal : IsLegal Two s.warehouse L
@@ -37,14 +38,16 @@ pub record IsUsable (s : Standing) (L : List Entry) : Type 0 where
   pub stand : s.all_stand
   pub only : (M : List Entry) → s.left M → M ≡ L
 
--- a book whose store stands for a legal register, whether it serves or not, and whatever a crash leaves
+-- a book whose store stands for a legal register, whether it serves or not, and whatever a crash
+-- leaves
 pub record KeepsLegal (s : Standing) (L : List Entry) : Type 0 where
   pub keeps : s.keeps L
   pub legal : IsLegal Two s.warehouse L
 
 -- of the legal register that the book keeps, if the disk is in no doubt after the call
 abbrev pub OfKept : Standing → Standing → (List Entry → Type 0) → Type 0
-OfKept old new P = new.doubt ≡ 0 → (L : List Entry) → old.keeps L → IsLegal Two old.warehouse L → P L
+OfKept old new P = new.doubt ≡ 0 → (L : List Entry) → old.keeps L → IsLegal Two old.warehouse L
+    → P L
 
 -- no count falls, and the warehouse is the same
 pub record GoesOn (old new : Standing) : Type 0 where
@@ -58,7 +61,8 @@ pub record IsUnchanged (old new : Standing) : Type 0 where
   pub shut : new.shut ≡ old.shut
   pub keeps : new.doubt ≡ 0 → (L : List Entry) → old.keeps L → new.keeps L
   pub stand : new.doubt ≡ 0 → (L : List Entry) → old.keeps L → old.all_stand → new.all_stand
-  pub no_more : new.doubt ≡ 0 → (L : List Entry) → old.keeps L → (M : List Entry) → new.left M → old.left M
+  pub no_more : new.doubt ≡ 0 → (L : List Entry) → old.keeps L → (M : List Entry) → new.left M
+      → old.left M
 
 -- the store refused a call, or its count is at its greatest
 abbrev pub Refused : Standing → Standing → Type 0
@@ -98,8 +102,9 @@ pub record IsRunFault (fault : Fault) (given : Bool) (old new : Standing) : Type
   pub not_this : fault ≡ NotThisBook → given ≡ true → OfKept old new (λ L. ⊥)
   pub device : fault ≡ Device → ⊥
 
--- what a book is given to append: the entry as it is written down after the register, which stays legal with it, the changes
--- that lead from the tables of the register to those with the entry, and the text that goes out for it
+-- what a book is given to append: the entry as it is written down after the register, which stays
+-- legal with it, the changes that lead from the tables of the register to those with the entry, and
+-- the text that goes out for it
 pub record IsNext (W : Who) (L : List Entry) (e : Entry) (row : Written) (changes : List Change) (text : List ℕ) : Type 0 where
   pub entry : row ≡ written L e
   pub legal : IsLegal Two W (L ++ e ∷ [])

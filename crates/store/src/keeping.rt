@@ -10,8 +10,8 @@ ghost use Rattle.store.specs.Open.{open_of, open_on, enrolled};
 ghost use Rattle.store.specs.Sent.{text_of};
 ghost use Rattle.store.specs.Standing.{Standing, IsUsable, IsNext, IsUnchanged, GoesOn, LeavesEither, IsFault, IsCommitFault, IsQuery, OfKept};
 
-use crate::fault::Fault;
 use crate::rows::{OutRow, StockRow};
+use profile::Fault;
 use rules::{Change, Entry, Key, Known, Need, Page, Warehouse, Who};
 
 /// A book of a warehouse: the register of what was accepted, and what it comes to. What a book
@@ -54,16 +54,19 @@ pub trait Keeper {
             → IsUsable (standing self.old) L
             → IsNext (standing self.old).warehouse L e entry.now changes.now outgoing.now
             → OnOk result (IsUsable (standing self.new) (L ++ e ∷ [])) }
-        ensures keeps { (standing self.new).doubt ≡ 0 → (L : List register.Entry) (e : register.Entry)
+        ensures keeps { (standing self.new).doubt ≡ 0
+            → (L : List register.Entry) (e : register.Entry)
             → (standing self.old).keeps L
             → IsNext (standing self.old).warehouse L e entry.now changes.now outgoing.now
             → OnOk result ((standing self.new).keeps (L ++ e ∷ [])) }
-        ensures left { (standing self.new).doubt ≡ 0 → (L : List register.Entry) (e : register.Entry)
+        ensures left { (standing self.new).doubt ≡ 0
+            → (L : List register.Entry) (e : register.Entry)
             → IsUsable (standing self.old) L
             → IsNext (standing self.old).warehouse L e entry.now changes.now outgoing.now
             → OnErr result (LeavesEither (standing self.new) L (L ++ e ∷ [])) }
         ensures opened { OnOk result ((standing self.new).shut ≡ false) }
-        ensures fault { IfErr result (λ fault. IsFault fault (standing self.old) (standing self.new)) }
+        ensures fault { IfErr result
+            (λ fault. IsFault fault (standing self.old) (standing self.new)) }
         ensures kinds { IfErr result IsCommitFault }
         ensures store { IsErrOf result Fault.Store → (standing self.new).shut ≡ true }
         ensures broken { OnErr result ((standing self.old).refusals < (standing self.new).refusals

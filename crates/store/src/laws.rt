@@ -11,7 +11,8 @@ ghost use Rattle.store.specs.Again.{is_enrolment};
 /// An accepted command that is given again, at any moment, leaves the register as it was, and with
 /// it stock and outbox.
 pub fn a_repeat_leaves_the_register()
-    ensures { (r : Rules) (W : Who) (L : List Entry) (c : Command) (t s : Moment) → is_accepted (reply_to r W L c t) ≡ true
+    ensures { (r : Rules) (W : Who) (L : List Entry) (c : Command) (t s : Moment)
+        → is_accepted (reply_to r W L c t) ≡ true
         → after r W (after r W L (c, t)) (c, s) ≡ after r W L (c, t) }
 {}
 

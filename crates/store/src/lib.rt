@@ -2,17 +2,17 @@
 //! leave, and what can be asked.
 #![tactic(auto)]
 
-mod fault;
 mod keeping;
 pub mod laws;
 mod leaving;
 mod replaying;
 mod rows;
+mod sending;
 mod serving;
 
-pub use fault::Fault;
 pub use keeping::Keeper;
 pub use leaving::{memory_is_never_in_doubt, what_is_kept_is_left};
+pub use profile::Fault;
 pub use replaying::ReplayBook;
 pub use rows::{DocumentState, OutRow, StockRow};
 pub use rules::{

@@ -1,11 +1,11 @@
-ghost use Rattle.std.specs.Prelude.{◌≡◌, ◌==◌, [], ◌∷◌, ◌++◌, List, None, IfOk, OnOk, OnErr, MatchOption, find, map, option_map, Option, ℕ, ◌<◌, ◌+◌, length, take, slice_index_or as get_or, option_to_list};
+ghost use Rattle.std.specs.Prelude.{◌≡◌, [], ◌∷◌, ◌++◌, List, None, IfOk, OnOk, OnErr, MatchOption, find, option_map, Option, ℕ, ◌<◌, ◌+◌, length, take, slice_index_or as get_or};
 ghost use Rattle.profile.specs.declared.rules.Rules.TheVariants.{Two};
 ghost use Rattle.profile.specs.Accepted.{IsLegal};
-ghost use Rattle.profile.specs.Decision.{standing as standing_of, recalled};
+ghost use Rattle.profile.specs.Decision.{standing as history_of, recalled};
 ghost use Rattle.profile.specs.Register as register;
 ghost use Rattle.profile.specs.Reply.{out};
-ghost use Rattle.profile.specs.Rows.{stock_rows, stock_of, outbox_rows, outbox_of};
-ghost use Rattle.profile.specs.History.{History, history, events};
+ghost use Rattle.profile.specs.Rows.{stock_rows, stock_of};
+ghost use Rattle.profile.specs.History.{History, history};
 ghost use Rattle.profile.specs.Header.{Who as Partner};
 ghost use Rattle.rules.specs.Decided.{IsHeldAtRest, IsRecalled, IsPageOf};
 ghost use Rattle.rules.specs.Written.{written};
@@ -13,12 +13,12 @@ ghost use Rattle.rules.specs.Pages.{IsAt};
 ghost use Rattle.store.specs.Held.{IsHeld, IsHeldFor};
 ghost use Rattle.store.specs.Open.{open_of, open_on, enrolled};
 ghost use Rattle.store.specs.Replayed.{all_written, is_under};
-ghost use Rattle.store.specs.Sent.{sent_on};
 ghost use Rattle.store.specs.Standing.{IsUsable};
 
-use crate::fault::Fault;
 use crate::keeping::Keeper;
 use crate::rows::{OutRow, StockRow};
+use crate::sending::{content_of, sent_to};
+use profile::Fault;
 use rules::{Change, Entry, Key, Known, Need, Page, Warehouse, Who, replay};
 use std::alloc::{AllocError, Global};
 use std::marker::Model;
@@ -77,8 +77,8 @@ fn with_entry(
     requires { IsHeldAtRest page }
     ensures page { (L later : List register.Entry) (i : ℕ) → IsLegal Two warehouse.now (L ++ later)
         → i < length (all_written L) → entry.now ≡ get_or (all_written L) i entry.now
-        → IsHeldFor page (standing_of (register.own (take i L) who.now))
-        → IfOk result (λ next. IsHeldFor next (standing_of (register.own (take (i + 1) L) who.now))) }
+        → IsHeldFor page (history_of (register.own (take i L) who.now))
+        → IfOk result (λ next. IsHeldFor next (history_of (register.own (take (i + 1) L) who.now))) }
     ensures rest { IfOk result IsHeldAtRest }
 {
     if entry.is_of(who) {
@@ -89,7 +89,7 @@ fn with_entry(
 }
 
 // The page of a depositor after these entries.
-fn page_behind(
+fn page_later(
     alloc: Global,
     warehouse: &Warehouse,
     entries: &[Entry],
@@ -97,7 +97,7 @@ fn page_behind(
 ) -> Result<Option<Page>, AllocError>
     ensures page { (L later : List register.Entry) → entries.now ≡ all_written L
         → IsLegal Two warehouse.now (L ++ later)
-        → IfOk result (λ page. IsHeldFor page (standing_of (register.own L who.now))) }
+        → IfOk result (λ page. IsHeldFor page (history_of (register.own L who.now))) }
     ensures rest { IfOk result IsHeldAtRest }
 {
     let mut page = None;
@@ -121,7 +121,8 @@ fn held(page: Option<Page>, _need: &Need) -> Option<Page>
 
 // The whole page has what is open of it.
 fn with_open(page: Option<Page>) -> Option<Page>
-    ensures { (L : List register.Entry) (who : Partner) → IsHeldFor page (standing_of (register.own L who))
+    ensures { (L : List register.Entry) (who : Partner)
+        → IsHeldFor page (history_of (register.own L who))
         → option_map open_on result ≡ open_of L who }
 {
     if let Some(page) = &page {
@@ -132,7 +133,7 @@ fn with_open(page: Option<Page>) -> Option<Page>
 }
 
 // The text that went out for an entry, with these before it.
-fn outgoing_behind(
+pub(crate) fn outgoing_later(
     alloc: Global,
     warehouse: &Warehouse,
     before: &[Entry],
@@ -143,7 +144,7 @@ fn outgoing_behind(
         → IsLegal Two warehouse.now (L ++ e ∷ later)
         → IfOk result (λ text. text.items ≡ out warehouse.now (register.own L e.who) e) }
 {
-    let page = page_behind(alloc, warehouse, before, &entry.who())?;
+    let page = page_later(alloc, warehouse, before, &entry.who())?;
     Ok(replay(alloc, warehouse, page, entry)?.outgoing)
 }
 
@@ -168,8 +169,10 @@ fn recalled(
     who: &Who,
     key: &[u8],
 ) -> Result<Option<Known>, AllocError>
-    ensures known { (L : List register.Entry) → entries.now ≡ all_written L → IsLegal Two warehouse.now L
-        → IfOk result (λ known. IsRecalled known (recalled warehouse.now key.now (register.own L who.now))) }
+    ensures known { (L : List register.Entry) → entries.now ≡ all_written L
+        → IsLegal Two warehouse.now L
+        → IfOk result (λ known. IsRecalled known
+        (recalled warehouse.now key.now (register.own L who.now))) }
     ensures recorded { IfOk result (λ known. option_map
         (λ k. k.entry) known ≡ find (is_under who.now key.now) entries.now) }
 {
@@ -177,7 +180,7 @@ fn recalled(
         return Ok(None);
     };
     let entry = entries[i].copy()?;
-    let outgoing = outgoing_behind(alloc, warehouse, &entries[..i], &entry)?;
+    let outgoing = outgoing_later(alloc, warehouse, &entries[..i], &entry)?;
     Ok(Some(Known { entry, outgoing }))
 }
 
@@ -206,7 +209,7 @@ fn shown(alloc: Global, page: &Page) -> Result<Vec<StockRow>, AllocError>
 // The rows that a depositor with this page is shown; a stranger has none.
 fn rows_for(alloc: Global, page: Option<Page>) -> Result<Option<Vec<StockRow>>, AllocError>
     ensures { IfOk result (λ rows. (L : List register.Entry) (who : Partner)
-        → IsHeldFor page (standing_of (register.own L who))
+        → IsHeldFor page (history_of (register.own L who))
         → option_map (λ v. v.items) rows ≡ stock_of L who) }
 {
     match page {
@@ -229,98 +232,15 @@ fn depositors_of(alloc: Global, entries: &[Entry]) -> Result<Vec<Who>, AllocErro
     Ok(whos)
 }
 
-// What the entry at a place sent out, if it is a depositor's that counts, by the page of all of
-// that depositor's entries; None also where it sent nothing.
-fn sent_at(
-    alloc: Global,
-    warehouse: &Warehouse,
-    entries: &[Entry],
-    i: usize,
-    page: &Page,
-    who: &Who,
-) -> Result<Option<OutRow>, AllocError>
-    requires { i < length entries.now }
-    ensures { IfOk result (λ row. (L : List register.Entry) → entries.now ≡ all_written L
-        → IsLegal Two warehouse.now L → IsPageOf page.now (history (register.own L who.now))
-        → sent_on warehouse.now (events (register.own L who.now)) (register.own (take (i + 1) L) who.now)
-        ≡ sent_on warehouse.now (events (register.own L who.now)) (register.own (take i L) who.now) ++
-        option_to_list row) }
-{
-    let entry = &entries[i];
-    if !entry.is_of(who) {
-        return Ok(None);
-    }
-    if !entry.is_numbered() {
-        return Ok(None);
-    }
-    let content = outgoing_behind(alloc, warehouse, &entries[..i], entry)?;
-    if content.is_empty() {
-        return Ok(None);
-    }
-    Ok(Some(OutRow::of(page, entry, content)))
-}
-
-// The texts that went out to a depositor with this page, by number: those of its numbered entries
-// that aren't empty.
-fn sent(
-    alloc: Global,
-    warehouse: &Warehouse,
-    entries: &[Entry],
-    page: &Page,
-    who: &Who,
-) -> Result<Vec<OutRow>, AllocError>
-    ensures { IfOk result (λ rows. (L : List register.Entry) → entries.now ≡ all_written L
-        → IsLegal Two warehouse.now L → IsPageOf page.now (history (register.own L who.now))
-        → rows.items ≡ outbox_rows warehouse.now (register.own L who.now)) }
-{
-    let mut rows = Vec::new(alloc);
-    for i in 0..entries.len() {
-        if let Some(row) = sent_at(alloc, warehouse, entries, i, page, who)? {
-            rows.push(row)?;
-        }
-    }
-    Ok(rows)
-}
-
-// The texts that went out to a depositor with this page; a stranger has none.
-fn sent_to(
-    alloc: Global,
-    warehouse: &Warehouse,
-    entries: &[Entry],
-    page: Option<Page>,
-    who: &Who,
-) -> Result<Option<Vec<OutRow>>, AllocError>
-    ensures { IfOk result (λ rows. (L : List register.Entry) → entries.now ≡ all_written L
-        → IsLegal Two warehouse.now L → IsHeldFor page (standing_of (register.own L who.now))
-        → option_map (λ v. v.items) rows ≡ outbox_of warehouse.now L who.now) }
-{
-    match page {
-        Some(page) => Ok(Some(sent(alloc, warehouse, entries, &page, who)?)),
-        None => Ok(None),
-    }
-}
-
-// The content of the row under a number.
-fn content_of(rows: Vec<OutRow>, n: u32) -> Option<Vec<u8>>
-    ensures { option_map (λ v. v.items) result ≡ option_map (λ r. r.content) (find (λ r. r.n == n) rows.items) }
-{
-    for row in rows {
-        if row.n == n {
-            return Some(row.content);
-        }
-    }
-    None
-}
-
 impl ReplayBook {
     // The whole page of a depositor; None for a stranger.
     fn page(&self, who: &Who) -> Result<Option<Page>, AllocError>
         ensures page { (L : List register.Entry) → self.now.entries ≡ all_written L
             → IsLegal Two self.now.warehouse L
-            → IfOk result (λ page. IsHeldFor page (standing_of (register.own L who.now))) }
+            → IfOk result (λ page. IsHeldFor page (history_of (register.own L who.now))) }
         ensures rest { IfOk result IsHeldAtRest }
     {
-        page_behind(self.alloc, &self.warehouse, &self.entries, who)
+        page_later(self.alloc, &self.warehouse, &self.entries, who)
     }
 }
 

@@ -32,7 +32,15 @@ impl Model for StockRow {
 
     ghost Value = { StockRow };
 
-    ghost view = { λ r. record { item = r.item.items; lot = r.lot.items; expiry = option_map (λ v. v.items) r.expiry; expected = r.expected; on_hand = r.on_hand; reserved = r.reserved; shipped = r.shipped } };
+    ghost view = { λ r. record {
+      item = r.item.items;
+      lot = r.lot.items;
+      expiry = option_map (λ v. v.items) r.expiry;
+      expected = r.expected;
+      on_hand = r.on_hand;
+      reserved = r.reserved;
+      shipped = r.shipped;
+    } };
 }
 
 /// What the other side said of a document: the first acknowledgment after it that names it decides.
@@ -82,7 +90,12 @@ impl Model for OutRow {
 
     ghost Value = { OutRow };
 
-    ghost view = { λ r. record { n = r.n; kind = kind_text r.kind; content = r.content.items; state = state_name r.state } };
+    ghost view = { λ r. record {
+      n = r.n;
+      kind = kind_text r.kind;
+      content = r.content.items;
+      state = state_name r.state;
+    } };
 }
 
 impl StockRow {

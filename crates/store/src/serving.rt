@@ -4,7 +4,7 @@ ghost use Rattle.std.specs.List.{list_all};
 ghost use Rattle.profile.specs.declared.rules.Rules.TheVariants.{Two};
 ghost use Rattle.profile.specs.Register as register;
 ghost use Rattle.profile.specs.Accepted.{IsLegal, is_command, own_of, reply_to, after, accepted_on, replies_on};
-ghost use Rattle.profile.specs.Decision.{standing as standing_of, recalled};
+ghost use Rattle.profile.specs.Decision.{standing as history_of, recalled};
 ghost use Rattle.profile.specs.Rows.{stock_of, outbox_of};
 ghost use Rattle.rules.specs.Asked.{asked};
 ghost use Rattle.rules.specs.Tabled.{LeadsInTables};
@@ -13,10 +13,9 @@ ghost use Rattle.store.specs.Sent.{text_of};
 ghost use Rattle.store.specs.Runs.{told, all_asked, can_be_given, UnlessAccepted};
 ghost use Rattle.store.specs.Standing.{Standing, IsUsable, IsUnchanged, GoesOn, IsFault, IsQuery, IsRunFault, KeepsLegal, LeavesEither, OfKept};
 
-use crate::fault::Fault;
 use crate::keeping::Keeper;
 use crate::rows::{OutRow, StockRow};
-use profile::Rules;
+use profile::{Fault, Rules};
 use rules::{Command, Decision, Moment, Refusal, Who, decide, decide_again, need, subject};
 use std::alloc::Global;
 
@@ -81,7 +80,8 @@ fn judge<K: Keeper>(
     rules: Rules,
 ) -> Result<Decision, Fault>
     ensures decision { OfKept (K.standing keeper.old) (K.standing keeper.new)
-        (λ L. IfOk result (IsDecided rules (K.standing keeper.old).warehouse L (asked command.now) moment)) }
+        (λ L. IfOk result (IsDecided rules (K.standing keeper.old).warehouse L (asked command.now)
+        moment)) }
     ensures tables { OfKept (K.standing keeper.old) (K.standing keeper.new)
         (λ L. IfOk result (LeadsInTables rules (K.standing keeper.old).warehouse L
         (asked command.now) moment)) }
@@ -137,12 +137,14 @@ pub fn submit_under<K: Keeper>(
               command.now,
           moment,
         ))
-        → OnErr result (LeavesEither (K.standing keeper.new) L (after rules (K.standing keeper.old).warehouse L
+        → OnErr result (LeavesEither (K.standing keeper.new) L
+        (after rules (K.standing keeper.old).warehouse L
         (asked command.now, moment))) }
     ensures kept { IfOk result
         (λ reply. UnlessAccepted reply (IsUnchanged (K.standing keeper.old) (K.standing keeper.new))) }
     ensures opened { OnOk result ((K.standing keeper.new).shut ≡ false) }
-    ensures fault { IfErr result (λ fault. IsFault fault (K.standing keeper.old) (K.standing keeper.new)) }
+    ensures fault { IfErr result
+        (λ fault. IsFault fault (K.standing keeper.old) (K.standing keeper.new)) }
     ensures shut { (K.standing keeper.old).shut ≡ true → IsErrOf result Fault.Reopen
         × IsUnchanged (K.standing keeper.old) (K.standing keeper.new) }
     ensures goes { GoesOn (K.standing keeper.old) (K.standing keeper.new) }
@@ -190,12 +192,14 @@ pub fn submit<K: Keeper>(
         (asked command.now, moment)))) }
     ensures left { (K.standing keeper.new).doubt ≡ 0 → (L : List register.Entry)
         → IsUsable (K.standing keeper.old) L → is_command Two (asked command.now) ≡ true
-        → OnErr result (LeavesEither (K.standing keeper.new) L (after Two (K.standing keeper.old).warehouse L
+        → OnErr result (LeavesEither (K.standing keeper.new) L
+        (after Two (K.standing keeper.old).warehouse L
         (asked command.now, moment))) }
     ensures kept { IfOk result
         (λ reply. UnlessAccepted reply (IsUnchanged (K.standing keeper.old) (K.standing keeper.new))) }
     ensures opened { OnOk result ((K.standing keeper.new).shut ≡ false) }
-    ensures fault { IfErr result (λ fault. IsFault fault (K.standing keeper.old) (K.standing keeper.new)) }
+    ensures fault { IfErr result
+        (λ fault. IsFault fault (K.standing keeper.old) (K.standing keeper.new)) }
     ensures shut { (K.standing keeper.old).shut ≡ true → IsErrOf result Fault.Reopen
         × IsUnchanged (K.standing keeper.old) (K.standing keeper.new) }
     ensures goes { GoesOn (K.standing keeper.old) (K.standing keeper.new) }
@@ -271,10 +275,12 @@ fn answer_next<K: Keeper>(
     ensures no_more { OnErr result (replies.new.items ≡ replies.old.items) }
     ensures left { (K.standing keeper.new).doubt ≡ 0 → (L : List register.Entry)
         → IsUsable (K.standing keeper.old) L → is_command Two (asked command.now) ≡ true
-        → OnErr result (LeavesEither (K.standing keeper.new) L (after Two (K.standing keeper.old).warehouse L
+        → OnErr result (LeavesEither (K.standing keeper.new) L
+        (after Two (K.standing keeper.old).warehouse L
         (asked command.now, moment))) }
     ensures opened { OnOk result ((K.standing keeper.old).shut ≡ (K.standing keeper.new).shut) }
-    ensures fault { IfErr result (λ fault. IsFault fault (K.standing keeper.old) (K.standing keeper.new)) }
+    ensures fault { IfErr result
+        (λ fault. IsFault fault (K.standing keeper.old) (K.standing keeper.new)) }
     ensures goes { GoesOn (K.standing keeper.old) (K.standing keeper.new) }
 {
     replies.reserve(1)?;
@@ -300,7 +306,8 @@ pub fn run<K: Keeper>(alloc: Global, keeper: &mut K, commands: &[(Command<'_>, M
         → IsUsable (K.standing keeper.old) L
         → can_be_given (take (length result.replies.items + 1) commands.now) ≡ true
         → (K.standing keeper.new).shut ≡ false
-        → IsUsable (K.standing keeper.new) (accepted_on Two (K.standing keeper.old).warehouse L (take (length
+        → IsUsable (K.standing keeper.new)
+        (accepted_on Two (K.standing keeper.old).warehouse L (take (length
         result.replies.items) (all_asked commands.now))) }
     ensures broken { (K.standing keeper.new).doubt ≡ 0 → (L : List register.Entry)
         → IsUsable (K.standing keeper.old) L
@@ -309,7 +316,8 @@ pub fn run<K: Keeper>(alloc: Global, keeper: &mut K, commands: &[(Command<'_>, M
         → IsSome result.fault × LeavesEither (K.standing keeper.new)
         (accepted_on Two (K.standing keeper.old).warehouse L (take (length result.replies.items) (all_asked
         commands.now)))
-        (accepted_on Two (K.standing keeper.old).warehouse L (take (length result.replies.items + 1) (all_asked
+        (accepted_on Two (K.standing keeper.old).warehouse L (take (length result.replies.items
+        + 1) (all_asked
         commands.now))) }
     ensures goes { GoesOn (K.standing keeper.old) (K.standing keeper.new) }
     ensures fault { IfSome result.fault

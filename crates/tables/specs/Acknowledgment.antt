@@ -21,8 +21,10 @@ abbrev pub rest_of : Stage → Words
 rest_of Begin = words_997
 rest_of Head = Then (One (codes "AK1")) (Then (Times 0 most_told_sets judged) total)
 rest_of (Sets sets) = some_of sets judged total
-rest_of (Segments sets segments) = Then (Then (some_of segments segment (One (codes "AK5"))) (times_words 0 sets judged)) total
+rest_of (Segments sets segments) =
+    Then (Then (some_of segments segment (One (codes "AK5"))) (times_words 0 sets judged)) total
 rest_of (Elements sets segments elements) =
-    Then (Then (then_words (some_of elements (One (codes "AK4")) (times_words 0 segments segment)) (One (codes "AK5"))) (times_words 0 sets judged)) total
+    Then (Then (then_words (some_of elements (One (codes "AK4")) (times_words 0 segments segment))
+    (One (codes "AK5"))) (times_words 0 sets judged)) total
 rest_of Total = One (codes "SE")
 rest_of End = Empty

@@ -25,7 +25,8 @@ references r = Then (Times 0 most_references (One (codes "N9"))) (dates r)
 
 abbrev pub rest_of : Rules → Stage → Words
 rest_of r Begin = words_943 r
-rest_of r Head = Then (One (codes "W06")) (Then (Times 0 most_parties (One (codes "N1"))) (references r))
+rest_of r Head =
+    Then (One (codes "W06")) (Then (Times 0 most_parties (One (codes "N1"))) (references r))
 rest_of r (Parties left) = some_of left (One (codes "N1")) (references r)
 rest_of r (References left) = some_of left (One (codes "N9")) (dates r)
 rest_of r (Dates left) = some_of left (One (codes "G62")) (lines r)

@@ -29,7 +29,8 @@ pub record Whole : Type 0 where
 
 -- the fault by some delimiters, which are those of the segments where all have the same
 abbrev pub IsJudged : Rules → SetKind → List Piece → Option meant.SetFault → Type 0
-IsJudged r kind ps f = (d : Delims) × (set_fault r d (kind_words r kind) (segments_of ps) ≡ f) × IsFaultOf r kind ps f
+IsJudged r kind ps f = (d : Delims) × (set_fault r d (kind_words r kind) (segments_of ps) ≡ f)
+    × IsFaultOf r kind ps f
 
 -- a set that ends with SE and has no fault by its rules
 pub record IsSound (w : Whole) : Type 0 where

@@ -38,7 +38,8 @@ rest_of r Begin = words_940 r
 rest_of r Head = Then (One (codes "W05")) (Then (Times 0 most_parties party) (references r))
 rest_of r (Parties left) = some_of left party (references r)
 rest_of r (Named left) = Then (Then address (times_words 0 left party)) (references r)
-rest_of r (Streeted left) = Then (Then (optional (One (codes "N4"))) (times_words 0 left party)) (references r)
+rest_of r (Streeted left) =
+    Then (Then (optional (One (codes "N4"))) (times_words 0 left party)) (references r)
 rest_of r (References left) = some_of left (One (codes "N9")) (dates r)
 rest_of r (Dates left) = some_of left (One (codes "G62")) (lines r)
 rest_of r (Numbered left) = Then (Then goods (times_words 0 left line)) total

@@ -84,7 +84,8 @@ fn after_set(sets: u16, id: Id) -> Option<Stage>
 }
 
 fn after_segment(sets: u16, segments: u8, id: Id) -> Option<Stage>
-    ensures { option_map rest_of result ≡ found (words_after (text_of id) (rest_of (Stage.Segments sets segments))) }
+    ensures { option_map rest_of result
+        ≡ found (words_after (text_of id) (rest_of (Stage.Segments sets segments))) }
 {
     match id {
         Id::Ak3 if segments > 0 => Some(Stage::Elements(sets, segments - 1, MOST_TOLD_ELEMENTS)),
@@ -94,7 +95,8 @@ fn after_segment(sets: u16, segments: u8, id: Id) -> Option<Stage>
 }
 
 fn after_element(sets: u16, segments: u8, elements: u8, id: Id) -> Option<Stage>
-    ensures { option_map rest_of result ≡ found (words_after (text_of id) (rest_of (Stage.Elements sets segments elements))) }
+    ensures { option_map rest_of result
+        ≡ found (words_after (text_of id) (rest_of (Stage.Elements sets segments elements))) }
 {
     match id {
         Id::Ak4 if elements > 0 => Some(Stage::Elements(sets, segments, elements - 1)),

@@ -29,7 +29,8 @@ pub(crate) enum Stage {
 impl Stage {
     /// The stage after one more segment; None where that may not stand there.
     pub(crate) fn next(self, id: Id, rules: Rules) -> Option<Stage>
-        ensures { option_map (rest_of rules) result ≡ found (words_after (text_of id) (rest_of rules self)) }
+        ensures { option_map (rest_of rules) result
+            ≡ found (words_after (text_of id) (rest_of rules self)) }
     {
         match self {
             Stage::Begin => after_begin(id),
@@ -61,7 +62,8 @@ impl Stage {
 }
 
 fn after_begin(id: Id) -> Option<Stage>
-    ensures { (r : Rules) → option_map (rest_of r) result ≡ found (words_after (text_of id) (rest_of r Stage.Begin)) }
+    ensures { (r : Rules)
+        → option_map (rest_of r) result ≡ found (words_after (text_of id) (rest_of r Stage.Begin)) }
 {
     match id {
         Id::St => Some(Stage::Head),
@@ -70,7 +72,8 @@ fn after_begin(id: Id) -> Option<Stage>
 }
 
 fn after_head(id: Id) -> Option<Stage>
-    ensures { (r : Rules) → option_map (rest_of r) result ≡ found (words_after (text_of id) (rest_of r Stage.Head)) }
+    ensures { (r : Rules)
+        → option_map (rest_of r) result ≡ found (words_after (text_of id) (rest_of r Stage.Head)) }
 {
     match id {
         Id::W06 => Some(Stage::Parties(MOST_PARTIES)),
@@ -80,7 +83,8 @@ fn after_head(id: Id) -> Option<Stage>
 
 // A party, or what may stand where the references begin.
 fn after_party(left: u8, id: Id, rules: Rules) -> Option<Stage>
-    ensures { option_map (rest_of rules) result ≡ found (words_after (text_of id) (rest_of rules (Stage.Parties left))) }
+    ensures { option_map (rest_of rules) result
+        ≡ found (words_after (text_of id) (rest_of rules (Stage.Parties left))) }
 {
     match id {
         Id::N1 if left > 0 => Some(Stage::Parties(left - 1)),
@@ -90,7 +94,8 @@ fn after_party(left: u8, id: Id, rules: Rules) -> Option<Stage>
 
 // A reference, or what may stand where the dates begin.
 fn after_reference(left: u8, id: Id, rules: Rules) -> Option<Stage>
-    ensures { option_map (rest_of rules) result ≡ found (words_after (text_of id) (rest_of rules (Stage.References left))) }
+    ensures { option_map (rest_of rules) result
+        ≡ found (words_after (text_of id) (rest_of rules (Stage.References left))) }
 {
     match id {
         Id::N9 if left > 0 => Some(Stage::References(left - 1)),
@@ -100,7 +105,8 @@ fn after_reference(left: u8, id: Id, rules: Rules) -> Option<Stage>
 
 // A date, or the first line.
 fn after_date(left: u8, id: Id, rules: Rules) -> Option<Stage>
-    ensures { option_map (rest_of rules) result ≡ found (words_after (text_of id) (rest_of rules (Stage.Dates left))) }
+    ensures { option_map (rest_of rules) result
+        ≡ found (words_after (text_of id) (rest_of rules (Stage.Dates left))) }
 {
     match id {
         Id::G62 if left > 0 => Some(Stage::Dates(left - 1)),
@@ -120,7 +126,8 @@ fn first_line(id: Id, rules: Rules) -> Option<Stage>
 }
 
 fn after_goods(left: u16, id: Id) -> Option<Stage>
-    ensures { (r : Rules) → option_map (rest_of r) result ≡ found (words_after (text_of id) (rest_of r (Stage.Goods left))) }
+    ensures { (r : Rules)
+        → option_map (rest_of r) result ≡ found (words_after (text_of id) (rest_of r (Stage.Goods left))) }
 {
     match id {
         Id::N9 => Some(Stage::Lot(left)),
@@ -129,7 +136,8 @@ fn after_goods(left: u16, id: Id) -> Option<Stage>
 }
 
 fn after_lot(left: u16, id: Id) -> Option<Stage>
-    ensures { (r : Rules) → option_map (rest_of r) result ≡ found (words_after (text_of id) (rest_of r (Stage.Lot left))) }
+    ensures { (r : Rules)
+        → option_map (rest_of r) result ≡ found (words_after (text_of id) (rest_of r (Stage.Lot left))) }
 {
     match id {
         Id::W04 if left > 0 => Some(Stage::Goods(left - 1)),
@@ -139,7 +147,8 @@ fn after_lot(left: u16, id: Id) -> Option<Stage>
 }
 
 fn after_total(id: Id) -> Option<Stage>
-    ensures { (r : Rules) → option_map (rest_of r) result ≡ found (words_after (text_of id) (rest_of r Stage.Total)) }
+    ensures { (r : Rules)
+        → option_map (rest_of r) result ≡ found (words_after (text_of id) (rest_of r Stage.Total)) }
 {
     match id {
         Id::Se => Some(Stage::End),

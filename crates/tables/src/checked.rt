@@ -25,7 +25,11 @@ pub struct Checked<'a> {
 impl<'a> Model for Checked<'a> {
     ghost Value = { Whole };
 
-    ghost view = { λ c. record { kind = kind_of c.kind; rules = c.rules; pieces = c.segments.now } };
+    ghost view = { λ c. record {
+      kind = kind_of c.kind;
+      rules = c.rules;
+      pieces = c.segments.now;
+    } };
 
     ghost invariant = { λ c. IsSound (record { kind = kind_of c.kind; rules = c.rules; pieces = c.segments.now }) };
 }
@@ -72,7 +76,8 @@ fn first_fault<'a>(
     rules: Rules,
 ) -> Option<SetFault<'a>>
     requires { length segments.now < 2 ^ 32 - 1 }
-    ensures { option_map told result ≡ set_fault rules delims.now (kind_words rules (kind_of kind)) (segments_of segments.now) }
+    ensures { option_map told result
+        ≡ set_fault rules delims.now (kind_words rules (kind_of kind)) (segments_of segments.now) }
 {
     let mut progress = Progress {
         stage: Stage::begin(kind),
@@ -109,7 +114,8 @@ pub fn judge<'a>(
     requires few { length segments.now < 2 ^ 32 - 1 }
     requires closed { IsClosed segments.now }
     ensures { MatchResult result
-        (λ c. (c.kind ≡ kind_of kind) × (c.pieces ≡ segments.now) × IsFaultOf rules (kind_of kind) segments.now None × (c.rules ≡ rules))
+        (λ c. (c.kind ≡ kind_of kind) × (c.pieces ≡ segments.now)
+        × IsFaultOf rules (kind_of kind) segments.now None × (c.rules ≡ rules))
         (λ f. IsFaultOf rules (kind_of kind) segments.now (Some (told f))) }
 {
     match fault_of(kind, segments, rules) {

@@ -50,7 +50,8 @@ fn element_in_error(
     segment: &Segment<'_>,
 ) -> Option<(u32, u8)>
     requires { length rows.now < 100 }
-    ensures { option_map told_element result ≡ elements_meant.faulty_element delims.now (map row_of rows.now) segment.now.elements }
+    ensures { option_map told_element result
+        ≡ elements_meant.faulty_element delims.now (map row_of rows.now) segment.now.elements }
 {
     let (place, code) = faulty_element(delims, rows, segment)?;
     Some((place as u32, code))
@@ -66,8 +67,10 @@ fn inner_fault<'a>(
     segment: &Segment<'a>,
 ) -> Option<SetFault<'a>>
     requires { id_of segment.now.elements ≡ text_of id }
-    ensures { (previous : List ℕ) → after_goods after ≡ is_goods previous → after_advised after ≡ is_advised previous
-        → option_map told result ≡ meant.inner_fault rules delims.now previous position segment.now.elements }
+    ensures { (previous : List ℕ) → after_goods after ≡ is_goods previous
+        → after_advised after ≡ is_advised previous
+        → option_map told result
+        ≡ meant.inner_fault rules delims.now previous position segment.now.elements }
 {
     let rows = rows_of(id, after, rules)?;
     let element = element_in_error(delims, rows, segment)?;
@@ -88,7 +91,9 @@ fn place_fault<'a>(
     segment: &Segment<'a>,
 ) -> SetFault<'a>
     requires { id_of segment.now.elements ≡ text_of id }
-    ensures { (r : Rules) → told result ≡ meant.place_fault r (kind_words r (kind_of kind)) (rest_of r stage) position (id_of segment.now.elements) }
+    ensures { (r : Rules)
+        → told result ≡ meant.place_fault r (kind_words r (kind_of kind)) (rest_of r stage) position
+        (id_of segment.now.elements) }
 {
     let wanted = match id {
         Id::Se => stage.wanted(),
@@ -104,7 +109,12 @@ fn place_fault<'a>(
 
 // The fault of a segment with an id that is in no set.
 fn unknown_fault<'a>(position: u32, segment: &Segment<'a>) -> SetFault<'a>
-    ensures { told result ≡ record { id = id_of segment.now.elements; position = position; code = 1; element = None } }
+    ensures { told result ≡ record {
+      id = id_of segment.now.elements;
+      position = position;
+      code = 1;
+      element = None;
+    } }
 {
     SetFault {
         segment: segment.element(0),
@@ -123,13 +133,16 @@ pub(crate) fn step<'a>(
     position: u32,
     segment: &Segment<'a>,
 ) -> Result<Progress, SetFault<'a>>
-    ensures { (previous : List ℕ) → after_goods progress.after ≡ is_goods previous → after_advised progress.after ≡ is_advised previous
+    ensures { (previous : List ℕ) → after_goods progress.after ≡ is_goods previous
+        → after_advised progress.after ≡ is_advised previous
         → MatchResult result
-        (λ p. (meant.fault_at rules delims.now (kind_words rules (kind_of kind)) (rest_of rules progress.stage) previous position segment.now.elements ≡ None)
+        (λ p. (meant.fault_at rules delims.now (kind_words rules (kind_of kind))
+        (rest_of rules progress.stage) previous position segment.now.elements ≡ None)
         × (words_after (id_of segment.now.elements) (rest_of rules progress.stage) ≡ rest_of rules p.stage)
         × (after_goods p.after ≡ is_goods (id_of segment.now.elements))
         × (after_advised p.after ≡ is_advised (id_of segment.now.elements)))
-        (λ f. meant.fault_at rules delims.now (kind_words rules (kind_of kind)) (rest_of rules progress.stage) previous position segment.now.elements ≡ Some (told f)) }
+        (λ f. meant.fault_at rules delims.now (kind_words rules (kind_of kind))
+        (rest_of rules progress.stage) previous position segment.now.elements ≡ Some (told f)) }
 {
     let Some(id) = Id::read(segment.element(0)) else {
         return Err(unknown_fault(position, segment));

@@ -17,7 +17,8 @@ impl SetKind {
     /// The kind of the sets in a group with this functional identifier (GS01); None where no such
     /// set is read.
     pub fn of_function(function: &[u8]) -> Option<SetKind>
-        ensures { option_map kind_of result ≡ find (λ k. bytes_eq (meant.kind_function k) function.now) meant.set_kinds }
+        ensures { option_map kind_of result ≡ find
+            (λ k. bytes_eq (meant.kind_function k) function.now) meant.set_kinds }
     {
         match function {
             b"OW" => Some(SetKind::ShippingOrder),

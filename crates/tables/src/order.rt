@@ -32,7 +32,8 @@ pub(crate) enum Stage {
 impl Stage {
     /// The stage after one more segment; None where that may not stand there.
     pub(crate) fn next(self, id: Id, rules: Rules) -> Option<Stage>
-        ensures { option_map (rest_of rules) result ≡ found (words_after (text_of id) (rest_of rules self)) }
+        ensures { option_map (rest_of rules) result
+            ≡ found (words_after (text_of id) (rest_of rules self)) }
     {
         match self {
             Stage::Begin => after_begin(id),
@@ -71,7 +72,8 @@ impl Stage {
 }
 
 fn after_begin(id: Id) -> Option<Stage>
-    ensures { (r : Rules) → option_map (rest_of r) result ≡ found (words_after (text_of id) (rest_of r Stage.Begin)) }
+    ensures { (r : Rules)
+        → option_map (rest_of r) result ≡ found (words_after (text_of id) (rest_of r Stage.Begin)) }
 {
     match id {
         Id::St => Some(Stage::Head),
@@ -80,7 +82,8 @@ fn after_begin(id: Id) -> Option<Stage>
 }
 
 fn after_head(id: Id) -> Option<Stage>
-    ensures { (r : Rules) → option_map (rest_of r) result ≡ found (words_after (text_of id) (rest_of r Stage.Head)) }
+    ensures { (r : Rules)
+        → option_map (rest_of r) result ≡ found (words_after (text_of id) (rest_of r Stage.Head)) }
 {
     match id {
         Id::W05 => Some(Stage::Parties(MOST_PARTIES)),
@@ -90,7 +93,8 @@ fn after_head(id: Id) -> Option<Stage>
 
 // A party, or what may stand where the references begin.
 fn after_party(left: u8, id: Id, rules: Rules) -> Option<Stage>
-    ensures { option_map (rest_of rules) result ≡ found (words_after (text_of id) (rest_of rules (Stage.Parties left))) }
+    ensures { option_map (rest_of rules) result
+        ≡ found (words_after (text_of id) (rest_of rules (Stage.Parties left))) }
 {
     match id {
         Id::N1 if left > 0 => Some(Stage::Named(left - 1)),
@@ -99,7 +103,8 @@ fn after_party(left: u8, id: Id, rules: Rules) -> Option<Stage>
 }
 
 fn after_name(left: u8, id: Id, rules: Rules) -> Option<Stage>
-    ensures { option_map (rest_of rules) result ≡ found (words_after (text_of id) (rest_of rules (Stage.Named left))) }
+    ensures { option_map (rest_of rules) result
+        ≡ found (words_after (text_of id) (rest_of rules (Stage.Named left))) }
 {
     match id {
         Id::N3 => Some(Stage::Streeted(left)),
@@ -108,7 +113,8 @@ fn after_name(left: u8, id: Id, rules: Rules) -> Option<Stage>
 }
 
 fn after_street(left: u8, id: Id, rules: Rules) -> Option<Stage>
-    ensures { option_map (rest_of rules) result ≡ found (words_after (text_of id) (rest_of rules (Stage.Streeted left))) }
+    ensures { option_map (rest_of rules) result
+        ≡ found (words_after (text_of id) (rest_of rules (Stage.Streeted left))) }
 {
     match id {
         Id::N4 => Some(Stage::Parties(left)),
@@ -118,7 +124,8 @@ fn after_street(left: u8, id: Id, rules: Rules) -> Option<Stage>
 
 // A reference, or what may stand where the dates begin.
 fn after_reference(left: u8, id: Id, rules: Rules) -> Option<Stage>
-    ensures { option_map (rest_of rules) result ≡ found (words_after (text_of id) (rest_of rules (Stage.References left))) }
+    ensures { option_map (rest_of rules) result
+        ≡ found (words_after (text_of id) (rest_of rules (Stage.References left))) }
 {
     match id {
         Id::N9 if left > 0 => Some(Stage::References(left - 1)),
@@ -128,7 +135,8 @@ fn after_reference(left: u8, id: Id, rules: Rules) -> Option<Stage>
 
 // A date, or the first line.
 fn after_date(left: u8, id: Id, rules: Rules) -> Option<Stage>
-    ensures { option_map (rest_of rules) result ≡ found (words_after (text_of id) (rest_of rules (Stage.Dates left))) }
+    ensures { option_map (rest_of rules) result
+        ≡ found (words_after (text_of id) (rest_of rules (Stage.Dates left))) }
 {
     match id {
         Id::G62 if left > 0 => Some(Stage::Dates(left - 1)),
@@ -148,7 +156,9 @@ fn first_line(id: Id, rules: Rules) -> Option<Stage>
 }
 
 fn after_number(left: u16, id: Id) -> Option<Stage>
-    ensures { (r : Rules) → option_map (rest_of r) result ≡ found (words_after (text_of id) (rest_of r (Stage.Numbered left))) }
+    ensures { (r : Rules)
+        → option_map (rest_of r) result
+        ≡ found (words_after (text_of id) (rest_of r (Stage.Numbered left))) }
 {
     match id {
         Id::W01 => Some(Stage::Goods(left)),
@@ -157,7 +167,8 @@ fn after_number(left: u16, id: Id) -> Option<Stage>
 }
 
 fn after_goods(left: u16, id: Id) -> Option<Stage>
-    ensures { (r : Rules) → option_map (rest_of r) result ≡ found (words_after (text_of id) (rest_of r (Stage.Goods left))) }
+    ensures { (r : Rules)
+        → option_map (rest_of r) result ≡ found (words_after (text_of id) (rest_of r (Stage.Goods left))) }
 {
     match id {
         Id::N9 => Some(Stage::Pinned(left)),
@@ -166,7 +177,8 @@ fn after_goods(left: u16, id: Id) -> Option<Stage>
 }
 
 fn after_pin(left: u16, id: Id) -> Option<Stage>
-    ensures { (r : Rules) → option_map (rest_of r) result ≡ found (words_after (text_of id) (rest_of r (Stage.Pinned left))) }
+    ensures { (r : Rules)
+        → option_map (rest_of r) result ≡ found (words_after (text_of id) (rest_of r (Stage.Pinned left))) }
 {
     match id {
         Id::Lx if left > 0 => Some(Stage::Numbered(left - 1)),
@@ -176,7 +188,8 @@ fn after_pin(left: u16, id: Id) -> Option<Stage>
 }
 
 fn after_total(id: Id) -> Option<Stage>
-    ensures { (r : Rules) → option_map (rest_of r) result ≡ found (words_after (text_of id) (rest_of r Stage.Total)) }
+    ensures { (r : Rules)
+        → option_map (rest_of r) result ≡ found (words_after (text_of id) (rest_of r Stage.Total)) }
 {
     match id {
         Id::Se => Some(Stage::End),

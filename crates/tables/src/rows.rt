@@ -229,7 +229,8 @@ fn advised_lot(rules: Rules) -> &'static [ElementRow]
 
 // The rows of W03.
 fn advice_total(rules: Rules) -> &'static [ElementRow]
-    ensures rows { map row_of result.now ≡ meant.must meant.Quantity 1 (meant.advice_total_digits rules) ∷ [] }
+    ensures rows { map row_of result.now
+        ≡ meant.must meant.Quantity 1 (meant.advice_total_digits rules) ∷ [] }
     ensures few { length result.now < 100 }
 {
     match rules {
@@ -240,7 +241,8 @@ fn advice_total(rules: Rules) -> &'static [ElementRow]
 
 // The rows of W76.
 fn order_total(rules: Rules) -> &'static [ElementRow]
-    ensures rows { map row_of result.now ≡ meant.must meant.Quantity 1 (meant.order_total_digits rules) ∷ [] }
+    ensures rows { map row_of result.now
+        ≡ meant.must meant.Quantity 1 (meant.order_total_digits rules) ∷ [] }
     ensures few { length result.now < 100 }
 {
     match rules {
@@ -251,7 +253,8 @@ fn order_total(rules: Rules) -> &'static [ElementRow]
 
 // The rows of an N9, by what it stands after.
 fn reference(after: After, rules: Rules) -> &'static [ElementRow]
-    ensures rows { (previous : List ℕ) → after_goods after ≡ is_goods previous → after_advised after ≡ is_advised previous
+    ensures rows { (previous : List ℕ) → after_goods after ≡ is_goods previous
+        → after_advised after ≡ is_advised previous
         → Some (map row_of result.now) ≡ rows_after rules previous (codes "N9") }
     ensures few { length result.now < 100 }
 {
@@ -264,7 +267,8 @@ fn reference(after: After, rules: Rules) -> &'static [ElementRow]
 
 /// The rows of a segment with the id, by what it stands after; None for ST and SE.
 pub(crate) fn rows_of(id: Id, after: After, rules: Rules) -> Option<&'static [ElementRow]>
-    ensures rows { (previous : List ℕ) → after_goods after ≡ is_goods previous → after_advised after ≡ is_advised previous
+    ensures rows { (previous : List ℕ) → after_goods after ≡ is_goods previous
+        → after_advised after ≡ is_advised previous
         → option_map (λ r. map row_of r.now) result ≡ rows_after rules previous (text_of id) }
     ensures few { IfSome result (λ r. length r.now < 100) }
 {

@@ -36,7 +36,8 @@ impl Stage {
 
     /// The stage after one more segment; None where that may not stand there.
     pub(crate) fn next(self, id: Id, rules: Rules) -> Option<Stage>
-        ensures { option_map (rest_of rules) result ≡ found (words_after (text_of id) (rest_of rules self)) }
+        ensures { option_map (rest_of rules) result
+            ≡ found (words_after (text_of id) (rest_of rules self)) }
     {
         match self {
             Stage::Advice(stage) => stage.next(id, rules).map(Stage::Advice),

@@ -1,4 +1,4 @@
-//! Interchanges that can't be read, or that are refused with a note.
+//! Interchanges that can't be read, or that are refused with a note; and groups that are rejected.
 
 /// The cases.
 pub const CASES: &str = "\
@@ -288,4 +288,23 @@ refused 2 Note(021)
 refused 2 Note(023)
 refused 2 Note(022)
 refused 2 Note(024)
+@case a group of another version without an end
+@file advice-1.x12
+ISA*00*          *00*          *ZZ*ACME           *ZZ*WHSE1          *250304*0915*U*00401*000000001*1*P*>~GS*AR*ACME*WHSE1*20250304*0915*1*X*004020~ST*943*0001~W06*F*PO77*20250303*SHP1~W04*100*EA**SK*BOLT~N9*LT*L1~W03*100~SE*6*0001~IEA*1*000000001~\
+@script
+init ZZ-WHSE1
+enrol ZZ-ACME --at 2025-03-04T09:15
+stock ZZ-ACME --csv
+outbox ZZ-ACME
+send advice-1.x12 --at 2025-03-04T09:15
+stock ZZ-ACME --csv
+outbox ZZ-ACME
+outbox ZZ-ACME --number 1
+@printed
+item,lot,expiry,expected,on_hand,reserved,shipped
+ISA*00*          *00*          *ZZ*WHSE1          *ZZ*ACME           *250304*0915*U*00401*000000001*0*P*>~TA1*000000001*250304*0915*A*000~GS*FA*WHSE1*ACME*20250304*0915*1*X*004010~ST*997*0001~AK1*AR*1~AK9*R*1*1*0*2~SE*4*0001~GE*1*1~IEA*1*000000001~
+item,lot,expiry,expected,on_hand,reserved,shipped
+     1 ANS -
+ISA*00*          *00*          *ZZ*WHSE1          *ZZ*ACME           *250304*0915*U*00401*000000001*0*P*>~TA1*000000001*250304*0915*A*000~GS*FA*WHSE1*ACME*20250304*0915*1*X*004010~ST*997*0001~AK1*AR*1~AK9*R*1*1*0*2~SE*4*0001~GE*1*1~IEA*1*000000001~
+@ends 0
 ";

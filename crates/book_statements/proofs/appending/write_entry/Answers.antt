@@ -2,7 +2,7 @@ use Rattle.std.proofs.Common.{rules, ◌≡◌, ap, ◌∙◌}
 use Rattle.std.specs.Prelude.{IsErrAnd}
 use Rattle.profile.specs.Moments.{stamp}
 use Rattle.sqlite.specs.Held.{state}
-use Rattle.store.specs.declared.fault.Fault.{Fault}
+use Rattle.store.specs.Fault.{Fault}
 use Rattle.book_statements.proofs.AppendingLemmas.{entry_led_on}
 use Rattle.book_statements.proofs.Writes.{wrote_on, wrote_failed, wrote_both}
 use Rattle.book_statements.proofs.appending.write_entry.Goals as goal
@@ -30,8 +30,8 @@ returns-clause-wrote g c =
     wrote_on _ _ _ _ _ _ _ c.apply_all.result written c.apply_all.ensures.wrote (λ all changed. (
       all.0.0.0,
       λ W L e is next.
-          entry_led_on W L e c.args.changes.now c.args.seq c.args.who.now c.args.entry.now c.rules.result c.moment_text-moment.result c.args.outgoing.now
+          entry_led_on W L e c.args.changes.now c.args.seq c.args.who.now c.args.entry.now c.rules.result c.stamp-moment.result c.args.outgoing.now
           (state g.S.Store c.args.tx.now.conn.now).now (state g.S.Store c.insert_entry.new.tx.conn.now).now (state g.S.Store c.insert_rules.new.tx.conn.now).now (state g.S.Store c.insert_sent.new.tx.conn.now).now
           (state g.S.Store c.apply_all.new.tx.conn.now).now
-          is (c.moment_text-moment.ensures ∙ ap stamp c.moment.ensures) c.rules.ensures next all.0.0.1 all.0.1 (all.1 W L e is next.entry next.outgoing) (changed e.who is),
+          is (c.stamp-moment.ensures ∙ ap stamp c.moment.ensures) c.rules.ensures next all.0.0.1 all.0.1 (all.1 W L e is next.entry next.outgoing) (changed e.who is),
     ))

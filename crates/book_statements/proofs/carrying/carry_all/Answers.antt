@@ -1,7 +1,7 @@
 use Rattle.std.proofs.Common.{rules, ◌≡◌}
 use Rattle.std.specs.Prelude.{IsErrAnd}
 use Rattle.sqlite.specs.Held.{state}
-use Rattle.store.specs.declared.fault.Fault.{Fault}
+use Rattle.store.specs.Fault.{Fault}
 use Rattle.book_statements.proofs.Carried.{carried_over}
 use Rattle.book_statements.proofs.Writes.{wrote_on, wrote_failed, wrote_both}
 use Rattle.book_statements.proofs.carrying.carry_all.Goals as goal

@@ -1,7 +1,7 @@
 use Rattle.std.proofs.Common.{rules, of_calls, ◌≡◌, ℕ, subst}
 use Rattle.std.specs.Prelude.{IsErrAnd}
 use Rattle.sqlite.specs.Held.{state}
-use Rattle.store.specs.declared.fault.Fault.{Fault}
+use Rattle.store.specs.Fault.{Fault}
 use Rattle.book_statements.proofs.Carried.{GivesSome, given_none, given_more, given_all}
 use Rattle.book_statements.proofs.Writes.{wrote_as, wrote_nothing, wrote_on, wrote_failed}
 use Rattle.book_statements.proofs.carrying.give_first_rules.Goals as goal

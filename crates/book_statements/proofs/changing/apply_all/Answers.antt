@@ -2,7 +2,7 @@ use Rattle.std.proofs.Common.{rules, arith, ◌≡◌, get_or, subst}
 use Rattle.std.specs.Prelude.{IsErrAnd}
 use Rattle.rules.specs.Tabled.{table_changes_of}
 use Rattle.sqlite.specs.Held.{state}
-use Rattle.store.specs.declared.fault.Fault.{Fault}
+use Rattle.store.specs.Fault.{Fault}
 use Rattle.book_statements.specs.Leading.{Leads}
 use Rattle.book_statements.proofs.LeadingLemmas.{left_more, left_nothing}
 use Rattle.book_statements.proofs.Writes.{wrote_as, wrote_nothing, wrote_on, wrote_failed}

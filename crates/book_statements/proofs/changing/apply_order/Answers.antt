@@ -3,7 +3,7 @@ use Rattle.std.specs.Prelude.{IsErrAnd}
 use Rattle.profile.specs.Changes.{Frees}
 use Rattle.profile.specs.Page.{PageOrder}
 use Rattle.sqlite.specs.Held.{state}
-use Rattle.store.specs.declared.fault.Fault.{Fault}
+use Rattle.store.specs.Fault.{Fault}
 use Rattle.book_statements.specs.Leading.{Leads}
 use Rattle.book_statements.proofs.Applied.{order_opened, order_closed}
 use Rattle.book_statements.proofs.Writes.{wrote_on, wrote_failed, wrote_both}

@@ -1,7 +1,7 @@
 use Rattle.std.proofs.Common.{rules, ◌≡◌, List, ℕ, None, Some, Option}
 use Rattle.std.specs.Prelude.{IsErrAnd}
 use Rattle.sqlite.specs.Held.{state}
-use Rattle.store.specs.declared.fault.Fault.{Fault}
+use Rattle.store.specs.Fault.{Fault}
 use Rattle.book_statements.proofs.Applied.{row_dated, row_undated}
 use Rattle.book_statements.proofs.Writes.{wrote_as, wrote_on, wrote_failed}
 use Rattle.book_statements.proofs.changing.apply_row.Goals as goal

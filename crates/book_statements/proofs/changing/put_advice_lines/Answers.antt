@@ -3,7 +3,7 @@ use Rattle.std.specs.Prelude.{IsErrAnd}
 use Rattle.std.specs.List.{enumerate_from}
 use Rattle.profile.specs.Means.{Line}
 use Rattle.sqlite.specs.Held.{state}
-use Rattle.store.specs.declared.fault.Fault.{Fault}
+use Rattle.store.specs.Fault.{Fault}
 use Rattle.book_statements.specs.Leading.{Leads}
 use Rattle.book_statements.proofs.Limited.{spends_same}
 use Rattle.book_statements.proofs.LeadingLemmas.{left_on, left_none}

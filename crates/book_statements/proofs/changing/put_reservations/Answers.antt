@@ -3,7 +3,7 @@ use Rattle.std.specs.Prelude.{IsErrAnd}
 use Rattle.profile.specs.Means.{Line}
 use Rattle.profile.specs.Page.{PageOrder}
 use Rattle.sqlite.specs.Held.{state}
-use Rattle.store.specs.declared.fault.Fault.{Fault}
+use Rattle.store.specs.Fault.{Fault}
 use Rattle.book_statements.specs.Leading.{Leads}
 use Rattle.book_statements.proofs.LeadingLemmas.{left_of, left_empty}
 use Rattle.book_statements.proofs.Lines.{reservation_change, reservations_are}

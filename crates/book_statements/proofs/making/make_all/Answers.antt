@@ -2,7 +2,7 @@ use Rattle.std.proofs.Common.{rules, ap, subst, ◌∙◌, ◌≡◌}
 use Rattle.std.specs.Prelude.{IsErrAnd}
 use Rattle.profile.specs.Header.{Who}
 use Rattle.sqlite.specs.Held.{state}
-use Rattle.store.specs.declared.fault.Fault.{Fault}
+use Rattle.store.specs.Fault.{Fault}
 use Rattle.book_statements.specs.Making.{HasBook}
 use Rattle.book_statements.proofs.Writes.{wrote_on, wrote_failed, wrote_both}
 use Rattle.book_statements.proofs.making.make_all.Goals as goal

@@ -1,7 +1,7 @@
 use Rattle.std.proofs.Common.{rules, ◌≡◌}
 use Rattle.std.specs.Prelude.{IsErrAnd}
 use Rattle.sqlite.specs.Held.{state}
-use Rattle.store.specs.declared.fault.Fault.{Fault}
+use Rattle.store.specs.Fault.{Fault}
 use Rattle.book_statements.proofs.CreateLemmas.{made_first}
 use Rattle.book_statements.proofs.Writes.{wrote_on, wrote_failed, wrote_both}
 use Rattle.book_statements.proofs.making.make_first.Goals as goal

@@ -3,7 +3,7 @@ use Rattle.std.specs.Prelude.{IsErrAnd, ⊤}
 use Rattle.std.proofs.lemmas.Bool.{cases_Bool}
 use Rattle.sqlite.specs.Held.{state}
 use Rattle.sqlite.specs.Values.{bound}
-use Rattle.store.specs.declared.fault.Fault.{Fault}
+use Rattle.store.specs.Fault.{Fault}
 use Rattle.book_statements.proofs.StepLemmas.{refused_keeps, same_keeps}
 use Rattle.book_statements.proofs.Writes.{wrote_refused, wrote_failed}
 use Rattle.book_statements.proofs.running.run.Goals as goal

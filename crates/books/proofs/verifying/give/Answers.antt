@@ -17,17 +17,17 @@ use Rattle.books.proofs.RulesLemmas.{legal_next, legal_now, rises_at}
 use Rattle.books.proofs.verifying.give.Goals as goal
 
 pub returns-in_default-clause-next : goal.returns-in_default-clause-next
-returns-in_default-clause-next g c = λ clean L e behind is legal last so_far u.
-    let follow = legal_follow _ _ _ L e behind legal refl in
+returns-in_default-clause-next g c = λ clean L e back is legal last so_far u.
+    let follow = legal_follow _ _ _ L e back legal refl in
     absurd (never_none c.in_ok-given.field-0 (ruled_by e) c.in_default.not-Some (c.in_ok-given.ensures (number_of L e) e is follow.good))
 
 pub returns-then-not-may_follow-clause-next : goal.returns-then-not-may_follow-clause-next
-returns-then-not-may_follow-clause-next g c = λ clean L e behind is legal last so_far u.
+returns-then-not-may_follow-clause-next g c = λ clean L e back is legal last so_far u.
     let W = (g.K.Keeper.standing c.args.copy.now).warehouse in
-    let follow = legal_follow _ W _ L e behind legal refl in
+    let follow = legal_follow _ W _ L e back legal refl in
     let given : c.in-Some.given ≡ ruled_by e = one_some c.in_ok-given.field-0 c.in-Some.given (ruled_by e) c.in-Some.is (c.in_ok-given.ensures (number_of L e) e is follow.good) in
     let own_rules : c.rules-rules.result ≡ e.rules = c.rules-rules.ensures ∙ ap (λ (p : RuledCommand). p.0) given in
-    let rises = rises_at _ L e behind (legal-rises Two W _ legal) in
+    let rises = rises_at _ L e back (legal-rises Two W _ legal) in
     let may : may_follow c.args.last c.rules-rules.result ≡ true = (λ i. may_follow (last i) (own_rules i)) ∙ rises in
     absurd (let both : ◌≡◌ {A = Bool} true false = sym may ∙ sym c.may_follow.ensures ∙ c.if-not-may_follow.true in cc)
 
@@ -47,16 +47,16 @@ returns-in-Ok-clause-copy g c = λ clean W k.
     }
 
 pub returns-in-Ok-clause-next : goal.returns-in-Ok-clause-next
-returns-in-Ok-clause-next g c = λ clean L e behind is legal last so_far u.
+returns-in-Ok-clause-next g c = λ clean L e back is legal last so_far u.
     let old = g.K.Keeper.standing c.args.copy.now in
     let W = old.warehouse in
-    let follow = legal_follow _ W _ L e behind legal refl in
+    let follow = legal_follow _ W _ L e back legal refl in
     let given : c.in-Some.given ≡ ruled_by e = one_some c.in_ok-given.field-0 c.in-Some.given (ruled_by e) c.in-Some.is (c.in_ok-given.ensures (number_of L e) e is follow.good) in
     let under : c.rules-rules.result ≡ e.rules = c.rules-rules.ensures ∙ ap (λ (p : RuledCommand). p.0) given in
     let what : asked c.command.result ≡ given_by e = c.command.ensures.same ∙ ap (λ (p : RuledCommand). p.1) given in
     let when : c.moment.result ≡ e.moment = c.moment.ensures ∙ ap (λ w. w.moment) is in
     let made : after c.rules-rules.result W L (asked c.command.result, c.moment.result) ≡ L ++ e ∷ [] =
-    (λ i. after (under i) W L (what i, when i)) ∙ made_again _ W _ L e behind legal refl in
+    (λ i. after (under i) W L (what i, when i)) ∙ made_again _ W _ L e back legal refl in
     let goes = c.submit_under.ensures.goes in
     let timely : is_moment c.moment.result ≡ true = search rules in
     let good : is_command c.rules-rules.result (asked c.command.result) ≡ true =

@@ -1,7 +1,7 @@
 use Rattle.std.proofs.Common.{[], ◌≡◌, ◌+◌, rules, of_calls, arith, refl, subst, None}
 use Rattle.std.specs.Prelude.{IfSome, IsErrAnd, IsSomeAnd}
 use Rattle.sqlite.specs.Held.{state}
-use Rattle.store.specs.declared.fault.Fault.{Fault}
+use Rattle.store.specs.Fault.{Fault}
 use Rattle.book_tables.proofs.AskedLater.{clean_before}
 use Rattle.book_tables.proofs.Queries.{went_as, went_fails, went_on}
 use Rattle.books.specs.Opened.{standing_of}

@@ -1,12 +1,22 @@
 use Rattle.std.proofs.Common.{rules, inl, inr, refl}
-use Rattle.std.proofs.lemmas.Result.{IfOk-weaker}
+use Rattle.std.proofs.lemmas.Result.{IfOk-weaker, IfErr-weaker}
+use Rattle.errands.proofs.HaltLaws.{halted_by}
 use Rattle.errands.proofs.running.content.Goals as goal
 
-pub returns-then-answer-ne404 : goal.returns-then-answer-ne404
-returns-then-answer-ne404 g c = IfOk-weaker c.tell_document.result _ _ (λ status told. inl (c.in_ok-answer.answer, c.in_ok-answer.ensures, told)) c.tell_document.ensures.told
+pub returns-then-answer-ne404-clause-told : goal.returns-then-answer-ne404-clause-told
+returns-then-answer-ne404-clause-told g c = IfOk-weaker c.tell_document.result _ _ (λ status told. inl (c.in_ok-answer.answer, c.in_ok-answer.ensures.brought, told)) c.tell_document.ensures.told
 
-pub returns-in-Done : goal.returns-in-Done
-returns-in-Done g c = inr (c.in_ok-answer.answer, c.in_ok-list.list, c.get_text.new.courier, search rules, c.in_ok-answer.ensures, c.in_ok-list.ensures, inr (search rules, refl))
+pub returns-then-answer-ne404-clause-halted : goal.returns-then-answer-ne404-clause-halted
+returns-then-answer-ne404-clause-halted g c =
+    IfErr-weaker c.tell_document.result _ _ (λ stop halts. halted_by _ _ stop c.in_ok-answer.answer _ c.in_ok-answer.ensures.brought (inl refl) halts) c.tell_document.ensures.halted
 
-pub returns : goal.returns
-returns g c = IfOk-weaker c.tell_report.result _ _ (λ status told. inr (c.in_ok-answer.answer, c.in_ok-list.list, c.get_text.new.courier, search rules, c.in_ok-answer.ensures, c.in_ok-list.ensures, inl told)) c.tell_report.ensures.told
+pub returns-in-Done-clause-told : goal.returns-in-Done-clause-told
+returns-in-Done-clause-told g c = inr (c.in_ok-answer.answer, c.in_ok-list.list, c.get_text.new.courier, search rules, c.in_ok-answer.ensures.brought, c.in_ok-list.ensures.brought, inr (search rules, refl))
+
+pub returns-clause-told : goal.returns-clause-told
+returns-clause-told g c =
+    IfOk-weaker c.tell_report.result _ _ (λ status told. inr (c.in_ok-answer.answer, c.in_ok-list.list, c.get_text.new.courier, search rules, c.in_ok-answer.ensures.brought, c.in_ok-list.ensures.brought, inl told)) c.tell_report.ensures.told
+
+pub returns-clause-halted : goal.returns-clause-halted
+returns-clause-halted g c =
+    IfErr-weaker c.tell_report.result _ _ (λ stop halts. halted_by _ _ stop c.in_ok-list.list _ c.in_ok-list.ensures.brought (inr (inl refl)) halts) c.tell_report.ensures.halted

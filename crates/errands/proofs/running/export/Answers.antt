@@ -1,9 +1,25 @@
-use Rattle.std.proofs.Common.{rules, inl, inr}
-use Rattle.std.proofs.lemmas.Result.{IfOk-weaker}
+use Rattle.std.proofs.Common.{rules, inl, inr, refl, sym, ap, subst, ◌∙◌}
+use Rattle.std.proofs.lemmas.Result.{IfOk-weaker, IfErr-weaker}
+use Rattle.errands.specs.Heard.{heard_report}
+use Rattle.errands.proofs.HaltLaws.{halted_by}
 use Rattle.errands.proofs.running.export.Goals as goal
 
-pub returns-then-answer-ne404 : goal.returns-then-answer-ne404
-returns-then-answer-ne404 g c = IfOk-weaker c.tell_report.result _ _ (λ status told. inl (c.in_ok-answer.answer, c.in_ok-answer.ensures, told)) c.tell_report.ensures.told
+pub returns-then-answer-ne404-clause-told : goal.returns-then-answer-ne404-clause-told
+returns-then-answer-ne404-clause-told g c = IfOk-weaker c.tell_report.result _ _ (λ status told. inl (c.in_ok-answer.answer, c.in_ok-answer.ensures.brought, told)) c.tell_report.ensures.told
 
-pub returns : goal.returns
-returns g c = IfOk-weaker c.tell_report-2.result _ _ (λ status told. inr (c.in_ok-answer.answer, c.in_ok-stock.stock, c.get.new.courier, search rules, c.in_ok-answer.ensures, c.in_ok-stock.ensures, told)) c.tell_report-2.ensures.told
+pub returns-then-answer-ne404-clause-halted : goal.returns-then-answer-ne404-clause-halted
+returns-then-answer-ne404-clause-halted g c =
+    IfErr-weaker c.tell_report.result _ _ (λ stop halts. halted_by _ _ stop c.in_ok-answer.answer _ c.in_ok-answer.ensures.brought (inr (inl refl)) halts) c.tell_report.ensures.halted
+
+-- a server that shows the stock, but not as CSV, is one without clerks
+pub returns-then-stock-eq200-clause-halted : goal.returns-then-stock-eq200-clause-halted
+returns-then-stock-eq200-clause-halted g c =
+    halted_by _ _ c.about_stop.result c.in_ok-stock.stock _ c.in_ok-stock.ensures.brought (inr (inl refl)) (rw c.in_ok-stock.ensures.heard (inr c.about_stop.ensures))
+
+pub returns-clause-told : goal.returns-clause-told
+returns-clause-told g c =
+    IfOk-weaker c.tell_report-2.result _ _ (λ status told. inr (c.in_ok-answer.answer, c.in_ok-stock.stock, c.get.new.courier, search rules, c.in_ok-answer.ensures.brought, c.in_ok-stock.ensures.brought, told)) c.tell_report-2.ensures.told
+
+pub returns-clause-halted : goal.returns-clause-halted
+returns-clause-halted g c =
+    IfErr-weaker c.tell_report-2.result _ _ (λ stop halts. halted_by _ _ stop c.in_ok-answer.answer _ c.in_ok-answer.ensures.brought (inr (inl refl)) halts) c.tell_report-2.ensures.halted

@@ -1,5 +1,11 @@
-use Rattle.std.proofs.lemmas.Result.{IfOk-weaker}
+use Rattle.std.proofs.Common.{inl, inr, refl}
+use Rattle.std.proofs.lemmas.Result.{IfOk-weaker, IfErr-weaker}
+use Rattle.errands.proofs.HaltLaws.{halted_by}
 use Rattle.errands.proofs.running.report.Goals as goal
 
-pub returns : goal.returns
-returns g c = IfOk-weaker c.tell_report.result _ _ (λ status told. (c.in_ok-answer.answer, c.in_ok-answer.ensures, told)) c.tell_report.ensures.told
+pub returns-clause-told : goal.returns-clause-told
+returns-clause-told g c = IfOk-weaker c.tell_report.result _ _ (λ status told. (c.in_ok-answer.answer, c.in_ok-answer.ensures.brought, told)) c.tell_report.ensures.told
+
+pub returns-clause-halted : goal.returns-clause-halted
+returns-clause-halted g c =
+    IfErr-weaker c.tell_report.result _ _ (λ stop halts. halted_by _ _ stop c.in_ok-answer.answer _ c.in_ok-answer.ensures.brought (inr (inl refl)) halts) c.tell_report.ensures.halted

@@ -1,5 +1,5 @@
 use Rattle.std.proofs.Common.{rules, ◌≡◌, refl, sym, subst}
-use Rattle.store.specs.declared.fault.Fault.{Fault}
+use Rattle.store.specs.Fault.{Fault}
 use Rattle.folders.specs.Folders.{became_of, IsUntaken}
 use Rattle.folders.proofs.Taking.{unread, unsubmitted, unanswered, file_taken, handed_on}
 use Rattle.folders.proofs.folder.take_file.Goals as goal

@@ -2,7 +2,7 @@ use Rattle.std.proofs.Common.{rules, of_calls, ◌≡◌, ◌∙◌, ◌∷◌, 
 use Rattle.store.proofs.Changes.{goes_trans, unchanged_refl}
 use Rattle.folders.specs.Folders.{Became, became_of, AreTaken}
 use Rattle.folders.specs.Stops.{IsFolderStop}
-use Rattle.folders.proofs.Taking.{none_taken, taken_more, counted_behind, none_counted, handed_on, taken_kept, one_more, still_rising, none_left}
+use Rattle.folders.proofs.Taking.{none_taken, taken_more, counted_later, none_counted, handed_on, taken_kept, one_more, still_rising, none_left}
 use Rattle.folders.specs.declared.folder.FolderStop.{FolderStop}
 use Rattle.folders.specs.declared.folder.Taken.{Taken}
 use Rattle.std.specs.Prelude.{IsSorted}
@@ -37,7 +37,7 @@ returns-in-Err-clause-stopped g c =
     let now = g.K.Keeper.standing c.loop-name.keeper in
     let new = g.K.Keeper.standing c.take_named.new.keeper in
     let told : c.len.result ≡ length c.take_named.new.files.items = search rules in
-    counted_behind _ old now new c.args.moment i.texts _ i.goes i.shut c.take_named.ensures.goes i.taken c.in-Err.ensures.stopped
+    counted_later _ old now new c.args.moment i.texts _ i.goes i.shut c.take_named.ensures.goes i.taken c.in-Err.ensures.stopped
     (told ∙ ap length c.take_named.ensures.kept ∙ i.counted)
 
 pub loop-name-preserved : goal.loop-name-preserved

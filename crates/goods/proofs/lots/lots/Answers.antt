@@ -5,7 +5,7 @@ use Rattle.goods.specs.Keyed.{rises_by}
 use Rattle.goods.specs.Lots.{ranks_of}
 use Rattle.goods.proofs.Halves.{in_order_by}
 use Rattle.goods.proofs.KeyLemmas.{sorted_distinct}
-use Rattle.goods.proofs.LotLemmas.{lots_step_yes, lots_step_no, lots_none_before, lots_none_behind}
+use Rattle.goods.proofs.LotLemmas.{lots_step_yes, lots_step_no, lots_none_before, lots_none_later}
 use Rattle.goods.proofs.Ranks.{ranks_order}
 use Rattle.goods.proofs.lots.lots.Goals as goal
 use Rattle.goods.proofs.lots.lots.Goals.{then-is_lot_of+in_ok-of+in_ok-place, else-is_lot_of}
@@ -28,4 +28,4 @@ loop-i-preserved c = elim c.if-is_lot_of.branch [
 
 pub returns : goal.returns
 returns c = c.loop-i.invariant
-    ∙ ap (in_order (ranks_before c.args.rules)) (lots_none_behind c.args.item.now c.args.rows.now c.loop-i.i (λ k d le within. c.item_end-i-end.ensures.behind k d (omega (arith, le, c.loop-i-test.false)) within))
+    ∙ ap (in_order (ranks_before c.args.rules)) (lots_none_later c.args.item.now c.args.rows.now c.loop-i.i (λ k d le within. c.item_end-i-end.ensures.back k d (omega (arith, le, c.loop-i-test.false)) within))

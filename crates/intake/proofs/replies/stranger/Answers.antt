@@ -4,4 +4,4 @@ use Rattle.intake.proofs.Replied.{stranger_line}
 use Rattle.intake.proofs.replies.stranger.Goals as goal
 
 pub returns : goal.returns
-returns c = c.with_line.ensures ∙ ap (with_body 404 plain_type) (c.refusal_text.ensures ∙ stranger_line)
+returns c = c.with_line.ensures ∙ ap (with_body 404 plain_type) (c.line.ensures ∙ stranger_line)

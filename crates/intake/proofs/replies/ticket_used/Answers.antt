@@ -4,4 +4,4 @@ use Rattle.intake.proofs.Replied.{ticket_line}
 use Rattle.intake.proofs.replies.ticket_used.Goals as goal
 
 pub returns : goal.returns
-returns c = c.with_line.ensures ∙ ap (with_body 409 plain_type) (c.refusal_text.ensures ∙ ticket_line)
+returns c = c.with_line.ensures ∙ ap (with_body 409 plain_type) (c.line.ensures ∙ ticket_line)

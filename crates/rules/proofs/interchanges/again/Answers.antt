@@ -1,6 +1,6 @@
 use Rattle.std.proofs.Common.{ℕ, List, sym, ap, ◌∙◌}
 use Rattle.profile.specs.Header.{Who}
-use Rattle.profile.specs.Refusals.{Duplicate}
+use Rattle.profile.specs.declared.refusals.Refusal.TheVariants.{Duplicate}
 use Rattle.profile.specs.Reply.{refusal_answer}
 use Rattle.rules.proofs.Decides.{again_other}
 use Rattle.rules.proofs.interchanges.again.Goals as goal

@@ -1,7 +1,7 @@
 use Rattle.std.proofs.Common.{◌≡◌, [], ◌∷◌, not, true, set, ap, sym, ◌∙◌, subst}
 use Rattle.profile.specs.Rows.{LotRow}
 use Rattle.stock.specs.Moved.{IsPlace}
-use Rattle.stock.specs.Told.{told, one}
+use Rattle.stock.specs.OfPairs.{of_pair, one}
 use Rattle.stock.specs.declared.steps.Change.{Change}
 use Rattle.rules.specs.Lasting.{AreMarked, HaveRows, is_replaced}
 use Rattle.rules.proofs.Lasts.{row_there, marks_same, marks_more, mark_says, other_kind, other_lasts}
@@ -18,7 +18,7 @@ nowhere c =
     let r = c.in-Stock.row in
     let item : c.deref.result.now ≡ r.item = c.deref.ensures.value ∙ ap (λ (x : LotRow). x.item) c.row.view_is in
     let lot : c.deref-2.result.now ≡ r.lot = c.deref-2.ensures.value ∙ ap (λ (x : LotRow). x.lot) c.row.view_is in
-    let none : told one r.item r.lot c.args.rows.now ≡ 0 = rw (item, lot) at c.in_default-place_of.ensures in
+    let none : of_pair one r.item r.lot c.args.rows.now ≡ 0 = rw (item, lot) at c.in_default-place_of.ensures in
     row_there r c.args.rows.now c.requires.sorted (subst (λ (x : Change). HaveRows c.args.rows.now (x ∷ [])) c.in-Stock.is c.requires.row) none
 
 pub returns-in_default-place_of-clause-lasts : goal.returns-in_default-place_of-clause-lasts

@@ -6,4 +6,4 @@ use Rattle.sheet_texts.proofs.bad.first_bad_in.Given as goal
 
 -- no record so far is a reason
 abbrev pub invariant-loop-at : goal.invariant-loop-at
-invariant-loop-at l = first_reason (kind_of l.kind) l.number (take l.at (map fields_of l.rows)) ≡ None
+invariant-loop-at l = first_reason (kind_of l.kind) l.refusal (take l.at (map fields_of l.rows)) ≡ None

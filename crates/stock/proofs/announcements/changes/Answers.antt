@@ -5,7 +5,7 @@ use Rattle.profile.specs.Movements.{Expected}
 use Rattle.stock.specs.declared.steps.Change.TheVariants as change
 use Rattle.goods.specs.Moved.{IsAdded, IsDated, IsAdvised}
 use Rattle.goods.specs.Steps.{opened}
-use Rattle.goods.specs.Told.{amount, named_by, changed_rows}
+use Rattle.goods.specs.OfPairs.{amount, named_by, changed_rows}
 use Rattle.stock.specs.Touched.{IsTouched}
 use Rattle.stock.proofs.Announces.{advised_fits, announced_sound}
 use Rattle.stock.proofs.Dated.{advised_made}

@@ -1,5 +1,5 @@
-use Rattle.stock.proofs.PageLaws.{date_told}
+use Rattle.stock.proofs.PageLaws.{date_shows}
 use Rattle.stock.proofs.laws.dates_are_the_first.Goals as goal
 
 pub returns : goal.returns
-returns c = date_told
+returns c = date_shows

@@ -1,5 +1,5 @@
-use Rattle.stock.proofs.PageLaws.{balance_told}
+use Rattle.stock.proofs.PageLaws.{balance_shows}
 use Rattle.stock.proofs.laws.rows_are_balances.Goals as goal
 
 pub returns : goal.returns
-returns c = balance_told
+returns c = balance_shows

@@ -7,7 +7,7 @@ use Rattle.stock.specs.declared.steps.Change.{Change}
 use Rattle.stock.specs.declared.steps.Change.TheVariants as change
 use Rattle.goods.specs.Moved.{IsShipped}
 use Rattle.goods.specs.Steps.{closed_order}
-use Rattle.goods.specs.Told.{told, amount, changed_rows}
+use Rattle.goods.specs.OfPairs.{of_pair, amount, changed_rows}
 use Rattle.stock.specs.Touched.{IsTouched}
 use Rattle.stock.proofs.Leads.{among_first, among_second, touched_less, touched_there}
 use Rattle.goods.proofs.Pairs.{sheet_facts}
@@ -26,7 +26,7 @@ ship-requires-clause-on_hand c =
     let goods : c.in_ok-goods.goods.items ≡ sheet = c.in_ok-goods.ensures.lines in
     let lines : c.in_ok-lines.lines.items ≡ k.reserved ++ sheet = rw (c.deref.ensures.value, reserved, c.deref-2.ensures.value, goods) at c.in_ok-lines.ensures in
     let touched : IsTouched (k.reserved ++ sheet) p.rows t0 = rw (c.deref-3.ensures.value, lines, c.rows-rows.ensures.rows) at c.in_ok-touched.ensures in
-    let enough : (a b : List ℕ) → quantity_of sheet a b ≤ told (amount OnHand) a b p.rows = λ a b. omega (
+    let enough : (a b : List ℕ) → quantity_of sheet a b ≤ of_pair (amount OnHand) a b p.rows = λ a b. omega (
       arith,
       within_reserved k.reserved sheet a b c.requires.covered ((sheet_facts sheet c.lines.ensures.sheet).once a b),
       held_there p k.number k c.rows-rows.ensures.sound c.requires.known c.requires.is_open a b,

@@ -1,7 +1,6 @@
 use Rattle.std.proofs.Common.{Some, ℕ, ◌≡◌, ◌∙◌, ◌++◌, ◌∷◌, [], ◌+◌, List, ℕ, refl, sym, ap, true, false}
 use Rattle.std.proofs.lemmas.Slice.Eq.{bytes_eq-Decides}
 use Rattle.std.specs.List.{list_any}
-use Rattle.profile.specs.Refusals.{UnknownOrder, OrderClosed, NotReserved}
 use Rattle.profile.specs.Events.{Picked}
 use Rattle.profile.specs.Page.{PageOrder}
 use Rattle.goods.specs.declared.documents.Function.TheVariants.{Shipment}
@@ -16,11 +15,11 @@ use Rattle.stock.proofs.picks.pick.Goals as goal
 
 pub returns-in_default-clause-err : goal.returns-in_default-clause-err
 returns-in_default-clause-err c = λ n P es part is shows.
-    (UnknownOrder, picked_unknown P es (c.args.page.now.entries + 1) c.args.number.now c.args.sheet.now shows (sym (part.orders c.args.number.now is) ∙ c.in_default.ensures), refl)
+    picked_unknown P es (c.args.page.now.entries + 1) c.args.number.now c.args.sheet.now shows (sym (part.orders c.args.number.now is) ∙ c.in_default.ensures)
 
 pub returns-then-not-order-clause-err : goal.returns-then-not-order-clause-err
 returns-then-not-order-clause-err c = λ n P es part is shows.
-    (OrderClosed, picked_closed P es (c.args.page.now.entries + 1) c.args.number.now c.in-Some.order.now c.args.sheet.now shows (sym (part.orders c.args.number.now is) ∙ c.in-Some.ensures) (ap (λ (k : PageOrder). k.is_open) (sym c.order-2.view_is) ∙ c.if-not-order.true), refl)
+    picked_closed P es (c.args.page.now.entries + 1) c.args.number.now c.in-Some.order.now c.args.sheet.now shows (sym (part.orders c.args.number.now is) ∙ c.in-Some.ensures) (ap (λ (k : PageOrder). k.is_open) (sym c.order-2.view_is) ∙ c.if-not-order.true)
 
 pub exceeds-requires : goal.exceeds-requires
 exceeds-requires c = rw (c.deref.ensures.value, ap (λ (k : PageOrder). k.reserved) c.order-2.view_is) (held_fits c.args.page.now c.args.number.now c.in-Some.order.now c.rows.ensures.sound c.in-Some.ensures (ap (λ (k : PageOrder). k.is_open) (sym c.order-2.view_is) ∙ c.if-not-order.false))
@@ -29,7 +28,7 @@ pub returns-then-exceeds-clause-err : goal.returns-then-exceeds-clause-err
 returns-then-exceeds-clause-err c = λ n P es part is shows.
     let k = c.in-Some.order.now in
     let over : list_any (exceeds k.reserved) c.args.sheet.now ≡ true = rw (c.deref.ensures.value, ap (λ (k : PageOrder). k.reserved) c.order-2.view_is, c.deref-2.ensures.value, c.in_ok-goods.ensures.lines) at (sym c.if-exceeds.ensures) in
-    (NotReserved, picked_excess P es (c.args.page.now.entries + 1) c.args.number.now k c.args.sheet.now shows (sym (part.orders c.args.number.now is) ∙ c.in-Some.ensures) (ap (λ (k : PageOrder). k.is_open) (sym c.order-2.view_is) ∙ c.if-not-order.false) over, refl)
+    picked_excess P es (c.args.page.now.entries + 1) c.args.number.now k c.args.sheet.now shows (sym (part.orders c.args.number.now is) ∙ c.in-Some.ensures) (ap (λ (k : PageOrder). k.is_open) (sym c.order-2.view_is) ∙ c.if-not-order.false) over
 
 pub changes-requires-clause-known : goal.changes-requires-clause-known
 changes-requires-clause-known c =

@@ -1,8 +1,8 @@
 use Rattle.std.proofs.Common.{◌≡◌, ap}
 use Rattle.std.specs.List.{insert}
 use Rattle.profile.specs.Means.{Line}
-use Rattle.goods.specs.Told.{blank}
-use Rattle.goods.proofs.Tells.{placed_there, placed_new}
+use Rattle.goods.specs.OfPairs.{blank}
+use Rattle.goods.proofs.OfPairLemmas.{placed_there, placed_new}
 use Rattle.stock.proofs.places.placed.Goals as goal
 
 pub returns-in-Some : goal.returns-in-Some

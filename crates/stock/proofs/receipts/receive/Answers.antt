@@ -1,6 +1,5 @@
-use Rattle.std.proofs.Common.{Some, ◌≡◌, ◌∙◌, ◌++◌, ◌∷◌, [], ◌+◌, List, ℕ, refl, sym, ap}
+use Rattle.std.proofs.Common.{Some, ◌≡◌, ◌∙◌, ◌++◌, ◌∷◌, [], ◌+◌, List, ℕ, sym, ap}
 use Rattle.std.proofs.lemmas.Slice.Eq.{bytes_eq-Decides}
-use Rattle.profile.specs.Refusals.{UnknownAdvice, AdviceClosed}
 use Rattle.profile.specs.Events.{Counted}
 use Rattle.goods.specs.declared.documents.Function.TheVariants.{Receipt}
 use Rattle.stock.specs.declared.steps.Change.TheVariants.{Sent}
@@ -13,14 +12,11 @@ use Rattle.stock.proofs.receipts.receive.Goals as goal
 
 pub returns-in_default-clause-err : goal.returns-in_default-clause-err
 returns-in_default-clause-err c = λ n P es part is shows.
-    (UnknownAdvice, counted_unknown P es (c.args.page.now.entries + 1) c.args.shipment.now c.args.sheet.now shows (sym (part.advices c.args.shipment.now is) ∙ c.in_default.ensures), refl)
+    counted_unknown P es (c.args.page.now.entries + 1) c.args.shipment.now c.args.sheet.now shows (sym (part.advices c.args.shipment.now is) ∙ c.in_default.ensures)
 
 pub returns-then-not-is_open-clause-err : goal.returns-then-not-is_open-clause-err
-returns-then-not-is_open-clause-err c = λ n P es part is shows. (
-  AdviceClosed,
-  counted_closed P es (c.args.page.now.entries + 1) c.args.shipment.now c.in-Some.advice.now c.args.sheet.now shows (sym (part.advices c.args.shipment.now is) ∙ c.in-Some.ensures) (sym c.if-not-is_open.ensures),
-  refl,
-)
+returns-then-not-is_open-clause-err c = λ n P es part is shows.
+    counted_closed P es (c.args.page.now.entries + 1) c.args.shipment.now c.in-Some.advice.now c.args.sheet.now shows (sym (part.advices c.args.shipment.now is) ∙ c.in-Some.ensures) (sym c.if-not-is_open.ensures)
 
 pub changes-requires-clause-known : goal.changes-requires-clause-known
 changes-requires-clause-known c =

@@ -4,7 +4,7 @@ use Rattle.profile.specs.Page.{reserved_lines}
 use Rattle.stock.specs.declared.steps.Change.TheVariants as change
 use Rattle.goods.specs.Moved.{IsAdded}
 use Rattle.goods.specs.Steps.{opened_order}
-use Rattle.goods.specs.Told.{amount, changed_rows}
+use Rattle.goods.specs.OfPairs.{amount, changed_rows}
 use Rattle.stock.specs.Touched.{IsTouched}
 use Rattle.stock.proofs.Allots.{IsAllotted, allotted}
 use Rattle.stock.proofs.Leads.{touched_less}

@@ -1,6 +1,6 @@
 use Rattle.profile.specs.Movements.{Expected}
 use Rattle.profile.specs.Page.{PageAdvice}
-use Rattle.goods.specs.Told.{amount}
+use Rattle.goods.specs.OfPairs.{amount}
 use Rattle.stock.proofs.Lefts.{taken_once}
 use Rattle.stock.proofs.sound.expected_at_once.Goals as goal
 

@@ -6,7 +6,7 @@ use Rattle.std.proofs.lemmas.Option.{slice_get-get_or, slice_get-map}
 use Rattle.sqlite.specs.Tree.{Trees}
 use Rattle.profile.specs.Register.{Entry}
 use Rattle.store.specs.Runs.{all_asked, can_be_given}
-use Rattle.store.specs.declared.fault.Fault.{Fault}
+use Rattle.store.specs.Fault.{Fault}
 use Rattle.book_statements.specs.Carrying.{LeavesCarried}
 use Rattle.stops.specs.Days.{AreLed, AreOpenings, Pass, day_by_day, reached}
 use Rattle.stops.specs.Faults.{IsOpeningFault}

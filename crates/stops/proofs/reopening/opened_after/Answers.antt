@@ -37,7 +37,7 @@ returns-in-Ok-open_from-clause-opened g c = λ clean W all.
     let crash = c.in_default.ensures in
     let conn = c.in-Ok.conn in
     let held : c.new.result.conn ≡ conn = c.new.ensures.conn in
-    let still = subst (λ (h : Held g.row.S.Denot). OpensAs (state v h) (state v c.in-Ok-open_from.book.tables.conn)) held c.in-Ok-open_from.ensures.still in
+    let still = subst (λ (h : Held g.row.S.Denot). OpensAs (state v h) (state v c.in-Ok-open_from.book.tables.conn)) held c.in-Ok-open_from.ensures.ok.still in
     let early : HasCleanDisk (state v conn) = omega (arith, still.clean, clean) in
     let first : IsClean (v.view c.crash_and_reopen.new.self) = omega (arith, c.in-Ok.ensures.clean, early) in
     let found = crash.found first in
@@ -50,15 +50,15 @@ returns-in-Ok-open_from-clause-opened g c = λ clean W all.
     record {
       found = _;
       was = found;
-      warehouse = (c.in-Ok-open_from.ensures.keeps clean version.0 W there.0 stands).0;
-      usable = c.in-Ok-open_from.ensures.usable clean version.0 W there.0 stands;
+      warehouse = (c.in-Ok-open_from.ensures.ok.keeps clean version.0 W there.0 stands).0;
+      usable = c.in-Ok-open_from.ensures.ok.usable clean version.0 W there.0 stands;
     }
 
 pub returns-in-Ok-open_from-clause-doubt : goal.returns-in-Ok-open_from-clause-doubt
 returns-in-Ok-open_from-clause-doubt g c =
     let v = g.S.Store in
     let held : c.new.result.conn ≡ c.in-Ok.conn = c.new.ensures.conn in
-    let still = subst (λ (h : Held g.row.S.Denot). OpensAs (state v h) (state v c.in-Ok-open_from.book.tables.conn)) held c.in-Ok-open_from.ensures.still in
+    let still = subst (λ (h : Held g.row.S.Denot). OpensAs (state v h) (state v c.in-Ok-open_from.book.tables.conn)) held c.in-Ok-open_from.ensures.ok.still in
     omega (arith, c.in_default.ensures.clean, c.in-Ok.ensures.clean, still.clean)
 
 pub returns-in-Err-open_from-clause-still : goal.returns-in-Err-open_from-clause-still
@@ -70,7 +70,7 @@ returns-in-Err-open_from-clause-still g c = λ clean W all db may.
     let back = c.in-Err-open_from.tables.conn in
     let last = subst (λ (h : Held g.row.S.Denot). IsQuiet v.view v.faults v.recovers v.is_shielded h.store c.into_store.result) c.into_inner.ensures c.into_store.ensures.quiet in
     let late : HasCleanDisk (state v back) = omega (arith, last.clean, clean) in
-    let asked = subst (λ (h : Held g.row.S.Denot). OpensAs (state v h) (state v back)) held c.in-Err-open_from.ensures.asked in
+    let asked = subst (λ (h : Held g.row.S.Denot). OpensAs (state v h) (state v back)) held c.in-Err-open_from.ensures.err.asked in
     let early : HasCleanDisk (state v conn) = omega (arith, asked.clean, late) in
     let first : IsClean (v.view c.crash_and_reopen.new.self) = omega (arith, c.in-Ok.ensures.clean, early) in
     let found = crash.found first in
@@ -87,7 +87,7 @@ returns-in-Err-open_from-clause-still g c = λ clean W all db may.
       was = found;
       stands = still_carried (state v conn) (state v back) version.0 W there.0 late opens.0.is_open stands settled asked
           (subst (λ (h : Held g.row.S.Denot). StandsOpenAs One (state v h) W there.0 → AllStandAs One (state v h) W there.0 → (left : _) → (state v back).may_leave left → LeavesCarried W there.0 left) held
-          (c.in-Err-open_from.ensures.carried late W there.0)) db (last.outcomes db may);
+          (c.in-Err-open_from.ensures.err.carried late W there.0)) db (last.outcomes db may);
     }
 
 pub returns-in-Err-open_from-clause-same : goal.returns-in-Err-open_from-clause-same
@@ -99,7 +99,7 @@ returns-in-Err-open_from-clause-same g c = λ clean W all db may.
     let back = c.in-Err-open_from.tables.conn in
     let last = subst (λ (h : Held g.row.S.Denot). IsQuiet v.view v.faults v.recovers v.is_shielded h.store c.into_store.result) c.into_inner.ensures c.into_store.ensures.quiet in
     let late : HasCleanDisk (state v back) = omega (arith, last.clean, clean) in
-    let asked = subst (λ (h : Held g.row.S.Denot). OpensAs (state v h) (state v back)) held c.in-Err-open_from.ensures.asked in
+    let asked = subst (λ (h : Held g.row.S.Denot). OpensAs (state v h) (state v back)) held c.in-Err-open_from.ensures.err.asked in
     let early : HasCleanDisk (state v conn) = omega (arith, asked.clean, late) in
     let first : IsClean (v.view c.crash_and_reopen.new.self) = omega (arith, c.in-Ok.ensures.clean, early) in
     let found = crash.found first in
@@ -123,7 +123,7 @@ returns-in-Err-open_from-clause-this g c = λ clean W all.
     let back = c.in-Err-open_from.tables.conn in
     let last = subst (λ (h : Held g.row.S.Denot). IsQuiet v.view v.faults v.recovers v.is_shielded h.store c.into_store.result) c.into_inner.ensures c.into_store.ensures.quiet in
     let late : HasCleanDisk (state v back) = omega (arith, last.clean, clean) in
-    let asked = subst (λ (h : Held g.row.S.Denot). OpensAs (state v h) (state v back)) held c.in-Err-open_from.ensures.asked in
+    let asked = subst (λ (h : Held g.row.S.Denot). OpensAs (state v h) (state v back)) held c.in-Err-open_from.ensures.err.asked in
     let early : HasCleanDisk (state v conn) = omega (arith, asked.clean, late) in
     let first : IsClean (v.view c.crash_and_reopen.new.self) = omega (arith, c.in-Ok.ensures.clean, early) in
     let there = all _ (crash.found first) in
@@ -132,7 +132,7 @@ returns-in-Err-open_from-clause-this g c = λ clean W all.
     let opens = c.in-Ok.ensures.opens early in
     let stands = subst (λ (h : Held g.row.S.Denot). StandsOpenAs version.0 (state v h) W there.0) (sym held)
     (λ _. stands_as_read version.0 W there.0 _ _ (opens.1 opens.0.is_open).0 (subst (StandsInAs version.0 W there.0) (sym trees) version.1)) in
-    c.in-Err-open_from.ensures.this late version.0 W there.0 stands
+    c.in-Err-open_from.ensures.err.this late version.0 W there.0 stands
 
 pub returns-in-Err-open_from-clause-doubt_back : goal.returns-in-Err-open_from-clause-doubt_back
 returns-in-Err-open_from-clause-doubt_back g c =
@@ -140,5 +140,5 @@ returns-in-Err-open_from-clause-doubt_back g c =
     let back = c.in-Err-open_from.tables.conn in
     let held : c.new.result.conn ≡ c.in-Ok.conn = c.new.ensures.conn in
     let last = subst (λ (h : Held g.row.S.Denot). IsQuiet v.view v.faults v.recovers v.is_shielded h.store c.into_store.result) c.into_inner.ensures c.into_store.ensures.quiet in
-    let asked = subst (λ (h : Held g.row.S.Denot). OpensAs (state v h) (state v back)) held c.in-Err-open_from.ensures.asked in
+    let asked = subst (λ (h : Held g.row.S.Denot). OpensAs (state v h) (state v back)) held c.in-Err-open_from.ensures.err.asked in
     omega (arith, c.in_default.ensures.clean, c.in-Ok.ensures.clean, asked.clean, last.clean)

@@ -7,7 +7,7 @@ use Rattle.rules.specs.Tabled.{LeadsInTables}
 use Rattle.store.specs.Held.{IsDecided}
 use Rattle.store.specs.Standing.{IsUsable, KeepsLegal, LeavesEither}
 use Rattle.store.proofs.Changes.{clean_before, goes_trans, keeps_stays, usable_stays, fault_after, leaves_first, at_fault}
-use Rattle.store.proofs.Replies.{next_at, next_is, behind_accepted, behind_stored, behind_refused}
+use Rattle.store.proofs.Replies.{next_at, next_is, later_accepted, later_stored, later_refused}
 use Rattle.store.proofs.serving.submit_under.Goals as goal
 
 pub returns-in_err-text-clause-left : goal.returns-in_err-text-clause-left
@@ -28,7 +28,7 @@ returns-in_err-commit-in-Accepted-clause-left g c = λ clean L u later.
     (subst (LeadsInTables c.args.rules old.warehouse L asking t) c.in-Accepted.is (c.in_ok-text.ensures.tables early L u.keeps u.legal)) in
     let house = c.judge.ensures.query.same.goes.warehouse in
     at_fault c.from_residual-in_err-commit-in-Accepted.result
-    (subst (λ (M : List Entry). LeavesEither new L M) (behind_accepted c.args.rules old.warehouse L asking t c.in-Accepted.outgoing.items is.0)
+    (subst (λ (M : List Entry). LeavesEither new L M) (later_accepted c.args.rules old.warehouse L asking t c.in-Accepted.outgoing.items is.0)
     (c.in_err-commit-in-Accepted.ensures.left clean L (entry_of c.args.rules asking t) (usable_stays old mid c.judge.ensures.query.same early L u)
     (next_at (sym house) (sym c.deref.ensures.value) (sym c.deref-in-Accepted.ensures.value) next)))
 
@@ -42,14 +42,14 @@ returns-in-Stored-clause-ok g c = λ clean L u later.
     let old = g.K.Keeper.standing c.args.keeper.now in
     let new = g.K.Keeper.standing c.judge.new.keeper in
     let is = subst (IsDecided c.args.rules old.warehouse L (asked c.args.command.now) c.args.moment) c.in-Stored.is (c.in_ok-text.ensures.decision clean L u.keeps u.legal) in
-    subst (IsUsable new) (behind_stored c.args.rules old.warehouse L (asked c.args.command.now) c.args.moment _ is) (usable_stays old new c.judge.ensures.query.same clean L u)
+    subst (IsUsable new) (later_stored c.args.rules old.warehouse L (asked c.args.command.now) c.args.moment _ is) (usable_stays old new c.judge.ensures.query.same clean L u)
 
 pub returns-in-Refused-clause-ok : goal.returns-in-Refused-clause-ok
 returns-in-Refused-clause-ok g c = λ clean L u later.
     let old = g.K.Keeper.standing c.args.keeper.now in
     let new = g.K.Keeper.standing c.judge.new.keeper in
     let is = subst (IsDecided c.args.rules old.warehouse L (asked c.args.command.now) c.args.moment) c.in-Refused.is (c.in_ok-text.ensures.decision clean L u.keeps u.legal) in
-    subst (IsUsable new) (behind_refused c.args.rules old.warehouse L (asked c.args.command.now) c.args.moment _ _ is) (usable_stays old new c.judge.ensures.query.same clean L u)
+    subst (IsUsable new) (later_refused c.args.rules old.warehouse L (asked c.args.command.now) c.args.moment _ _ is) (usable_stays old new c.judge.ensures.query.same clean L u)
 
 pub returns-in_ok-commit-in-Accepted-clause-reply : goal.returns-in_ok-commit-in-Accepted-clause-reply
 returns-in_ok-commit-in-Accepted-clause-reply g c = λ clean L keeps legal.
@@ -71,7 +71,7 @@ returns-in_ok-commit-in-Accepted-clause-ok g c = λ clean L u later.
     let next = next_is c.args.rules old.warehouse L asking t c.in-Accepted.entry c.in-Accepted.changes.items c.in-Accepted.outgoing.items u.legal later is.0 is.1
     (subst (LeadsInTables c.args.rules old.warehouse L asking t) c.in-Accepted.is (c.in_ok-text.ensures.tables early L u.keeps u.legal)) in
     let house = c.judge.ensures.query.same.goes.warehouse in
-    subst (IsUsable new) (behind_accepted c.args.rules old.warehouse L asking t c.in-Accepted.outgoing.items is.0)
+    subst (IsUsable new) (later_accepted c.args.rules old.warehouse L asking t c.in-Accepted.outgoing.items is.0)
     (c.in_ok-commit-in-Accepted.ensures.ok clean L (entry_of c.args.rules asking t) (usable_stays old mid c.judge.ensures.query.same early L u)
     (next_at (sym house) (sym c.deref.ensures.value) (sym c.deref-in-Accepted.ensures.value) next))
 
@@ -80,7 +80,7 @@ returns-in-Stored-clause-keeps g c = λ clean L k legal later.
     let old = g.K.Keeper.standing c.args.keeper.now in
     let new = g.K.Keeper.standing c.judge.new.keeper in
     let is = subst (IsDecided c.args.rules old.warehouse L (asked c.args.command.now) c.args.moment) c.in-Stored.is (c.in_ok-text.ensures.decision clean L k legal) in
-    subst (KeepsLegal new) (behind_stored c.args.rules old.warehouse L (asked c.args.command.now) c.args.moment _ is)
+    subst (KeepsLegal new) (later_stored c.args.rules old.warehouse L (asked c.args.command.now) c.args.moment _ is)
     (keeps_stays old new c.judge.ensures.query.same clean L (record { keeps = k; legal = legal }))
 
 pub returns-in-Refused-clause-keeps : goal.returns-in-Refused-clause-keeps
@@ -88,7 +88,7 @@ returns-in-Refused-clause-keeps g c = λ clean L k legal later.
     let old = g.K.Keeper.standing c.args.keeper.now in
     let new = g.K.Keeper.standing c.judge.new.keeper in
     let is = subst (IsDecided c.args.rules old.warehouse L (asked c.args.command.now) c.args.moment) c.in-Refused.is (c.in_ok-text.ensures.decision clean L k legal) in
-    subst (KeepsLegal new) (behind_refused c.args.rules old.warehouse L (asked c.args.command.now) c.args.moment _ _ is)
+    subst (KeepsLegal new) (later_refused c.args.rules old.warehouse L (asked c.args.command.now) c.args.moment _ _ is)
     (keeps_stays old new c.judge.ensures.query.same clean L (record { keeps = k; legal = legal }))
 
 pub returns-in_ok-commit-in-Accepted-clause-keeps : goal.returns-in_ok-commit-in-Accepted-clause-keeps
@@ -105,7 +105,7 @@ returns-in_ok-commit-in-Accepted-clause-keeps g c = λ clean L k legal later.
     let same = c.judge.ensures.query.same in
     let goes = goes_trans old mid new same.goes c.commit.ensures.goes in
     record {
-      keeps = subst new.keeps (behind_accepted c.args.rules old.warehouse L asking t c.in-Accepted.outgoing.items is.0)
+      keeps = subst new.keeps (later_accepted c.args.rules old.warehouse L asking t c.in-Accepted.outgoing.items is.0)
           (c.in_ok-commit-in-Accepted.ensures.keeps clean L (entry_of c.args.rules asking t) (same.keeps early L k)
           (next_at (sym same.goes.warehouse) (sym c.deref.ensures.value) (sym c.deref-in-Accepted.ensures.value) next));
       legal = subst (λ V. IsLegal Two V (after c.args.rules old.warehouse L (asking, t))) (sym goes.warehouse) later;

@@ -1,6 +1,6 @@
 use Rattle.std.proofs.Common.{rules, arith, ◌≡◌, ◌≤◌, sym, subst}
 use Rattle.std.specs.Prelude.{IsErrAnd}
-use Rattle.store.specs.declared.fault.Fault.{Fault}
+use Rattle.store.specs.Fault.{Fault}
 use Rattle.book_statements.specs.Asking.{OnlyReads}
 use Rattle.book_tables.proofs.ComparedSoFar.{none_so_far, fails_after, other_after, limit_after, one_more, one_differs, all_same, all_asked}
 use Rattle.book_tables.proofs.Queries.{asked_fails}

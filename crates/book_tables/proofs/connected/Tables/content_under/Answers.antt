@@ -14,9 +14,9 @@ pub under_number-requires : goal.under_number-requires
 under_number-requires g c = content_reads
 
 pub returns-in-Some-clause-content : goal.returns-in-Some-clause-content
-returns-in-Some-clause-content g c = λ clean W L stands before e behind split is.
+returns-in-Some-clause-content g c = λ clean W L stands before e back split is.
     let partner : IsTrue (is_partner c.args.who) = search rules in
-    let shown = content_read (state g.S.Store c.args.self.now.conn) W L c.args.who c.args.n partner stands (who_text c.args.who) refl _ refl c.in_ok-rows.rows.items (c.in_ok-rows.ensures.finds clean) before e behind split is in
+    let shown = content_read (state g.S.Store c.args.self.now.conn) W L c.args.who c.args.n partner stands (who_text c.args.who) refl _ refl c.in_ok-rows.rows.items (c.in_ok-rows.ensures.finds clean) before e back split is in
     same_some c.in-Some.content.items (out W before e) (sym (ap (option_map (λ v. v.items)) c.in-Some.is)
     ∙ c.in_ok-content.ensures (out W before e) (subst (λ (rs : List Row). IsContent rs (out W before e)) (sym c.deref.ensures.value) shown))
 

@@ -1,7 +1,7 @@
 use Rattle.std.proofs.Common.{rules, ◌≡◌, ◌∙◌, ap, map}
 use Rattle.std.specs.Prelude.{IsErrAnd}
-use Rattle.store.specs.declared.fault.Fault.{Fault}
-use Rattle.store.specs.declared.fault.Fault.TheVariants.{OutOfMemory}
+use Rattle.store.specs.Fault.{Fault}
+use Rattle.store.specs.Fault.TheVariants.{OutOfMemory}
 use Rattle.book_tables.specs.Enrolments.{EnrolmentFacts}
 use Rattle.book_tables.proofs.EnrolledOnce.{whos_in_order}
 use Rattle.book_tables.proofs.Queries.{asked_then, asked_short}

@@ -1,8 +1,8 @@
 use Rattle.std.proofs.Common.{rules, ◌≡◌, subst₂, List, ℕ, Option}
 use Rattle.std.specs.Prelude.{IsErrAnd}
 use Rattle.sqlite.specs.Held.{state}
-use Rattle.store.specs.declared.fault.Fault.{Fault}
-use Rattle.store.specs.declared.fault.Fault.TheVariants.{OutOfMemory}
+use Rattle.store.specs.Fault.{Fault}
+use Rattle.store.specs.Fault.TheVariants.{OutOfMemory}
 use Rattle.book_tables.specs.Enrolments.{EnrolmentFacts, IsFirstFrom, enrolments}
 use Rattle.book_tables.proofs.AskedLater.{stands_later, clean_before}
 use Rattle.book_tables.proofs.EnrolledOnce.{enrolled_apart}

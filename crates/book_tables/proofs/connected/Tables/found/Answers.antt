@@ -2,8 +2,8 @@ use Rattle.std.proofs.Common.{rules, arith, ◌≡◌, ◌≢◌}
 use Rattle.std.specs.Prelude.{IsErrAnd}
 use Rattle.sqlite.specs.State.{HasCleanDisk}
 use Rattle.sqlite.specs.Held.{state}
-use Rattle.store.specs.declared.fault.Fault.{Fault}
-use Rattle.store.specs.declared.fault.Fault.TheVariants.{NotThisBook}
+use Rattle.store.specs.Fault.{Fault}
+use Rattle.store.specs.Fault.TheVariants.{NotThisBook}
 use Rattle.book_statements.proofs.Asked.{asked_twice}
 use Rattle.book_tables.proofs.AskedLater.{err_as}
 use Rattle.book_statements.proofs.Carried.{stands_open_later}

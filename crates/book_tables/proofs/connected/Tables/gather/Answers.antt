@@ -4,8 +4,8 @@ use Rattle.rules.specs.Parts.{Named}
 use Rattle.profile.specs.Bytes.{is_one_of}
 use Rattle.book_tables.specs.Needed.{part_for}
 use Rattle.book_tables.proofs.OnceKept.{same_texts}
-use Rattle.store.specs.declared.fault.Fault.{Fault}
-use Rattle.store.specs.declared.fault.Fault.TheVariants.{OutOfMemory}
+use Rattle.store.specs.Fault.{Fault}
+use Rattle.store.specs.Fault.TheVariants.{OutOfMemory}
 use Rattle.book_tables.proofs.Queries.{asked_none, went_of}
 use Rattle.book_tables.proofs.connected.Tables.gather.Goals as goal
 

@@ -2,7 +2,7 @@ use Rattle.std.proofs.Common.{◌≡◌, ◌∙◌, ℕ, List, length, take, ari
 use Rattle.std.specs.Prelude.{IsErrAnd}
 use Rattle.std.proofs.lemmas.List.{take_all, take_more}
 use Rattle.sqlite.specs.Held.{state}
-use Rattle.store.specs.declared.fault.Fault.{Fault}
+use Rattle.store.specs.Fault.{Fault}
 use Rattle.book_tables.specs.Needed.{part_for, with_numbers}
 use Rattle.book_tables.proofs.AskedLater.{stands_later, clean_before}
 use Rattle.book_tables.proofs.NeededParts.{numbers_more, numbers_none}

@@ -16,7 +16,7 @@ returns-in-Ok-clause-known g c = λ clean W L stands.
     let new = state g.S.Store c.content_under.new.self.conn in
     let early = clean_before mid new c.content_under.ensures.asked.left clean in
     let it = known_there W L c.args.who c.args.key.now c.in-Some.entry (sym (c.in_ok-entry.ensures.entry early W L stands) ∙ c.in-Some.is) in
-    it.recalls c.in-Ok.outgoing.items (c.in-Ok.ensures.content clean W L (stands_later old mid W L early c.entry_under.ensures.asked.left stands) it.before it.entry it.behind it.split (c.number.ensures ∙ it.number))
+    it.recalls c.in-Ok.outgoing.items (c.in-Ok.ensures.content clean W L (stands_later old mid W L early c.entry_under.ensures.asked.left stands) it.before it.entry it.back it.split (c.number.ensures ∙ it.number))
 
 pub returns-in-Ok-clause-asked : goal.returns-in-Ok-clause-asked
 returns-in-Ok-clause-asked g c =

@@ -2,7 +2,7 @@ use Rattle.std.proofs.Common.{◌≡◌, ◌∙◌, ap, List, ℕ, Ok, rules, su
 use Rattle.std.specs.Prelude.{IfOk, IsErrAnd}
 use Rattle.sqlite.specs.Held.{state}
 use Rattle.profile.specs.Need.{Need}
-use Rattle.store.specs.declared.fault.Fault.{Fault}
+use Rattle.store.specs.Fault.{Fault}
 use Rattle.book_tables.specs.Needed.{part_for, with_numbers, with_texts}
 use Rattle.book_tables.specs.declared.needed.Sought.TheVariants.{Advice, Order}
 use Rattle.book_tables.proofs.AskedLater.{stands_later, clean_before}

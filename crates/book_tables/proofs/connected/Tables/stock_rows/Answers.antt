@@ -3,8 +3,8 @@ use Rattle.std.specs.Prelude.{IsErrAnd}
 use Rattle.profile.specs.Header.{is_partner}
 use Rattle.profile.specs.Register.{own}
 use Rattle.profile.specs.Rows.{LotRow, StockRow, shown_row, stock_rows}
-use Rattle.store.specs.declared.fault.Fault.{Fault}
-use Rattle.store.specs.declared.fault.Fault.TheVariants.{OutOfMemory}
+use Rattle.store.specs.Fault.{Fault}
+use Rattle.store.specs.Fault.TheVariants.{OutOfMemory}
 use Rattle.sqlite.specs.Held.{state}
 use Rattle.sqlite.specs.Order.{Row}
 use Rattle.rules.specs.Keyed.{key_before, rises_by, row_key}

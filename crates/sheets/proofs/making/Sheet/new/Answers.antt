@@ -1,6 +1,5 @@
 use Rattle.std.proofs.Common.{◌≡◌, true, false, Some, None, Ok, map, refl}
 use Rattle.profile.specs.Clerk.{line_of, sheet_of, is_ascending}
-use Rattle.profile.specs.Refusals.{RepeatedLine}
 use Rattle.sheets.specs.Kinds.{kind_of}
 use Rattle.sheets.specs.Misfits.{misfit_of}
 use Rattle.sheets.proofs.RefusalLaws.{misfit_is}
@@ -16,14 +15,14 @@ sheet c =
 
 pub returns-in-Some-clause-err : goal.returns-in-Some-clause-err
 returns-in-Some-clause-err c =
-    let refusal : misfit_of c.args.rules (kind_of c.args.kind) c.args.lines.items ≡ Some c.in-Some.number = cc (c.misfit.ensures, c.deref.ensures.value, c.in-Some.is) in
-    misfit_is c.args.rules (kind_of c.args.kind) c.args.lines.items c.in-Some.number refusal
+    let refusal : misfit_of c.args.rules (kind_of c.args.kind) c.args.lines.items ≡ Some c.in-Some.refusal = cc (c.misfit.ensures, c.deref.ensures.value, c.in-Some.is) in
+    misfit_is c.args.rules (kind_of c.args.kind) c.args.lines.items c.in-Some.refusal refusal
 
 pub returns-then-not-ascends-clause-err : goal.returns-then-not-ascends-clause-err
 returns-then-not-ascends-clause-err c =
     let fits : misfit_of c.args.rules (kind_of c.args.kind) c.args.lines.items ≡ None = cc (c.misfit.ensures, c.deref.ensures.value, c.in_default.is) in
     let falls : is_ascending (map line_of c.in_order-lines.result.items) ≡ false = cc (c.ascends.ensures, c.deref-2.ensures.value, c.if-not-ascends.true) in
-    (RepeatedLine, twice c.args.rules (kind_of c.args.kind) c.args.lines.items c.in_order-lines.result.items fits c.in_order-lines.ensures.same c.in_order-lines.ensures.sorted falls, refl)
+    twice c.args.rules (kind_of c.args.kind) c.args.lines.items c.in_order-lines.result.items fits c.in_order-lines.ensures.same c.in_order-lines.ensures.sorted falls
 
 pub invariant_of-result : goal.invariant_of-result
 invariant_of-result c =

@@ -8,5 +8,5 @@ pub returns-clause-page : goal.returns-clause-page
 returns-clause-page c = λ L keeps legal.
     let view = ap (λ (b : Replayed). b.entries) c.self.view_is in
     let house = ap (λ (b : Replayed). b.warehouse) c.self.view_is in
-    c.page_behind.ensures.page L [] (c.deref.ensures.value ∙ view ∙ keeps)
+    c.page_later.ensures.page L [] (c.deref.ensures.value ∙ view ∙ keeps)
     (subst (λ W. IsLegal Two W (L ++ [])) (sym house) (subst (IsLegal Two c.args.self.now.warehouse) (sym (append-nil L)) legal))

@@ -3,7 +3,7 @@ use Rattle.profile.specs.History.{events}
 use Rattle.profile.specs.Register.{own}
 use Rattle.store.specs.Sent.{sent_on}
 use Rattle.store.proofs.WentOut.{sent_all}
-use Rattle.store.proofs.replaying.sent.Goals as goal
+use Rattle.store.proofs.sending.sent.Goals as goal
 
 pub returns : goal.returns
 returns c = λ L is legal page.

@@ -3,7 +3,7 @@ use Rattle.profile.specs.Register.{own}
 use Rattle.profile.specs.Decision.{standing}
 use Rattle.store.specs.Held.{IsHeldFor}
 use Rattle.store.proofs.Entries.{held_all}
-use Rattle.store.proofs.replaying.page_behind.Goals as goal
+use Rattle.store.proofs.replaying.page_later.Goals as goal
 
 pub returns-clause-page : goal.returns-clause-page
 returns-clause-page c = λ L later is legal.

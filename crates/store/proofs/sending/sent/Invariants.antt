@@ -6,7 +6,7 @@ use Rattle.profile.specs.Register.{Entry, own}
 use Rattle.rules.specs.Decided.{IsPageOf}
 use Rattle.store.specs.Replayed.{all_written}
 use Rattle.store.specs.Sent.{sent_on}
-use Rattle.store.proofs.replaying.sent.Given as goal
+use Rattle.store.proofs.sending.sent.Given as goal
 
 abbrev pub invariant-loop-i : goal.invariant-loop-i
 invariant-loop-i l = (L : List Entry) → l.entries ≡ all_written L → IsLegal Two l.warehouse L → IsPageOf l.page (history (own L l.who))

@@ -8,7 +8,7 @@ use Rattle.profile.specs.Rows.{LotRow}
 use Rattle.profile.specs.Means.{Line}
 use Rattle.profile.specs.Events.{is_pair}
 use Rattle.profile.specs.Movements.{Column, Expected, OnHand, Reservation, Shipped, column_eq}
-use Rattle.goods.specs.Told.{is_row, told, one, since, amount, given, raised, lowered, blank, named_by}
+use Rattle.goods.specs.OfPairs.{is_row, of_pair, one, since, amount, given, raised, lowered, blank, named_by}
 use Rattle.goods.specs.Moved.{IsPlace, IsPlaced, IsAdded, IsTaken}
 use Rattle.std.specs.List.{insert}
 use Rattle.std.proofs.lemmas.List.Edits.{length-insert, get_or-insert_at}
@@ -22,15 +22,15 @@ use Rattle.goods.proofs.KeyLemmas.{pairs_strict, row_test, put_sorted, sorted_ke
 abbrev pub part : (LotRow → ℕ) → List ℕ → List ℕ → LotRow → ℕ
 part f item lot r = cond (is_row item lot r) (f r) 0
 
-pub told_cons : (f : LotRow → ℕ) (a b : List ℕ) (r : LotRow) (rows : List LotRow) → told f a b (r ∷ rows) ≡ part f a b r + told f a b rows
-told_cons f a b r rows = sum_by-cons (part f a b) r rows
+pub of_pair_cons : (f : LotRow → ℕ) (a b : List ℕ) (r : LotRow) (rows : List LotRow) → of_pair f a b (r ∷ rows) ≡ part f a b r + of_pair f a b rows
+of_pair_cons f a b r rows = sum_by-cons (part f a b) r rows
 
-told_insert : (f : LotRow → ℕ) (a b : List ℕ) (rows : List LotRow) (i : ℕ) (r : LotRow) → told f a b (insert rows i r) ≡ told f a b rows + part f a b r
-told_insert f a b rows i r = sum_by-insert (part f a b) rows i r
+of_pair_insert : (f : LotRow → ℕ) (a b : List ℕ) (rows : List LotRow) (i : ℕ) (r : LotRow) → of_pair f a b (insert rows i r) ≡ of_pair f a b rows + part f a b r
+of_pair_insert f a b rows i r = sum_by-insert (part f a b) rows i r
 
-pub told_set : (f : LotRow → ℕ) (a b : List ℕ) (rows : List LotRow) (i : ℕ) (y d : LotRow) → i < length rows
-    → told f a b (set rows i y) + part f a b (get_or rows i d) ≡ told f a b rows + part f a b y
-told_set f a b rows i y d h = sum_by-set (part f a b) rows i y d h
+pub of_pair_set : (f : LotRow → ℕ) (a b : List ℕ) (rows : List LotRow) (i : ℕ) (y d : LotRow) → i < length rows
+    → of_pair f a b (set rows i y) + part f a b (get_or rows i d) ≡ of_pair f a b rows + part f a b y
+of_pair_set f a b rows i y d h = sum_by-set (part f a b) rows i y d h
 
 pub part_yes : (f : LotRow → ℕ) (a b : List ℕ) (r : LotRow) → is_row a b r ≡ true → part f a b r ≡ f r
 part_yes f a b r e = ap (λ (v : Bool). cond v (f r) 0) e
@@ -52,30 +52,30 @@ pair_is a b l h = let p = both_true (bytes_eq l.item a) (bytes_eq l.lot b) h in
     ((bytes_eq-Decides l.item a).0 p.0, (bytes_eq-Decides l.lot b).0 p.1)
 
 -- nothing is told of a pair without a row
-pub told_absent : (f : LotRow → ℕ) (a b : List ℕ) (rows : List LotRow) → told one a b rows ≡ 0 → told f a b rows ≡ 0
-told_absent f a b [] h = refl
-told_absent f a b (r ∷ rows) h = elim (cases_Bool (is_row a b r)) [
-  | inl e ↦ absurd (omega (arith, told_cons one a b r rows, part_yes one a b r e))
-  | inr e ↦ omega (arith, told_cons f a b r rows, part_no f a b r e, told_absent f a b rows (omega (arith, told_cons one a b r rows, part_no one a b r e)))
+pub of_pair_absent : (f : LotRow → ℕ) (a b : List ℕ) (rows : List LotRow) → of_pair one a b rows ≡ 0 → of_pair f a b rows ≡ 0
+of_pair_absent f a b [] h = refl
+of_pair_absent f a b (r ∷ rows) h = elim (cases_Bool (is_row a b r)) [
+  | inl e ↦ absurd (omega (arith, of_pair_cons one a b r rows, part_yes one a b r e))
+  | inr e ↦ omega (arith, of_pair_cons f a b r rows, part_no f a b r e, of_pair_absent f a b rows (omega (arith, of_pair_cons one a b r rows, part_no one a b r e)))
 ]
 
 -- where a row stands, a pair is told of
-pub told_there : (a b : List ℕ) (rows : List LotRow) (i : ℕ) (d : LotRow) → i < length rows → is_row a b (get_or rows i d) ≡ true → 1 ≤ told one a b rows
-told_there a b rows i d within here = omega (arith, get_or-le-sum_by (part one a b) rows i d within, part_yes one a b (get_or rows i d) here)
+pub of_pair_there : (a b : List ℕ) (rows : List LotRow) (i : ℕ) (d : LotRow) → i < length rows → is_row a b (get_or rows i d) ≡ true → 1 ≤ of_pair one a b rows
+of_pair_there a b rows i d within here = omega (arith, get_or-le-sum_by (part one a b) rows i d within, part_yes one a b (get_or rows i d) here)
 
 -- a pair with one row is told what that row has
-pub told_here : (f : LotRow → ℕ) (a b : List ℕ) (rows : List LotRow) (i : ℕ) (d : LotRow) → i < length rows
-    → is_row a b (get_or rows i d) ≡ true → told one a b rows ≤ 1 → told f a b rows ≡ f (get_or rows i d)
-told_here f a b [] i d within here few = absurd (omega arith)
-told_here f a b (r ∷ rows) zero d within here few =
-    let none : told one a b rows ≡ 0 = omega (arith, told_cons one a b r rows, part_yes one a b r here) in
-    omega (arith, told_cons f a b r rows, part_yes f a b r here, told_absent f a b rows none)
-told_here f a b (r ∷ rows) (suc i) d within here few =
+pub of_pair_here : (f : LotRow → ℕ) (a b : List ℕ) (rows : List LotRow) (i : ℕ) (d : LotRow) → i < length rows
+    → is_row a b (get_or rows i d) ≡ true → of_pair one a b rows ≤ 1 → of_pair f a b rows ≡ f (get_or rows i d)
+of_pair_here f a b [] i d within here few = absurd (omega arith)
+of_pair_here f a b (r ∷ rows) zero d within here few =
+    let none : of_pair one a b rows ≡ 0 = omega (arith, of_pair_cons one a b r rows, part_yes one a b r here) in
+    omega (arith, of_pair_cons f a b r rows, part_yes f a b r here, of_pair_absent f a b rows none)
+of_pair_here f a b (r ∷ rows) (suc i) d within here few =
     let inside : i < length rows = omega arith in
-    let there : 1 ≤ told one a b rows = told_there a b rows i d inside here in
+    let there : 1 ≤ of_pair one a b rows = of_pair_there a b rows i d inside here in
     elim (cases_Bool (is_row a b r)) [
-      | inl e ↦ absurd (omega (arith, told_cons one a b r rows, part_yes one a b r e))
-      | inr e ↦ omega (arith, told_cons f a b r rows, part_no f a b r e, told_here f a b rows i d inside here (omega (arith, told_cons one a b r rows, part_no one a b r e)))
+      | inl e ↦ absurd (omega (arith, of_pair_cons one a b r rows, part_yes one a b r e))
+      | inr e ↦ omega (arith, of_pair_cons f a b r rows, part_no f a b r e, of_pair_here f a b rows i d inside here (omega (arith, of_pair_cons one a b r rows, part_no one a b r e)))
     ]
 
 -- A row with more or less.
@@ -185,9 +185,9 @@ part_raised k c line a b r here = elim (cases_Bool (is_row a b r)) [
 ]
 
 pub raised_amounts : (k : Column) (line : Line) (rows : List LotRow) (i : ℕ) (r : LotRow) → IsRowAt line rows i r → (c : Column) (a b : List ℕ)
-    → told (amount c) a b (set rows i (raised k line.quantity r)) ≡ told (amount c) a b rows + given k (line ∷ []) c a b
+    → of_pair (amount c) a b (set rows i (raised k line.quantity r)) ≡ of_pair (amount c) a b rows + given k (line ∷ []) c a b
 raised_amounts k line rows i r at c a b =
-    omega (arith, told_set (amount c) a b rows i (raised k line.quantity r) r at.within, ap (part (amount c) a b) at.is, part_raised k c line a b r at.here)
+    omega (arith, of_pair_set (amount c) a b rows i (raised k line.quantity r) r at.within, ap (part (amount c) a b) at.is, part_raised k c line a b r at.here)
 
 part_lowered : (k c : Column) (line : Line) (a b : List ℕ) (r : LotRow) → is_row line.item line.lot r ≡ true → line.quantity ≤ amount k r
     → part (amount c) a b (lowered k line.quantity r) + given k (line ∷ []) c a b ≡ part (amount c) a b r
@@ -197,22 +197,22 @@ part_lowered k c line a b r here enough = elim (cases_Bool (is_row a b r)) [
 ]
 
 pub lowered_amounts : (k : Column) (line : Line) (rows : List LotRow) (i : ℕ) (r : LotRow) → IsRowAt line rows i r → line.quantity ≤ amount k r → (c : Column) (a b : List ℕ)
-    → told (amount c) a b (set rows i (lowered k line.quantity r)) + given k (line ∷ []) c a b ≡ told (amount c) a b rows
+    → of_pair (amount c) a b (set rows i (lowered k line.quantity r)) + given k (line ∷ []) c a b ≡ of_pair (amount c) a b rows
 lowered_amounts k line rows i r at enough c a b =
-    omega (arith, told_set (amount c) a b rows i (lowered k line.quantity r) r at.within, ap (part (amount c) a b) at.is, part_lowered k c line a b r at.here enough)
+    omega (arith, of_pair_set (amount c) a b rows i (lowered k line.quantity r) r at.within, ap (part (amount c) a b) at.is, part_lowered k c line a b r at.here enough)
 
 -- what the change of a row leaves alone
-pub told_kept : (f : LotRow → ℕ) (line : Line) (rows : List LotRow) (i : ℕ) (r y : LotRow) → IsRowAt line rows i r
-    → ((a b : List ℕ) → is_row a b y ≡ is_row a b r) → f y ≡ f r → (a b : List ℕ) → told f a b (set rows i y) ≡ told f a b rows
-told_kept f line rows i r y at same h a b =
-    omega (arith, told_set f a b rows i y r at.within, ap (part f a b) at.is, part_same f a b r y (same a b) h)
+pub of_pair_kept : (f : LotRow → ℕ) (line : Line) (rows : List LotRow) (i : ℕ) (r y : LotRow) → IsRowAt line rows i r
+    → ((a b : List ℕ) → is_row a b y ≡ is_row a b r) → f y ≡ f r → (a b : List ℕ) → of_pair f a b (set rows i y) ≡ of_pair f a b rows
+of_pair_kept f line rows i r y at same h a b =
+    omega (arith, of_pair_set f a b rows i y r at.within, ap (part f a b) at.is, part_same f a b r y (same a b) h)
 
 -- the pair of a row is told of
-pub told_named : (line : Line) (rows : List LotRow) (i : ℕ) → IsPlace line.item line.lot rows i → (a b : List ℕ) → named_by (line ∷ []) a b ≤ told one a b rows
-told_named line rows i place a b = elim (cases_Bool (is_pair a b line)) [
+pub of_pair_named : (line : Line) (rows : List LotRow) (i : ℕ) → IsPlace line.item line.lot rows i → (a b : List ℕ) → named_by (line ∷ []) a b ≤ of_pair one a b rows
+of_pair_named line rows i place a b = elim (cases_Bool (is_pair a b line)) [
   | inl e ↦ let d = blank line in
       let here : is_row a b (get_or rows i d) ≡ true = row_as_line a b line (get_or rows i d) (place.here d) ∙ e in
-      rw e (told_there a b rows i d place.within here)
+      rw e (of_pair_there a b rows i d place.within here)
   | inr e ↦ rw e (omega arith)
 ]
 
@@ -224,7 +224,7 @@ placed_there line rows i sorted place = record {
   amounts = λ c a b. refl;
   sinces = λ a b. refl;
   expiries = λ a b. refl;
-  named = λ a b. omega (arith, told_named line rows i place a b);
+  named = λ a b. omega (arith, of_pair_named line rows i place a b);
 }
 
 part_blank : (f : LotRow → ℕ) (line : Line) (a b : List ℕ) → f (blank line) ≡ 0 → part f a b (blank line) ≡ 0
@@ -243,7 +243,7 @@ own_row : (line : Line) → is_row line.item line.lot (blank line) ≡ true
 own_row line = rw (same_bytes line.item, same_bytes line.lot) refl
 
 -- a row that is made
-pub placed_new : (line : Line) (rows : List LotRow) (i : ℕ) → IsSorted rows → IsRank key_before row_key rows (line.item, line.lot) i → told one line.item line.lot rows ≡ 0
+pub placed_new : (line : Line) (rows : List LotRow) (i : ℕ) → IsSorted rows → IsRank key_before row_key rows (line.item, line.lot) i → of_pair one line.item line.lot rows ≡ 0
     → IsPlaced rows (insert rows i (blank line)) line i
 placed_new line rows i sorted rank none = record {
   sorted = ap (rises_by key_before row_key) put ∙ put_sorted (blank line) rows sorted;
@@ -251,19 +251,19 @@ placed_new line rows i sorted rank none = record {
     within = omega (arith, length-insert rows i (blank line) rank.bound);
     here = λ d. ap (is_row line.item line.lot) (get_or-insert_at rows i (blank line) d rank.bound) ∙ own_row line;
   };
-  amounts = λ c a b. omega (arith, told_insert (amount c) a b rows i (blank line), part_blank (amount c) line a b (amount_blank c line));
-  sinces = λ a b. omega (arith, told_insert since a b rows i (blank line), part_blank since line a b refl);
+  amounts = λ c a b. omega (arith, of_pair_insert (amount c) a b rows i (blank line), part_blank (amount c) line a b (amount_blank c line));
+  sinces = λ a b. omega (arith, of_pair_insert since a b rows i (blank line), part_blank since line a b refl);
   expiries = date_blank line rows i sorted put none;
   named = λ a b. elim (cases_Bool (is_pair a b line)) [
     | inl y ↦ let same = pair_is a b line y in
-        let absent : told one a b rows ≡ 0 = ap (λ (x : List ℕ). told one x b rows) (sym same.0) ∙ ap (λ (x : List ℕ). told one line.item x rows) (sym same.1) ∙ none in
-        rw y (omega (arith, told_insert one a b rows i (blank line), part_yes one a b (blank line) y))
-    | inr n ↦ rw n (omega (arith, told_insert one a b rows i (blank line), part_no one a b (blank line) n))
+        let absent : of_pair one a b rows ≡ 0 = ap (λ (x : List ℕ). of_pair one x b rows) (sym same.0) ∙ ap (λ (x : List ℕ). of_pair one line.item x rows) (sym same.1) ∙ none in
+        rw y (omega (arith, of_pair_insert one a b rows i (blank line), part_yes one a b (blank line) y))
+    | inr n ↦ rw n (omega (arith, of_pair_insert one a b rows i (blank line), part_no one a b (blank line) n))
   ];
 }
   where
     apart : (d : LotRow) → i < length rows → row_key (get_or rows i d) ≡ row_key (blank line) → ⊥
-    apart d within same = absurd (omega (arith, none, told_there line.item line.lot rows i d within ((row_test line.item line.lot).said (get_or rows i d) same)))
+    apart d within same = absurd (omega (arith, none, of_pair_there line.item line.lot rows i d within ((row_test line.item line.lot).said (get_or rows i d) same)))
 
     put : insert rows i (blank line) ≡ put_row (blank line) rows
     put = rank_insert key_before pairs_strict row_key rows i (blank line) rank apart
@@ -276,9 +276,9 @@ added_at k line old mid i r placed is =
     let y = raised k line.quantity r in record {
       sorted = sorted_kept mid i r y placed.sorted at.within is (key_raised k line.quantity r);
       amounts = λ c a b. omega (arith, raised_amounts k line mid i r at c a b, placed.amounts c a b);
-      sinces = λ a b. told_kept since line mid i r y at (λ a b. is_row_raised a b k line.quantity r) (since_raised k line.quantity r) a b ∙ placed.sinces a b;
+      sinces = λ a b. of_pair_kept since line mid i r y at (λ a b. is_row_raised a b k line.quantity r) (since_raised k line.quantity r) a b ∙ placed.sinces a b;
       expiries = λ a b. date_kept mid i r y placed.sorted at.within is (key_raised k line.quantity r) (date_raised k line.quantity r) a b ∙ placed.expiries a b;
-      named = λ a b. told_kept one line mid i r y at (λ a b. is_row_raised a b k line.quantity r) refl a b ∙ placed.named a b;
+      named = λ a b. of_pair_kept one line mid i r y at (λ a b. is_row_raised a b k line.quantity r) refl a b ∙ placed.named a b;
     }
 
 -- a line that goes from its row
@@ -289,22 +289,22 @@ taken_at k line rows i r sorted place is enough =
     let y = lowered k line.quantity r in record {
       sorted = sorted_kept rows i r y sorted at.within is (key_lowered k line.quantity r);
       amounts = λ c a b. lowered_amounts k line rows i r at enough c a b;
-      sinces = λ a b. told_kept since line rows i r y at (λ a b. is_row_lowered a b k line.quantity r) (since_lowered k line.quantity r) a b;
+      sinces = λ a b. of_pair_kept since line rows i r y at (λ a b. is_row_lowered a b k line.quantity r) (since_lowered k line.quantity r) a b;
       expiries = date_kept rows i r y sorted at.within is (key_lowered k line.quantity r) (date_lowered k line.quantity r);
-      named = λ a b. told_kept one line rows i r y at (λ a b. is_row_lowered a b k line.quantity r) refl a b;
+      named = λ a b. of_pair_kept one line rows i r y at (λ a b. is_row_lowered a b k line.quantity r) refl a b;
     }
 
 -- an amount of a row is what is told of its pair
 pub amount_here : (f : LotRow → ℕ) (item lot : List ℕ) (rows : List LotRow) (i : ℕ) (r : LotRow) → IsSorted rows → IsPlace item lot rows i → r ≡ get_or rows i r
-    → f r ≡ told f item lot rows
+    → f r ≡ of_pair f item lot rows
 amount_here f item lot rows i r sorted place is =
-    ap f is ∙ sym (told_here f item lot rows i r place.within (place.here r) (sorted_distinct rows sorted item lot))
+    ap f is ∙ sym (of_pair_here f item lot rows i r place.within (place.here r) (sorted_distinct rows sorted item lot))
 
 -- nothing goes from a pair without a row
-pub taken_none : (k : Column) (line : Line) (rows : List LotRow) → IsSorted rows → told one line.item line.lot rows ≡ 0 → line.quantity ≤ told (amount k) line.item line.lot rows
+pub taken_none : (k : Column) (line : Line) (rows : List LotRow) → IsSorted rows → of_pair one line.item line.lot rows ≡ 0 → line.quantity ≤ of_pair (amount k) line.item line.lot rows
     → IsTaken k (line ∷ []) rows rows
 taken_none k line rows sorted none enough =
-    let nothing : line.quantity ≡ 0 = omega (arith, told_absent (amount k) line.item line.lot rows none) in record {
+    let nothing : line.quantity ≡ 0 = omega (arith, of_pair_absent (amount k) line.item line.lot rows none) in record {
       sorted = sorted;
       amounts = λ c a b. elim (cases_Bool (is_pair a b line)) [
         | inl e ↦ elim (cases_Bool (column_eq k c))

@@ -1,8 +1,8 @@
 ghost use Rattle.std.specs.Prelude.{◌≡◌, IfOk};
-ghost use Rattle.profile.specs.Bytes.{zero_filled};
-ghost use Rattle.profile.specs.Refusals as meant;
-ghost use Rattle.rules.specs.Told.{refusal_of, plain_name};
+ghost use Rattle.profile.specs.Refusals.{Note, refusal_number, refusal_name, plain_name, refusal_line};
 
+use crate::numbers::zero_filled;
+use crate::widths::NOTE_DIGITS;
 use std::alloc::{AllocError, Global};
 
 /// Why a command is refused. The book is as before.
@@ -50,13 +50,11 @@ pub enum Refusal {
 
 // `Note(006)`, with the code in three digits.
 fn note_name(alloc: Global, code: u8) -> Result<Vec<u8>, AllocError>
-    ensures { IfOk result (λ name. name.items ≡ meant.refusal_name (meant.Note code)) }
+    ensures { IfOk result (λ name. name.items ≡ refusal_name (Note code)) }
 {
     let mut name = Vec::new(alloc);
     name.extend_from_slice(b"Note(")?;
-    name.push(b'0' + code / 10 / 10 % 10)?;
-    name.push(b'0' + code / 10 % 10)?;
-    name.push(b'0' + code % 10)?;
+    name.extend_from_slice(&zero_filled::<NOTE_DIGITS>(u64::from(code)))?;
     name.push(b')')?;
     Ok(name)
 }
@@ -64,7 +62,7 @@ fn note_name(alloc: Global, code: u8) -> Result<Vec<u8>, AllocError>
 impl Refusal {
     /// Its number.
     pub fn number(&self) -> u8
-        ensures { result ≡ meant.refusal_number (refusal_of self.now) }
+        ensures { result ≡ refusal_number self.now }
     {
         match self {
             Refusal::Unreadable => 1,
@@ -119,11 +117,38 @@ impl Refusal {
     /// Its name, a note's with the code in three digits, as `Note(006)`. Want of memory is the one
     /// error.
     pub fn name(&self, alloc: Global) -> Result<Vec<u8>, AllocError>
-        ensures { IfOk result (λ name. name.items ≡ meant.refusal_name (refusal_of self.now)) }
+        ensures { IfOk result (λ name. name.items ≡ refusal_name self.now) }
     {
         match self {
             Refusal::Note(code) => note_name(alloc, *code),
             other => other.plain_name().as_bytes().to_vec(alloc),
+        }
+    }
+
+    /// Number and name, a note's without its code, and LF. It takes no memory.
+    pub fn line(&self) -> &'static [u8]
+        ensures { result.now ≡ refusal_line self.now }
+    {
+        match self {
+            Refusal::Unreadable => b"1 Unreadable\n",
+            Refusal::Note(_) => b"2 Note\n",
+            Refusal::Duplicate => b"3 Duplicate\n",
+            Refusal::UnknownDepositor => b"20 UnknownDepositor\n",
+            Refusal::TicketUsed => b"21 TicketUsed\n",
+            Refusal::UnknownAdvice => b"22 UnknownAdvice\n",
+            Refusal::AdviceClosed => b"23 AdviceClosed\n",
+            Refusal::UnknownOrder => b"24 UnknownOrder\n",
+            Refusal::OrderClosed => b"25 OrderClosed\n",
+            Refusal::NotReserved => b"26 NotReserved\n",
+            Refusal::UnknownLot => b"27 UnknownLot\n",
+            Refusal::BelowReserved => b"28 BelowReserved\n",
+            Refusal::NoDifference => b"29 NoDifference\n",
+            Refusal::TooMuch => b"30 TooMuch\n",
+            Refusal::RepeatedLine => b"31 RepeatedLine\n",
+            Refusal::BadText => b"32 BadText\n",
+            Refusal::TooManyLines => b"33 TooManyLines\n",
+            Refusal::NumbersUsedUp => b"34 NumbersUsedUp\n",
+            Refusal::AlreadyEnrolled => b"35 AlreadyEnrolled\n",
         }
     }
 }

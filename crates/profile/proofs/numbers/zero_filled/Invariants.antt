@@ -1,6 +1,6 @@
 use Rattle.std.proofs.Common.{◌≡◌, ◌++◌, ◌≤◌, length, drop}
 use Rattle.profile.specs.Bytes.{zero_filled}
-use Rattle.sets_out.proofs.numbers.digits.Given as goal
+use Rattle.profile.proofs.numbers.zero_filled.Given as goal
 
 -- the digits from `at` on are written, and what is left fills those before
 abbrev pub invariant-loop-at : goal.invariant-loop-at

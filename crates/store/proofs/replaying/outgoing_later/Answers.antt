@@ -1,7 +1,7 @@
 use Rattle.std.proofs.Common.{sym, ap, ◌∙◌, ◌∷◌}
 use Rattle.rules.specs.Written.{Written}
 use Rattle.store.proofs.Entries.{text_at}
-use Rattle.store.proofs.replaying.outgoing_behind.Goals as goal
+use Rattle.store.proofs.replaying.outgoing_later.Goals as goal
 
 pub returns : goal.returns
 returns c = λ L e later is row legal.

@@ -1,5 +1,5 @@
 use Rattle.std.proofs.Common.{◌≡◌, ◌==◌, find}
-use Rattle.store.proofs.replaying.content_of.Given as goal
+use Rattle.store.proofs.sending.content_of.Given as goal
 
 -- the row, if there is one, is still to come
 abbrev pub invariant-loop-row : goal.invariant-loop-row

@@ -6,7 +6,7 @@ use Rattle.profile.specs.Register.{Entry, own}
 use Rattle.rules.specs.Decided.{IsHeldAtRest}
 use Rattle.store.specs.Held.{IsHeldFor}
 use Rattle.store.specs.Replayed.{all_written}
-use Rattle.store.proofs.replaying.page_behind.Given as goal
+use Rattle.store.proofs.replaying.page_later.Given as goal
 
 abbrev pub invariant-loop-entry : goal.invariant-loop-entry
 invariant-loop-entry l = record {

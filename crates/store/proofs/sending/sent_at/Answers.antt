@@ -1,7 +1,7 @@
 use Rattle.std.proofs.Common.{sym, ap, ◌∙◌}
 use Rattle.std.specs.Prelude.{◌==◌}
 use Rattle.store.proofs.WentOut.{placed, text_of, is_nothing, is_something, adds_other, adds_uncounted, adds_nothing, adds_sent}
-use Rattle.store.proofs.replaying.sent_at.Goals as goal
+use Rattle.store.proofs.sending.sent_at.Goals as goal
 
 pub returns-then-not-is_of : goal.returns-then-not-is_of
 returns-then-not-is_of c = λ L is legal page.

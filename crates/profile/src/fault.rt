@@ -1,7 +1,5 @@
 ghost use Rattle.std.specs.Prelude.{◌≡◌};
-ghost use Rattle.profile.specs.Refusals.{fault_number, fault_name};
-ghost use Rattle.store.specs.Faults.{fault_of};
-ghost use Rattle.store.specs.declared.fault.Fault.TheVariants.{OutOfMemory};
+ghost use Rattle.profile.specs.Refusals.{OutOfMemory, fault_number, fault_name, fault_line};
 
 use std::alloc::AllocError;
 
@@ -31,7 +29,7 @@ impl From<AllocError> for Fault {
 impl Fault {
     /// Its number.
     pub fn number(&self) -> u8
-        ensures { result ≡ fault_number (fault_of self.now) }
+        ensures { result ≡ fault_number self.now }
     {
         match self {
             Fault::OutOfMemory => 40,
@@ -44,7 +42,7 @@ impl Fault {
 
     /// Its name.
     pub fn name(&self) -> &'static str
-        ensures { result.now ≡ fault_name (fault_of self.now) }
+        ensures { result.now ≡ fault_name self.now }
     {
         match self {
             Fault::OutOfMemory => "OutOfMemory",
@@ -52,6 +50,19 @@ impl Fault {
             Fault::Reopen => "Reopen",
             Fault::NotThisBook => "NotThisBook",
             Fault::Device => "Device",
+        }
+    }
+
+    /// Number and name, and LF. It takes no memory.
+    pub fn line(&self) -> &'static [u8]
+        ensures { result.now ≡ fault_line self.now }
+    {
+        match self {
+            Fault::OutOfMemory => b"40 OutOfMemory\n",
+            Fault::Store => b"41 Store\n",
+            Fault::Reopen => b"42 Reopen\n",
+            Fault::NotThisBook => b"43 NotThisBook\n",
+            Fault::Device => b"44 Device\n",
         }
     }
 }

@@ -1,6 +1,6 @@
 use Rattle.std.proofs.Common.{◌≤◌, length, ◌∙◌, arith, rules}
-use Rattle.sets_out.proofs.Digits.{digit_filled}
-use Rattle.sets_out.proofs.numbers.digits.Goals as goal
+use Rattle.profile.proofs.Digits.{digit_filled}
+use Rattle.profile.proofs.numbers.zero_filled.Goals as goal
 
 pub loop-at-preserved : goal.loop-at-preserved
 loop-at-preserved g c =

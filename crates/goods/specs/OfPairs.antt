@@ -10,12 +10,12 @@ use Rattle.profile.specs.Movements.{Column, Expected, OnHand, Reservation, Shipp
 abbrev pub is_row : List ℕ → List ℕ → LotRow → Bool
 is_row item lot r = bytes_eq r.item item && bytes_eq r.lot lot
 
-abbrev pub told : (LotRow → ℕ) → List ℕ → List ℕ → List LotRow → ℕ
-told f item lot rows = sum_by (λ r. if is_row item lot r then f r else 0) rows
+abbrev pub of_pair : (LotRow → ℕ) → List ℕ → List ℕ → List LotRow → ℕ
+of_pair f item lot rows = sum_by (λ r. if is_row item lot r then f r else 0) rows
 
 -- the date on which a pair expires, if its row has one
-abbrev pub told_date : List ℕ → List ℕ → List LotRow → Option (List ℕ)
-told_date item lot rows = option_and_then (λ r. r.expiry) (find (is_row item lot) rows)
+abbrev pub date_of_pair : List ℕ → List ℕ → List LotRow → Option (List ℕ)
+date_of_pair item lot rows = option_and_then (λ r. r.expiry) (find (is_row item lot) rows)
 
 abbrev pub one : LotRow → ℕ
 one r = 1
@@ -56,15 +56,24 @@ named_by lines item lot = if list_any (is_pair item lot) lines then 1 else 0
 
 -- the rows are of the pairs that the lines name, and of no others
 abbrev pub AreRowsOf : List Line → List LotRow → Type 0
-AreRowsOf lines rows = (item lot : List ℕ) → told one item lot rows ≡ named_by lines item lot
+AreRowsOf lines rows = (item lot : List ℕ) → of_pair one item lot rows ≡ named_by lines item lot
 
 -- a row for each pair, and no two
 abbrev pub IsDistinct : List LotRow → Type 0
-IsDistinct rows = (item lot : List ℕ) → told one item lot rows ≤ 1
+IsDistinct rows = (item lot : List ℕ) → of_pair one item lot rows ≤ 1
 
 -- the row of a line's pair with nothing in it
 abbrev pub blank : Line → LotRow
-blank l = record { item = l.item; lot = l.lot; expiry = None; since = 0; expected = 0; on_hand = 0; reserved = 0; shipped = 0 }
+blank l = record {
+  item = l.item;
+  lot = l.lot;
+  expiry = None;
+  since = 0;
+  expected = 0;
+  on_hand = 0;
+  reserved = 0;
+  shipped = 0;
+}
 
 -- a number, and none for 0
 abbrev pub positive : ℕ → Option ℕ
@@ -94,8 +103,10 @@ same_date x y = false
 
 -- the same pair with the same date, number and amounts
 abbrev pub same_row : LotRow → LotRow → Bool
-same_row r x = bytes_eq r.item x.item && bytes_eq r.lot x.lot && same_date r.expiry x.expiry && r.since == x.since
-    && r.expected == x.expected && r.on_hand == x.on_hand && r.reserved == x.reserved && r.shipped == x.shipped
+same_row r x = bytes_eq r.item x.item && bytes_eq r.lot x.lot && same_date r.expiry x.expiry
+    && r.since == x.since
+    && r.expected == x.expected && r.on_hand == x.on_hand && r.reserved == x.reserved
+    && r.shipped == x.shipped
 
 -- the rows that the old ones haven't
 abbrev pub changed_rows : List LotRow → List LotRow → List LotRow
