@@ -74,7 +74,7 @@ impl Calls {
     }
 
     /// What a refusal of the store is told as: 40 where it had no memory, else 41.
-    pub fn told(&mut self, error: Error) -> Fault
+    pub fn failed(&mut self, error: Error) -> Fault
         ensures counted { Rises self.old.refused self.new.refused }
         ensures made { self.new.made ≡ self.old.made }
         ensures limit { self.new.limit ≡ self.old.limit }

@@ -25,7 +25,7 @@ pub(crate) fn run<S: Alter>(
     calls.allow()?;
     match tx.execute(sql, params) {
         Ok(_) => Ok(()),
-        Err(error) => Err(calls.told(error)),
+        Err(error) => Err(calls.failed(error)),
     }
 }
 
@@ -39,6 +39,6 @@ pub fn commit<S: Alter>(tx: Transaction<'_, S>, calls: &mut Calls) -> Result<(),
     calls.allow()?;
     match tx.commit() {
         Ok(()) => Ok(()),
-        Err(error) => Err(calls.told(error)),
+        Err(error) => Err(calls.failed(error)),
     }
 }

@@ -151,12 +151,12 @@ impl<S: Alter + Drop> Tables<S> {
         self.calls.allow()?;
         let statement = match self.conn.prepare(sql) {
             Ok(statement) => statement,
-            Err(error) => return Err(self.calls.told(error)),
+            Err(error) => return Err(self.calls.failed(error)),
         };
         self.calls.allow()?;
         match statement.query_all(&mut self.conn, params) {
             Ok(rows) => Ok(rows),
-            Err(error) => Err(self.calls.told(error)),
+            Err(error) => Err(self.calls.failed(error)),
         }
     }
 

@@ -9,7 +9,7 @@ ghost use Rattle.profile.specs.Need as meant;
 ghost use Rattle.profile.specs.Register as register;
 ghost use Rattle.profile.specs.Page.{page_of};
 ghost use Rattle.rules.specs.Keyed.{put_row};
-ghost use Rattle.rules.specs.Decided.{IsHeldAtRest};
+ghost use Rattle.rules.specs.Decided.{IsAtRest};
 ghost use Rattle.rules.specs.Naming.{facts_of, named_of};
 ghost use Rattle.book_statements.specs.Asking.{Asked, OfStanding, Went};
 ghost use Rattle.book_tables.specs.Needed.{Gathers, needed_part, none_named, part_for, with_number, with_numbers, with_text, with_texts};
@@ -367,7 +367,7 @@ impl<S: Alter + Drop> Tables<S> {
     pub fn page_for(&mut self, alloc: Global, who: Who, need: &Need) -> Result<Option<Page>, Fault>
         ensures part { OfStanding S.Store self.old self.new
             (λ W L. IfOk result (λ page. page ≡ needed_part need.now L who)) }
-        ensures rest { IfOk result IsHeldAtRest }
+        ensures rest { IfOk result IsAtRest }
         ensures asked { Asked S.Store self.old self.new result }
     {
         if !self.is_enrolled(alloc, who)? {

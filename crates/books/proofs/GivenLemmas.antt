@@ -1,9 +1,13 @@
 -- Options, and entries at their places.
-use Rattle.std.proofs.Common.{Bool, true, false, IsTrue, ◌≡◌, ◌<◌, ℕ, zero, suc, List, [], ◌∷◌, ◌++◌, length, Option, Some, None, get_or, slice_get, sym, refl, ◌∙◌, arith}
+use Rattle.std.proofs.Common.{Bool, true, false, IsTrue, inl, inr, ap, ◌≡◌, ◌⊎◌, ◌<◌, ℕ, zero, suc, List, [], ◌∷◌, ◌++◌, length, Option, Some, None, get_or, slice_get, sym, refl, ◌∙◌, arith}
 use Rattle.std.specs.Prelude.{IsSomeAnd}
 use Rattle.profile.specs.Register.{Entry}
 use Rattle.rules.specs.Written.{Written}
+use Rattle.store.specs.Fault.{Fault}
+use Rattle.store.specs.Fault.TheVariants.{OutOfMemory, Store, Reopen, NotThisBook, Device}
 use Rattle.store.specs.Replayed.{written_on}
+use Rattle.store.specs.Standing.{Standing, IsUsable, IsQueryFault}
+use Rattle.books.specs.Verified.{of_copy}
 
 pub never_none : {A : Type 0} (o : Option A) (a : A) → ((b : A) → o ≡ Some b → ⊥) → o ≡ Some a → ⊥
 never_none o a not is = not a is
@@ -32,3 +36,17 @@ there_is before (e ∷ L) (suc i) lt none = there_is (before ++ e ∷ []) L i (o
 
 pub never_both : (b : Bool) → IsTrue b → b ≡ false → ⊥
 never_both b t f = let e : ◌≡◌ {A = Bool} true false = sym t ∙ f in cc
+
+-- a copy that keeps a register fails for want of memory alone
+pub only_memory : (f : Fault) (old new : Standing) (L : List Entry) → IsUsable old L → new.doubt ≡ 0 → IsQueryFault f old new → of_copy f ≡ OutOfMemory
+only_memory OutOfMemory old new L u clean why = refl
+only_memory Store old new L u clean why = refl
+only_memory Reopen old new L u clean why = absurd (let e : ◌≡◌ {A = Bool} true false = sym (why.reopen refl) ∙ u.opened in cc)
+only_memory NotThisBook old new L u clean why = absurd (why.not_this refl clean L u.keeps)
+only_memory Device old new L u clean why = absurd (why.device refl)
+
+-- and so does one that is made where no table is in the way
+pub made_memory : (f : Fault) → (f ≡ NotThisBook → ⊥) → (f ≡ NotThisBook) ⊎ ((f ≡ OutOfMemory) ⊎ (f ≡ Store)) → of_copy f ≡ OutOfMemory
+made_memory f free (inl none) = absurd (free none)
+made_memory f free (inr (inl memory)) = ap of_copy memory
+made_memory f free (inr (inr refused)) = ap of_copy refused

@@ -16,10 +16,16 @@ use Rattle.profile.specs.Register.{Entry}
 use Rattle.profile.specs.Accepted.{IsLegal}
 use Rattle.store.specs.Standing.{Standing, IsUsable}
 use Rattle.store.specs.Fault.{Fault}
+use Rattle.store.specs.Fault.TheVariants.{OutOfMemory, Store}
 use Rattle.book_statements.specs.Exits.{StandsWhileOpen}
 use Rattle.book_statements.specs.Standing.{Stands}
 use Rattle.book_tables.specs.Comparing.{AreTables, IsLaid}
 use Rattle.books.specs.Opened.{Opened, standing_of}
+
+-- where the store of a book in memory refuses a call, what it lacks is memory
+abbrev pub of_copy : Fault → Fault
+of_copy Store = OutOfMemory
+of_copy fault = fault
 
 -- the rules of the last of these entries, or those before it
 abbrev pub last_rules : Rules → List Entry → Rules

@@ -7,6 +7,7 @@ ghost use Rattle.books.specs.Opened.{standing_of};
 ghost use Rattle.books.specs.Verified.{over_ram};
 
 use crate::book::Book;
+use crate::verifying::of_copy;
 use book_tables::Tables;
 use ram_disk::RamDisk;
 use rules::Warehouse;
@@ -54,6 +55,6 @@ pub(crate) fn blank(alloc: Global, warehouse: Warehouse) -> Result<Book<FileStor
     let conn = in_memory(alloc)?;
     match Book::create(alloc, Tables::new(conn), warehouse) {
         Ok(book) => Ok(book),
-        Err(_) => Err(Fault::OutOfMemory),
+        Err((fault, _)) => Err(of_copy(fault)),
     }
 }

@@ -4,7 +4,7 @@ ghost use Rattle.profile.specs.Decision as decided;
 ghost use Rattle.profile.specs.Register as register;
 ghost use Rattle.profile.specs.Rows.{stock_of, outbox_of};
 ghost use Rattle.rules.specs.Asked.{mark_of};
-ghost use Rattle.rules.specs.Decided.{IsHeldAtRest, IsRecalled};
+ghost use Rattle.rules.specs.Decided.{IsAtRest, IsRecalled};
 ghost use Rattle.store.specs.Held.{IsHeld};
 ghost use Rattle.store.specs.Known.{first_under};
 ghost use Rattle.store.specs.Open.{open_of, open_on, enrolled};
@@ -37,7 +37,7 @@ impl<S: Alter + Drop> Keeper for Book<S> {
         ensures part { (standing_of S.Store self.new).doubt ≡ 0 → (L : List register.Entry)
             → (standing_of S.Store self.old).keeps L → IfOk result
             (λ page. page ≡ needed_part need.now L who) }
-        ensures rest { IfOk result IsHeldAtRest }
+        ensures rest { IfOk result IsAtRest }
         ensures query { IsQuery (standing_of S.Store self.old) (standing_of S.Store self.new) result }
         ensures shut { (standing_of S.Store self.old).shut ≡ true → IsErrOf result Fault.Reopen }
         ensures calls { AreCounted self.old.tables self.new.tables result }

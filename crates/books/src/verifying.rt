@@ -12,7 +12,7 @@ ghost use Rattle.store.specs.Standing.{GoesOn, IsUsable};
 ghost use Rattle.books.specs.Opened.{standing_of};
 ghost use Rattle.book_statements.specs.Asking.{Went};
 ghost use Rattle.book_statements.specs.Exits.{StandsWhileOpen};
-ghost use Rattle.books.specs.Verified.{Follows, IsAlwaysClean, IsCopy, Stays, last_rules};
+ghost use Rattle.books.specs.Verified.{Follows, IsAlwaysClean, IsCopy, Stays, last_rules, of_copy as meant_of_copy};
 
 use crate::book::{Book, GREATEST};
 use book_tables::Tables;
@@ -29,9 +29,20 @@ fn may_follow(last: Rules, rules: Rules) -> bool
     !matches!((last, rules), (Rules::Two, Rules::One))
 }
 
+/// The fault of a book in memory, as that of the check which makes it: where its store refuses a
+/// call, what that lacks is memory.
+pub(crate) fn of_copy(fault: Fault) -> Fault
+    ensures { result ≡ meant_of_copy fault }
+{
+    match fault {
+        Fault::Store => Fault::OutOfMemory,
+        other => other,
+    }
+}
+
 // Gives a copy the command of an entry again, under the entry's rules: these, or None where no
-// command made the entry, or its rules fall below the last ones. What the copy's store lacks is
-// memory.
+// command made the entry, or its rules fall below the last ones. The one fault of a copy that keeps
+// a register is want of memory.
 fn give<K: Keeper>(
     alloc: Global,
     copy: &mut K,
@@ -50,7 +61,8 @@ fn give<K: Keeper>(
         × IsLegal e.rules (K.standing copy.new).warehouse (L ++ e ∷ [])
         × IsUsable (K.standing copy.new) (L ++ e ∷ [])) }
     ensures goes { GoesOn (K.standing copy.old) (K.standing copy.new) }
-    ensures named { IfErr result (λ f. f ≡ Fault.OutOfMemory) }
+    ensures named { (K.standing copy.new).doubt ≡ 0 → (W : Partner)
+        → IsCopy last W (K.standing copy.old) → IfErr result (λ f. f ≡ Fault.OutOfMemory) }
 {
     let Some(given) = command_of(alloc, entry)? else {
         return Ok(None);
@@ -61,7 +73,7 @@ fn give<K: Keeper>(
     }
     match submit_under(alloc, copy, &given.command(), entry.moment(), rules) {
         Ok(_) => Ok(Some(rules)),
-        Err(_) => Err(Fault::OutOfMemory),
+        Err(fault) => Err(of_copy(fault)),
     }
 }
 
@@ -76,7 +88,8 @@ fn give_entry<S: Alter + Drop, C: Alter + Drop>(
     before: u64,
     last: Rules,
 ) -> Result<Option<Rules>, Fault>
-    requires { IsAlwaysClean C.Store }
+    requires clean { IsAlwaysClean C.Store }
+    requires copy { IsCopy last copy.old.warehouse (standing_of C.Store copy.old) }
     ensures copy { (W : Partner) → IsCopy last W (standing_of C.Store copy.old)
         → IfOk result (λ given. IfSome given (λ rules. IsCopy rules W (standing_of C.Store copy.new))) }
     ensures next { HasCleanDisk (state S.Store tables.new.conn)

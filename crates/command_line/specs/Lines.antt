@@ -21,8 +21,8 @@ use Rattle.command_line.specs.declared.words.BookAct.TheVariants as act
 use Rattle.command_line.specs.declared.words.Show.{Show}
 use Rattle.command_line.specs.declared.words.Show.TheVariants as show
 use Rattle.command_line.specs.declared.words.ClerkWords.{ClerkWords}
-use Rattle.command_line.specs.declared.words.Deed.{Deed}
-use Rattle.command_line.specs.declared.words.Deed.TheVariants as deed
+use Rattle.profile.specs.declared.sheet_kind.SheetKind.{SheetKind}
+use Rattle.profile.specs.declared.sheet_kind.SheetKind.TheVariants.{Count, Pick, Recount}
 
 -- What may stand in a line.
 
@@ -230,26 +230,26 @@ abbrev pub SaysPatience : List Row → Option ℕ → Type 0
 SaysPatience rows seconds =
     option_map count_of (first_of (codes "patience") rows) ≡ option_map Some seconds
 
-abbrev pub deed_name : Deed → Text
-deed_name deed.Count = codes "count"
-deed_name deed.Pick = codes "pick"
-deed_name deed.Recount = codes "recount"
+abbrev pub act_name : SheetKind → Text
+act_name Count = codes "count"
+act_name Pick = codes "pick"
+act_name Recount = codes "recount"
 
 -- the number of the advice or the order, which a recount doesn't have
-abbrev pub SaysNumberOf : Deed → List Row → Text → Type 0
-SaysNumberOf deed.Recount rows number = number ≡ []
+abbrev pub SaysNumberOf : SheetKind → List Row → Text → Type 0
+SaysNumberOf Recount rows number = number ≡ []
 SaysNumberOf d rows number = Has rows (codes "number") number
 
 abbrev pub SaysTold : List Row → ClerkWords → Type 0
 SaysTold rows t = Has rows (codes "who") t.who.now × Has rows (codes "ticket") t.ticket.now
-    × SaysNumberOf t.deed rows t.number.now × Has rows (codes "sheet") t.sheet.now
+    × SaysNumberOf t.kind rows t.number.now × Has rows (codes "sheet") t.sheet.now
 
 abbrev pub SaysAct : Found → BookAct → Type 0
 SaysAct f (act.Enrol who) = (f.0 ≡ codes "enrol") × Has f.1 (codes "who") who.now
 SaysAct f (act.Roster file) = (f.0 ≡ codes "roster") × Has f.1 (codes "file") file.now
 SaysAct f (act.Send file) = (f.0 ≡ codes "send") × Has f.1 (codes "file") file.now
 SaysAct f (act.Take dir) = (f.0 ≡ codes "take") × Has f.1 (codes "dir") dir.now
-SaysAct f (act.Clerk t) = (f.0 ≡ deed_name t.deed) × SaysTold f.1 t
+SaysAct f (act.Clerk t) = (f.0 ≡ act_name t.kind) × SaysTold f.1 t
 
 abbrev pub SaysShow : Found → Show → Type 0
 SaysShow f (show.Stock who is_csv) = (f.0 ≡ codes "stock") × Has f.1 (codes "who") who.now

@@ -12,4 +12,4 @@ mod values;
 mod words;
 
 pub use reading::line;
-pub use words::{BookAct, ClerkWords, Deed, LineFault, Place, Service, Show, Task, Words};
+pub use words::{BookAct, ClerkWords, LineFault, Place, Service, Show, Task, Words};

@@ -8,9 +8,10 @@ use crate::subcommands::parser;
 use crate::values::{
     book_of, given, has_flag, leaves_to_server, moment, number, server, service_of, usage, wait,
 };
-use crate::words::{BookAct, ClerkWords, Deed, LineFault, Place, Show, Task, Words};
+use crate::words::{BookAct, ClerkWords, LineFault, Place, Show, Task, Words};
 use clap::ArgMatches;
 use clap::error::ErrorKind;
+use profile::SheetKind;
 use segments::Moment;
 use std::alloc::Global;
 use std::net::SocketAddr;
@@ -28,12 +29,16 @@ fn refused(alloc: Global, error: &clap::Error) -> LineFault {
 }
 
 // The number of the advice or the order that a line says, which a recount doesn't have.
-fn number_told<'a>(alloc: Global, deed: Deed, values: &ArgMatches<'a>) -> Result<&'a str, LineFault>
+fn number_told<'a>(
+    alloc: Global,
+    kind: SheetKind,
+    values: &ArgMatches<'a>,
+) -> Result<&'a str, LineFault>
     ensures { IfOk result
-        (λ number. meant.SaysNumberOf deed (rows_of (found_of values.now)) number.now) }
+        (λ number. meant.SaysNumberOf kind (rows_of (found_of values.now)) number.now) }
 {
-    Ok(match deed {
-        Deed::Recount => "",
+    Ok(match kind {
+        SheetKind::Recount => "",
         _ => given(alloc, values, "number")?,
     })
 }
@@ -41,15 +46,15 @@ fn number_told<'a>(alloc: Global, deed: Deed, values: &ArgMatches<'a>) -> Result
 // What a clerk did, with the values of its line.
 fn told_of<'a>(
     alloc: Global,
-    deed: Deed,
+    kind: SheetKind,
     values: &ArgMatches<'a>,
 ) -> Result<ClerkWords<'a>, LineFault>
     ensures told { IfOk result (meant.SaysTold (rows_of (found_of values.now))) }
-    ensures deed { IfOk result (λ t. t.deed ≡ deed) }
+    ensures kind { IfOk result (λ t. t.kind ≡ kind) }
 {
-    let number = number_told(alloc, deed, values)?;
+    let number = number_told(alloc, kind, values)?;
     Ok(ClerkWords {
-        deed,
+        kind,
         who: given(alloc, values, "who")?,
         ticket: given(alloc, values, "ticket")?,
         number,
@@ -67,9 +72,9 @@ fn clerk_act_of<'a>(
         (λ act. IfSome act (meant.SaysAct (name.now, rows_of (found_of values.now)))) }
 {
     let act = match name {
-        "count" => BookAct::Clerk(told_of(alloc, Deed::Count, values)?),
-        "pick" => BookAct::Clerk(told_of(alloc, Deed::Pick, values)?),
-        "recount" => BookAct::Clerk(told_of(alloc, Deed::Recount, values)?),
+        "count" => BookAct::Clerk(told_of(alloc, SheetKind::Count, values)?),
+        "pick" => BookAct::Clerk(told_of(alloc, SheetKind::Pick, values)?),
+        "recount" => BookAct::Clerk(told_of(alloc, SheetKind::Recount, values)?),
         _ => return Ok(None),
     };
     Ok(Some(act))

@@ -1,10 +1,11 @@
 //! What a line of words asks for.
+use profile::SheetKind;
 use segments::Moment;
 use std::alloc::AllocError;
 use std::net::SocketAddr;
 
 /// Where a line of words stands.
-#[derive(Clone, Copy, Debug, PartialEq, Eq)]
+#[derive(Clone, Copy, PartialEq, Eq)]
 pub enum Place {
     /// On the command line, after the program's name.
     Program,
@@ -118,7 +119,7 @@ pub enum BookAct<'a> {
 #[derive(Clone, Copy)]
 pub struct ClerkWords<'a> {
     /// What was done.
-    pub deed: Deed,
+    pub kind: SheetKind,
     /// The depositor, as `QQ-ID`.
     pub who: &'a str,
     /// The ticket.
@@ -127,17 +128,6 @@ pub struct ClerkWords<'a> {
     pub number: &'a str,
     /// The file with the sheet.
     pub sheet: &'a str,
-}
-
-/// What a clerk did.
-#[derive(Clone, Copy, Debug, PartialEq, Eq)]
-pub enum Deed {
-    /// Goods of an advice were counted.
-    Count,
-    /// An order was picked.
-    Pick,
-    /// Goods on hand were counted again.
-    Recount,
 }
 
 /// What can be shown of a book.

@@ -1,6 +1,6 @@
 -- What a clerk did, as the words of a line and a sheet tell it.
 use Rattle.std.specs.Prelude.{◌≡◌, ◌⊎◌, ℕ, nat_lt, if◌then◌else◌, List, length, Option, Some, None, Result, Ok, Err}
-use Rattle.profile.specs.Clerk.{SheetKind, CountSheet, PickSheet, RecountSheet}
+use Rattle.profile.specs.declared.sheet_kind.SheetKind.{SheetKind}
 use Rattle.profile.specs.declared.rules.Rules.TheVariants.{Two}
 use Rattle.profile.specs.Header.{Who}
 use Rattle.profile.specs.Means.{Line}
@@ -11,20 +11,13 @@ use Rattle.profile.specs.declared.refusals.Refusal.TheVariants.{BadText, TooMany
 use Rattle.intake.specs.Calls as calls
 use Rattle.commands.specs.declared.files.TheConstants.{MOST_SHEET}
 use Rattle.command_line.specs.declared.words.ClerkWords.{ClerkWords}
-use Rattle.command_line.specs.declared.words.Deed.{Deed}
-use Rattle.command_line.specs.declared.words.Deed.TheVariants as deed
-
-abbrev pub kind_of : Deed → SheetKind
-kind_of deed.Count = CountSheet
-kind_of deed.Pick = PickSheet
-kind_of deed.Recount = RecountSheet
 
 abbrev pub command_of : Who → ClerkWords → List Line → Command
-command_of who t sheet = Clerk who t.ticket.now (calls.act_of (kind_of t.deed) t.number.now sheet)
+command_of who t sheet = Clerk who t.ticket.now (calls.act_of t.kind t.number.now sheet)
 
 -- the depositor that the words name; none where one of the words can't be read
 abbrev pub depositor_of : ClerkWords → Option Who
-depositor_of t = calls.depositor_of (kind_of t.deed) t.who.now t.ticket.now t.number.now
+depositor_of t = calls.depositor_of t.kind t.who.now t.ticket.now t.number.now
 
 -- why a file makes no sheet that is longer than a sheet may be, by what its first bytes make: they
 -- may have too many lines already; else it can't be read
@@ -44,11 +37,11 @@ sheet_read kind text =
 pub record IsSlipOf (t : ClerkWords) (who : Who) (kept : ClerkWords) (text : List ℕ) (sheet : List Line) : Type 0 where
   pub told : kept ≡ t
   pub named : depositor_of t ≡ Some who
-  pub read : sheet_read (kind_of t.deed) text ≡ Ok sheet
+  pub read : sheet_read t.kind text ≡ Ok sheet
 
 -- A clerk's words come to no slip: a word can't be read, or there is no sheet in what was read of
 -- the file.
 abbrev pub IsNoSlip : ClerkWords → Refusal → Type 0
 IsNoSlip told refusal =
     ((refusal ≡ BadText) × (depositor_of told ≡ None))
-    ⊎ ((text : List ℕ) × (sheet_read (kind_of told.deed) text ≡ Err refusal))
+    ⊎ ((text : List ℕ) × (sheet_read told.kind text ≡ Err refusal))

@@ -1,8 +1,9 @@
 -- Whose requests a server takes, and when its connections come.
-use Rattle.std.specs.Prelude.{◌≡◌, ℕ, Bool, true, false, List, Option, All, length, map, unwrap_or}
+use Rattle.std.specs.Prelude.{◌≡◌, ◌≤◌, ℕ, Bool, true, false, List, Option, All, length, map, unwrap_or}
 use Rattle.std.specs.List.{FoldsTo}
 use Rattle.profile.specs.Moments.{Moment}
-use Rattle.intake.specs.Connections.{moment_of}
+use Rattle.store.specs.Standing.{Standing}
+use Rattle.intake.specs.Connections.{IsConnection, moment_of}
 use Rattle.intake.specs.declared.audience.Audience.{Audience}
 use Rattle.intake.specs.declared.audience.Audience.TheVariants.{Partners, Clerks}
 use Rattle.intake.specs.declared.served.Connection.{Connection}
@@ -35,3 +36,15 @@ pub record Came {K : Type 0} (serves : K → Connection → K → Type 0) (has_c
   pub moments : has_clock ≡ false → All (λ (c : Connection). c.moment ≡ first) connections
   pub served : FoldsTo serves book connections left
   pub counted : length connections ≡ count
+
+-- So many connections of that audience were served of a book.
+abbrev pub Served : {K : Type 0} → (K → Standing) → Audience → Bool → Moment → K → K → ℕ → Type 0
+Served standing audience has_clock first book left count =
+    Came (λ old c new. IsConnection audience (standing old) (standing new) c) has_clock first book
+    left count
+
+-- The same of some number, this one at most.
+abbrev pub ServedUpTo : {K : Type 0} → (K → Standing) → Audience → Bool → Moment → K → K → ℕ
+    → Type 0
+ServedUpTo standing audience has_clock first book left most =
+    (n : ℕ) × (n ≤ most) × Served standing audience has_clock first book left n

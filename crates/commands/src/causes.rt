@@ -6,9 +6,8 @@ ghost use Rattle.folders.specs.Folders.{fault_of_kind};
 ghost use Rattle.commands.specs.Stops.{fault_in, IsDeviceFault};
 
 use crate::files::{MOST_SHEET, read_within};
-use crate::slips::sheet_kind;
 use crate::told::CommandError;
-use command_line::{BookAct, ClerkWords, Deed, Show, Task};
+use command_line::{BookAct, ClerkWords, Show, Task};
 use intake::FolderStop;
 use itoa::Buffer;
 use profile::{MOST_NUMBER, MOST_TICKET};
@@ -17,7 +16,7 @@ use std::alloc::{AllocError, Global};
 use std::io;
 use std::net::SocketAddr;
 use std::rt::Files;
-use store::{Fault, Ident, Refusal, Who};
+use store::{Fault, Ident, Refusal, SheetKind, Who};
 
 // A name, and what is said of it.
 fn named(alloc: Global, name: &str, said: &str) -> Result<String, AllocError> {
@@ -272,8 +271,8 @@ fn bad_clerk_word<'a>(told: &ClerkWords<'a>) -> Option<BadWord<'a>> {
     if let Some(bad) = bad_ident(told.ticket, MOST_TICKET, TICKET) {
         return Some(bad);
     }
-    match told.deed {
-        Deed::Recount => None,
+    match told.kind {
+        SheetKind::Recount => None,
         _ => bad_ident(told.number, MOST_NUMBER, NUMBER),
     }
 }
@@ -319,7 +318,7 @@ fn about_sheet<R: Files + AllocGlobal>(
     let Some(text) = read_within(rt, file, MOST_SHEET)? else {
         return Ok(Some(named(alloc, file, " has more than 1,048,576 bytes")?));
     };
-    match first_bad(alloc, sheet_kind(told.deed), &text, refusal)? {
+    match first_bad(alloc, told.kind, &text, refusal)? {
         Some(bad) => Ok(Some(at_line(alloc, file, bad.line, &bad.why)?)),
         None => Ok(None),
     }

@@ -6,7 +6,6 @@ ghost use Rattle.profile.specs.declared.rules.Rules.TheVariants.{Two};
 ghost use Rattle.profile.specs.Means.{Line};
 ghost use Rattle.sheet_texts.specs.Texts.{sheet_of_text};
 ghost use Rattle.store.specs.Standing.{IsUnchanged};
-ghost use Rattle.commands.specs.Clerks.{kind_of};
 ghost use Rattle.commands.specs.Reasons as meant;
 ghost use Rattle.commands.specs.Telling.{refusal_line};
 
@@ -14,13 +13,13 @@ use crate::causes::{about_line, at_line};
 use crate::slips::{Slip, clerk, lines_in};
 use crate::told::{CommandError, ExitStatus, tell_refusal};
 use crate::verbosity::Verbosity;
-use command_line::{ClerkWords, Deed, Task};
+use command_line::{ClerkWords, Task};
 use itoa::Buffer;
 use sheet_texts::line_of_pair;
 use std::alloc::{AllocError, Global};
 use std::io;
 use std::rt::Files;
-use store::{Goods, Keeper, Key, KnownOrder, Page, Refusal, need};
+use store::{Goods, Keeper, Key, KnownOrder, Page, Refusal, SheetKind, need};
 
 /// A pair of item and lot that a book keeps, as far as it may be why a clerk's sheet is refused.
 #[derive(Clone, Copy)]
@@ -207,7 +206,7 @@ pub fn reason(
     kept: &[Kept<'_>],
 ) -> Result<Option<String>, AllocError>
     ensures blamed { (sheet : List Line)
-        → sheet_of_text Two (kind_of told.now.deed) text.now ≡ Ok sheet
+        → sheet_of_text Two told.now.kind text.now ≡ Ok sheet
         → IfOk result (λ why. is_some why ≡ is_some (meant.blamed refusal kept.now sheet)) }
 {
     let Some(lines) = lines_in(alloc, told, text)? else {
@@ -282,10 +281,10 @@ fn not_picked(alloc: Global, page: &Page, slip: &Slip<'_>) -> Result<Option<Stri
 // Why a page refuses what a clerk did under a new ticket, as far as a line of the sheet is the
 // reason.
 fn page_reason(alloc: Global, page: &Page, slip: &Slip<'_>) -> Result<Option<String>, AllocError> {
-    match slip.told.deed {
-        Deed::Count => Ok(None),
-        Deed::Pick => not_picked(alloc, page, slip),
-        Deed::Recount => not_recounted(alloc, page, slip),
+    match slip.told.kind {
+        SheetKind::Count => Ok(None),
+        SheetKind::Pick => not_picked(alloc, page, slip),
+        SheetKind::Recount => not_recounted(alloc, page, slip),
     }
 }
 

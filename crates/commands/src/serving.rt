@@ -2,7 +2,7 @@
 ghost use Rattle.std.specs.Prelude.{◌≡◌, ◌≤◌, ℕ, OnOk, OnErr, unwrap_or};
 ghost use Rattle.intake.specs.Connections.{IsConnection};
 ghost use Rattle.commands.specs.Serving as meant;
-ghost use Rattle.commands.specs.Serving.{NextMoment, Comes, Came};
+ghost use Rattle.commands.specs.Serving.{NextMoment, Comes, Served, ServedUpTo};
 
 use crate::causes::{about_address, about_replaced};
 use crate::clock::now;
@@ -202,14 +202,10 @@ pub fn serve_on<K: Keeper, A: FnMut() -> bool, W: io::Write, E: io::Write>(
     err: &mut E,
 ) -> Result<ExitStatus, CommandError>
     requires admits { A.IsAlwaysCallable admits }
-    ensures served { OnOk result (Came
-        (λ old c new. IsConnection (meant.audience_of service.now.clerks) (K.standing old)
-        (K.standing new) c)
+    ensures served { OnOk result (Served K.standing (meant.audience_of service.now.clerks)
         has_clock first book.old book.new service.now.count) }
-    ensures ended { OnErr result ((n : ℕ) × (n ≤ service.now.count) × Came
-        (λ old c new. IsConnection (meant.audience_of service.now.clerks) (K.standing old)
-        (K.standing new) c)
-        has_clock first book.old book.new n) }
+    ensures ended { OnErr result (ServedUpTo K.standing (meant.audience_of service.now.clerks)
+        has_clock first book.old book.new service.now.count) }
 {
     serve_asking(
         rt,
@@ -249,14 +245,10 @@ pub fn serve<K: Keeper, W: io::Write, E: io::Write>(
     out: &mut W,
     err: &mut E,
 ) -> Result<ExitStatus, CommandError>
-    ensures served { OnOk result (Came
-        (λ old c new. IsConnection (meant.audience_of service.now.clerks) (K.standing old)
-        (K.standing new) c)
+    ensures served { OnOk result (Served K.standing (meant.audience_of service.now.clerks)
         has_clock first book.old book.new service.now.count) }
-    ensures ended { OnErr result ((n : ℕ) × (n ≤ service.now.count) × Came
-        (λ old c new. IsConnection (meant.audience_of service.now.clerks) (K.standing old)
-        (K.standing new) c)
-        has_clock first book.old book.new n) }
+    ensures ended { OnErr result (ServedUpTo K.standing (meant.audience_of service.now.clerks)
+        has_clock first book.old book.new service.now.count) }
 {
     let listener = match TcpListener::bind(rt, service.address) {
         Ok(listener) => listener,

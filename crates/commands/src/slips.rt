@@ -5,7 +5,6 @@ ghost use Rattle.profile.specs.Accepted.{is_command};
 ghost use Rattle.profile.specs.Clerk.{is_sheet};
 ghost use Rattle.profile.specs.Header.{Who as Partner};
 ghost use Rattle.profile.specs.Means.{Line};
-ghost use Rattle.sheet_texts.specs.Kinds.{kind_of};
 ghost use Rattle.sheet_texts.specs.Texts.{sheet_of_text};
 ghost use Rattle.store.specs.Asked.{asked};
 ghost use Rattle.commands.specs.Clerks as meant;
@@ -14,7 +13,7 @@ ghost use Rattle.commands.specs.Clerks.{IsNoSlip, IsSlipOf, command_of, deposito
 use crate::causes::about_file;
 use crate::files::MOST_SHEET;
 use crate::told::CommandError;
-use command_line::{ClerkWords, Deed};
+use command_line::ClerkWords;
 use intake::{act_of, read_first};
 use profile::{MOST_NUMBER, MOST_TICKET};
 use sheet_texts::sheet;
@@ -38,21 +37,10 @@ fn depositor(told: &ClerkWords<'_>) -> Option<Who>
 {
     let who = Who::new(told.who.as_bytes())?;
     Ident::new(told.ticket.as_bytes(), MOST_TICKET)?;
-    if told.deed != Deed::Recount {
+    if told.kind != SheetKind::Recount {
         Ident::new(told.number.as_bytes(), MOST_NUMBER)?;
     }
     Some(who)
-}
-
-/// The kind of the sheet of a deed.
-pub(crate) fn sheet_kind(deed: Deed) -> SheetKind
-    ensures { kind_of result ≡ meant.kind_of deed }
-{
-    match deed {
-        Deed::Count => SheetKind::Count,
-        Deed::Pick => SheetKind::Pick,
-        Deed::Recount => SheetKind::Recount,
-    }
 }
 
 // A depositor that a clerk's words name, and the text of their sheet.
@@ -101,11 +89,11 @@ fn sheet_of(
     text: &[u8],
 ) -> Result<Result<Sheet, Refusal>, AllocError>
     ensures ok { IfOk result
-        (λ made. IfOk made (λ sheet. sheet_read (kind_of kind) text.now ≡ Ok sheet)) }
+        (λ made. IfOk made (λ sheet. sheet_read kind text.now ≡ Ok sheet)) }
     ensures kind { IfOk result
-        (λ made. IfOk made (λ sheet. is_sheet Two (kind_of kind) sheet ≡ true)) }
+        (λ made. IfOk made (λ sheet. is_sheet Two kind sheet ≡ true)) }
     ensures err { IfOk result
-        (λ made. IfErr made (λ refusal. sheet_read (kind_of kind) text.now ≡ Err refusal)) }
+        (λ made. IfErr made (λ refusal. sheet_read kind text.now ≡ Err refusal)) }
 {
     let made = sheet(alloc, kind, text)?;
     if text.len() as u64 <= u64::from(MOST_SHEET) {
@@ -131,7 +119,7 @@ pub fn slip_of<'a, R: Files + AllocGlobal>(
     let Some(Read { who, text }) = read_slip(rt, told)? else {
         return Ok(Err(Refusal::BadText));
     };
-    match sheet_of(rt.alloc(), sheet_kind(told.deed), &text)? {
+    match sheet_of(rt.alloc(), told.kind, &text)? {
         Ok(sheet) => Ok(Ok(Slip {
             who,
             told: *told,
@@ -149,13 +137,13 @@ pub fn sheet_text_of<R: Files + AllocGlobal>(
 ) -> Result<Result<Vec<u8>, Refusal>, CommandError>
     ensures text { IfOk result (λ made. IfOk made (λ text. (who : Partner) × (sheet : List Line)
         × (depositor_of told.now ≡ Some who)
-        × (sheet_read (meant.kind_of told.now.deed) text.items ≡ Ok sheet))) }
+        × (sheet_read told.now.kind text.items ≡ Ok sheet))) }
     ensures none { IfOk result (λ made. IfErr made (IsNoSlip told.now)) }
 {
     let Some(Read { text, .. }) = read_slip(rt, told)? else {
         return Ok(Err(Refusal::BadText));
     };
-    match sheet_of(rt.alloc(), sheet_kind(told.deed), &text)? {
+    match sheet_of(rt.alloc(), told.kind, &text)? {
         Ok(_) => Ok(Ok(text)),
         Err(refusal) => Ok(Err(refusal)),
     }
@@ -168,10 +156,10 @@ pub(crate) fn lines_in(
     text: &[u8],
 ) -> Result<Option<Vec<Goods>>, AllocError>
     ensures { (sheet : List Line)
-        → sheet_of_text Two (meant.kind_of told.now.deed) text.now ≡ Ok sheet
+        → sheet_of_text Two told.now.kind text.now ≡ Ok sheet
         → IfOk result (λ found. option_map (λ lines. lines.items) found ≡ Some sheet) }
 {
-    match sheet(alloc, sheet_kind(told.deed), text)? {
+    match sheet(alloc, told.kind, text)? {
         Ok(sheet) => Ok(Some(sheet.lines(alloc)?)),
         Err(_) => Ok(None),
     }
@@ -186,6 +174,6 @@ pub fn clerk<'a>(slip: &'a Slip<'_>) -> Command<'a>
     Command::Clerk {
         who: slip.who,
         ticket: told.ticket.as_bytes(),
-        act: act_of(sheet_kind(told.deed), told.number.as_bytes(), &slip.sheet),
+        act: act_of(told.kind, told.number.as_bytes(), &slip.sheet),
     }
 }

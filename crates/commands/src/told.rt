@@ -10,7 +10,7 @@ use std::io;
 use store::{Fault, Refusal};
 
 /// How a command, or a whole script, ended.
-#[derive(Clone, Copy, Debug, PartialEq, Eq)]
+#[derive(Clone, Copy, PartialEq, Eq)]
 pub enum ExitStatus {
     /// All was done.
     Done,

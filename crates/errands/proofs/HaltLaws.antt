@@ -1,5 +1,5 @@
 -- What stops a command at a server.
-use Rattle.std.proofs.Common.{ℕ, List, inl, inr}
+use Rattle.std.proofs.Common.{ℕ, List, inr}
 use Rattle.commands.specs.declared.told.CommandError.{CommandError}
 use Rattle.remote.specs.declared.answers.Answer.{Answer}
 use Rattle.remote.specs.declared.requests.Verb.{Verb}

@@ -9,10 +9,9 @@ use Rattle.profile.specs.Bytes.{is_identifier, is_identifier_byte, is_alphanumer
 use Rattle.profile.specs.Header.{Who, who_of, who_text, is_partner}
 use Rattle.profile.specs.Limits.{most_ticket, most_number}
 use Rattle.profile.proofs.TextLaws.{both_parts, text_is}
-use Rattle.commands.specs.Clerks.{kind_of}
 use Rattle.intake.specs.Calls.{ToOrder, ToExport, ToOpen, ToDepositors, call_of, call_in, is_named, owner_of}
-use Rattle.command_line.specs.declared.words.Deed.{Deed}
-use Rattle.command_line.specs.declared.words.Deed.TheVariants as deed
+use Rattle.profile.specs.declared.sheet_kind.SheetKind.{SheetKind}
+use Rattle.profile.specs.declared.sheet_kind.SheetKind.TheVariants.{Count, Pick, Recount}
 use Rattle.errands.specs.Paths.{path_text, deed_text, deed_call}
 
 -- the parts between slashes
@@ -107,19 +106,19 @@ who_whole text w h = by (is_partner v && same) refl h
         subst Whole (text_is (who_text v) text both.1) (both_whole (v.qualifier ++ codes "-") v.id (both_whole v.qualifier (codes "-") q refl) i)
 
 -- a server finds a deed where its words lead
-pub deed_found : (d : Deed) (who ticket number : List ℕ) (w : Who) → (if is_identifier 1 most_ticket ticket && is_named (kind_of d) number then who_of who else None) ≡ Some w
+pub deed_found : (d : SheetKind) (who ticket number : List ℕ) (w : Who) → (if is_identifier 1 most_ticket ticket && is_named d number then who_of who else None) ≡ Some w
     → call_of (deed_text d who ticket number) ≡ Some (deed_call d who ticket number)
-deed_found d who ticket number w h = by (is_identifier 1 most_ticket ticket && is_named (kind_of d) number) refl h
+deed_found d who ticket number w h = by (is_identifier 1 most_ticket ticket && is_named d number) refl h
   where
-    found : (d : Deed) → Whole who → Whole ticket → is_named (kind_of d) number ≡ true → call_of (deed_text d who ticket number) ≡ Some (deed_call d who ticket number)
-    found deed.Count u t n = ap call_in (path_parts (codes "count") (who ∷ ticket ∷ number ∷ []) refl (u, (t, (identifier_whole 1 most_number number n, tt))))
-    found deed.Pick u t n = ap call_in (path_parts (codes "pick") (who ∷ ticket ∷ number ∷ []) refl (u, (t, (identifier_whole 1 most_number number n, tt))))
-    found deed.Recount u t n = ap call_in (path_parts (codes "recount") (who ∷ ticket ∷ []) refl (u, (t, tt)))
+    found : (d : SheetKind) → Whole who → Whole ticket → is_named d number ≡ true → call_of (deed_text d who ticket number) ≡ Some (deed_call d who ticket number)
+    found Count u t n = ap call_in (path_parts (codes "count") (who ∷ ticket ∷ number ∷ []) refl (u, (t, (identifier_whole 1 most_number number n, tt))))
+    found Pick u t n = ap call_in (path_parts (codes "pick") (who ∷ ticket ∷ number ∷ []) refl (u, (t, (identifier_whole 1 most_number number n, tt))))
+    found Recount u t n = ap call_in (path_parts (codes "recount") (who ∷ ticket ∷ []) refl (u, (t, tt)))
 
-    by : (c : Bool) → (is_identifier 1 most_ticket ticket && is_named (kind_of d) number) ≡ c → (if c then who_of who else None) ≡ Some w → call_of (deed_text d who ticket number) ≡ Some (deed_call d who ticket number)
+    by : (c : Bool) → (is_identifier 1 most_ticket ticket && is_named d number) ≡ c → (if c then who_of who else None) ≡ Some w → call_of (deed_text d who ticket number) ≡ Some (deed_call d who ticket number)
     by false e k = absurd (cc)
     by true e k =
-        let both = both_parts (is_identifier 1 most_ticket ticket) (is_named (kind_of d) number) e in
+        let both = both_parts (is_identifier 1 most_ticket ticket) (is_named d number) e in
         found d (who_whole who w k) (identifier_whole 1 most_ticket ticket both.0) both.1
 
 -- and a picking sheet where it stands

@@ -1,12 +1,11 @@
 -- What a line asks of a server.
 use Rattle.std.specs.Prelude.{◌≡◌, ℕ, false, true, List, Some, Ok}
-use Rattle.profile.specs.declared.rules.Rules.TheVariants.{Two}
 use Rattle.profile.specs.declared.limits.TheConstants.{MOST_BYTES}
 use Rattle.profile.specs.Header.{Who}
 use Rattle.profile.specs.Means.{Line}
 use Rattle.store.specs.Refusal.{Refusal}
 use Rattle.store.specs.Refusal.TheVariants.{BadText, Unreadable}
-use Rattle.commands.specs.Clerks.{IsNoSlip, depositor_of, kind_of, sheet_read}
+use Rattle.commands.specs.Clerks.{IsNoSlip, depositor_of, sheet_read}
 use Rattle.commands.specs.Looking.{is_readable}
 use Rattle.commands.specs.Readying.{IsLonger}
 use Rattle.command_line.specs.declared.words.BookAct.TheVariants as act
@@ -21,7 +20,7 @@ pub record IsDeed (t : ClerkWords) (text : List ℕ) : Type 0 where
   pub who : Who
   pub named : depositor_of t ≡ Some who
   pub sheet : List Line
-  pub read : sheet_read (kind_of t.deed) text ≡ Ok sheet
+  pub read : sheet_read t.kind text ≡ Ok sheet
 
 -- it is what the line asks for; the bytes of an interchange may be any
 abbrev pub IsErrandFor : Task → Errand → Type 0

@@ -8,7 +8,7 @@ use Rattle.store.specs.Refusal.{Refusal}
 use Rattle.store.specs.Refusal.TheVariants as refusals
 use Rattle.store.specs.Fault.{Fault}
 use Rattle.store.specs.Fault.TheVariants as faults
-use Rattle.commands.specs.Telling.{line_of}
+use Rattle.commands.specs.Telling.{line_of, refusal_line}
 use Rattle.commands.specs.Stops.{IsDeviceFault, fault_in}
 use Rattle.commands.specs.declared.told.CommandError.{CommandError}
 use Rattle.commands.specs.declared.told.ExitStatus.{ExitStatus}
@@ -158,3 +158,8 @@ IsHalted h stop = by (stop_of h)
 -- nothing went out under the number that was asked for, which the status alone says
 abbrev pub TellsNothing : Option (List ℕ) → Option (List ℕ) → ExitStatus → Type 0
 TellsNothing before after status = Appends before after [] × (status ≡ statuses.Refused)
+
+-- what is told of an answer on standard error: the line of a refusal
+abbrev pub told_line : Answered → List ℕ
+told_line (Refused refusal) = refusal_line refusal
+told_line other = []

@@ -1,11 +1,9 @@
 -- The paths at which a server takes what it is asked for.
 use Rattle.std.specs.Prelude.{ℕ, true, false, List, [], ◌∷◌, ◌++◌, Option, Some, None, codes, decimal, flat_map}
-use Rattle.profile.specs.Clerk.{RecountSheet}
-use Rattle.commands.specs.Clerks.{kind_of}
 use Rattle.intake.specs.Calls.{Call, ToDeed, ToOrder, ToExport, ToOpen, ToDepositors}
 use Rattle.command_line.specs.declared.words.ClerkWords.{ClerkWords}
-use Rattle.command_line.specs.declared.words.Deed.{Deed}
-use Rattle.command_line.specs.declared.words.Deed.TheVariants as deed
+use Rattle.profile.specs.declared.sheet_kind.SheetKind.{SheetKind}
+use Rattle.profile.specs.declared.sheet_kind.SheetKind.TheVariants.{Count, Pick, Recount}
 use Rattle.command_line.specs.declared.words.Show.{Show}
 use Rattle.command_line.specs.declared.words.Show.TheVariants as show
 
@@ -13,18 +11,18 @@ use Rattle.command_line.specs.declared.words.Show.TheVariants as show
 abbrev pub path_text : List (List ℕ) → List ℕ
 path_text parts = flat_map (λ (part : List ℕ). codes "/" ++ part) parts
 
-abbrev pub name_of : Deed → List ℕ
-name_of deed.Count = codes "count"
-name_of deed.Pick = codes "pick"
-name_of deed.Recount = codes "recount"
+abbrev pub name_of : SheetKind → List ℕ
+name_of Count = codes "count"
+name_of Pick = codes "pick"
+name_of Recount = codes "recount"
 
 -- a recount has no number
-abbrev pub deed_text : Deed → List ℕ → List ℕ → List ℕ → List ℕ
-deed_text deed.Recount who ticket number = path_text (name_of deed.Recount ∷ who ∷ ticket ∷ [])
+abbrev pub deed_text : SheetKind → List ℕ → List ℕ → List ℕ → List ℕ
+deed_text Recount who ticket number = path_text (name_of Recount ∷ who ∷ ticket ∷ [])
 deed_text d who ticket number = path_text (name_of d ∷ who ∷ ticket ∷ number ∷ [])
 
 abbrev pub deed_path : ClerkWords → List ℕ
-deed_path t = deed_text t.deed t.who.now t.ticket.now t.number.now
+deed_path t = deed_text t.kind t.who.now t.ticket.now t.number.now
 
 abbrev pub text_path : List ℕ → ℕ → List ℕ
 text_path who n = path_text (codes "outbox" ∷ who ∷ decimal n ∷ [])
@@ -39,9 +37,9 @@ look_path (show.Outbox who (Some n)) = text_path who.now n
 look_path show.Depositors = path_text (codes "depositors" ∷ [])
 
 -- what a server finds at the path of a deed, and at those of what only clerks are shown
-abbrev pub deed_call : Deed → List ℕ → List ℕ → List ℕ → Call
-deed_call deed.Recount who ticket number = ToDeed RecountSheet who ticket []
-deed_call d who ticket number = ToDeed (kind_of d) who ticket number
+abbrev pub deed_call : SheetKind → List ℕ → List ℕ → List ℕ → Call
+deed_call Recount who ticket number = ToDeed Recount who ticket []
+deed_call d who ticket number = ToDeed d who ticket number
 
 abbrev pub show_call : Show → Option Call
 show_call (show.Order who number) = Some (ToOrder who.now number.now)

@@ -7,7 +7,7 @@ use segments::{all_digits, value_up_to};
 use store::{Fault, Refusal};
 
 /// What an answer of a server comes to.
-#[derive(Clone, Copy, Debug, PartialEq, Eq)]
+#[derive(Clone, Copy, PartialEq, Eq)]
 pub enum Answered {
     /// What was asked for is done.
     Done,

@@ -32,7 +32,8 @@ pub fn an_interchange_is_told_as_over_the_book(reply: &Reply)
 /// posted.
 pub fn an_act_is_asked_where_it_is_taken(told: &ClerkWords<'_>)
     ensures { (who : Partner) → depositor_of told.now ≡ Some who
-        → call_of (deed_path told.now) ≡ Some (deed_call told.now.deed told.now.who.now told.now.ticket.now
+        → call_of (deed_path told.now)
+        ≡ Some (deed_call told.now.kind told.now.who.now told.now.ticket.now
         told.now.number.now) }
 {
     let _ = told;

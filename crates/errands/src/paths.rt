@@ -2,19 +2,20 @@
 ghost use Rattle.std.specs.Prelude.{◌≡◌, ◌∷◌, [], IfOk, string_bytes};
 ghost use Rattle.errands.specs.Paths as meant;
 
-use command_line::{ClerkWords, Deed, Show};
+use command_line::{ClerkWords, Show};
 use itoa::Buffer;
+use profile::SheetKind;
 use remote::path_of;
 use std::alloc::{AllocError, Global};
 
 // The word of a deed in its path.
-fn name_of(deed: Deed) -> &'static str
-    ensures { result.now ≡ meant.name_of deed }
+fn name_of(kind: SheetKind) -> &'static str
+    ensures { result.now ≡ meant.name_of kind }
 {
-    match deed {
-        Deed::Count => "count",
-        Deed::Pick => "pick",
-        Deed::Recount => "recount",
+    match kind {
+        SheetKind::Count => "count",
+        SheetKind::Pick => "pick",
+        SheetKind::Recount => "recount",
     }
 }
 
@@ -49,9 +50,9 @@ fn path_with<'a>(
 pub(crate) fn deed_path(alloc: Global, told: &ClerkWords<'_>) -> Result<String, AllocError>
     ensures { IfOk result (λ path. string_bytes path ≡ meant.deed_path told.now) }
 {
-    let name = name_of(told.deed);
-    match told.deed {
-        Deed::Recount => path_without(alloc, name, told.who, told.ticket),
+    let name = name_of(told.kind);
+    match told.kind {
+        SheetKind::Recount => path_without(alloc, name, told.who, told.ticket),
         _ => path_with(alloc, name, told.who, told.ticket, told.number),
     }
 }

@@ -1,7 +1,8 @@
 //! A running server asked, and its answer told.
-ghost use Rattle.std.specs.Prelude.{◌≡◌, [], IfOk, IfErr, None, Some};
+ghost use Rattle.std.specs.Prelude.{◌≡◌, [], IfOk, IfErr, OnOk, None, Some};
+ghost use Rattle.std.specs.Io.KnownBytes.{Appends};
 ghost use Rattle.commands.specs.Stops.{IsDeviceFault, fault_in};
-ghost use Rattle.errands.specs.Heard.{IsHalted, IsStatus, IsTold, stop_of, heard as heard_of, heard_look as look_of, heard_report as report_of, printed_document, printed_report};
+ghost use Rattle.errands.specs.Heard.{IsHalted, IsStatus, IsTold, stop_of, told_line, heard as heard_of, heard_look as look_of, heard_report as report_of, printed_document, printed_report};
 ghost use Rattle.errands.specs.Carried.{IsCarried, IsContent, IsHaltedThere, IsExported, IsLooked, IsPosted, IsReported, IsShown};
 ghost use Rattle.errands.specs.Paths.{look_path as path_for};
 
@@ -24,6 +25,8 @@ fn tell_heard<E: io::Write>(
     err: &mut E,
 ) -> Result<ExitStatus, CommandError>
     ensures status { IfOk result (IsStatus heard) }
+    ensures said { OnOk result
+        (Appends (E.contents err.old) (E.contents err.new) (told_line heard)) }
     ensures halted { IfErr result (IsHalted heard) }
 {
     match heard {
@@ -45,6 +48,8 @@ pub fn tell_document<W: io::Write, E: io::Write>(
         (printed_document answer.now.is_interchange answer.now.body.items)
         (heard_of answer.now.status answer.now.is_interchange answer.now.body.items)
         (W.contents out.old) (W.contents out.new) status) }
+    ensures said { OnOk result (Appends (E.contents err.old) (E.contents err.new) (told_line
+        (heard_of answer.now.status answer.now.is_interchange answer.now.body.items))) }
     ensures halted { IfErr result
         (IsHalted (heard_of answer.now.status answer.now.is_interchange answer.now.body.items)) }
 {
@@ -69,6 +74,8 @@ fn tell_query<W: io::Write, E: io::Write>(
     ensures told { IfOk result (λ status. IsTold
         (printed_report answer.now.status answer.now.body.items) heard
         (W.contents out.old) (W.contents out.new) status) }
+    ensures said { OnOk result
+        (Appends (E.contents err.old) (E.contents err.new) (told_line heard)) }
     ensures halted { IfErr result (IsHalted heard) }
 {
     if let Answered::Stopped(fault) = heard {
@@ -91,6 +98,8 @@ pub fn tell_report<W: io::Write, E: io::Write>(
         (printed_report answer.now.status answer.now.body.items)
         (report_of answer.now.status answer.now.is_interchange answer.now.body.items)
         (W.contents out.old) (W.contents out.new) status) }
+    ensures said { OnOk result (Appends (E.contents err.old) (E.contents err.new) (told_line
+        (report_of answer.now.status answer.now.is_interchange answer.now.body.items))) }
     ensures halted { IfErr result
         (IsHalted (report_of answer.now.status answer.now.is_interchange answer.now.body.items)) }
 {
@@ -109,6 +118,8 @@ pub fn tell_look<W: io::Write, E: io::Write>(
         (printed_report answer.now.status answer.now.body.items)
         (look_of answer.now.status answer.now.is_interchange answer.now.body.items)
         (W.contents out.old) (W.contents out.new) status) }
+    ensures said { OnOk result (Appends (E.contents err.old) (E.contents err.new) (told_line
+        (look_of answer.now.status answer.now.is_interchange answer.now.body.items))) }
     ensures halted { IfErr result
         (IsHalted (look_of answer.now.status answer.now.is_interchange answer.now.body.items)) }
 {

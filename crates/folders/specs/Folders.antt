@@ -52,6 +52,11 @@ pub record AreTaken (old new : Standing) (t : Moment) (texts : List (List ℕ)) 
       → IsUsable new (accepted_on Two old.warehouse L (handed t texts))
   pub keeps : OfKept old new (λ L. KeepsLegal new (accepted_on Two old.warehouse L (handed t texts)))
 
+-- a text was handed in, and this became of it
+abbrev pub IsTaken : Standing → Standing → Moment → FileOutcome → Type 0
+IsTaken old new t outcome = (text : List ℕ)
+    × AreTaken old new t (text ∷ []) (became_of outcome ∷ [])
+
 -- The texts were handed in, and one more perhaps. The register is the one after those, or after
 -- that one too; a crash leaves one of the two, also where the book has to be opened again.
 pub record AreTakenUntil (old new : Standing) (t : Moment) (texts : List (List ℕ)) (last : List ℕ) : Type 0 where

@@ -1,6 +1,6 @@
-ghost use Rattle.std.specs.Prelude.{◌≡◌, ◌<◌, ◌∷◌, ◌++◌, [], ℕ, List, false, map, IfOk, IfErr, IfNone, OnOk, IsSorted, codes, string_bytes, vec_len, vec_capacity};
+ghost use Rattle.std.specs.Prelude.{◌≡◌, ◌<◌, ◌++◌, ℕ, List, false, map, IfOk, IfErr, IfNone, OnOk, IsSorted, codes, string_bytes, vec_len, vec_capacity};
 ghost use Rattle.std.specs.IoError.{error_kind};
-ghost use Rattle.folders.specs.Folders.{became, became_of, fault_of_kind, IsDeviceFault, AreTaken, IsUntaken, IsStopped};
+ghost use Rattle.folders.specs.Folders.{became, became_of, fault_of_kind, IsDeviceFault, AreTaken, IsTaken, IsUntaken, IsStopped};
 ghost use Rattle.folders.specs.Stops.{IsUnread, IsFolderStop};
 ghost use Rattle.store.specs.Runs.{told};
 ghost use Rattle.store.specs.Standing.{GoesOn, IsUnchanged};
@@ -15,7 +15,7 @@ use std::rt::Files;
 use store::{Command, Fault, Keeper, Moment, Refusal, Reply, submit};
 
 /// What became of the interchange in a file.
-#[derive(Clone, Copy, Debug, PartialEq, Eq)]
+#[derive(Clone, Copy, PartialEq, Eq)]
 pub enum FileOutcome {
     /// It is accepted.
     Accepted,
@@ -108,9 +108,7 @@ fn take_file<R: Files + AllocGlobal, K: Keeper>(
     moment: Moment,
 ) -> Result<FileOutcome, Fault>
     ensures taken { IfOk result
-        (λ outcome. (text : List ℕ)
-        × AreTaken (K.standing keeper.old) (K.standing keeper.new) moment (text
-        ∷ []) (became_of outcome ∷ [])) }
+        (IsTaken (K.standing keeper.old) (K.standing keeper.new) moment) }
     ensures stopped { IfErr result
         (λ fault. IsUntaken fault (K.standing keeper.old) (K.standing keeper.new) moment) }
     ensures opened { OnOk result ((K.standing keeper.old).shut ≡ (K.standing keeper.new).shut) }
@@ -159,9 +157,7 @@ fn take_named<R: Files + AllocGlobal, K: Keeper>(
     moment: Moment,
 ) -> Result<FileOutcome, Fault>
     ensures taken { IfOk result
-        (λ outcome. (text : List ℕ)
-        × AreTaken (K.standing keeper.old) (K.standing keeper.new) moment (text
-        ∷ []) (became_of outcome ∷ [])) }
+        (IsTaken (K.standing keeper.old) (K.standing keeper.new) moment) }
     ensures stopped { IfErr result
         (λ fault. IsUntaken fault (K.standing keeper.old) (K.standing keeper.new) moment) }
     ensures opened { OnOk result ((K.standing keeper.old).shut ≡ (K.standing keeper.new).shut) }

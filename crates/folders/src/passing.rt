@@ -3,7 +3,7 @@ ghost use Rattle.std.specs.Prelude.{◌≡◌};
 ghost use Rattle.folders.specs.Passing as meant;
 
 /// Why an entry that may be meant as an interchange isn't handed in.
-#[derive(Clone, Copy, Debug, PartialEq, Eq)]
+#[derive(Clone, Copy, PartialEq, Eq)]
 pub enum WhyPassed {
     /// It is a folder, a pipe, a socket, a device, or a link that leads to no regular file.
     NoFile,

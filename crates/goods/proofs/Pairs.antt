@@ -10,7 +10,8 @@ use Rattle.profile.specs.Bytes.{comes_before, is_identifier}
 use Rattle.profile.specs.Limits.{most_recounted, most_lines, most_item, most_lot}
 use Rattle.profile.specs.Means.{Line}
 use Rattle.profile.specs.Events.{is_pair, quantity_of, pair_before}
-use Rattle.profile.specs.Clerk.{is_ascending, is_sheet, is_sheet_line, RecountSheet}
+use Rattle.profile.specs.Clerk.{is_ascending, is_sheet, is_sheet_line}
+use Rattle.profile.specs.declared.sheet_kind.SheetKind.TheVariants.{Recount as RecountSheet}
 use Rattle.goods.proofs.Texts.{texts_never, texts_through, texts_total}
 use Rattle.goods.proofs.OfPairLemmas.{pair_is}
 use Rattle.goods.proofs.Sums.{share, quantity_as}

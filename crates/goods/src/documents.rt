@@ -7,7 +7,7 @@ use sets_in::AckIn;
 use std::marker::Model;
 
 /// What kind of document was sent.
-#[derive(Clone, Copy, Debug, PartialEq, Eq)]
+#[derive(Clone, Copy, PartialEq, Eq)]
 pub enum Function {
     /// A receipt advice (944, of a group RE).
     Receipt,
@@ -31,7 +31,7 @@ impl Function {
 }
 
 /// A document that was sent.
-#[derive(Clone, Debug, Drop)]
+#[derive(Drop)]
 pub struct KnownDocument {
     /// The number of its entry, 1 to 999,999.
     pub n: u32,

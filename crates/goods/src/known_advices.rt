@@ -11,7 +11,7 @@ use std::alloc::AllocError;
 use std::marker::Model;
 
 /// An advice as a page has it.
-#[derive(Clone, Debug, Drop)]
+#[derive(Clone, Drop)]
 pub struct KnownAdvice {
     shipment: Vec<u8>,
     order: Vec<u8>,

@@ -9,7 +9,7 @@ use std::alloc::AllocError;
 use std::marker::Model;
 
 /// A line of an order as a page has it.
-#[derive(Clone, Debug, Drop)]
+#[derive(Clone, Drop)]
 pub struct KnownLine {
     /// Its item.
     pub item: Vec<u8>,
@@ -30,7 +30,7 @@ impl Model for KnownLine {
 }
 
 /// An order as a page has it.
-#[derive(Clone, Debug, Drop)]
+#[derive(Clone, Drop)]
 pub struct KnownOrder {
     /// Its number, 1 to 22 bytes.
     pub number: Vec<u8>,

@@ -14,7 +14,7 @@ use std::alloc::{AllocError, Global};
 use std::marker::Model;
 
 // A lot with its date, if it has one, and the number of the first count that named it.
-#[derive(Debug, Drop)]
+#[derive(Drop)]
 struct Ranked {
     expiry: Option<Vec<u8>>,
     since: u32,

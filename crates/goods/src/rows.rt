@@ -13,7 +13,7 @@ use std::alloc::{AllocError, Global};
 use std::marker::Model;
 
 /// An amount of a row.
-#[derive(Clone, Copy, Debug, PartialEq, Eq)]
+#[derive(Clone, Copy, PartialEq, Eq)]
 pub enum Column {
     /// What is announced and not counted yet.
     Expected,
@@ -26,7 +26,7 @@ pub enum Column {
 }
 
 /// What there is of a pair of an item and a lot. Amounts are in the unit EA.
-#[derive(Clone, Debug, Drop)]
+#[derive(Clone, Drop)]
 pub struct Row {
     /// The item, 1 to 20 bytes.
     pub item: Vec<u8>,

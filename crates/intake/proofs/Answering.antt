@@ -20,7 +20,7 @@ use Rattle.intake.specs.declared.audience.Audience.{Audience}
 use Rattle.intake.specs.declared.audience.Audience.TheVariants.{Partners, Clerks}
 use Rattle.intake.specs.declared.served.RequestLine.{RequestLine}
 use Rattle.intake.specs.Requests.{most_head, most_fields, IsInput, HasNoHead}
-use Rattle.intake.specs.Serving.{IsAnswered, IsExchange, IsExchangeBehind, command_in, answer_of}
+use Rattle.intake.specs.Serving.{IsAnswered, IsExchange, IsExchangeAfter, command_in, answer_of}
 use Rattle.intake.specs.Targets.{Target, target_of, target_command, target_resp, has_body, asked_with, command_with}
 use Rattle.intake.proofs.Heads.{head_within}
 use Rattle.intake.proofs.Filling.{own_input, had_input, more_input}
@@ -68,7 +68,7 @@ module _ (audience : Audience) (known : Option (List ℕ)) (t : Moment) (h : Req
   -- by a test that fails before the book is asked
   module _ (s : Standing) where
     at_test : (input : List ℕ) (status : ℕ) → IsInput known input → asked_with (head_of h) (target_of audience h.target) (start ++ input) ≡ Err status → r ≡ bare status
-        → sender ≡ None → IsExchangeBehind audience s s known t h start r sender
+        → sender ≡ None → IsExchangeAfter audience s s known t h start r sender
     at_test input status i q is none = record {
       input = input;
       is_input = i;
@@ -77,21 +77,21 @@ module _ (audience : Audience) (known : Option (List ℕ)) (t : Moment) (h : Req
       shut = asked_by s r audience h (start ++ input) (Err status) q (unasked s false r refl);
     }
 
-    pub encoded : (head_of h).is_encoded ≡ true → r ≡ bare 501 → sender ≡ None → IsExchangeBehind audience s s known t h start r sender
+    pub encoded : (head_of h).is_encoded ≡ true → r ≡ bare 501 → sender ≡ None → IsExchangeAfter audience s s known t h start r sender
     encoded e is none = at_test (unwrap_or known []) 501 (own_input known) (asked_encoded (head_of h) _ _ e) is none
 
     pub refused : (status : ℕ) → (head_of h).is_encoded ≡ false → has_body (head_of h).method (target_of audience h.target) ≡ true
-        → stated_length (head_of h).lengths ≡ Err status → r ≡ bare status → sender ≡ None → IsExchangeBehind audience s s known t h start r sender
+        → stated_length (head_of h).lengths ≡ Err status → r ≡ bare status → sender ≡ None → IsExchangeAfter audience s s known t h start r sender
     refused status e x l is none = at_test (unwrap_or known []) status (own_input known) (asked_badly (head_of h) _ _ status e x l) is none
 
     pub cut_off : (n : ℕ) (input tail : List ℕ) → tail ≡ start → IsInput known input → (head_of h).is_encoded ≡ false
         → has_body (head_of h).method (target_of audience h.target) ≡ true → stated_length (head_of h).lengths ≡ Ok n
-        → length (tail ++ input) < n → r ≡ bare 400 → sender ≡ None → IsExchangeBehind audience s s known t h start r sender
+        → length (tail ++ input) < n → r ≡ bare 400 → sender ≡ None → IsExchangeAfter audience s s known t h start r sender
     cut_off n input tail same i e x l short is none =
         at_test input 400 i (asked_cut_off (head_of h) _ _ n e x l (subst (λ (b : List ℕ). length (b ++ input) < n) same short)) is none
 
     -- where memory is wanting
-    pub wanting : r ≡ fault_response OutOfMemory → sender ≡ None → IsExchangeBehind audience s s known t h start r sender
+    pub wanting : r ≡ fault_response OutOfMemory → sender ≡ None → IsExchangeAfter audience s s known t h start r sender
     wanting is none = record {
       input = unwrap_or known [];
       is_input = own_input known;
@@ -116,7 +116,7 @@ module _ (audience : Audience) (known : Option (List ℕ)) (t : Moment) (h : Req
     Sent body = sender ≡ sender_in (target_command (head_of h).method (target_of audience h.target) body)
 
     pub queried : (head_of h).is_encoded ≡ false → has_body (head_of h).method (target_of audience h.target) ≡ false → Told [] → Shut [] → Sent []
-        → IsExchangeBehind audience old new known t h start r sender
+        → IsExchangeAfter audience old new known t h start r sender
     queried e x is shut from =
         let rest : List ℕ = start ++ unwrap_or known [] in
         let q : asked_with (head_of h) (target_of audience h.target) rest ≡ Ok [] = asked_else (head_of h) _ rest e x in
@@ -130,7 +130,7 @@ module _ (audience : Audience) (known : Option (List ℕ)) (t : Moment) (h : Req
 
     pub handed : (n : ℕ) (input body tail : List ℕ) → tail ≡ start → IsInput known input → (head_of h).is_encoded ≡ false
         → has_body (head_of h).method (target_of audience h.target) ≡ true → stated_length (head_of h).lengths ≡ Ok n
-        → n ≤ length (tail ++ input) → body ≡ take n (tail ++ input) → Told body → Shut body → Sent body → IsExchangeBehind audience old new known t h start r sender
+        → n ≤ length (tail ++ input) → body ≡ take n (tail ++ input) → Told body → Shut body → Sent body → IsExchangeAfter audience old new known t h start r sender
     handed n input body tail same i e x l fits b is shut from =
         let q : asked_with (head_of h) (target_of audience h.target) (start ++ input) ≡ Ok body =
         asked_whole (head_of h) _ (start ++ input) n e x l (subst (λ (k : List ℕ). n ≤ length (k ++ input)) same fits)
@@ -183,7 +183,7 @@ line_read (Some line) known mid got fields spans h room many within at bytes cop
 -- the answer to a head is the answer to the input that begins with it
 pub whole_answer : (audience : Audience) (old new : Standing) (t : Moment) (known mid : Option (List ℕ)) (got : List ℕ) (fields : List HeaderSpan) (spans : RequestSpans) (h : RequestHead) (r : Response) (line : Option RequestLine) (sender : Option Who)
     → length got ≤ most_head → length fields ≤ most_fields → IsRequestWithin got fields spans → IsRequestAt got fields spans h → Consumes known mid got → IfSome line (IsLineAt got spans)
-    → IsExchangeBehind audience old new mid t h (drop spans.len got) r sender → IsExchange audience old new known t r line sender
+    → IsExchangeAfter audience old new mid t h (drop spans.len got) r sender → IsExchange audience old new known t r line sender
 whole_answer audience old new t known mid got fields spans h r line sender room many within at bytes copied answer = record {
   input = got ++ answer.input;
   is_input = more_input known mid got answer.input bytes answer.is_input;

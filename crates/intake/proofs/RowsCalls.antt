@@ -1,7 +1,7 @@
 -- Worked examples: what paths call for, and the statuses of deeds.
 use Rattle.std.specs.Prelude.{◌≡◌, ℕ, List, [], ◌++◌, Some, None, codes}
 use Rattle.std.proofs.Common.{refl}
-use Rattle.profile.specs.Clerk.{CountSheet, PickSheet, RecountSheet}
+use Rattle.profile.specs.declared.sheet_kind.SheetKind.TheVariants.{Count as CountSheet, Pick as PickSheet, Recount as RecountSheet}
 use Rattle.profile.specs.declared.refusals.Refusal.TheVariants.{UnknownDepositor, TicketUsed, UnknownAdvice, OrderClosed, NumbersUsedUp}
 use Rattle.profile.specs.Reply.{Accepted, Stored, Refused}
 use Rattle.profile.specs.Moments.{Moment}

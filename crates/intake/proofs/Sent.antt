@@ -3,7 +3,7 @@ use Rattle.std.proofs.Common.{◌≡◌, ℕ, List, Bool, true, false, Option, S
 use Rattle.std.specs.Prelude.{Result, Ok, Err, option_map}
 use Rattle.profile.specs.declared.rules.Rules.TheVariants.{Two}
 use Rattle.profile.specs.Accepted.{depositor_of, subject}
-use Rattle.profile.specs.Clerk.{SheetKind}
+use Rattle.profile.specs.declared.sheet_kind.SheetKind.{SheetKind}
 use Rattle.profile.specs.Header.{Who}
 use Rattle.profile.specs.Means.{Line}
 use Rattle.profile.specs.declared.refusals.Refusal.{Refusal}

@@ -3,7 +3,8 @@ use Rattle.std.specs.Prelude.{ℕ, Bool, true, false, ◌&&◌, ◌==◌, List, 
 use Rattle.profile.specs.declared.rules.Rules.TheVariants.{Two}
 use Rattle.profile.specs.Accepted.{reply_to}
 use Rattle.profile.specs.Bytes.{is_identifier}
-use Rattle.profile.specs.Clerk.{SheetKind, CountSheet, PickSheet, RecountSheet}
+use Rattle.profile.specs.declared.sheet_kind.SheetKind.{SheetKind}
+use Rattle.profile.specs.declared.sheet_kind.SheetKind.TheVariants.{Count as CountSheet, Pick as PickSheet, Recount as RecountSheet}
 use Rattle.profile.specs.Decision.{standing}
 use Rattle.profile.specs.Header.{Who, who_of}
 use Rattle.profile.specs.History.{History}

@@ -6,7 +6,7 @@ use Rattle.profile.specs.Moments.{Moment}
 use Rattle.profile.specs.Header.{Who}
 use Rattle.profile.specs.Register.{Command, Entry, Interchange}
 use Rattle.profile.specs.Accepted.{IsLegal, is_accepted, reply_to, after}
-use Rattle.profile.specs.Response.{Response, fault_response, response_to, submitted, response_bytes}
+use Rattle.profile.specs.Response.{Method, Response, fault_response, response_to, submitted, response_bytes}
 use Rattle.store.specs.Standing.{Standing, IsUsable, IsUnchanged, IsFault, LeavesEither}
 use Rattle.store.specs.Fault.{Fault}
 use Rattle.std.specs.Io.KnownBytes.{Appends}
@@ -15,8 +15,8 @@ use Rattle.intake.specs.Asking.{asks_in, IsShutAnswer}
 use Rattle.intake.specs.Requests.{HasHead, HasNoHead, IsInput}
 use Rattle.intake.specs.Fields.{head_of}
 use Rattle.intake.specs.Lines.{TellsOf, HasLine, TellsSender}
-use Rattle.intake.specs.Calls.{Call, call_of}
-use Rattle.intake.specs.Targets.{ToCall, asked_with, command_with, response_with}
+use Rattle.intake.specs.Calls.{Call, call_of, call_command, call_resp}
+use Rattle.intake.specs.Targets.{Target, ToCall, asked_with, command_with, response_with, target_command, target_resp}
 use Rattle.intake.specs.declared.audience.Audience.{Audience}
 use Rattle.intake.specs.declared.audience.Audience.TheVariants.{Partners, Clerks}
 use Rattle.intake.specs.declared.served.RequestLine.{RequestLine}
@@ -75,6 +75,17 @@ abbrev pub IsAnswered : Standing → Standing → Moment → Option Command → 
 IsAnswered old new t submits meant r = IsServed old new t submits meant r
     ⊎ IsFaulted old new t submits r
 
+-- the same of what is asked of a target, and of what a path calls for, with this body
+abbrev pub IsTargetAnswered : Standing → Standing → Moment → Method → Target → List ℕ → Response
+    → Type 0
+IsTargetAnswered old new t method to body r = IsAnswered old new t (target_command method to body)
+    (λ L. target_resp old.warehouse L method to body t) r
+
+abbrev pub IsCallAnswered : Standing → Standing → Moment → Method → Call → List ℕ → Response
+    → Type 0
+IsCallAnswered old new t method call body r = IsAnswered old new t (call_command method call body)
+    (λ L. call_resp old.warehouse L method call body t) r
+
 -- what an input begins with: a head, and what is after it; or none
 abbrev pub BeginsWith : List ℕ → Option RequestHead → List ℕ → Type 0
 BeginsWith input None rest = HasNoHead input
@@ -95,7 +106,7 @@ pub record IsExchange (audience : Audience) (old new : Standing) (known : Option
   pub shut : IsShutAnswer old (asks_in audience head rest) r
 
 -- the same of a request whose head was read, with the first bytes of what is after it
-pub record IsExchangeBehind (audience : Audience) (old new : Standing) (known : Option (List ℕ)) (t : Moment) (h : RequestHead) (start : List ℕ) (r : Response) (sender : Option Who) : Type 0 where
+pub record IsExchangeAfter (audience : Audience) (old new : Standing) (known : Option (List ℕ)) (t : Moment) (h : RequestHead) (start : List ℕ) (r : Response) (sender : Option Who) : Type 0 where
   pub input : List ℕ
   pub is_input : IsInput known input
   pub sent : TellsSender sender (command_in audience (Some h) (start ++ input)) r

@@ -3,10 +3,9 @@ use Rattle.std.specs.Prelude.{List}
 use Rattle.profile.specs.Header.{Who}
 use Rattle.profile.specs.Means.{Line}
 use Rattle.profile.specs.Register.{Command, Clerk}
-use Rattle.sheet_texts.specs.Kinds.{kind_of}
 use Rattle.intake.specs.Calls.{act_of}
 use Rattle.intake.specs.declared.calls.Deed.{Deed}
 
 -- the command of a deed with its sheet
 abbrev pub command_of : Who → Deed → List Line → Command
-command_of who d sheet = Clerk who d.ticket.now (act_of (kind_of d.kind) d.number.now sheet)
+command_of who d sheet = Clerk who d.ticket.now (act_of d.kind d.number.now sheet)

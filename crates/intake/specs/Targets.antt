@@ -5,7 +5,6 @@ use Rattle.profile.specs.Header.{Who}
 use Rattle.profile.specs.Moments.{Moment}
 use Rattle.profile.specs.Register.{Command, Interchange, Entry}
 use Rattle.profile.specs.Response.{Method, Route, Head, Response, bare, is_exchange, body_after, resp}
-use Rattle.sheet_texts.specs.Kinds.{kind_of}
 use Rattle.intake.specs.Calls.{Call, ToDeed, ToOrder, ToExport, ToOpen, ToDepositors, call_of, is_deed, call_command, call_resp}
 use Rattle.intake.specs.Routes.{route_of, seen_route}
 use Rattle.intake.specs.declared.audience.Audience.{Audience}
@@ -75,7 +74,7 @@ response_with W L method to t (Ok body) = target_resp W L method to body t
 -- What was found of a path.
 
 abbrev pub seen_deed : Deed → Call
-seen_deed d = ToDeed (kind_of d.kind) d.who.now d.ticket.now d.number.now
+seen_deed d = ToDeed d.kind d.who.now d.ticket.now d.number.now
 
 abbrev pub seen_call : FoundCall → Call
 seen_call (calls.Deed d) = seen_deed d

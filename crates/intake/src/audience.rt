@@ -1,7 +1,7 @@
 //! Whom a server answers.
 
 /// Who is served.
-#[derive(Clone, Copy, Debug, PartialEq, Eq)]
+#[derive(Clone, Copy, PartialEq, Eq)]
 pub enum Audience {
     /// Partners: they hand interchanges in, and are shown what they have and what went out to them.
     Partners,

@@ -6,9 +6,9 @@ ghost use Rattle.profile.specs.Response.{Get, Post};
 ghost use Rattle.store.specs.Standing.{GoesOn};
 ghost use Rattle.intake.specs.Answers.{seen};
 ghost use Rattle.intake.specs.Asking.{call_asks, IsResponseOf, IsShutAnswer};
-ghost use Rattle.intake.specs.Calls.{deed_reply, call_command, call_resp};
+ghost use Rattle.intake.specs.Calls.{deed_reply};
 ghost use Rattle.intake.specs.Fields.{seen_method};
-ghost use Rattle.intake.specs.Serving.{IsAnswered};
+ghost use Rattle.intake.specs.Serving.{IsAnswered, IsCallAnswered};
 ghost use Rattle.intake.specs.Slips.{command_of};
 ghost use Rattle.intake.specs.Targets.{seen_call, seen_deed};
 
@@ -43,10 +43,8 @@ fn deed_at<K: Keeper>(
     body: &[u8],
     moment: Moment,
 ) -> Response
-    ensures answered { IsAnswered (K.standing keeper.old) (K.standing keeper.new) moment
-        (call_command Post (seen_deed deed.now) body.now)
-        (λ L. call_resp (K.standing keeper.old).warehouse L Post (seen_deed deed.now) body.now
-        moment) (seen result) }
+    ensures answered { IsCallAnswered (K.standing keeper.old) (K.standing keeper.new) moment
+        Post (seen_deed deed.now) body.now (seen result) }
     ensures goes { GoesOn (K.standing keeper.old) (K.standing keeper.new) }
     ensures shut { IsShutAnswer (K.standing keeper.old)
         (call_asks Post (seen_deed deed.now) body.now) (seen result) }
@@ -68,10 +66,8 @@ fn posted_to<K: Keeper>(
     body: &[u8],
     moment: Moment,
 ) -> Response
-    ensures answered { IsAnswered (K.standing keeper.old) (K.standing keeper.new) moment
-        (call_command Post (seen_call call.now) body.now)
-        (λ L. call_resp (K.standing keeper.old).warehouse L Post (seen_call call.now) body.now
-        moment) (seen result) }
+    ensures answered { IsCallAnswered (K.standing keeper.old) (K.standing keeper.new) moment
+        Post (seen_call call.now) body.now (seen result) }
     ensures goes { GoesOn (K.standing keeper.old) (K.standing keeper.new) }
     ensures shut { IsShutAnswer (K.standing keeper.old)
         (call_asks Post (seen_call call.now) body.now) (seen result) }
@@ -90,10 +86,8 @@ fn got_from<K: Keeper>(
     body: &[u8],
     moment: Moment,
 ) -> Response
-    ensures answered { IsAnswered (K.standing keeper.old) (K.standing keeper.new) moment
-        (call_command Get (seen_call call.now) body.now)
-        (λ L. call_resp (K.standing keeper.old).warehouse L Get (seen_call call.now) body.now
-        moment) (seen result) }
+    ensures answered { IsCallAnswered (K.standing keeper.old) (K.standing keeper.new) moment
+        Get (seen_call call.now) body.now (seen result) }
     ensures goes { GoesOn (K.standing keeper.old) (K.standing keeper.new) }
     ensures shut { IsShutAnswer (K.standing keeper.old)
         (call_asks Get (seen_call call.now) body.now) (seen result) }
@@ -114,11 +108,8 @@ pub(crate) fn called<K: Keeper>(
     body: &[u8],
     moment: Moment,
 ) -> Response
-    ensures answered { IsAnswered (K.standing keeper.old) (K.standing keeper.new) moment
-        (call_command (seen_method method) (seen_call call.now) body.now)
-        (λ L. call_resp (K.standing keeper.old).warehouse L (seen_method method)
-        (seen_call call.now) body.now moment)
-        (seen result) }
+    ensures answered { IsCallAnswered (K.standing keeper.old) (K.standing keeper.new) moment
+        (seen_method method) (seen_call call.now) body.now (seen result) }
     ensures goes { GoesOn (K.standing keeper.old) (K.standing keeper.new) }
     ensures shut { IsShutAnswer (K.standing keeper.old)
         (call_asks (seen_method method) (seen_call call.now) body.now) (seen result) }

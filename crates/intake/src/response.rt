@@ -5,7 +5,7 @@ ghost use Rattle.intake.specs.Answers.{number, body_bytes, method_name, seen, fi
 use http::StatusCode;
 
 /// The statuses that are answered (RFC 9110).
-#[derive(Clone, Copy, Debug, PartialEq, Eq)]
+#[derive(Clone, Copy, PartialEq, Eq)]
 pub enum Status {
     /// 200
     Okay,
@@ -60,7 +60,7 @@ impl Status {
 }
 
 /// The media type of a body.
-#[derive(Clone, Copy, Debug, PartialEq, Eq)]
+#[derive(Clone, Copy, PartialEq, Eq)]
 pub enum MediaType {
     /// `text/plain`
     Plain,
@@ -69,7 +69,7 @@ pub enum MediaType {
 }
 
 /// The method that a path allows, told with 405.
-#[derive(Clone, Copy, Debug, PartialEq, Eq)]
+#[derive(Clone, Copy, PartialEq, Eq)]
 pub enum Allow {
     /// `GET`
     Get,
@@ -78,7 +78,7 @@ pub enum Allow {
 }
 
 /// The bytes of a body.
-#[derive(Debug, Drop)]
+#[derive(Drop)]
 pub enum Body {
     /// A text that takes no memory.
     Fixed(&'static [u8]),
@@ -99,7 +99,7 @@ impl Body {
 }
 
 /// A response to a request.
-#[derive(Debug, Drop)]
+#[derive(Drop)]
 pub struct Response {
     /// Its status.
     pub status: Status,

@@ -7,8 +7,8 @@ ghost use Rattle.intake.specs.Answers.{seen};
 ghost use Rattle.intake.specs.Asking.{target_asks, IsShutAnswer};
 ghost use Rattle.intake.specs.Fields.{seen_method};
 ghost use Rattle.intake.specs.Lines.{sender_in};
-ghost use Rattle.intake.specs.Serving.{IsAnswered};
-ghost use Rattle.intake.specs.Targets.{seen_target, target_command, target_resp};
+ghost use Rattle.intake.specs.Serving.{IsTargetAnswered};
+ghost use Rattle.intake.specs.Targets.{seen_target, target_command};
 
 use crate::heading::MethodKind;
 use crate::response::Response;
@@ -56,11 +56,8 @@ pub(crate) fn answer_at<K: Keeper>(
     body: &[u8],
     moment: Moment,
 ) -> Replied
-    ensures answered { IsAnswered (K.standing keeper.old) (K.standing keeper.new) moment
-        (target_command (seen_method method) (seen_target target.now) body.now)
-        (λ L. target_resp (K.standing keeper.old).warehouse L (seen_method method)
-        (seen_target target.now) body.now
-        moment) (seen result.response) }
+    ensures answered { IsTargetAnswered (K.standing keeper.old) (K.standing keeper.new) moment
+        (seen_method method) (seen_target target.now) body.now (seen result.response) }
     ensures sender { result.sender
         ≡ sender_in (target_command (seen_method method) (seen_target target.now) body.now) }
     ensures goes { GoesOn (K.standing keeper.old) (K.standing keeper.new) }

@@ -9,7 +9,7 @@ use std::net::SocketAddr;
 use store::{Fault, Moment, Who};
 
 /// The method and the path of a request, as they stand in its head.
-#[derive(Debug, Drop)]
+#[derive(Drop)]
 pub struct RequestLine {
     /// The method (RFC 9110, 9.1).
     pub method: String,

@@ -6,7 +6,7 @@ ghost use Rattle.store.specs.Standing.{IsUnchanged, GoesOn};
 ghost use Rattle.intake.specs.Answers.{seen};
 ghost use Rattle.intake.specs.Gauges.{Grew};
 ghost use Rattle.intake.specs.Lines.{IsLineAt, HasLine};
-ghost use Rattle.intake.specs.Serving.{IsExchange, IsExchangeBehind, IsWritten, IsUnread, IsUnwritten};
+ghost use Rattle.intake.specs.Serving.{IsExchange, IsExchangeAfter, IsWritten, IsUnread, IsUnwritten};
 
 use crate::audience::Audience;
 use crate::gauge::Gauge;
@@ -38,7 +38,7 @@ fn answer<R: Read, K: Keeper>(
     requires { IsRequestWithin got.now fields.now spans.now }
     ensures answered { IfOk result
         (λ replied. (h : RequestHead) → IsRequestAt got.now fields.now spans.now h
-        → IsExchangeBehind audience (K.standing keeper.old) (K.standing keeper.new)
+        → IsExchangeAfter audience (K.standing keeper.old) (K.standing keeper.new)
         (R.remaining reader.old.inner)
         moment h (drop spans.now.len got.now) (seen replied.response) replied.sender) }
     ensures same { OnErr result (IsUnchanged (K.standing keeper.old) (K.standing keeper.new)) }

@@ -2,7 +2,6 @@
 ghost use Rattle.std.specs.Prelude.{◌≡◌, true, IsTrue, Ok, Err, IfOk, IfErr};
 ghost use Rattle.profile.specs.declared.rules.Rules.TheVariants.{Two};
 ghost use Rattle.profile.specs.Accepted.{is_command};
-ghost use Rattle.sheet_texts.specs.Kinds.{kind_of};
 ghost use Rattle.store.specs.Asked.{asked, act_of as asked_act};
 ghost use Rattle.intake.specs.Answers.{seen};
 ghost use Rattle.intake.specs.Calls as meant;
@@ -27,7 +26,7 @@ pub(crate) struct Slip<'p> {
 
 // The depositor that a deed's path names; None where a part of it can't be read.
 fn depositor(deed: &Deed<'_>) -> Option<Who>
-    ensures { result ≡ meant.depositor_of (kind_of deed.now.kind) deed.now.who.now deed.now.ticket.now
+    ensures { result ≡ meant.depositor_of deed.now.kind deed.now.who.now deed.now.ticket.now
         deed.now.number.now }
 {
     let who = Who::new(deed.who)?;
@@ -46,10 +45,10 @@ pub(crate) fn slip_of<'p>(
     text: &[u8],
 ) -> Result<Result<Slip<'p>, Response>, AllocError>
     ensures made { IfOk result
-        (λ made. IfOk made (λ slip. meant.deed_of (kind_of deed.now.kind) deed.now.who.now
+        (λ made. IfOk made (λ slip. meant.deed_of deed.now.kind deed.now.who.now
         deed.now.ticket.now deed.now.number.now text.now ≡ Ok (command_of slip.who slip.deed slip.sheet))) }
     ensures refused { IfOk result
-        (λ made. IfErr made (λ response. meant.deed_of (kind_of deed.now.kind) deed.now.who.now
+        (λ made. IfErr made (λ response. meant.deed_of deed.now.kind deed.now.who.now
         deed.now.ticket.now deed.now.number.now text.now ≡ Err (seen response))) }
 {
     let Some(who) = depositor(deed) else {
@@ -68,7 +67,7 @@ pub(crate) fn slip_of<'p>(
 /// The act of a sheet's kind, about the advice or the order of this number, which a recount doesn't
 /// have.
 pub fn act_of<'a>(kind: SheetKind, number: &'a [u8], sheet: &'a Sheet) -> Act<'a>
-    ensures { asked_act result ≡ meant.act_of (kind_of kind) number.now sheet.now }
+    ensures { asked_act result ≡ meant.act_of kind number.now sheet.now }
 {
     match kind {
         SheetKind::Count => Act::Count {

@@ -5,9 +5,9 @@ ghost use Rattle.intake.specs.Answers.{seen};
 ghost use Rattle.intake.specs.Asking.{target_asks, IsShutAnswer};
 ghost use Rattle.intake.specs.Calls as meant;
 ghost use Rattle.intake.specs.Fields.{seen_method};
-ghost use Rattle.intake.specs.Serving.{IsAnswered};
+ghost use Rattle.intake.specs.Serving.{IsTargetAnswered};
 ghost use Rattle.intake.specs.Targets as targets;
-ghost use Rattle.intake.specs.Targets.{seen_call, seen_target, target_of, target_command, target_resp};
+ghost use Rattle.intake.specs.Targets.{seen_call, seen_target, target_of};
 
 use crate::audience::Audience;
 use crate::calls::{Call, find_call};
@@ -93,11 +93,8 @@ pub(crate) fn respond_to<K: Keeper>(
     body: &[u8],
     moment: Moment,
 ) -> Response
-    ensures answered { IsAnswered (K.standing keeper.old) (K.standing keeper.new) moment
-        (target_command (seen_method method) (seen_target target.now) body.now)
-        (λ L. target_resp (K.standing keeper.old).warehouse L (seen_method method)
-        (seen_target target.now) body.now
-        moment) (seen result) }
+    ensures answered { IsTargetAnswered (K.standing keeper.old) (K.standing keeper.new) moment
+        (seen_method method) (seen_target target.now) body.now (seen result) }
     ensures goes { GoesOn (K.standing keeper.old) (K.standing keeper.new) }
     ensures shut { IsShutAnswer (K.standing keeper.old)
         (target_asks (seen_method method) (seen_target target.now) body.now) (seen result) }

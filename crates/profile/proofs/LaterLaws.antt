@@ -12,7 +12,9 @@ use Rattle.profile.specs.Lists.{first_of, or_else}
 use Rattle.profile.specs.Moments.{Moment, is_moment}
 use Rattle.profile.specs.Header.{is_partner}
 use Rattle.profile.specs.Cut.{Segment, id_of, last_segment}
-use Rattle.profile.specs.Words.{Words, Then, Times, IsWord, IsViable, SetKind, ShippingOrder, ShipmentAdvice, FunctionalAcknowledgment, kind_words, is_viable}
+use Rattle.profile.specs.Words.{Words, Then, Times, IsWord, IsViable, kind_words, is_viable}
+use Rattle.profile.specs.declared.set_kind.SetKind.{SetKind}
+use Rattle.profile.specs.declared.set_kind.SetKind.TheVariants.{ShippingOrder, ShipmentAdvice, FunctionalAcknowledgment}
 use Rattle.profile.specs.Elements.{Row, Kind, Date, Quantity, must, may, quantity_digits, advice_total_digits, order_total_digits, goods_rows, takes, value_fault, element_fault, plain_lot_rows, lot_rows, segment_rows, rows_in, ElementFault, least_element_fault, faulty_element}
 use Rattle.profile.specs.Faults.{SetFault, rows_after, inner_fault, segment_fault, least_fault, set_fault}
 use Rattle.profile.specs.Register.{Command, Interchange, Enrol, Clerk}

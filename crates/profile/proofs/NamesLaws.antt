@@ -11,7 +11,9 @@ use Rattle.profile.specs.Elements.{Alphanumeric, Digits, must, element_fault, fa
 use Rattle.profile.specs.Lists.{first_of, or_else}
 use Rattle.profile.specs.Cut.{cut, Segment, element, id_of, has_id, segment_with, places_of, last_segment}
 use Rattle.profile.specs.Header.{delims_of, is_unreadable}
-use Rattle.profile.specs.Words.{Words, Never, Empty, One, Then, SetKind, ShippingOrder, ShipmentAdvice, FunctionalAcknowledgment, kind_words, kind_number, has_word, words_after, or_words, then_words}
+use Rattle.profile.specs.Words.{Words, Never, Empty, One, Then, kind_words, kind_number, has_word, words_after, or_words, then_words}
+use Rattle.profile.specs.declared.set_kind.SetKind.{SetKind}
+use Rattle.profile.specs.declared.set_kind.SetKind.TheVariants.{ShippingOrder, ShipmentAdvice, FunctionalAcknowledgment}
 use Rattle.profile.specs.Faults.{rows_after, inner_fault, place_fault, fault_at, fault_from, set_fault}
 use Rattle.profile.specs.Structure.{Set, Group, groups_of, group_segments, head_of, envelope_fault}
 use Rattle.profile.specs.Means.{AdviceLine, advice_line, segment_at, advice_of, OrderLine, order_line, order_of, acknowledgment_of}

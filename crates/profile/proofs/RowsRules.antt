@@ -5,7 +5,9 @@ use Rattle.std.specs.Fmt.{digits}
 use Rattle.profile.specs.declared.rules.Rules.{Rules}
 use Rattle.profile.specs.declared.rules.Rules.TheVariants.{One, Two}
 use Rattle.profile.specs.Cut.{cut, spelled}
-use Rattle.profile.specs.Words.{SetKind, ShippingOrder, ShipmentAdvice, kind_words}
+use Rattle.profile.specs.Words.{kind_words}
+use Rattle.profile.specs.declared.set_kind.SetKind.{SetKind}
+use Rattle.profile.specs.declared.set_kind.SetKind.TheVariants.{ShippingOrder, ShipmentAdvice}
 use Rattle.profile.specs.Faults.{set_fault}
 use Rattle.profile.specs.Texts.{own_delims, ak3_segments}
 use Rattle.profile.proofs.Sample.{first_set}

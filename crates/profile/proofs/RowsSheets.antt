@@ -1,5 +1,5 @@
 -- Worked examples of tickets used again and of sheets of lines.
-use Rattle.std.specs.Prelude.{◌≡◌, ℕ, true, false, List, [], ◌∷◌, ◌++◌, map, replicate, is_ok, if◌then◌else◌, Ok, Err, codes, decimal, Result}
+use Rattle.std.specs.Prelude.{◌≡◌, ℕ, true, false, List, [], ◌∷◌, ◌++◌, map, replicate, is_ok, Ok, Err, codes, decimal, Result}
 use Rattle.std.specs.List.{range_with_len}
 use Rattle.std.proofs.Common.{refl}
 use Rattle.std.specs.Fmt.{digits}
@@ -8,7 +8,8 @@ use Rattle.profile.specs.declared.rules.Rules.TheVariants.{One, Two}
 use Rattle.profile.specs.Means.{Line}
 use Rattle.profile.specs.Register.{Act, Count, Clerk}
 use Rattle.profile.specs.Refusals.{Refusal, UnknownDepositor, TicketUsed, UnknownAdvice, AdviceClosed, TooMuch, RepeatedLine, BadText, TooManyLines, AlreadyEnrolled}
-use Rattle.profile.specs.Clerk.{RawLine, CountSheet, PickSheet, sheet_of, is_sheet, sheet_of_records}
+use Rattle.profile.specs.Clerk.{RawLine, sheet_of, is_sheet, sheet_of_records}
+use Rattle.profile.specs.declared.sheet_kind.SheetKind.TheVariants.{Count as CountSheet, Pick as PickSheet}
 use Rattle.profile.specs.Reply.{Stored, Refused}
 use Rattle.profile.proofs.RowsTrade.{until_count, count_text}
 use Rattle.profile.proofs.Sample.{morning, enrols, line, does, reply_after}

@@ -4,7 +4,6 @@ use Rattle.std.specs.Prelude.{◌||◌, find, flat_map, option_to_list, IsTrue}
 use Rattle.std.specs.List.{list_any, list_all, AllByRecursion, position_or_len, before_first, after_first}
 use Rattle.std.specs.Cmp.Derive.{both_true}
 use Rattle.profile.specs.Lists.{Parted, parted, part_with}
-use Rattle.profile.specs.Header as header
 
 -- What stands before, at and after the first that passes.
 

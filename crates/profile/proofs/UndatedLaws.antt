@@ -10,7 +10,9 @@ use Rattle.profile.specs.Bytes.{Delims}
 use Rattle.profile.specs.Lists.{or_else, first_found}
 use Rattle.profile.specs.Cut.{cut, Segment, element, id_of, has_id, places_of}
 use Rattle.profile.specs.Header.{delims_of}
-use Rattle.profile.specs.Words.{Words, SetKind, ShippingOrder, ShipmentAdvice, FunctionalAcknowledgment, kind_words, has_word, words_after}
+use Rattle.profile.specs.Words.{Words, kind_words, has_word, words_after}
+use Rattle.profile.specs.declared.set_kind.SetKind.{SetKind}
+use Rattle.profile.specs.declared.set_kind.SetKind.TheVariants.{ShippingOrder, ShipmentAdvice, FunctionalAcknowledgment}
 use Rattle.profile.specs.Elements.{plain_lot_rows, segment_rows, rows_in, Row, ElementFault, element_fault, faulty_element, least_element_fault}
 use Rattle.profile.specs.Faults.{SetFault, inner_fault, place_fault, fault_at, fault_from, set_fault}
 use Rattle.profile.specs.Structure.{Set, Group, groups_of, kind_of, group_fault, examined}

@@ -4,7 +4,7 @@ ghost use Rattle.profile.specs.Refusals.{OutOfMemory, fault_number, fault_name, 
 use std::alloc::AllocError;
 
 /// What keeps a command or a query from being answered.
-#[derive(Clone, Copy, Debug, PartialEq, Eq)]
+#[derive(Clone, Copy, PartialEq, Eq)]
 pub enum Fault {
     /// 40: a growth was refused, or the store answered so.
     OutOfMemory,

@@ -6,7 +6,7 @@ use crate::widths::NOTE_DIGITS;
 use std::alloc::{AllocError, Global};
 
 /// Why a command is refused. The book is as before.
-#[derive(Clone, Copy, Debug, PartialEq, Eq)]
+#[derive(Clone, Copy, PartialEq, Eq)]
 pub enum Refusal {
     /// 1: the text is no interchange that can be read.
     Unreadable,

@@ -1,6 +1,6 @@
 /// The rules that a set is judged by: how many lines it may have, how many digits its quantities,
 /// and whether the lots of an advice may have a date of expiry (943, 940).
-#[derive(Clone, Copy, Debug, PartialEq, Eq)]
+#[derive(Clone, Copy, PartialEq, Eq)]
 pub enum Rules {
     /// 99 lines, quantities of five digits and sums of seven, no expiry.
     One,

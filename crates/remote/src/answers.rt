@@ -8,7 +8,7 @@ use std::alloc::Global;
 use std::io::Read;
 
 /// What a server answered.
-#[derive(Debug, Drop)]
+#[derive(Drop)]
 pub struct Answer {
     /// The status, as 200 (RFC 9110, 15).
     pub status: u16,
@@ -19,7 +19,7 @@ pub struct Answer {
 }
 
 /// Why there is no answer.
-#[derive(Clone, Copy, Debug, PartialEq, Eq)]
+#[derive(Clone, Copy, PartialEq, Eq)]
 pub enum Unanswered {
     /// Memory was refused.
     OutOfMemory,

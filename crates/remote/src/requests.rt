@@ -6,7 +6,7 @@ use itoa::Buffer;
 use std::io::{self, Write};
 
 /// The method of a request (RFC 9110, 9.3).
-#[derive(Clone, Copy, Debug, PartialEq, Eq)]
+#[derive(Clone, Copy, PartialEq, Eq)]
 pub enum Verb {
     /// Asks for what is at the path.
     Get,
@@ -15,7 +15,7 @@ pub enum Verb {
 }
 
 /// A request.
-#[derive(Clone, Copy, Debug)]
+#[derive(Clone, Copy)]
 pub struct Request<'a> {
     /// Its method.
     pub verb: Verb,

@@ -13,7 +13,7 @@ use std::alloc::{AllocError, Global};
 use store::{Address, Goods, KnownLine, KnownOrder, Page};
 
 /// Why there is no picking sheet.
-#[derive(Clone, Copy, Debug, PartialEq, Eq)]
+#[derive(Clone, Copy, PartialEq, Eq)]
 pub enum NoSheet {
     /// The depositor has no order of this number.
     UnknownOrder,

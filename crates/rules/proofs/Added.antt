@@ -6,7 +6,9 @@ use Rattle.std.specs.List.{cons_option, list_any, list_all}
 use Rattle.profile.specs.declared.rules.Rules.{Rules}
 use Rattle.profile.specs.Bytes.{Delims}
 use Rattle.profile.specs.Cut.{Segment, cut}
-use Rattle.profile.specs.Words.{SetKind, ShippingOrder, ShipmentAdvice, FunctionalAcknowledgment, kind_words}
+use Rattle.profile.specs.Words.{kind_words}
+use Rattle.profile.specs.declared.set_kind.SetKind.{SetKind}
+use Rattle.profile.specs.declared.set_kind.SetKind.TheVariants.{ShippingOrder, ShipmentAdvice, FunctionalAcknowledgment}
 use Rattle.profile.specs.Faults.{SetFault, set_fault}
 use Rattle.profile.specs.Lists.{first_present}
 use Rattle.profile.specs.Means.{Line, Advice, advice_of, Order, order_of}

@@ -1,7 +1,6 @@
 -- Decisions on interchanges, as the definitions have them.
 use Rattle.std.proofs.Common.{◌≡◌, ℕ, ◌+◌, ◌<◌, Bool, true, false, not, cond, List, [], Option, Some, None, refl, sym, ap, ◌∙◌, subst, arith}
 use Rattle.std.specs.Prelude.{◌&&◌, bytes_eq, nat_lt, if◌then◌else◌}
-use Rattle.std.specs.Borrow.{Bor}
 use Rattle.profile.specs.declared.rules.Rules.{Rules}
 use Rattle.profile.specs.Accepted.{depositor_of}
 use Rattle.std.proofs.lemmas.Bool.{le-ltb}
@@ -97,9 +96,9 @@ pub accepted_new : (q : Rules) (W : Who) (h : History) (text : List ℕ) (t : Mo
 accepted_new q W h text t n found d is reply = subst (λ (o : Option ℕ). IsReply q n (Interchange text) t (known.interchange_new q W h text t o) d) (sym is) reply
 
 -- who has no page has no history
-pub no_page : (c : Command) (held : Option (Bor PageFacts)) (h : Option History) → held ≡ None → StandsFor c held h → h ≡ None
+pub no_page : (c : Command) (held : Option PageFacts) (h : Option History) → held ≡ None → StandsFor c held h → h ≡ None
 no_page c held None is stands = refl
-no_page c held (Some x) is stands = absurd (subst (λ (o : Option (Bor PageFacts)). StandsFor c o (Some x)) is stands)
+no_page c held (Some x) is stands = absurd (subst (λ (o : Option PageFacts). StandsFor c o (Some x)) is stands)
 
 -- a sender that is no partner names no depositor
 both_no : (a : Bool) → (a && false) ≡ false
@@ -133,7 +132,7 @@ stranger_reply q W h k text header t n d same is reply =
     (subst (λ (x : List ℕ). IsReply q n (Interchange text) t (Refused (Note 6) (refusal_answer W x t (Note 6))) d) same reply)
 
 -- the reply to a known control number
-again_given : (q : Rules) (W : Who) (h : Option History) (k : Option known.Recalled) (text : List ℕ) (t : Moment) (n : ℕ) (d : Decision) (p : Bor PageFacts) (r : Recalled)
+again_given : (q : Rules) (W : Who) (h : Option History) (k : Option known.Recalled) (text : List ℕ) (t : Moment) (n : ℕ) (d : Decision) (p : PageFacts) (r : Recalled)
     → StandsFor (Interchange text) (Some p) h → IsRecalled (Some r) k → IsUnder (interchange_mark (isa text 13)) k
     → ((n : ℕ) (K : known.Recalled) → IsEntry r K → mark K.entry ≡ interchange_mark (isa text 13) → IsReply q n (Interchange text) t (known.interchange_again W text t K) d)
     → IsReply q n (Interchange text) t (known.interchange_known q W h k text t) d
@@ -141,30 +140,30 @@ again_given q W None k text t n d p r held is under reply = absurd held
 again_given q W (Some h) None text t n d p r held is under reply = absurd is
 again_given q W (Some h) (Some k) text t n d p r held is under reply = reply n k is under
 
-pub given_again : (q : Rules) (W : Who) (held : Option (Bor PageFacts)) (o : Option Recalled) (h : Option History) (k : Option known.Recalled) (text : List ℕ) (t : Moment) (d : Decision) (p : Bor PageFacts) (r : Recalled)
+pub given_again : (q : Rules) (W : Who) (held : Option PageFacts) (o : Option Recalled) (h : Option History) (k : Option known.Recalled) (text : List ℕ) (t : Moment) (d : Decision) (p : PageFacts) (r : Recalled)
     → held ≡ Some p → o ≡ Some r → IsGiven held o (Interchange text) h k
     → ((n : ℕ) (K : known.Recalled) → IsEntry r K → mark K.entry ≡ interchange_mark (isa text 13) → IsReply q n (Interchange text) t (known.interchange_again W text t K) d)
     → IsReply q (entries_of held) (Interchange text) t (known.interchange_known q W h k text t) d
 given_again q W held o h k text t d p r page recalled given reply =
-    again_given q W h k text t (entries_of held) d p r (subst (λ (x : Option (Bor PageFacts)). StandsFor (Interchange text) x h) page given.page)
+    again_given q W h k text t (entries_of held) d p r (subst (λ (x : Option PageFacts). StandsFor (Interchange text) x h) page given.page)
     (subst (λ (x : Option Recalled). IsRecalled x k) recalled given.known) given.under reply
 
 -- the reply to a new control number
-new_given : (q : Rules) (W : Who) (h : Option History) (k : Option known.Recalled) (text : List ℕ) (t : Moment) (d : Decision) (p : Bor PageFacts)
+new_given : (q : Rules) (W : Who) (h : Option History) (k : Option known.Recalled) (text : List ℕ) (t : Moment) (d : Decision) (p : PageFacts)
     → StandsFor (Interchange text) (Some p) h → IsRecalled None k
-    → ((H : History) (P : PageFacts) → HasNeeded (Interchange text) p.now P → IsPageOf P H → IsReply q p.now.entries (Interchange text) t (known.interchange_new q W H text t (known.new_note W text)) d)
-    → IsReply q p.now.entries (Interchange text) t (known.interchange_known q W h k text t) d
+    → ((H : History) (P : PageFacts) → HasNeeded (Interchange text) p P → IsPageOf P H → IsReply q p.entries (Interchange text) t (known.interchange_new q W H text t (known.new_note W text)) d)
+    → IsReply q p.entries (Interchange text) t (known.interchange_known q W h k text t) d
 new_given q W None k text t d p held is reply = absurd held
 new_given q W (Some h) (Some k) text t d p held is reply = absurd is
 new_given q W (Some h) None text t d p held is reply = reply h held.0 held.1 held.2
 
-pub given_new : (q : Rules) (W : Who) (held : Option (Bor PageFacts)) (o : Option Recalled) (h : Option History) (k : Option known.Recalled) (text : List ℕ) (t : Moment) (d : Decision) (p : Bor PageFacts)
+pub given_new : (q : Rules) (W : Who) (held : Option PageFacts) (o : Option Recalled) (h : Option History) (k : Option known.Recalled) (text : List ℕ) (t : Moment) (d : Decision) (p : PageFacts)
     → held ≡ Some p → o ≡ None → IsGiven held o (Interchange text) h k
-    → ((H : History) (P : PageFacts) → HasNeeded (Interchange text) p.now P → IsPageOf P H → IsReply q p.now.entries (Interchange text) t (known.interchange_new q W H text t (known.new_note W text)) d)
+    → ((H : History) (P : PageFacts) → HasNeeded (Interchange text) p P → IsPageOf P H → IsReply q p.entries (Interchange text) t (known.interchange_new q W H text t (known.new_note W text)) d)
     → IsReply q (entries_of held) (Interchange text) t (known.interchange_known q W h k text t) d
 given_new q W held o h k text t d p page recalled given reply =
-    subst (λ (x : Option (Bor PageFacts)). IsReply q (entries_of x) (Interchange text) t (known.interchange_known q W h k text t) d) (sym page)
-    (new_given q W h k text t d p (subst (λ (x : Option (Bor PageFacts)). StandsFor (Interchange text) x h) page given.page) (subst (λ (x : Option Recalled). IsRecalled x k) recalled given.known) reply)
+    subst (λ (x : Option PageFacts). IsReply q (entries_of x) (Interchange text) t (known.interchange_known q W h k text t) d) (sym page)
+    (new_given q W h k text t d p (subst (λ (x : Option PageFacts). StandsFor (Interchange text) x h) page given.page) (subst (λ (x : Option Recalled). IsRecalled x k) recalled given.known) reply)
 
 -- the reply to a text that can be read
 pub readable_reply : (q : Rules) (W : Who) (h : Option History) (k : Option known.Recalled) (text : List ℕ) (t : Moment) (n : ℕ) (d : Decision) → is_unreadable text ≡ false

@@ -7,7 +7,8 @@ use Rattle.std.specs.List.{list_all}
 use Rattle.std.specs.Prelude.{nat_le}
 use Rattle.profile.specs.declared.rules.Rules.TheVariants.{Two}
 use Rattle.profile.specs.Bytes.{comes_before}
-use Rattle.profile.specs.Clerk.{is_ascending, is_sheet, is_sheet_line, RecountSheet}
+use Rattle.profile.specs.Clerk.{is_ascending, is_sheet, is_sheet_line}
+use Rattle.profile.specs.declared.sheet_kind.SheetKind.TheVariants.{Recount as RecountSheet}
 use Rattle.profile.specs.Limits.{most_lines}
 use Rattle.profile.specs.Means.{Line}
 use Rattle.stock.specs.Keyed.{IsRank}

@@ -1,7 +1,6 @@
 -- The changes of accepted commands lead from the page of a history to that of one entry more.
 use Rattle.std.proofs.Common.{◌≡◌, ℕ, ◌+◌, List, [], ◌∷◌, ◌++◌, Option, Some, None, Ok, false, sym, ap, subst, ◌∙◌}
 use Rattle.std.specs.Prelude.{Result, is_some}
-use Rattle.std.specs.Borrow.{Bor}
 use Rattle.profile.specs.declared.rules.Rules.{Rules}
 use Rattle.profile.specs.Moments.{Moment}
 use Rattle.profile.specs.Header.{Who, delims_of}
@@ -74,15 +73,15 @@ nowhere r p c t (Stored text) h = tt
 nowhere r p c t (Refused refusal text) h = tt
 nowhere r p c t (Accepted e changes text) h = absurd h
 
-pub nowhere_from : (r : Rules) (held : Option (Bor PageFacts)) (c : Command) (t : Moment) (d : Decision) → IsNoEntry d → LeadsFrom r held c t d
+pub nowhere_from : (r : Rules) (held : Option PageFacts) (c : Command) (t : Moment) (d : Decision) → IsNoEntry d → LeadsFrom r held c t d
 nowhere_from r None c t (Stored text) h = tt
 nowhere_from r None c t (Refused refusal text) h = tt
 nowhere_from r None c t (Accepted e changes text) h = absurd h
-nowhere_from r (Some p) c t d h = nowhere r p.now c t d h
+nowhere_from r (Some p) c t d h = nowhere r p c t d h
 
-pub from_page : (r : Rules) (held : Option (Bor PageFacts)) (p : Bor PageFacts) (c : Command) (t : Moment) (d : Decision) → held ≡ Some p → LeadsOn r p.now c t d → LeadsFrom r held c t d
-from_page r held p c t d is leads = subst (λ (o : Option (Bor PageFacts)). LeadsFrom r o c t d) (sym is) leads
+pub from_page : (r : Rules) (held : Option PageFacts) (p : PageFacts) (c : Command) (t : Moment) (d : Decision) → held ≡ Some p → LeadsOn r p c t d → LeadsFrom r held c t d
+from_page r held p c t d is leads = subst (λ (o : Option PageFacts). LeadsFrom r o c t d) (sym is) leads
 
-pub from_none : (r : Rules) (held : Option (Bor PageFacts)) (c : Command) (t : Moment) (d : Decision) → is_some held ≡ false → ChangesNothing d → LeadsFrom r held c t d
+pub from_none : (r : Rules) (held : Option PageFacts) (c : Command) (t : Moment) (d : Decision) → is_some held ≡ false → ChangesNothing d → LeadsFrom r held c t d
 from_none r None c t d is none = none
 from_none r (Some p) c t d is none = absurd (cc (is))

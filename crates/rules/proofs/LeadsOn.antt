@@ -3,7 +3,6 @@
 use Rattle.std.proofs.Common.{◌≡◌, ℕ, zero, suc, ◌+◌, Bool, true, false, not, List, [], ◌∷◌, ◌++◌, length, map, take, Option, Some, None, Ok, Err, refl, sym, ap, ◌∙◌, subst, arith}
 use Rattle.std.specs.Prelude.{Result, IfOk, bytes_eq, filter, flat_map, codes, ◌==◌, if◌then◌else◌}
 use Rattle.std.specs.List.{list_all}
-use Rattle.std.specs.Borrow.{Bor}
 use borrow.Author.Tests.{eqb-true}
 use Rattle.std.proofs.lemmas.Bool.{both_ways, and_parts}
 use Rattle.std.proofs.lemmas.Grind.{flat_map-append}
@@ -352,8 +351,8 @@ led_from_none r c W L e cs None legal next none stands nothing_changes =
     subst (λ (ds : List Change). LeadOn r W L e (table_changes e.who ds)) (sym nothing_changes) (enrolment_leads r W L e legal next (is_new r W L e next none))
 led_from_none r c W L e cs (Some h) legal next some stands nothing_changes = absurd stands
 
-led_from_some : (r : Rules) (c : Command) (W : Who) (L : List Entry) (e : Entry) (p : Bor PageFacts) (cs : List Change) (o : Option History) → IsLegal r W L → IsLegal r W (L ++ e ∷ []) → standing (own L e.who) ≡ o → StandsFor c (Some p) o
-    → ((h : History) (P : PageFacts) → HasNeeded c p.now P → IsPageOf P h → AreLeading P cs (after_entry h e)) → LeadOn r W L e (table_changes e.who cs)
+led_from_some : (r : Rules) (c : Command) (W : Who) (L : List Entry) (e : Entry) (p : PageFacts) (cs : List Change) (o : Option History) → IsLegal r W L → IsLegal r W (L ++ e ∷ []) → standing (own L e.who) ≡ o → StandsFor c (Some p) o
+    → ((h : History) (P : PageFacts) → HasNeeded c p P → IsPageOf P h → AreLeading P cs (after_entry h e)) → LeadOn r W L e (table_changes e.who cs)
 led_from_some r c W L e p cs None legal next none stands leads = absurd stands
 led_from_some r c W L e p cs (Some h) legal next some stands leads =
     let was = old (own L e.who) h some in
@@ -364,7 +363,7 @@ led_from_some r c W L e p cs (Some h) legal next some stands leads =
 
 -- what a decision changes by the page of the depositor that the command names leads on in the
 -- tables
-pub tables_lead : (r : Rules) (page : Option (Bor PageFacts)) (c : Command) (t : Moment) (d : Decision) → LeadsFrom r page c t d
+pub tables_lead : (r : Rules) (page : Option PageFacts) (c : Command) (t : Moment) (d : Decision) → LeadsFrom r page c t d
     → (W : Who) (L : List Entry) → StandsFor c page (standing (own_of L c)) → LeadsInTables r W L c t d
 tables_lead r page c t (Stored text) leads W L stands = tt
 tables_lead r page c t (Refused refusal text) leads W L stands = tt
@@ -375,7 +374,7 @@ tables_lead r (Some p) c t (Accepted row changes text) leads W L stands = λ v l
     let e = entry_of r c t in
     led_from_some v c W L e p changes.items (standing (own L e.who)) legal next refl (subst (λ (M : List Entry). StandsFor c (Some p) (standing M)) (named_own v r W L c t next) stands) leads
 
-pub all_lead : {E : Type 0} (r : Rules) (page : Option (Bor PageFacts)) (made : Result Decision E) (c : Command) (t : Moment) → IfOk made (LeadsFrom r page c t)
+pub all_lead : {E : Type 0} (r : Rules) (page : Option PageFacts) (made : Result Decision E) (c : Command) (t : Moment) → IfOk made (LeadsFrom r page c t)
     → IfOk made (λ d. (W : Who) (L : List Entry) → StandsFor c page (standing (own_of L c)) → LeadsInTables r W L c t d)
 all_lead r page (Ok d) c t leads = tables_lead r page c t d leads
 all_lead r page (Err e) c t leads = tt

@@ -9,7 +9,7 @@ use Rattle.std.proofs.lemmas.Grind.{flat_map-append}
 use Rattle.profile.specs.Limits.{most_sets}
 use Rattle.profile.specs.declared.rules.Rules.{Rules}
 use Rattle.profile.specs.Bytes.{Delims}
-use Rattle.profile.specs.Words.{SetKind}
+use Rattle.profile.specs.declared.set_kind.SetKind.{SetKind}
 use Rattle.profile.specs.Structure.{Set, Group, kind_of, group_fault, examined, envelope_faults}
 use Rattle.profile.specs.Events.{Event}
 use Rattle.profile.specs.History.{Verdict, Telling, telling_of, events_told, verdicts_on, tellings_on}

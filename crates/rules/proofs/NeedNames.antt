@@ -6,7 +6,9 @@ use Rattle.profile.specs.declared.rules.Rules.{Rules}
 use Rattle.profile.specs.Bytes.{Delims, is_one_of}
 use Rattle.profile.specs.Cut.{cut}
 use Rattle.profile.specs.Header.{delims_of}
-use Rattle.profile.specs.Words.{SetKind, ShippingOrder, ShipmentAdvice, FunctionalAcknowledgment, kind_words}
+use Rattle.profile.specs.Words.{kind_words}
+use Rattle.profile.specs.declared.set_kind.SetKind.{SetKind}
+use Rattle.profile.specs.declared.set_kind.SetKind.TheVariants.{ShippingOrder, ShipmentAdvice, FunctionalAcknowledgment}
 use Rattle.profile.specs.Faults.{set_fault}
 use Rattle.profile.specs.Structure.{Set, Group, control_of, envelope_fault, examined_on, groups_of, kind_of}
 use Rattle.profile.specs.Means.{Line, advised, advice_of, order_of}

@@ -12,7 +12,9 @@ use Rattle.profile.specs.Bytes.{Delims}
 use Rattle.profile.specs.Limits.{most_lines, most_quantity}
 use Rattle.profile.specs.Lists.{or_else}
 use Rattle.profile.specs.Cut.{Segment}
-use Rattle.profile.specs.Words.{SetKind, ShippingOrder, ShipmentAdvice, FunctionalAcknowledgment, kind_words}
+use Rattle.profile.specs.Words.{kind_words}
+use Rattle.profile.specs.declared.set_kind.SetKind.{SetKind}
+use Rattle.profile.specs.declared.set_kind.SetKind.TheVariants.{ShippingOrder, ShipmentAdvice, FunctionalAcknowledgment}
 use Rattle.profile.specs.Faults.{SetFault, set_fault}
 use Rattle.profile.specs.Means.{Line, AdviceLine, Advice, advised, advice_of, order_of, acknowledgment_of}
 use Rattle.profile.specs.Events.{Event, Enrolment, Advised, Ordered, Acknowledged, Counted, Picked, Recounted, is_pair, quantity_of, repeated, same_advice_pair, repeated_pair, redated_pair, sooner, wrong_advice_total, expiry, advice_under, advice_fault_where, advice_fault, order_fault}

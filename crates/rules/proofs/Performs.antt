@@ -10,9 +10,9 @@ use Rattle.profile.specs.Header.{Who}
 use Rattle.profile.specs.Means.{Line, Advice, OrderLine}
 use Rattle.profile.specs.Events.{Event, Counted, Picked, Recounted, is_pair, quantity_of, advice_under, is_advice_open, Reserved, order_under, is_order_open}
 use Rattle.profile.specs.Movements.{OnHand, balance}
-use Rattle.profile.specs.Clerk.{is_sheet, RecountSheet, counted, picked, recounted, performed, on_hand_now}
+use Rattle.profile.specs.Clerk.{is_sheet, counted, picked, recounted, performed, on_hand_now}
+use Rattle.profile.specs.declared.sheet_kind.SheetKind.TheVariants.{Recount as RecountSheet}
 use Rattle.profile.specs.Register.{Act, Command, Clerk, Entry, ticket_mark}
-use Rattle.std.specs.Borrow.{Bor}
 use Rattle.rules.specs.Written.{Recalled}
 use Rattle.profile.specs.History.{History}
 use Rattle.profile.specs.Decision as known
@@ -205,21 +205,21 @@ none_known None (Some k) is there = absurd there
 none_known (Some r) k is there = absurd (cc (is))
 
 -- the reply to an act of a depositor with a page
-clerk_stands : (q : Rules) (W w : Who) (ticket : List ℕ) (act : Act) (t : Moment) (d : Decision) (p : Bor PageFacts) (o : Option Recalled) (h : Option History) (k : Option known.Recalled)
+clerk_stands : (q : Rules) (W w : Who) (ticket : List ℕ) (act : Act) (t : Moment) (d : Decision) (p : PageFacts) (o : Option Recalled) (h : Option History) (k : Option known.Recalled)
     → StandsFor (Clerk w ticket act) (Some p) h → IsRecalled o k → IsUnder (ticket_mark ticket) k
-    → ((H : History) (P : PageFacts) (K : Option known.Recalled) → HasNeeded (Clerk w ticket act) p.now P → IsPageOf P H → IsRecalled o K → IsUnder (ticket_mark ticket) K
-    → IsReply q p.now.entries (Clerk w ticket act) t (known.clerk_by q W (Some H) K w ticket act t) d)
-    → IsReply q p.now.entries (Clerk w ticket act) t (known.clerk_by q W h k w ticket act t) d
+    → ((H : History) (P : PageFacts) (K : Option known.Recalled) → HasNeeded (Clerk w ticket act) p P → IsPageOf P H → IsRecalled o K → IsUnder (ticket_mark ticket) K
+    → IsReply q p.entries (Clerk w ticket act) t (known.clerk_by q W (Some H) K w ticket act t) d)
+    → IsReply q p.entries (Clerk w ticket act) t (known.clerk_by q W h k w ticket act t) d
 clerk_stands q W w ticket act t d p o None k held is under reply = absurd held
 clerk_stands q W w ticket act t d p o (Some h) k held is under reply = reply h held.0 k held.1 held.2 is under
 
-pub clerk_given : (q : Rules) (V W w : Who) (ticket : List ℕ) (act : Act) (t : Moment) (d : Decision) (held : Option (Bor PageFacts)) (p : Bor PageFacts) (o : Option Recalled) (h : Option History) (k : Option known.Recalled)
+pub clerk_given : (q : Rules) (V W w : Who) (ticket : List ℕ) (act : Act) (t : Moment) (d : Decision) (held : Option PageFacts) (p : PageFacts) (o : Option Recalled) (h : Option History) (k : Option known.Recalled)
     → V ≡ W → held ≡ Some p → IsGiven held o (Clerk w ticket act) h k
-    → ((H : History) (P : PageFacts) (K : Option known.Recalled) → HasNeeded (Clerk w ticket act) p.now P → IsPageOf P H → IsRecalled o K → IsUnder (ticket_mark ticket) K
-    → IsReply q p.now.entries (Clerk w ticket act) t (known.clerk_by q V (Some H) K w ticket act t) d)
+    → ((H : History) (P : PageFacts) (K : Option known.Recalled) → HasNeeded (Clerk w ticket act) p P → IsPageOf P H → IsRecalled o K → IsUnder (ticket_mark ticket) K
+    → IsReply q p.entries (Clerk w ticket act) t (known.clerk_by q V (Some H) K w ticket act t) d)
     → IsReply q (entries_of held) (Clerk w ticket act) t (known.clerk_by q W h k w ticket act t) d
 clerk_given q V W w ticket act t d held p o h k house page given reply =
-    subst (λ (x : Option (Bor PageFacts)). IsReply q (entries_of x) (Clerk w ticket act) t (known.clerk_by q W h k w ticket act t) d) (sym page)
-    (clerk_stands q W w ticket act t d p o h k (subst (λ (x : Option (Bor PageFacts)). StandsFor (Clerk w ticket act) x h) page given.page) given.known given.under
-    (subst (λ (x : Who). (H : History) (P : PageFacts) (K : Option known.Recalled) → HasNeeded (Clerk w ticket act) p.now P → IsPageOf P H → IsRecalled o K → IsUnder (ticket_mark ticket) K
-    → IsReply q p.now.entries (Clerk w ticket act) t (known.clerk_by q x (Some H) K w ticket act t) d) house reply))
+    subst (λ (x : Option PageFacts). IsReply q (entries_of x) (Clerk w ticket act) t (known.clerk_by q W h k w ticket act t) d) (sym page)
+    (clerk_stands q W w ticket act t d p o h k (subst (λ (x : Option PageFacts). StandsFor (Clerk w ticket act) x h) page given.page) given.known given.under
+    (subst (λ (x : Who). (H : History) (P : PageFacts) (K : Option known.Recalled) → HasNeeded (Clerk w ticket act) p P → IsPageOf P H → IsRecalled o K → IsUnder (ticket_mark ticket) K
+    → IsReply q p.entries (Clerk w ticket act) t (known.clerk_by q x (Some H) K w ticket act t) d) house reply))

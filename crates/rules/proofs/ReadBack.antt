@@ -20,7 +20,6 @@ use Rattle.profile.specs.Events.{is_pair, pair_before}
 use Rattle.profile.specs.declared.refusals.Refusal.{Refusal}
 use Rattle.profile.specs.declared.refusals.Refusal.TheVariants.{TooMuch, RepeatedLine, BadText, TooManyLines}
 use Rattle.profile.specs.Register.{Act, Count, Pick, Recount, canonical, line_text}
-use Rattle.profile.specs.Clerk as clerk
 use Rattle.profile.specs.Clerk.{RawLine, is_act, is_sheet, is_sheet_line, is_ascending, quantity_limit, least_quantity, is_too_much, picks_nothing, is_bad_line, same_raw_pair, raw_line, line_of, sheet_of}
 use Rattle.profile.specs.Readings.{parts_at, act_if, act_in, act_of}
 use Rattle.profile.proofs.TextLaws.{both_parts, text_is, all_in, all_both, split_first, split_last, decimal_reads}
@@ -28,9 +27,8 @@ use Rattle.profile.proofs.ReadingLaws.{act_of-canonical, identifier_bytes}
 use Rattle.profile.proofs.SheetLaws.{sheet_of-is}
 use Rattle.stock.proofs.Pairs.{ascending_once, count_yes, count_no}
 use Rattle.stock.proofs.Sums.{own_pair}
-use Rattle.sheets.specs.Kinds.{kind_of}
-use Rattle.sheets.specs.declared.kinds.SheetKind.{SheetKind}
-use Rattle.sheets.specs.declared.kinds.SheetKind.TheVariants as kinds
+use Rattle.profile.specs.declared.sheet_kind.SheetKind.TheVariants.{Count as CountSheet, Pick as PickSheet, Recount as RecountSheet}
+use Rattle.profile.specs.declared.sheet_kind.SheetKind.{SheetKind}
 use Rattle.rules.specs.Asked.{by_kind}
 use Rattle.rules.specs.Likely.{Head, named_head, head_in, record_in, with_sheet, act_from, act_among, likely_act}
 
@@ -46,14 +44,14 @@ record IsGood (l : Line) : Type 0 where
   lot : is_identifier 1 12 l.lot ≡ true
   quantity : l.quantity < 10 ^ 9
 
-limit-small : (r : Rules) (kind : clerk.SheetKind) → quantity_limit r kind < 10 ^ 9
-limit-small One clerk.CountSheet = omega arith
-limit-small One clerk.PickSheet = omega arith
-limit-small Two clerk.CountSheet = omega arith
-limit-small Two clerk.PickSheet = omega arith
-limit-small r clerk.RecountSheet = omega arith
+limit-small : (r : Rules) (kind : SheetKind) → quantity_limit r kind < 10 ^ 9
+limit-small One CountSheet = omega arith
+limit-small One PickSheet = omega arith
+limit-small Two CountSheet = omega arith
+limit-small Two PickSheet = omega arith
+limit-small r RecountSheet = omega arith
 
-line_good : (r : Rules) (kind : clerk.SheetKind) (l : Line) → is_sheet_line r kind l ≡ true → IsGood l
+line_good : (r : Rules) (kind : SheetKind) (l : Line) → is_sheet_line r kind l ≡ true → IsGood l
 line_good r kind l h =
     let a = both_parts (is_identifier 1 20 l.item && is_identifier 1 12 l.lot && nat_le (least_quantity kind) l.quantity) (nat_le l.quantity (quantity_limit r kind)) h in
     let b = both_parts (is_identifier 1 20 l.item && is_identifier 1 12 l.lot) (nat_le (least_quantity kind) l.quantity) a.0 in
@@ -101,7 +99,7 @@ abbrev AreGood : List Line → Type 0
 AreGood [] = Unit {0}
 AreGood (l ∷ ls) = IsGood l × AreGood ls
 
-all_good : (r : Rules) (kind : clerk.SheetKind) (sheet : List Line) → list_all (is_sheet_line r kind) sheet ≡ true → AreGood sheet
+all_good : (r : Rules) (kind : SheetKind) (sheet : List Line) → list_all (is_sheet_line r kind) sheet ≡ true → AreGood sheet
 all_good r kind [] h = tt
 all_good r kind (l ∷ ls) h = let p = both_parts (is_sheet_line r kind l) (list_all (is_sheet_line r kind) ls) h in (line_good r kind l p.0, all_good r kind ls p.1)
 
@@ -135,24 +133,24 @@ is_some_number n h = by_test (n == 0) refl
     by_test true e = absurd (omega (arith, h, eqb-true n 0 e))
     by_test false e = refl
 
-picks_some : (r : Rules) (kind : clerk.SheetKind) (l : Line) → is_sheet_line r kind l ≡ true → picks_nothing kind (raw_of l) ≡ false
-picks_some r clerk.CountSheet l h = refl
-picks_some r clerk.RecountSheet l h = refl
-picks_some r clerk.PickSheet l h =
-    let g = line_good r clerk.PickSheet l h in
-    let a = both_parts (is_identifier 1 20 l.item && is_identifier 1 12 l.lot && nat_le 1 l.quantity) (nat_le l.quantity (quantity_limit r clerk.PickSheet)) h in
+picks_some : (r : Rules) (kind : SheetKind) (l : Line) → is_sheet_line r kind l ≡ true → picks_nothing kind (raw_of l) ≡ false
+picks_some r CountSheet l h = refl
+picks_some r RecountSheet l h = refl
+picks_some r PickSheet l h =
+    let g = line_good r PickSheet l h in
+    let a = both_parts (is_identifier 1 20 l.item && is_identifier 1 12 l.lot && nat_le 1 l.quantity) (nat_le l.quantity (quantity_limit r PickSheet)) h in
     let b = both_parts (is_identifier 1 20 l.item && is_identifier 1 12 l.lot) (nat_le 1 l.quantity) a.0 in
     let some = leb-true 1 l.quantity b.1 in
     ap (λ t. t && value (decimal l.quantity) == 0) (le-leb (length (decimal l.quantity)) 9 (short l g))
     ∙ is_some_number (value (decimal l.quantity)) (omega (arith, (digits_of l g).1, some))
 
-good_line : (r : Rules) (kind : clerk.SheetKind) (l : Line) → is_sheet_line r kind l ≡ true → is_bad_line kind (raw_of l) ≡ false
+good_line : (r : Rules) (kind : SheetKind) (l : Line) → is_sheet_line r kind l ≡ true → is_bad_line kind (raw_of l) ≡ false
 good_line r kind l h =
     let g = line_good r kind l h in
     let number : is_number (decimal l.quantity) ≡ true = both_true (lt-ltb 0 (length (decimal l.quantity)) (decimal_nonempty l.quantity (omega (arith, g.quantity)))) (digits_of l g).0 in
     λ i. not (g.item i && g.lot i && number i) || picks_some r kind l h i
 
-few : (r : Rules) (kind : clerk.SheetKind) (l : Line) → is_sheet_line r kind l ≡ true → is_too_much r kind (raw_of l) ≡ false
+few : (r : Rules) (kind : SheetKind) (l : Line) → is_sheet_line r kind l ≡ true → is_too_much r kind (raw_of l) ≡ false
 few r kind l h =
     let g = line_good r kind l h in
     let a = both_parts (is_identifier 1 20 l.item && is_identifier 1 12 l.lot && nat_le (least_quantity kind) l.quantity) (nat_le l.quantity (quantity_limit r kind)) h in
@@ -161,7 +159,7 @@ few r kind l h =
     let value_is = le-ltb (quantity_limit r kind) (value (decimal l.quantity)) (omega (arith, most, (digits_of l g).1)) in
     λ i. length_is i || value_is i
 
-none_of : (r : Rules) (p : RawLine → Bool) (kind : clerk.SheetKind) → ((l : Line) → is_sheet_line r kind l ≡ true → p (raw_of l) ≡ false)
+none_of : (r : Rules) (p : RawLine → Bool) (kind : SheetKind) → ((l : Line) → is_sheet_line r kind l ≡ true → p (raw_of l) ≡ false)
     → (sheet : List Line) → list_all (is_sheet_line r kind) sheet ≡ true → list_any p (map raw_of sheet) ≡ false
 none_of r p kind each [] h = refl
 none_of r p kind each (l ∷ ls) h =
@@ -218,7 +216,7 @@ in_order_same (l ∷ ls) h = ap (placed pair_before l) (in_order_same ls (tail_a
     placed_first (k ∷ ks) e = rw ((both_parts (pair_before l k) (is_ascending (k ∷ ks)) e).0) refl
 
 -- a sheet is made of its lines as they are written
-sheet_made : (r : Rules) (kind : clerk.SheetKind) (sheet : List Line) → is_sheet r kind sheet ≡ true → sheet_of r kind (map raw_of sheet) ≡ Ok sheet
+sheet_made : (r : Rules) (kind : SheetKind) (sheet : List Line) → is_sheet r kind sheet ≡ true → sheet_of r kind (map raw_of sheet) ≡ Ok sheet
 sheet_made r kind sheet h =
     let p = both_parts (nat_le (length sheet) (most_lines r) && list_all (is_sheet_line r kind) sheet) (is_ascending sheet) h in
     let q = both_parts (nat_le (length sheet) (most_lines r)) (list_all (is_sheet_line r kind) sheet) p.0 in
@@ -230,7 +228,7 @@ sheet_made r kind sheet h =
     let same : in_order pair_before (map line_of (map raw_of sheet)) ≡ sheet = ap (in_order pair_before) (same_lines sheet (all_good r kind sheet q.1)) ∙ in_order_same sheet p.1 in
     λ i. cond (few_lines i) (Err TooManyLines) (cond (none_bad i) (Err BadText) (cond (none_much i) (Err TooMuch) (cond (once i) (Err RepeatedLine) (Ok (same i)))))
 
-sheet_good : (r : Rules) (kind : clerk.SheetKind) (sheet : List Line) → is_sheet r kind sheet ≡ true → AreGood sheet
+sheet_good : (r : Rules) (kind : SheetKind) (sheet : List Line) → is_sheet r kind sheet ≡ true → AreGood sheet
 sheet_good r kind sheet h = all_good r kind sheet (both_parts _ _ (both_parts _ _ h).0).1
 
 -- ---- acts
@@ -243,13 +241,13 @@ in_head : (b : ℕ) → is_identifier_byte b ≡ true → is_head_byte b ≡ tru
 in_head b h = ap (λ t. t || (b == 32 || is_between 97 122 b)) h
 
 -- a head and a sheet, from their text
-headed : (r : Rules) (head : List ℕ) (h : Head) (sheet : List Line) → head_in (parts_at 32 head) ≡ Some h → list_all is_head_byte head ≡ true → is_sheet r (kind_of h.kind) sheet ≡ true
+headed : (r : Rules) (head : List ℕ) (h : Head) (sheet : List Line) → head_in (parts_at 32 head) ≡ Some h → list_all is_head_byte head ≡ true → is_sheet r h.kind sheet ≡ true
     → likely_act r (head ++ 10 ∷ flat_map line_text sheet) ≡ with_sheet h (Ok sheet)
 headed r head h sheet is bytes good =
     ap (act_among r) (split_first is_head_byte 10 refl head (flat_map line_text sheet) bytes)
     ∙ ap (option_and_then (act_from r (filter_map record_in (parts_at 10 (flat_map line_text sheet))))) is
-    ∙ ap (λ (rs : List RawLine). with_sheet h (sheet_of r (kind_of h.kind) rs)) (records_read sheet (sheet_good r (kind_of h.kind) sheet good))
-    ∙ ap (with_sheet h) (sheet_made r (kind_of h.kind) sheet good)
+    ∙ ap (λ (rs : List RawLine). with_sheet h (sheet_of r h.kind rs)) (records_read sheet (sheet_good r h.kind sheet good))
+    ∙ ap (with_sheet h) (sheet_made r h.kind sheet good)
 
 -- the words of a head with a name
 words : (word name : List ℕ) → list_all (is_between 97 122) word ≡ true → list_all is_identifier_byte name ≡ true → parts_at 32 (word ++ 32 ∷ [] ++ name) ≡ word ∷ name ∷ []
@@ -259,7 +257,7 @@ words word name w i =
     ∙ ap (λ ps. word ∷ ps) (split_last is_identifier_byte 32 refl name i)
 
 named : (r : Rules) (word name : List ℕ) (h : Head) (sheet : List Line) → list_all is_head_byte (word ++ 32 ∷ []) ≡ true → list_all (is_between 97 122) word ≡ true
-    → is_identifier 1 22 name ≡ true → named_head word name ≡ Some h → is_sheet r (kind_of h.kind) sheet ≡ true
+    → is_identifier 1 22 name ≡ true → named_head word name ≡ Some h → is_sheet r h.kind sheet ≡ true
     → likely_act r (word ++ 32 ∷ [] ++ name ++ codes "\n" ++ flat_map line_text sheet) ≡ with_sheet h (Ok sheet)
 named r word name h sheet front letters i is good =
     let bytes = identifier_bytes 1 22 name i in
@@ -270,19 +268,19 @@ named r word name h sheet front letters i is good =
     (all_both is_head_byte (word ++ 32 ∷ []) name front (all_in is_identifier_byte is_head_byte in_head name bytes)) good
 
 head_is : (word name : List ℕ) (h : Option Head) → is_identifier 1 22 name ≡ true
-    → (if bytes_eq word (codes "count") then Some (record { kind = kinds.Count; number = name }) else (if bytes_eq word (codes "pick") then Some (record { kind = kinds.Pick; number = name }) else None)) ≡ h
+    → (if bytes_eq word (codes "count") then Some (record { kind = CountSheet; number = name }) else (if bytes_eq word (codes "pick") then Some (record { kind = PickSheet; number = name }) else None)) ≡ h
     → named_head word name ≡ h
 head_is word name h i is = rw i is
 
 -- every act is found in its canonical text
 pub likely-canonical : (r : Rules) (act : Act) → is_act r act ≡ true → likely_act r (canonical act) ≡ Some act
 likely-canonical r (Count shipment sheet) h =
-    let p = both_parts (is_identifier 1 22 shipment) (is_sheet r clerk.CountSheet sheet) h in
-    named r (codes "count") shipment (record { kind = kinds.Count; number = shipment }) sheet refl refl p.0 (head_is (codes "count") shipment (Some (record { kind = kinds.Count; number = shipment })) p.0 refl) p.1
+    let p = both_parts (is_identifier 1 22 shipment) (is_sheet r CountSheet sheet) h in
+    named r (codes "count") shipment (record { kind = CountSheet; number = shipment }) sheet refl refl p.0 (head_is (codes "count") shipment (Some (record { kind = CountSheet; number = shipment })) p.0 refl) p.1
 likely-canonical r (Pick number sheet) h =
-    let p = both_parts (is_identifier 1 22 number) (is_sheet r clerk.PickSheet sheet) h in
-    named r (codes "pick") number (record { kind = kinds.Pick; number = number }) sheet refl refl p.0 (head_is (codes "pick") number (Some (record { kind = kinds.Pick; number = number })) p.0 refl) p.1
-likely-canonical r (Recount sheet) h = headed r (codes "recount") (record { kind = kinds.Recount; number = [] }) sheet refl refl h
+    let p = both_parts (is_identifier 1 22 number) (is_sheet r PickSheet sheet) h in
+    named r (codes "pick") number (record { kind = PickSheet; number = number }) sheet refl refl p.0 (head_is (codes "pick") number (Some (record { kind = PickSheet; number = number })) p.0 refl) p.1
+likely-canonical r (Recount sheet) h = headed r (codes "recount") (record { kind = RecountSheet; number = [] }) sheet refl refl h
 
 -- what is found can be given
 
@@ -292,9 +290,9 @@ IsAct r (Some act) = is_act r act ≡ true
 
 -- a head, with a number where its kind has one
 abbrev is_numbered : SheetKind → List ℕ → Bool
-is_numbered kinds.Count number = is_identifier 1 22 number
-is_numbered kinds.Pick number = is_identifier 1 22 number
-is_numbered kinds.Recount number = true
+is_numbered CountSheet number = is_identifier 1 22 number
+is_numbered PickSheet number = is_identifier 1 22 number
+is_numbered RecountSheet number = true
 
 abbrev IsHead : Option Head → Type 0
 IsHead None = Unit {0}
@@ -304,7 +302,7 @@ named_good : (word number : List ℕ) → IsHead (named_head word number)
 named_good word number = by_tests (is_identifier 1 22 number) (bytes_eq word (codes "count")) (bytes_eq word (codes "pick")) refl
   where
     by_tests : (a b c : Bool) → is_identifier 1 22 number ≡ a
-        → IsHead (cond (not a) None (cond b (Some (record { kind = kinds.Count; number = number })) (cond c (Some (record { kind = kinds.Pick; number = number })) None)))
+        → IsHead (cond (not a) None (cond b (Some (record { kind = CountSheet; number = number })) (cond c (Some (record { kind = PickSheet; number = number })) None)))
     by_tests false b c e = tt
     by_tests true true c e = e
     by_tests true false true e = e
@@ -316,17 +314,17 @@ head_good (word ∷ []) = refl
 head_good (word ∷ number ∷ []) = named_good word number
 head_good (word ∷ number ∷ other ∷ more) = tt
 
-by_kind_good : (r : Rules) (kind : SheetKind) (number : List ℕ) (sheet : List Line) → is_numbered kind number ≡ true → is_sheet r (kind_of kind) sheet ≡ true → is_act r (by_kind kind number sheet) ≡ true
-by_kind_good r kinds.Count number sheet h g = both_true h g
-by_kind_good r kinds.Pick number sheet h g = both_true h g
-by_kind_good r kinds.Recount number sheet h g = g
+by_kind_good : (r : Rules) (kind : SheetKind) (number : List ℕ) (sheet : List Line) → is_numbered kind number ≡ true → is_sheet r kind sheet ≡ true → is_act r (by_kind kind number sheet) ≡ true
+by_kind_good r CountSheet number sheet h g = both_true h g
+by_kind_good r PickSheet number sheet h g = both_true h g
+by_kind_good r RecountSheet number sheet h g = g
 
 from_good : (r : Rules) (lines : List RawLine) (h : Option Head) → IsHead h → IsAct r (option_and_then (act_from r lines) h)
 from_good r lines None good = tt
-from_good r lines (Some h) good = by_sheet (sheet_of r (kind_of h.kind) lines) refl
+from_good r lines (Some h) good = by_sheet (sheet_of r h.kind lines) refl
   where
-    by_sheet : (o : Result (List Line) Refusal) → sheet_of r (kind_of h.kind) lines ≡ o → IsAct r (with_sheet h o)
-    by_sheet (Ok sheet) e = by_kind_good r h.kind h.number sheet good ((sheet_of-is r (kind_of h.kind) lines sheet e).0)
+    by_sheet : (o : Result (List Line) Refusal) → sheet_of r h.kind lines ≡ o → IsAct r (with_sheet h o)
+    by_sheet (Ok sheet) e = by_kind_good r h.kind h.number sheet good ((sheet_of-is r h.kind lines sheet e).0)
     by_sheet (Err refusal) e = tt
 
 among_good : (r : Rules) (texts : List (List ℕ)) → IsAct r (act_among r texts)

@@ -4,7 +4,9 @@ use Rattle.profile.specs.declared.rules.Rules.{Rules}
 use Rattle.profile.specs.Bytes.{Delims}
 use Rattle.profile.specs.Cut.{Segment, Piece, AreOf, segments_of}
 use Rattle.profile.specs.Faults.{set_fault, IsFaultOf}
-use Rattle.profile.specs.Words.{SetKind, ShipmentAdvice, ShippingOrder, FunctionalAcknowledgment, kind_words}
+use Rattle.profile.specs.Words.{kind_words}
+use Rattle.profile.specs.declared.set_kind.SetKind.{SetKind}
+use Rattle.profile.specs.declared.set_kind.SetKind.TheVariants.{ShipmentAdvice, ShippingOrder, FunctionalAcknowledgment}
 use Rattle.profile.specs.Structure.{Set}
 use Rattle.profile.specs.Means.{Advice, advice_of, Order, order_of, Acknowledgment, acknowledgment_of}
 use Rattle.stock.specs.Parts.{Named, NamesAdvice, NamesOrder}

@@ -13,7 +13,9 @@ use Rattle.profile.specs.Bytes.{Delims, value}
 use Rattle.profile.specs.Limits.{most_lines, most_quantity}
 use Rattle.profile.specs.Cut.{Segment, element, has_id, places_of}
 use Rattle.profile.specs.Elements.{quantity_digits}
-use Rattle.profile.specs.Words.{SetKind, ShippingOrder, ShipmentAdvice, FunctionalAcknowledgment, kind_words, words_940, words_943}
+use Rattle.profile.specs.Words.{kind_words, words_940, words_943}
+use Rattle.profile.specs.declared.set_kind.SetKind.{SetKind}
+use Rattle.profile.specs.declared.set_kind.SetKind.TheVariants.{ShippingOrder, ShipmentAdvice, FunctionalAcknowledgment}
 use Rattle.profile.specs.Faults.{SetFault, set_fault, fault_from}
 use Rattle.profile.specs.Means.{AdviceLine, OrderLine, Order, segment_at, advice_line, advice_of, order_line, order_of}
 use Rattle.profile.specs.Events.{Event, Enrolment, Advised, Ordered, Acknowledged, Counted, Picked, Recounted, advice_fault, order_fault}

@@ -8,7 +8,7 @@ use Rattle.profile.specs.Rules.{may_follow}
 use Rattle.profile.specs.Bytes.{Delims}
 use Rattle.profile.specs.Cut.{cut}
 use Rattle.profile.specs.Header.{delims_of}
-use Rattle.profile.specs.Words.{SetKind}
+use Rattle.profile.specs.declared.set_kind.SetKind.{SetKind}
 use Rattle.profile.specs.Faults.{SetFault}
 use Rattle.profile.specs.Structure.{Set, Group, kind_of, group_fault, examined, groups_of}
 use Rattle.profile.specs.Events.{Event}

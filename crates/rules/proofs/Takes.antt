@@ -5,7 +5,7 @@ use Rattle.std.proofs.lemmas.List.{append_assoc, append-nil, map-append, take_mo
 use Rattle.std.proofs.lemmas.List.Elements.{filter_map-append}
 use Rattle.profile.specs.declared.rules.Rules.{Rules}
 use Rattle.profile.specs.Bytes.{Delims}
-use Rattle.profile.specs.Words.{SetKind}
+use Rattle.profile.specs.declared.set_kind.SetKind.{SetKind}
 use Rattle.profile.specs.Cut.{Segment, Piece, AreOf, segments_of, element, has_id, last_segment}
 use Rattle.std.specs.List.{position_or_len}
 use Rattle.envelope.specs.Parts.{IsFramed}

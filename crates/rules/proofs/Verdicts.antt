@@ -6,7 +6,7 @@ use Rattle.std.proofs.lemmas.List.{append_assoc, append-nil}
 use Rattle.profile.specs.declared.rules.Rules.{Rules}
 use Rattle.profile.specs.Bytes.{Delims}
 use Rattle.profile.specs.Structure.{Set, Group}
-use Rattle.profile.specs.Words.{SetKind}
+use Rattle.profile.specs.declared.set_kind.SetKind.{SetKind}
 use Rattle.profile.specs.Events.{Event}
 use Rattle.rules.specs.Judging.{passed, told_events}
 use Rattle.profile.specs.History.{Verdict, event_of, outcome_of, verdicts_on, Telling, telling_of, events_told, tellings_on}

@@ -1,9 +1,9 @@
 -- A whole page is a part of itself that has all that a command can name.
 use Rattle.std.proofs.Common.{ℕ, List, [], ◌∷◌, Option, Some, None, refl}
-use Rattle.std.specs.Borrow.{Bor}
 use Rattle.profile.specs.Bytes.{Delims}
 use Rattle.profile.specs.Cut.{Segment}
-use Rattle.profile.specs.Words.{SetKind, ShipmentAdvice, ShippingOrder, FunctionalAcknowledgment}
+use Rattle.profile.specs.declared.set_kind.SetKind.{SetKind}
+use Rattle.profile.specs.declared.set_kind.SetKind.TheVariants.{ShipmentAdvice, ShippingOrder, FunctionalAcknowledgment}
 use Rattle.profile.specs.Structure.{Set, Group, kind_of, examined}
 use Rattle.profile.specs.History.{History}
 use Rattle.profile.specs.Means.{advised, advice_of, order_of}
@@ -47,6 +47,6 @@ pub whole_held : (need : Need) (P : PageFacts) (h : History) → IsSound P → I
 whole_held need P h sound is = record { whole = P; sound = sound; page = is; part = part_of_self (named_of need P) P sound.sorted }
 
 -- the part that a command's need names has what the command needs
-pub held_stands : (c : Command) (p : Bor PageFacts) (h : History) → IsHeldPart (need_of c) p.now h → StandsFor c (Some p) (Some h)
+pub held_stands : (c : Command) (p : PageFacts) (h : History) → IsHeldPart (need_of c) p h → StandsFor c (Some p) (Some h)
 held_stands c p h held =
-    (held.whole, record { named = named_of (need_of c) held.whole; part = held.part; names = needed held.whole held.sound p.now c held.part }, held.page)
+    (held.whole, record { named = named_of (need_of c) held.whole; part = held.part; names = needed held.whole held.sound p c held.part }, held.page)

@@ -6,8 +6,8 @@ use Rattle.profile.specs.Register as meant
 use Rattle.profile.specs.Reply.{clerk_entry}
 use Rattle.profile.specs.declared.rules.Rules.{Rules}
 use Rattle.sets_out.specs.declared.envelopes.Envelope.{Envelope}
-use Rattle.sheets.specs.declared.kinds.SheetKind.{SheetKind}
-use Rattle.sheets.specs.declared.kinds.SheetKind.TheVariants as kinds
+use Rattle.profile.specs.declared.sheet_kind.SheetKind.{SheetKind}
+use Rattle.profile.specs.declared.sheet_kind.SheetKind.TheVariants as kinds
 use Rattle.rules.specs.declared.readings.ReadAct.{ReadAct}
 use Rattle.rules.specs.declared.commands.Act.{Act}
 use Rattle.rules.specs.declared.commands.Act.TheVariants.{Count, Pick, Recount}

@@ -1,6 +1,5 @@
 -- What a page and what is known stand for, and the decision on a command.
 use Rattle.std.specs.Prelude.{ℕ, ◌≡◌, ◌+◌, List, [], Option, Some, None}
-use Rattle.std.specs.Borrow.{Bor}
 use Rattle.profile.specs.declared.rules.Rules.{Rules}
 use Rattle.profile.specs.Moments.{Moment}
 use Rattle.profile.specs.Register as meant
@@ -27,11 +26,11 @@ pub record IsPageOf (p : PageFacts) (h : History) : Type 0 where
   pub entries : p.entries ≡ h.numbered
 
 -- what a command needs of the page of a depositor with this history; a stranger has neither
-abbrev pub StandsFor : meant.Command → Option (Bor PageFacts) → Option History → Type 0
+abbrev pub StandsFor : meant.Command → Option PageFacts → Option History → Type 0
 StandsFor c None None = Unit {0}
 StandsFor c None (Some h) = ⊥
 StandsFor c (Some p) None = ⊥
-StandsFor c (Some p) (Some h) = (P : PageFacts) × HasNeeded c p.now P × IsPageOf P h
+StandsFor c (Some p) (Some h) = (P : PageFacts) × HasNeeded c p P × IsPageOf P h
 
 -- the part that is needed of the page of a depositor with this history
 pub record IsHeldPart (need : Need) (p : PageFacts) (h : History) : Type 0 where
@@ -57,7 +56,7 @@ IsUnder key (Some k) = meant.mark k.entry ≡ key
 
 -- what a decision on a command is given: the page of the depositor that it names, and what is known
 -- under its key
-pub record IsGiven (held : Option (Bor PageFacts)) (recalled : Option Recalled) (c : meant.Command) (h : Option History) (k : Option known.Recalled) : Type 0 where
+pub record IsGiven (held : Option PageFacts) (recalled : Option Recalled) (c : meant.Command) (h : Option History) (k : Option known.Recalled) : Type 0 where
   pub page : StandsFor c held h
   pub known : IsRecalled recalled k
   pub under : IsUnder (meant.command_mark c) k
@@ -65,18 +64,14 @@ pub record IsGiven (held : Option (Bor PageFacts)) (recalled : Option Recalled) 
   pub stranger : depositor_of c ≡ None → h ≡ None
 
 -- how many numbered entries a page tells, and 0 without one
-abbrev pub entries_of : Option (Bor PageFacts) → ℕ
+abbrev pub entries_of : Option PageFacts → ℕ
 entries_of None = 0
-entries_of (Some page) = page.now.entries
+entries_of (Some page) = page.entries
 
 -- there is no event since the last entry
-abbrev pub IsAtRest : Option (Bor PageFacts) → Type 0
+abbrev pub IsAtRest : Option PageFacts → Type 0
 IsAtRest None = Unit {0}
-IsAtRest (Some page) = page.now.recent ≡ 0
-
-abbrev pub IsHeldAtRest : Option PageFacts → Type 0
-IsHeldAtRest None = Unit {0}
-IsHeldAtRest (Some page) = page.recent ≡ 0
+IsAtRest (Some page) = page.recent ≡ 0
 
 -- the number of a command's entry after so many numbered ones
 abbrev pub number_later : ℕ → meant.Command → ℕ
@@ -115,9 +110,9 @@ ChangesNothing (Stored text) = Unit {0}
 ChangesNothing (Refused refusal text) = Unit {0}
 ChangesNothing (Accepted e changes text) = changes.items ≡ []
 
-abbrev pub LeadsFrom : Rules → Option (Bor PageFacts) → meant.Command → Moment → Decision → Type 0
+abbrev pub LeadsFrom : Rules → Option PageFacts → meant.Command → Moment → Decision → Type 0
 LeadsFrom r None c t d = ChangesNothing d
-LeadsFrom r (Some p) c t d = LeadsOn r p.now c t d
+LeadsFrom r (Some p) c t d = LeadsOn r p c t d
 
 -- no entry comes of it
 abbrev pub IsNoEntry : Decision → Type 0

@@ -2,7 +2,7 @@
 use Rattle.std.specs.Prelude.{ℕ, ◌≡◌, ◌+◌, ◌≤◌, List, [], ◌∷◌, ◌++◌, length, map, fold, sum_by, flat_map, filter_map, if◌then◌else◌, Bool, not, bytes_eq, codes, Option, Some, Result, Ok, Err}
 use Rattle.profile.specs.declared.rules.Rules.{Rules}
 use Rattle.profile.specs.Bytes.{Delims}
-use Rattle.profile.specs.Words.{SetKind}
+use Rattle.profile.specs.declared.set_kind.SetKind.{SetKind}
 use Rattle.profile.specs.Cut.{Segment, element, segments_of}
 use Rattle.profile.specs.Structure.{Set, Group, group_fault}
 use Rattle.profile.specs.Faults.{SetFault}

@@ -9,9 +9,8 @@ use Rattle.profile.specs.Register.{Act}
 use Rattle.profile.specs.declared.refusals.Refusal.{Refusal}
 use Rattle.profile.specs.Clerk.{RawLine, raw_line, sheet_of}
 use Rattle.profile.specs.Readings.{parts_at}
-use Rattle.sheets.specs.Kinds.{kind_of}
-use Rattle.sheets.specs.declared.kinds.SheetKind.{SheetKind}
-use Rattle.sheets.specs.declared.kinds.SheetKind.TheVariants.{Count, Pick, Recount}
+use Rattle.profile.specs.declared.sheet_kind.SheetKind.{SheetKind}
+use Rattle.profile.specs.declared.sheet_kind.SheetKind.TheVariants.{Count, Pick, Recount}
 use Rattle.rules.specs.Asked.{by_kind}
 
 -- what was done, and to what
@@ -43,7 +42,7 @@ with_sheet h (Err refusal) = None
 
 -- the act of a head and of lines, where they make a sheet by the rules
 abbrev pub act_from : Rules → List RawLine → Head → Option Act
-act_from r lines h = with_sheet h (sheet_of r (kind_of h.kind) lines)
+act_from r lines h = with_sheet h (sheet_of r h.kind lines)
 
 abbrev pub act_among : Rules → List (List ℕ) → Option Act
 act_among r [] = None

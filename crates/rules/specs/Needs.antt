@@ -5,7 +5,9 @@ use Rattle.std.specs.Prelude.{ℕ, ◌≡◌, true, false, List, [], ◌∷◌, 
 use Rattle.profile.specs.declared.rules.Rules.{Rules}
 use Rattle.profile.specs.Bytes.{Delims}
 use Rattle.profile.specs.Cut.{Segment, cut}
-use Rattle.profile.specs.Words.{SetKind, ShipmentAdvice, ShippingOrder, FunctionalAcknowledgment, kind_words}
+use Rattle.profile.specs.Words.{kind_words}
+use Rattle.profile.specs.declared.set_kind.SetKind.{SetKind}
+use Rattle.profile.specs.declared.set_kind.SetKind.TheVariants.{ShipmentAdvice, ShippingOrder, FunctionalAcknowledgment}
 use Rattle.profile.specs.Structure.{Set, Group, kind_of, examined, groups_of}
 use Rattle.profile.specs.Means.{advice_of, order_of, acknowledgment_of}
 use Rattle.profile.specs.Faults.{set_fault}

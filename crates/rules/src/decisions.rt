@@ -57,17 +57,17 @@ fn enrolment(alloc: Global, who: Who, moment: Moment, rules: Rules) -> Result<En
 // The decision on an enrolment.
 fn enrol(
     alloc: Global,
-    page: Option<&Page>,
+    page: Option<Page>,
     who: Who,
     moment: Moment,
     rules: Rules,
 ) -> Result<Decision, AllocError>
     ensures comes { IfOk result (Makes rules (register.Enrol who) moment) }
-    ensures leads { IfOk result (LeadsFrom rules page.entry (register.Enrol who) moment) }
+    ensures leads { IfOk result (LeadsFrom rules page (register.Enrol who) moment) }
     ensures reply { IfOk result
         (λ d. (h : Option History) (k : Option meant.Recalled) (W : Partner)
-        → StandsFor (register.Enrol who) page.entry h
-        → IsReply rules (entries_of page.entry) (register.Enrol who) moment
+        → StandsFor (register.Enrol who) page h
+        → IsReply rules (entries_of page) (register.Enrol who) moment
         (meant.reply_by rules W h k (register.Enrol who) moment) d) }
 {
     if page.is_some() {
@@ -84,7 +84,7 @@ fn enrol(
 fn perform(
     alloc: Global,
     warehouse: &Warehouse,
-    page: Option<&Page>,
+    page: Option<Page>,
     known: Option<&Known>,
     who: Who,
     ticket: &[u8],
@@ -95,12 +95,12 @@ fn perform(
     requires { IsAtRest page }
     ensures comes { IfOk result (Makes rules (register.Clerk who ticket.now (act_of act.now)) moment) }
     ensures leads { IfOk result
-        (LeadsFrom rules page.entry (register.Clerk who ticket.now (act_of act.now)) moment) }
+        (LeadsFrom rules page (register.Clerk who ticket.now (act_of act.now)) moment) }
     ensures reply { IfOk result
         (λ d. (h : Option History) (k : Option meant.Recalled)
-        → IsGiven page.entry (option_copied known.entry)
+        → IsGiven page (option_copied known.entry)
         (register.Clerk who ticket.now (act_of act.now)) h k
-        → IsReply rules (entries_of page.entry) (register.Clerk who ticket.now (act_of act.now))
+        → IsReply rules (entries_of page) (register.Clerk who ticket.now (act_of act.now))
         moment (meant.clerk_by rules warehouse.now h k who ticket.now (act_of act.now) moment) d) }
 {
     let Some(page) = page else {
@@ -112,7 +112,7 @@ fn perform(
         moment,
         number: page.next_number(),
     };
-    clerk(alloc, &envelope, page, known, ticket, act, rules)
+    clerk(alloc, &envelope, &page, known, ticket, act, rules)
 }
 
 /// What a command comes to under the rules of the day, by the page of the depositor that it names,
@@ -123,7 +123,7 @@ fn perform(
 pub fn decide(
     alloc: Global,
     warehouse: &Warehouse,
-    page: Option<&Page>,
+    page: Option<Page>,
     known: Option<&Known>,
     command: &Command<'_>,
     moment: Moment,
@@ -131,15 +131,15 @@ pub fn decide(
 ) -> Result<Decision, AllocError>
     requires { IsAtRest page }
     ensures comes { IfOk result (Makes rules (asked command.now) moment) }
-    ensures leads { IfOk result (LeadsFrom rules page.entry (asked command.now) moment) }
+    ensures leads { IfOk result (LeadsFrom rules page (asked command.now) moment) }
     ensures tables { IfOk result
         (λ d. (W : Partner) (L : List register.Entry)
-        → StandsFor (asked command.now) page.entry (standing (own_of L (asked command.now)))
+        → StandsFor (asked command.now) page (standing (own_of L (asked command.now)))
         → LeadsInTables rules W L (asked command.now) moment d) }
     ensures reply { IfOk result
         (λ d. (h : Option History) (k : Option meant.Recalled)
-        → IsGiven page.entry (option_copied known.entry) (asked command.now) h k
-        → IsReply rules (entries_of page.entry) (asked command.now) moment
+        → IsGiven page (option_copied known.entry) (asked command.now) h k
+        → IsReply rules (entries_of page) (asked command.now) moment
         (meant.reply_by rules warehouse.now h k (asked command.now) moment) d) }
 {
     match command {

@@ -106,7 +106,7 @@ fn entry(
 fn accepted(
     alloc: Global,
     envelope: Envelope,
-    page: &Page,
+    page: Page,
     header: &Isa<'_>,
     interchange: &Interchange<'_>,
     text: &[u8],
@@ -120,22 +120,23 @@ fn accepted(
     } }
     requires readable { is_unreadable text.now ≡ false }
     requires clean { structure_note text.now ≡ None }
-    requires number { envelope.number ≡ page.now.entries + 1 }
-    requires rest { page.now.recent ≡ 0 }
+    requires number { envelope.number ≡ page.entries + 1 }
+    requires rest { page.recent ≡ 0 }
     requires whose { envelope.depositor ≡ sender text.now }
     ensures comes { IfOk result (Makes rules (register.Interchange text.now) envelope.moment) }
-    ensures leads { IfOk result (LeadsOn rules page.now (register.Interchange text.now) envelope.moment) }
+    ensures leads { IfOk result
+        (LeadsOn rules page (register.Interchange text.now) envelope.moment) }
     ensures once { IfOk result (PutsOnce) }
     ensures reply { IfOk result (λ d. (h : History) (P : PageFacts)
-        → HasNeeded (register.Interchange text.now) page.now P → IsPageOf P h
-        → IsReply rules page.now.entries (register.Interchange text.now) envelope.moment
+        → HasNeeded (register.Interchange text.now) page P → IsPageOf P h
+        → IsReply rules page.entries (register.Interchange text.now) envelope.moment
         (recalled.accepted_by
         envelope.warehouse h (replies.interchange_entry rules text.now envelope.moment)) d) }
 {
     if page.entries() >= MOST_ENTRIES {
         return Ok(Decision::Refused(Refusal::NumbersUsedUp, Vec::new(alloc)));
     }
-    let groups = take_groups(alloc, page.copy()?, interchange, rules)?;
+    let groups = take_groups(alloc, page, interchange, rules)?;
     let all = groups.changes;
     let changes = lasting(alloc, &groups.page, all)?;
     let outgoing = answer(alloc, envelope, header, &groups.told)?;
@@ -173,7 +174,7 @@ fn halted(
 fn fresh(
     alloc: Global,
     warehouse: &Warehouse,
-    page: &Page,
+    page: Page,
     who: Who,
     header: &Isa<'_>,
     text: &[u8],
@@ -182,14 +183,15 @@ fn fresh(
 ) -> Result<Decision, AllocError>
     requires same { header.now ≡ text.now }
     requires readable { is_unreadable text.now ≡ false }
-    requires rest { page.now.recent ≡ 0 }
+    requires rest { page.recent ≡ 0 }
     requires whose { who ≡ sender text.now }
     ensures comes { IfOk result (Makes rules (register.Interchange text.now) moment) }
-    ensures leads { IfOk result (LeadsOn rules page.now (register.Interchange text.now) moment) }
+    ensures leads { IfOk result (LeadsOn rules page (register.Interchange text.now) moment) }
     ensures reply { IfOk result (λ d. (h : History) (P : PageFacts)
-        → HasNeeded (register.Interchange text.now) page.now P → IsPageOf P h
-        → IsReply rules page.now.entries (register.Interchange text.now) moment (recalled.interchange_new
-        rules warehouse.now h text.now moment (recalled.new_note warehouse.now text.now)) d) }
+        → HasNeeded (register.Interchange text.now) page P → IsPageOf P h
+        → IsReply rules page.entries (register.Interchange text.now) moment
+        (recalled.interchange_new rules warehouse.now h text.now moment
+        (recalled.new_note warehouse.now text.now)) d) }
 {
     if let Some(code) = header_note(header, &warehouse.who()) {
         return noted(alloc, warehouse, header, moment, code);
@@ -210,7 +212,7 @@ fn fresh(
 fn readable(
     alloc: Global,
     warehouse: &Warehouse,
-    page: Option<&Page>,
+    page: Option<Page>,
     known: Option<&Known>,
     header: &Isa<'_>,
     text: &[u8],
@@ -221,10 +223,10 @@ fn readable(
     requires readable { is_unreadable text.now ≡ false }
     requires rest { IsAtRest page }
     ensures comes { IfOk result (Makes rules (register.Interchange text.now) moment) }
-    ensures leads { IfOk result (LeadsFrom rules page.entry (register.Interchange text.now) moment) }
+    ensures leads { IfOk result (LeadsFrom rules page (register.Interchange text.now) moment) }
     ensures reply { IfOk result (λ d. (h : Option History) (k : Option recalled.Recalled)
-        → IsGiven page.entry (option_copied known.entry) (register.Interchange text.now) h k
-        → IsReply rules (entries_of page.entry) (register.Interchange text.now) moment
+        → IsGiven page (option_copied known.entry) (register.Interchange text.now) h k
+        → IsReply rules (entries_of page) (register.Interchange text.now) moment
         (recalled.interchange_known
         rules warehouse.now h k text.now moment) d) }
 {
@@ -244,7 +246,7 @@ fn readable(
 pub(crate) fn interchange(
     alloc: Global,
     warehouse: &Warehouse,
-    page: Option<&Page>,
+    page: Option<Page>,
     known: Option<&Known>,
     text: &[u8],
     moment: Moment,
@@ -252,10 +254,10 @@ pub(crate) fn interchange(
 ) -> Result<Decision, AllocError>
     requires { IsAtRest page }
     ensures comes { IfOk result (Makes rules (register.Interchange text.now) moment) }
-    ensures leads { IfOk result (LeadsFrom rules page.entry (register.Interchange text.now) moment) }
+    ensures leads { IfOk result (LeadsFrom rules page (register.Interchange text.now) moment) }
     ensures reply { IfOk result (λ d. (h : Option History) (k : Option recalled.Recalled)
-        → IsGiven page.entry (option_copied known.entry) (register.Interchange text.now) h k
-        → IsReply rules (entries_of page.entry) (register.Interchange text.now) moment
+        → IsGiven page (option_copied known.entry) (register.Interchange text.now) h k
+        → IsReply rules (entries_of page) (register.Interchange text.now) moment
         (recalled.interchange_by
         rules warehouse.now h k text.now moment) d) }
 {

@@ -6,14 +6,13 @@ ghost use Rattle.profile.specs.Bytes.{Delims as Delimiters};
 ghost use Rattle.profile.specs.Events.{Event};
 ghost use Rattle.profile.specs.History as meant;
 ghost use Rattle.profile.specs.Faults.{set_fault};
-ghost use Rattle.profile.specs.Words as kinds;
+ghost use Rattle.profile.specs.declared.set_kind.SetKind.TheVariants as kinds;
 ghost use Rattle.profile.specs.Words.{kind_words};
 ghost use Rattle.stock.specs.Pages.{PageFacts, IsSound};
 ghost use Rattle.stock.specs.Parts.{Named, IsPart};
 ghost use Rattle.stock.specs.Puts.{put};
 ghost use Rattle.stock.specs.Shows.{Shows};
 ghost use Rattle.tables.specs.Judged.{IsClosed, told};
-ghost use Rattle.tables.specs.Kinds.{kind_of};
 ghost use Rattle.rules.specs.Needs.{NamesSet};
 ghost use Rattle.rules.specs.Judging.{IsStep, IsStop, IsVerdict, CanBePut, OnPages};
 
@@ -139,9 +138,9 @@ pub(crate) fn judged<'a>(
     requires room { page.now.recent < most_sets }
     ensures value { IfOk result (λ v. (d : Delimiters) → AreOf d segments.now
         → (n : Named) (P : PageFacts) (es : List Event) → IsPart n page.now P
-        → (set_fault rules d (kind_words rules (kind_of kind)) (segments_of segments.now) ≡ None
-        → NamesSet n (kind_of kind) (segments_of segments.now)) → Shows P es
-        → IsVerdict P es (meant.by_segment (meant.judged rules d es (page.now.entries + 1) (kind_of kind)
+        → (set_fault rules d (kind_words rules kind) (segments_of segments.now) ≡ None
+        → NamesSet n kind (segments_of segments.now)) → Shows P es
+        → IsVerdict P es (meant.by_segment (meant.judged rules d es (page.now.entries + 1) kind
         (segments_of segments.now))) v) }
     ensures fits { IfOk result (CanBePut page.now) }
 {

@@ -6,7 +6,7 @@ ghost use Rattle.rules.specs.Kinds.{kind_text, kind_by};
 use crate::entries::Entry;
 
 /// What kind of text went out.
-#[derive(Clone, Copy, Debug, PartialEq, Eq)]
+#[derive(Clone, Copy, PartialEq, Eq)]
 pub enum OutKind {
     /// The answer to an interchange.
     Answer,

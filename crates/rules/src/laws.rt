@@ -17,7 +17,6 @@ ghost use Rattle.stock.specs.Pages.{PageFacts, IsSound};
 ghost use Rattle.stock.specs.Shows.{Shows, sent_under};
 ghost use Rattle.stock.specs.Puts.{put};
 ghost use Rattle.stock.specs.declared.steps.Change.{Change};
-ghost use Rattle.std.specs.Borrow.{Bor};
 ghost use Rattle.rules.specs.Decided.{IsPageOf, IsHeldPart, StandsFor};
 ghost use Rattle.rules.specs.Defined.{IsDefined};
 ghost use Rattle.rules.specs.Fitting.{IsFitting, has_columns};
@@ -139,7 +138,7 @@ pub fn a_whole_page_is_a_part_of_itself()
 /// The part that a command's need names of a depositor's page is all that a decision on it is
 /// given.
 pub fn a_part_stands_for_its_page()
-    ensures { (c : Command) (page : Bor PageFacts) (h : History) → IsHeldPart (need_of c) page.now h
+    ensures { (c : Command) (page : PageFacts) (h : History) → IsHeldPart (need_of c) page h
         → StandsFor c (Some page) (Some h) }
 {}
 

@@ -20,7 +20,7 @@ ghost use Rattle.stock.specs.Puts.{put};
 ghost use Rattle.stock.specs.Shows.{Shows};
 ghost use Rattle.stock.specs.Stops.{StopsAct};
 ghost use Rattle.rules.specs.Asked.{act_of};
-ghost use Rattle.rules.specs.Decided.{IsHeldAtRest, IsPageOf};
+ghost use Rattle.rules.specs.Decided.{IsAtRest, IsPageOf};
 ghost use Rattle.rules.specs.Played.{IsBefore, IsPlayed, IsReplayed, is_clean, number_after};
 ghost use Rattle.rules.specs.Written.{written_as};
 
@@ -300,7 +300,7 @@ pub fn replay(
     page: Option<Page>,
     entry: &Entry,
 ) -> Result<Replayed, AllocError>
-    requires { IsHeldAtRest page }
+    requires { IsAtRest page }
     ensures rest { IfOk result (λ r. r.page.recent ≡ 0) }
     ensures replayed { IfOk result (λ r. (h : History) (e : register.Entry) → IsBefore page h e
         → entry.now ≡ written_as (number_after h e) e → number_after h e ≤ most_entries

@@ -8,7 +8,6 @@ ghost use Rattle.profile.specs.Structure as meant;
 ghost use Rattle.profile.specs.Texts.{stated_sets};
 ghost use Rattle.stock.specs.Pages.{IsSound};
 ghost use Rattle.stock.specs.Puts.{put};
-ghost use Rattle.tables.specs.Kinds.{kind_of};
 ghost use Rattle.rules.specs.Judging.{AreTaken, IsGroupTaken, AreGroupsTaken, IsSmall, is_answered, told_with, told_if};
 
 use crate::judging::{Verdict, judged};
@@ -108,7 +107,7 @@ fn take_set<'a>(
     requires room { page.recent < most_sets }
     requires closed { fault ≡ None → set.now.set.is_closed ≡ true }
     ensures { IfOk result
-        (λ t. AreTaken rules set.now.delims (Some (kind_of kind)) ((set.now.set, fault)
+        (λ t. AreTaken rules set.now.delims (Some kind) ((set.now.set, fault)
         ∷ []) page t.page t.changes.items (t.told ∷ [])) }
 {
     if let Some(code) = fault {
@@ -134,7 +133,7 @@ fn take_sets<'a>(
 ) -> Result<TakenSets<'a>, AllocError>
     requires { start.recent + length group.now.group.sets ≤ most_sets }
     ensures { IfOk result
-        (λ t. AreTaken rules group.now.delims (Some (kind_of kind)) (meant.examined group.now.group)
+        (λ t. AreTaken rules group.now.delims (Some kind) (meant.examined group.now.group)
         start t.page t.changes.items t.told.items) }
 {
     let faults = group.set_faults(alloc)?;

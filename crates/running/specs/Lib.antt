@@ -1,3 +1,4 @@
 pub mod Checking
 pub mod Faults
+pub mod Opening
 pub mod Working

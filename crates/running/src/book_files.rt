@@ -1,18 +1,15 @@
 //! The book in a file, and its log beside it. A book is opened and closed over any store, and a
 //! database closed over any disk, since what owns a store on disk is dear to prove.
 
-ghost use Rattle.std.specs.Prelude.{◌≡◌, ◌≢◌, ◌⊎◌, [], List, true, false, IfOk, IfErr, IsErrOf};
-ghost use Rattle.profile.specs.declared.rules.Rules.{Rules};
-ghost use Rattle.profile.specs.Header.{Who as Partner};
-ghost use Rattle.profile.specs.Register.{Entry};
+ghost use Rattle.std.specs.Prelude.{◌≡◌, ◌≢◌, ◌⊎◌, [], true, false, IfOk, IfErr, IsErrOf};
 ghost use Rattle.sqlite.specs.Held.{state};
 ghost use Rattle.sqlite.specs.State.{HasCleanDisk};
 ghost use Rattle.store.specs.Standing.{IsUsable};
-ghost use Rattle.book_statements.specs.Carrying.{StandsOpenAs};
 ghost use Rattle.book_statements.specs.Layout.{no_layout};
 ghost use Rattle.books.specs.Opened.{standing_of};
 ghost use Rattle.running.specs.Checking.{IsReadAnew};
 ghost use Rattle.running.specs.Faults as meant;
+ghost use Rattle.running.specs.Opening.{OfFile};
 
 use books::{Book, Tables, is_blank};
 use commands::CommandError;
@@ -71,9 +68,7 @@ pub fn make<S: Alter + Drop>(
         → IsErrOf result (CommandError.Fault Fault.NotThisBook) }
     ensures free { IfErr result (λ stop. stop ≡ CommandError.Fault Fault.NotThisBook
         → (state S.Store database).now.schema ≢ no_layout) }
-    ensures named { IfErr result (λ stop. (stop ≡ CommandError.Fault Fault.NotThisBook)
-        ⊎ ((stop ≡ CommandError.Fault Fault.OutOfMemory)
-        ⊎ (stop ≡ CommandError.Fault Fault.Store))) }
+    ensures named { IfErr result meant.IsBookFault }
 {
     if !is_blank(&database) {
         return Err(CommandError::Fault(Fault::NotThisBook));
@@ -95,16 +90,11 @@ pub fn open<S: Alter + Drop, T: FnMut(u64, u64)>(
 ) -> Result<Book<S>, CommandError>
     requires free { database.in_transaction ≡ false }
     requires told { T.IsAlwaysCallable told }
-    ensures usable { IfOk result (λ b. HasCleanDisk (state S.Store b.tables.conn)
-        → (q : Rules) (W : Partner) (L : List Entry) → StandsOpenAs q (state S.Store database) W L
-        → IsUsable (standing_of S.Store b) L) }
-    ensures warehouse { IfOk result (λ b. HasCleanDisk (state S.Store b.tables.conn)
-        → (q : Rules) (W : Partner) (L : List Entry) → StandsOpenAs q (state S.Store database) W L
-        → b.warehouse ≡ W) }
+    ensures usable { IfOk result (λ b. OfFile S.Store database b
+        (λ _ L. IsUsable (standing_of S.Store b) L)) }
+    ensures warehouse { IfOk result (λ b. OfFile S.Store database b (λ W _. b.warehouse ≡ W)) }
     ensures opened { IfOk result (λ b. b.shut ≡ false) }
-    ensures named { IfErr result (λ stop. (stop ≡ CommandError.Fault Fault.NotThisBook)
-        ⊎ ((stop ≡ CommandError.Fault Fault.OutOfMemory)
-        ⊎ (stop ≡ CommandError.Fault Fault.Store))) }
+    ensures named { IfErr result meant.IsBookFault }
 {
     match Book::open_from_telling(alloc, Tables::new(database), told) {
         Ok(book) => Ok(book),
@@ -126,9 +116,7 @@ pub fn open_anew<S: Alter + Drop, T: FnMut(u64, u64)>(
     ensures opened { IfOk result (λ b. b.shut ≡ false) }
     ensures anew { IfOk result (λ b. HasCleanDisk (state S.Store b.tables.conn)
         → IsReadAnew (state S.Store database) (state S.Store b.tables.conn)) }
-    ensures named { IfErr result (λ stop. (stop ≡ CommandError.Fault Fault.NotThisBook)
-        ⊎ ((stop ≡ CommandError.Fault Fault.OutOfMemory)
-        ⊎ ((stop ≡ CommandError.Fault Fault.Store) ⊎ (stop ≡ CommandError.Fault Fault.Device)))) }
+    ensures named { IfErr result meant.IsReadFault }
 {
     let tables = match Tables::new(database).reopened(alloc) {
         Ok(tables) => tables,

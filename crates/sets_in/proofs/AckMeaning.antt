@@ -5,7 +5,8 @@ use Rattle.std.specs.List.{AllByRecursion}
 use Rattle.std.proofs.lemmas.Slice.Eq.{bytes_eq-Decides}
 use Rattle.profile.specs.Bytes.{Delims, value}
 use Rattle.profile.specs.Cut.{Segment, element, id_of, has_id, segment_with, segments_of, last_segment}
-use Rattle.profile.specs.Words.{Words, Never, Empty, One, Then, Or, Times, IsWord, IsRow, mentions, words_997, FunctionalAcknowledgment}
+use Rattle.profile.specs.Words.{Words, Never, Empty, One, Then, Or, Times, IsWord, IsRow, mentions, words_997}
+use Rattle.profile.specs.declared.set_kind.SetKind.TheVariants.{FunctionalAcknowledgment}
 use Rattle.profile.specs.declared.rules.Rules.TheVariants.{Two}
 use Rattle.profile.specs.Faults.{fault_from}
 use Rattle.profile.specs.Limits.{most_told_sets}

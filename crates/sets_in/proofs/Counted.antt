@@ -6,7 +6,9 @@ use Rattle.profile.specs.declared.rules.Rules.{Rules}
 use Rattle.profile.specs.declared.rules.Rules.TheVariants.{One, Two}
 use Rattle.profile.specs.Bytes.{Delims}
 use Rattle.profile.specs.Cut.{Segment, segments_of, segment_with, element}
-use Rattle.profile.specs.Words.{SetKind, ShippingOrder, ShipmentAdvice, FunctionalAcknowledgment, kind_words, words_940, words_943, words_997}
+use Rattle.profile.specs.Words.{kind_words, words_940, words_943, words_997}
+use Rattle.profile.specs.declared.set_kind.SetKind.{SetKind}
+use Rattle.profile.specs.declared.set_kind.SetKind.TheVariants.{ShippingOrder, ShipmentAdvice, FunctionalAcknowledgment}
 use Rattle.profile.specs.Faults.{fault_from, set_fault}
 use Rattle.profile.specs.declared.widths.TheConstants.{ADVICE_TOTAL_DIGITS_TWO, ORDER_TOTAL_DIGITS_TWO}
 use Rattle.profile.proofs.FaultsLaws.{set_fault-from}

@@ -5,7 +5,7 @@ use Rattle.std.proofs.Common.{inl, inr}
 use Rattle.std.specs.List.{AllByRecursion}
 use Rattle.profile.specs.Bytes.{value}
 use Rattle.profile.specs.Cut.{Segment, element, id_of, has_id, segment_with, segments_of}
-use Rattle.profile.specs.Words.{ShipmentAdvice}
+use Rattle.profile.specs.declared.set_kind.SetKind.TheVariants.{ShipmentAdvice}
 use Rattle.profile.specs.Means.{Advice, AdviceLine, advice_of, advice_line, expiry_of, segment_at, place_of}
 use Rattle.tables.specs.Judged.{Whole, IsSound}
 use Rattle.sets_in.specs.Places.{places_from}

@@ -5,7 +5,7 @@ use Rattle.std.specs.List.{AllByRecursion, take_while}
 use Rattle.std.proofs.lemmas.List.Sums.{take_while-cons}
 use Rattle.profile.specs.Bytes.{value}
 use Rattle.profile.specs.Cut.{Segment, element, id_of, has_id, segment_with, segments_of}
-use Rattle.profile.specs.Words.{ShippingOrder}
+use Rattle.profile.specs.declared.set_kind.SetKind.TheVariants.{ShippingOrder}
 use Rattle.profile.specs.Means.{Order, OrderLine, Address, order_of, order_line, pin_of, is_ship_to, address_of, ship_to, spaced, segment_at, place_of}
 use Rattle.tables.specs.Judged.{Whole, IsSound}
 use Rattle.sets_in.specs.Places.{places_from}

@@ -1,7 +1,7 @@
 ghost use Rattle.std.specs.Prelude.{◌≡◌, IfOk, codes};
 ghost use Rattle.profile.specs.Cut.{segments_of, segment_with, element};
 ghost use Rattle.profile.specs.Means as meant;
-ghost use Rattle.profile.specs.Words as kinds;
+ghost use Rattle.profile.specs.declared.set_kind.SetKind.TheVariants as kinds;
 ghost use Rattle.sets_in.specs.Amounts.{IsAmount};
 ghost use Rattle.sets_in.specs.SaidAck.{SaysAck};
 
@@ -12,7 +12,7 @@ use std::marker::Model;
 use tables::Checked;
 
 /// What a functional acknowledgment (997) says of one of our documents.
-#[derive(Debug, Drop)]
+#[derive(Drop)]
 pub struct AckIn {
     /// The functional identifier of the document's group (AK101).
     pub function: Vec<u8>,
@@ -43,7 +43,7 @@ fn acknowledged<'a>(set: &Checked<'a>) -> &'a [Segment<'a>]
 }
 
 // What the segments of an acknowledgment say.
-fn told(alloc: Global, segments: &[Segment<'_>]) -> Result<AckIn, AllocError>
+fn said(alloc: Global, segments: &[Segment<'_>]) -> Result<AckIn, AllocError>
     requires { IsAmount 9 (element (segment_with (codes "AK1") (segments_of segments.now)) 2) }
     ensures { IfOk result (λ a. a ≡ meant.acknowledgment_of (segments_of segments.now)) }
 {
@@ -63,5 +63,5 @@ pub fn ack(alloc: Global, set: &Checked<'_>) -> Result<AckIn, AllocError>
     ensures value { IfOk result (λ a. a ≡ meant.acknowledgment_of (segments_of set.now.pieces)) }
     ensures says { IfOk result (λ a. SaysAck (segments_of set.now.pieces) a) }
 {
-    told(alloc, acknowledged(set))
+    said(alloc, acknowledged(set))
 }

@@ -3,7 +3,7 @@ ghost use Rattle.profile.specs.declared.rules.Rules.TheVariants.{Two};
 ghost use Rattle.profile.specs.Cut.{segments_of, places_of, element};
 ghost use Rattle.profile.specs.Limits.{most_quantity};
 ghost use Rattle.profile.specs.Means as meant;
-ghost use Rattle.profile.specs.Words as kinds;
+ghost use Rattle.profile.specs.declared.set_kind.SetKind.TheVariants as kinds;
 ghost use Rattle.profile.specs.declared.widths.TheConstants.{ADVICE_TOTAL_DIGITS_TWO, QUANTITY_DIGITS_TWO};
 ghost use Rattle.sets_in.specs.Amounts.{IsAmount, IsCounted, HaveAmounts};
 ghost use Rattle.sets_in.specs.Said.{SaysAdvice};
@@ -95,7 +95,7 @@ fn advice_lines(alloc: Global, segments: &[Segment<'_>]) -> Result<Vec<AdviceLin
 }
 
 // What the segments of an advice say.
-fn told(alloc: Global, segments: &[Segment<'_>]) -> Result<Advice, AllocError>
+fn said(alloc: Global, segments: &[Segment<'_>]) -> Result<Advice, AllocError>
     requires short { length segments.now < 2 ^ 32 - 1 }
     requires counted { IsCounted (codes "W04") (codes "W03") ADVICE_TOTAL_DIGITS_TWO
         (segments_of segments.now) }
@@ -120,5 +120,5 @@ pub fn advice(alloc: Global, set: &Checked<'_>) -> Result<Advice, AllocError>
     ensures value { IfOk result (λ a. a ≡ meant.advice_of (segments_of set.now.pieces)) }
     ensures says { IfOk result (λ a. SaysAdvice (segments_of set.now.pieces) a) }
 {
-    told(alloc, advised(set))
+    said(alloc, advised(set))
 }

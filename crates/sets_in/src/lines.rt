@@ -4,7 +4,7 @@ ghost use Rattle.profile.specs.Means.{Line as LineSaid, AdviceLine as AdviceLine
 use std::marker::Model;
 
 /// A quantity of a lot of an item.
-#[derive(Clone, Debug, Drop)]
+#[derive(Clone, Drop)]
 pub struct Goods {
     /// The item (W04 or W01, element 5).
     pub item: Vec<u8>,
@@ -21,7 +21,7 @@ impl Model for Goods {
 }
 
 /// A line of an advice.
-#[derive(Debug, Drop)]
+#[derive(Drop)]
 pub struct AdviceLine {
     /// What is advised.
     pub line: Goods,

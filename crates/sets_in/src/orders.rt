@@ -3,7 +3,7 @@ ghost use Rattle.profile.specs.declared.rules.Rules.TheVariants.{Two};
 ghost use Rattle.profile.specs.Cut.{segments_of, places_of, element};
 ghost use Rattle.profile.specs.Limits.{most_quantity};
 ghost use Rattle.profile.specs.Means as meant;
-ghost use Rattle.profile.specs.Words as kinds;
+ghost use Rattle.profile.specs.declared.set_kind.SetKind.TheVariants as kinds;
 ghost use Rattle.profile.specs.declared.widths.TheConstants.{ORDER_TOTAL_DIGITS_TWO, QUANTITY_DIGITS_TWO};
 ghost use Rattle.sets_in.specs.Amounts.{IsAmount, IsCounted, HaveAmounts};
 ghost use Rattle.sets_in.specs.SaidOrder.{SaysOrder};
@@ -88,7 +88,7 @@ fn order_lines(alloc: Global, segments: &[Segment<'_>]) -> Result<Vec<OrderLine>
 }
 
 // What the segments of an order say.
-fn told(alloc: Global, segments: &[Segment<'_>]) -> Result<Order, AllocError>
+fn said(alloc: Global, segments: &[Segment<'_>]) -> Result<Order, AllocError>
     requires short { length segments.now < 2 ^ 32 - 1 }
     requires counted { IsCounted (codes "W01") (codes "W76") ORDER_TOTAL_DIGITS_TWO
         (segments_of segments.now) }
@@ -113,5 +113,5 @@ pub fn order(alloc: Global, set: &Checked<'_>) -> Result<Order, AllocError>
     ensures value { IfOk result (λ o. o ≡ meant.order_of (segments_of set.now.pieces)) }
     ensures says { IfOk result (λ o. SaysOrder (segments_of set.now.pieces) o) }
 {
-    told(alloc, ordered(set))
+    said(alloc, ordered(set))
 }

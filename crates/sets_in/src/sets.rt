@@ -6,7 +6,7 @@ use crate::lines::AdviceLine;
 use std::marker::Model;
 
 /// What a shipment advice (943) says.
-#[derive(Debug, Drop)]
+#[derive(Drop)]
 pub struct Advice {
     pub(crate) shipment: Vec<u8>,
     pub(crate) order: Vec<u8>,
@@ -69,7 +69,7 @@ impl Advice {
 
 /// Where an order goes: the first N1 of its set with code ST, and the N3 and N4 that belong to it.
 /// A text that isn't there is empty.
-#[derive(Clone, Debug, Drop)]
+#[derive(Clone, Drop)]
 pub struct Address {
     /// The name (N102).
     pub name: Vec<u8>,

@@ -6,7 +6,7 @@ use crate::sets::Address;
 use std::marker::Model;
 
 /// A line of an order: of one lot alone where it is pinned to that.
-#[derive(Debug, Drop)]
+#[derive(Drop)]
 pub struct OrderLine {
     /// The item (W01, element 5).
     pub item: Vec<u8>,
@@ -30,7 +30,7 @@ impl Model for OrderLine {
 }
 
 /// What a shipping order (940) says.
-#[derive(Debug, Drop)]
+#[derive(Drop)]
 pub struct Order {
     pub(crate) number: Vec<u8>,
     pub(crate) address: Option<Address>,

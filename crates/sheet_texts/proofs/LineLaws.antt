@@ -6,7 +6,8 @@ use Rattle.std.proofs.Common.{lt-ltb, ltb-true}
 use Rattle.std.proofs.lemmas.List.{length-take, take_all}
 use Rattle.profile.specs.declared.rules.Rules.{Rules}
 use Rattle.profile.specs.Limits.{most_lines}
-use Rattle.profile.specs.Clerk.{SheetKind, raw_line, sheet_of, sheet_of_records}
+use Rattle.profile.specs.Clerk.{raw_line, sheet_of, sheet_of_records}
+use Rattle.profile.specs.declared.sheet_kind.SheetKind.{SheetKind}
 use Rattle.profile.specs.declared.refusals.Refusal.TheVariants.{TooManyLines, BadText}
 use Rattle.csv.specs.Records.{field_at}
 use Rattle.sheet_texts.specs.Texts.{field_of}

@@ -13,7 +13,9 @@ use Rattle.profile.specs.Events.{pair_before}
 use Rattle.profile.specs.Means.{Line}
 use Rattle.profile.specs.declared.refusals.Refusal.{Refusal}
 use Rattle.profile.specs.declared.refusals.Refusal.TheVariants.{TooMuch, RepeatedLine, BadText, TooManyLines}
-use Rattle.profile.specs.Clerk.{RawLine, SheetKind, CountSheet, PickSheet, RecountSheet, raw_line, line_of, is_bad_line, is_too_much, picks_nothing, same_raw_pair, sheet_of, sheet_of_records}
+use Rattle.profile.specs.Clerk.{RawLine, raw_line, line_of, is_bad_line, is_too_much, picks_nothing, same_raw_pair, sheet_of, sheet_of_records}
+use Rattle.profile.specs.declared.sheet_kind.SheetKind.{SheetKind}
+use Rattle.profile.specs.declared.sheet_kind.SheetKind.TheVariants.{Count as CountSheet, Pick as PickSheet, Recount as RecountSheet}
 use Rattle.profile.proofs.TextLaws.{both_parts}
 use Rattle.csv.specs.Records.{field_at}
 use Rattle.segments.proofs.DigitsLemmas.{few_digits}

@@ -1,3 +1,2 @@
 pub mod Texts
 pub mod Reasons
-pub use Rattle.sheets.specs.Kinds

@@ -8,7 +8,9 @@ use Rattle.profile.specs.Bytes.{is_identifier, is_number}
 use Rattle.profile.specs.Lists.{first_of}
 use Rattle.profile.specs.declared.refusals.Refusal.{Refusal}
 use Rattle.profile.specs.declared.refusals.Refusal.TheVariants.{TooMuch, RepeatedLine, BadText, TooManyLines}
-use Rattle.profile.specs.Clerk.{RawLine, SheetKind, RecountSheet, is_too_much, is_bad_line, same_raw_pair, raw_line}
+use Rattle.profile.specs.Clerk.{RawLine, is_too_much, is_bad_line, same_raw_pair, raw_line}
+use Rattle.profile.specs.declared.sheet_kind.SheetKind.{SheetKind}
+use Rattle.profile.specs.declared.sheet_kind.SheetKind.TheVariants.{Recount as RecountSheet}
 use Rattle.sheet_texts.specs.Texts.{field_of, records_of}
 
 -- a record as a line, however many fields it has: one that isn't there is empty

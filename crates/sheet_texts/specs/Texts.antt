@@ -3,7 +3,8 @@ use Rattle.std.specs.Prelude.{ℕ, List, [], Option, Some, None, Result}
 use Rattle.csv.specs.Reading.{records, default_config, strip_bom}
 use Rattle.csv.specs.Records.{field_at}
 use Rattle.profile.specs.declared.rules.Rules.{Rules}
-use Rattle.profile.specs.Clerk.{SheetKind, sheet_of_records}
+use Rattle.profile.specs.Clerk.{sheet_of_records}
+use Rattle.profile.specs.declared.sheet_kind.SheetKind.{SheetKind}
 use Rattle.profile.specs.Means.{Line}
 use Rattle.profile.specs.declared.refusals.Refusal.{Refusal}
 

@@ -5,7 +5,6 @@ ghost use Rattle.std.specs.String.{string_bytes};
 ghost use Rattle.csv.specs.Records.{fields_of};
 ghost use Rattle.profile.specs.declared.rules.Rules.TheVariants.{Two};
 ghost use Rattle.profile.specs.Bytes.{is_identifier_byte};
-ghost use Rattle.sheets.specs.Kinds.{kind_of};
 ghost use Rattle.sheet_texts.specs.Texts.{sheet_of_text};
 ghost use Rattle.sheet_texts.specs.Reasons as reasons;
 
@@ -30,7 +29,7 @@ pub struct BadLine {
 // What of a record can't be read, if something can't.
 fn unread_in(kind: SheetKind, row: &ByteRecord) -> Option<&'static str>
     ensures { option_map (λ why. why.now) result ≡ reasons.where_so
-        (reasons.is_unread (kind_of kind) (fields_of row.now))
+        (reasons.is_unread kind (fields_of row.now))
         (reasons.unread_text (fields_of row.now)) }
 {
     let quantity = field(row, 2);
@@ -55,8 +54,8 @@ fn unread_in(kind: SheetKind, row: &ByteRecord) -> Option<&'static str>
 // Why a record's quantity is over the limit, if it is.
 fn too_much_in(kind: SheetKind, row: &ByteRecord) -> Option<&'static str>
     ensures { option_map (λ why. why.now) result ≡ reasons.where_so
-        (reasons.is_over (kind_of kind) (reasons.line_in (fields_of row.now)))
-        (reasons.over_text (kind_of kind)) }
+        (reasons.is_over kind (reasons.line_in (fields_of row.now)))
+        (reasons.over_text kind) }
 {
     let text = field(row, 2);
     let most = u64::from(MOST_QUANTITY_TWO);
@@ -143,8 +142,8 @@ fn bad_in(
     refusal: Refusal,
 ) -> Option<&'static str>
     ensures { option_map (λ why. why.now) result ≡ reasons.where_so
-        (reasons.is_reason (kind_of kind) (map fields_of before.now) (fields_of row.now) refusal)
-        (reasons.reason_text (kind_of kind) (fields_of row.now) refusal) }
+        (reasons.is_reason kind (map fields_of before.now) (fields_of row.now) refusal)
+        (reasons.reason_text kind (fields_of row.now) refusal) }
 {
     match refusal {
         Refusal::BadText => unread_in(kind, row),
@@ -164,10 +163,10 @@ fn first_bad_in(
     refusal: Refusal,
 ) -> Option<(&ByteRecord, &'static str)>
     ensures row { option_map (λ found. fields_of found.0.now) result ≡ option_map (λ p. p.1)
-        (reasons.first_reason (kind_of kind) refusal (map fields_of rows.now)) }
+        (reasons.first_reason kind refusal (map fields_of rows.now)) }
     ensures why { option_map (λ found. found.1.now) result
-        ≡ option_map (λ p. reasons.reason_text (kind_of kind) p.1 refusal)
-        (reasons.first_reason (kind_of kind) refusal (map fields_of rows.now)) }
+        ≡ option_map (λ p. reasons.reason_text kind p.1 refusal)
+        (reasons.first_reason kind refusal (map fields_of rows.now)) }
 {
     for (at, row) in rows.iter().enumerate() {
         if let Some(why) = bad_in(kind, row, &rows[..at], refusal) {
@@ -186,8 +185,8 @@ pub fn first_bad(
     refusal: Refusal,
 ) -> Result<Option<BadLine>, AllocError>
     ensures told { IfOk result (λ found. option_map (λ bad. string_bytes bad.why) found
-        ≡ reasons.told_of_text (kind_of kind) refusal text.now) }
-    ensures refused { IfOk result (λ found. sheet_of_text Two (kind_of kind) text.now ≡ Err refusal
+        ≡ reasons.told_of_text kind refusal text.now) }
+    ensures refused { IfOk result (λ found. sheet_of_text Two kind text.now ≡ Err refusal
         → is_some found ≡ true) }
 {
     let rows = first_records(alloc, text)?;

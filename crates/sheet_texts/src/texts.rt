@@ -3,7 +3,6 @@ ghost use Rattle.std.specs.List.{filter_map, list_any};
 ghost use Rattle.csv.specs.Records.{fields_of, field_at};
 ghost use Rattle.profile.specs.declared.rules.Rules.TheVariants.{Two};
 ghost use Rattle.profile.specs.Clerk.{is_sheet, raw_line};
-ghost use Rattle.sheets.specs.Kinds.{kind_of};
 ghost use Rattle.sheet_texts.specs.Texts.{sheet_of_text, field_of};
 
 use crate::records::first_records;
@@ -60,12 +59,12 @@ pub fn sheet(
     text: &[u8],
 ) -> Result<Result<Sheet, Refusal>, AllocError>
     ensures ok { IfOk result
-        (λ made. IfOk made (λ sheet. sheet_of_text Two (kind_of kind) text.now ≡ Ok sheet)) }
+        (λ made. IfOk made (λ sheet. sheet_of_text Two kind text.now ≡ Ok sheet)) }
     ensures kind { IfOk result
-        (λ made. IfOk made (λ sheet. is_sheet Two (kind_of kind) sheet ≡ true)) }
+        (λ made. IfOk made (λ sheet. is_sheet Two kind sheet ≡ true)) }
     ensures err { IfOk result
         (λ made. IfErr made
-        (λ refusal. sheet_of_text Two (kind_of kind) text.now ≡ Err refusal)) }
+        (λ refusal. sheet_of_text Two kind text.now ≡ Err refusal)) }
 {
     let rows = first_records(alloc, text)?;
     if rows.len() > usize::from(MOST_LINES_TWO) {

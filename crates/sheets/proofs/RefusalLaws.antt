@@ -9,7 +9,8 @@ use Rattle.profile.specs.Means.{Line}
 use Rattle.profile.specs.Events.{pair_before}
 use Rattle.profile.specs.declared.refusals.Refusal.{Refusal}
 use Rattle.profile.specs.declared.refusals.Refusal.TheVariants.{TooMuch, RepeatedLine, BadText, TooManyLines}
-use Rattle.profile.specs.Clerk.{RawLine, SheetKind, line_of, sheet_of, is_bad_line, is_too_much, same_raw_pair}
+use Rattle.profile.specs.Clerk.{RawLine, line_of, sheet_of, is_bad_line, is_too_much, same_raw_pair}
+use Rattle.profile.specs.declared.sheet_kind.SheetKind.{SheetKind}
 use Rattle.sheets.specs.Misfits.{misfit_of}
 
 abbrev refusal_or : Refusal → Option Refusal → Refusal

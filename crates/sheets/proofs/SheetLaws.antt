@@ -16,7 +16,9 @@ use Rattle.profile.specs.Means.{Line}
 use Rattle.profile.specs.Events.{pair_before}
 use Rattle.profile.specs.declared.refusals.Refusal.{Refusal}
 use Rattle.profile.specs.declared.refusals.Refusal.TheVariants.{RepeatedLine}
-use Rattle.profile.specs.Clerk.{RawLine, SheetKind, CountSheet, PickSheet, RecountSheet, line_of, sheet_of, is_sheet, is_sheet_line, is_ascending, least_quantity, quantity_limit}
+use Rattle.profile.specs.Clerk.{RawLine, line_of, sheet_of, is_sheet, is_sheet_line, is_ascending, least_quantity, quantity_limit}
+use Rattle.profile.specs.declared.sheet_kind.SheetKind.{SheetKind}
+use Rattle.profile.specs.declared.sheet_kind.SheetKind.TheVariants.{Count as CountSheet, Pick as PickSheet, Recount as RecountSheet}
 use Rattle.profile.proofs.SheetLaws.{sheet_of-is, is_sheet-later}
 use Rattle.profile.proofs.TextLaws.{both_parts}
 use Rattle.sheets.specs.Pairs.{pair_cmp}

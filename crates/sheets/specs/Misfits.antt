@@ -6,7 +6,8 @@ use Rattle.profile.specs.Limits.{most_lines}
 use Rattle.profile.specs.Lists.{first_of}
 use Rattle.profile.specs.declared.refusals.Refusal.{Refusal}
 use Rattle.profile.specs.declared.refusals.Refusal.TheVariants.{TooMuch, BadText, TooManyLines}
-use Rattle.profile.specs.Clerk.{RawLine, SheetKind, is_bad_line, is_too_much}
+use Rattle.profile.specs.Clerk.{RawLine, is_bad_line, is_too_much}
+use Rattle.profile.specs.declared.sheet_kind.SheetKind.{SheetKind}
 
 -- the first that holds, each over all lines
 abbrev pub misfit_of : Rules → SheetKind → List RawLine → Option Refusal

@@ -2,11 +2,10 @@
 //! order.
 #![tactic(auto)]
 
-mod kinds;
 mod lines;
 mod making;
 mod writing;
 
-pub use kinds::SheetKind;
 pub use lines::Line;
 pub use making::Sheet;
+pub use profile::SheetKind;

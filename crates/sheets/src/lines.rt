@@ -2,18 +2,16 @@ ghost use Rattle.std.specs.Prelude.{◌≡◌, ◌≤◌, ◌-◌, ◌^◌, min,
 ghost use Rattle.profile.specs.Bytes as bytes;
 ghost use Rattle.profile.specs.Clerk as clerk;
 ghost use Rattle.profile.specs.Limits.{most_recounted};
-ghost use Rattle.sheets.specs.Kinds.{kind_of};
 ghost use Rattle.sheets.specs.Pairs.{pair_cmp};
 
-use crate::kinds::SheetKind;
-use profile::{MOST_ITEM, MOST_LOT, Rules, SHEET_DIGITS};
+use profile::{MOST_ITEM, MOST_LOT, Rules, SHEET_DIGITS, SheetKind};
 use segments::{Ident, all_digits, value_up_to};
 use std::alloc::{AllocError, Global};
 use std::cmp::Ordering;
 use std::marker::Model;
 
 /// A line of a sheet, as it was read: nothing of it is tested yet.
-#[derive(Debug, Drop)]
+#[derive(Drop)]
 pub struct Line {
     item: Vec<u8>,
     lot: Vec<u8>,
@@ -84,7 +82,7 @@ impl Line {
 
     // Whether it picks nothing; more than nine digits aren't read as 0.
     fn picks_nothing(&self, kind: SheetKind) -> bool
-        ensures { result ≡ clerk.picks_nothing (kind_of kind) self.now }
+        ensures { result ≡ clerk.picks_nothing kind self.now }
     {
         match kind {
             SheetKind::Pick => self.quantity.len() <= SHEET_DIGITS && self.amount() == 0,
@@ -94,7 +92,7 @@ impl Line {
 
     // Whether one of its texts can't be read, or it picks nothing.
     pub(crate) fn is_bad(&self, kind: SheetKind) -> bool
-        ensures { result ≡ clerk.is_bad_line (kind_of kind) self.now }
+        ensures { result ≡ clerk.is_bad_line kind self.now }
     {
         !(is_identifier(&self.item, MOST_ITEM)
             && is_identifier(&self.lot, MOST_LOT)
@@ -104,7 +102,7 @@ impl Line {
 
     // Whether its quantity is over the limit.
     pub(crate) fn is_too_much(&self, kind: SheetKind, rules: Rules) -> bool
-        ensures { result ≡ clerk.is_too_much rules (kind_of kind) self.now }
+        ensures { result ≡ clerk.is_too_much rules kind self.now }
     {
         self.quantity.len() > SHEET_DIGITS || self.amount() > kind.most(rules)
     }

@@ -6,20 +6,19 @@ ghost use Rattle.profile.specs.Clerk as clerk;
 ghost use Rattle.profile.specs.Limits as limits;
 ghost use Rattle.profile.specs.Means as meant;
 ghost use Rattle.profile.specs.Register.{line_text};
-ghost use Rattle.sheets.specs.Kinds.{kind_of};
+ghost use Rattle.profile.specs.declared.sheet_kind.SheetKind.TheVariants.{Recount as RecountSheet};
 ghost use Rattle.sheets.specs.Pairs.{pair_cmp};
 ghost use Rattle.sheets.specs.Misfits.{misfit_of};
 
-use crate::kinds::SheetKind;
 use crate::lines::Line;
 use crate::writing::append_lines;
-use profile::{MOST_LINES, MOST_LINES_TWO, Refusal, Rules};
+use profile::{MOST_LINES, MOST_LINES_TWO, Refusal, Rules, SheetKind};
 use std::alloc::{AllocError, Global};
 use std::marker::Model;
 
 /// A sheet of a clerk's act: at most 99 lines under rules 1 and 999 under rules 2, of identifiers
 /// and quantities within their limits, by item and then lot bytes, each pair once.
-#[derive(Debug, Drop)]
+#[derive(Drop)]
 pub struct Sheet {
     lines: Vec<Line>,
 }
@@ -29,17 +28,17 @@ impl Model for Sheet {
 
     ghost view = { λ s. map clerk.line_of s.lines.items };
 
-    ghost invariant = { λ s. clerk.is_sheet Two clerk.RecountSheet (map clerk.line_of s.lines.items) ≡ true };
+    ghost invariant = { λ s. clerk.is_sheet Two RecountSheet (map clerk.line_of s.lines.items) ≡ true };
 }
 
 fn has_bad_line(kind: SheetKind, lines: &[Line]) -> bool
-    ensures { result ≡ list_any (clerk.is_bad_line (kind_of kind)) lines.now }
+    ensures { result ≡ list_any (clerk.is_bad_line kind) lines.now }
 {
     lines.iter().any(|line| line.is_bad(kind))
 }
 
 fn has_too_much(kind: SheetKind, lines: &[Line], rules: Rules) -> bool
-    ensures { result ≡ list_any (clerk.is_too_much rules (kind_of kind)) lines.now }
+    ensures { result ≡ list_any (clerk.is_too_much rules kind) lines.now }
 {
     lines.iter().any(|line| line.is_too_much(kind, rules))
 }
@@ -56,7 +55,7 @@ fn most_lines(rules: Rules) -> u16
 
 // The first refusal but for a repeated pair, each over all lines.
 fn misfit(kind: SheetKind, lines: &[Line], rules: Rules) -> Option<Refusal>
-    ensures { result ≡ misfit_of rules (kind_of kind) lines.now }
+    ensures { result ≡ misfit_of rules kind lines.now }
 {
     if lines.len() > usize::from(most_lines(rules)) {
         return Some(Refusal::TooManyLines);
@@ -93,10 +92,10 @@ impl Sheet {
     /// over its limit; 31 a pair of item and lot twice.
     pub fn new(kind: SheetKind, lines: Vec<Line>, rules: Rules) -> Result<Sheet, Refusal>
         ensures ok { IfOk result
-            (λ sheet. clerk.sheet_of rules (kind_of kind) lines.items ≡ Ok sheet) }
-        ensures kind { IfOk result (λ sheet. clerk.is_sheet rules (kind_of kind) sheet ≡ true) }
+            (λ sheet. clerk.sheet_of rules kind lines.items ≡ Ok sheet) }
+        ensures kind { IfOk result (λ sheet. clerk.is_sheet rules kind sheet ≡ true) }
         ensures err { IfErr result
-            (λ refusal. clerk.sheet_of rules (kind_of kind) lines.items ≡ Err refusal) }
+            (λ refusal. clerk.sheet_of rules kind lines.items ≡ Err refusal) }
     {
         if let Some(refusal) = misfit(kind, &lines, rules) {
             return Err(refusal);
@@ -126,7 +125,7 @@ impl Sheet {
     /// memory.
     pub fn lines(&self, alloc: Global) -> Result<Vec<sets_in::Goods>, AllocError>
         ensures lines { IfOk result (λ v. v.items ≡ self.now) }
-        ensures sheet { clerk.is_sheet Two clerk.RecountSheet self.now ≡ true }
+        ensures sheet { clerk.is_sheet Two RecountSheet self.now ≡ true }
     {
         let mut lines = Vec::new(alloc);
         for line in &self.lines {

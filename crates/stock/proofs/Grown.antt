@@ -20,10 +20,14 @@ use Rattle.profile.specs.Limits.{most_lines, most_quantity, most_recounted, most
 use Rattle.profile.specs.Header.{delims_of}
 use Rattle.profile.specs.declared.refusals.Refusal.{Refusal}
 use Rattle.profile.specs.Register.{Act, Count, Pick, Recount, Received, Performed}
-use Rattle.profile.specs.Clerk.{SheetKind as Sheets, CountSheet, PickSheet, RecountSheet, quantity_limit, least_quantity, is_sheet_line, is_sheet, is_ascending, is_act, performed}
+use Rattle.profile.specs.Clerk.{quantity_limit, least_quantity, is_sheet_line, is_sheet, is_ascending, is_act, performed}
+use Rattle.profile.specs.declared.sheet_kind.SheetKind.{SheetKind as Sheets}
+use Rattle.profile.specs.declared.sheet_kind.SheetKind.TheVariants.{Count as CountSheet, Pick as PickSheet, Recount as RecountSheet}
+use Rattle.profile.specs.declared.set_kind.SetKind.{SetKind}
+use Rattle.profile.specs.declared.set_kind.SetKind.TheVariants.{ShipmentAdvice, ShippingOrder, FunctionalAcknowledgment}
 use Rattle.profile.specs.Means.{Line, AdviceLine, advice_of, advice_line, order_of, acknowledgment_of, segment_at}
 use Rattle.profile.specs.Structure.{Set, Group, kind_of, group_fault, examined, examined_on, groups_of, control_of}
-use Rattle.profile.specs.Words.{SetKind, ShipmentAdvice, ShippingOrder, FunctionalAcknowledgment, kind_words, words_943}
+use Rattle.profile.specs.Words.{kind_words, words_943}
 use Rattle.profile.proofs.FaultsLaws.{set_fault-from}
 use Rattle.profile.proofs.LaterLaws.{set_fault-later}
 use Rattle.sets_in.specs.Amounts.{HaveAmounts}

@@ -16,7 +16,7 @@ use std::alloc::{AllocError, Global};
 use std::marker::Model;
 
 /// What a depositor's entries come to.
-#[derive(Debug, Drop)]
+#[derive(Drop)]
 pub struct Page {
     pub(crate) rows: Vec<Row>,
     pub(crate) advices: Vec<KnownAdvice>,
@@ -63,20 +63,6 @@ impl Page {
         ensures { result ≡ length self.now.rows }
     {
         self.rows.len() as u64
-    }
-
-    /// A copy of it; want of memory is the one error.
-    pub fn copy(&self) -> Result<Page, AllocError>
-        ensures { IfOk result (λ page. page ≡ self.now) }
-    {
-        Ok(Page {
-            rows: copied_rows(&self.rows)?,
-            advices: copied_advices(&self.advices)?,
-            orders: copied_orders(&self.orders)?,
-            documents: copied_documents(&self.documents)?,
-            entries: self.entries,
-            recent: self.recent,
-        })
     }
 
     /// How many numbered entries there are, at most 999,999.
@@ -245,28 +231,4 @@ impl Page {
         self.entries += 1;
         self.recent = 0;
     }
-}
-
-fn copied_rows(rows: &Vec<Row>) -> Result<Vec<Row>, AllocError>
-    ensures { IfOk result (λ copy. copy.items ≡ rows.now.items) }
-{
-    rows.clone()
-}
-
-fn copied_advices(advices: &Vec<KnownAdvice>) -> Result<Vec<KnownAdvice>, AllocError>
-    ensures { IfOk result (λ copy. copy.items ≡ advices.now.items) }
-{
-    advices.clone()
-}
-
-fn copied_orders(orders: &Vec<KnownOrder>) -> Result<Vec<KnownOrder>, AllocError>
-    ensures { IfOk result (λ copy. copy.items ≡ orders.now.items) }
-{
-    orders.clone()
-}
-
-fn copied_documents(documents: &Vec<KnownDocument>) -> Result<Vec<KnownDocument>, AllocError>
-    ensures { IfOk result (λ copy. copy.items ≡ documents.now.items) }
-{
-    documents.clone()
 }

@@ -6,7 +6,7 @@ use std::alloc::AllocError;
 use tables::SetFault;
 
 /// A row of a depositor's tables that an event changes, as a whole, by its key.
-#[derive(Clone, Drop)]
+#[derive(Drop)]
 pub enum Change {
     /// The row of a pair.
     Stock(Row),

@@ -17,8 +17,6 @@ use Rattle.profile.specs.Events.{Event}
 use Rattle.profile.specs.History.{history, events}
 use Rattle.profile.specs.Reply.{Reply, Accepted, Stored, Refused, reply, accepted, accepted_act, out, numbers_used_up, reply_to_halt, interchange_entry, clerk_entry, by_ticket, known_ticket, enrol_reply, stored}
 use Rattle.profile.specs.Accepted.{depositor_of, subject, own_of, reply_to, is_accepted, entry_of, after, accepted_on, replies_on, is_command, IsLegal}
-use Rattle.std.specs.Borrow.{Bor}
-use Rattle.std.specs.Prelude.{option_copied}
 use Rattle.profile.specs.Decision as meant
 use Rattle.profile.specs.Decision.{recalled, standing, reply_by}
 use Rattle.profile.proofs.DecisionLaws.{reply-by}
@@ -231,7 +229,7 @@ recalled_under W key M = recalled_found W key (known key M) (found key M)
 
 -- The decision that a page and what is recalled lead to.
 
-pub stands_from : (c : Command) (b : Option (Bor PageFacts)) (o : Option History) → IsHeld (need_of c) (option_copied b) o → StandsFor c b o
+pub stands_from : (c : Command) (b : Option PageFacts) (o : Option History) → IsHeld (need_of c) b o → StandsFor c b o
 stands_from c None None h = tt
 stands_from c None (Some x) h = h
 stands_from c (Some p) None h = h
@@ -242,17 +240,17 @@ numbers_none : (M : List Entry) → (length M == 0) ≡ true → 0 ≡ (history 
 numbers_none [] h = refl
 numbers_none (e ∷ M) h = absurd (omega (arith, eqb-true (length (e ∷ M)) 0 h))
 
-numbered_by : (c : Command) (b : Option (Bor PageFacts)) (M : List Entry) (l : Bool) → (length M == 0) ≡ l → StandsFor c b (if l then None else Some (history M)) → entries_of b ≡ (history M).numbered
+numbered_by : (c : Command) (b : Option PageFacts) (M : List Entry) (l : Bool) → (length M == 0) ≡ l → StandsFor c b (if l then None else Some (history M)) → entries_of b ≡ (history M).numbered
 numbered_by c None M true e h = numbers_none M e
 numbered_by c None M false e h = absurd h
 numbered_by c (Some p) M true e h = absurd h
 numbered_by c (Some p) M false e h = h.1.part.entries ∙ h.2.entries
 
-numbered_is : (c : Command) (b : Option (Bor PageFacts)) (M : List Entry) → StandsFor c b (standing M) → entries_of b ≡ (history M).numbered
+numbered_is : (c : Command) (b : Option PageFacts) (M : List Entry) → StandsFor c b (standing M) → entries_of b ≡ (history M).numbered
 numbered_is c b M h = numbered_by c b M (length M == 0) refl h
 
-pub decided : (r : Rules) (W : Who) (L : List Entry) (c : Command) (t : Moment) (d : Decision) (b : Option (Bor PageFacts)) (k : Option Recalled)
-    → IsHeld (need_of c) (option_copied b) (standing (own_of L c)) → IsRecalled k (recalled W (command_mark c) (own_of L c))
+pub decided : (r : Rules) (W : Who) (L : List Entry) (c : Command) (t : Moment) (d : Decision) (b : Option PageFacts) (k : Option Recalled)
+    → IsHeld (need_of c) b (standing (own_of L c)) → IsRecalled k (recalled W (command_mark c) (own_of L c))
     → ((h : Option History) (o : Option meant.Recalled) → IsGiven b k c h o → IsReply r (entries_of b) c t (reply_by r W h o c t) d)
     → IsDecided r W L c t d
 decided r W L c t d b k page there decides =

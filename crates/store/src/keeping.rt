@@ -3,7 +3,7 @@ ghost use Rattle.profile.specs.Register as register;
 ghost use Rattle.profile.specs.Decision as decided;
 ghost use Rattle.profile.specs.Rows.{stock_of, outbox_of};
 ghost use Rattle.rules.specs.Asked.{mark_of};
-ghost use Rattle.rules.specs.Decided.{IsHeldAtRest, IsRecalled};
+ghost use Rattle.rules.specs.Decided.{IsAtRest, IsRecalled};
 ghost use Rattle.store.specs.Held.{IsHeld};
 ghost use Rattle.store.specs.Known.{first_under};
 ghost use Rattle.store.specs.Open.{open_of, open_on, enrolled};
@@ -31,7 +31,7 @@ pub trait Keeper {
     fn load(&mut self, who: Who, need: &Need) -> Result<Option<Page>, Fault>
         ensures page { OfKept (standing self.old) (standing self.new)
             (λ L. IfOk result (λ page. IsHeld need.now page (decided.standing (register.own L who)))) }
-        ensures rest { IfOk result IsHeldAtRest }
+        ensures rest { IfOk result IsAtRest }
         ensures query { IsQuery (standing self.old) (standing self.new) result }
         ensures shut { (standing self.old).shut ≡ true → IsErrOf result Fault.Reopen };
 

@@ -7,7 +7,7 @@ ghost use Rattle.profile.specs.Reply.{out};
 ghost use Rattle.profile.specs.Rows.{stock_rows, stock_of};
 ghost use Rattle.profile.specs.History.{History, history};
 ghost use Rattle.profile.specs.Header.{Who as Partner};
-ghost use Rattle.rules.specs.Decided.{IsHeldAtRest, IsRecalled, IsPageOf};
+ghost use Rattle.rules.specs.Decided.{IsAtRest, IsRecalled, IsPageOf};
 ghost use Rattle.rules.specs.Written.{written};
 ghost use Rattle.rules.specs.Pages.{IsAt};
 ghost use Rattle.store.specs.Held.{IsHeld, IsHeldFor};
@@ -74,12 +74,12 @@ fn with_entry(
     entry: &Entry,
     who: &Who,
 ) -> Result<Option<Page>, AllocError>
-    requires { IsHeldAtRest page }
+    requires { IsAtRest page }
     ensures page { (L later : List register.Entry) (i : ℕ) → IsLegal Two warehouse.now (L ++ later)
         → i < length (all_written L) → entry.now ≡ get_or (all_written L) i entry.now
         → IsHeldFor page (history_of (register.own (take i L) who.now))
         → IfOk result (λ next. IsHeldFor next (history_of (register.own (take (i + 1) L) who.now))) }
-    ensures rest { IfOk result IsHeldAtRest }
+    ensures rest { IfOk result IsAtRest }
 {
     if entry.is_of(who) {
         Ok(Some(replay(alloc, warehouse, page, entry)?.page))
@@ -98,7 +98,7 @@ fn page_later(
     ensures page { (L later : List register.Entry) → entries.now ≡ all_written L
         → IsLegal Two warehouse.now (L ++ later)
         → IfOk result (λ page. IsHeldFor page (history_of (register.own L who.now))) }
-    ensures rest { IfOk result IsHeldAtRest }
+    ensures rest { IfOk result IsAtRest }
 {
     let mut page = None;
     for entry in entries {
@@ -238,7 +238,7 @@ impl ReplayBook {
         ensures page { (L : List register.Entry) → self.now.entries ≡ all_written L
             → IsLegal Two self.now.warehouse L
             → IfOk result (λ page. IsHeldFor page (history_of (register.own L who.now))) }
-        ensures rest { IfOk result IsHeldAtRest }
+        ensures rest { IfOk result IsAtRest }
     {
         page_later(self.alloc, &self.warehouse, &self.entries, who)
     }

@@ -44,7 +44,7 @@ impl Model for StockRow {
 }
 
 /// What the other side said of a document: the first acknowledgment after it that names it decides.
-#[derive(Clone, Copy, Debug, PartialEq, Eq)]
+#[derive(Clone, Copy, PartialEq, Eq)]
 pub enum DocumentState {
     /// Answers have no state.
     Unasked,

@@ -58,15 +58,7 @@ fn judge_new<K: Keeper>(
     let warehouse = keeper.warehouse();
     let need = need(alloc, command)?;
     let page = keeper.load(who, &need)?;
-    Ok(decide(
-        alloc,
-        &warehouse,
-        page.as_ref(),
-        None,
-        command,
-        moment,
-        rules,
-    )?)
+    Ok(decide(alloc, &warehouse, page, None, command, moment, rules)?)
 }
 
 // What a command comes to under these rules. What is known under its key is asked first, since that

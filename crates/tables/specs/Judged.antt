@@ -5,7 +5,8 @@ use Rattle.profile.specs.Cut.{Piece, segments_of, last_segment, has_id}
 use Rattle.profile.specs.Faults as meant
 use Rattle.profile.specs.Bytes.{Delims}
 use Rattle.profile.specs.Faults.{IsFaultOf, set_fault}
-use Rattle.profile.specs.Words.{SetKind, kind_words}
+use Rattle.profile.specs.Words.{kind_words}
+use Rattle.profile.specs.declared.set_kind.SetKind.{SetKind}
 use Rattle.elements.specs.Told.{told_element}
 use Rattle.tables.specs.declared.faults.SetFault.{SetFault}
 

@@ -1,4 +1,3 @@
-pub mod Kinds
 pub mod Ids
 pub mod Languages
 pub mod Advice

@@ -1,6 +1,8 @@
 -- What may still come at each stage of a set.
 use Rattle.profile.specs.declared.rules.Rules.{Rules}
-use Rattle.profile.specs.Words.{Words, SetKind, ShippingOrder, ShipmentAdvice, FunctionalAcknowledgment}
+use Rattle.profile.specs.Words.{Words}
+use Rattle.profile.specs.declared.set_kind.SetKind.{SetKind}
+use Rattle.profile.specs.declared.set_kind.SetKind.TheVariants.{ShippingOrder, ShipmentAdvice, FunctionalAcknowledgment}
 use Rattle.tables.specs.Advice as advice
 use Rattle.tables.specs.Order as order
 use Rattle.tables.specs.Acknowledgment as acknowledgment

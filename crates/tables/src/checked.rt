@@ -2,14 +2,12 @@ ghost use Rattle.std.specs.Prelude.{◌≡◌, ◌<◌, ◌^◌, ◌-◌, codes,
 ghost use Rattle.profile.specs.Cut.{segments_of, last_segment, has_id};
 ghost use Rattle.profile.specs.Words.{kind_words};
 ghost use Rattle.profile.specs.Faults.{IsFaultOf, set_fault};
-ghost use Rattle.tables.specs.Kinds.{kind_of};
 ghost use Rattle.tables.specs.Judged.{told, IsClosed, IsJudged, IsSound, Whole};
 
 use crate::faults::{Progress, SetFault, step};
-use crate::kinds::SetKind;
 use crate::rows::After;
 use crate::stages::Stage;
-use profile::Rules;
+use profile::{Rules, SetKind};
 use segments::{Delims, Segment};
 use std::marker::Model;
 
@@ -26,18 +24,18 @@ impl<'a> Model for Checked<'a> {
     ghost Value = { Whole };
 
     ghost view = { λ c. record {
-      kind = kind_of c.kind;
+      kind = c.kind;
       rules = c.rules;
       pieces = c.segments.now;
     } };
 
-    ghost invariant = { λ c. IsSound (record { kind = kind_of c.kind; rules = c.rules; pieces = c.segments.now }) };
+    ghost invariant = { λ c. IsSound (record { kind = c.kind; rules = c.rules; pieces = c.segments.now }) };
 }
 
 impl<'a> Checked<'a> {
     /// The kind of the set.
     pub fn kind(&self) -> SetKind
-        ensures { kind_of result ≡ self.now.kind }
+        ensures { result ≡ self.now.kind }
     {
         self.kind
     }
@@ -77,7 +75,7 @@ fn first_fault<'a>(
 ) -> Option<SetFault<'a>>
     requires { length segments.now < 2 ^ 32 - 1 }
     ensures { option_map told result
-        ≡ set_fault rules delims.now (kind_words rules (kind_of kind)) (segments_of segments.now) }
+        ≡ set_fault rules delims.now (kind_words rules kind) (segments_of segments.now) }
 {
     let mut progress = Progress {
         stage: Stage::begin(kind),
@@ -95,7 +93,7 @@ fn first_fault<'a>(
 // The first fault, by the delimiters that the segments have.
 fn fault_of<'a>(kind: SetKind, segments: &'a [Segment<'a>], rules: Rules) -> Option<SetFault<'a>>
     requires { length segments.now < 2 ^ 32 - 1 }
-    ensures { IsJudged rules (kind_of kind) segments.now (option_map told result) }
+    ensures { IsJudged rules kind segments.now (option_map told result) }
 {
     match segments.first() {
         Some(first) => first_fault(&first.delims(), kind, segments, rules),
@@ -114,9 +112,9 @@ pub fn judge<'a>(
     requires few { length segments.now < 2 ^ 32 - 1 }
     requires closed { IsClosed segments.now }
     ensures { MatchResult result
-        (λ c. (c.kind ≡ kind_of kind) × (c.pieces ≡ segments.now)
-        × IsFaultOf rules (kind_of kind) segments.now None × (c.rules ≡ rules))
-        (λ f. IsFaultOf rules (kind_of kind) segments.now (Some (told f))) }
+        (λ c. (c.kind ≡ kind) × (c.pieces ≡ segments.now)
+        × IsFaultOf rules kind segments.now None × (c.rules ≡ rules))
+        (λ f. IsFaultOf rules kind segments.now (Some (told f))) }
 {
     match fault_of(kind, segments, rules) {
         Some(fault) => Err(fault),

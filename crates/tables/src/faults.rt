@@ -7,17 +7,15 @@ ghost use Rattle.profile.specs.Faults as meant;
 ghost use Rattle.elements.specs.Rows.{row_of};
 ghost use Rattle.elements.specs.Told.{told_element};
 ghost use Rattle.tables.specs.Ids.{text_of};
-ghost use Rattle.tables.specs.Kinds.{kind_of};
 ghost use Rattle.tables.specs.Rows.{is_goods, after_goods, is_advised, after_advised};
 ghost use Rattle.tables.specs.Stages.{rest_of};
 ghost use Rattle.tables.specs.Judged.{told};
 
 use crate::ids::Id;
-use crate::kinds::SetKind;
 use crate::rows::{After, rows_of};
 use crate::stages::{Stage, misplaced};
 use elements::{ElementRow, faulty_element};
-use profile::Rules;
+use profile::{Rules, SetKind};
 use segments::{Delims, Segment};
 
 /// A segment in error of a set, as AK3 and AK4 tell it.
@@ -92,7 +90,7 @@ fn place_fault<'a>(
 ) -> SetFault<'a>
     requires { id_of segment.now.elements ≡ text_of id }
     ensures { (r : Rules)
-        → told result ≡ meant.place_fault r (kind_words r (kind_of kind)) (rest_of r stage) position
+        → told result ≡ meant.place_fault r (kind_words r kind) (rest_of r stage) position
         (id_of segment.now.elements) }
 {
     let wanted = match id {
@@ -136,12 +134,12 @@ pub(crate) fn step<'a>(
     ensures { (previous : List ℕ) → after_goods progress.after ≡ is_goods previous
         → after_advised progress.after ≡ is_advised previous
         → MatchResult result
-        (λ p. (meant.fault_at rules delims.now (kind_words rules (kind_of kind))
+        (λ p. (meant.fault_at rules delims.now (kind_words rules kind)
         (rest_of rules progress.stage) previous position segment.now.elements ≡ None)
         × (words_after (id_of segment.now.elements) (rest_of rules progress.stage) ≡ rest_of rules p.stage)
         × (after_goods p.after ≡ is_goods (id_of segment.now.elements))
         × (after_advised p.after ≡ is_advised (id_of segment.now.elements)))
-        (λ f. meant.fault_at rules delims.now (kind_words rules (kind_of kind))
+        (λ f. meant.fault_at rules delims.now (kind_words rules kind)
         (rest_of rules progress.stage) previous position segment.now.elements ≡ Some (told f)) }
 {
     let Some(id) = Id::read(segment.element(0)) else {

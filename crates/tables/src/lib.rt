@@ -8,11 +8,10 @@ mod advice;
 mod checked;
 mod faults;
 mod ids;
-mod kinds;
 mod order;
 mod rows;
 mod stages;
 
 pub use checked::{Checked, is_closed, judge};
 pub use faults::SetFault;
-pub use kinds::SetKind;
+pub use profile::SetKind;

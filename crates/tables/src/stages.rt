@@ -3,14 +3,12 @@ ghost use Rattle.profile.specs.declared.rules.Rules.{Rules};
 ghost use Rattle.profile.specs.Words.{words_after, kind_words, mentions};
 ghost use Rattle.profile.specs.Faults.{wanted_id, place_code};
 ghost use Rattle.tables.specs.Ids.{text_of};
-ghost use Rattle.tables.specs.Kinds.{kind_of};
 ghost use Rattle.tables.specs.Languages.{found};
 ghost use Rattle.tables.specs.Stages.{rest_of, kind_at};
 
 use crate::ids::Id;
-use crate::kinds::SetKind;
 use crate::{acknowledgment, advice, order};
-use profile::Rules;
+use profile::{Rules, SetKind};
 
 /// How far a set of one of the kinds has come.
 #[derive(Clone, Copy)]
@@ -23,7 +21,7 @@ pub(crate) enum Stage {
 impl Stage {
     /// The stage before any segment.
     pub(crate) fn begin(kind: SetKind) -> Stage
-        ensures { (r : Rules) → rest_of r result ≡ kind_words r (kind_of kind) }
+        ensures { (r : Rules) → rest_of r result ≡ kind_words r kind }
     {
         match kind {
             SetKind::ShippingOrder => Stage::Order(order::Stage::Begin),
@@ -60,7 +58,7 @@ impl Stage {
 
 // Whether sets of the kind have segments with the id.
 fn has(kind: SetKind, id: Id) -> bool
-    ensures { (r : Rules) → result ≡ mentions (text_of id) (kind_words r (kind_of kind)) }
+    ensures { (r : Rules) → result ≡ mentions (text_of id) (kind_words r kind) }
 {
     match kind {
         SetKind::ShippingOrder => matches!(
@@ -91,7 +89,7 @@ fn has(kind: SetKind, id: Id) -> bool
 /// The code of a segment out of place (AK304): 3 where it is SE, 6 where only sets of other kinds
 /// have it, else 2.
 pub(crate) fn misplaced(kind: SetKind, id: Id) -> u8
-    ensures { (r : Rules) → result ≡ place_code r (kind_words r (kind_of kind)) (text_of id) }
+    ensures { (r : Rules) → result ≡ place_code r (kind_words r kind) (text_of id) }
 {
     match id {
         Id::Se => 3,

@@ -1,6 +1,6 @@
 use Rattle.std.proofs.Common.{◌≡◌, ◌+◌, ◌++◌, ◌∷◌, [], suc, Option, None, Some, sym, ap, subst, ◌∙◌, arith, take, drop, slice_get}
 use Rattle.std.specs.Prelude.{IsSomeAnd}
-use Rattle.std.proofs.lemmas.Result.{IfOk-weaker}
+use Rattle.std.proofs.lemmas.Result.{IfOk-weaker, IfErr-weaker}
 use Rattle.sqlite.specs.Held.{state}
 use Rattle.profile.specs.declared.rules.Rules.{Rules}
 use Rattle.profile.specs.declared.rules.Rules.TheVariants.{One, Two}
@@ -10,6 +10,7 @@ use Rattle.store.specs.Standing.{IsUsable}
 use Rattle.store.proofs.Entries.{there_on}
 use Rattle.book_statements.specs.Recorded.{written_at}
 use Rattle.book_tables.proofs.AskedLater.{stands_later}
+use Rattle.book_tables.proofs.Queries.{asked_then, memory_fault, went_of}
 use Rattle.books.specs.Opened.{standing_of}
 use Rattle.books.specs.Verified.{Follows, last_rules}
 use Rattle.books.proofs.GivenLemmas.{got, there_is}
@@ -17,7 +18,7 @@ use Rattle.books.proofs.RulesLemmas.{last_more}
 use Rattle.books.proofs.verifying.give_entry.Goals as goal
 
 pub returns-in-Some-clause-copy : goal.returns-in-Some-clause-copy
-returns-in-Some-clause-copy g c = λ W k. c.give.ensures.copy (c.requires c.give.new.copy.tables.conn) W k
+returns-in-Some-clause-copy g c = λ W k. c.give.ensures.copy (c.requires.clean c.give.new.copy.tables.conn) W k
 
 pub returns-in-Some-clause-next : goal.returns-in-Some-clause-next
 returns-in-Some-clause-next g c = λ clean W L lt h.
@@ -46,7 +47,7 @@ returns-in-Some-clause-next g c = λ clean W L lt h.
       legal = subst (IsLegal e.rules (standing_of g.C.Store c.give.new.copy).warehouse) (sym t.more ∙ ap (λ n. take n L) (sym one)) its.1;
       last_is = sym (last_more One (take i L) e) ∙ ap (last_rules One) (sym t.more ∙ ap (λ n. take n L) (sym one));
     }))
-    (c.give.ensures.next (c.requires c.give.new.copy.tables.conn) (take i L) e (drop (suc i) L) t.row legal' h.last_is h.legal f.usable)
+    (c.give.ensures.next (c.requires.clean c.give.new.copy.tables.conn) (take i L) e (drop (suc i) L) t.row legal' h.last_is h.legal f.usable)
 
 pub returns-in-None-clause-next : goal.returns-in-None-clause-next
 returns-in-None-clause-next g c = λ clean W L lt h.
@@ -55,3 +56,12 @@ returns-in-None-clause-next g c = λ clean W L lt h.
     let at : slice_get (all_written L) i ≡ None =
     sym (c.in_ok-entry.ensures.entry clean W L h.stays.stands ∙ ap (written_at (all_written L)) one) ∙ c.in-None.is in
     absurd (there_is [] L i lt at)
+
+pub returns-in-Some-clause-went : goal.returns-in-Some-clause-went
+returns-in-Some-clause-went g c =
+    let old = c.args.tables.now in
+    let new = c.entry_at.new.self in
+    let named = c.give.ensures.named (c.requires.clean c.give.new.copy.tables.conn) _ c.requires.copy in
+    went_of g.S.Store old new c.give.result
+    (asked_then g.S.Store old new c.in_ok-entry.field-0 c.give.result c.in_ok-entry.ensures.asked
+    (IfErr-weaker c.give.result _ _ (λ f e. memory_fault f (state g.S.Store old.conn) (state g.S.Store new.conn) old.refused new.refused e) named))

@@ -4,5 +4,5 @@ use Rattle.command_line.proofs.reading.told_of.Goals as goal
 pub returns-clause-told : goal.returns-clause-told
 returns-clause-told c = (c.in_ok-given.ensures, c.in_ok-given-2.ensures, c.in_ok-number.ensures, c.in_ok-given-3.ensures)
 
-pub returns-clause-deed : goal.returns-clause-deed
-returns-clause-deed c = refl
+pub returns-clause-kind : goal.returns-clause-kind
+returns-clause-kind c = refl

@@ -1,6 +1,5 @@
-use Rattle.std.proofs.Common.{rules, inl, inr, refl, sym, ap, subst, ◌∙◌}
+use Rattle.std.proofs.Common.{rules, inl, inr, refl}
 use Rattle.std.proofs.lemmas.Result.{IfOk-weaker, IfErr-weaker}
-use Rattle.errands.specs.Heard.{heard_report}
 use Rattle.errands.proofs.HaltLaws.{halted_by}
 use Rattle.errands.proofs.running.export.Goals as goal
 

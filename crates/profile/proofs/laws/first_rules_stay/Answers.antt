@@ -1,5 +1,5 @@
 use Rattle.std.proofs.Common.{refl}
-use Rattle.profile.specs.Words.{ShipmentAdvice}
+use Rattle.profile.specs.declared.set_kind.SetKind.TheVariants.{ShipmentAdvice}
 use Rattle.profile.proofs.FirstLaws.{lots-first, fault-first}
 use Rattle.profile.proofs.UndatedLaws.{advice_of-undated}
 use Rattle.profile.proofs.laws.first_rules_stay.Goals as goal

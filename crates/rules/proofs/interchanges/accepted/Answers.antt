@@ -26,7 +26,7 @@ pub take_groups-requires-clause-room : goal.take_groups-requires-clause-room
 take_groups-requires-clause-room c =
     let few = (content c.args.text.now c.requires.clean).1 in
     let same = ap (λ (i : GroupsOf). sum_by (λ (g : Group). length g.sets) i.groups) c.requires.parts in
-    omega (arith, few, same, ap (λ (p : _). p.recent) c.in_ok-copy.ensures, c.requires.rest)
+    omega (arith, few, same, c.requires.rest)
 
 pub take_groups-requires-clause-small : goal.take_groups-requires-clause-small
 take_groups-requires-clause-small c =
@@ -37,10 +37,10 @@ returns-clause-reply c = λ h P has of.
     let e = c.args.envelope in
     let told = c.in_ok-groups.groups.told.items in
     let cs = c.in_ok-groups.groups.changes.items in
-    let taken : AreGroupsTaken c.args.rules (delims_of c.args.text.now) (groups_of ((cut (delims_of c.args.text.now) c.args.text.now).segments)) c.args.page.now c.in_ok-groups.groups.page cs told =
-    subst (λ (i : GroupsOf). AreGroupsTaken c.args.rules i.delims i.groups c.args.page.now c.in_ok-groups.groups.page cs told) c.requires.parts
-    (subst (λ (p : PageFacts). AreGroupsTaken c.args.rules c.args.interchange.now.delims c.args.interchange.now.groups p c.in_ok-groups.groups.page cs told) c.in_ok-copy.ensures c.in_ok-groups.ensures) in
-    accepted_reply c.args.rules e.warehouse e.depositor e.moment e.number c.args.text.now c.args.header.now c.args.page.now c.in_ok-groups.groups.page P cs told c.in_ok-outgoing.outgoing.items c.in_ok-entry.entry h has.named
+    let taken : AreGroupsTaken c.args.rules (delims_of c.args.text.now) (groups_of ((cut (delims_of c.args.text.now) c.args.text.now).segments)) c.args.page c.in_ok-groups.groups.page cs told =
+    subst (λ (i : GroupsOf). AreGroupsTaken c.args.rules i.delims i.groups c.args.page c.in_ok-groups.groups.page cs told) c.requires.parts
+    c.in_ok-groups.ensures in
+    accepted_reply c.args.rules e.warehouse e.depositor e.moment e.number c.args.text.now c.args.header.now c.args.page c.in_ok-groups.groups.page P cs told c.in_ok-outgoing.outgoing.items c.in_ok-entry.entry h has.named
     c.requires.same c.requires.number (omega (arith, c.if-entries-ge-MOST_ENTRIES.false, c.entries.ensures)) taken
     (c.in_ok-outgoing.ensures ∙ ap (λ (ts : List Told). answer_of (delims_of c.args.header.now) e.warehouse e.depositor e.moment e.number (heading_of c.args.header.now) ts) c.deref.ensures.value)
     c.in_ok-entry.ensures has.part (has.names c.requires.readable c.requires.clean) of c.requires.whose
@@ -49,13 +49,13 @@ pub returns-clause-leads : goal.returns-clause-leads
 returns-clause-leads c = λ h P has of.
     let told = c.in_ok-groups.groups.told.items in
     let cs = c.in_ok-groups.groups.changes.items in
-    let taken : AreGroupsTaken c.args.rules (delims_of c.args.text.now) (groups_of ((cut (delims_of c.args.text.now) c.args.text.now).segments)) c.args.page.now c.in_ok-groups.groups.page cs told =
-    subst (λ (i : GroupsOf). AreGroupsTaken c.args.rules i.delims i.groups c.args.page.now c.in_ok-groups.groups.page cs told) c.requires.parts
-    (subst (λ (p : PageFacts). AreGroupsTaken c.args.rules c.args.interchange.now.delims c.args.interchange.now.groups p c.in_ok-groups.groups.page cs told) c.in_ok-copy.ensures c.in_ok-groups.ensures) in
+    let taken : AreGroupsTaken c.args.rules (delims_of c.args.text.now) (groups_of ((cut (delims_of c.args.text.now) c.args.text.now).segments)) c.args.page c.in_ok-groups.groups.page cs told =
+    subst (λ (i : GroupsOf). AreGroupsTaken c.args.rules i.delims i.groups c.args.page c.in_ok-groups.groups.page cs told) c.requires.parts
+    c.in_ok-groups.ensures in
     let there = after_entry h (interchange_entry c.args.rules c.args.text.now c.args.envelope.moment) in
     subst (λ (ds : List Change). AreLeading P ds there) (sym c.in_ok-changes.ensures.lasts)
     (lasting_leads cs P there
-    (interchange_leads c.args.rules c.args.text.now c.args.envelope.moment c.args.page.now c.in_ok-groups.groups.page P told cs h has.named taken has.part (has.names c.requires.readable c.requires.clean) of))
+    (interchange_leads c.args.rules c.args.text.now c.args.envelope.moment c.args.page c.in_ok-groups.groups.page P told cs h has.named taken has.part (has.names c.requires.readable c.requires.clean) of))
 
 pub lasting-requires : goal.lasting-requires
 lasting-requires c =

@@ -19,8 +19,8 @@ returns-in-Some-clause-reply c =
     noted_header W c.args.text.now c.args.header.now c.header_note.result c.in-Some.code c.requires.same
     (c.header_note.ensures ∙ ap (λ (w : Who). first_note (header_notes w c.args.header.now)) c.who.ensures) c.in-Some.is in
     IfOk-weaker c.noted.result _ _ (λ d h H P has of.
-    noted_new c.args.rules W H c.args.text.now c.args.header.now c.args.moment c.args.page.now.entries c.in-Some.code (new_note W c.args.text.now) d c.requires.same note
-    (h c.args.rules c.args.page.now.entries (Interchange c.args.text.now))) c.noted.ensures.reply
+    noted_new c.args.rules W H c.args.text.now c.args.header.now c.args.moment c.args.page.entries c.in-Some.code (new_note W c.args.text.now) d c.requires.same note
+    (h c.args.rules c.args.page.entries (Interchange c.args.text.now))) c.noted.ensures.reply
 
 pub returns-in-Ok-clause-reply : goal.returns-in-Ok-clause-reply
 returns-in-Ok-clause-reply c =
@@ -29,8 +29,8 @@ returns-in-Ok-clause-reply c =
     noted_segments W c.args.text.now c.args.header.now c.header_note.result None c.requires.same
     (c.header_note.ensures ∙ ap (λ (w : Who). first_note (header_notes w c.args.header.now)) c.who.ensures) c.in_default.is c.in-Ok.ensures.0 in
     IfOk-weaker c.accepted.result _ _ (λ d h H P has of.
-    accepted_new c.args.rules W H c.args.text.now c.args.moment c.args.page.now.entries (new_note W c.args.text.now) d note
-    (subst (λ (w : Who). IsReply c.args.rules c.args.page.now.entries (Interchange c.args.text.now) c.args.moment (accepted_by w H (interchange_entry c.args.rules c.args.text.now c.args.moment)) d) c.who-2.ensures (h H P has of))) c.accepted.ensures.reply
+    accepted_new c.args.rules W H c.args.text.now c.args.moment c.args.page.entries (new_note W c.args.text.now) d note
+    (subst (λ (w : Who). IsReply c.args.rules c.args.page.entries (Interchange c.args.text.now) c.args.moment (accepted_by w H (interchange_entry c.args.rules c.args.text.now c.args.moment)) d) c.who-2.ensures (h H P has of))) c.accepted.ensures.reply
 
 pub returns-in-Err-clause-reply : goal.returns-in-Err-clause-reply
 returns-in-Err-clause-reply c =
@@ -39,14 +39,14 @@ returns-in-Err-clause-reply c =
     noted_segments W c.args.text.now c.args.header.now c.header_note.result (structure_note c.args.text.now) c.requires.same
     (c.header_note.ensures ∙ ap (λ (w : Who). first_note (header_notes w c.args.header.now)) c.who.ensures) c.in_default.is refl in
     IfOk-weaker c.halted.result _ _ (λ d h H P has of.
-    subst (λ (o : Option ℕ). IsReply c.args.rules c.args.page.now.entries (Interchange c.args.text.now) c.args.moment (interchange_new c.args.rules W H c.args.text.now c.args.moment o) d) (sym found)
-    (h c.args.rules c.args.text.now H c.args.page.now.entries c.in-Err.ensures c.requires.same)) c.halted.ensures.reply
+    subst (λ (o : Option ℕ). IsReply c.args.rules c.args.page.entries (Interchange c.args.text.now) c.args.moment (interchange_new c.args.rules W H c.args.text.now c.args.moment o) d) (sym found)
+    (h c.args.rules c.args.text.now H c.args.page.entries c.in-Err.ensures c.requires.same)) c.halted.ensures.reply
 
 pub returns-in-Some-clause-leads : goal.returns-in-Some-clause-leads
-returns-in-Some-clause-leads c = IfOk-weaker c.noted.result _ _ (λ d none. nowhere c.args.rules c.args.page.now (Interchange c.args.text.now) c.args.moment d none) c.noted.ensures.comes
+returns-in-Some-clause-leads c = IfOk-weaker c.noted.result _ _ (λ d none. nowhere c.args.rules c.args.page (Interchange c.args.text.now) c.args.moment d none) c.noted.ensures.comes
 
 pub returns-in-Err-clause-leads : goal.returns-in-Err-clause-leads
-returns-in-Err-clause-leads c = IfOk-weaker c.halted.result _ _ (λ d none. nowhere c.args.rules c.args.page.now (Interchange c.args.text.now) c.args.moment d none) c.halted.ensures.comes
+returns-in-Err-clause-leads c = IfOk-weaker c.halted.result _ _ (λ d none. nowhere c.args.rules c.args.page (Interchange c.args.text.now) c.args.moment d none) c.halted.ensures.comes
 
 pub returns-in-Some-clause-comes : goal.returns-in-Some-clause-comes
 returns-in-Some-clause-comes c = IfOk-weaker c.noted.result _ _ (λ d none. nothing_made c.args.rules (Interchange c.args.text.now) c.args.moment d none) c.noted.ensures.comes

@@ -10,5 +10,5 @@ pub returns-clause-says : goal.returns-clause-says
 returns-clause-says c =
     let ss = segments_of c.acknowledged.result.now in
     let said : SaysAck ss (acknowledgment_of ss) = c.acknowledged.ensures.says in
-    subst (λ (ps : List Piece). IfOk c.told.result (SaysAck (segments_of ps))) c.acknowledged.ensures.same
-    (IfOk-weaker c.told.result (λ (a : Acknowledgment). a ≡ acknowledgment_of ss) (SaysAck ss) (λ a e. subst (SaysAck ss) (sym e) said) c.told.ensures)
+    subst (λ (ps : List Piece). IfOk c.said.result (SaysAck (segments_of ps))) c.acknowledged.ensures.same
+    (IfOk-weaker c.said.result (λ (a : Acknowledgment). a ≡ acknowledgment_of ss) (SaysAck ss) (λ a e. subst (SaysAck ss) (sym e) said) c.said.ensures)

@@ -10,5 +10,5 @@ pub returns-clause-says : goal.returns-clause-says
 returns-clause-says c =
     let ss = segments_of c.advised.result.now in
     let said : SaysAdvice ss (advice_of ss) = c.advised.ensures.says in
-    subst (λ (ps : List Piece). IfOk c.told.result (SaysAdvice (segments_of ps))) c.advised.ensures.same
-    (IfOk-weaker c.told.result (λ (a : Advice). a ≡ advice_of ss) (SaysAdvice ss) (λ a e. subst (SaysAdvice ss) (sym e) said) c.told.ensures)
+    subst (λ (ps : List Piece). IfOk c.said.result (SaysAdvice (segments_of ps))) c.advised.ensures.same
+    (IfOk-weaker c.said.result (λ (a : Advice). a ≡ advice_of ss) (SaysAdvice ss) (λ a e. subst (SaysAdvice ss) (sym e) said) c.said.ensures)

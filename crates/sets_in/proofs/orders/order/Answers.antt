@@ -10,5 +10,5 @@ pub returns-clause-says : goal.returns-clause-says
 returns-clause-says c =
     let ss = segments_of c.ordered.result.now in
     let said : SaysOrder ss (order_of ss) = c.ordered.ensures.says in
-    subst (λ (ps : List Piece). IfOk c.told.result (SaysOrder (segments_of ps))) c.ordered.ensures.same
-    (IfOk-weaker c.told.result (λ (o : Order). o ≡ order_of ss) (SaysOrder ss) (λ o e. subst (SaysOrder ss) (sym e) said) c.told.ensures)
+    subst (λ (ps : List Piece). IfOk c.said.result (SaysOrder (segments_of ps))) c.ordered.ensures.same
+    (IfOk-weaker c.said.result (λ (o : Order). o ≡ order_of ss) (SaysOrder ss) (λ o e. subst (SaysOrder ss) (sym e) said) c.said.ensures)

@@ -1,7 +1,7 @@
 use Rattle.std.proofs.Common.{None, sym, subst}
 use Rattle.profile.specs.Accepted.{own_of}
 use Rattle.profile.specs.Decision.{standing, reply_by}
-use Rattle.profile.specs.Need.{Need, need_of}
+use Rattle.profile.specs.Need.{Need}
 use Rattle.rules.specs.Asked.{asked}
 use Rattle.rules.specs.Decided.{IsRecalled, IsReply, entries_of}
 use Rattle.store.specs.Held.{IsHeld}
@@ -15,9 +15,9 @@ returns-clause-decision g c = λ clean L keeps legal unknown.
     let needed = subst (λ (n : Need). IsHeld n c.in_ok-page.page (standing (own_of L asking))) c.in_ok-need.ensures
     (subst (λ M. IsHeld c.in_ok-need.need c.in_ok-page.page (standing M)) (sym (c.requires.whose L)) (c.in_ok-page.ensures.page clean L keeps legal)) in
     decided c.args.rules old.warehouse L asking c.args.moment c.in_ok-decide.field-0 _ None
-    (subst (λ p. IsHeld (need_of asking) p (standing (own_of L asking))) (sym c.as_ref.ensures.value) needed)
+    needed
     (subst (IsRecalled None) (sym unknown) tt)
-    (λ h k given. subst (λ W. IsReply c.args.rules (entries_of c.as_ref.result) asking c.args.moment (reply_by c.args.rules W h k asking c.args.moment) c.in_ok-decide.field-0) c.warehouse-warehouse.ensures (c.in_ok-decide.ensures.reply h k given))
+    (λ h k given. subst (λ W. IsReply c.args.rules (entries_of c.in_ok-page.page) asking c.args.moment (reply_by c.args.rules W h k asking c.args.moment) c.in_ok-decide.field-0) c.warehouse-warehouse.ensures (c.in_ok-decide.ensures.reply h k given))
 
 pub returns-clause-tables : goal.returns-clause-tables
 returns-clause-tables g c = λ clean L keeps legal.
@@ -26,4 +26,4 @@ returns-clause-tables g c = λ clean L keeps legal.
     let needed = subst (λ (n : Need). IsHeld n c.in_ok-page.page (standing (own_of L asking))) c.in_ok-need.ensures
     (subst (λ M. IsHeld c.in_ok-need.need c.in_ok-page.page (standing M)) (sym (c.requires.whose L)) (c.in_ok-page.ensures.page clean L keeps legal)) in
     c.in_ok-decide.ensures.tables old.warehouse L
-    (stands_from asking _ (standing (own_of L asking)) (subst (λ p. IsHeld (need_of asking) p (standing (own_of L asking))) (sym c.as_ref.ensures.value) needed))
+    (stands_from asking _ (standing (own_of L asking)) needed)

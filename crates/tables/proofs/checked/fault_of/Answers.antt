@@ -4,7 +4,6 @@ use Rattle.profile.specs.Bytes.{Delims}
 use Rattle.profile.specs.Cut.{Piece, segments_of}
 use Rattle.profile.specs.Words.{Words, kind_words}
 use Rattle.profile.specs.Faults.{set_fault}
-use Rattle.tables.specs.Kinds.{kind_of}
 use Rattle.tables.proofs.checked.fault_of.Goals as goal
 
 no_segments : (r : Rules) (d : Delims) (words : Words) (ps : List Piece) → length ps ≤ 0 → set_fault r d words (segments_of ps) ≡ None
@@ -14,7 +13,7 @@ no_segments r d words (p ∷ ps) h = absurd (omega arith)
 pub returns-in-None : goal.returns-in-None
 returns-in-None c =
     let none : length c.args.segments.now ≤ 0 = omega (arith, c.in-None.ensures.item) in
-    let words = kind_words c.args.rules (kind_of c.args.kind) in (
+    let words = kind_words c.args.rules c.args.kind in (
       record { separator = 42; component = 62; terminator = 126 },
       no_segments c.args.rules _ words c.args.segments.now none,
       λ d a. no_segments c.args.rules d words c.args.segments.now none,

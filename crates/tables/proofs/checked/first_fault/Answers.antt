@@ -3,7 +3,6 @@ use Rattle.profile.specs.Cut.{segments_of}
 use Rattle.profile.specs.Words.{Words, kind_words}
 use Rattle.profile.specs.Faults.{fault_from}
 use Rattle.profile.proofs.FaultsLaws.{set_fault-from}
-use Rattle.tables.specs.Kinds.{kind_of}
 use Rattle.tables.proofs.checked.first_fault.Goals as goal
 
 pub loop-index-init : goal.loop-index-init
@@ -11,6 +10,6 @@ loop-index-init c = (
   [],
   refl,
   refl,
-  set_fault-from c.args.rules c.args.delims.now (kind_words c.args.rules (kind_of c.args.kind)) (segments_of c.args.segments.now)
-      ∙ ap (λ (w : Words). fault_from c.args.rules c.args.delims.now (kind_words c.args.rules (kind_of c.args.kind)) w [] 1 (segments_of c.args.segments.now)) (sym (c.begin.ensures c.args.rules)),
+  set_fault-from c.args.rules c.args.delims.now (kind_words c.args.rules c.args.kind) (segments_of c.args.segments.now)
+      ∙ ap (λ (w : Words). fault_from c.args.rules c.args.delims.now (kind_words c.args.rules c.args.kind) w [] 1 (segments_of c.args.segments.now)) (sym (c.begin.ensures c.args.rules)),
 )

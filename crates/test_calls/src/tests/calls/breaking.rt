@@ -3,7 +3,7 @@ ghost use Rattle.std.specs.Prelude.{◌≡◌, [], false};
 ghost use Rattle.store.specs.Standing.{IsUsable};
 
 use super::worked::{
-    ADVICE, ANSWER, RECEIPT, acme, count, empty, is_accepted, is_stored, morning, ninety,
+    ADVICE, ANSWER, RECEIPT, acme, count, empty, faultless, is_accepted, is_stored, morning, ninety,
 };
 use std::alloc::Global;
 use std::test::Fail;
@@ -174,7 +174,7 @@ fn counted_again(alloc: Global, gets_in: bool) -> Result<Reply, Fail> {
         return Err("a book that goes on".into());
     }
     let mut book = book.opened_again();
-    Ok(submit(alloc, &mut book, &commands[2].0, moment)?)
+    faultless(submit(alloc, &mut book, &commands[2].0, moment))
 }
 
 // A count that didn't get in is accepted when it is given again; of one that got in the text is

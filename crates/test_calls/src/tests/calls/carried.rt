@@ -3,7 +3,7 @@
 use super::super::laying::lay;
 use super::day::{Trial, on_day};
 use super::stopped::{Stop, answers_again, are_answers_from, is_whole};
-use super::worked::{acme, opened, settled};
+use super::worked::{acme, faultless, opened, settled};
 use books::{Book, Tables};
 use cases::version1::{BESIDE, COUNTED, DATED, ORDERED, TABLES, hundred_lines, with_lines};
 use reports::{outbox_list, stock_csv};
@@ -75,8 +75,8 @@ fn shows<K: Keeper>(
     who: Who,
     (rows, texts): (&str, &str),
 ) -> Result<bool, Fail> {
-    let stocked = stock(book, who)?.ok_or("a depositor")?;
-    let sent = outbox(book, who)?.ok_or("a depositor")?;
+    let stocked = faultless(stock(book, who))?.ok_or("a depositor")?;
+    let sent = faultless(outbox(book, who))?.ok_or("a depositor")?;
     let stocked = stock_csv(alloc, &stocked)?;
     let sent = outbox_list(alloc, &sent)?;
     Ok(stocked.as_slice() == rows.as_bytes() && sent.as_slice() == texts.as_bytes())
@@ -99,7 +99,7 @@ fn is_kept<S: Alter + Reopen + Drop>(
         Err(_) => return Err("another fault".into()),
     };
     let mut book = opened_after(alloc, tables, stop)?;
-    Ok(Some(shows(alloc, &mut book, who, want)? && book.verify()? == entries))
+    Ok(Some(shows(alloc, &mut book, who, want)? && faultless(book.verify())? == entries))
 }
 
 // Whether a book of version 1, of so many entries, shows these rows after a stop at each call of
@@ -165,7 +165,7 @@ pub(super) fn goes_on<S: Alter + Drop>(
 ) -> Result<(), Fail> {
     let who = acme()?;
     let mut book = opened(alloc, tables)?;
-    if answers_again(alloc, &mut book, day, ANSWERED) && is_whole(&mut book, who)? {
+    if answers_again(alloc, &mut book, day, ANSWERED) && faultless(is_whole(&mut book, who))? {
         Ok(())
     } else {
         Err("another book".into())

@@ -3,7 +3,7 @@
 mod texts;
 
 use super::breaking::BreakingBook;
-use super::worked::{acme, counts, empty, enrols, morning, ninety};
+use super::worked::{acme, counts, empty, enrols, faultless, morning, ninety};
 use cases::clerks::{deeds, looks, request_of, response_of, strays};
 use cases::sections::section_of;
 use http::Method;
@@ -153,7 +153,7 @@ fn enrolled(alloc: Global, moment: Moment) -> Result<ReplayBook, Fail> {
 
 // Whether so many texts went out.
 fn has_sent<K: Keeper>(book: &mut K, count: usize) -> Result<bool, Fail> {
-    match outbox(book, acme()?)? {
+    match faultless(outbox(book, acme()?))? {
         Some(texts) => Ok(texts.len() == count),
         None => Ok(false),
     }

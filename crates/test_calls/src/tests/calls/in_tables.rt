@@ -1,7 +1,9 @@
 //! A book in SQLite tables, as SQL shows it.
 use super::day::{Trial, Want, answers, is_wanted, on_day};
 use super::stopped::shows_whole;
-use super::worked::{acme, counts, created, enrols, fresh, morning, ninety, opened, takes};
+use super::worked::{
+    acme, counts, created, enrols, faultless, fresh, morning, ninety, opened, takes,
+};
 use books::Tables;
 use sqlite::types::ValueRef;
 use sqlite::{Alter, Connection};
@@ -136,7 +138,7 @@ pub(super) fn opened_for_each<S: Alter + Drop>(
         tables = opened_for(alloc, tables, given, wanted)?;
     }
     let mut book = opened(alloc, tables)?;
-    if shows_whole(&mut book, who)? {
+    if faultless(shows_whole(&mut book, who))? {
         Ok(())
     } else {
         Err("another book".into())

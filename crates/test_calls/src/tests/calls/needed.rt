@@ -1,6 +1,6 @@
 //! What a book in tables hands out of a depositor's page: just what a command names, whatever else
 //! stands in the book.
-use super::worked::{ADVICE, acme, count, created, enrols, fresh, morning, ninety};
+use super::worked::{ADVICE, acme, count, created, enrols, faultless, fresh, morning, ninety};
 use profile::Rules;
 use std::alloc::{AllocError, Global};
 use std::test::Fail;
@@ -115,7 +115,7 @@ fn pairs<K: Keeper>(
     command: &Command<'_>,
 ) -> Result<u64, Fail> {
     let need = need(alloc, command)?;
-    match book.load(who, &need)? {
+    match faultless(book.load(who, &need))? {
         Some(page) => Ok(page.pairs()),
         None => Err("a page".into()),
     }

@@ -1,7 +1,7 @@
 //! Books whose store refuses a call and all later ones, for each call in turn. What is left is
 //! opened, checked whole, and given all commands again.
 use super::day::{Trial, answers, are_goods, is_sent, is_wanted, on_day};
-use super::worked::{acme, fresh, house, opened};
+use super::worked::{acme, faultless, fresh, house, opened};
 use books::{Book, Tables};
 use sqlite::Alter;
 use sqlite_trees::store::Reopen;
@@ -229,7 +229,7 @@ fn day_of<S: Alter + Reopen + Drop>(
     let (warehouse, who) = (house()?, acme()?);
     let (book, at_once) = made(alloc, tables, warehouse, Some(calls))?;
     let (before, mut book) = after_stop(alloc, book, day, who, stop)?;
-    let kept = is_kept(alloc, &before, &mut book, day, who)?;
+    let kept = faultless(is_kept(alloc, &before, &mut book, day, who))?;
     let is_done = at_once && before.fault.is_none();
     Ok(if is_done && kept { None } else { Some(kept) })
 }
@@ -294,7 +294,7 @@ fn opening_of<S: Alter + Drop>(
         Err(_) => return Err("another fault".into()),
     };
     let mut book = unlimited(alloc, tables)?;
-    Ok(Some(answers_again(alloc, &mut book, day, ALL) && is_whole(&mut book, who)?))
+    Ok(Some(answers_again(alloc, &mut book, day, ALL) && faultless(is_whole(&mut book, who))?))
 }
 
 // The same of each number of calls, up to the first that is enough, which is 4.

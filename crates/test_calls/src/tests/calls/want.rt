@@ -3,7 +3,7 @@
 //! allocation fails in a run at most, so no more than one call may end for want of memory.
 use super::day::{Trial, Want, answers, is_wanted, on_day};
 use super::stopped::{is_whole, made};
-use super::worked::{acme, house, is_stored, opened};
+use super::worked::{acme, faultless, house, is_stored, opened};
 use books::{Book, Tables};
 use sqlite::Alter;
 use std::alloc::Global;
@@ -99,7 +99,7 @@ pub(super) fn loses_nothing<S: Alter + Drop>(
         book = next;
         is_spent = was_spent;
     }
-    if is_left(&mut book, who, is_spent)? {
+    if faultless(is_left(&mut book, who, is_spent))? {
         Ok(())
     } else {
         Err("another book".into())

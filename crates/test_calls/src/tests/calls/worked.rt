@@ -7,7 +7,8 @@ use sqlite_trees::memory::MemStore;
 use std::alloc::Global;
 use std::test::Fail;
 use store::{
-    Act, Command, Keeper, Line, Moment, ReplayBook, Reply, Sheet, SheetKind, Warehouse, Who, submit,
+    Act, Command, Fault, Keeper, Line, Moment, ReplayBook, Reply, Sheet, SheetKind, Warehouse, Who,
+    submit,
 };
 
 // 943 of one line, under control number 1: 255 bytes.
@@ -29,6 +30,19 @@ pub(crate) const DUPLICATE: &[u8] =
 // The 944 of the count of 90 of it, under number 2 at the same moment: 259 bytes.
 pub(crate) const RECEIPT: &[u8] =
     b"ISA*00*          *00*          *ZZ*WHSE1          *ZZ*ACME           *250304*0915*U*00401*000000002*0*P*>~GS*RE*WHSE1*ACME*20250304*0915*2*X*004010~ST*944*0001~W17*F*20250304*2*PO77*SHP1~W07*90*EA**SK*BOLT~N9*LT*L1~W14*90*100~SE*6*0001~GE*1*2~IEA*1*000000002~";
+
+// What fails a test that met a fault.
+fn failed(fault: Fault) -> Fail {
+    Fail::new(format_args!("fault {}", fault.number()))
+}
+
+// What a call answered, where a fault fails the test.
+pub(crate) fn faultless<T>(answer: Result<T, Fault>) -> Result<T, Fail> {
+    match answer {
+        Ok(value) => Ok(value),
+        Err(fault) => Err(failed(fault)),
+    }
+}
 
 pub(crate) fn house() -> Result<Warehouse, Fail> {
     match Who::new(b"ZZ-WHSE1") {
@@ -68,7 +82,7 @@ pub(crate) fn settled<S: Alter + Drop>(conn: Connection<S>) -> Result<Tables<S>,
 pub(crate) fn created<S: Alter + Drop>(alloc: Global, tables: Tables<S>) -> Result<Book<S>, Fail> {
     match Book::create(alloc, tables, house()?) {
         Ok(book) => Ok(book),
-        Err((fault, _)) => Err(fault.into()),
+        Err((fault, _)) => Err(failed(fault)),
     }
 }
 
@@ -76,7 +90,7 @@ pub(crate) fn created<S: Alter + Drop>(alloc: Global, tables: Tables<S>) -> Resu
 pub(crate) fn opened<S: Alter + Drop>(alloc: Global, tables: Tables<S>) -> Result<Book<S>, Fail> {
     match Book::open_from(alloc, tables) {
         Ok(book) => Ok(book),
-        Err((fault, _)) => Err(fault.into()),
+        Err((fault, _)) => Err(failed(fault)),
     }
 }
 

@@ -28,8 +28,10 @@ fn posted(rt: &HostRuntime, interchange: &str) -> Result<String, Fail> {
 // Enrols ZZ ACME.
 fn enrol<K: Keeper>(rt: &HostRuntime, book: &mut K, moment: Moment) -> Result<(), Fail> {
     let who = Who::new(b"ZZ-ACME").ok_or("a depositor")?;
-    submit(rt.alloc(), book, &Command::Enrol(who), moment)?;
-    Ok(())
+    match submit(rt.alloc(), book, &Command::Enrol(who), moment) {
+        Ok(_) => Ok(()),
+        Err(fault) => Err(Fail::new(format_args!("fault {}", fault.number()))),
+    }
 }
 
 // A book in memory of which ZZ ACME is a depositor.

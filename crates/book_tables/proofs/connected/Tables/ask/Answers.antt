@@ -32,8 +32,8 @@ returns-clause-called g c = rw (← c.self.view_is) (
     let x = c.self.inside.calls in
     let y = c.allow.new.self in
     let z = c.allow-2.new.self in
-    let last = c.told-in-Err-query_all.new.self in
-    let told = c.told-in-Err-query_all.ensures in
+    let last = c.failed-in-Err-query_all.new.self in
+    let told = c.failed-in-Err-query_all.ensures in
     record {
       named = told.named;
       counted = subst (λ n. Rises n last.refused) (c.in_ok-allow-2.ensures.ok ∙ c.in_ok-allow.ensures.ok) told.counted;

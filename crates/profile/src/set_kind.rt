@@ -1,6 +1,5 @@
-ghost use Rattle.std.specs.Prelude.{◌≡◌, option_map, bytes_eq, find};
-ghost use Rattle.profile.specs.Words as meant;
-ghost use Rattle.tables.specs.Kinds.{kind_of};
+ghost use Rattle.std.specs.Prelude.{◌≡◌, bytes_eq, find};
+ghost use Rattle.profile.specs.Words.{kind_function, kind_number, set_kinds};
 
 /// The sets that are read.
 #[derive(Clone, Copy)]
@@ -17,8 +16,7 @@ impl SetKind {
     /// The kind of the sets in a group with this functional identifier (GS01); None where no such
     /// set is read.
     pub fn of_function(function: &[u8]) -> Option<SetKind>
-        ensures { option_map kind_of result ≡ find
-            (λ k. bytes_eq (meant.kind_function k) function.now) meant.set_kinds }
+        ensures { result ≡ find (λ k. bytes_eq (kind_function k) function.now) set_kinds }
     {
         match function {
             b"OW" => Some(SetKind::ShippingOrder),
@@ -30,7 +28,7 @@ impl SetKind {
 
     /// The number of the set (ST01).
     pub fn number(self) -> &'static [u8]
-        ensures { result.now ≡ meant.kind_number (kind_of self) }
+        ensures { result.now ≡ kind_number self }
     {
         match self {
             SetKind::ShippingOrder => b"940",
