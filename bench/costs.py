@@ -10,8 +10,9 @@ statements of the same commands in one process, prepared once, without reading a
 
 Then one interchange of a mebibyte, 1,000 advices of 23 lines over 9,200 pairs, is sent to an empty book, beside the statements of its rows: each row of
 `stock` once, and each other row once. The system's time for a process counts as its own. Of several runs the least counts. With `--picture` the
-cost of a command by the entries of the book is drawn into a file of SVG. The status is 1 where a file of rows differs.
+cost of a command by the entries of the book is drawn into a file of SVG, beside what version 1 of the program took. The status is 1 where a file of rows differs.
 """
+import math
 import os
 import resource
 import shutil
@@ -29,7 +30,11 @@ import register  # noqa: E402
 SIZES = [1000, 10_000, 100_000]
 COMMANDS, RUNS = 2000, 5
 WIDE, HIGH, LEFT, FOOT = 640, 360, 70, 50
-COLOURS = {"whx12, new": "#1f5fa8", "whx12, known": "#7fb0e0", "C SQLite, new": "#a8431f", "C SQLite, known": "#e0a17f"}
+MEASURED = ["whx12, new", "whx12, known", "C SQLite, new", "C SQLite, known"]
+BEFORE = "version 1, new"
+COLOURS = {BEFORE: "#3b7d3b", **dict(zip(MEASURED, ["#1f5fa8", "#7fb0e0", "#a8431f", "#e0a17f"]))}
+# microseconds of wall time that `take` of version 1 needed for a new command, by the entries of a hundred depositors (23 November 2026)
+VERSION_1 = {1000: 2101, 10_000: 3012, 100_000: 11_628}
 
 
 def spent(words, wanted):
@@ -138,24 +143,25 @@ def of_mebibyte(program, statements, folder):
 
 
 def picture(path, figures):
-    """The cost of a command by the entries of the book, as lines over a scale of tens."""
-    top = max(value for row in figures.values() for value in row) * 1.1
+    """The cost of a command by the entries of the book, both by tens."""
+    lines = {name: [row[at] for row in figures.values()] for at, name in enumerate(MEASURED)}
+    lines[BEFORE] = [VERSION_1[entries] for entries in figures]
+    low = math.floor(math.log10(min(map(min, lines.values()))))
+    high = math.ceil(math.log10(max(map(max, lines.values()))))
     across = lambda place: LEFT + place * (WIDE - LEFT - 150) / (len(figures) - 1)
-    up = lambda value: HIGH - FOOT - value / top * (HIGH - FOOT - 30)
+    up = lambda value: HIGH - FOOT - (math.log10(value) - low) / (high - low) * (HIGH - FOOT - 30)
     parts = [f'<svg xmlns="http://www.w3.org/2000/svg" width="{WIDE}" height="{HIGH}" font-family="sans-serif" font-size="12">',
              f'<rect width="{WIDE}" height="{HIGH}" fill="white"/>',
-             f'<text x="{LEFT}" y="18">Processor time of a command, in microseconds, by the entries of the book</text>']
-    step = 10 ** (len(str(int(top))) - 1)
-    for tick in range(0, int(top) + 1, step if top / step >= 3 else step // 4 or 1):
+             f'<text x="{LEFT}" y="18">Time of a command, in microseconds, by the entries of the book</text>']
+    for tick in (10 ** power for power in range(low, high + 1)):
         parts += [f'<line x1="{LEFT}" x2="{WIDE - 140}" y1="{up(tick):.1f}" y2="{up(tick):.1f}" stroke="#ddd"/>',
-                  f'<text x="{LEFT - 8}" y="{up(tick) + 4:.1f}" text-anchor="end">{tick}</text>']
+                  f'<text x="{LEFT - 8}" y="{up(tick) + 4:.1f}" text-anchor="end">{tick:,}</text>']
     for place, entries in enumerate(figures):
         parts.append(f'<text x="{across(place):.1f}" y="{HIGH - FOOT + 20}" text-anchor="middle">{entries:,}</text>')
-    for at, (name, colour) in enumerate(COLOURS.items()):
-        points = " ".join(f"{across(place):.1f},{up(row[at]):.1f}" for place, row in enumerate(figures.values()))
-        last = list(figures.values())[-1][at]
-        parts += [f'<polyline points="{points}" fill="none" stroke="{colour}" stroke-width="2"/>',
-                  f'<text x="{across(len(figures) - 1) + 8:.1f}" y="{up(last) + 4:.1f}" fill="{colour}">{name}</text>']
+    for name, values in lines.items():
+        points = " ".join(f"{across(place):.1f},{up(value):.1f}" for place, value in enumerate(values))
+        parts += [f'<polyline points="{points}" fill="none" stroke="{COLOURS[name]}" stroke-width="2"/>',
+                  f'<text x="{across(len(values) - 1) + 8:.1f}" y="{up(values[-1]) + 4:.1f}" fill="{COLOURS[name]}">{name}</text>']
     with open(path, "w", encoding="ascii") as file:
         file.write("\n".join([*parts, "</svg>"]) + "\n")
 

@@ -1,0 +1,118 @@
+#!/usr/bin/env python3
+"""How much of a command's work is its engine's: instructions, counted by callgrind, beside those of C SQLite. Not part of the gate.
+
+Usage: bench/engine.py [PROGRAM]   (default: crates/whx12/out/whx12, which `rt run` in that folder leaves)
+
+It needs valgrind, cc and Debian's package libsqlite3-dev. A batch of 200 interchanges of one line (an advice and an order in turn) is given to a book of
+1,000 entries, then the same batch again, when all are known, and an interchange of a mebibyte to an empty book, as in bench/costs.py; what an opening
+takes is taken off. `engine` are the instructions of all calls that the program's own crates make of the kit's SQLite (crates `sqlite..`), with what these
+call in turn. So a program whose own crates cost nothing would still take that. Beside it bench/statements.c runs the same statements by C SQLite, prepared
+once. Instructions don't depend on what else the machine does.
+"""
+import os
+import re
+import subprocess
+import sys
+import tempfile
+
+HERE = os.path.dirname(os.path.abspath(__file__))
+sys.path.insert(0, HERE)
+import books  # noqa: E402
+import costs  # noqa: E402
+import measure as large  # noqa: E402
+import register  # noqa: E402
+
+COMMANDS = 200
+OWN = re.compile(r"^(books|book_tables|book_statements|running|stops|commands|store)::")
+
+
+def counted(words, wanted):
+    """All instructions of a run, and those of the engine's calls."""
+    with tempfile.TemporaryDirectory(prefix="whx12-engine-") as folder:
+        out = f"{folder}/out"
+        ended = subprocess.run(["valgrind", "-q", "--tool=callgrind", f"--callgrind-out-file={out}", *words], capture_output=True, check=False)
+        books.same(f"status of {words[:3]}", ended.returncode, wanted)
+        names, here, called, all_of, engine, is_call = {}, "", "", 0, 0, False
+        with open(out, encoding="utf-8", errors="replace") as file:
+            for line in file:
+                if found := re.match(r"(c?fn)=\((\d+)\)(?: (.*))?", line):
+                    kind, number, name = found.groups()
+                    if name:
+                        names[number] = name.strip()
+                    if kind == "fn":
+                        here = names[number]
+                    else:
+                        called = names[number]
+                elif line.startswith("calls="):
+                    is_call = True
+                elif is_call:
+                    is_call = False
+                    if OWN.match(here) and called.startswith("sqlite"):
+                        engine += int(line.split()[1])
+                elif line.startswith(("summary:", "totals:")):
+                    all_of = int(line.split()[1])
+    return all_of, engine
+
+
+def less(run, opening):
+    return [mine - other for mine, other in zip(run, opening)]
+
+
+def of_batch(program, statements, folder):
+    """New commands and known ones, by the program and by C."""
+    books.COMMANDS = COMMANDS
+    made, book = register.Register(1, 1000), f"{folder}/new.book"
+    books.make(program, book, made)
+    work = books.Work(made)
+    files = f"{folder}/files"
+    work.folder(files)
+    sends = costs.lines_into(f"{folder}/sends", [f"send {files}/{place:04d}.x12 --at {books.AT[1]}" for place in range(COMMANDS)])
+    looks = costs.lines_into(f"{folder}/looks", ["stock ZZ-NONE"])
+    path = books.copied(book, folder, "batch.book")
+    opening = counted([program, "batch", looks, "--book", path], 1)
+    rows = []
+    work.list(f"{folder}/writes", True)
+    work.list(f"{folder}/known", False)
+    other = books.copied(book, folder, "stated.book")
+    with open(f"{folder}/none", "w", encoding="ascii") as file:
+        file.write("O\n")
+    idle = counted([statements, other, f"{folder}/none"], 0)[0]
+    for name, listed in (("new", "writes"), ("known", "known")):
+        ours = less(counted([program, "batch", sends, "--book", path], 0), opening)
+        theirs = counted([statements, other, f"{folder}/{listed}"], 0)[0] - idle
+        rows.append((name, COMMANDS, ours, theirs))
+    return rows, idle
+
+
+def of_mebibyte(program, statements, folder, idle):
+    text = f"{folder}/large.x12"
+    with open(text, "w", encoding="ascii") as file:
+        file.write(large.advices())
+    empty = f"{folder}/empty.book"
+    for words in (["init", "ZZ-WHSE1"], ["enrol", "ZZ-ACME", *books.AT]):
+        subprocess.run([program, *words, "--book", empty], check=True)
+    before = books.rows_of(empty)
+    path = books.copied(empty, folder, "large.book")
+    opening = counted([program, "stock", "ZZ-NONE", "--book", path], 1)
+    ours = less(counted([program, "send", text, *books.AT, "--book", path], 0), opening)
+    costs.list_of_rows(path, before, f"{folder}/rows")
+    other = books.copied(empty, folder, "rows.book")
+    return [("mebibyte", 1, ours, counted([statements, other, f"{folder}/rows"], 0)[0] - idle)]
+
+
+def main(words):
+    program = os.path.abspath(words[0] if words else os.path.join(HERE, "..", "crates", "whx12", "out", "whx12"))
+    with tempfile.TemporaryDirectory(prefix="whx12-engine-") as folder:
+        statements = f"{folder}/statements"
+        subprocess.run(["cc", "-O2", "-o", statements, f"{HERE}/statements.c", "-lsqlite3"], check=True)
+        rows, idle = of_batch(program, statements, folder)
+        rows += of_mebibyte(program, statements, folder, idle)
+    print("thousands of instructions a command")
+    print("          |   program |    engine |         C | program/C | engine/C")
+    for name, count, (whole, engine), theirs in rows:
+        whole, engine, theirs = (value / count / 1000 for value in (whole, engine, theirs))
+        print(f"{name:9} | {whole:9,.0f} | {engine:9,.0f} | {theirs:9,.0f} | {whole / theirs:9.1f} | {engine / theirs:8.1f}")
+
+
+if __name__ == "__main__":
+    main(sys.argv[1:])
