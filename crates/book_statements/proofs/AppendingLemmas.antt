@@ -1,5 +1,5 @@
 -- What an entry that is appended writes.
-use Rattle.std.proofs.Common.{◌≡◌, inl, inr, ℕ, List, [], ◌∷◌, ◌++◌, codes, Bool, true, false, refl, sym, ap, subst, ◌∙◌, arith}
+use Rattle.std.proofs.Common.{◌≡◌, inl, inr, ℕ, List, [], ◌∷◌, ◌++◌, get_or, codes, Bool, true, false, refl, sym, ap, subst, ◌∙◌, arith}
 use Rattle.std.specs.Prelude.{if◌then◌else◌, nat_lt}
 use Rattle.std.proofs.lemmas.Bool.{cases_Bool}
 use Rattle.std.proofs.lemmas.Bool.Decides.{nat_tests}
@@ -22,7 +22,9 @@ use Rattle.book_statements.specs.Appending.{first_state, sent_changes, entry_cha
 use Rattle.book_statements.specs.Leading.{Leads}
 use Rattle.book_statements.specs.Lines.{rules_row}
 use Rattle.book_statements.proofs.LeadingLemmas.{leads_none, leads_on, changed_on}
-use Rattle.book_statements.specs.Standing.{BookTable, Outgoing, Stock, Advice, AdviceLine, Orders, OrderLine, Reservation, LotExpiry, name_of, Filled, named}
+use Rattle.book_statements.specs.declared.names.TableName.{TableName}
+use Rattle.book_statements.specs.declared.names.TableName.TheVariants as table
+use Rattle.book_statements.specs.Standing.{Filled, named}
 
 -- an entry is numbered where its number isn't 0
 positive : (M : List Entry) → nat_lt 0 (next_number M) ≡ true
@@ -83,37 +85,22 @@ with_entry_is W L e ts = elim (cases_Bool (is_numbered e)) [
 pub led_on : (W : Who) (L : List Entry) (e : Entry) (cs : List Change) → LeadOn Two W L e cs → changed_by (tables Two W L) (entry_changes W L e ++ cs) ≡ tables Two W (L ++ e ∷ [])
 led_on W L e cs h = changed_on (tables Two W L) (entry_changes W L e) cs ∙ ap (λ (ts : AllTables). changed_by ts cs) (sym (with_entry_is W L e (tables Two W L))) ∙ h
 
--- the rows by their names
-heads : {X : Type 0} (x y : X) (xs ys : List X) → x ∷ xs ≡ y ∷ ys → (x ≡ y) × (xs ≡ ys)
-heads x y xs ys e = (cc, cc)
-
-second : (a : List ℕ) (x y : List TableRow) → ◌≡◌ {A = List ℕ × List TableRow} (a, x) (a, y) → x ≡ y
-second a x y e = ap (λ (p : List ℕ × List TableRow). p.1) e
+-- tables with the same rows by their names are the same
+abbrev table_rows : ℕ → AllTables → List TableRow
+table_rows place ts = (get_or ts place ([], [])).1
 
 pub same_named : (f g : Filled) → named f ≡ named g → f ≡ g
-same_named f g h =
-    let a = heads _ _ _ _ h in
-    let b = heads _ _ _ _ a.1 in
-    let c = heads _ _ _ _ b.1 in
-    let d = heads _ _ _ _ c.1 in
-    let i = heads _ _ _ _ d.1 in
-    let j = heads _ _ _ _ i.1 in
-    let k = heads _ _ _ _ j.1 in
-    let l = heads _ _ _ _ k.1 in
-    let m = heads _ _ _ _ l.1 in
-    let n = heads _ _ _ _ m.1 in
-    let o = heads _ _ _ _ n.1 in
-    λ at. record { book = (a.0 at).1; entry = (b.0 at).1; keyed = λ t. by t c.0 d.0 i.0 j.0 k.0 l.0 m.0 o.0 at; rules = (n.0 at).1 }
+same_named f g h = λ i t. by t i
   where
-    Same : BookTable → Type 0
-    Same t = ◌≡◌ {A = List ℕ × List TableRow} (name_of t, f.keyed t) (name_of t, g.keyed t)
-
-    by : (t : BookTable) → Same Outgoing → Same Stock → Same Advice → Same AdviceLine → Same Orders → Same OrderLine → Same Reservation → Same LotExpiry → f.keyed t ≡ g.keyed t
-    by Outgoing a b c d e i j k = second _ _ _ a
-    by Stock a b c d e i j k = second _ _ _ b
-    by Advice a b c d e i j k = second _ _ _ c
-    by AdviceLine a b c d e i j k = second _ _ _ d
-    by Orders a b c d e i j k = second _ _ _ e
-    by OrderLine a b c d e i j k = second _ _ _ i
-    by Reservation a b c d e i j k = second _ _ _ j
-    by LotExpiry a b c d e i j k = second _ _ _ k
+    by : (t : TableName) → f t ≡ g t
+    by table.Book = ap (table_rows 0) h
+    by table.Entry = ap (table_rows 1) h
+    by table.Outgoing = ap (table_rows 2) h
+    by table.Stock = ap (table_rows 3) h
+    by table.Advice = ap (table_rows 4) h
+    by table.AdviceLine = ap (table_rows 5) h
+    by table.Orders = ap (table_rows 6) h
+    by table.OrderLine = ap (table_rows 7) h
+    by table.Reservation = ap (table_rows 8) h
+    by table.EntryRules = ap (table_rows 9) h
+    by table.LotExpiry = ap (table_rows 10) h

@@ -20,15 +20,16 @@ use Rattle.profile.proofs.RegisterLaws.{first_is, legal-first}
 use Rattle.profile.proofs.CarriedLaws.{legal-carried, lot_expiry-first}
 use Rattle.rules.proofs.SentRows.{entry_rules_put}
 use Rattle.book_statements.specs.Asking.{IsAsked, IsOfFirst}
-use Rattle.book_statements.specs.Carrying.{StandsAs, StandsOpenAs, first_filled, KeepsFirst, Widens, with_rules, with_book, GivesRules, SetsVersion, CarriesOver}
+use Rattle.book_statements.specs.Carrying.{StandsAs, StandsOpenAs, first_filled, KeepsFirst, Widens, GivesRules, SetsVersion, CarriesOver}
 use Rattle.book_statements.specs.Leading.{Leads, Keeps}
 use Rattle.book_statements.specs.Lines.{rules_row}
 use Rattle.book_statements.specs.Recorded.{IsHouse}
-use Rattle.book_statements.specs.Standing.{Stands, Filled, AreOrdered, filled}
+use Rattle.book_statements.specs.declared.names.TableName.TheVariants as table
+use Rattle.book_statements.specs.Standing.{Stands, Filled, AreOrdered, filled, with_rows}
 use Rattle.book_statements.proofs.AppendingLemmas.{same_named}
-use Rattle.book_statements.proofs.Beside.{still_lies}
 use Rattle.book_statements.proofs.Found.{house_found, one_house}
-use Rattle.book_statements.proofs.LeadsLemmas.{held_but, unkeyed}
+use Rattle.book_statements.proofs.EachTable.{with_own, with_twice}
+use Rattle.book_statements.proofs.LeadsLemmas.{keeps_with, rows_ordered}
 use Rattle.book_statements.proofs.Ordered.{all_ordered}
 use Rattle.book_statements.proofs.Versions.{sets_version}
 use Rattle.book_statements.proofs.WritingTexts.{set_version_text}
@@ -38,7 +39,7 @@ use Rattle.book_statements.proofs.WritingTexts.{set_version_text}
 -- the first entries have their rows of rules
 abbrev pub GivesSome : ℕ → Database → Database → Type 0
 GivesSome k old new = (L : List Entry) (f : Filled) → list_all is_first L ≡ true → k ≤ length L
-    → Keeps (with_rules [] f) old → Keeps (with_rules (entry_rules_table (take k L)) f) new
+    → Keeps (with_rows table.EntryRules [] f) old → Keeps (with_rows table.EntryRules (entry_rules_table (take k L)) f) new
 
 -- of entries that are all under the first rules, the one at a place is
 first_at : (L : List Entry) (k : ℕ) (d : Entry) → list_all is_first L ≡ true → k < length L → (get_or L k d).rules ≡ One
@@ -52,7 +53,7 @@ first_at L k d h lt =
 pub given_more : (k : ℕ) (a b c : Database) → GivesSome k a b → Leads (Puts (codes "entry_rules") (rules_row (k + 1) One) ∷ []) b c → GivesSome (k + 1) a c
 given_more k a b c was led L f first long held = by L first long (was L f first (omega (arith, long)) held)
   where
-    by : (L : List Entry) → list_all is_first L ≡ true → k + 1 ≤ length L → Keeps (with_rules (entry_rules_table (take k L)) f) b → Keeps (with_rules (entry_rules_table (take (k + 1) L)) f) c
+    by : (L : List Entry) → list_all is_first L ≡ true → k + 1 ≤ length L → Keeps (with_rows table.EntryRules (entry_rules_table (take k L)) f) b → Keeps (with_rows table.EntryRules (entry_rules_table (take (k + 1) L)) f) c
     by [] first long so_far = absurd (let no : k + 1 ≤ 0 = long in omega (arith, no))
     by (d ∷ L) first long so_far =
         let M : List Entry = d ∷ L in
@@ -62,59 +63,51 @@ given_more k a b c was led L f first long held = by L first long (was L f first 
         let is_one = first_at M k d first there in
         let count : length before ≡ k = length-take-le k M (omega (arith, long)) in
         let row : rules_row (k + 1) One ≡ entry_rules_row before e = (λ i. Number (sym count i + 1) ∷ Number (rules_number (sym is_one i)) ∷ []) in
-        let g = led (with_rules (entry_rules_table before) f) so_far in
-        let next : Filled = with_rules (put_row entry_rules_schema (rules_row (k + 1) One) (entry_rules_table before)) f in
+        let g = led (with_rows table.EntryRules (entry_rules_table before) f) so_far in
+        let next : Filled = with_rows table.EntryRules (put_row entry_rules_schema (rules_row (k + 1) One) (entry_rules_table before)) f in
         let is : g.0 ≡ next = same_named g.0 next (sym g.1) in
         let kept : Keeps next c = subst (λ (h : Filled). Keeps h c) is g.2 in
         let more : put_row entry_rules_schema (rules_row (k + 1) One) (entry_rules_table before) ≡ entry_rules_table (take (k + 1) M) =
         ap (λ (r : TableRow). put_row entry_rules_schema r (entry_rules_table before)) row ∙ entry_rules_put before e
         ∙ ap entry_rules_table (sym (take-suc M k d there) ∙ ap (λ (n : ℕ). take n M) (let one : suc k ≡ k + 1 = omega arith in one)) in
-        subst (λ (rows : List TableRow). Keeps (with_rules rows f) c) more kept
+        subst (λ (rows : List TableRow). Keeps (with_rows table.EntryRules rows f) c) more kept
 
 pub given_none : (a : Database) → GivesSome 0 a a
 given_none a L f first long held = held
 
 pub given_all : (entries : ℕ) (a b : Database) → GivesSome entries a b → GivesRules entries a b
 given_all entries a b some L f first count held =
-    subst (λ (M : List Entry). Keeps (with_rules (entry_rules_table M) f) b) (ap (λ (n : ℕ). take n L) count ∙ take-length L) (some L f first (omega (arith, count)) held)
+    subst (λ (M : List Entry). Keeps (with_rows table.EntryRules (entry_rules_table M) f) b) (ap (λ (n : ℕ). take n L) count ∙ take-length L) (some L f first (omega (arith, count)) held)
 
 -- The version.
 
 pub version_set : (old new : State) (count : ℕ) → Executes set_version_text (value.Int (pos 2) ∷ []) old new (Ok count) → SetsVersion old.now new.now
 version_set old new count h W f k =
-    let did = sets_version (pos 2) (pos 1) W.qualifier W.id old new count k.schema k.rows.book h in
-    let but = held_but 0 (with_book (book_table One W) f) old.now new.now did.others k.rows in
-    record {
-      schema = still_lies old.now.schema new.now.schema did.schema k.schema;
-      sound = did.sound;
-      rows = record {
-        book = did.rows;
-        entry = but.entry refl;
-        keyed = λ u. but.keyed u (unkeyed u).0;
-        rules = but.rules refl;
-      };
-      ordered = record { entry = k.ordered.entry; outgoing = k.ordered.outgoing; keyed = k.ordered.keyed; rules = k.ordered.rules };
-    }
+    let first : Filled = with_rows table.Book (book_table One W) f in
+    let did = sets_version (pos 2) (pos 1) W.qualifier W.id old new count k.schema (k.rows table.Book) h in
+    subst (λ (g : Filled). Keeps g new.now) (with_twice table.Book (book_table One W) (book_table Two W) f)
+    (keeps_with table.Book (book_table Two W) _ first old.now new.now k did did.rows tt (λ row there. tt))
 
 -- The whole.
 
 -- the rows of a register in version 1 are in their order, as those in version 2 are
 first_ordered : (W : Who) (L : List Entry) → AreOrdered (first_filled W L)
-first_ordered W L =
-    let all = all_ordered W L in
-    record { entry = all.entry; outgoing = all.outgoing; keyed = all.keyed; rules = λ row none. absurd none }
+first_ordered W L = rows_ordered table.EntryRules [] (with_rows table.Book (book_table One W) (filled W L)) (λ row none. absurd none) (λ row none. absurd none)
+    (rows_ordered table.Book (book_table One W) (filled W L) tt (λ row there. tt) (all_ordered W L))
 
 pub carried_over : (entries : ℕ) (old b c new : State) → IsDatabase old.now → IsTrue old.is_open → Widens old.now b.now → GivesRules entries b.now c.now → SetsVersion c.now new.now → CarriesOver entries old new
 carried_over entries old b c new sound opened wide ruled versioned W L count while_open =
     let stands = while_open opened in
     let first = legal-first W L stands.legal in
+    let f : Filled = with_rows table.Book (book_table One W) (filled W L) in
     let kept : KeepsFirst (first_filled W L) old.now = record { schema = stands.schema; sound = sound; rows = stands.rows; dates = lot_expiry-first L first; rules = refl; ordered = first_ordered W L } in
-    let two = ruled L (first_filled W L) first count (wide (first_filled W L) kept) in
-    let three : Keeps (filled W L) new.now = versioned W (filled W L) two in
+    let two = ruled L f first count (wide (first_filled W L) kept) in
+    let three = versioned W (filled W L) (subst (λ (g : Filled). Keeps g c.now) (with_own table.EntryRules f) two) in
+    let all : Keeps (filled W L) new.now = subst (λ (g : Filled). Keeps g new.now) (with_own table.Book (filled W L)) three in
     record {
-      stands = record { legal = legal-carried W L stands.legal; schema = three.schema; rows = three.rows };
-      sound = three.sound;
-      ordered = three.ordered;
+      stands = record { legal = legal-carried W L stands.legal; schema = all.schema; rows = all.rows };
+      sound = all.sound;
+      ordered = all.ordered;
     }
 
 -- what asking leaves of a book of either version

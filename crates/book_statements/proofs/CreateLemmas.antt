@@ -6,11 +6,12 @@ use Rattle.sqlite.specs.declared.types.Value.TheVariants as value
 use Rattle.sqlite.specs.Table.{Table}
 use Rattle.sqlite.specs.Schema.{Schema}
 use Rattle.profile.specs.declared.rules.Rules.TheVariants.{Two}
-use Rattle.profile.specs.Schema as profile
 use Rattle.profile.specs.Header.{Who}
 use Rattle.profile.specs.Accepted.{IsLegal}
 use Rattle.book_statements.specs.Held.{Holds, entry_values}
-use Rattle.book_statements.specs.Standing.{BookTable, Outgoing, Stock, Advice, AdviceLine, Orders, OrderLine, Reservation, LotExpiry, schema_of, tree_of, width_of, rows_of, AreByKey, Filled}
+use Rattle.book_statements.specs.declared.names.TableName.{TableName}
+use Rattle.book_statements.specs.declared.names.TableName.TheVariants as table
+use Rattle.book_statements.specs.Standing.{Keying, Alone, ByRowid, ByColumns, keying_of, layout_of, tree_of, all_tables, Filled, filled, HeldAs, AreHeld}
 use Rattle.book_statements.specs.Exits.{HasGrown}
 use Rattle.sqlite.specs.Order.{Row}
 use Rattle.sqlite.specs.Command.TheVariants.{CreateTable}
@@ -27,13 +28,13 @@ use Rattle.sqlite_catalog.specs.Listing.{IsSound}
 use Rattle.sqlite_resolve.specs.declared.compiled.Compiled.{Compiled}
 use Rattle.sqlite_rules.specs.Lists.{Has}
 use Rattle.sqlite_rules.proofs.ListLemmas.{all_has}
-use Rattle.profile.specs.Tables.{TableRow}
+use Rattle.sqlite_rules.proofs.ProbeLemmas.{mapped_has}
 use Rattle.sqlite.proofs.Callers.{command_of, statement_of, runs_as}
 use Rattle.book_statements.specs.Layout.{book_text, entry_text, outgoing_text, stock_text, advice_text, advice_line_text, orders_text, order_line_text, reservation_text, entry_rules_text, lot_expiry_text}
 use Rattle.book_statements.specs.Layout.{book_layout, entry_layout, outgoing_layout, stock_layout, advice_layout, advice_line_layout, orders_layout, order_line_layout, reservation_layout, entry_rules_layout, lot_expiry_layout}
 use Rattle.book_statements.specs.Layout.{first_layouts, first_tables, book_tables, book_trees, rules_tree, expiry_tree, entry_rules_at, lot_expiry_at, IsLayout}
 use Rattle.book_statements.specs.Making.{HasMade, HasBook}
-use Rattle.book_statements.specs.Carrying.{AreHeldFirst, Widens}
+use Rattle.book_statements.specs.Carrying.{Widens}
 use Rattle.book_statements.proofs.MakingTexts.{at_first}
 use Rattle.book_statements.proofs.MakingTexts.{book_is, book_runs, book_plain, entry_is, entry_runs, entry_plain, outgoing_is, outgoing_runs, outgoing_plain, stock_is, stock_runs, stock_plain, advice_is, advice_runs, advice_plain, advice_line_is, advice_line_runs, advice_line_plain, orders_is, orders_runs, orders_plain, order_line_is, order_line_runs, order_line_plain, reservation_is, reservation_runs, reservation_plain, entry_rules_is, entry_rules_runs, entry_rules_plain, lot_expiry_is, lot_expiry_runs, lot_expiry_plain}
 use Rattle.book_statements.proofs.WritingTexts.{insert_book_text}
@@ -42,7 +43,8 @@ use Rattle.book_statements.proofs.ListsGrown.{has_last}
 use Rattle.book_statements.proofs.Widening.{rules_tree_is, expiry_tree_is, widened_layout, still_counted}
 use Rattle.book_statements.proofs.MakingAnywhere.{MakesTable, entry_rules_made, lot_expiry_made}
 use Rattle.book_statements.proofs.Inserts.{inserts_book}
-use Rattle.book_statements.proofs.LeadsLemmas.{apart}
+use Rattle.book_statements.proofs.EachTable.{apart}
+use Rattle.book_statements.proofs.Ordered.{all_ordered}
 use Rattle.sqlite.specs.Edit.{next_rowid}
 use Rattle.sqlite.specs.Tree.{Trees, put_row}
 use Rattle.book_statements.proofs.Values.{went, same_value}
@@ -179,31 +181,30 @@ widened a b c m n p q f was =
     let dates_empty : c.now.trees (next_tree one) ≡ [] = subst (λ (z : Schema). c.now.trees (next_tree z) ≡ []) x.1 (let made = y.2 in made.empty) in
     let rules_at : rules_tree c.now.schema ≡ next_tree s = ap rules_tree last ∙ rules_tree_is s lies a.now.trees was.sound x.3 free_too c.now.trees sound_after in
     let dates_at : expiry_tree c.now.schema ≡ next_tree one = ap expiry_tree last ∙ expiry_tree_is s lies a.now.trees was.sound x.3 free_too c.now.trees sound_after in
-    let held = was.rows in
+    let still : (t : TableName) → Has (take 9 all_tables) t → HeldAs (keying_of t) (f t) (c.now.trees (tree_of t)) = λ t there.
+    subst (λ stored. HeldAs (keying_of t) (f t) stored) (sym (first (layout_of t) (mapped_has layout_of (take 9 all_tables) t there)))
+    (all_has (λ (u : TableName). HeldAs (keying_of u) (f u) (a.now.trees (tree_of u))) (take 9 all_tables) t was.rows there) in
     record {
       schema = subst IsLayout (sym last) layout;
       sound = y.0;
-      rows = record {
-        book = first book_layout (inl refl) ∙ held.book;
-        entry = first entry_layout (inr (inl refl)) ∙ held.entry;
-        keyed = λ t. by t f a.now c.now first held (subst (λ rows. Holds rows (c.now.trees (expiry_tree c.now.schema))) (sym was.dates) (subst (Holds []) (sym (ap c.now.trees dates_at ∙ dates_empty)) holds_none));
-        rules = ap c.now.trees rules_at ∙ rules_empty ∙ sym (ap (map entry_values) was.rules);
-      };
+      rows = each_held f c.now still (ap c.now.trees rules_at ∙ rules_empty ∙ sym (ap (map entry_values) was.rules))
+          (subst (λ rows. Holds rows (c.now.trees (expiry_tree c.now.schema))) (sym was.dates) (subst (Holds []) (sym (ap c.now.trees dates_at ∙ dates_empty)) holds_none));
       ordered = was.ordered;
     }
   where
-    into : (t : BookTable) (rows : List TableRow) (a c : Database) → c.trees (tree_of t) ≡ a.trees (tree_of t) → Holds rows (a.trees (tree_of t)) → Holds rows (c.trees (tree_of t))
-    into t rows a c same h = subst (Holds rows) (sym same) h
-
-    by : (t : BookTable) (f : Filled) (a c : Database) → ((t : Table) → Has first_tables t → c.trees t.tree ≡ a.trees t.tree) → AreHeldFirst f a.trees → Holds (f.keyed LotExpiry) (c.trees (expiry_tree c.schema)) → Holds (f.keyed t) (book_trees c (tree_of t))
-    by Outgoing f a c first held dates = into Outgoing (f.keyed Outgoing) a c (first outgoing_layout (inr (inr (inl refl)))) (let k = held.keyed in k.0)
-    by Stock f a c first held dates = into Stock (f.keyed Stock) a c (first stock_layout (inr (inr (inr (inl refl))))) (let k = held.keyed in k.1.0)
-    by Advice f a c first held dates = into Advice (f.keyed Advice) a c (first advice_layout (inr (inr (inr (inr (inl refl)))))) (let k = held.keyed in k.1.1.0)
-    by AdviceLine f a c first held dates = into AdviceLine (f.keyed AdviceLine) a c (first advice_line_layout (inr (inr (inr (inr (inr (inl refl))))))) (let k = held.keyed in k.1.1.1.0)
-    by Orders f a c first held dates = into Orders (f.keyed Orders) a c (first orders_layout (inr (inr (inr (inr (inr (inr (inl refl)))))))) (let k = held.keyed in k.1.1.1.1.0)
-    by OrderLine f a c first held dates = into OrderLine (f.keyed OrderLine) a c (first order_line_layout (inr (inr (inr (inr (inr (inr (inr (inl refl))))))))) (let k = held.keyed in k.1.1.1.1.1.0)
-    by Reservation f a c first held dates = into Reservation (f.keyed Reservation) a c (first reservation_layout (inr (inr (inr (inr (inr (inr (inr (inr (inl refl)))))))))) (let k = held.keyed in k.1.1.1.1.1.1.0)
-    by LotExpiry f a c first held dates = dates
+    each_held : (f : Filled) (c : Database) → ((t : TableName) → Has (take 9 all_tables) t → HeldAs (keying_of t) (f t) (c.trees (tree_of t)))
+        → c.trees (rules_tree c.schema) ≡ map entry_values (f table.EntryRules) → Holds (f table.LotExpiry) (c.trees (expiry_tree c.schema)) → AreHeld f (book_trees c)
+    each_held f c still rules dates table.Book = still table.Book (inl refl)
+    each_held f c still rules dates table.Entry = still table.Entry (inr (inl refl))
+    each_held f c still rules dates table.Outgoing = still table.Outgoing (inr (inr (inl refl)))
+    each_held f c still rules dates table.Stock = still table.Stock (inr (inr (inr (inl refl))))
+    each_held f c still rules dates table.Advice = still table.Advice (inr (inr (inr (inr (inl refl)))))
+    each_held f c still rules dates table.AdviceLine = still table.AdviceLine (inr (inr (inr (inr (inr (inl refl))))))
+    each_held f c still rules dates table.Orders = still table.Orders (inr (inr (inr (inr (inr (inr (inl refl)))))))
+    each_held f c still rules dates table.OrderLine = still table.OrderLine (inr (inr (inr (inr (inr (inr (inr (inl refl))))))))
+    each_held f c still rules dates table.Reservation = still table.Reservation (inr (inr (inr (inr (inr (inr (inr (inr (inl refl)))))))))
+    each_held f c still rules dates table.EntryRules = rules
+    each_held f c still rules dates table.LotExpiry = dates
 
 -- the row of `book`
 pub made_book : (a b : State) (m : ℕ) (qualifier id : List ℕ) → HasMade 11 10 a.now → Executes insert_book_text (value.Int (pos 2) ∷ value.Text qualifier ∷ value.Text id ∷ []) a b (Ok m) → HasBook qualifier id b.now
@@ -219,50 +220,32 @@ made_book a b m qualifier id was h =
 
 -- the tables of an empty register
 
-is_by_key_none : (s : profile.Schema) (k : ℕ) → AreByKey s k []
-is_by_key_none s k = record { by_key = refl; each = λ row none. absurd none }
-
-holds_empty : (t : BookTable) (qualifier id : List ℕ) (db : Database) → HasBook qualifier id db → Holds [] (book_trees db (tree_of t))
-holds_empty t qualifier id db h = subst (Holds []) (sym (empty t)) holds_none
-  where
-    empty : (t : BookTable) → book_trees db (tree_of t) ≡ []
-    empty Outgoing = h.empty.1.0
-    empty Stock = h.empty.1.1.0
-    empty Advice = h.empty.1.1.1.0
-    empty AdviceLine = h.empty.1.1.1.1.0
-    empty Orders = h.empty.1.1.1.1.1.0
-    empty OrderLine = h.empty.1.1.1.1.1.1.0
-    empty Reservation = h.empty.1.1.1.1.1.1.1.0
-    empty LotExpiry = h.empty.1.1.1.1.1.1.1.1.1.0
-
-no_rows : (W : Who) (t : BookTable) → rows_of W [] t ≡ []
-no_rows W Outgoing = refl
-no_rows W Stock = refl
-no_rows W Advice = refl
-no_rows W AdviceLine = refl
-no_rows W Orders = refl
-no_rows W OrderLine = refl
-no_rows W Reservation = refl
-no_rows W LotExpiry = refl
+-- no rows are held by a table that holds nothing
+holds_nothing : (g : Keying) (stored : List Row) → stored ≡ [] → HeldAs g [] stored
+holds_nothing Alone stored none = none
+holds_nothing ByRowid stored none = none
+holds_nothing ByColumns stored none = subst (Holds []) (sym none) holds_none
 
 pub stands_empty : (W : Who) (s : State) → IsLegal Two W [] → HasBook W.qualifier W.id s.now → HasGrown s W []
 stands_empty W s legal h =
     record {
-      stands = record {
-        legal = legal;
-        schema = lies_alone s.now.schema h.schema;
-        rows = record {
-          book = h.book;
-          entry = let rows = h.empty in rows.0;
-          keyed = λ t. subst (λ rows. Holds rows (book_trees s.now (tree_of t))) (sym (no_rows W t)) (holds_empty t W.qualifier W.id s.now h);
-          rules = let rows = h.empty in rows.1.1.1.1.1.1.1.1.0;
-        };
-      };
+      stands = record { legal = legal; schema = lies_alone s.now.schema h.schema; rows = by };
       sound = h.sound;
-      ordered = record {
-        entry = λ row none. absurd none;
-        outgoing = λ row none. absurd none;
-        keyed = λ t. subst (AreByKey (schema_of t) (width_of t)) (sym (no_rows W t)) (is_by_key_none (schema_of t) (width_of t));
-        rules = λ row none. absurd none;
-      };
+      ordered = all_ordered W [];
     }
+  where
+    none : (t : TableName) → book_trees s.now (tree_of t) ≡ [] → HeldAs (keying_of t) [] (book_trees s.now (tree_of t))
+    none t empty = holds_nothing (keying_of t) (book_trees s.now (tree_of t)) empty
+
+    by : AreHeld (filled W []) (book_trees s.now)
+    by table.Book = h.book
+    by table.Entry = none table.Entry h.empty.0
+    by table.Outgoing = none table.Outgoing h.empty.1.0
+    by table.Stock = none table.Stock h.empty.1.1.0
+    by table.Advice = none table.Advice h.empty.1.1.1.0
+    by table.AdviceLine = none table.AdviceLine h.empty.1.1.1.1.0
+    by table.Orders = none table.Orders h.empty.1.1.1.1.1.0
+    by table.OrderLine = none table.OrderLine h.empty.1.1.1.1.1.1.0
+    by table.Reservation = none table.Reservation h.empty.1.1.1.1.1.1.1.0
+    by table.EntryRules = none table.EntryRules h.empty.1.1.1.1.1.1.1.1.0
+    by table.LotExpiry = none table.LotExpiry h.empty.1.1.1.1.1.1.1.1.1.0

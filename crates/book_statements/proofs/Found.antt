@@ -23,6 +23,7 @@ use Rattle.profile.specs.Header.{Who, is_partner}
 use Rattle.profile.specs.Register.{Entry}
 use Rattle.profile.specs.Tables.{entries_on, entry_table, entry_rules_on, book_table}
 use Rattle.book_statements.specs.Held.{entry_values, first_row}
+use Rattle.book_statements.specs.declared.names.TableName.TheVariants as table
 use Rattle.book_statements.specs.Carrying.{StandsAs}
 use Rattle.book_statements.specs.Asking.{Finds, house_text}
 use Rattle.book_statements.specs.Recorded.{IsHouse}
@@ -77,8 +78,8 @@ count_read L db rows entries read =
     ∙ ap length (passing (db.trees 1) ∙ entries) ∙ length-map (entry_table L) entry_values ∙ entries_long [] L
 
 pub count_found : (q : Rules) (W : Who) (L : List Entry) (db : Database) (rows : List Row) → StandsAs q W L db → Finds count_text [] db rows → length rows ≡ length L
-count_found One W L db rows stands h = count_read L db rows (let r = stands.rows in r.entry) (found_first count_text [] db rows _ stands.schema count_reads count_is h)
-count_found Two W L db rows stands h = count_read L db rows (let r = stands.rows in r.entry) (found count_text [] db rows _ stands.schema count_reads count_is h)
+count_found One W L db rows stands h = count_read L db rows (let r = stands.rows in r.1.0) (found_first count_text [] db rows _ stands.schema count_reads count_is h)
+count_found Two W L db rows stands h = count_read L db rows (let r = stands.rows in r table.Entry) (found count_text [] db rows _ stands.schema count_reads count_is h)
 
 -- The warehouse.
 
@@ -94,9 +95,9 @@ house_read q W db rows partner book read =
 
 pub house_found : (q : Rules) (W : Who) (L : List Entry) (db : Database) (rows : List Row) → StandsAs q W L db → Finds house_text [] db rows → IsHouse q rows W
 house_found One W L db rows stands h =
-    house_read One W db rows (let legal = stands.legal in legal.of_a_partner) (let r = stands.rows in r.book) (found_first house_text [] db rows _ stands.schema house_reads house_is h)
+    house_read One W db rows (let legal = stands.legal in legal.of_a_partner) (let r = stands.rows in r.0) (found_first house_text [] db rows _ stands.schema house_reads house_is h)
 house_found Two W L db rows stands h =
-    house_read Two W db rows (let legal = stands.legal in legal.of_a_partner) (let r = stands.rows in r.book) (found house_text [] db rows _ stands.schema house_reads house_is h)
+    house_read Two W db rows (let legal = stands.legal in legal.of_a_partner) (let r = stands.rows in r table.Book) (found house_text [] db rows _ stands.schema house_reads house_is h)
 
 -- one version and one warehouse are named
 pub one_house : (rows : List Row) (p q : Rules) (V W : Who) → IsHouse p rows V → IsHouse q rows W → (p ≡ q) × (V ≡ W)

@@ -37,6 +37,7 @@ pub mod Found
 pub mod NeedTexts
 pub mod OpenTexts
 pub mod KnownTexts
+pub mod EachTable
 pub mod WholeTexts
 mod TextSteps
 mod RulesTexts

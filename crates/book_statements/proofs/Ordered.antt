@@ -28,8 +28,9 @@ use Rattle.rules.proofs.Portions.{rest_in, map_prefixed}
 use Rattle.rules.proofs.SentRows.{next_snoc}
 use Rattle.rules.proofs.Tables.{last_cell, pairs_before}
 use Rattle.book_statements.specs.Dated.{dates_of}
-use Rattle.book_statements.specs.Standing as table
-use Rattle.book_statements.specs.Standing.{BookTable, schema_of, width_of, rows_of, filled, AreOrdered, AreByKey, HasKey, IsOutgoing, IsBySeq}
+use Rattle.book_statements.specs.declared.names.TableName.{TableName}
+use Rattle.book_statements.specs.declared.names.TableName.TheVariants as table
+use Rattle.book_statements.specs.Standing.{keying_of, schema_of, width_of, rows_of, Filled, filled, OrderedAs, AreOrdered, AreByKey, HasKey, IsOutgoing, IsBySeq, IsRowIn}
 use Rattle.book_statements.proofs.DateLemmas.{date_cells, date_key, dates_in, dates_rise}
 use Rattle.book_statements.proofs.Rising.{by_key, mapped_rise, numbers_rise, blocks_rise, cells_rise, has_flat, each_block, each_mapped}
 
@@ -242,18 +243,35 @@ dates_ordered L = table_ordered lot_expiry_schema 3 (λ t row. refl) L (λ M. fl
     each_mapped (IsKeyed lot_expiry_schema 3) date_cells (dates_of rows) (λ d t. record { key = refl; cells = refl }) r (subst (λ (rs : List TableRow). Has rs r) (dates_in rows) there))
 
 -- all tables of any register
-keyed_ordered : (W : Who) (L : List Entry) (t : BookTable) → AreByKey (schema_of t) (width_of t) (rows_of W L t)
-keyed_ordered W L table.Outgoing = outgoing_ordered W L
-keyed_ordered W L table.Stock = stock_ordered L
-keyed_ordered W L table.Advice = advice_ordered L
-keyed_ordered W L table.AdviceLine = advice_line_ordered L
-keyed_ordered W L table.Orders = orders_ordered L
-keyed_ordered W L table.OrderLine = order_line_ordered L
-keyed_ordered W L table.Reservation = reservation_ordered L
-keyed_ordered W L table.LotExpiry = dates_ordered L
+table_is_ordered : (W : Who) (L : List Entry) (t : TableName) → OrderedAs (keying_of t) (schema_of t) (width_of t) (rows_of W L t)
+table_is_ordered W L table.Book = tt
+table_is_ordered W L table.Entry = entries_are [] L
+table_is_ordered W L table.Outgoing = outgoing_ordered W L
+table_is_ordered W L table.Stock = stock_ordered L
+table_is_ordered W L table.Advice = advice_ordered L
+table_is_ordered W L table.AdviceLine = advice_line_ordered L
+table_is_ordered W L table.Orders = orders_ordered L
+table_is_ordered W L table.OrderLine = order_line_ordered L
+table_is_ordered W L table.Reservation = reservation_ordered L
+table_is_ordered W L table.EntryRules = rules_are [] L
+table_is_ordered W L table.LotExpiry = dates_ordered L
+
+-- of no table but `outgoing` anything is asked of a row
+all_shaped : (f : Filled) → ((row : TableRow) → Has (f table.Outgoing) row → IsOutgoing row) → (t : TableName) (row : TableRow) → Has (f t) row → IsRowIn t row
+all_shaped f sent table.Outgoing row there = sent row there
+all_shaped f sent table.Book row there = tt
+all_shaped f sent table.Entry row there = tt
+all_shaped f sent table.Stock row there = tt
+all_shaped f sent table.Advice row there = tt
+all_shaped f sent table.AdviceLine row there = tt
+all_shaped f sent table.Orders row there = tt
+all_shaped f sent table.OrderLine row there = tt
+all_shaped f sent table.Reservation row there = tt
+all_shaped f sent table.EntryRules row there = tt
+all_shaped f sent table.LotExpiry row there = tt
 
 pub all_ordered : (W : Who) (L : List Entry) → AreOrdered (filled W L)
-all_ordered W L = record { entry = entries_are [] L; outgoing = outgoing_are W L; keyed = keyed_ordered W L; rules = rules_are [] L }
+all_ordered W L = record { each = table_is_ordered W L; shaped = all_shaped (filled W L) (outgoing_are W L) }
 
 pub legal_ordered : (W : Who) (L : List Entry) → IsLegal Two W L → AreOrdered (filled W L)
 legal_ordered W L legal = all_ordered W L

@@ -1,5 +1,5 @@
 -- The texts that ask for all of a table, and what they mean.
-use Rattle.std.proofs.Common.{◌≡◌, codes, ℕ, List, [], ◌∷◌, map, length, refl, false}
+use Rattle.std.proofs.Common.{◌≡◌, codes, ℕ, ◌+◌, List, [], ◌∷◌, map, drop, length, refl, ap, false}
 use Rattle.sqlite.specs.Schema.{Schema}
 use Rattle.sqlite.specs.Command.TheVariants.{Select}
 use Rattle.sqlite.specs.Term.{Term, col}
@@ -17,8 +17,7 @@ use Rattle.book_statements.specs.declared.names.TableName.{TableName}
 use Rattle.book_statements.specs.declared.names.TableName.TheVariants.{Book, Entry, Outgoing, Stock, Advice, AdviceLine, Orders, OrderLine, Reservation, EntryRules, LotExpiry}
 use Rattle.book_statements.specs.Whole.{whole_text}
 use Rattle.book_statements.specs.Layout.{Others, beside, IsLayout, tree_in, rules_tree, expiry_tree}
-use Rattle.book_statements.specs.Standing as keyed
-use Rattle.book_statements.specs.Standing.{BookTable, layout_of, width_of, tree_of}
+use Rattle.book_statements.specs.Standing.{Keying, Alone, ByRowid, ByColumns, keying_of, layout_of, width_of, tree_of}
 use Rattle.book_statements.proofs.KeyLemmas.{places}
 use Rattle.book_statements.proofs.ReadingTexts.{ordered_from}
 use Rattle.book_statements.proofs.Beside.{under}
@@ -33,61 +32,51 @@ columns_at places = map (λ (p : ℕ). col 1 p) places
 abbrev pub rising_at : List ℕ → List (Term × Key)
 rising_at places = map (λ (p : ℕ). (col 1 p, ascending Binary)) places
 
--- how many columns a keyed table has
-abbrev pub columns_of : BookTable → ℕ
+-- how many columns a table has
+abbrev pub columns_of : TableName → ℕ
 columns_of t = length (let l = layout_of t in l.columns)
 
+-- the places of all columns of a table with so many, its rowid among them where it tells rows
+-- apart; and those of the key of so many, by which they are asked for in order
+abbrev all_places : Keying → ℕ → List ℕ
+all_places Alone n = places 0 (n + 1)
+all_places ByRowid n = 0 ∷ drop 1 (places 1 n)
+all_places ByColumns n = places 1 n
+
+abbrev key_places : Keying → ℕ → List ℕ
+key_places Alone k = []
+key_places ByRowid k = 0 ∷ []
+key_places ByColumns k = places 1 k
+
+abbrev query_as : Keying → TableName → Query
+query_as g t = ordered_from (tree_of t) [] (columns_at (all_places g (columns_of t))) (rising_at (key_places g (width_of t)))
+
+-- all columns of a table, in the order of its key
+abbrev pub whole_query : TableName → Query
+whole_query t = query_as (keying_of t) t
+
 abbrev pub book_query : Query
-book_query = ordered_from 0 [] (columns_at (places 0 4)) []
+book_query = whole_query Book
 
 abbrev pub entry_query : Query
-entry_query = ordered_from 1 [] (columns_at (0 ∷ places 2 5)) (rising_at (0 ∷ []))
+entry_query = whole_query Entry
 
 abbrev pub rules_query : Query
-rules_query = ordered_from 18 [] (columns_at (0 ∷ places 2 1)) (rising_at (0 ∷ []))
+rules_query = whole_query EntryRules
 
--- all columns of a keyed table, in the order of its key
-abbrev pub keyed_query : BookTable → Query
+-- the same of a table that is keyed by its first columns
+abbrev pub keyed_query : TableName → Query
 keyed_query t = ordered_from (tree_of t) [] (columns_at (places 1 (columns_of t))) (rising_at (places 1 (width_of t)))
 
-abbrev pub keyed_name : BookTable → TableName
-keyed_name keyed.Outgoing = Outgoing
-keyed_name keyed.Stock = Stock
-keyed_name keyed.Advice = Advice
-keyed_name keyed.AdviceLine = AdviceLine
-keyed_name keyed.Orders = Orders
-keyed_name keyed.OrderLine = OrderLine
-keyed_name keyed.Reservation = Reservation
-keyed_name keyed.LotExpiry = LotExpiry
+pub keyed_is : (t : TableName) → keying_of t ≡ ByColumns → whole_query t ≡ keyed_query t
+keyed_is t is = ap (λ g. query_as g t) is
 
 abbrev names_in : Table → List (List ℕ)
 names_in t = map (λ (c : Column). c.name) t.columns
 
 abbrev pub whole_names : TableName → List (List ℕ)
-whole_names Book = codes "rowid" ∷ codes "version" ∷ codes "qualifier" ∷ codes "id" ∷ []
-whole_names Entry = codes "seq" ∷ codes "who" ∷ codes "mark" ∷ codes "n" ∷ codes "moment" ∷ codes "body" ∷ []
-whole_names Outgoing = names_in (layout_of keyed.Outgoing)
-whole_names Stock = names_in (layout_of keyed.Stock)
-whole_names Advice = names_in (layout_of keyed.Advice)
-whole_names AdviceLine = names_in (layout_of keyed.AdviceLine)
-whole_names Orders = names_in (layout_of keyed.Orders)
-whole_names OrderLine = names_in (layout_of keyed.OrderLine)
-whole_names Reservation = names_in (layout_of keyed.Reservation)
-whole_names EntryRules = codes "seq" ∷ codes "rules" ∷ []
-whole_names LotExpiry = names_in (layout_of keyed.LotExpiry)
-
-abbrev pub whole_query : TableName → Query
-whole_query Book = book_query
-whole_query Entry = entry_query
-whole_query Outgoing = keyed_query keyed.Outgoing
-whole_query Stock = keyed_query keyed.Stock
-whole_query Advice = keyed_query keyed.Advice
-whole_query AdviceLine = keyed_query keyed.AdviceLine
-whole_query Orders = keyed_query keyed.Orders
-whole_query OrderLine = keyed_query keyed.OrderLine
-whole_query Reservation = keyed_query keyed.Reservation
-whole_query EntryRules = rules_query
-whole_query LotExpiry = keyed_query keyed.LotExpiry
+whole_names Book = codes "rowid" ∷ names_in (layout_of Book)
+whole_names t = names_in (layout_of t)
 
 -- a table of version 1
 abbrev IsFirst : TableName → Type 0
@@ -95,36 +84,12 @@ IsFirst EntryRules = ⊥
 IsFirst LotExpiry = ⊥
 IsFirst _ = Unit {0}
 
--- the number of a table's tree
-abbrev pub number_of : TableName → ℕ
-number_of Book = 0
-number_of Entry = 1
-number_of Outgoing = tree_of keyed.Outgoing
-number_of Stock = tree_of keyed.Stock
-number_of Advice = tree_of keyed.Advice
-number_of AdviceLine = tree_of keyed.AdviceLine
-number_of Orders = tree_of keyed.Orders
-number_of OrderLine = tree_of keyed.OrderLine
-number_of Reservation = tree_of keyed.Reservation
-number_of EntryRules = 18
-number_of LotExpiry = 19
-
-pub over_its_tree : (t : TableName) → from_tree (number_of t) (whole_query t) ≡ whole_query t
-over_its_tree Book = refl
-over_its_tree Entry = refl
-over_its_tree Outgoing = refl
-over_its_tree Stock = refl
-over_its_tree Advice = refl
-over_its_tree AdviceLine = refl
-over_its_tree Orders = refl
-over_its_tree OrderLine = refl
-over_its_tree Reservation = refl
-over_its_tree EntryRules = refl
-over_its_tree LotExpiry = refl
+pub over_its_tree : (t : TableName) → from_tree (tree_of t) (whole_query t) ≡ whole_query t
+over_its_tree t = refl
 
 -- the text of a table asks for its tree
 abbrev IsWhole : TableName → Schema → Type 0
-IsWhole t schema = (command_of (understood schema (whole_text t)) ≡ Select (record { lets = []; body = from_tree (tree_in schema (number_of t)) (whole_query t) }) (whole_names t)) × (reads_listing schema (whole_text t) ≡ false)
+IsWhole t schema = (command_of (understood schema (whole_text t)) ≡ Select (record { lets = []; body = from_tree (tree_in schema (tree_of t)) (whole_query t) }) (whole_names t)) × (reads_listing schema (whole_text t) ≡ false)
 
 first_whole : (t : TableName) → IsFirst t → (others : Others) → IsWhole t (beside others)
 unfolding understood everything

@@ -1,6 +1,6 @@
 -- A book of version 1 in SQLite: nine tables, and others after them; and what carrying it over
 -- makes of them.
-use Rattle.std.specs.Prelude.{◌≡◌, ◌⊎◌, ℕ, true, List, [], IsTrue, length, map}
+use Rattle.std.specs.Prelude.{◌≡◌, ◌⊎◌, ℕ, true, List, [], IsTrue, length, take}
 use Rattle.std.specs.List.{AllByRecursion, list_all}
 use Rattle.sqlite.specs.Tree.{Trees}
 use Rattle.sqlite.specs.Schema as sqlite
@@ -12,23 +12,22 @@ use Rattle.profile.specs.declared.rules.Rules.TheVariants.{One, Two}
 use Rattle.profile.specs.Header.{Who}
 use Rattle.profile.specs.Register.{Entry, is_first}
 use Rattle.profile.specs.Accepted.{IsLegal}
-use Rattle.profile.specs.Tables.{TableRow, book_table, entry_table, entry_rules_table}
+use Rattle.profile.specs.Tables.{book_table, entry_rules_table}
+use Rattle.book_statements.specs.declared.names.TableName.{TableName}
+use Rattle.book_statements.specs.declared.names.TableName.TheVariants as table
 use Rattle.book_statements.specs.Layout.{IsFirstLayout}
-use Rattle.book_statements.specs.Held.{Holds, first_row, entry_values}
-use Rattle.book_statements.specs.Standing.{BookTable, LotExpiry, keyed_tables, tree_of, rows_of, Filled, AreOrdered, Stands, StandsIn}
+use Rattle.book_statements.specs.Standing.{all_tables, keying_of, tree_of, Filled, with_rows, filled, HeldAs, AreOrdered, Stands, StandsIn}
 use Rattle.book_statements.specs.Leading.{Keeps}
 use Rattle.book_statements.specs.Exits.{HasGrown}
 
--- the rows of a register's tables in version 1
+-- the rows of a register's tables in version 1: another version, and no rows of rules
 abbrev pub first_filled : Who → List Entry → Filled
-first_filled W L =
-    record { book = book_table One W; entry = entry_table L; keyed = rows_of W L; rules = [] }
+first_filled W L = with_rows table.EntryRules [] (with_rows table.Book (book_table One W) (filled W L))
 
--- the trees of the nine tables hold these rows
-pub record AreHeldFirst (f : Filled) (db : Trees) : Type 0 where
-  pub book : db 0 ≡ map first_row f.book
-  pub entry : db 1 ≡ map entry_values f.entry
-  pub keyed : AllByRecursion (λ (t : BookTable). Holds (f.keyed t) (db (tree_of t))) keyed_tables
+-- the trees of the first nine tables hold these rows
+abbrev pub AreHeldFirst : Filled → Trees → Type 0
+AreHeldFirst f db = AllByRecursion (λ (t : TableName). HeldAs (keying_of t) (f t) (db (tree_of t)))
+    (take 9 all_tables)
 
 -- the register is legal under the first rules, and the nine tables hold the rows that the
 -- warehouse's register has
@@ -57,31 +56,26 @@ pub record KeepsFirst (f : Filled) (db : Database) : Type 0 where
   pub schema : IsFirstLayout db.schema
   pub sound : IsDatabase db
   pub rows : AreHeldFirst f db.trees
-  pub dates : f.keyed LotExpiry ≡ []
-  pub rules : f.rules ≡ []
+  pub dates : f table.LotExpiry ≡ []
+  pub rules : f table.EntryRules ≡ []
   pub ordered : AreOrdered f
 
 -- the two tables come, and are empty
 abbrev pub Widens : Database → Database → Type 0
 Widens old new = (f : Filled) → KeepsFirst f old → Keeps f new
 
--- with these rows of rules, and with this row of `book`
-abbrev pub with_rules : List TableRow → Filled → Filled
-with_rules rows f = record f { rules = rows }
-
-abbrev pub with_book : List TableRow → Filled → Filled
-with_book rows f = record f { book = rows }
-
 -- each of so many entries, all under the first rules, gets its row of rules
 abbrev pub GivesRules : ℕ → Database → Database → Type 0
 GivesRules entries old new = (L : List Entry) (f : Filled) → list_all is_first L ≡ true
     → entries ≡ length L
-    → Keeps (with_rules [] f) old → Keeps (with_rules (entry_rules_table L) f) new
+    → Keeps (with_rows table.EntryRules [] f) old
+    → Keeps (with_rows table.EntryRules (entry_rules_table L) f) new
 
 -- the version is set to 2
 abbrev pub SetsVersion : Database → Database → Type 0
-SetsVersion old new = (W : Who) (f : Filled) → Keeps (with_book (book_table One W) f) old
-    → Keeps (with_book (book_table Two W) f) new
+SetsVersion old new = (W : Who) (f : Filled)
+    → Keeps (with_rows table.Book (book_table One W) f) old
+    → Keeps (with_rows table.Book (book_table Two W) f) new
 
 -- a register of version 1 with so many entries stands there afterwards as one of version 2
 abbrev pub CarriesOver : ℕ → State → State → Type 0

@@ -1,9 +1,10 @@
 -- When a database stands for a register.
-use Rattle.std.specs.Prelude.{◌≡◌, ℕ, zero, suc, Bool, true, false, List, [], ◌∷◌, ◌++◌, take, length, map, codes, nat_eq, if◌then◌else◌}
+use Rattle.std.specs.Prelude.{◌≡◌, ℕ, zero, suc, Bool, true, false, List, [], ◌∷◌, take, length, map, nat_eq, if◌then◌else◌}
 use Rattle.sqlite.specs.Tree.{Trees}
 use Rattle.sqlite.specs.Schema as sqlite
 use Rattle.sqlite.specs.Effect.{Database}
 use Rattle.sqlite.specs.Table.{Table}
+use Rattle.sqlite.specs.Order.{Row}
 use Rattle.sqlite_catalog.specs.Listing.{IsSound}
 use Rattle.sqlite_rules.specs.Lists.{Has}
 use Rattle.profile.specs.declared.rules.Rules.TheVariants.{Two}
@@ -11,105 +12,108 @@ use Rattle.profile.specs.Header.{Who}
 use Rattle.profile.specs.Register.{Entry}
 use Rattle.profile.specs.Accepted.{IsLegal}
 use Rattle.profile.specs.Tables.{Null, Number, Text, Blob, TableRow, AllTables, book_table, entry_table, outgoing_table, stock_table, advice_table, advice_line_table, orders_table, order_line_table, reservation_table, entry_rules_table, lot_expiry_table}
-use Rattle.profile.specs.Schema.{Schema, is_by_key, key_in, entry_schema, outgoing_schema, stock_schema, advice_schema, advice_line_schema, orders_schema, order_line_schema, reservation_schema, entry_rules_schema, lot_expiry_schema}
-use Rattle.book_statements.specs.Layout.{IsLayout, book_trees, outgoing_layout, stock_layout, advice_layout, advice_line_layout, orders_layout, order_line_layout, reservation_layout, lot_expiry_layout}
+use Rattle.profile.specs.Schema.{Schema, is_by_key, key_in, book_schema, entry_schema, outgoing_schema, stock_schema, advice_schema, advice_line_schema, orders_schema, order_line_schema, reservation_schema, entry_rules_schema, lot_expiry_schema}
+use Rattle.book_statements.specs.declared.names.TableName.{TableName}
+use Rattle.book_statements.specs.declared.names.TableName.TheVariants as table
+use Rattle.book_statements.specs.Layout.{IsLayout, book_trees, book_layout, entry_layout, outgoing_layout, stock_layout, advice_layout, advice_line_layout, orders_layout, order_line_layout, reservation_layout, entry_rules_layout, lot_expiry_layout}
 use Rattle.book_statements.specs.Held.{Holds, first_row, entry_values}
 
--- The tables that are keyed by their first columns: all but `book`, which has no key, and `entry`
--- and `entry_rules`, whose key is the rowid.
-pub data BookTable : Type 0 where
-  Outgoing : BookTable
-  Stock : BookTable
-  Advice : BookTable
-  AdviceLine : BookTable
-  Orders : BookTable
-  OrderLine : BookTable
-  Reservation : BookTable
-  LotExpiry : BookTable
+-- How a table's rows are told apart: by nothing, since there is one; by the first column, which is
+-- the rowid; or by the first columns, which are the key.
+pub data Keying : Type 0 where
+  Alone : Keying
+  ByRowid : Keying
+  ByColumns : Keying
 
--- its columns and key, as the definitions have them
-abbrev pub schema_of : BookTable → Schema
-schema_of Outgoing = outgoing_schema
-schema_of Stock = stock_schema
-schema_of Advice = advice_schema
-schema_of AdviceLine = advice_line_schema
-schema_of Orders = orders_schema
-schema_of OrderLine = order_line_schema
-schema_of Reservation = reservation_schema
-schema_of LotExpiry = lot_expiry_schema
+abbrev pub keying_of : TableName → Keying
+keying_of table.Book = Alone
+keying_of table.Entry = ByRowid
+keying_of table.EntryRules = ByRowid
+keying_of t = ByColumns
+
+-- a table's columns and key, as the definitions have them
+abbrev pub schema_of : TableName → Schema
+schema_of table.Book = book_schema
+schema_of table.Entry = entry_schema
+schema_of table.Outgoing = outgoing_schema
+schema_of table.Stock = stock_schema
+schema_of table.Advice = advice_schema
+schema_of table.AdviceLine = advice_line_schema
+schema_of table.Orders = orders_schema
+schema_of table.OrderLine = order_line_schema
+schema_of table.Reservation = reservation_schema
+schema_of table.EntryRules = entry_rules_schema
+schema_of table.LotExpiry = lot_expiry_schema
 
 -- how it is laid out in SQLite
-abbrev pub layout_of : BookTable → Table
-layout_of Outgoing = outgoing_layout
-layout_of Stock = stock_layout
-layout_of Advice = advice_layout
-layout_of AdviceLine = advice_line_layout
-layout_of Orders = orders_layout
-layout_of OrderLine = order_line_layout
-layout_of Reservation = reservation_layout
-layout_of LotExpiry = lot_expiry_layout
+abbrev pub layout_of : TableName → Table
+layout_of table.Book = book_layout
+layout_of table.Entry = entry_layout
+layout_of table.Outgoing = outgoing_layout
+layout_of table.Stock = stock_layout
+layout_of table.Advice = advice_layout
+layout_of table.AdviceLine = advice_line_layout
+layout_of table.Orders = orders_layout
+layout_of table.OrderLine = order_line_layout
+layout_of table.Reservation = reservation_layout
+layout_of table.EntryRules = entry_rules_layout
+layout_of table.LotExpiry = lot_expiry_layout
 
 -- its rows in a register
-abbrev pub rows_of : Who → List Entry → BookTable → List TableRow
-rows_of W L Outgoing = outgoing_table W L
-rows_of W L Stock = stock_table L
-rows_of W L Advice = advice_table L
-rows_of W L AdviceLine = advice_line_table L
-rows_of W L Orders = orders_table L
-rows_of W L OrderLine = order_line_table L
-rows_of W L Reservation = reservation_table L
-rows_of W L LotExpiry = lot_expiry_table L
+abbrev pub rows_of : Who → List Entry → TableName → List TableRow
+rows_of W L table.Book = book_table Two W
+rows_of W L table.Entry = entry_table L
+rows_of W L table.Outgoing = outgoing_table W L
+rows_of W L table.Stock = stock_table L
+rows_of W L table.Advice = advice_table L
+rows_of W L table.AdviceLine = advice_line_table L
+rows_of W L table.Orders = orders_table L
+rows_of W L table.OrderLine = order_line_table L
+rows_of W L table.Reservation = reservation_table L
+rows_of W L table.EntryRules = entry_rules_table L
+rows_of W L table.LotExpiry = lot_expiry_table L
 
 -- its name, the number of its tree, and how many columns its key has
-abbrev pub name_of : BookTable → List ℕ
+abbrev pub name_of : TableName → List ℕ
 name_of t = (schema_of t).name
 
-abbrev pub tree_of : BookTable → ℕ
+abbrev pub tree_of : TableName → ℕ
 tree_of t = (layout_of t).tree
 
-abbrev pub width_of : BookTable → ℕ
+abbrev pub width_of : TableName → ℕ
 width_of t = length (schema_of t).key
 
+-- all tables, in the order of their making
+abbrev pub all_tables : List TableName
+all_tables = table.Book ∷ table.Entry ∷ table.Outgoing ∷ table.Stock ∷ table.Advice
+    ∷ table.AdviceLine ∷ table.Orders ∷ table.OrderLine ∷ table.Reservation ∷ table.EntryRules
+    ∷ table.LotExpiry ∷ []
+
 -- the rows of all tables
-pub record Filled : Type 0 where
-  pub book : List TableRow
-  pub entry : List TableRow
-  pub keyed : BookTable → List TableRow
-  pub rules : List TableRow
+abbrev pub Filled : Type 0
+Filled = TableName → List TableRow
 
 -- with these rows in one table
-abbrev pub with_rows : BookTable → List TableRow → Filled → Filled
-with_rows t rows f = record f {
-  keyed = λ u. if nat_eq (tree_of t) (tree_of u) then rows else f.keyed u;
-}
-
--- those that stand before `entry_rules`; after it stands `lot_expiry`
-abbrev pub keyed_tables : List BookTable
-keyed_tables = Outgoing ∷ Stock ∷ Advice ∷ AdviceLine ∷ Orders ∷ OrderLine ∷ Reservation ∷ []
+abbrev pub with_rows : TableName → List TableRow → Filled → Filled
+with_rows t rows f = λ u. if nat_eq (tree_of t) (tree_of u) then rows else f u
 
 -- by their names
 abbrev pub named : Filled → AllTables
-named f =
-    (codes "book", f.book) ∷ (codes "entry", f.entry)
-    ∷ map (λ t. (name_of t, f.keyed t)) keyed_tables
-    ++ (codes "entry_rules", f.rules) ∷ (name_of LotExpiry, f.keyed LotExpiry) ∷ []
+named f = map (λ t. (name_of t, f t)) all_tables
 
 -- those of a register
 abbrev pub filled : Who → List Entry → Filled
-filled W L = record {
-  book = book_table Two W;
-  entry = entry_table L;
-  keyed = rows_of W L;
-  rules = entry_rules_table L;
-}
+filled W L = rows_of W L
 
--- the trees of the book's tables, by their numbers, hold these rows: `book`, `entry` and
--- `entry_rules` as lists, each keyed table as a set
-pub record AreHeld (f : Filled) (db : Trees) : Type 0 where
-  pub book : db 0 ≡ map first_row f.book
-  pub entry : db 1 ≡ map entry_values f.entry
-  pub keyed : (t : BookTable) → Holds (f.keyed t) (db (tree_of t))
-  pub rules : db 18 ≡ map entry_values f.rules
+-- what is stored is these rows, in their order, or as a set where columns are their key
+abbrev pub HeldAs : Keying → List TableRow → List Row → Type 0
+HeldAs Alone rows stored = stored ≡ map first_row rows
+HeldAs ByRowid rows stored = stored ≡ map entry_values rows
+HeldAs ByColumns rows stored = Holds rows stored
+
+-- the trees of the book's tables, by their numbers, hold these rows
+abbrev pub AreHeld : Filled → Trees → Type 0
+AreHeld f db = (t : TableName) → HeldAs (keying_of t) (f t) (db (tree_of t))
 
 -- the register is legal, and the schema has the book's eleven tables, which hold the rows that the
 -- warehouse's register has
@@ -144,8 +148,7 @@ pub record AreByKey (s : Schema) (k : ℕ) (rows : List TableRow) : Type 0 where
   pub by_key : is_by_key s rows ≡ true
   pub each : (row : TableRow) → Has rows row → HasKey s k row
 
--- a row of `outgoing`, and one of a table with this schema whose first column is its key, as in
--- `entry` and `entry_rules`
+-- a row of `outgoing`, and one of a table with this schema whose first column is the rowid
 abbrev pub IsOutgoing : TableRow → Type 0
 IsOutgoing row = (who : List ℕ) × (n : ℕ) × (kind : List ℕ) × (content : List ℕ) × (state : List ℕ)
     × (row ≡ Text who ∷ Number n ∷ Text kind ∷ Blob content ∷ Text state ∷ [])
@@ -154,9 +157,18 @@ abbrev pub IsBySeq : Schema → TableRow → Type 0
 IsBySeq s row = (seq : ℕ) × (cells : TableRow) × (row ≡ Number seq ∷ cells)
     × (key_in s row ≡ Number seq ∷ [])
 
--- each table's rows are in the order of its keys
+-- a row of a table is one of these
+abbrev pub IsRowIn : TableName → TableRow → Type 0
+IsRowIn table.Outgoing row = IsOutgoing row
+IsRowIn t row = Unit {0}
+
+-- rows are in the order of their keys
+abbrev pub OrderedAs : Keying → Schema → ℕ → List TableRow → Type 0
+OrderedAs Alone s k rows = Unit {0}
+OrderedAs ByRowid s k rows = (row : TableRow) → Has rows row → IsBySeq s row
+OrderedAs ByColumns s k rows = AreByKey s k rows
+
+-- each table's rows are
 pub record AreOrdered (f : Filled) : Type 0 where
-  pub entry : (row : TableRow) → Has f.entry row → IsBySeq entry_schema row
-  pub outgoing : (row : TableRow) → Has (f.keyed Outgoing) row → IsOutgoing row
-  pub keyed : (t : BookTable) → AreByKey (schema_of t) (width_of t) (f.keyed t)
-  pub rules : (row : TableRow) → Has f.rules row → IsBySeq entry_rules_schema row
+  pub each : (t : TableName) → OrderedAs (keying_of t) (schema_of t) (width_of t) (f t)
+  pub shaped : (t : TableName) (row : TableRow) → Has (f t) row → IsRowIn t row

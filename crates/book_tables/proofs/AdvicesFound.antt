@@ -32,7 +32,8 @@ use Rattle.book_statements.specs.Exits.{StandsWhileOpen}
 use Rattle.book_statements.specs.Layout.{advice_line_layout}
 use Rattle.book_tables.specs.Looking.{lines_advised}
 use Rattle.book_tables.specs.Showing.{advice_shown, line_shown}
-use Rattle.book_statements.specs.Standing.{Advice, AdviceLine, Stands, AreOrdered, filled}
+use Rattle.book_statements.specs.declared.names.TableName.TheVariants.{Advice, AdviceLine}
+use Rattle.book_statements.specs.Standing.{Stands, AreOrdered, filled}
 use Rattle.book_statements.proofs.Asked.{found}
 use Rattle.book_tables.proofs.Finding.{no_row, first_row, one_key, second_of}
 use Rattle.book_statements.proofs.HoldsLemmas.{are_keyed}
@@ -74,13 +75,13 @@ module _ (old : State) (W : Who) (L : List Entry) (who : Who) (shipment : List �
   each =
       let held = here.rows in
       let read = found advice_text (value.Text (who_text who) ∷ value.Text shipment ∷ []) old.now rows _ here.schema advice_reads advice_is finds.1 in
-      each_row 2 (advised who) 8 advice_columns [] advice_out (value.Text (who_text who)) (value.Text shipment) (advice_table L) (filter (is_shipment shipment) (advices L who)) (advice_under W L who shipment here.legal partner) old.now.trees (held.keyed Advice) rows (read.answer value.Null)
+      each_row 2 (advised who) 8 advice_columns [] advice_out (value.Text (who_text who)) (value.Text shipment) (advice_table L) (filter (is_shipment shipment) (advices L who)) (advice_under W L who shipment here.legal partner) old.now.trees (held Advice) rows (read.answer value.Null)
 
   there : (a : PageAdvice) → Has (filter (is_shipment shipment) (advices L who)) a → Has rows (advice_shown a)
   there =
       let held = here.rows in
       let read = found advice_text (value.Text (who_text who) ∷ value.Text shipment ∷ []) old.now rows _ here.schema advice_reads advice_is finds.1 in
-      has_row 2 (advised who) 8 advice_columns [] advice_out (value.Text (who_text who)) (value.Text shipment) (advice_table L) (filter (is_shipment shipment) (advices L who)) (advice_under W L who shipment here.legal partner) old.now.trees (held.keyed Advice) rows (read.answer value.Null)
+      has_row 2 (advised who) 8 advice_columns [] advice_out (value.Text (who_text who)) (value.Text shipment) (advice_table L) (filter (is_shipment shipment) (advices L who)) (advice_under W L who shipment here.legal partner) old.now.trees (held Advice) rows (read.answer value.Null)
 
   pub no_advice : rows ≡ [] → advice_at shipment (page_of (own L who)).advices ≡ None
   no_advice = no_row (is_shipment shipment) (advices L who) advice_shown rows each there one
@@ -113,11 +114,11 @@ advised_found W L who shipment db rows partner sound stands h =
     let lies = stands.schema in
     let ordered : AreOrdered (filled W L) = all_ordered W L in
     all_rows 2 (line_cells who shipment) 10 line_columns line_order line_out (value.Text (who_text who)) (value.Text shipment) (advice_line_table L) (enumerate_from 1 (its_lines L who shipment))
-    (lines_under W L who shipment stands.legal partner) db.trees (held.keyed AdviceLine) rows (read.answer value.Null)
+    (lines_under W L who shipment stands.legal partner) db.trees (held AdviceLine) rows (read.answer value.Null)
     nat_lt (λ (p : ℕ × Line). p.0) 3 (numbers_rise 1 (its_lines L who shipment)) (λ a b. numbers_ranked a.0 b.0)
     (λ a b t. let same = number_is a.0 b.0 t in λ i. value.Text (who_text who) ∷ value.Text shipment ∷ value.Int (pos (same i)) ∷ [])
     (only_row db.schema lies advice_line_layout.name 10 3 advice_line_layout.checks advice_line_layout.columns db.trees (inr (inr (inr (inr (inr (inl refl)))))) sound
-    (are_keyed advice_line_schema 3 (advice_line_table L) (db.trees 10) (ordered.keyed AdviceLine) (held.keyed AdviceLine)))
+    (are_keyed advice_line_schema 3 (advice_line_table L) (db.trees 10) (ordered.each AdviceLine) (held AdviceLine)))
     ∙ second_of line_shown 1 (its_lines L who shipment)
 
 pub advised_read : (old : State) (W : Who) (L : List Entry) (who : Who) (shipment : List ℕ) → IsTrue (is_partner who) → IsLive old → StandsWhileOpen old W L → (rows : List Row)

@@ -15,24 +15,14 @@ use Rattle.book_statements.specs.Whole.{whole_text}
 use Rattle.book_tables.specs.Comparing.{AreTables, FindBoth, IsLaid, Compares}
 use Rattle.book_statements.specs.Exits.{StandsWhileOpen}
 use Rattle.book_statements.specs.Layout.{IsLayout, book_trees}
-use Rattle.book_statements.specs.Standing.{BookTable, Outgoing, Stock, Advice, AdviceLine, Orders, OrderLine, Reservation, LotExpiry, Stands, AreHeld, filled, rows_of}
+use Rattle.book_statements.specs.Standing.{ByColumns, keying_of, schema_of, tree_of, width_of, Stands, AreHeld, HeldAs, OrderedAs, filled}
 use Rattle.book_statements.proofs.Found.{entries_rise, rules_rise}
 use Rattle.book_statements.proofs.Ordered.{all_ordered}
 use Rattle.book_tables.proofs.WholeBook.{book_same, book_shown, entries_same, entries_shown, rules_same, rules_shown}
 use Rattle.book_tables.proofs.WholeFound.{whole_found}
 use Rattle.book_tables.proofs.WholeKeyed.{holds_too}
 use Rattle.book_tables.proofs.WholeSorted.{same_shown}
-use Rattle.book_statements.proofs.WholeTexts.{whole_query, keyed_query, keyed_name}
-
-keyed_is : (t : BookTable) → whole_query (keyed_name t) ≡ keyed_query t
-keyed_is Outgoing = refl
-keyed_is Stock = refl
-keyed_is Advice = refl
-keyed_is AdviceLine = refl
-keyed_is Orders = refl
-keyed_is OrderLine = refl
-keyed_is Reservation = refl
-keyed_is LotExpiry = refl
+use Rattle.book_statements.proofs.WholeTexts.{whole_query, keyed_is}
 
 module _ (one two : Database) (lies : IsLayout one.schema) (its : IsLayout two.schema) (sound : IsDatabase one) (its_sound : IsDatabase two) where
   -- the answers that both give
@@ -48,68 +38,84 @@ module _ (one two : Database) (lies : IsLayout one.schema) (its : IsLayout two.s
   -- all are the same: what the one stands for, the other stands for
   pub stands_too : (W : Who) (L : List Entry) → AreTables one → Stands W L two → ((t : TableName) → FindBoth (whole_text t) one two true) → Stands W L one
   stands_too W L tables stands same =
-      let held = stands.rows in
-      let up : IsTable (book_trees one 1) = tables.1.0.0 in
-      let its_up : IsTable (book_trees two 1) = subst IsTable (sym held.entry) (entries_rise [] L) in
-      let rules_up : IsTable (book_trees one 18) = tables.1.1.1.1.1.1.1.1.1.0.0 in
-      let its_rules_up : IsTable (book_trees two 18) = subst IsTable (sym held.rules) (rules_rise [] L) in
-      let rows : AreHeld (filled W L) (book_trees one) = record {
-        book = book_same one two lies its sound its_sound _ (answer name.Book true (same name.Book)) (same_answer name.Book (same name.Book)) _ held.book;
-        entry = entries_same one two lies its sound its_sound _ up its_up (answer name.Entry true (same name.Entry)) (same_answer name.Entry (same name.Entry)) ∙ held.entry;
-        keyed = λ t.
-            let f = same (keyed_name t) in
-            holds_too t one two lies its sound its_sound tables f.rows
-            (subst (λ (q : Query). IsAnswer q (overlay (book_trees one) []) [] f.rows) (keyed_is t) (answer (keyed_name t) true f))
-            (subst (λ (q : Query). IsAnswer q (overlay (book_trees two) []) [] f.rows) (keyed_is t) (same_answer (keyed_name t) f)) (rows_of W L t) (held.keyed t);
-        rules = rules_same one two lies its sound its_sound _ rules_up its_rules_up (answer name.EntryRules true (same name.EntryRules)) (same_answer name.EntryRules (same name.EntryRules)) ∙ held.rules;
-      } in
-      record { legal = stands.legal; schema = lies; rows = rows }
+      record { legal = stands.legal; schema = lies; rows = by }
+    where
+      held : AreHeld (filled W L) (book_trees two)
+      held = stands.rows
+
+      its_up : IsTable (book_trees two 1)
+      its_up = subst IsTable (sym (held name.Entry)) (entries_rise [] L)
+
+      its_rules_up : IsTable (book_trees two 18)
+      its_rules_up = subst IsTable (sym (held name.EntryRules)) (rules_rise [] L)
+
+      keyed : (t : TableName) → keying_of t ≡ ByColumns → HeldAs (keying_of t) (filled W L t) (book_trees one (tree_of t))
+      keyed t is =
+          let f = same t in
+          subst (λ g. HeldAs g (filled W L t) (book_trees one (tree_of t))) (sym is)
+          (holds_too t one two lies its sound its_sound tables f.rows
+          (subst (λ (q : Query). IsAnswer q (overlay (book_trees one) []) [] f.rows) (keyed_is t is) (answer t true f))
+          (subst (λ (q : Query). IsAnswer q (overlay (book_trees two) []) [] f.rows) (keyed_is t is) (same_answer t f)) (filled W L t)
+          (subst (λ g. HeldAs g (filled W L t) (book_trees two (tree_of t))) is (held t)))
+
+      by : AreHeld (filled W L) (book_trees one)
+      by name.Book = book_same one two lies its sound its_sound _ (answer name.Book true (same name.Book)) (same_answer name.Book (same name.Book)) _ (held name.Book)
+      by name.Entry = entries_same one two lies its sound its_sound _ tables.1.0.0 its_up (answer name.Entry true (same name.Entry)) (same_answer name.Entry (same name.Entry)) ∙ held name.Entry
+      by name.EntryRules =
+          rules_same one two lies its sound its_sound _ tables.1.1.1.1.1.1.1.1.1.0.0 its_rules_up (answer name.EntryRules true (same name.EntryRules)) (same_answer name.EntryRules (same name.EntryRules)) ∙ held name.EntryRules
+      by name.Outgoing = keyed name.Outgoing refl
+      by name.Stock = keyed name.Stock refl
+      by name.Advice = keyed name.Advice refl
+      by name.AdviceLine = keyed name.AdviceLine refl
+      by name.Orders = keyed name.Orders refl
+      by name.OrderLine = keyed name.OrderLine refl
+      by name.Reservation = keyed name.Reservation refl
+      by name.LotExpiry = keyed name.LotExpiry refl
 
   module _ (W : Who) (L : List Entry) (stands : Stands W L one) (its_stands : Stands W L two) where
-    keyed_alike : (t : BookTable) (same : Bool) (f : FindBoth (whole_text (keyed_name t)) one two same) → f.rows ≡ f.others
-    keyed_alike t same f =
-        let held = stands.rows in
-        let its_held = its_stands.rows in
+    abbrev held : AreHeld (filled W L) (book_trees one)
+    held = stands.rows
+
+    abbrev its_held : AreHeld (filled W L) (book_trees two)
+    its_held = its_stands.rows
+
+    keyed_alike : (t : TableName) → keying_of t ≡ ByColumns → (same : Bool) (f : FindBoth (whole_text t) one two same) → f.rows ≡ f.others
+    keyed_alike t is same f =
         let ordered = all_ordered W L in
-        same_shown t one two lies its sound its_sound (rows_of W L t) (ordered.keyed t) (held.keyed t) (its_held.keyed t) f.rows f.others
-        (subst (λ (q : Query). IsAnswer q (overlay (book_trees one) []) [] f.rows) (keyed_is t) (answer (keyed_name t) same f))
-        (subst (λ (q : Query). IsAnswer q (overlay (book_trees two) []) [] f.others) (keyed_is t) (its_answer (keyed_name t) same f))
+        same_shown t is one two lies its sound its_sound (filled W L t) (subst (λ g. OrderedAs g (schema_of t) (width_of t) (filled W L t)) is (ordered.each t))
+        (subst (λ g. HeldAs g (filled W L t) (book_trees one (tree_of t))) is (held t)) (subst (λ g. HeldAs g (filled W L t) (book_trees two (tree_of t))) is (its_held t)) f.rows f.others
+        (subst (λ (q : Query). IsAnswer q (overlay (book_trees one) []) [] f.rows) (keyed_is t is) (answer t same f))
+        (subst (λ (q : Query). IsAnswer q (overlay (book_trees two) []) [] f.others) (keyed_is t is) (its_answer t same f))
 
     book_alike : (same : Bool) (f : FindBoth (whole_text name.Book) one two same) → f.rows ≡ f.others
     book_alike same f =
-        let held = stands.rows in
-        let its_held = its_stands.rows in
-        book_shown (book_trees one) f.rows (answer name.Book same f) _ held.book ∙ sym (book_shown (book_trees two) f.others (its_answer name.Book same f) _ its_held.book)
+        book_shown (book_trees one) f.rows (answer name.Book same f) _ (held name.Book) ∙ sym (book_shown (book_trees two) f.others (its_answer name.Book same f) _ (its_held name.Book))
 
     entry_alike : (same : Bool) (f : FindBoth (whole_text name.Entry) one two same) → f.rows ≡ f.others
     entry_alike same f =
-        let held = stands.rows in
-        let its_held = its_stands.rows in
-        let up : IsTable (book_trees one 1) = subst IsTable (sym held.entry) (entries_rise [] L) in
-        let its_up : IsTable (book_trees two 1) = subst IsTable (sym its_held.entry) (entries_rise [] L) in
-        entries_shown (book_trees one) f.rows up (answer name.Entry same f) ∙ ap (map _) (held.entry ∙ sym its_held.entry) ∙ sym (entries_shown (book_trees two) f.others its_up (its_answer name.Entry same f))
+        let up : IsTable (book_trees one 1) = subst IsTable (sym (held name.Entry)) (entries_rise [] L) in
+        let its_up : IsTable (book_trees two 1) = subst IsTable (sym (its_held name.Entry)) (entries_rise [] L) in
+        entries_shown (book_trees one) f.rows up (answer name.Entry same f) ∙ ap (map _) (held name.Entry ∙ sym (its_held name.Entry)) ∙ sym (entries_shown (book_trees two) f.others its_up (its_answer name.Entry same f))
 
     rules_alike : (same : Bool) (f : FindBoth (whole_text name.EntryRules) one two same) → f.rows ≡ f.others
     rules_alike same f =
-        let held = stands.rows in
-        let its_held = its_stands.rows in
-        let up : IsTable (book_trees one 18) = subst IsTable (sym held.rules) (rules_rise [] L) in
-        let its_up : IsTable (book_trees two 18) = subst IsTable (sym its_held.rules) (rules_rise [] L) in
-        rules_shown (book_trees one) f.rows up (answer name.EntryRules same f) ∙ ap (map _) (held.rules ∙ sym its_held.rules) ∙ sym (rules_shown (book_trees two) f.others its_up (its_answer name.EntryRules same f))
+        let up : IsTable (book_trees one 18) = subst IsTable (sym (held name.EntryRules)) (rules_rise [] L) in
+        let its_up : IsTable (book_trees two 18) = subst IsTable (sym (its_held name.EntryRules)) (rules_rise [] L) in
+        rules_shown (book_trees one) f.rows up (answer name.EntryRules same f) ∙ ap (map _) (held name.EntryRules ∙ sym (its_held name.EntryRules)) ∙ sym (rules_shown (book_trees two) f.others its_up (its_answer name.EntryRules same f))
 
     -- both stand for one register: no table differs
     pub shown_too : (t : TableName) (same : Bool) → FindBoth (whole_text t) one two same → IsTrue same
     shown_too name.Book same f = f.told.1 (book_alike same f)
     shown_too name.Entry same f = f.told.1 (entry_alike same f)
-    shown_too name.Outgoing same f = f.told.1 (keyed_alike Outgoing same f)
-    shown_too name.Stock same f = f.told.1 (keyed_alike Stock same f)
-    shown_too name.Advice same f = f.told.1 (keyed_alike Advice same f)
-    shown_too name.AdviceLine same f = f.told.1 (keyed_alike AdviceLine same f)
-    shown_too name.Orders same f = f.told.1 (keyed_alike Orders same f)
-    shown_too name.OrderLine same f = f.told.1 (keyed_alike OrderLine same f)
-    shown_too name.Reservation same f = f.told.1 (keyed_alike Reservation same f)
+    shown_too name.Outgoing same f = f.told.1 (keyed_alike name.Outgoing refl same f)
+    shown_too name.Stock same f = f.told.1 (keyed_alike name.Stock refl same f)
+    shown_too name.Advice same f = f.told.1 (keyed_alike name.Advice refl same f)
+    shown_too name.AdviceLine same f = f.told.1 (keyed_alike name.AdviceLine refl same f)
+    shown_too name.Orders same f = f.told.1 (keyed_alike name.Orders refl same f)
+    shown_too name.OrderLine same f = f.told.1 (keyed_alike name.OrderLine refl same f)
+    shown_too name.Reservation same f = f.told.1 (keyed_alike name.Reservation refl same f)
     shown_too name.EntryRules same f = f.told.1 (rules_alike same f)
-    shown_too name.LotExpiry same f = f.told.1 (keyed_alike LotExpiry same f)
+    shown_too name.LotExpiry same f = f.told.1 (keyed_alike name.LotExpiry refl same f)
 
 -- The same of connections.
 

@@ -35,6 +35,7 @@ use Rattle.profile.specs.Header.{Who, is_partner, who_text}
 use Rattle.profile.specs.Register.{Entry, own, is_numbered}
 use Rattle.profile.specs.Tables.{entry_row, entries_on, entry_table}
 use Rattle.rules.proofs.Texts.{texts_never}
+use Rattle.book_statements.specs.declared.names.TableName.TheVariants as table
 use Rattle.book_statements.specs.Asking.{Finds, OnlyReads}
 use Rattle.book_tables.specs.Enrolments.{EnrolmentFacts, enrolments_after, enrolments, from_text, IsFirstFrom, enrolment_shown, enrolment_text}
 use Rattle.book_statements.specs.Exits.{StandsWhileOpen}
@@ -226,4 +227,4 @@ first_read old W L t stands rows finds =
     let here = stands finds.0 in
     let held = here.rows in
     let read = found enrolment_text (value.Text t ∷ []) old.now rows _ here.schema enrolment_reads enrolment_is finds.1 in
-    first_shown t L (enrolled_partner W L here.legal) old.now.trees held.entry rows (read.answer value.Null)
+    first_shown t L (enrolled_partner W L here.legal) old.now.trees (held table.Entry) rows (read.answer value.Null)

@@ -16,7 +16,8 @@ use Rattle.book_statements.specs.Layout.{expiry_tree}
 use Rattle.book_statements.specs.Exits.{StandsWhileOpen}
 use Rattle.book_statements.specs.Dated.{date_shown, dates_of}
 use Rattle.book_tables.specs.Showing.{stock_shown, out_shown, IsSent}
-use Rattle.book_statements.specs.Standing.{Stock, LotExpiry, Outgoing, Stands}
+use Rattle.book_statements.specs.declared.names.TableName.TheVariants.{Stock, LotExpiry, Outgoing}
+use Rattle.book_statements.specs.Standing.{Stands}
 use Rattle.book_statements.proofs.Asked.{found, found_placed}
 use Rattle.book_statements.proofs.Ordered.{lots_rise}
 use Rattle.book_tables.proofs.Sendings.{legal_sent}
@@ -29,14 +30,14 @@ stock_found : (W : Who) (L : List Entry) (who : Who) (db : Database) (rows : Lis
 stock_found W L who db rows partner sound stands h =
     let read = found stock_rows_text (value.Text (who_text who) ∷ []) db rows _ stands.schema stock_rows_reads stock_rows_is h in
     let held = stands.rows in
-    stock_rows_shown db.schema stands.schema W L who db.trees rows stands.legal partner sound (held.keyed Stock) (read.answer value.Null)
+    stock_rows_shown db.schema stands.schema W L who db.trees rows stands.legal partner sound (held Stock) (read.answer value.Null)
 
 dates_found : (W : Who) (L : List Entry) (who : Who) (db : Database) (rows : List Row) → is_partner who ≡ true → IsDatabase db → Stands W L db
     → Finds all_dates_text (value.Text (who_text who) ∷ []) db rows → rows ≡ map date_shown (dates_of (running_rows (events (own L who))))
 dates_found W L who db rows partner sound stands h =
     let lies = stands.schema in
     let held = stands.rows in
-    dates_shown db.schema lies W L who db.trees rows stands.legal partner sound (held.keyed LotExpiry)
+    dates_shown db.schema lies W L who db.trees rows stands.legal partner sound (held LotExpiry)
     (found_placed all_dates_text (value.Text (who_text who) ∷ []) db rows all_dates_query all_dates_names 19 all_dates_reads (all_dates_is db.schema lies.expiry_place (expiry_tree db.schema) lies.expiry) h)
 
 outgoing_found : (W : Who) (L : List Entry) (who : Who) (db : Database) (rows : List Row) → is_partner who ≡ true → IsDatabase db → Stands W L db
@@ -44,7 +45,7 @@ outgoing_found : (W : Who) (L : List Entry) (who : Who) (db : Database) (rows : 
 outgoing_found W L who db rows partner sound stands h =
     let read = found outbox_text (value.Text (who_text who) ∷ []) db rows _ stands.schema outbox_reads outbox_is h in
     let held = stands.rows in
-    outgoing_rows_shown db.schema stands.schema W L who db.trees rows stands.legal partner sound (held.keyed Outgoing) (read.answer value.Null)
+    outgoing_rows_shown db.schema stands.schema W L who db.trees rows stands.legal partner sound (held Outgoing) (read.answer value.Null)
 
 -- Rows that are read back of tables that stand while they are open.
 

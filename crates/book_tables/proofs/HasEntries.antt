@@ -25,6 +25,7 @@ use Rattle.profile.specs.Tables.{entry_row, entries_on, entry_table}
 use Rattle.profile.proofs.RegisterLaws.{legal-entries}
 use Rattle.profile.proofs.TextLaws.{both_parts}
 use Rattle.rules.proofs.Depositors.{partner_of}
+use Rattle.book_statements.specs.declared.names.TableName.TheVariants as table
 use Rattle.book_statements.specs.Asking.{Finds}
 use Rattle.book_statements.specs.Exits.{StandsWhileOpen}
 use Rattle.book_statements.specs.Held.{entry_values}
@@ -96,4 +97,4 @@ none_read old W L who partner stands text told rows finds =
     let held = here.rows in
     let h = subst (λ t. Finds has_text (value.Text t ∷ []) old.now rows) told finds.1 in
     let read = found has_text (value.Text (who_text who) ∷ []) old.now rows _ here.schema has_reads has_is h in
-    none_shown who L old.now.trees rows (legal-entries Two W L here.legal) partner held.entry (read.answer value.Null)
+    none_shown who L old.now.trees rows (legal-entries Two W L here.legal) partner (held table.Entry) (read.answer value.Null)

@@ -39,7 +39,7 @@ use Rattle.book_statements.specs.Asking.{OnlyReads, Finds}
 use Rattle.book_statements.specs.Exits.{StandsWhileOpen}
 use Rattle.book_statements.specs.Held.{values, Holds}
 use Rattle.book_statements.specs.Layout.{Others}
-use Rattle.book_statements.specs.Standing.{Outgoing}
+use Rattle.book_statements.specs.declared.names.TableName.TheVariants.{Outgoing}
 use Rattle.book_statements.proofs.Asked.{found}
 use Rattle.book_statements.proofs.Found.{flat_map-cond}
 use Rattle.book_tables.proofs.InOrder.{ascending_from_sorted}
@@ -240,4 +240,4 @@ last_read old W L who partner stands rows finds =
     let here = stands finds.0 in
     let held = here.rows in
     let read = found last_text (value.Text (who_text who) ∷ []) old.now rows _ here.schema last_reads last_is finds.1 in
-    last W L who here.legal partner old.now.trees (held.keyed Outgoing) rows (read.answer value.Null)
+    last W L who here.legal partner old.now.trees (held Outgoing) rows (read.answer value.Null)

@@ -26,7 +26,8 @@ use Rattle.book_statements.specs.Exits.{StandsWhileOpen}
 use Rattle.book_statements.specs.Layout.{stock_layout, lot_expiry_layout, book_trees, expiry_tree}
 use Rattle.book_statements.specs.Dated.{Dated, date_shown, dates_of}
 use Rattle.book_tables.specs.Showing.{lot_shown}
-use Rattle.book_statements.specs.Standing.{Stock, LotExpiry, Stands, AreOrdered, filled}
+use Rattle.book_statements.specs.declared.names.TableName.TheVariants.{Stock, LotExpiry}
+use Rattle.book_statements.specs.Standing.{Stands, AreOrdered, filled}
 use Rattle.book_statements.proofs.Asked.{found, found_placed}
 use Rattle.book_tables.proofs.Finding.{rises_kept}
 use Rattle.book_statements.proofs.HoldsLemmas.{are_keyed}
@@ -60,7 +61,7 @@ lots_found W L who item db rows partner sound stands h =
     let lies = stands.schema in
     let ordered : AreOrdered (filled W L) = all_ordered W L in
     all_rows 2 (lot_cells who) 6 lots_columns pair_order lot_out (value.Text (who_text who)) (value.Text item) (stock_table L) (filter (λ r. bytes_eq r.item item) (running_rows (events (own L who))))
-    (lots_under W L who item stands.legal partner) db.trees (held.keyed Stock) rows (read.answer value.Null)
+    (lots_under W L who item stands.legal partner) db.trees (held Stock) rows (read.answer value.Null)
     pairs_in_order row_key 3 (rises_kept pairs_in_order row_key (λ r. bytes_eq r.item item) (running_rows (events (own L who))) (lots_rise (events (own L who))))
     (λ a b. pairs_ranked a.item a.lot b.item b.lot)
     (λ a b t.
@@ -68,7 +69,7 @@ lots_found W L who item db rows partner sound stands h =
     let its = text_is a.item b.item both.0 in
     let lot = text_is a.lot b.lot both.1 in
     λ i. value.Text (who_text who) ∷ value.Text (its i) ∷ value.Text (lot i) ∷ [])
-    (only_row db.schema lies stock_layout.name 6 3 stock_layout.checks stock_layout.columns db.trees (inr (inr (inr (inl refl)))) sound (are_keyed stock_schema 3 (stock_table L) (db.trees 6) (ordered.keyed Stock) (held.keyed Stock)))
+    (only_row db.schema lies stock_layout.name 6 3 stock_layout.checks stock_layout.columns db.trees (inr (inr (inr (inl refl)))) sound (are_keyed stock_schema 3 (stock_table L) (db.trees 6) (ordered.each Stock) (held Stock)))
 
 -- The dates of the item's lots.
 
@@ -115,7 +116,7 @@ dates_found W L who item db rows partner sound stands h =
     let ordered : AreOrdered (filled W L) = all_ordered W L in
     let lots = running_rows (events (own L who)) in
     all_rows 2 (λ (d : Dated). Text (who_text who) ∷ date_cells d) 19 dates_columns pair_order date_out (value.Text (who_text who)) (value.Text item) (lot_expiry_table L) (of_item item lots)
-    (dates_under W L who item stands.legal partner) (book_trees db) (held.keyed LotExpiry) rows answer
+    (dates_under W L who item stands.legal partner) (book_trees db) (held LotExpiry) rows answer
     pairs_in_order date_key 3 (rises_kept pairs_in_order date_key (λ d. bytes_eq d.item item) (dates_of lots) (dates_rise lots (lots_rise (events (own L who)))))
     (λ a b. pairs_ranked a.item a.lot b.item b.lot)
     (λ a b t.
@@ -124,7 +125,7 @@ dates_found W L who item db rows partner sound stands h =
     let lot = text_is a.lot b.lot both.1 in
     λ i. value.Text (who_text who) ∷ value.Text (its i) ∷ value.Text (lot i) ∷ [])
     (only_row db.schema lies lot_expiry_layout.name (expiry_tree db.schema) 3 [] lot_expiry_layout.columns db.trees (inr (inr (inr (inr (inr (inr (inr (inr (inr (inr (inl refl))))))))))) sound
-    (are_keyed lot_expiry_schema 3 (lot_expiry_table L) (book_trees db 19) (ordered.keyed LotExpiry) (held.keyed LotExpiry)))
+    (are_keyed lot_expiry_schema 3 (lot_expiry_table L) (book_trees db 19) (ordered.each LotExpiry) (held LotExpiry)))
     ∙ ap (map date_shown) (dates_kept item lots)
 
 -- what rows were read as, of tables that stand while they are open

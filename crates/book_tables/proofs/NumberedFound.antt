@@ -39,6 +39,7 @@ use Rattle.rules.specs.Written.{Written, written}
 use Rattle.rules.proofs.Depositors.{partner_of}
 use Rattle.rules.proofs.Registers.{same_who}
 use Rattle.store.specs.Replayed.{written_on, all_written}
+use Rattle.book_statements.specs.declared.names.TableName.TheVariants as table
 use Rattle.book_statements.specs.Asking.{OnlyReads, Finds}
 use Rattle.book_statements.specs.Exits.{StandsWhileOpen}
 use Rattle.book_statements.specs.Held.{entry_values}
@@ -181,7 +182,7 @@ module _ (seq : ℕ) where
   numbered_found W L db rows stands h =
       let read = found numbered_text (value.Int (pos seq) ∷ []) db rows _ stands.schema numbered_reads numbered_is h in
       let a : IsAnswer numbered_query (overlay db.trees []) (value.Int (pos seq) ∷ []) rows = read.answer value.Null in
-      let entries = let r = stands.rows in r.entry in
+      let entries = let r = stands.rows in r table.Entry in
       let is : a.kept ≡ map (output numbered_query) (map env_of (filter has_number (db.trees 1))) = a.distinct ∙ ap (map (output numbered_query)) (a.grouped ∙ flat_map-cond has_number env_of (db.trees 1)) in
       let all : map (λ (o : Output). o.1) a.kept ≡ map numbered_shown (listed (written_at (all_written L) seq)) =
       ap (map (λ (o : Output). o.1)) is ∙ map-both (output numbered_query) (λ (o : Output). o.1) (map env_of (filter has_number (db.trees 1))) ∙ map-both env_of (λ e. (output numbered_query e).1) (filter has_number (db.trees 1))
@@ -193,7 +194,7 @@ module _ (seq : ℕ) where
       let lies = stands.schema in
       let a : IsAnswer rules_query (overlay (book_trees db) []) (value.Int (pos seq) ∷ []) rows = found_placed rules_text (value.Int (pos seq) ∷ []) db rows rules_query rules_names 18 rules_reads (rules_is db.schema lies.rules_place (rules_tree db.schema) lies.rules) h in
       let stored : List Row = book_trees db 18 in
-      let rules = let r = stands.rows in r.rules in
+      let rules = let r = stands.rows in r table.EntryRules in
       let is : a.kept ≡ map (output rules_query) (map env_of (filter has_number stored)) = a.distinct ∙ ap (map (output rules_query)) (a.grouped ∙ flat_map-cond has_number env_of stored) in
       let all : map (λ (o : Output). o.1) a.kept ≡ map rules_shown (listed (written_at (all_written L) seq)) =
       ap (map (λ (o : Output). o.1)) is ∙ map-both (output rules_query) (λ (o : Output). o.1) (map env_of (filter has_number stored)) ∙ map-both env_of (λ e. (output rules_query e).1) (filter has_number stored)

@@ -12,6 +12,7 @@ use Rattle.profile.specs.Tables.{TableRow, book_table, entry_table, entry_rules_
 use Rattle.profile.proofs.RegisterLaws.{entry_table-determines}
 use Rattle.sqlite.specs.declared.types.Value.{Value}
 use Rattle.sqlite.specs.declared.types.Value.TheVariants as value
+use Rattle.book_statements.specs.declared.names.TableName.TheVariants as table
 use Rattle.book_statements.specs.Held.{value_of, values, first_row, entry_values}
 use Rattle.book_statements.specs.Layout.{placed}
 use Rattle.book_statements.specs.Standing.{StandsIn}
@@ -52,12 +53,12 @@ one_rules {W} {V} {db} {L} {M} p q =
     let a = p.2.rows in
     let b = q.2.rows in
     let same : placed p.0 db 18 ≡ placed q.0 db 18 = ap (λ (s : Schema). placed s db 18) (one_schema p q) in
-    sym a.rules ∙ same ∙ b.rules
+    sym (a table.EntryRules) ∙ same ∙ b table.EntryRules
 
 pub stands_for_one : (W V : Who) (db : Trees) (L M : List Entry) → StandsIn W L db → StandsIn V M db → (W ≡ V) × (L ≡ M)
 stands_for_one W V db L M p q = (
-  same_house W V (let a = p.2.rows in let b = q.2.rows in sym a.book ∙ b.book),
-  entry_table-determines W V L M p.2.legal q.2.legal (same_entries (entry_table L) (entry_table M) (let a = p.2.rows in let b = q.2.rows in sym a.entry ∙ b.entry))
+  same_house W V (let a = p.2.rows in let b = q.2.rows in sym (a table.Book) ∙ b table.Book),
+  entry_table-determines W V L M p.2.legal q.2.legal (same_entries (entry_table L) (entry_table M) (let a = p.2.rows in let b = q.2.rows in sym (a table.Entry) ∙ b table.Entry))
       (same_entries (entry_rules_table L) (entry_rules_table M) (one_rules p q)),
 )
 

@@ -32,7 +32,8 @@ use Rattle.book_statements.specs.Exits.{StandsWhileOpen}
 use Rattle.book_statements.specs.Layout.{advice_layout, orders_layout}
 use Rattle.book_tables.specs.Needed.{needed_part, open_need}
 use Rattle.book_tables.specs.Showing.{name_shown}
-use Rattle.book_statements.specs.Standing.{Advice, Orders, Stands, AreOrdered, filled}
+use Rattle.book_statements.specs.declared.names.TableName.TheVariants.{Advice, Orders}
+use Rattle.book_statements.specs.Standing.{Stands, AreOrdered, filled}
 use Rattle.book_statements.proofs.Asked.{found}
 use Rattle.book_tables.proofs.Finding.{rises_kept}
 use Rattle.book_statements.proofs.Found.{map-both}
@@ -78,12 +79,12 @@ shipments_found W L who db rows partner sound stands h =
     let lies = stands.schema in
     let ordered : AreOrdered (filled W L) = all_ordered W L in
     all_rows 4 (advised who) 8 name_columns name_order (λ a. name_out a.shipment) (value.Text (who_text who)) (value.Int (pos 1)) (advice_table L) (open_advices L who)
-    (shipments_under W L who stands.legal partner) db.trees (held.keyed Advice) rows (read.answer value.Null)
+    (shipments_under W L who stands.legal partner) db.trees (held Advice) rows (read.answer value.Null)
     comes_before shipment_of 2 (rises_kept comes_before shipment_of (λ (a : PageAdvice). a.is_open) (page_advices (events (own L who))) (advices_rise (events (own L who))))
     (λ a b. texts_ranked a.shipment b.shipment)
     (λ a b t. let same = text_is a.shipment b.shipment (one_equal (value_cmp (value.Text a.shipment) (value.Text b.shipment)) t) in λ i. value.Text (who_text who) ∷ value.Text (same i) ∷ [])
     (only_row db.schema lies advice_layout.name 8 2 advice_layout.checks advice_layout.columns db.trees (inr (inr (inr (inr (inl refl))))) sound
-    (are_keyed advice_schema 2 (advice_table L) (db.trees 8) (ordered.keyed Advice) (held.keyed Advice)))
+    (are_keyed advice_schema 2 (advice_table L) (db.trees 8) (ordered.each Advice) (held Advice)))
     ∙ sym (map-both shipment_of name_shown (open_advices L who))
 
 -- what rows were read as, of tables that stand while they are open
@@ -114,12 +115,12 @@ numbers_found W L who db rows partner sound stands h =
     let lies = stands.schema in
     let ordered : AreOrdered (filled W L) = all_ordered W L in
     all_rows 3 (ordered_row who) 12 name_columns name_order (λ o. name_out o.number) (value.Text (who_text who)) (value.Int (pos 1)) (orders_table L) (open_orders L who)
-    (numbers_under W L who stands.legal partner) db.trees (held.keyed Orders) rows (read.answer value.Null)
+    (numbers_under W L who stands.legal partner) db.trees (held Orders) rows (read.answer value.Null)
     comes_before number_of 2 (rises_kept comes_before number_of (λ (o : PageOrder). o.is_open) (page_orders (events (own L who))) (orders_rise (events (own L who))))
     (λ a b. texts_ranked a.number b.number)
     (λ a b t. let same = text_is a.number b.number (one_equal (value_cmp (value.Text a.number) (value.Text b.number)) t) in λ i. value.Text (who_text who) ∷ value.Text (same i) ∷ [])
     (only_row db.schema lies orders_layout.name 12 2 orders_layout.checks orders_layout.columns db.trees (inr (inr (inr (inr (inr (inr (inl refl))))))) sound
-    (are_keyed orders_schema 2 (orders_table L) (db.trees 12) (ordered.keyed Orders) (held.keyed Orders)))
+    (are_keyed orders_schema 2 (orders_table L) (db.trees 12) (ordered.each Orders) (held Orders)))
     ∙ sym (map-both number_of name_shown (open_orders L who))
 
 pub numbers_read : (old : State) (W : Who) (L : List Entry) (who : Who) → IsTrue (is_partner who) → IsLive old → StandsWhileOpen old W L → (rows : List Row)

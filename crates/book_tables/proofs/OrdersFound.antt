@@ -35,7 +35,8 @@ use Rattle.book_statements.specs.Held.{values}
 use Rattle.book_statements.specs.Layout.{order_line_layout, reservation_layout}
 use Rattle.book_tables.specs.Looking.{lines_ordered, lines_reserved}
 use Rattle.book_tables.specs.Showing.{order_shown, order_line_shown, line_shown}
-use Rattle.book_statements.specs.Standing.{Orders, OrderLine, Reservation, Stands, AreOrdered, filled}
+use Rattle.book_statements.specs.declared.names.TableName.TheVariants.{Orders, OrderLine, Reservation}
+use Rattle.book_statements.specs.Standing.{Stands, AreOrdered, filled}
 use Rattle.book_statements.proofs.Asked.{found}
 use Rattle.book_tables.proofs.Finding.{no_row, first_row, one_key, second_of}
 use Rattle.book_statements.proofs.HoldsLemmas.{are_keyed}
@@ -84,13 +85,13 @@ module _ (old : State) (W : Who) (L : List Entry) (who : Who) (number : List ℕ
   each =
       let held = here.rows in
       let read = found order_text (value.Text (who_text who) ∷ value.Text number ∷ []) old.now rows _ here.schema order_reads order_is finds.1 in
-      each_row 2 (ordered_row who) 12 order_columns [] order_out (value.Text (who_text who)) (value.Text number) (orders_table L) (filter (is_number number) (orders L who)) (order_under W L who number here.legal partner) old.now.trees (held.keyed Orders) rows (read.answer value.Null)
+      each_row 2 (ordered_row who) 12 order_columns [] order_out (value.Text (who_text who)) (value.Text number) (orders_table L) (filter (is_number number) (orders L who)) (order_under W L who number here.legal partner) old.now.trees (held Orders) rows (read.answer value.Null)
 
   there : (a : PageOrder) → Has (filter (is_number number) (orders L who)) a → Has rows (order_shown a)
   there =
       let held = here.rows in
       let read = found order_text (value.Text (who_text who) ∷ value.Text number ∷ []) old.now rows _ here.schema order_reads order_is finds.1 in
-      has_row 2 (ordered_row who) 12 order_columns [] order_out (value.Text (who_text who)) (value.Text number) (orders_table L) (filter (is_number number) (orders L who)) (order_under W L who number here.legal partner) old.now.trees (held.keyed Orders) rows (read.answer value.Null)
+      has_row 2 (ordered_row who) 12 order_columns [] order_out (value.Text (who_text who)) (value.Text number) (orders_table L) (filter (is_number number) (orders L who)) (order_under W L who number here.legal partner) old.now.trees (held Orders) rows (read.answer value.Null)
 
   pub no_order : rows ≡ [] → order_at number (page_of (own L who)).orders ≡ None
   no_order = no_row (is_number number) (orders L who) order_shown rows each there one
@@ -123,11 +124,11 @@ ordered_found W L who number db rows partner sound stands h =
     let lies = stands.schema in
     let ordered : AreOrdered (filled W L) = all_ordered W L in
     all_rows 2 (line_cells who number) 14 line_columns line_order line_out (value.Text (who_text who)) (value.Text number) (order_line_table L) (enumerate_from 1 (its_lines L who number))
-    (lines_under W L who number stands.legal partner) db.trees (held.keyed OrderLine) rows (read.answer value.Null)
+    (lines_under W L who number stands.legal partner) db.trees (held OrderLine) rows (read.answer value.Null)
     nat_lt (λ (p : ℕ × PageLine). p.0) 3 (numbers_rise 1 (its_lines L who number)) (λ a b. numbers_ranked a.0 b.0)
     (λ a b t. let same = number_is a.0 b.0 t in λ i. value.Text (who_text who) ∷ value.Text number ∷ value.Int (pos (same i)) ∷ [])
     (only_row db.schema lies order_line_layout.name 14 3 order_line_layout.checks order_line_layout.columns db.trees (inr (inr (inr (inr (inr (inr (inr (inl refl)))))))) sound
-    (are_keyed order_line_schema 3 (order_line_table L) (db.trees 14) (ordered.keyed OrderLine) (held.keyed OrderLine)))
+    (are_keyed order_line_schema 3 (order_line_table L) (db.trees 14) (ordered.each OrderLine) (held OrderLine)))
     ∙ second_of order_line_shown 1 (its_lines L who number)
 
 pub ordered_read : (old : State) (W : Who) (L : List Entry) (who : Who) (number : List ℕ) → IsTrue (is_partner who) → IsLive old → StandsWhileOpen old W L → (rows : List Row)
@@ -169,7 +170,7 @@ reserved_found W L who number db rows partner sound stands h =
     let lies = stands.schema in
     let ordered : AreOrdered (filled W L) = all_ordered W L in
     all_rows 2 (share_cells who number) 16 reserved_columns reserved_order reserved_out (value.Text (who_text who)) (value.Text number) (reservation_table L) (its_shares L who number)
-    (shares_under W L who number stands.legal partner) db.trees (held.keyed Reservation) rows (read.answer value.Null)
+    (shares_under W L who number stands.legal partner) db.trees (held Reservation) rows (read.answer value.Null)
     pairs_in_order line_pair 4 (shares_rise L who number (order_at number (page_of (own L who)).orders) refl) (λ a b. pairs_ranked a.item a.lot b.item b.lot)
     (λ a b t.
     let both = both_equal (value_cmp (value.Text a.item) (value.Text b.item)) (value_cmp (value.Text a.lot) (value.Text b.lot)) t in
@@ -177,7 +178,7 @@ reserved_found W L who number db rows partner sound stands h =
     let lot = text_is a.lot b.lot both.1 in
     λ i. value.Text (who_text who) ∷ value.Text number ∷ value.Text (its i) ∷ value.Text (lot i) ∷ [])
     (only_row db.schema lies reservation_layout.name 16 4 reservation_layout.checks reservation_layout.columns db.trees (inr (inr (inr (inr (inr (inr (inr (inr (inl refl))))))))) sound
-    (are_keyed reservation_schema 4 (reservation_table L) (db.trees 16) (ordered.keyed Reservation) (held.keyed Reservation)))
+    (are_keyed reservation_schema 4 (reservation_table L) (db.trees 16) (ordered.each Reservation) (held Reservation)))
 
 pub reserved_read : (old : State) (W : Who) (L : List Entry) (who : Who) (number : List ℕ) → IsTrue (is_partner who) → IsLive old → StandsWhileOpen old W L → (rows : List Row)
     → IsTrue old.is_open × Finds reserved_text (value.Text (who_text who) ∷ value.Text number ∷ []) old.now rows → (read : Option (List Line)) → ((ls : List Line) → list_all (is_fitting_line Two) ls ≡ true → rows ≡ map line_shown ls → read ≡ Some ls)

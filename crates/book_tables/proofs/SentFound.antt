@@ -25,7 +25,8 @@ use Rattle.book_statements.specs.Exits.{StandsWhileOpen}
 use Rattle.store.specs.Sent.{text_under}
 use Rattle.book_tables.specs.Looking.{IsRowOf}
 use Rattle.book_tables.specs.Showing.{sent_shown, content_shown}
-use Rattle.book_statements.specs.Standing.{Outgoing, Stands}
+use Rattle.book_statements.specs.declared.names.TableName.TheVariants.{Outgoing}
+use Rattle.book_statements.specs.Standing.{Stands}
 use Rattle.book_statements.proofs.Asked.{found}
 use Rattle.book_tables.proofs.DocumentRows.{no_document, its_document}
 use Rattle.book_tables.proofs.Finding.{no_row, first_row, one_key, one_found, none_passes, not_found}
@@ -69,10 +70,10 @@ module _ (old : State) (W : Who) (L : List Entry) (who : Who) (n : ℕ) (partner
   answer = let read = found sent_text (value.Text (who_text who) ∷ value.Int (pos n) ∷ []) old.now rows _ here.schema sent_reads sent_is finds.1 in read.answer value.Null
 
   each : (row : Row) → Has rows row → (r : OutRow) × Has (filter (rows_under n) sent) r × (row ≡ sent_shown r)
-  each = let held = here.rows in each_row 2 (sent_cells who) 4 sent_columns [] sent_out (value.Text (who_text who)) (value.Int (pos n)) (outgoing_table W L) (filter (rows_under n) sent) sent_under old.now.trees (held.keyed Outgoing) rows answer
+  each = let held = here.rows in each_row 2 (sent_cells who) 4 sent_columns [] sent_out (value.Text (who_text who)) (value.Int (pos n)) (outgoing_table W L) (filter (rows_under n) sent) sent_under old.now.trees (held Outgoing) rows answer
 
   there : (r : OutRow) → Has (filter (rows_under n) sent) r → Has rows (sent_shown r)
-  there = let held = here.rows in has_row 2 (sent_cells who) 4 sent_columns [] sent_out (value.Text (who_text who)) (value.Int (pos n)) (outgoing_table W L) (filter (rows_under n) sent) sent_under old.now.trees (held.keyed Outgoing) rows answer
+  there = let held = here.rows in has_row 2 (sent_cells who) 4 sent_columns [] sent_out (value.Text (who_text who)) (value.Int (pos n)) (outgoing_table W L) (filter (rows_under n) sent) sent_under old.now.trees (held Outgoing) rows answer
 
   pub none_sent : rows ≡ [] → document_at n (page_of (own L who)).documents ≡ None
   none_sent is = no_document W n (own L who) (no_row (rows_under n) sent sent_shown rows each there (one_row W (own L who) n) is)
@@ -126,10 +127,10 @@ module _ (old : State) (W : Who) (L : List Entry) (who : Who) (n : ℕ) (partner
   content_answer = let read = found content_text (value.Text (who_text who) ∷ value.Int (pos n) ∷ []) old.now rows _ stood.schema content_reads content_is finds.1 in read.answer value.Null
 
   each_text : (row : Row) → Has rows row → (r : OutRow) × Has (filter (rows_under n) texts) r × (row ≡ content_shown r)
-  each_text = let held = stood.rows in each_row 2 (sent_cells who) 4 text_columns [] content_out (value.Text (who_text who)) (value.Int (pos n)) (outgoing_table W L) (filter (rows_under n) texts) texts_under old.now.trees (held.keyed Outgoing) rows content_answer
+  each_text = let held = stood.rows in each_row 2 (sent_cells who) 4 text_columns [] content_out (value.Text (who_text who)) (value.Int (pos n)) (outgoing_table W L) (filter (rows_under n) texts) texts_under old.now.trees (held Outgoing) rows content_answer
 
   text_there : (r : OutRow) → Has (filter (rows_under n) texts) r → Has rows (content_shown r)
-  text_there = let held = stood.rows in has_row 2 (sent_cells who) 4 text_columns [] content_out (value.Text (who_text who)) (value.Int (pos n)) (outgoing_table W L) (filter (rows_under n) texts) texts_under old.now.trees (held.keyed Outgoing) rows content_answer
+  text_there = let held = stood.rows in has_row 2 (sent_cells who) 4 text_columns [] content_out (value.Text (who_text who)) (value.Int (pos n)) (outgoing_table W L) (filter (rows_under n) texts) texts_under old.now.trees (held Outgoing) rows content_answer
 
   -- the rows show a content, which is the text but where it is empty
   pub text_shown : (content : List ℕ) × IsContent rows content × (text_under W (own L who) n ≡ (if length content == 0 then None else Some content))

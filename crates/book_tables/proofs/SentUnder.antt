@@ -31,7 +31,8 @@ use Rattle.rules.proofs.KeyLemmas.{numbers_strict}
 use Rattle.book_statements.specs.Asking.{Finds}
 use Rattle.book_tables.specs.Contents.{IsContent}
 use Rattle.book_statements.specs.Held.{values, Holds}
-use Rattle.book_statements.specs.Standing.{Outgoing, Stands}
+use Rattle.book_statements.specs.declared.names.TableName.TheVariants.{Outgoing}
+use Rattle.book_statements.specs.Standing.{Stands}
 use Rattle.book_statements.proofs.Asked.{found}
 use Rattle.book_statements.proofs.KeyLemmas.{text_itself, int_itself, same_int, same_text as equal_text}
 use Rattle.book_statements.proofs.KnownTexts.{content_text, content_query, content_is, content_reads}
@@ -195,7 +196,7 @@ pub content_found : (W : Who) (L : List Entry) (who : Who) (n : ℕ) (db : Datab
 content_found W L who n db rows partner stands h before e back split is =
     let read = found content_text (value.Text (who_text who) ∷ value.Int (pos n) ∷ []) db rows _ stands.schema content_reads content_is h in
     let held = stands.rows in
-    content_shown W L who stands.legal partner n db.trees (held.keyed Outgoing) rows (read.answer value.Null) before e back split is
+    content_shown W L who stands.legal partner n db.trees (held Outgoing) rows (read.answer value.Null) before e back split is
 
 -- whatever is under a number shows a content
 pub some_content : (W : Who) (L : List Entry) (who : Who) (n : ℕ) (db : Database) (rows : List Row) → is_partner who ≡ true → Stands W L db
@@ -203,7 +204,7 @@ pub some_content : (W : Who) (L : List Entry) (who : Who) (n : ℕ) (db : Databa
 some_content W L who n db rows partner stands h =
     let read = found content_text (value.Text (who_text who) ∷ value.Int (pos n) ∷ []) db rows _ stands.schema content_reads content_is h in
     let held = stands.rows in
-    by rows (of_row W L who stands.legal partner n db.trees (held.keyed Outgoing) rows (read.answer value.Null))
+    by rows (of_row W L who stands.legal partner n db.trees (held Outgoing) rows (read.answer value.Null))
   where
     by : (rs : List Row) → ((row : Row) → Has rs row → (m : OutRow) × Has (outgoing_rows W (own L who)) m × (m.n ≡ n) × (row ≡ value.Blob m.content ∷ [])) → (content : List ℕ) × IsContent rs content
     by [] each = ([], refl)

@@ -32,7 +32,8 @@ use Rattle.sqlite.specs.Schema.{Schema}
 use Rattle.book_statements.specs.Layout.{IsLayout, placed, expiry_tree, stock_layout, lot_expiry_layout, outgoing_layout}
 use Rattle.book_statements.specs.Dated.{Dated, date_shown, dates_of}
 use Rattle.book_tables.specs.Showing.{stock_shown, out_shown}
-use Rattle.book_statements.specs.Standing.{Stock, LotExpiry, Outgoing, AreOrdered, filled}
+use Rattle.book_statements.specs.declared.names.TableName.TheVariants.{Stock, LotExpiry, Outgoing}
+use Rattle.book_statements.specs.Standing.{AreOrdered, filled}
 use Rattle.book_statements.proofs.HoldsLemmas.{are_keyed}
 use Rattle.book_statements.proofs.Ordered.{all_ordered, lots_rise, sent_rise}
 use Rattle.book_statements.proofs.DateLemmas.{date_cells, date_key, dates_in, dates_rise}
@@ -111,7 +112,7 @@ pub stock_rows_shown : (schema : Schema) (lies : IsLayout schema) (W : Who) (L :
 stock_rows_shown schema lies W L who db rows legal partner sound held a =
     let ordered : AreOrdered (filled W L) = all_ordered W L in
     shown_rows pairs_in_order row_key stock_cells 6 3 stock_columns stock_order stock_out (who_text who) (stock_table L) (running_rows (events (own L who))) (stock_is W L who legal partner) db held
-    (only_row schema lies stock_layout.name 6 3 stock_layout.checks stock_layout.columns db (inr (inr (inr (inl refl)))) sound (are_keyed stock_schema 3 (stock_table L) (db 6) (ordered.keyed Stock) held)) rows a
+    (only_row schema lies stock_layout.name 6 3 stock_layout.checks stock_layout.columns db (inr (inr (inr (inl refl)))) sound (are_keyed stock_schema 3 (stock_table L) (db 6) (ordered.each Stock) held)) rows a
 
 -- Dates.
 
@@ -141,7 +142,7 @@ dates_shown schema lies W L who db rows legal partner sound held a =
     let ordered : AreOrdered (filled W L) = all_ordered W L in
     shown_rows pairs_in_order date_key date_cells 19 3 all_dates_columns stock_order date_out (who_text who) (lot_expiry_table L) (dates_of (running_rows (events (own L who)))) (dates_are W L who legal partner) (placed schema db) held
     (only_row schema lies lot_expiry_layout.name (expiry_tree schema) 3 [] lot_expiry_layout.columns db (inr (inr (inr (inr (inr (inr (inr (inr (inr (inr (inl refl))))))))))) sound
-    (are_keyed lot_expiry_schema 3 (lot_expiry_table L) (placed schema db 19) (ordered.keyed LotExpiry) held)) rows a
+    (are_keyed lot_expiry_schema 3 (lot_expiry_table L) (placed schema db 19) (ordered.each LotExpiry) held)) rows a
 
 -- What went out.
 
@@ -182,4 +183,4 @@ pub outgoing_rows_shown : (schema : Schema) (lies : IsLayout schema) (W : Who) (
 outgoing_rows_shown schema lies W L who db rows legal partner sound held a =
     let ordered : AreOrdered (filled W L) = all_ordered W L in
     shown_rows nat_lt (λ (r : OutRow). r.n) outgoing_cells 4 2 outbox_columns outbox_order out_out (who_text who) (outgoing_table W L) (outgoing_rows W (own L who)) (outgoing_is W L who legal partner) db held
-    (only_row schema lies outgoing_layout.name 4 2 outgoing_layout.checks outgoing_layout.columns db (inr (inr (inl refl))) sound (are_keyed outgoing_schema 2 (outgoing_table W L) (db 4) (ordered.keyed Outgoing) held)) rows a
+    (only_row schema lies outgoing_layout.name 4 2 outgoing_layout.checks outgoing_layout.columns db (inr (inr (inl refl))) sound (are_keyed outgoing_schema 2 (outgoing_table W L) (db 4) (ordered.each Outgoing) held)) rows a

@@ -27,6 +27,7 @@ use Rattle.profile.proofs.TextLaws.{both_parts}
 use Rattle.rules.specs.Written.{Written, written}
 use Rattle.rules.proofs.Depositors.{partner_of}
 use Rattle.store.specs.Replayed.{written_on, all_written, is_under}
+use Rattle.book_statements.specs.declared.names.TableName.TheVariants as table
 use Rattle.book_statements.specs.Held.{entry_values}
 use Rattle.book_statements.specs.Standing.{Stands}
 use Rattle.book_statements.specs.Asking.{Finds}
@@ -105,7 +106,7 @@ pub under_found : (W : Who) (L : List Entry) (who : Who) (key : List ℕ) (db : 
     → Finds under_text (params (who_text who) key) db rows → rows ≡ map seq_shown (numbers_of (is_under who key) 0 (all_written L))
 under_found W L who key db rows partner stands h =
     let read = found under_text (params (who_text who) key) db rows _ stands.schema under_reads under_is h in
-    let entries = let r = stands.rows in r.entry in
+    let entries = let r = stands.rows in r table.Entry in
     under_shown (who_text who) key db.trees rows (subst IsTable (sym entries) (entries_rise [] L)) (read.answer value.Null)
     ∙ ap (λ src. map shows (filter (whose (who_text who) key) src)) entries
     ∙ under_told who key [] L (legal-entries Two W L stands.legal) partner

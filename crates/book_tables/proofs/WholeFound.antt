@@ -17,12 +17,13 @@ use Rattle.book_statements.specs.Whole.{whole_text}
 use Rattle.book_statements.specs.Layout.{IsLayout, book_trees}
 use Rattle.book_statements.proofs.Asked.{found_placed}
 use Rattle.book_statements.proofs.ReadingTexts.{ordered_from}
-use Rattle.book_statements.proofs.WholeTexts.{whole_query, whole_names, number_of, over_its_tree, whole_is, whole_reads}
+use Rattle.book_statements.specs.Standing.{tree_of}
+use Rattle.book_statements.proofs.WholeTexts.{whole_query, whole_names, over_its_tree, whole_is, whole_reads}
 
 pub whole_found : (t : TableName) (db : Database) (rows : List Row) → IsLayout db.schema → Finds (whole_text t) [] db rows → IsAnswer (whole_query t) (overlay (book_trees db) []) [] rows
 whole_found t db rows lies h =
     subst (λ (q : Query). IsAnswer q (overlay (book_trees db) []) [] rows) (over_its_tree t)
-    (found_placed (whole_text t) [] db rows (whole_query t) (whole_names t) (number_of t) (whole_reads t) (whole_is t db.schema lies) h)
+    (found_placed (whole_text t) [] db rows (whole_query t) (whole_names t) (tree_of t) (whole_reads t) (whole_is t db.schema lies) h)
 
 singles : {A B : Type 0} (f : A → B) (xs : List A) → flat_map (λ x. f x ∷ []) xs ≡ map f xs
 singles f [] = refl

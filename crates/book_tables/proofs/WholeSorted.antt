@@ -25,14 +25,16 @@ use Rattle.book_statements.specs.Held.{values, Holds}
 use Rattle.sqlite.specs.Schema.{Schema}
 use Rattle.sqlite.specs.Effect.{Database, IsDatabase}
 use Rattle.book_statements.specs.Layout.{IsLayout, book_trees, placed, expiry_tree}
-use Rattle.book_statements.specs.Standing.{BookTable, Outgoing, Stock, Advice, AdviceLine, Orders, OrderLine, Reservation, LotExpiry, AreByKey, schema_of, tree_of, width_of}
+use Rattle.book_statements.specs.declared.names.TableName.{TableName}
+use Rattle.book_statements.specs.declared.names.TableName.TheVariants.{Book, Entry, Outgoing, Stock, Advice, AdviceLine, Orders, OrderLine, Reservation, EntryRules, LotExpiry}
+use Rattle.book_statements.specs.Standing.{Keying, ByColumns, AreByKey, keying_of, schema_of, tree_of, width_of}
 use Rattle.book_statements.specs.Steps.{AreKeyed, has_key, key_of}
 use Rattle.book_statements.proofs.HoldsLemmas.{are_keyed}
 use Rattle.book_statements.proofs.KeyLemmas.{places, same_text, same_int, equal_texts, equal_ints}
 use Rattle.book_tables.proofs.Sorts.{sorted_apart, sorted_same, shown_apart}
 use Rattle.book_statements.proofs.UpsertLemmas.{only_row}
 use Rattle.book_tables.proofs.WholeFound.{out, kept_is, into, back}
-use Rattle.book_tables.proofs.WholeKeyed.{keyed_lies, columns_out, sorted_out}
+use Rattle.book_tables.proofs.WholeKeyed.{table_lies, columns_out, sorted_out}
 use Rattle.book_tables.proofs.WholeRows.{columns_later}
 use Rattle.book_statements.proofs.WholeTexts.{columns_at, rising_at, columns_of, keyed_query}
 
@@ -83,24 +85,31 @@ tied_keys (suc k) at (x ∷ a) (y ∷ b) p q h =
     let rest = tied_keys k (suc at) a b first.1 first.2 (sym (ap is_eq moved) ∙ both.1) in
     (λ i. first.0 i ∷ rest i)
 
--- no two rows of a keyed table have one key
-one_row : (t : BookTable) (schema : Schema) → IsLayout schema → (db : Trees) → IsSound schema db → AreKeyed (width_of t) (placed schema db (tree_of t)) → (a b : Row) → Has (placed schema db (tree_of t)) a → Has (placed schema db (tree_of t)) b
+abbrev by_columns : Keying → ℕ
+by_columns ByColumns = 1
+by_columns g = 0
+
+-- no two rows of a table that is keyed by its columns have one key
+one_row : (t : TableName) → keying_of t ≡ ByColumns → (schema : Schema) → IsLayout schema → (db : Trees) → IsSound schema db → AreKeyed (width_of t) (placed schema db (tree_of t)) → (a b : Row) → Has (placed schema db (tree_of t)) a → Has (placed schema db (tree_of t)) b
     → key_of (width_of t) a ≡ key_of (width_of t) b → a ≡ b
-one_row Outgoing schema lies db = only_row schema lies (codes "outgoing") 4 2 _ _ db (inr (inr (inl refl)))
-one_row Stock schema lies db = only_row schema lies (codes "stock") 6 3 _ _ db (inr (inr (inr (inl refl))))
-one_row Advice schema lies db = only_row schema lies (codes "advice") 8 2 _ _ db (inr (inr (inr (inr (inl refl)))))
-one_row AdviceLine schema lies db = only_row schema lies (codes "advice_line") 10 3 _ _ db (inr (inr (inr (inr (inr (inl refl))))))
-one_row Orders schema lies db = only_row schema lies (codes "orders") 12 2 _ _ db (inr (inr (inr (inr (inr (inr (inl refl)))))))
-one_row OrderLine schema lies db = only_row schema lies (codes "order_line") 14 3 _ _ db (inr (inr (inr (inr (inr (inr (inr (inl refl))))))))
-one_row Reservation schema lies db = only_row schema lies (codes "reservation") 16 4 _ _ db (inr (inr (inr (inr (inr (inr (inr (inr (inl refl)))))))))
-one_row LotExpiry schema lies db = only_row schema lies (codes "lot_expiry") (expiry_tree schema) 3 _ _ db (inr (inr (inr (inr (inr (inr (inr (inr (inr (inr (inl refl)))))))))))
+one_row Book is schema lies db = absurd (let e : ◌≡◌ {A = ℕ} 0 1 = ap by_columns is in cc)
+one_row Entry is schema lies db = absurd (let e : ◌≡◌ {A = ℕ} 0 1 = ap by_columns is in cc)
+one_row EntryRules is schema lies db = absurd (let e : ◌≡◌ {A = ℕ} 0 1 = ap by_columns is in cc)
+one_row Outgoing is schema lies db = only_row schema lies (codes "outgoing") 4 2 _ _ db (inr (inr (inl refl)))
+one_row Stock is schema lies db = only_row schema lies (codes "stock") 6 3 _ _ db (inr (inr (inr (inl refl))))
+one_row Advice is schema lies db = only_row schema lies (codes "advice") 8 2 _ _ db (inr (inr (inr (inr (inl refl)))))
+one_row AdviceLine is schema lies db = only_row schema lies (codes "advice_line") 10 3 _ _ db (inr (inr (inr (inr (inr (inl refl))))))
+one_row Orders is schema lies db = only_row schema lies (codes "orders") 12 2 _ _ db (inr (inr (inr (inr (inr (inr (inl refl)))))))
+one_row OrderLine is schema lies db = only_row schema lies (codes "order_line") 14 3 _ _ db (inr (inr (inr (inr (inr (inr (inr (inl refl))))))))
+one_row Reservation is schema lies db = only_row schema lies (codes "reservation") 16 4 _ _ db (inr (inr (inr (inr (inr (inr (inr (inr (inl refl)))))))))
+one_row LotExpiry is schema lies db = only_row schema lies (codes "lot_expiry") (expiry_tree schema) 3 _ _ db (inr (inr (inr (inr (inr (inr (inr (inr (inr (inr (inl refl)))))))))))
 
 flipped : (o p : Ordering) → o ≡ ordering_reverse p → is_eq o ≡ is_eq p
 flipped o Less e = ap is_eq e
 flipped o Equal e = ap is_eq e
 flipped o Greater e = ap is_eq e
 
-module _ (t : BookTable) where
+module _ (t : TableName) (is : keying_of t ≡ ByColumns) where
   abbrev cmp : Output → Output → Ordering
   cmp = output_cmp (keyed_query t)
 
@@ -127,7 +136,7 @@ module _ (t : BookTable) where
       let right = ap (λ (r : Row). (put r).0) y.2 ∙ key_out (value.Int y.0) y.1 in
       let tie = sym (λ i. is_eq (key_cmp 0 (keys_at (places 1 k)) (left i) (right i))) ∙ alike in
       let same = tied_keys k 1 x.1 y.1 x.3 y.3 tie in
-      one_row t schema lies db sound keyed a b here there (ap (key_of k) x.2 ∙ same ∙ sym (ap (key_of k) y.2))
+      one_row t is schema lies db sound keyed a b here there (ap (key_of k) x.2 ∙ same ∙ sym (ap (key_of k) y.2))
 
   module _ (base : Database) (lies : IsLayout base.schema) (sound : IsDatabase base) (cells : List TableRow) (by_key : AreByKey (schema_of t) (width_of t) cells) (held : Holds cells (book_trees base (tree_of t))) (rows : List Row)
       (a : IsAnswer (keyed_query t) (overlay (book_trees base) []) [] rows) where
@@ -140,7 +149,7 @@ module _ (t : BookTable) where
         let flips : (x y : Output) → eq_by_cmp cmp x y ≡ eq_by_cmp cmp y x = λ x y. flipped (cmp x y) (cmp y x) (total.antisymm x y) in
         let keyed = are_keyed (schema_of t) (width_of t) cells (db (tree_of t)) by_key held in
         let apart : IsDistinct (eq_by_cmp cmp) (map put (db (tree_of t))) = stored_apart (db (tree_of t)) held.rise (one_out base.schema lies base.trees sound keyed) in
-        let kept = subst (IsDistinct (eq_by_cmp cmp)) (sym (kept_is (tree_of t) (columns_at (places 1 (columns_of t))) (rising_at (places 1 (width_of t))) (keyed_lies t) db rows a)) apart in
+        let kept = subst (IsDistinct (eq_by_cmp cmp)) (sym (kept_is (tree_of t) (columns_at (places 1 (columns_of t))) (rising_at (places 1 (width_of t))) (table_lies t) db rows a)) apart in
         sorted_apart cmp total a.ordered ([], []) a.sorted (IsDistinct-IsPermutation (eq_by_cmp cmp) flips a.kept a.ordered a.same kept)
       where
         all_pass : (xs : List Row) → filter (λ (_ : Row). true) xs ≡ xs
@@ -157,13 +166,13 @@ module _ (t : BookTable) where
     moved its its_held its_rows b o there =
         let project = columns_at (places 1 (columns_of t)) in
         let order = rising_at (places 1 (width_of t)) in
-        let kept = subst (λ (os : List Output). Has os o) (kept_is (tree_of t) project order (keyed_lies t) db rows a) (back (tree_of t) project order (keyed_lies t) db rows a o there) in
+        let kept = subst (λ (os : List Output). Has os o) (kept_is (tree_of t) project order (table_lies t) db rows a) (back (tree_of t) project order (table_lies t) db rows a o there) in
         let r = has_mapped put (db (tree_of t)) o kept in
         let it = held.sound r.0 r.1 in
         let other = its_held.complete it.1 it.2 in
         let same : o ≡ put (value.Int other.0 ∷ values it.1) = r.2 ∙ ap put it.3 ∙ put_as (value.Int it.0) (value.Int other.0) (values it.1) in
-        let listed = subst (λ (os : List Output). Has os (put (value.Int other.0 ∷ values it.1))) (sym (kept_is (tree_of t) project order (keyed_lies t) its its_rows b)) (mapped_has put (its (tree_of t)) (value.Int other.0 ∷ values it.1) other.1) in
-        subst (Has b.ordered) (sym same) (into (tree_of t) project order (keyed_lies t) its its_rows b (put (value.Int other.0 ∷ values it.1)) listed)
+        let listed = subst (λ (os : List Output). Has os (put (value.Int other.0 ∷ values it.1))) (sym (kept_is (tree_of t) project order (table_lies t) its its_rows b)) (mapped_has put (its (tree_of t)) (value.Int other.0 ∷ values it.1) other.1) in
+        subst (Has b.ordered) (sym same) (into (tree_of t) project order (table_lies t) its its_rows b (put (value.Int other.0 ∷ values it.1)) listed)
 
   pub same_shown : (one two : Database) → IsLayout one.schema → IsLayout two.schema → IsDatabase one → IsDatabase two → (cells : List TableRow) → AreByKey (schema_of t) (width_of t) cells
       → Holds cells (book_trees one (tree_of t)) → Holds cells (book_trees two (tree_of t)) → (rows its_rows : List Row)

@@ -1,5 +1,6 @@
 -- What a command that was made ready does to a book, and what is printed of it.
-use Rattle.std.specs.Prelude.{◌≡◌, ℕ, List, Option, Result, IfOk, IfErr, OnOk, OnErr}
+use Rattle.std.specs.Prelude.{◌≡◌, ℕ, List, [], Option, Result, IfOk, IfErr, OnOk, OnErr}
+use Rattle.std.specs.Io.KnownBytes.{Appends}
 use Rattle.profile.specs.declared.rules.Rules.TheVariants.{Two}
 use Rattle.profile.specs.Accepted.{IsLegal, reply_to, after}
 use Rattle.profile.specs.Moments.{Moment}
@@ -9,7 +10,7 @@ use Rattle.commands.specs.Clerks.{command_of}
 use Rattle.commands.specs.Enrolling.{IsEnrolling}
 use Rattle.commands.specs.Stops.{IsStopped}
 use Rattle.commands.specs.Takes.{IsTaking}
-use Rattle.commands.specs.Telling.{IsPrinted}
+use Rattle.commands.specs.Telling.{IsPrinted, said_of}
 use Rattle.commands.specs.declared.acts.Ready.{Ready}
 use Rattle.commands.specs.declared.acts.Ready.TheVariants as ready
 use Rattle.commands.specs.declared.told.CommandError.{CommandError}
@@ -42,3 +43,24 @@ IsPerformed old new (ready.Send bytes) t before later ending =
 IsPerformed old new (ready.Take dir) t before later ending = IsTaking old new t before later ending
 IsPerformed old new (ready.Clerk slip) t before later ending =
     IsAnswered old new (command_of slip.who slip.told slip.sheet) t before later ending
+
+-- of the command's reply this is told on standard error
+abbrev pub IsSaid : Standing → Standing → Command → Moment → Option (List ℕ) → Option (List ℕ)
+    → Ending → Type 0
+IsSaid old new c t before later ending =
+    new.doubt ≡ 0 → (L : List Entry) → old.keeps L → IsLegal Two old.warehouse L
+    → OnOk ending (Appends before later (said_of (reply_to Two old.warehouse L c t)))
+
+-- the same of what was made ready; what is refused of a list is printed, and of what `take` tells
+-- nothing is said here
+abbrev pub IsSaidOf : Standing → Standing → Ready → Moment → Option (List ℕ) → Option (List ℕ)
+    → Ending → Type 0
+IsSaidOf old new (ready.Enrol who) t before later ending =
+    IsSaid old new (Enrol who) t before later ending
+IsSaidOf old new (ready.Roster partners) t before later ending =
+    OnOk ending (Appends before later [])
+IsSaidOf old new (ready.Send bytes) t before later ending =
+    IsSaid old new (Interchange bytes.items) t before later ending
+IsSaidOf old new (ready.Take dir) t before later ending = Unit {0}
+IsSaidOf old new (ready.Clerk slip) t before later ending =
+    IsSaid old new (command_of slip.who slip.told slip.sheet) t before later ending

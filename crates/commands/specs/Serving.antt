@@ -3,7 +3,7 @@ use Rattle.std.specs.Prelude.{◌≡◌, ◌≤◌, ℕ, Bool, true, false, List
 use Rattle.std.specs.List.{FoldsTo}
 use Rattle.profile.specs.Moments.{Moment}
 use Rattle.store.specs.Standing.{Standing}
-use Rattle.intake.specs.Connections.{IsConnection, moment_of}
+use Rattle.intake.specs.Connections.{IsServed, moment_of}
 use Rattle.intake.specs.declared.audience.Audience.{Audience}
 use Rattle.intake.specs.declared.audience.Audience.TheVariants.{Partners, Clerks}
 use Rattle.intake.specs.declared.served.Connection.{Connection}
@@ -40,7 +40,7 @@ pub record Came {K : Type 0} (serves : K → Connection → K → Type 0) (has_c
 -- So many connections of that audience were served of a book.
 abbrev pub Served : {K : Type 0} → (K → Standing) → Audience → Bool → Moment → K → K → ℕ → Type 0
 Served standing audience has_clock first book left count =
-    Came (λ old c new. IsConnection audience (standing old) (standing new) c) has_clock first book
+    Came (λ old c new. IsServed audience (standing old) (standing new) c) has_clock first book
     left count
 
 -- The same of some number, this one at most.

@@ -39,7 +39,7 @@ is_left entry = is_long entry.why
 
 -- The interchanges of these texts were taken, and these passed over: what became of each is
 -- printed, and the status is 1 where one was refused or can't be answered.
-pub record IsTaken (old new : Standing) (t : Moment) (before later : Option (List ℕ)) (status : ExitStatus) : Type 0 where
+pub record IsFolderTaken (old new : Standing) (t : Moment) (before later : Option (List ℕ)) (status : ExitStatus) : Type 0 where
   pub texts : List (List ℕ)
   pub files : List Taken
   pub taken : AreTaken old new t texts (map became_in files)
@@ -62,5 +62,5 @@ IsHalted old new t stop = IsFaultThat stop (λ fault. IsStopped fault old new t)
 -- how taking a folder ended
 abbrev pub IsTaking : Standing → Standing → Moment → Option (List ℕ) → Option (List ℕ)
     → Result ExitStatus CommandError → Type 0
-IsTaking old new t before later (Ok status) = IsTaken old new t before later status
+IsTaking old new t before later (Ok status) = IsFolderTaken old new t before later status
 IsTaking old new t before later (Err stop) = IsHalted old new t stop

@@ -34,6 +34,12 @@ pub record IsPrinted (reply : replies.Reply) (before later : Option (List ℕ)) 
 abbrev pub refusal_line : Refusal → List ℕ
 refusal_line r = codes "refused " ++ told_refusal r ++ codes "\n"
 
+-- what is told of a reply on standard error: a refusal
+abbrev pub said_of : replies.Reply → List ℕ
+said_of (replies.Accepted text) = []
+said_of (replies.Stored text) = []
+said_of (replies.Refused r text) = refusal_line r
+
 -- `fault NUMBER NAME`, and a line feed
 abbrev pub fault_line : Fault → List ℕ
 fault_line f = codes "fault " ++ told_fault f ++ codes "\n"

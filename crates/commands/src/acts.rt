@@ -1,15 +1,16 @@
 ghost use Rattle.std.specs.Prelude.{◌≡◌, List, true, IfOk, IfErr, IfSome, OnOk, OnErr};
+ghost use Rattle.std.specs.Io.KnownBytes.{Appends};
 ghost use Rattle.profile.specs.declared.rules.Rules.TheVariants.{Two};
 ghost use Rattle.profile.specs.Accepted.{IsLegal, is_command, reply_to, after};
 ghost use Rattle.profile.specs.Register.{Entry, Enrol as Enrolment, Interchange as Received};
 ghost use Rattle.store.specs.Asked.{asked};
 ghost use Rattle.store.specs.Runs.{told};
 ghost use Rattle.store.specs.Standing.{IsUsable, GoesOn, LeavesEither, OfKept};
-ghost use Rattle.commands.specs.Acting.{IsAnswered, IsPerformed};
+ghost use Rattle.commands.specs.Acting.{IsAnswered, IsPerformed, IsSaid, IsSaidOf};
 ghost use Rattle.commands.specs.Clerks.{command_of};
 ghost use Rattle.commands.specs.Readying.{IsMadeReady, IsUnready};
 ghost use Rattle.commands.specs.Stops.{IsDeviceStop, IsStopped};
-ghost use Rattle.commands.specs.Telling.{IsPrinted};
+ghost use Rattle.commands.specs.Telling.{IsPrinted, said_of};
 
 use crate::causes::about_file;
 use crate::clock::moment_for;
@@ -92,6 +93,7 @@ pub fn ready_at<'a, R: Files + Clock + AllocGlobal>(
 }
 
 // Prints the text of a reply, and tells a refusal.
+#[tactic(auto, using(crate::proofs::TellingLaws::appends_nothing,))]
 fn tell_reply<W: io::Write, E: io::Write>(
     alloc: Global,
     reply: &Reply,
@@ -100,6 +102,8 @@ fn tell_reply<W: io::Write, E: io::Write>(
 ) -> Result<ExitStatus, CommandError>
     ensures printed { IfOk result
         (λ status. IsPrinted (told reply.now) (W.contents out.old) (W.contents out.new) status) }
+    ensures said { OnOk result
+        (Appends (E.contents err.old) (E.contents err.new) (said_of (told reply.now))) }
     ensures halted { IfErr result IsDeviceStop }
 {
     match reply {
@@ -126,6 +130,8 @@ fn hand_in<K: Keeper, W: io::Write, E: io::Write>(
     ensures printed { OfKept (K.standing book.old) (K.standing book.new)
         (λ L. IfOk result (λ status. IsPrinted (reply_to Two (K.standing book.old).warehouse L
         (asked command.now) moment) (W.contents out.old) (W.contents out.new) status)) }
+    ensures said { IsSaid (K.standing book.old) (K.standing book.new) (asked command.now) moment
+        (E.contents err.old) (E.contents err.new) result }
     ensures done { (K.standing book.new).doubt ≡ 0 → (L : List Entry)
         → IsUsable (K.standing book.old) L
         → OnOk result (IsUsable (K.standing book.new)
@@ -153,6 +159,8 @@ fn enrol<K: Keeper, W: io::Write, E: io::Write>(
 ) -> Result<ExitStatus, CommandError>
     ensures answered { IsAnswered (K.standing book.old) (K.standing book.new) (Enrolment who) moment
         (W.contents out.old) (W.contents out.new) result }
+    ensures said { IsSaid (K.standing book.old) (K.standing book.new) (Enrolment who) moment
+        (E.contents err.old) (E.contents err.new) result }
     ensures goes { GoesOn (K.standing book.old) (K.standing book.new) }
 {
     hand_in(alloc, book, &Command::Enrol(who), moment, out, err)
@@ -169,6 +177,8 @@ fn send<K: Keeper, W: io::Write, E: io::Write>(
 ) -> Result<ExitStatus, CommandError>
     ensures answered { IsAnswered (K.standing book.old) (K.standing book.new) (Received bytes.now) moment
         (W.contents out.old) (W.contents out.new) result }
+    ensures said { IsSaid (K.standing book.old) (K.standing book.new) (Received bytes.now) moment
+        (E.contents err.old) (E.contents err.new) result }
     ensures goes { GoesOn (K.standing book.old) (K.standing book.new) }
 {
     hand_in(alloc, book, &Command::Interchange(bytes), moment, out, err)
@@ -186,6 +196,9 @@ fn tell_slip<K: Keeper, W: io::Write, E: io::Write>(
     ensures answered { IsAnswered (K.standing book.old) (K.standing book.new)
         (command_of slip.now.who slip.now.told slip.now.sheet) moment
         (W.contents out.old) (W.contents out.new) result }
+    ensures said { IsSaid (K.standing book.old) (K.standing book.new)
+        (command_of slip.now.who slip.now.told slip.now.sheet) moment
+        (E.contents err.old) (E.contents err.new) result }
     ensures goes { GoesOn (K.standing book.old) (K.standing book.new) }
 {
     hand_in(alloc, book, &clerk(slip), moment, out, err)
@@ -204,6 +217,8 @@ pub fn perform<R: Files + AllocGlobal + Clone + Drop, K: Keeper, W: io::Write, E
 ) -> Result<ExitStatus, CommandError>
     ensures performed { IsPerformed (K.standing book.old) (K.standing book.new) ready.now moment
         (W.contents out.old) (W.contents out.new) result }
+    ensures said { IsSaidOf (K.standing book.old) (K.standing book.new) ready.now moment
+        (E.contents err.old) (E.contents err.new) result }
     ensures goes { GoesOn (K.standing book.old) (K.standing book.new) }
 {
     let alloc = rt.alloc();

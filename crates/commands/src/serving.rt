@@ -1,6 +1,6 @@
 //! A book served over HTTP.
 ghost use Rattle.std.specs.Prelude.{◌≡◌, ◌≤◌, ℕ, OnOk, OnErr, unwrap_or};
-ghost use Rattle.intake.specs.Connections.{IsConnection};
+ghost use Rattle.intake.specs.Connections.{IsServed};
 ghost use Rattle.commands.specs.Serving as meant;
 ghost use Rattle.commands.specs.Serving.{NextMoment, Comes, Served, ServedUpTo};
 
@@ -141,10 +141,10 @@ fn serve_asking<
     requires asks { (f : F) → F.pre f }
     requires admits { A.IsAlwaysCallable admits }
     ensures served { OnOk result (Comes F.step
-        (λ old c new. IsConnection audience (K.standing old) (K.standing new) c)
+        (λ old c new. IsServed audience (K.standing old) (K.standing new) c)
         has_clock ask first book.old book.new service.now.count) }
     ensures ended { OnErr result ((n : ℕ) × (n ≤ service.now.count) × Comes F.step
-        (λ old c new. IsConnection audience (K.standing old) (K.standing new) c)
+        (λ old c new. IsServed audience (K.standing old) (K.standing new) c)
         has_clock ask first book.old book.new n) }
 {
     let mut last = first;

@@ -53,8 +53,8 @@ pub record AreTaken (old new : Standing) (t : Moment) (texts : List (List ℕ)) 
   pub keeps : OfKept old new (λ L. KeepsLegal new (accepted_on Two old.warehouse L (handed t texts)))
 
 -- a text was handed in, and this became of it
-abbrev pub IsTaken : Standing → Standing → Moment → FileOutcome → Type 0
-IsTaken old new t outcome = (text : List ℕ)
+abbrev pub IsFileTaken : Standing → Standing → Moment → FileOutcome → Type 0
+IsFileTaken old new t outcome = (text : List ℕ)
     × AreTaken old new t (text ∷ []) (became_of outcome ∷ [])
 
 -- The texts were handed in, and one more perhaps. The register is the one after those, or after

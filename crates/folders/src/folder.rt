@@ -1,6 +1,6 @@
 ghost use Rattle.std.specs.Prelude.{◌≡◌, ◌<◌, ◌++◌, ℕ, List, false, map, IfOk, IfErr, IfNone, OnOk, IsSorted, codes, string_bytes, vec_len, vec_capacity};
 ghost use Rattle.std.specs.IoError.{error_kind};
-ghost use Rattle.folders.specs.Folders.{became, became_of, fault_of_kind, IsDeviceFault, AreTaken, IsTaken, IsUntaken, IsStopped};
+ghost use Rattle.folders.specs.Folders.{became, became_of, fault_of_kind, IsDeviceFault, AreTaken, IsFileTaken, IsUntaken, IsStopped};
 ghost use Rattle.folders.specs.Stops.{IsUnread, IsFolderStop};
 ghost use Rattle.store.specs.Runs.{told};
 ghost use Rattle.store.specs.Standing.{GoesOn, IsUnchanged};
@@ -108,7 +108,7 @@ fn take_file<R: Files + AllocGlobal, K: Keeper>(
     moment: Moment,
 ) -> Result<FileOutcome, Fault>
     ensures taken { IfOk result
-        (IsTaken (K.standing keeper.old) (K.standing keeper.new) moment) }
+        (IsFileTaken (K.standing keeper.old) (K.standing keeper.new) moment) }
     ensures stopped { IfErr result
         (λ fault. IsUntaken fault (K.standing keeper.old) (K.standing keeper.new) moment) }
     ensures opened { OnOk result ((K.standing keeper.old).shut ≡ (K.standing keeper.new).shut) }
@@ -157,7 +157,7 @@ fn take_named<R: Files + AllocGlobal, K: Keeper>(
     moment: Moment,
 ) -> Result<FileOutcome, Fault>
     ensures taken { IfOk result
-        (IsTaken (K.standing keeper.old) (K.standing keeper.new) moment) }
+        (IsFileTaken (K.standing keeper.old) (K.standing keeper.new) moment) }
     ensures stopped { IfErr result
         (λ fault. IsUntaken fault (K.standing keeper.old) (K.standing keeper.new) moment) }
     ensures opened { OnOk result ((K.standing keeper.old).shut ≡ (K.standing keeper.new).shut) }

@@ -1,5 +1,5 @@
 -- What a server tells of its connections.
-use Rattle.std.specs.Prelude.{◌≡◌, ◌⊎◌, ℕ, List, Option, None, Err, length, map, All, IfOk, IfErr, OnErr, MatchOption}
+use Rattle.std.specs.Prelude.{◌≡◌, ◌⊎◌, ℕ, false, List, Option, None, Err, length, map, All, IfOk, IfErr, OnErr, MatchOption}
 use Rattle.std.specs.List.{FoldsTo}
 use Rattle.profile.specs.Moments.{Moment}
 use Rattle.store.specs.Standing.{Standing, IsUnchanged}
@@ -46,6 +46,10 @@ abbrev pub IsConnection : Audience → Standing → Standing → Connection → 
 IsConnection audience old new c =
     MatchOption c.peer (IsUnchanged old new
     × IsNotAccepted c) (λ peer. IsServedOn audience old new c)
+
+-- the same of a book that needn't be opened again before it
+abbrev pub IsServed : Audience → Standing → Standing → Connection → Type 0
+IsServed audience old new c = (old.shut ≡ false) × IsConnection audience old new c
 
 -- A clock was asked so often, and as many connections were handed to a closure, one after the
 -- other, each with the moment that the clock gave for it. This took the clock and the closure from

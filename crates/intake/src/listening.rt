@@ -1,6 +1,6 @@
 ghost use Rattle.std.specs.Prelude.{◌≡◌, ◌⊎◌, ◌≤◌, ℕ, Some, None, true, false, OnOk, OnErr, IfErr, IsErrOf};
 ghost use Rattle.store.specs.Standing.{GoesOn};
-ghost use Rattle.intake.specs.Connections.{HasTold, IsConnection, IsNotAccepted, IsOutcome, IsServedOn};
+ghost use Rattle.intake.specs.Connections.{HasTold, IsConnection, IsNotAccepted, IsOutcome, IsServed, IsServedOn};
 
 use crate::audience::Audience;
 use crate::gauge::Gauge;
@@ -130,8 +130,8 @@ fn serve_next<K: Keeper, Q: Clock>(
 /// `told` is handed exactly that many.
 ///
 /// So the book goes from connection to connection, of the very ones that are told, in their order:
-/// each is as `IsConnection` says of its book before and after. Whatever ends it, the book is as
-/// the last of them left it.
+/// each is as `IsServed` says of its book before, which needn't be opened again, and after. Whatever
+/// ends it, the book is as the last of them left it.
 pub fn serve_within<
     K: Keeper,
     C: FnMut() -> Moment,
@@ -158,13 +158,16 @@ pub fn serve_within<
     ensures opened { OnOk result ((K.standing keeper.new).shut ≡ false) }
     ensures shut { IsErrOf result Fault.Reopen → (K.standing keeper.new).shut ≡ true }
     ensures served { OnOk result ((after : C) × (last : T)
-        × HasTold (λ book c left. IsConnection audience (K.standing book) (K.standing left) c)
+        × HasTold (λ book c left. IsServed audience (K.standing book) (K.standing left) c)
         C.step (λ p x q. T.step p x tt q) keeper.old keeper.new clock after told last count) }
     ensures ended { OnErr result ((n : ℕ) × (n ≤ count) × ((after : C) × (last : T)
-        × HasTold (λ book c left. IsConnection audience (K.standing book) (K.standing left) c)
+        × HasTold (λ book c left. IsServed audience (K.standing book) (K.standing left) c)
         C.step (λ p x q. T.step p x tt q) keeper.old keeper.new clock after told last n)) }
 {
     for _ in 0..count {
+        if keeper.must_reopen() {
+            return Err(Fault::Reopen);
+        }
         let accepted = listener.accept();
         if !admits() {
             return Err(Fault::Device);
@@ -172,9 +175,6 @@ pub fn serve_within<
         let moment = clock();
         let connection = serve_next(alloc, accepted, keeper, audience, moment, patience);
         told(connection);
-        if keeper.must_reopen() {
-            return Err(Fault::Reopen);
-        }
     }
     if keeper.must_reopen() {
         return Err(Fault::Reopen);
@@ -199,10 +199,10 @@ pub fn serve_count<K: Keeper, C: FnMut() -> Moment, T: FnMut(Connection)>(
     ensures opened { OnOk result ((K.standing keeper.new).shut ≡ false) }
     ensures shut { OnErr result ((K.standing keeper.new).shut ≡ true) }
     ensures served { OnOk result ((after : C) × (last : T)
-        × HasTold (λ book c left. IsConnection Audience.Partners (K.standing book) (K.standing left) c)
+        × HasTold (λ book c left. IsServed Audience.Partners (K.standing book) (K.standing left) c)
         C.step (λ p x q. T.step p x tt q) keeper.old keeper.new clock after told last count) }
     ensures ended { OnErr result ((n : ℕ) × (n ≤ count) × ((after : C) × (last : T)
-        × HasTold (λ book c left. IsConnection Audience.Partners (K.standing book) (K.standing left) c)
+        × HasTold (λ book c left. IsServed Audience.Partners (K.standing book) (K.standing left) c)
         C.step (λ p x q. T.step p x tt q) keeper.old keeper.new clock after told last n)) }
 {
     let patience = Patience {

@@ -1,0 +1,182 @@
+#!/usr/bin/env python3
+"""What a year of a mid-sized house comes to: 100 depositors, 200 interchanges a day each, on 250 days. Not part of the gate.
+
+Usage: bench/year.py [--days 1,21,63,250] [--folder FOLDER] [PROGRAM]     (default: crates/whx12/out/whx12, which `rt run` in that folder leaves)
+
+A book is made by `init` and filled, without the program, with the rows of the trade of register.py: half of the interchanges are advices, half are orders, and each is followed by a clerk's count or pick, so that a day has 40,000 entries.
+After so many days, each on a copy but for the last,
+
+  - `stock` of a stranger is an opening, one query and a closing: what each command costs that opens the book by itself, and its peak memory;
+  - `serve` is started, which opens the book once, and given 200 new interchanges of one line over loopback, and the same ones again; each must be answered as the register says. Printed are the time until it listens, the wall and the
+    processor time of a command, and the server's peak memory.
+
+It wants some 15 GB of disk for a year, and Debian's package time.
+"""
+import os
+import shutil
+import sqlite3
+import subprocess
+import sys
+import tempfile
+import time
+
+HERE = os.path.dirname(os.path.abspath(__file__))
+sys.path.insert(0, HERE)
+import books  # noqa: E402
+import register  # noqa: E402
+
+DEPOSITORS, A_DAY = 100, 40_000
+PART = 100_000
+TICK = os.sysconf("SC_CLK_TCK")
+
+
+class Year(register.Register):
+    """A register that is put into its book in parts, so that it needn't fit into memory."""
+
+    def __init__(self, db):
+        self.db, self.written = db, 0
+        super().__init__(DEPOSITORS, DEPOSITORS)
+        self.turn = DEPOSITORS
+        for name in ("stock", "advice", "orders", "entry_rules"):
+            self.rows[name].clear()
+
+    def entry(self, depositor, mark, n, body, kind=None, content="", state="-"):
+        super().entry(depositor, mark, n, body, kind, content, state)
+        seq = self.written + len(self.rows["entry"])
+        self.rows["entry"][-1] = (seq, *self.rows["entry"][-1][1:])
+
+    def put(self, name, rows):
+        self.db.executemany(f"INSERT OR REPLACE INTO {name} VALUES ({', '.join('?' * register.COLUMNS[name])})", rows)
+
+    def part(self):
+        """What was gathered goes into the book; what is closed won't change any more."""
+        self.put("entry_rules", [(row[0], 2) for row in self.rows["entry"]])
+        for name in ("entry", "outgoing", "advice_line", "order_line"):
+            self.put(name, self.rows[name])
+            if name == "entry":
+                self.written += len(self.rows[name])
+            self.rows[name].clear()
+        self.put("advice", self.advices.values())
+        self.put("orders", self.orders.values())
+        self.advices = {key: row for key, row in self.advices.items() if row[3]}
+        self.orders = {key: row for key, row in self.orders.items() if row[2]}
+
+    def until(self, entries):
+        """Goes on to so many entries."""
+        while self.written + len(self.rows["entry"]) < entries:
+            self.go_on(self.depositors[self.turn % DEPOSITORS])
+            self.turn += 1
+            if len(self.rows["entry"]) >= PART:
+                self.part()
+        self.part()
+        self.settle()
+        self.db.execute("DELETE FROM reservation")
+        for name in ("stock", "reservation"):
+            self.put(name, self.rows[name])
+        for name in ("stock", "reservation", "advice", "orders", "entry_rules"):
+            self.rows[name].clear()
+        self.db.commit()
+
+
+def opened(book):
+    """The book for writing many rows, with no log in between."""
+    db = sqlite3.connect(book, isolation_level=None)
+    for pragma in ("journal_mode = OFF", "synchronous = OFF", "locking_mode = EXCLUSIVE", "cache_size = -2000000"):
+        db.execute(f"PRAGMA {pragma}").fetchall()
+    db.execute("BEGIN")
+    return db
+
+
+def closed(db):
+    """The book as the program keeps it."""
+    db.execute("PRAGMA journal_mode = WAL").fetchall()
+    db.close()
+
+
+def spent(pid):
+    """Processor seconds of a process, and its peak memory in MiB."""
+    with open(f"/proc/{pid}/stat", encoding="ascii") as file:
+        fields = file.read().rpartition(")")[2].split()
+    with open(f"/proc/{pid}/status", encoding="ascii") as file:
+        peak = next(int(line.split()[1]) for line in file if line.startswith("VmHWM"))
+    return (int(fields[11]) + int(fields[12])) / TICK, peak / 1024
+
+
+def post(at, port, text):
+    head = f"POST /x12 HTTP/1.1\r\nHost: {at}\r\nContent-Length: {len(text)}\r\n\r\n"
+    return books.http.once("127.0.0.1", port, (head + text).encode())
+
+
+def of_server(program, book, texts, answers):
+    """Seconds until a server listens; wall and processor seconds of new commands and of the same ones again; and its peak memory."""
+    port = books.http.free_port()
+    at, told, begun = f"127.0.0.1:{port}", [], time.monotonic()
+    words = [program, "serve", "--listen", at, "--count", str(2 * len(texts) + 1), "--book", book]
+    with subprocess.Popen(words, stdout=subprocess.DEVNULL, stderr=subprocess.PIPE, text=True) as server:
+        server.stderr.readline()
+        listens = time.monotonic() - begun
+        for _ in range(2):
+            before, wall = spent(server.pid)[0], 0.0
+            for text, answer in zip(texts, answers):
+                seconds, got = post(at, port, text)
+                wall += seconds
+                books.same("an answer", (got[:15], got.partition(b"\r\n\r\n")[2].decode()), (b"HTTP/1.1 200 OK", answer))
+            told.append((wall / len(texts), (spent(server.pid)[0] - before) / len(texts)))
+        peak = spent(server.pid)[1]
+        server.kill()
+    return listens, told, peak
+
+
+def next_commands(made):
+    """200 interchanges of one line, an advice and an order in turn, and their answers."""
+    texts, answers = [], []
+    for place in range(books.COMMANDS):
+        depositor, k = made.depositors[(place // 2) % DEPOSITORS], place // 2 // DEPOSITORS
+        text, answer = depositor.advise(f"NEXT{place}", "PO", k, 3) if place % 2 == 0 else depositor.order(f"NEXT{place}", k, 1)
+        texts.append(text)
+        answers.append(answer)
+    return texts, answers
+
+
+def measure(program, book, made, days):
+    size = os.path.getsize(book)
+    openings = [books.run(program, "stock", "ZZ-NONE", "--book", book, status=1) for _ in range(2)]
+    before = [(depositor.n, {pair: list(amounts) for pair, amounts in depositor.stock.items()}) for depositor in made.depositors]
+    texts, answers = next_commands(made)
+    listens, ((new, new_cpu), (known, known_cpu)), peak = of_server(program, book, texts, answers)
+    for depositor, (n, stock) in zip(made.depositors, before):
+        depositor.n, depositor.stock = n, stock
+    print(f"| {days} | {made.written:,} | {size / 1e6:,.0f} | {min(it[0] for it in openings):.2f} s | {max(it[2] for it in openings):,.0f} | {listens:.2f} s | {new * 1e3:.2f} ms | {new_cpu * 1e3:.2f} ms "
+          f"| {known * 1e3:.2f} ms | {known_cpu * 1e3:.2f} ms | {peak:,.0f} |", flush=True)
+
+
+def main(words):
+    days = [int(it) for it in (words[words.index("--days") + 1] if "--days" in words else "1,21,63,250").split(",")]
+    at = words[words.index("--folder") + 1] if "--folder" in words else None
+    last = words[-1] if words and words[-1] not in (at, ",".join(map(str, days))) else None
+    program = os.path.abspath(last or os.path.join(HERE, "..", "crates", "whx12", "out", "whx12"))
+    with tempfile.TemporaryDirectory(prefix="whx12-year-", dir=at) as folder:
+        book = f"{folder}/year.book"
+        books.run(program, "init", "ZZ-WHSE1", "--book", book)
+        books.look_at_rows(program, folder)
+        print("| Days | Entries | MB | A command by itself | Peak MiB | Server listens after | New: wall | Processor | Known: wall | Processor | Server's peak MiB |")
+        print(f"|{'---|' * 11}")
+        db = opened(book)
+        made = Year(db)
+        for place, so_many in enumerate(days):
+            made.until(so_many * A_DAY)
+            closed(db)
+            path = book
+            if place + 1 < len(days):
+                path = f"{folder}/copy.book"
+                shutil.copyfile(book, path)
+            measure(program, path, made, so_many)
+            if place + 1 < len(days):
+                for end in ("", "-wal", "-shm"):
+                    if os.path.exists(path + end):
+                        os.remove(path + end)
+                made.db = db = opened(book)
+
+
+if __name__ == "__main__":
+    main(sys.argv[1:])
