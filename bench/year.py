@@ -3,15 +3,16 @@
 
 Usage: bench/year.py [--days 1,21,63,250] [--folder FOLDER] [PROGRAM]     (default: crates/whx12/out/whx12, which `rt run` in that folder leaves)
 
-A book is made by `init` and filled, without the program, with the rows of the trade of register.py: half of the interchanges are advices, half are orders, and each is followed by a clerk's count or pick, so that a day has 40,000 entries.
-After so many days, each on a copy but for the last,
+Books are made by `init` and filled, without the program, with the rows of the trade of register.py: half of the interchanges are advices, half are orders, and each is followed by a clerk's count or pick, so that a day has 40,000 entries. With --folder
+they stay there, a book for each number of days, and a later run takes those that it finds. Over each
 
   - `stock` of a stranger is an opening, one query and a closing: what each command costs that opens the book by itself, and its peak memory;
-  - `serve` is started, which opens the book once, and given 200 new interchanges of one line over loopback, and the same ones again; each must be answered as the register says. Printed are the time until it listens, the wall and the
-    processor time of a command, and the server's peak memory.
+  - `serve` opens the book once, and is given 200 new interchanges of one line over loopback, and the same ones again; each must be answered as the register says. Printed are the time until it listens, the wall and the processor time of a
+    command, and the server's peak memory.
 
-It wants some 15 GB of disk for a year, and Debian's package time.
+A year takes a quarter of an hour to fill and some 10 GB of disk. GNU time is needed.
 """
+import contextlib
 import os
 import shutil
 import sqlite3
@@ -51,10 +52,9 @@ class Year(register.Register):
     def part(self):
         """What was gathered goes into the book; what is closed won't change any more."""
         self.put("entry_rules", [(row[0], 2) for row in self.rows["entry"]])
+        self.written += len(self.rows["entry"])
         for name in ("entry", "outgoing", "advice_line", "order_line"):
             self.put(name, self.rows[name])
-            if name == "entry":
-                self.written += len(self.rows[name])
             self.rows[name].clear()
         self.put("advice", self.advices.values())
         self.put("orders", self.orders.values())
@@ -93,6 +93,43 @@ def closed(db):
     db.close()
 
 
+def fill(empty, folder, days):
+    """A book for each number of days, from one that was just made."""
+    book = f"{folder}/filling.book"
+    shutil.copyfile(empty, book)
+    made = Year(opened(book))
+    for so_many in days:
+        made.until(so_many * A_DAY)
+        closed(made.db)
+        shutil.copyfile(book, f"{folder}/{so_many}.book")
+        made.db = opened(book)
+    made.db.close()
+    os.remove(book)
+
+
+def depositors_of(book):
+    """The depositors of a book, as its tables have them."""
+    found = [register.Depositor(place) for place in range(1, DEPOSITORS + 1)]
+    with contextlib.closing(sqlite3.connect(book)) as db:
+        for depositor in found:
+            depositor.n = db.execute("SELECT max(n) FROM outgoing WHERE who = ?", [depositor.who]).fetchone()[0]
+            for item, lot, *amounts in db.execute("SELECT item, lot, since, expected, on_hand, reserved, shipped FROM stock WHERE who = ?", [depositor.who]):
+                depositor.stock[item, lot] = amounts
+    return found
+
+
+def next_commands(book):
+    """200 interchanges of one line, an advice and an order in turn, and their answers."""
+    made, texts, answers = depositors_of(book), [], []
+    for place in range(books.COMMANDS):
+        depositor, k = made[(place // 2) % DEPOSITORS], place // 2 // DEPOSITORS
+        name = f"NEXT{depositor.n}"
+        text, answer = depositor.advise(name, "PO", k, 3) if place % 2 == 0 else depositor.order(name, k, 1)
+        texts.append(text)
+        answers.append(answer)
+    return texts, answers
+
+
 def spent(pid):
     """Processor seconds of a process, and its peak memory in MiB."""
     with open(f"/proc/{pid}/stat", encoding="ascii") as file:
@@ -111,71 +148,56 @@ def of_server(program, book, texts, answers):
     """Seconds until a server listens; wall and processor seconds of new commands and of the same ones again; and its peak memory."""
     port = books.http.free_port()
     at, told, begun = f"127.0.0.1:{port}", [], time.monotonic()
-    words = [program, "serve", "--listen", at, "--count", str(2 * len(texts) + 1), "--book", book]
+    words = [program, "serve", "--listen", at, "--count", "65535", *books.AT, "--book", book, "--explain"]
     with subprocess.Popen(words, stdout=subprocess.DEVNULL, stderr=subprocess.PIPE, text=True) as server:
-        server.stderr.readline()
-        listens = time.monotonic() - begun
-        for _ in range(2):
-            before, wall = spent(server.pid)[0], 0.0
-            for text, answer in zip(texts, answers):
-                seconds, got = post(at, port, text)
-                wall += seconds
-                books.same("an answer", (got[:15], got.partition(b"\r\n\r\n")[2].decode()), (b"HTTP/1.1 200 OK", answer))
-            told.append((wall / len(texts), (spent(server.pid)[0] - before) / len(texts)))
-        peak = spent(server.pid)[1]
-        server.kill()
+        try:
+            server.stderr.readline()
+            listens = time.monotonic() - begun
+            for _ in range(2):
+                before, wall = spent(server.pid)[0], 0.0
+                for text, answer in zip(texts, answers):
+                    seconds, got = post(at, port, text)
+                    server.stderr.readline()
+                    wall += seconds
+                    books.same("an answer", (got[:15], got.partition(b"\r\n\r\n")[2].decode()), (b"HTTP/1.1 200 OK", answer))
+                told.append((wall / len(texts), (spent(server.pid)[0] - before) / len(texts)))
+            peak = spent(server.pid)[1]
+        finally:
+            server.kill()
     return listens, told, peak
 
 
-def next_commands(made):
-    """200 interchanges of one line, an advice and an order in turn, and their answers."""
-    texts, answers = [], []
-    for place in range(books.COMMANDS):
-        depositor, k = made.depositors[(place // 2) % DEPOSITORS], place // 2 // DEPOSITORS
-        text, answer = depositor.advise(f"NEXT{place}", "PO", k, 3) if place % 2 == 0 else depositor.order(f"NEXT{place}", k, 1)
-        texts.append(text)
-        answers.append(answer)
-    return texts, answers
-
-
-def measure(program, book, made, days):
+def measure(program, book, days):
+    with contextlib.closing(sqlite3.connect(book)) as db:
+        entries = db.execute("SELECT max(seq) FROM entry").fetchone()[0]
     size = os.path.getsize(book)
-    openings = [books.run(program, "stock", "ZZ-NONE", "--book", book, status=1) for _ in range(2)]
-    before = [(depositor.n, {pair: list(amounts) for pair, amounts in depositor.stock.items()}) for depositor in made.depositors]
-    texts, answers = next_commands(made)
+    openings = [books.run(program, "stock", "ZZ-NONE", "--book", book, status=1) for _ in range(2 if entries < 1_000_000 else 1)]
+    texts, answers = next_commands(book)
     listens, ((new, new_cpu), (known, known_cpu)), peak = of_server(program, book, texts, answers)
-    for depositor, (n, stock) in zip(made.depositors, before):
-        depositor.n, depositor.stock = n, stock
-    print(f"| {days} | {made.written:,} | {size / 1e6:,.0f} | {min(it[0] for it in openings):.2f} s | {max(it[2] for it in openings):,.0f} | {listens:.2f} s | {new * 1e3:.2f} ms | {new_cpu * 1e3:.2f} ms "
+    print(f"| {days} | {entries:,} | {size / 1e6:,.0f} | {min(it[0] for it in openings):.2f} s | {max(it[2] for it in openings):,.0f} | {listens:.2f} s | {new * 1e3:.2f} ms | {new_cpu * 1e3:.2f} ms "
           f"| {known * 1e3:.2f} ms | {known_cpu * 1e3:.2f} ms | {peak:,.0f} |", flush=True)
 
 
 def main(words):
-    days = [int(it) for it in (words[words.index("--days") + 1] if "--days" in words else "1,21,63,250").split(",")]
-    at = words[words.index("--folder") + 1] if "--folder" in words else None
-    last = words[-1] if words and words[-1] not in (at, ",".join(map(str, days))) else None
-    program = os.path.abspath(last or os.path.join(HERE, "..", "crates", "whx12", "out", "whx12"))
-    with tempfile.TemporaryDirectory(prefix="whx12-year-", dir=at) as folder:
-        book = f"{folder}/year.book"
-        books.run(program, "init", "ZZ-WHSE1", "--book", book)
-        books.look_at_rows(program, folder)
+    at, days = None, "1,21,63,250"
+    if "--days" in words:
+        days = words.pop(words.index("--days") + 1)
+        words.remove("--days")
+    if "--folder" in words:
+        at = words.pop(words.index("--folder") + 1)
+        words.remove("--folder")
+    program = os.path.abspath(words[0] if words else os.path.join(HERE, "..", "crates", "whx12", "out", "whx12"))
+    days = [int(it) for it in days.split(",")]
+    with tempfile.TemporaryDirectory(prefix="whx12-year-") as made:
+        books.look_at_rows(program, made)
+        folder = at or made
+        if not all(os.path.exists(f"{folder}/{it}.book") for it in days):
+            books.run(program, "init", "ZZ-WHSE1", "--book", f"{made}/empty.book")
+            fill(f"{made}/empty.book", folder, days)
         print("| Days | Entries | MB | A command by itself | Peak MiB | Server listens after | New: wall | Processor | Known: wall | Processor | Server's peak MiB |")
         print(f"|{'---|' * 11}")
-        db = opened(book)
-        made = Year(db)
-        for place, so_many in enumerate(days):
-            made.until(so_many * A_DAY)
-            closed(db)
-            path = book
-            if place + 1 < len(days):
-                path = f"{folder}/copy.book"
-                shutil.copyfile(book, path)
-            measure(program, path, made, so_many)
-            if place + 1 < len(days):
-                for end in ("", "-wal", "-shm"):
-                    if os.path.exists(path + end):
-                        os.remove(path + end)
-                made.db = db = opened(book)
+        for so_many in days:
+            measure(program, f"{folder}/{so_many}.book", so_many)
 
 
 if __name__ == "__main__":
