@@ -13,7 +13,7 @@ use Rattle.sqlite.specs.Listing.{understood, reads_listing}
 use Rattle.sqlite.proofs.Callers.{command_of}
 use Rattle.book_statements.specs.Asking.{OnlyReads}
 use Rattle.book_statements.specs.Layout.{Others, beside}
-use Rattle.book_statements.proofs.ShowingTexts.{rising}
+use Rattle.book_statements.proofs.ShowingTexts.{rising, lots_columns, lots_names, dates_columns, pair_order}
 use Rattle.book_statements.proofs.Selects.{query_reads}
 
 -- the rows of a table that begin with the first parameter and have the second in the column at a
@@ -44,15 +44,6 @@ Reads text query names others = (command_of (understood (beside others) text) �
 abbrev pub lots_text : List ℕ
 lots_text = codes "SELECT item, lot, since, expected, on_hand, reserved, shipped FROM stock WHERE who = ?1 AND item = ?2 ORDER BY item, lot"
 
-abbrev pub lots_columns : List Term
-lots_columns = col 1 2 ∷ col 1 3 ∷ col 1 4 ∷ col 1 5 ∷ col 1 6 ∷ col 1 7 ∷ col 1 8 ∷ []
-
-abbrev pub pair_order : List (Term × Key)
-pair_order = rising 2 ∷ rising 3 ∷ []
-
-abbrev pub lots_names : List (List ℕ)
-lots_names = codes "item" ∷ codes "lot" ∷ codes "since" ∷ codes "expected" ∷ codes "on_hand" ∷ codes "reserved" ∷ codes "shipped" ∷ []
-
 pub lots_is : (others : Others) → Reads lots_text (under_where 6 lots_columns pair_order) lots_names others
 unfolding understood everything
 lots_is others = (refl, refl)
@@ -65,12 +56,6 @@ lots_reads = query_reads lots_text (λ schema base. refl)
 
 abbrev pub dates_text : List ℕ
 dates_text = codes "SELECT item, lot, expiry FROM lot_expiry WHERE who = ?1 AND item = ?2 ORDER BY item, lot"
-
-abbrev pub dates_columns : List Term
-dates_columns = col 1 2 ∷ col 1 3 ∷ col 1 4 ∷ []
-
-abbrev pub dates_names : List (List ℕ)
-dates_names = codes "item" ∷ codes "lot" ∷ codes "expiry" ∷ []
 
 abbrev pub dates_query : Query
 dates_query = under_where 19 dates_columns pair_order

@@ -30,7 +30,7 @@ use Rattle.rules.proofs.Tables.{last_cell, pairs_before}
 use Rattle.book_statements.specs.Dated.{dates_of}
 use Rattle.book_statements.specs.declared.names.TableName.{TableName}
 use Rattle.book_statements.specs.declared.names.TableName.TheVariants as table
-use Rattle.book_statements.specs.Standing.{keying_of, schema_of, width_of, rows_of, Filled, filled, OrderedAs, AreOrdered, AreByKey, HasKey, IsOutgoing, IsBySeq, IsRowIn}
+use Rattle.book_statements.specs.Standing.{keying_of, schema_of, width_of, Filled, filled, OrderedAs, AreOrdered, AreByKey, HasKey, IsOutgoing, IsBySeq, IsRowIn}
 use Rattle.book_statements.proofs.DateLemmas.{date_cells, date_key, dates_in, dates_rise}
 use Rattle.book_statements.proofs.Rising.{by_key, mapped_rise, numbers_rise, blocks_rise, cells_rise, has_flat, each_block, each_mapped}
 
@@ -243,7 +243,7 @@ dates_ordered L = table_ordered lot_expiry_schema 3 (λ t row. refl) L (λ M. fl
     each_mapped (IsKeyed lot_expiry_schema 3) date_cells (dates_of rows) (λ d t. record { key = refl; cells = refl }) r (subst (λ (rs : List TableRow). Has rs r) (dates_in rows) there))
 
 -- all tables of any register
-table_is_ordered : (W : Who) (L : List Entry) (t : TableName) → OrderedAs (keying_of t) (schema_of t) (width_of t) (rows_of W L t)
+table_is_ordered : (W : Who) (L : List Entry) (t : TableName) → OrderedAs (keying_of t) (schema_of t) (width_of t) (filled W L t)
 table_is_ordered W L table.Book = tt
 table_is_ordered W L table.Entry = entries_are [] L
 table_is_ordered W L table.Outgoing = outgoing_ordered W L

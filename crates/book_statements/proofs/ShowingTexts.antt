@@ -35,44 +35,46 @@ shown_where tree project order = record {
   offset = lit (Int (pos 0));
 }
 
--- Stock.
+-- What is shown of a lot, what of its date, and in which order both are.
 
-abbrev pub stock_rows_text : List ℕ
-stock_rows_text = codes "SELECT item, lot, expected, on_hand, reserved, shipped FROM stock WHERE who = ?1 ORDER BY item, lot"
+abbrev pub lots_columns : List Term
+lots_columns = col 1 2 ∷ col 1 3 ∷ col 1 4 ∷ col 1 5 ∷ col 1 6 ∷ col 1 7 ∷ col 1 8 ∷ []
 
-abbrev pub stock_columns : List Term
-stock_columns = col 1 2 ∷ col 1 3 ∷ col 1 5 ∷ col 1 6 ∷ col 1 7 ∷ col 1 8 ∷ []
+abbrev pub lots_names : List (List ℕ)
+lots_names = codes "item" ∷ codes "lot" ∷ codes "since" ∷ codes "expected" ∷ codes "on_hand" ∷ codes "reserved" ∷ codes "shipped" ∷ []
 
-abbrev pub stock_order : List (Term × Key)
-stock_order = rising 2 ∷ rising 3 ∷ []
+abbrev pub dates_columns : List Term
+dates_columns = col 1 2 ∷ col 1 3 ∷ col 1 4 ∷ []
 
-abbrev pub stock_rows_query : Query
-stock_rows_query = shown_where 6 stock_columns stock_order
+abbrev pub dates_names : List (List ℕ)
+dates_names = codes "item" ∷ codes "lot" ∷ codes "expiry" ∷ []
 
-abbrev pub stock_rows_names : List (List ℕ)
-stock_rows_names = codes "item" ∷ codes "lot" ∷ codes "expected" ∷ codes "on_hand" ∷ codes "reserved" ∷ codes "shipped" ∷ []
+abbrev pub pair_order : List (Term × Key)
+pair_order = rising 2 ∷ rising 3 ∷ []
 
-pub stock_rows_is : (others : Others) → (command_of (understood (beside others) stock_rows_text) ≡ Select (record { lets = []; body = stock_rows_query }) stock_rows_names) × (reads_listing (beside others) stock_rows_text ≡ false)
+-- All lots of a depositor.
+
+abbrev pub all_lots_text : List ℕ
+all_lots_text = codes "SELECT item, lot, since, expected, on_hand, reserved, shipped FROM stock WHERE who = ?1 ORDER BY item, lot"
+
+abbrev pub all_lots_query : Query
+all_lots_query = shown_where 6 lots_columns pair_order
+
+pub all_lots_is : (others : Others) → (command_of (understood (beside others) all_lots_text) ≡ Select (record { lets = []; body = all_lots_query }) lots_names) × (reads_listing (beside others) all_lots_text ≡ false)
 unfolding understood everything
-stock_rows_is others = (refl, refl)
+all_lots_is others = (refl, refl)
 
-pub stock_rows_reads : OnlyReads stock_rows_text
+pub all_lots_reads : OnlyReads all_lots_text
 unfolding everything
-stock_rows_reads = query_reads stock_rows_text (λ schema base. refl)
+all_lots_reads = query_reads all_lots_text (λ schema base. refl)
 
--- And the dates.
+-- And their dates.
 
 abbrev pub all_dates_text : List ℕ
 all_dates_text = codes "SELECT item, lot, expiry FROM lot_expiry WHERE who = ?1 ORDER BY item, lot"
 
-abbrev pub all_dates_columns : List Term
-all_dates_columns = col 1 2 ∷ col 1 3 ∷ col 1 4 ∷ []
-
 abbrev pub all_dates_query : Query
-all_dates_query = shown_where 19 all_dates_columns stock_order
-
-abbrev pub all_dates_names : List (List ℕ)
-all_dates_names = codes "item" ∷ codes "lot" ∷ codes "expiry" ∷ []
+all_dates_query = shown_where 19 dates_columns pair_order
 
 pub all_dates_reads : OnlyReads all_dates_text
 unfolding everything

@@ -59,20 +59,6 @@ layout_of table.Reservation = reservation_layout
 layout_of table.EntryRules = entry_rules_layout
 layout_of table.LotExpiry = lot_expiry_layout
 
--- its rows in a register
-abbrev pub rows_of : Who → List Entry → TableName → List TableRow
-rows_of W L table.Book = book_table Two W
-rows_of W L table.Entry = entry_table L
-rows_of W L table.Outgoing = outgoing_table W L
-rows_of W L table.Stock = stock_table L
-rows_of W L table.Advice = advice_table L
-rows_of W L table.AdviceLine = advice_line_table L
-rows_of W L table.Orders = orders_table L
-rows_of W L table.OrderLine = order_line_table L
-rows_of W L table.Reservation = reservation_table L
-rows_of W L table.EntryRules = entry_rules_table L
-rows_of W L table.LotExpiry = lot_expiry_table L
-
 -- its name, the number of its tree, and how many columns its key has
 abbrev pub name_of : TableName → List ℕ
 name_of t = (schema_of t).name
@@ -89,21 +75,31 @@ all_tables = table.Book ∷ table.Entry ∷ table.Outgoing ∷ table.Stock ∷ t
     ∷ table.AdviceLine ∷ table.Orders ∷ table.OrderLine ∷ table.Reservation ∷ table.EntryRules
     ∷ table.LotExpiry ∷ []
 
--- the rows of all tables
+-- the rows of each table
 abbrev pub Filled : Type 0
 Filled = TableName → List TableRow
 
--- with these rows in one table
+-- those of a register
+abbrev pub filled : Who → List Entry → TableName → List TableRow
+filled W L table.Book = book_table Two W
+filled W L table.Entry = entry_table L
+filled W L table.Outgoing = outgoing_table W L
+filled W L table.Stock = stock_table L
+filled W L table.Advice = advice_table L
+filled W L table.AdviceLine = advice_line_table L
+filled W L table.Orders = orders_table L
+filled W L table.OrderLine = order_line_table L
+filled W L table.Reservation = reservation_table L
+filled W L table.EntryRules = entry_rules_table L
+filled W L table.LotExpiry = lot_expiry_table L
+
+-- the same rows, but these in one table
 abbrev pub with_rows : TableName → List TableRow → Filled → Filled
 with_rows t rows f = λ u. if nat_eq (tree_of t) (tree_of u) then rows else f u
 
--- by their names
+-- each table's name and its rows
 abbrev pub named : Filled → AllTables
 named f = map (λ t. (name_of t, f t)) all_tables
-
--- those of a register
-abbrev pub filled : Who → List Entry → Filled
-filled W L = rows_of W L
 
 -- what is stored is these rows, in their order, or as a set where columns are their key
 abbrev pub HeldAs : Keying → List TableRow → List Row → Type 0
@@ -168,7 +164,7 @@ OrderedAs Alone s k rows = Unit {0}
 OrderedAs ByRowid s k rows = (row : TableRow) → Has rows row → IsBySeq s row
 OrderedAs ByColumns s k rows = AreByKey s k rows
 
--- each table's rows are
+-- the rows of each table are in the order of their keys, and each has its table's shape
 pub record AreOrdered (f : Filled) : Type 0 where
   pub each : (t : TableName) → OrderedAs (keying_of t) (schema_of t) (width_of t) (f t)
   pub shaped : (t : TableName) (row : TableRow) → Has (f t) row → IsRowIn t row

@@ -4,9 +4,8 @@ use Rattle.std.proofs.Common.{◌≡◌, ◌∙◌, inl, inr, ℕ, List, [], ◌
 use Rattle.std.specs.Prelude.{option_to_list}
 use Rattle.sqlite.specs.State.{State, IsLive}
 use Rattle.sqlite.specs.declared.types.Value.TheVariants as value
-use Rattle.sqlite.specs.Order.{Row, value_cmp}
+use Rattle.sqlite.specs.Order.{Row}
 use Rattle.sqlite.specs.Effect.{Database, IsDatabase}
-use Rattle.sqlite.specs.Query.{Output}
 use Rattle.profile.specs.declared.rules.Rules.TheVariants.{Two}
 use Rattle.profile.specs.Header.{Who, is_partner, who_text}
 use Rattle.profile.specs.Register.{Entry, own}
@@ -31,18 +30,16 @@ use Rattle.book_statements.specs.Standing.{Stands, AreOrdered, filled}
 use Rattle.book_statements.proofs.Asked.{found, found_placed}
 use Rattle.book_tables.proofs.Finding.{rises_kept}
 use Rattle.book_statements.proofs.HoldsLemmas.{are_keyed}
-use Rattle.book_statements.proofs.NeedTexts.{lots_text, lots_columns, pair_order, lots_is, lots_reads, dates_text, dates_columns, dates_query, dates_names, dates_reads}
+use Rattle.book_statements.proofs.NeedTexts.{lots_text, lots_is, lots_reads, dates_text, dates_query, dates_reads}
+use Rattle.book_statements.proofs.ShowingTexts.{lots_columns, dates_columns, dates_names, pair_order}
 use Rattle.book_statements.proofs.ExpiryReads.{dates_is}
 use Rattle.book_statements.proofs.Ordered.{all_ordered, lots_rise}
 use Rattle.book_statements.proofs.DateLemmas.{date_cells, date_key, dates_in, dates_rise}
-use Rattle.book_tables.proofs.ShownRows.{pairs_ranked, both_equal, text_is}
+use Rattle.book_tables.proofs.ShownRows.{lot_out, date_out, pairs_ranked, same_pair}
 use Rattle.book_tables.proofs.Under.{IsUnder, all_rows}
 use Rattle.book_tables.proofs.UnderKey.{equal_bytes}
 use Rattle.book_tables.proofs.UnderTables.{cells_under}
 use Rattle.book_statements.proofs.UpsertLemmas.{only_row}
-
-abbrev lot_out : LotRow → Output
-lot_out r = (value.Text r.item ∷ value.Text r.lot ∷ [], lot_shown r)
 
 abbrev lot_cells : Who → LotRow → TableRow
 lot_cells who r = Text (who_text who) ∷ stock_cells r
@@ -64,17 +61,10 @@ lots_found W L who item db rows partner sound stands h =
     (lots_under W L who item stands.legal partner) db.trees (held Stock) rows (read.answer value.Null)
     pairs_in_order row_key 3 (rises_kept pairs_in_order row_key (λ r. bytes_eq r.item item) (running_rows (events (own L who))) (lots_rise (events (own L who))))
     (λ a b. pairs_ranked a.item a.lot b.item b.lot)
-    (λ a b t.
-    let both = both_equal (value_cmp (value.Text a.item) (value.Text b.item)) (value_cmp (value.Text a.lot) (value.Text b.lot)) t in
-    let its = text_is a.item b.item both.0 in
-    let lot = text_is a.lot b.lot both.1 in
-    λ i. value.Text (who_text who) ∷ value.Text (its i) ∷ value.Text (lot i) ∷ [])
+    (λ a b. same_pair (who_text who) a.item b.item a.lot b.lot)
     (only_row db.schema lies stock_layout.name 6 3 stock_layout.checks stock_layout.columns db.trees (inr (inr (inr (inl refl)))) sound (are_keyed stock_schema 3 (stock_table L) (db.trees 6) (ordered.each Stock) (held Stock)))
 
 -- The dates of the item's lots.
-
-abbrev date_out : Dated → Output
-date_out d = (value.Text d.item ∷ value.Text d.lot ∷ [], date_shown d)
 
 -- the dates of the rows that pass are those of them that pass
 dates_kept : (item : List ℕ) (rows : List LotRow) → filter (λ (d : Dated). bytes_eq d.item item) (dates_of rows) ≡ dates_of (filter (λ (r : LotRow). bytes_eq r.item item) rows)
@@ -119,11 +109,7 @@ dates_found W L who item db rows partner sound stands h =
     (dates_under W L who item stands.legal partner) (book_trees db) (held LotExpiry) rows answer
     pairs_in_order date_key 3 (rises_kept pairs_in_order date_key (λ d. bytes_eq d.item item) (dates_of lots) (dates_rise lots (lots_rise (events (own L who)))))
     (λ a b. pairs_ranked a.item a.lot b.item b.lot)
-    (λ a b t.
-    let both = both_equal (value_cmp (value.Text a.item) (value.Text b.item)) (value_cmp (value.Text a.lot) (value.Text b.lot)) t in
-    let its = text_is a.item b.item both.0 in
-    let lot = text_is a.lot b.lot both.1 in
-    λ i. value.Text (who_text who) ∷ value.Text (its i) ∷ value.Text (lot i) ∷ [])
+    (λ a b. same_pair (who_text who) a.item b.item a.lot b.lot)
     (only_row db.schema lies lot_expiry_layout.name (expiry_tree db.schema) 3 [] lot_expiry_layout.columns db.trees (inr (inr (inr (inr (inr (inr (inr (inr (inr (inr (inl refl))))))))))) sound
     (are_keyed lot_expiry_schema 3 (lot_expiry_table L) (book_trees db 19) (ordered.each LotExpiry) (held LotExpiry)))
     ∙ ap (map date_shown) (dates_kept item lots)

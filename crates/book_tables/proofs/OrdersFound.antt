@@ -5,7 +5,7 @@ use Rattle.std.specs.Prelude.{nat_lt, find}
 use Rattle.std.specs.List.{enumerate_from}
 use Rattle.sqlite.specs.State.{State, IsLive}
 use Rattle.sqlite.specs.declared.types.Value.TheVariants as value
-use Rattle.sqlite.specs.Order.{Row, value_cmp}
+use Rattle.sqlite.specs.Order.{Row}
 use Rattle.sqlite.specs.Effect.{Database, IsDatabase}
 use Rattle.sqlite.specs.Query.{Output, output}
 use Rattle.sqlite_rules.specs.Lists.{Has}
@@ -43,7 +43,7 @@ use Rattle.book_statements.proofs.HoldsLemmas.{are_keyed}
 use Rattle.book_statements.proofs.NeedTexts.{order_text, order_columns, order_is, order_reads, order_lines_text, order_lines_is, order_lines_reads, line_columns, line_order, reserved_text, reserved_columns, reserved_order, reserved_is, reserved_reads, under_where}
 use Rattle.book_statements.proofs.Ordered.{all_ordered, orders_rise, ordered_cells, reserved_cells, reserved_rise, line_pair}
 use Rattle.book_statements.proofs.Rising.{numbers_rise}
-use Rattle.book_tables.proofs.ShownRows.{numbers_ranked, number_is, pairs_ranked, both_equal, text_is}
+use Rattle.book_tables.proofs.ShownRows.{numbers_ranked, number_is, pairs_ranked, same_pair}
 use Rattle.book_tables.proofs.Under.{IsUnder, each_row, has_row, all_rows}
 use Rattle.book_tables.proofs.UnderKey.{equal_bytes}
 use Rattle.book_tables.proofs.UnderTables.{cells_under, parts_under}
@@ -172,11 +172,7 @@ reserved_found W L who number db rows partner sound stands h =
     all_rows 2 (share_cells who number) 16 reserved_columns reserved_order reserved_out (value.Text (who_text who)) (value.Text number) (reservation_table L) (its_shares L who number)
     (shares_under W L who number stands.legal partner) db.trees (held Reservation) rows (read.answer value.Null)
     pairs_in_order line_pair 4 (shares_rise L who number (order_at number (page_of (own L who)).orders) refl) (λ a b. pairs_ranked a.item a.lot b.item b.lot)
-    (λ a b t.
-    let both = both_equal (value_cmp (value.Text a.item) (value.Text b.item)) (value_cmp (value.Text a.lot) (value.Text b.lot)) t in
-    let its = text_is a.item b.item both.0 in
-    let lot = text_is a.lot b.lot both.1 in
-    λ i. value.Text (who_text who) ∷ value.Text number ∷ value.Text (its i) ∷ value.Text (lot i) ∷ [])
+    (λ a b t. ap (λ (r : Row). value.Text (who_text who) ∷ r) (same_pair number a.item b.item a.lot b.lot t))
     (only_row db.schema lies reservation_layout.name 16 4 reservation_layout.checks reservation_layout.columns db.trees (inr (inr (inr (inr (inr (inr (inr (inr (inl refl))))))))) sound
     (are_keyed reservation_schema 4 (reservation_table L) (db.trees 16) (ordered.each Reservation) (held Reservation)))
 

@@ -21,7 +21,7 @@ use Rattle.profile.specs.Header.{Who, is_partner, who_text}
 use Rattle.profile.specs.Register.{Entry, own}
 use Rattle.profile.specs.History.{events}
 use Rattle.profile.specs.Accepted.{IsLegal}
-use Rattle.profile.specs.Rows.{LotRow, OutRow, shown_row, running_rows, outgoing_rows}
+use Rattle.profile.specs.Rows.{LotRow, OutRow, running_rows, outgoing_rows}
 use Rattle.profile.specs.Tables.{Text, TableRow, depositors, for_each, stock_cells, stock_table, expiry_cells, lot_expiry_table, outgoing_cells, outgoing_table}
 use Rattle.profile.specs.Schema.{stock_schema, lot_expiry_schema, outgoing_schema}
 use Rattle.rules.specs.Keyed.{row_key, key_before as pairs_in_order}
@@ -31,7 +31,7 @@ use Rattle.book_statements.specs.Held.{Holds}
 use Rattle.sqlite.specs.Schema.{Schema}
 use Rattle.book_statements.specs.Layout.{IsLayout, placed, expiry_tree, stock_layout, lot_expiry_layout, outgoing_layout}
 use Rattle.book_statements.specs.Dated.{Dated, date_shown, dates_of}
-use Rattle.book_tables.specs.Showing.{stock_shown, out_shown}
+use Rattle.book_tables.specs.Showing.{lot_shown, out_shown}
 use Rattle.book_statements.specs.declared.names.TableName.TheVariants.{Stock, LotExpiry, Outgoing}
 use Rattle.book_statements.specs.Standing.{AreOrdered, filled}
 use Rattle.book_statements.proofs.HoldsLemmas.{are_keyed}
@@ -40,7 +40,7 @@ use Rattle.book_statements.proofs.DateLemmas.{date_cells, date_key, dates_in, da
 use Rattle.book_tables.proofs.Parts.{stock_part, dates_part, outgoing_part}
 use Rattle.book_statements.proofs.Rising.{each_block}
 use Rattle.book_tables.proofs.Showing.{IsShown, shown_rows}
-use Rattle.book_statements.proofs.ShowingTexts.{stock_columns, stock_order, stock_rows_query, all_dates_columns, all_dates_query, outbox_columns, outbox_order, outbox_query}
+use Rattle.book_statements.proofs.ShowingTexts.{lots_columns, dates_columns, pair_order, all_lots_query, all_dates_query, outbox_columns, outbox_order, outbox_query}
 use Rattle.book_statements.proofs.UpsertLemmas.{only_row}
 
 -- each row of a table of depositors begins with a text
@@ -56,7 +56,7 @@ then_less Equal Equal = refl
 then_less Equal Greater = refl
 then_less Greater p = refl
 
-pub both_equal : (o p : Ordering) → is_eq (ordering_then o (ordering_then p Equal)) ≡ true → (is_eq o ≡ true) × (is_eq p ≡ true)
+both_equal : (o p : Ordering) → is_eq (ordering_then o (ordering_then p Equal)) ≡ true → (is_eq o ≡ true) × (is_eq p ≡ true)
 both_equal Less p h = absurd (let e : ◌≡◌ {A = Bool} false true = h in cc)
 both_equal Equal Less h = absurd (let e : ◌≡◌ {A = Bool} false true = h in cc)
 both_equal Equal Equal h = (refl, refl)
@@ -85,42 +85,46 @@ one_equal Greater h = h
 pub text_is : (i j : List ℕ) → is_eq (value_cmp (value.Text i) (value.Text j)) ≡ true → i ≡ j
 text_is i j h = (bytes_eq-Decides i j).0 (sym (is_eq-slice_cmp i j) ∙ ap is_eq (sym (value_cmp-Text i j)) ∙ h)
 
+pub same_pair : (first i j l m : List ℕ) → is_eq (ordering_then (value_cmp (value.Text i) (value.Text j)) (ordering_then (value_cmp (value.Text l) (value.Text m)) Equal)) ≡ true
+    → ◌≡◌ {A = Row} (value.Text first ∷ value.Text i ∷ value.Text l ∷ []) (value.Text first ∷ value.Text j ∷ value.Text m ∷ [])
+same_pair first i j l m h =
+    let both = both_equal (value_cmp (value.Text i) (value.Text j)) (value_cmp (value.Text l) (value.Text m)) h in
+    let item = text_is i j both.0 in
+    let lot = text_is l m both.1 in
+    λ k. value.Text first ∷ value.Text (item k) ∷ value.Text (lot k) ∷ []
+
 -- Stock.
 
-abbrev stock_out : LotRow → Output
-stock_out r = (value.Text r.item ∷ value.Text r.lot ∷ [], stock_shown (shown_row r))
+abbrev pub lot_out : LotRow → Output
+lot_out r = (value.Text r.item ∷ value.Text r.lot ∷ [], lot_shown r)
 
-stock_is : (W : Who) (L : List Entry) (who : Who) → IsLegal Two W L → is_partner who ≡ true
-    → IsShown pairs_in_order row_key stock_cells 6 3 stock_columns stock_order stock_out (who_text who) (stock_table L) (running_rows (events (own L who)))
-stock_is W L who legal partner = record {
+lots_are : (W : Who) (L : List Entry) (who : Who) → IsLegal Two W L → is_partner who ≡ true
+    → IsShown pairs_in_order row_key stock_cells 6 3 lots_columns pair_order lot_out (who_text who) (stock_table L) (running_rows (events (own L who)))
+lots_are W L who legal partner = record {
   lies = λ db. refl;
   part = stock_part W L who legal partner;
   firsts = begun L (λ M. map stock_cells (running_rows (events M)));
   rises = lots_rise (events (own L who));
   puts = λ id r. refl;
   ranks = λ a b. pairs_ranked a.item a.lot b.item b.lot;
-  tied = λ a b h.
-      let both = both_equal (value_cmp (value.Text a.item) (value.Text b.item)) (value_cmp (value.Text a.lot) (value.Text b.lot)) h in
-      let item = text_is a.item b.item both.0 in
-      let lot = text_is a.lot b.lot both.1 in
-      λ i. value.Text (who_text who) ∷ value.Text (item i) ∷ value.Text (lot i) ∷ [];
+  tied = λ a b. same_pair (who_text who) a.item b.item a.lot b.lot;
 }
 
--- the answer of a partner's stock is its stock rows, but for their dates
-pub stock_rows_shown : (schema : Schema) (lies : IsLayout schema) (W : Who) (L : List Entry) (who : Who) (db : Trees) (rows : List Row) → IsLegal Two W L → is_partner who ≡ true → IsSound schema db → Holds (stock_table L) (db 6)
-    → IsAnswer stock_rows_query (overlay db []) (value.Text (who_text who) ∷ []) rows → rows ≡ map (λ r. stock_shown (shown_row r)) (running_rows (events (own L who)))
-stock_rows_shown schema lies W L who db rows legal partner sound held a =
+-- the answer of a partner's lots is its running rows, but for their dates
+pub all_lots_shown : (schema : Schema) (lies : IsLayout schema) (W : Who) (L : List Entry) (who : Who) (db : Trees) (rows : List Row) → IsLegal Two W L → is_partner who ≡ true → IsSound schema db → Holds (stock_table L) (db 6)
+    → IsAnswer all_lots_query (overlay db []) (value.Text (who_text who) ∷ []) rows → rows ≡ map lot_shown (running_rows (events (own L who)))
+all_lots_shown schema lies W L who db rows legal partner sound held a =
     let ordered : AreOrdered (filled W L) = all_ordered W L in
-    shown_rows pairs_in_order row_key stock_cells 6 3 stock_columns stock_order stock_out (who_text who) (stock_table L) (running_rows (events (own L who))) (stock_is W L who legal partner) db held
+    shown_rows pairs_in_order row_key stock_cells 6 3 lots_columns pair_order lot_out (who_text who) (stock_table L) (running_rows (events (own L who))) (lots_are W L who legal partner) db held
     (only_row schema lies stock_layout.name 6 3 stock_layout.checks stock_layout.columns db (inr (inr (inr (inl refl)))) sound (are_keyed stock_schema 3 (stock_table L) (db 6) (ordered.each Stock) held)) rows a
 
 -- Dates.
 
-abbrev date_out : Dated → Output
+abbrev pub date_out : Dated → Output
 date_out d = (value.Text d.item ∷ value.Text d.lot ∷ [], date_shown d)
 
 dates_are : (W : Who) (L : List Entry) (who : Who) → IsLegal Two W L → is_partner who ≡ true
-    → IsShown pairs_in_order date_key date_cells 19 3 all_dates_columns stock_order date_out (who_text who) (lot_expiry_table L) (dates_of (running_rows (events (own L who))))
+    → IsShown pairs_in_order date_key date_cells 19 3 dates_columns pair_order date_out (who_text who) (lot_expiry_table L) (dates_of (running_rows (events (own L who))))
 dates_are W L who legal partner = record {
   lies = λ db. refl;
   part = dates_part W L who legal partner ∙ ap (prefixed (who_text who)) (dates_in (running_rows (events (own L who))));
@@ -128,11 +132,7 @@ dates_are W L who legal partner = record {
   rises = dates_rise (running_rows (events (own L who))) (lots_rise (events (own L who)));
   puts = λ id d. refl;
   ranks = λ a b. pairs_ranked a.item a.lot b.item b.lot;
-  tied = λ a b h.
-      let both = both_equal (value_cmp (value.Text a.item) (value.Text b.item)) (value_cmp (value.Text a.lot) (value.Text b.lot)) h in
-      let item = text_is a.item b.item both.0 in
-      let lot = text_is a.lot b.lot both.1 in
-      λ i. value.Text (who_text who) ∷ value.Text (item i) ∷ value.Text (lot i) ∷ [];
+  tied = λ a b. same_pair (who_text who) a.item b.item a.lot b.lot;
 }
 
 -- the answer of a partner's dates is those of its running rows
@@ -140,7 +140,7 @@ pub dates_shown : (schema : Schema) (lies : IsLayout schema) (W : Who) (L : List
     → IsAnswer all_dates_query (overlay (placed schema db) []) (value.Text (who_text who) ∷ []) rows → rows ≡ map date_shown (dates_of (running_rows (events (own L who))))
 dates_shown schema lies W L who db rows legal partner sound held a =
     let ordered : AreOrdered (filled W L) = all_ordered W L in
-    shown_rows pairs_in_order date_key date_cells 19 3 all_dates_columns stock_order date_out (who_text who) (lot_expiry_table L) (dates_of (running_rows (events (own L who)))) (dates_are W L who legal partner) (placed schema db) held
+    shown_rows pairs_in_order date_key date_cells 19 3 dates_columns pair_order date_out (who_text who) (lot_expiry_table L) (dates_of (running_rows (events (own L who)))) (dates_are W L who legal partner) (placed schema db) held
     (only_row schema lies lot_expiry_layout.name (expiry_tree schema) 3 [] lot_expiry_layout.columns db (inr (inr (inr (inr (inr (inr (inr (inr (inr (inr (inl refl))))))))))) sound
     (are_keyed lot_expiry_schema 3 (lot_expiry_table L) (placed schema db 19) (ordered.each LotExpiry) held)) rows a
 

@@ -4,18 +4,13 @@ use Rattle.sqlite.specs.declared.types.Value.TheVariants.{Int, Text, Blob}
 use Rattle.sqlite.specs.Order.{Row, column}
 use Rattle.profile.specs.Means.{Line}
 use Rattle.profile.specs.Page.{PageAdvice, PageLine, PageOrder}
-use Rattle.profile.specs.Rows.{StockRow, LotRow, OutRow}
+use Rattle.profile.specs.Rows.{LotRow, OutRow}
 use Rattle.profile.specs.Tables.{flag, text_or_null, address_cells}
 use Rattle.rules.specs.declared.kinds.OutKind.{OutKind}
 use Rattle.store.specs.declared.rows.DocumentState.{DocumentState}
 use Rattle.rules.specs.Kinds.{kind_text}
 use Rattle.store.specs.Sent.{state_name}
 use Rattle.book_statements.specs.Held.{value_of, values}
-
--- item, lot, expected, on_hand, reserved, shipped: all but the date
-abbrev pub stock_shown : StockRow → Row
-stock_shown r = Text r.item ∷ Text r.lot ∷ Int (pos r.expected) ∷ Int (pos r.on_hand)
-    ∷ Int (pos r.reserved) ∷ Int (pos r.shipped) ∷ []
 
 -- the row has a text that went out
 abbrev pub HasText : Row → Type 0

@@ -22,7 +22,6 @@ mod reading;
 mod recalled;
 mod sent;
 mod shown;
-mod stocked;
 mod taken;
 
 pub use connected::Tables;

@@ -3,7 +3,7 @@ ghost use Rattle.std.specs.Prelude.{◌≡◌, ◌<◌, ◌^◌, ℕ, List, Some
 ghost use Rattle.std.specs.List.{list_all};
 ghost use Rattle.profile.specs.Page.{page_of};
 ghost use Rattle.profile.specs.Register as register;
-ghost use Rattle.profile.specs.Rows.{LotRow};
+ghost use Rattle.profile.specs.Rows.{LotRow, stock_rows};
 ghost use Rattle.rules.specs.Keyed.{key_before, rises_by, row_key};
 ghost use Rattle.rules.specs.Fitting.{is_fitting_row};
 ghost use Rattle.book_statements.specs.Asking.{Asked, OfStanding};
@@ -16,7 +16,7 @@ use crate::reading::{number_at, small_at, text_at};
 use rules::{Row, Who};
 use sqlite::{Alter, Row as Shown};
 use std::alloc::{AllocError, Global};
-use store::Fault;
+use store::{Fault, StockRow};
 
 // The lot that a row of item, lot, since and the four amounts shows, with its date if it has one;
 // None where it shows none.
@@ -112,6 +112,29 @@ impl<S: Alter + Drop> Tables<S> {
         )?;
         match lots_in(alloc, &rows, &dates)? {
             Some(lots) => Ok(lots),
+            None => Err(Fault::NotThisBook),
+        }
+    }
+
+    /// What a depositor has, by item and lot, with the dates, as its running rows say; nothing of a
+    /// stranger. 43 where a row shows no lot.
+    pub(crate) fn stock_rows(&mut self, alloc: Global, who: Who) -> Result<Vec<StockRow>, Fault>
+        ensures rows { OfStanding S.Store self.old self.new
+            (λ W L. IfOk result (λ rows. rows.items ≡ stock_rows (register.own L who))) }
+        ensures asked { Asked S.Store self.old self.new result }
+    {
+        let rows = self.of_depositor(
+            alloc,
+            "SELECT item, lot, since, expected, on_hand, reserved, shipped FROM stock WHERE who = ?1 ORDER BY item, lot",
+            who,
+        )?;
+        let dates = self.of_depositor(
+            alloc,
+            "SELECT item, lot, expiry FROM lot_expiry WHERE who = ?1 ORDER BY item, lot",
+            who,
+        )?;
+        match lots_in(alloc, &rows, &dates)? {
+            Some(lots) => Ok(StockRow::of_each(alloc, &lots)?),
             None => Err(Fault::NotThisBook),
         }
     }

@@ -1,11 +1,11 @@
-ghost use Rattle.std.specs.Prelude.{◌≡◌, ℕ, List, [], ◌∷◌, length, map, All, MatchResult, Ok, Err};
-ghost use Rattle.httparse.specs.Spans.{IsHeaderWithin, header_bytes};
+ghost use Rattle.std.specs.Prelude.{◌≡◌, ℕ, List, [], ◌∷◌, MatchResult, Ok, Err};
+ghost use Rattle.fields.specs.Fields.{IsValues};
 ghost use Rattle.profile.specs.Response.{stated_length};
 ghost use Rattle.intake.specs.Answers.{number};
-ghost use Rattle.intake.specs.Fields.{is_named, has_field, values, IsValues, seen_method, method_of};
+ghost use Rattle.intake.specs.Fields.{seen_method, method_of};
 
 use crate::response::Status;
-use httparse::spans::HeaderSpan;
+use fields::Values;
 use profile::MOST_BYTES;
 use segments::{all_digits, value_up_to};
 
@@ -30,58 +30,6 @@ pub(crate) fn read_method(name: &[u8]) -> MethodKind
         MethodKind::Post
     } else {
         MethodKind::Other
-    }
-}
-
-// Whether a field has this name, in letters of either case.
-fn has_name(buf: &[u8], field: HeaderSpan, name: &[u8]) -> bool
-    requires { IsHeaderWithin (length buf.now) field }
-    ensures { result ≡ is_named name.now (header_bytes buf.now field) }
-{
-    field.name.of(buf).eq_ignore_ascii_case(name)
-}
-
-/// Whether there is a field of this name.
-pub(crate) fn is_among(buf: &[u8], fields: &[HeaderSpan], name: &[u8]) -> bool
-    requires { All (IsHeaderWithin (length buf.now)) fields.now }
-    ensures { result ≡ has_field name.now (map (header_bytes buf.now) fields.now) }
-{
-    for field in fields {
-        if has_name(buf, *field, name) {
-            return true;
-        }
-    }
-    false
-}
-
-/// The values of the fields of a name.
-#[derive(Clone, Copy)]
-pub(crate) enum Values<'b> {
-    /// There is no such field.
-    Absent,
-    /// There is one.
-    Single(&'b [u8]),
-    /// There are more.
-    Several,
-}
-
-/// The values of the fields of this name.
-pub(crate) fn values_of<'b>(buf: &'b [u8], fields: &[HeaderSpan], name: &[u8]) -> Values<'b>
-    requires { All (IsHeaderWithin (length buf.now)) fields.now }
-    ensures { IsValues result (values name.now (map (header_bytes buf.now) fields.now)) }
-{
-    let mut found = None;
-    for field in fields {
-        if has_name(buf, *field, name) {
-            if found.is_some() {
-                return Values::Several;
-            }
-            found = Some(field.value.of(buf));
-        }
-    }
-    match found {
-        None => Values::Absent,
-        Some(value) => Values::Single(value),
     }
 }
 

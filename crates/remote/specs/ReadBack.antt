@@ -5,7 +5,7 @@ use Rattle.httparse.specs.Spans.{name_and_value}
 use Rattle.remote.specs.declared.requests.Verb.{Verb}
 use Rattle.remote.specs.declared.requests.Verb.TheVariants.{Get, Post}
 use Rattle.remote.specs.Requests.{request_bytes}
-use Rattle.remote.specs.Fields.{values}
+use Rattle.fields.specs.Fields.{values}
 
 abbrev pub method_name : Verb → List ℕ
 method_name Get = codes "GET"

@@ -1,71 +1,15 @@
-ghost use Rattle.std.specs.Prelude.{◌≡◌, ℕ, ◌≤◌, ◌^◌, List, [], ◌∷◌, Option, Some, length, map, min, All, IfOk};
-ghost use Rattle.std.specs.List.{list_all};
+ghost use Rattle.std.specs.Prelude.{◌≡◌, ℕ, List, [], ◌∷◌, length, map, All, IfOk};
 ghost use Rattle.httparse.specs.Spans.{IsHeaderWithin, header_bytes};
-ghost use Rattle.remote.specs.Fields.{is_named, values, IsValues, is_digit, value, body_length, is_x12, Says};
+ghost use Rattle.fields.specs.Fields.{IsValues};
+ghost use Rattle.remote.specs.Fields.{body_length, is_x12, Says};
 
 use crate::answers::Unanswered;
+use fields::{Values, values_of};
 use httparse::spans::HeaderSpan;
+use segments::{all_digits, value_up_to};
 
 // The largest body that is read.
-const MOST_BYTES: u64 = 16_777_216;
-
-/// The values of the fields of a name.
-#[derive(Clone, Copy)]
-pub(crate) enum Values<'b> {
-    /// There is no such field.
-    Absent,
-    /// There is one.
-    Single(&'b [u8]),
-    /// There are more.
-    Several,
-}
-
-// Whether a field has this name, in letters of either case.
-fn has_name(buf: &[u8], field: HeaderSpan, name: &[u8]) -> bool
-    requires { IsHeaderWithin (length buf.now) field }
-    ensures { result ≡ is_named name.now (header_bytes buf.now field) }
-{
-    field.name.of(buf).eq_ignore_ascii_case(name)
-}
-
-// The values of the fields of this name.
-fn values_of<'b>(buf: &'b [u8], fields: &[HeaderSpan], name: &[u8]) -> Values<'b>
-    requires { All (IsHeaderWithin (length buf.now)) fields.now }
-    ensures { IsValues result (values name.now (map (header_bytes buf.now) fields.now)) }
-{
-    let mut found = None;
-    for field in fields {
-        if has_name(buf, *field, name) {
-            if found.is_some() {
-                return Values::Several;
-            }
-            found = Some(field.value.of(buf));
-        }
-    }
-    match found {
-        None => Values::Absent,
-        Some(value) => Values::Single(value),
-    }
-}
-
-// The value of digits, and `most` where that is less: so a text may have any length.
-fn value_up_to(text: &[u8], most: u64) -> u64
-    requires { most ≤ 10 ^ 18 }
-    ensures { result ≡ min (value text.now) most }
-{
-    let mut value: u64 = 0;
-    for b in text {
-        value = (value * 10 + u64::from(b.saturating_sub(b'0'))).min(most);
-    }
-    value
-}
-
-// Whether each byte is a digit.
-fn all_digits(text: &[u8]) -> bool
-    ensures { result ≡ list_all is_digit text.now }
-{
-    text.iter().all(|b| matches!(*b, b'0'..=b'9'))
-}
+const MOST_BODY: u64 = 16_777_216;
 
 // The length that a text states, if it is one that is read.
 fn length_value(text: &[u8]) -> Option<usize>
@@ -74,8 +18,8 @@ fn length_value(text: &[u8]) -> Option<usize>
     if text.is_empty() || !all_digits(text) {
         return None;
     }
-    let size = value_up_to(text, MOST_BYTES + 1);
-    if MOST_BYTES < size {
+    let size = value_up_to(text, MOST_BODY + 1);
+    if MOST_BODY < size {
         return None;
     }
     Some(size as usize)

@@ -194,18 +194,6 @@ fn append(entries: &mut Vec<Entry>, entry: &Entry) -> Result<(), AllocError>
     Ok(())
 }
 
-// The rows that a depositor is shown, by item and lot.
-fn shown(alloc: Global, page: &Page) -> Result<Vec<StockRow>, AllocError>
-    ensures { IfOk result (λ rows. (M : List register.Entry) → IsPageOf page.now (history M)
-        → rows.items ≡ stock_rows M) }
-{
-    let mut rows = Vec::new(alloc);
-    for row in page.rows() {
-        rows.push(StockRow::of(row)?)?;
-    }
-    Ok(rows)
-}
-
 // The rows that a depositor with this page is shown; a stranger has none.
 fn rows_for(alloc: Global, page: Option<Page>) -> Result<Option<Vec<StockRow>>, AllocError>
     ensures { IfOk result (λ rows. (L : List register.Entry) (who : Partner)
@@ -213,7 +201,7 @@ fn rows_for(alloc: Global, page: Option<Page>) -> Result<Option<Vec<StockRow>>, 
         → option_map (λ v. v.items) rows ≡ stock_of L who) }
 {
     match page {
-        Some(page) => Ok(Some(shown(alloc, &page)?)),
+        Some(page) => Ok(Some(StockRow::of_each(alloc, page.rows())?)),
         None => Ok(None),
     }
 }

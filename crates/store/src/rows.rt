@@ -1,10 +1,10 @@
-ghost use Rattle.std.specs.Prelude.{◌≡◌, IfOk};
+ghost use Rattle.std.specs.Prelude.{◌≡◌, IfOk, map};
 ghost use Rattle.profile.specs.Register.{Deed, deed_mark, body_of};
 ghost use Rattle.profile.specs.Rows.{shown_row, state_text};
 ghost use Rattle.store.specs.Sent.{state_name, said_under, sent_row};
 
 use rules::{Entry, OutKind, Page, Row};
-use std::alloc::AllocError;
+use std::alloc::{AllocError, Global};
 use std::marker::Model;
 
 /// What a depositor has of a pair of an item and a lot.
@@ -99,8 +99,8 @@ impl Model for OutRow {
 }
 
 impl StockRow {
-    /// What a page's row shows.
-    pub(crate) fn of(row: &Row) -> Result<StockRow, AllocError>
+    // What a page's row shows.
+    fn of(row: &Row) -> Result<StockRow, AllocError>
         ensures { IfOk result (λ shown. shown ≡ shown_row row.now) }
     {
         Ok(StockRow {
@@ -112,6 +112,17 @@ impl StockRow {
             reserved: row.reserved,
             shipped: row.shipped,
         })
+    }
+
+    /// What each of a page's rows shows, in their order. It fails at want of memory alone.
+    pub fn of_each(alloc: Global, rows: &[Row]) -> Result<Vec<StockRow>, AllocError>
+        ensures { IfOk result (λ shown. shown.items ≡ map shown_row rows.now) }
+    {
+        let mut shown = Vec::new(alloc);
+        for row in rows {
+            shown.push(StockRow::of(row)?)?;
+        }
+        Ok(shown)
     }
 }
 

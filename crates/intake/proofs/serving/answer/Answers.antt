@@ -1,6 +1,7 @@
 use Rattle.std.proofs.Common.{◌≡◌, true, false, sym, ap, ◌∙◌, subst, List, ℕ, codes}
 use Rattle.intake.specs.Answers.{seen}
-use Rattle.intake.specs.Fields.{head_of, seen_method, IsValues, values}
+use Rattle.fields.specs.Fields.{IsValues, values}
+use Rattle.intake.specs.Fields.{head_of, seen_method}
 use Rattle.intake.specs.Targets.{has_body, seen_target, target_of}
 use Rattle.intake.proofs.Asked.{asked_at_head}
 use Rattle.intake.proofs.Sends.{tail_is}
