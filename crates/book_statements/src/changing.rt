@@ -52,14 +52,14 @@ fn put_order_lines<'a, S: Alter>(
         (puts_of (codes "order_line") who.now (cells.order_line_cells order.now)) old.now new.now)
         tx.old.conn.now tx.new.conn.now calls.old calls.new result }
 {
-    let key = order.number.as_slice();
+    let number = order.number.as_slice();
     let mut n: u32 = 0;
     for line in &order.lines {
         let Some(next) = n.checked_add(1) else {
             return Err(calls.refuse());
         };
         n = next;
-        put_order_line(tx, calls, who, key, n, line)?;
+        put_order_line(tx, calls, who, number, n, line)?;
     }
     Ok(())
 }
@@ -76,9 +76,9 @@ fn put_reservations<'a, S: Alter>(
         (puts_of (codes "reservation") who.now (cells.reservation_cells order.now)) old.now new.now)
         tx.old.conn.now tx.new.conn.now calls.old calls.new result }
 {
-    let key = order.number.as_slice();
+    let number = order.number.as_slice();
     for line in &order.reserved {
-        put_reservation(tx, calls, who, key, line)?;
+        put_reservation(tx, calls, who, number, line)?;
     }
     Ok(())
 }

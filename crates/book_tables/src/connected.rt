@@ -72,13 +72,6 @@ impl<S: Alter + Drop> Tables<S> {
         self.calls.refused
     }
 
-    /// How many calls of the store were made. At its greatest number the count stays.
-    pub fn made(&self) -> u64
-        ensures { result ≡ self.now.made }
-    {
-        self.calls.made
-    }
-
     /// After that many more calls each, but the giving up of a transaction, is refused unmade and
     /// counted; None lifts that.
     pub fn limit_calls(&mut self, limit: Option<u64>)

@@ -14,10 +14,10 @@ use std::alloc::Global;
 use store::Fault;
 
 // A depositor's text, and another.
-fn text_params<'a>(who: &'a [u8], key: &'a [u8]) -> [ValueRef<'a>; 2]
-    ensures { bound result ≡ value.Text who.now ∷ value.Text key.now ∷ [] }
+fn text_params<'a>(who: &'a [u8], text: &'a [u8]) -> [ValueRef<'a>; 2]
+    ensures { bound result ≡ value.Text who.now ∷ value.Text text.now ∷ [] }
 {
-    [ValueRef::Text(who), ValueRef::Text(key)]
+    [ValueRef::Text(who), ValueRef::Text(text)]
 }
 
 // A depositor's text, and a number.
@@ -54,18 +54,18 @@ impl<S: Alter + Drop> Tables<S> {
         alloc: Global,
         sql: &str,
         who: Who,
-        key: &[u8],
+        text: &[u8],
     ) -> Result<Vec<Row>, Fault>
         requires { OnlyReads sql.now }
         ensures finds { HasCleanDisk (state S.Store self.new.conn)
             → IfOk result (λ rows. IsTrue (state S.Store self.old.conn).is_open
             × Finds sql.now (value.Text (who_text who)
-            ∷ value.Text key.now ∷ []) (state S.Store self.old.conn).now rows.items) }
+            ∷ value.Text text.now ∷ []) (state S.Store self.old.conn).now rows.items) }
         ensures live { OnOk result (IsLive (state S.Store self.old.conn)) }
         ensures asked { Asked S.Store self.old self.new result }
     {
-        let text = who.text(alloc)?;
-        self.ask(sql, &text_params(&text, key))
+        let partner = who.text(alloc)?;
+        self.ask(sql, &text_params(&partner, text))
     }
 
     /// The same where the parameters are a depositor and a number.

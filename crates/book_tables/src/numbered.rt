@@ -38,7 +38,7 @@ fn numbered_entry_in(alloc: Global, row: &Row, rules: Rules) -> Result<Option<En
     let Some(who) = Who::new(text) else {
         return Ok(None);
     };
-    let Some(key) = text_at(row, 1) else {
+    let Some(mark) = text_at(row, 1) else {
         return Ok(None);
     };
     let Some(n) = small_at(row, 2) else {
@@ -55,7 +55,7 @@ fn numbered_entry_in(alloc: Global, row: &Row, rules: Rules) -> Result<Option<En
     };
     Ok(Some(Entry {
         who,
-        key: Vec::from_slice(alloc, key)?,
+        key: Vec::from_slice(alloc, mark)?,
         n,
         moment,
         body: Vec::from_slice(alloc, body)?,

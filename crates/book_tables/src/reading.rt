@@ -39,9 +39,10 @@ fn blob_in(value: ValueRef<'_>) -> Option<&[u8]>
     }
 }
 
-// The number that a value is.
+// The number that a value is, which is one that SQLite can hold.
 fn number_in(value: ValueRef<'_>) -> Option<u64>
-    ensures { MatchOption result ((n : ℕ) → owned value.entry ≡ Int (pos n)
+    ensures few { IfSome result (λ n. n < 2 ^ 63) }
+    ensures number { MatchOption result ((n : ℕ) → owned value.entry ≡ Int (pos n)
         → ⊥) (λ n. owned value.entry ≡ Int (pos n)) }
 {
     match value {
@@ -106,18 +107,6 @@ pub(crate) fn flag_at(row: &Row, at: usize) -> Option<bool>
     }
 }
 
-// The number of an entry that a value is.
-fn seq_in(value: ValueRef<'_>) -> Option<u64>
-    ensures few { IfSome result (λ n. n < 2 ^ 63) }
-    ensures number { MatchOption result ((n : ℕ) → owned value.entry ≡ Int (pos n)
-        → ⊥) (λ n. owned value.entry ≡ Int (pos n)) }
-{
-    match value {
-        ValueRef::Int(n) => u64::try_from(n).ok(),
-        _ => None,
-    }
-}
-
 /// The number of an entry in a column: one that SQLite can hold. None where it is below 0 too.
 pub(crate) fn seq_at(row: &Row, at: usize) -> Option<u64>
     ensures few { IfSome result (λ n. n < 2 ^ 63) }
@@ -125,7 +114,7 @@ pub(crate) fn seq_at(row: &Row, at: usize) -> Option<u64>
         → ⊥) (λ n. column row.now at ≡ Int (pos n)) }
 {
     match row.get_ref(at) {
-        Ok(value) => seq_in(value),
+        Ok(value) => number_in(value),
         Err(_) => None,
     }
 }

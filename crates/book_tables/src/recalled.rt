@@ -30,18 +30,18 @@ pub(crate) fn content_in(alloc: Global, rows: &[Row]) -> Result<Option<Vec<u8>>,
 }
 
 impl<S: Alter + Drop> Tables<S> {
-    /// A depositor's entry under a key, as it is written down. 43 where its row shows no number, or
+    /// A depositor's entry under a mark, as it is written down. 43 where its row shows no number, or
     /// the entry under it isn't one.
-    fn entry_under(&mut self, alloc: Global, who: Who, key: &[u8]) -> Result<Option<Entry>, Fault>
+    fn entry_under(&mut self, alloc: Global, who: Who, mark: &[u8]) -> Result<Option<Entry>, Fault>
         ensures entry { OfStanding S.Store self.old self.new
-            (λ W L. IfOk result (λ entry. entry ≡ first_under who key.now L)) }
+            (λ W L. IfOk result (λ entry. entry ≡ first_under who mark.now L)) }
         ensures asked { Asked S.Store self.old self.new result }
     {
         let rows = self.under_text(
             alloc,
             "SELECT seq FROM entry WHERE who = ?1 AND mark = ?2 ORDER BY seq",
             who,
-            key,
+            mark,
         )?;
         let Some(row) = rows.first() else {
             return Ok(None);
@@ -73,18 +73,18 @@ impl<S: Alter + Drop> Tables<S> {
         }
     }
 
-    /// A depositor's entry under a key, with its number and the text that went out for it; None
+    /// A depositor's entry under a mark, with its number and the text that went out for it; None
     /// where there is none.
-    pub fn known_of(&mut self, alloc: Global, who: Who, key: &[u8]) -> Result<Option<Known>, Fault>
+    pub fn known_of(&mut self, alloc: Global, who: Who, mark: &[u8]) -> Result<Option<Known>, Fault>
         ensures known { OfStanding S.Store self.old self.new
             (λ W L. IfOk result (λ known. IsRecalled known
-            (recalled W key.now (register.own L who)))) }
+            (recalled W mark.now (register.own L who)))) }
         ensures recorded { OfStanding S.Store self.old self.new
-            (λ W L. IfOk result (λ known. option_map (λ k. k.entry) known ≡ first_under who key.now
+            (λ W L. IfOk result (λ known. option_map (λ k. k.entry) known ≡ first_under who mark.now
             L)) }
         ensures asked { Asked S.Store self.old self.new result }
     {
-        let Some(entry) = self.entry_under(alloc, who, key)? else {
+        let Some(entry) = self.entry_under(alloc, who, mark)? else {
             return Ok(None);
         };
         match self.content_under(alloc, who, entry.number()) {

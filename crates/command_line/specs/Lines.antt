@@ -240,8 +240,8 @@ abbrev pub SaysNumberOf : SheetKind → List Row → Text → Type 0
 SaysNumberOf Recount rows number = number ≡ []
 SaysNumberOf d rows number = Has rows (codes "number") number
 
-abbrev pub SaysTold : List Row → ClerkWords → Type 0
-SaysTold rows t = Has rows (codes "who") t.who.now × Has rows (codes "ticket") t.ticket.now
+abbrev pub SaysWords : List Row → ClerkWords → Type 0
+SaysWords rows t = Has rows (codes "who") t.who.now × Has rows (codes "ticket") t.ticket.now
     × SaysNumberOf t.kind rows t.number.now × Has rows (codes "sheet") t.sheet.now
 
 abbrev pub SaysAct : Found → BookAct → Type 0
@@ -249,7 +249,7 @@ SaysAct f (act.Enrol who) = (f.0 ≡ codes "enrol") × Has f.1 (codes "who") who
 SaysAct f (act.Roster file) = (f.0 ≡ codes "roster") × Has f.1 (codes "file") file.now
 SaysAct f (act.Send file) = (f.0 ≡ codes "send") × Has f.1 (codes "file") file.now
 SaysAct f (act.Take dir) = (f.0 ≡ codes "take") × Has f.1 (codes "dir") dir.now
-SaysAct f (act.Clerk t) = (f.0 ≡ act_name t.kind) × SaysTold f.1 t
+SaysAct f (act.Clerk t) = (f.0 ≡ act_name t.kind) × SaysWords f.1 t
 
 abbrev pub SaysShow : Found → Show → Type 0
 SaysShow f (show.Stock who is_csv) = (f.0 ≡ codes "stock") × Has f.1 (codes "who") who.now

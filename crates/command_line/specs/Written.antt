@@ -4,6 +4,7 @@ use Rattle.std.specs.List.{list_all}
 use Rattle.profile.specs.Bytes.{is_between, is_digit, value}
 use Rattle.profile.specs.Limits.{most_entries}
 use Rattle.profile.specs.Moments.{Moment, is_moment}
+use Rattle.command_line.specs.declared.numbers.TheConstants.{MOST_CONNECTIONS}
 
 -- the two bytes at a place, and the one
 abbrev pub pair_at : ℕ → List ℕ → List ℕ
@@ -37,9 +38,9 @@ moment_in text = record {
 abbrev pub moment_of : List ℕ → Option Moment
 moment_of text = if is_form text && is_moment (moment_in text) then Some (moment_in text) else None
 
--- how many connections a server may be told to serve
+-- how many connections a server may be told to serve, and how many seconds something may wait
 abbrev pub most_connections : ℕ
-most_connections = 65535
+most_connections = MOST_CONNECTIONS
 
 -- the number from 1 to a limit that is written so, in digits alone, with zeros in front or without,
 -- if one is

@@ -8,9 +8,9 @@ use segments::{all_digits, value_up_to};
 /// How far digits are read: no entry's number, no quantity and no count of connections reaches it.
 pub(crate) const MILLION: u64 = 1_000_000;
 
-// The most connections that a server may be told to serve, and the most seconds that something may
-// be told to wait.
-const MOST_CONNECTIONS: u32 = 65_535;
+/// The most connections that a server may be told to serve, and the most seconds that something may
+/// be told to wait.
+pub(crate) const MOST_CONNECTIONS: u32 = 65_535;
 
 // The number from 1 to a limit that the text writes: digits alone, with zeros in front or without;
 // None where it is another text.

@@ -29,7 +29,7 @@ fn refused(alloc: Global, error: &clap::Error) -> LineFault {
 }
 
 // The number of the advice or the order that a line says, which a recount doesn't have.
-fn number_told<'a>(
+fn number_read<'a>(
     alloc: Global,
     kind: SheetKind,
     values: &ArgMatches<'a>,
@@ -44,15 +44,15 @@ fn number_told<'a>(
 }
 
 // What a clerk did, with the values of its line.
-fn told_of<'a>(
+fn words_of<'a>(
     alloc: Global,
     kind: SheetKind,
     values: &ArgMatches<'a>,
 ) -> Result<ClerkWords<'a>, LineFault>
-    ensures told { IfOk result (meant.SaysTold (rows_of (found_of values.now))) }
+    ensures told { IfOk result (meant.SaysWords (rows_of (found_of values.now))) }
     ensures kind { IfOk result (λ t. t.kind ≡ kind) }
 {
-    let number = number_told(alloc, kind, values)?;
+    let number = number_read(alloc, kind, values)?;
     Ok(ClerkWords {
         kind,
         who: given(alloc, values, "who")?,
@@ -72,9 +72,9 @@ fn clerk_act_of<'a>(
         (λ act. IfSome act (meant.SaysAct (name.now, rows_of (found_of values.now)))) }
 {
     let act = match name {
-        "count" => BookAct::Clerk(told_of(alloc, SheetKind::Count, values)?),
-        "pick" => BookAct::Clerk(told_of(alloc, SheetKind::Pick, values)?),
-        "recount" => BookAct::Clerk(told_of(alloc, SheetKind::Recount, values)?),
+        "count" => BookAct::Clerk(words_of(alloc, SheetKind::Count, values)?),
+        "pick" => BookAct::Clerk(words_of(alloc, SheetKind::Pick, values)?),
+        "recount" => BookAct::Clerk(words_of(alloc, SheetKind::Recount, values)?),
         _ => return Ok(None),
     };
     Ok(Some(act))

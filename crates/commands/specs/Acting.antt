@@ -42,7 +42,7 @@ IsPerformed old new (ready.Send bytes) t before later ending =
     IsAnswered old new (Interchange bytes.items) t before later ending
 IsPerformed old new (ready.Take dir) t before later ending = IsTaking old new t before later ending
 IsPerformed old new (ready.Clerk slip) t before later ending =
-    IsAnswered old new (command_of slip.who slip.told slip.sheet) t before later ending
+    IsAnswered old new (command_of slip.who slip.words slip.sheet) t before later ending
 
 -- of the command's reply this is told on standard error
 abbrev pub IsSaid : Standing → Standing → Command → Moment → Option (List ℕ) → Option (List ℕ)
@@ -63,4 +63,4 @@ IsSaidOf old new (ready.Send bytes) t before later ending =
     IsSaid old new (Interchange bytes.items) t before later ending
 IsSaidOf old new (ready.Take dir) t before later ending = Unit {0}
 IsSaidOf old new (ready.Clerk slip) t before later ending =
-    IsSaid old new (command_of slip.who slip.told slip.sheet) t before later ending
+    IsSaid old new (command_of slip.who slip.words slip.sheet) t before later ending

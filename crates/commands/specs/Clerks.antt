@@ -35,13 +35,13 @@ sheet_read kind text =
 -- what a slip of these words has: the words, the depositor that they name, a text, and the sheet of
 -- their kind that is read of it
 pub record IsSlipOf (t : ClerkWords) (who : Who) (kept : ClerkWords) (text : List ℕ) (sheet : List Line) : Type 0 where
-  pub told : kept ≡ t
+  pub words : kept ≡ t
   pub named : depositor_of t ≡ Some who
   pub read : sheet_read t.kind text ≡ Ok sheet
 
 -- A clerk's words come to no slip: a word can't be read, or there is no sheet in what was read of
 -- the file.
 abbrev pub IsNoSlip : ClerkWords → Refusal → Type 0
-IsNoSlip told refusal =
-    ((refusal ≡ BadText) × (depositor_of told ≡ None))
-    ⊎ ((text : List ℕ) × (sheet_read told.kind text ≡ Err refusal))
+IsNoSlip words refusal =
+    ((refusal ≡ BadText) × (depositor_of words ≡ None))
+    ⊎ ((text : List ℕ) × (sheet_read words.kind text ≡ Err refusal))

@@ -24,7 +24,7 @@ IsMadeReady (act.Roster file) (ready.Roster partners) = (text : List ℕ)
 IsMadeReady (act.Send file) (ready.Send bytes) = Unit {0}
 IsMadeReady (act.Take dir) (ready.Take folder) = folder ≡ dir
 IsMadeReady (act.Clerk told) (ready.Clerk slip) =
-    IsSlipOf told slip.who slip.told slip.text.items slip.sheet
+    IsSlipOf told slip.who slip.words slip.text.items slip.sheet
 IsMadeReady a r = ⊥
 
 -- a file may have more bytes than so many

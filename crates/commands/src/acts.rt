@@ -194,10 +194,10 @@ fn tell_slip<K: Keeper, W: io::Write, E: io::Write>(
     err: &mut E,
 ) -> Result<ExitStatus, CommandError>
     ensures answered { IsAnswered (K.standing book.old) (K.standing book.new)
-        (command_of slip.now.who slip.now.told slip.now.sheet) moment
+        (command_of slip.now.who slip.now.words slip.now.sheet) moment
         (W.contents out.old) (W.contents out.new) result }
     ensures said { IsSaid (K.standing book.old) (K.standing book.new)
-        (command_of slip.now.who slip.now.told slip.now.sheet) moment
+        (command_of slip.now.who slip.now.words slip.now.sheet) moment
         (E.contents err.old) (E.contents err.new) result }
     ensures goes { GoesOn (K.standing book.old) (K.standing book.new) }
 {

@@ -264,16 +264,16 @@ fn bad_ident<'a>(word: &'a str, most: usize, wanted: &'static str) -> Option<Bad
 }
 
 // The first of a clerk's words that can't be read.
-fn bad_clerk_word<'a>(told: &ClerkWords<'a>) -> Option<BadWord<'a>> {
-    if let Some(bad) = bad_partner(told.who) {
+fn bad_clerk_word<'a>(words: &ClerkWords<'a>) -> Option<BadWord<'a>> {
+    if let Some(bad) = bad_partner(words.who) {
         return Some(bad);
     }
-    if let Some(bad) = bad_ident(told.ticket, MOST_TICKET, TICKET) {
+    if let Some(bad) = bad_ident(words.ticket, MOST_TICKET, TICKET) {
         return Some(bad);
     }
-    match told.kind {
+    match words.kind {
         SheetKind::Recount => None,
-        _ => bad_ident(told.number, MOST_NUMBER, NUMBER),
+        _ => bad_ident(words.number, MOST_NUMBER, NUMBER),
     }
 }
 
@@ -283,7 +283,7 @@ fn bad_word<'a>(task: &Task<'a>) -> Option<BadWord<'a>> {
         Task::Init { who } => bad_partner(*who),
         Task::Act { act, .. } => match act {
             BookAct::Enrol { who } => bad_partner(*who),
-            BookAct::Clerk(told) => bad_clerk_word(told),
+            BookAct::Clerk(words) => bad_clerk_word(words),
             _ => None,
         },
         Task::Show(Show::Order { who, number }) => match bad_partner(*who) {
@@ -311,14 +311,14 @@ pub(crate) fn at_line(
 // Why the sheet in a file is refused.
 fn about_sheet<R: Files + AllocGlobal>(
     rt: &R,
-    told: &ClerkWords<'_>,
+    words: &ClerkWords<'_>,
     refusal: Refusal,
 ) -> Result<Option<String>, CommandError> {
-    let (alloc, file) = (rt.alloc(), told.sheet);
+    let (alloc, file) = (rt.alloc(), words.sheet);
     let Some(text) = read_within(rt, file, MOST_SHEET)? else {
         return Ok(Some(named(alloc, file, " has more than 1,048,576 bytes")?));
     };
-    match first_bad(alloc, told.kind, &text, refusal)? {
+    match first_bad(alloc, words.kind, &text, refusal)? {
         Some(bad) => Ok(Some(at_line(alloc, file, bad.line, &bad.why)?)),
         None => Ok(None),
     }
@@ -336,9 +336,9 @@ pub fn about_line<R: Files + AllocGlobal>(
     }
     match task {
         Task::Act {
-            act: BookAct::Clerk(told),
+            act: BookAct::Clerk(words),
             ..
-        } => about_sheet(rt, told, refusal),
+        } => about_sheet(rt, words, refusal),
         Task::Act {
             act: BookAct::Roster { file },
             ..

@@ -15,6 +15,7 @@ ghost use Rattle.rosters.specs.Rosters as meant;
 
 use crate::files::{MOST_ROSTER, read_within};
 use crate::told::{CommandError, ExitStatus};
+use intake::write_partner;
 use rosters::depositors;
 use std::alloc::Global;
 use std::io;
@@ -27,9 +28,7 @@ fn tell_partner<W: io::Write>(out: &mut W, who: &Who) -> Result<(), CommandError
         (Appends (W.contents out.old) (W.contents out.new) (who_text who.now ++ codes " ")) }
     ensures halted { IfErr result IsDeviceStop }
 {
-    out.write_all(who.qualifier())?;
-    out.write_all(b"-")?;
-    out.write_all(who.id())?;
+    write_partner(out, who)?;
     out.write_all(b" ")?;
     Ok(())
 }

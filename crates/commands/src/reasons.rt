@@ -159,13 +159,13 @@ fn blamed<'l>(refusal: Refusal, lines: &'l [Goods], kept: &[Kept<'_>]) -> Option
 
 // Says of a line what is done with its pair, and how much is reserved of it.
 fn compared(alloc: Global, line: &Goods, deed: &str, reserved: u64) -> Result<String, AllocError> {
-    let (mut told, mut kept) = (Buffer::new(), Buffer::new());
+    let (mut amount, mut kept) = (Buffer::new(), Buffer::new());
     let why = [
         text_of(&line.item),
         " ",
         text_of(&line.lot),
         ": ",
-        told.format(line.quantity),
+        amount.format(line.quantity),
         " ",
         deed,
         ", and ",
@@ -201,15 +201,15 @@ fn wrong_with(
 pub fn reason(
     alloc: Global,
     refusal: Refusal,
-    told: &ClerkWords<'_>,
+    words: &ClerkWords<'_>,
     text: &[u8],
     kept: &[Kept<'_>],
 ) -> Result<Option<String>, AllocError>
     ensures blamed { (sheet : List Line)
-        → sheet_of_text Two told.now.kind text.now ≡ Ok sheet
+        → sheet_of_text Two words.now.kind text.now ≡ Ok sheet
         → IfOk result (λ why. is_some why ≡ is_some (meant.blamed refusal kept.now sheet)) }
 {
-    let Some(lines) = lines_in(alloc, told, text)? else {
+    let Some(lines) = lines_in(alloc, words, text)? else {
         return Ok(None);
     };
     let Some(line) = blamed(refusal, &lines, kept) else {
@@ -217,7 +217,7 @@ pub fn reason(
     };
     let wrong = wrong_with(alloc, refusal, line, reserved_of(kept, line))?;
     match line_of_pair(alloc, text, &line.item, &line.lot)? {
-        Some(number) => Ok(Some(at_line(alloc, told.sheet, number, &wrong)?)),
+        Some(number) => Ok(Some(at_line(alloc, words.sheet, number, &wrong)?)),
         None => Ok(Some(wrong)),
     }
 }
@@ -260,28 +260,34 @@ fn not_recounted(
     slip: &Slip<'_>,
 ) -> Result<Option<String>, AllocError> {
     let kept = counted_of(alloc, page)?;
-    match reason(alloc, Refusal::UnknownLot, &slip.told, &slip.text, &kept)? {
+    match reason(alloc, Refusal::UnknownLot, &slip.words, &slip.text, &kept)? {
         Some(why) => Ok(Some(why)),
-        None => reason(alloc, Refusal::BelowReserved, &slip.told, &slip.text, &kept),
+        None => reason(
+            alloc,
+            Refusal::BelowReserved,
+            &slip.words,
+            &slip.text,
+            &kept,
+        ),
     }
 }
 
 // Why a page refuses a pick, as far as a line of the sheet is the reason.
 fn not_picked(alloc: Global, page: &Page, slip: &Slip<'_>) -> Result<Option<String>, AllocError> {
-    let Some(order) = page.order(slip.told.number.as_bytes()) else {
+    let Some(order) = page.order(slip.words.number.as_bytes()) else {
         return Ok(None);
     };
     if !order.is_open {
         return Ok(None);
     }
     let kept = held_of(alloc, order)?;
-    reason(alloc, Refusal::NotReserved, &slip.told, &slip.text, &kept)
+    reason(alloc, Refusal::NotReserved, &slip.words, &slip.text, &kept)
 }
 
 // Why a page refuses what a clerk did under a new ticket, as far as a line of the sheet is the
 // reason.
 fn page_reason(alloc: Global, page: &Page, slip: &Slip<'_>) -> Result<Option<String>, AllocError> {
-    match slip.told.kind {
+    match slip.words.kind {
         SheetKind::Count => Ok(None),
         SheetKind::Pick => not_picked(alloc, page, slip),
         SheetKind::Recount => not_recounted(alloc, page, slip),
@@ -328,7 +334,7 @@ pub fn tell_reason<K: Keeper, E: io::Write>(
 ) -> Result<(), CommandError>
     ensures { IsUnchanged (K.standing book.old) (K.standing book.new) }
 {
-    let ticket = Key::Ticket(slip.told.ticket.as_bytes());
+    let ticket = Key::Ticket(slip.words.ticket.as_bytes());
     if book.known(slip.who, &ticket)?.is_some() {
         return Ok(());
     }

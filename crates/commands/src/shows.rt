@@ -10,20 +10,19 @@ ghost use Rattle.profile.specs.Rows.{stock_of, outbox_of};
 ghost use Rattle.store.specs.Open.{open_of, enrolled};
 ghost use Rattle.store.specs.Sent.{text_of};
 ghost use Rattle.store.specs.Standing.{IsUnchanged, OfKept};
-ghost use Rattle.intake.specs.Calls.{owner_of};
 ghost use Rattle.commands.specs.Looking.{IsAskedFor, asked_for, is_readable};
 ghost use Rattle.commands.specs.Stops.{IsDeviceStop};
 ghost use Rattle.commands.specs.Shown.{IsShown, IsShowStopped, shown_stock, shown_open, shown_list, shown_text, shown_order, shown_depositors, shown_of};
 
 use crate::told::{CommandError, ExitStatus, tell_refusal, tell_text};
 use command_line::Show;
-use profile::MOST_NUMBER;
+use intake::owner;
 use reports::{
     NoSheet, depositor_list, open_report, outbox_list, pick_list, stock_csv, stock_report,
 };
 use std::alloc::{AllocError, Global};
 use std::io;
-use store::{Fault, Ident, Keeper, Need, Refusal, StockRow, Who};
+use store::{Fault, Keeper, Need, Refusal, StockRow, Who};
 
 /// What is to be shown, its words tested.
 #[derive(Clone, Copy)]
@@ -47,14 +46,6 @@ fn named(who: &str) -> Option<Who>
     Who::new(who.as_bytes())
 }
 
-// The depositor whose order is named; None where one of the two words can't be read.
-fn owner(who: &str, number: &str) -> Option<Who>
-    ensures { result ≡ owner_of who.now number.now }
-{
-    Ident::new(number.as_bytes(), MOST_NUMBER)?;
-    named(who)
-}
-
 // What a line asks to be shown; None where one of its words can't be read.
 fn read<'a>(show: &Show<'a>) -> Option<Asked<'a>>
     ensures { result ≡ asked_for show.now }
@@ -62,7 +53,10 @@ fn read<'a>(show: &Show<'a>) -> Option<Asked<'a>>
     match show {
         Show::Stock { who, is_csv } => Some(Asked::Stock(named(*who)?, *is_csv)),
         Show::Open { who } => Some(Asked::Open(named(*who)?)),
-        Show::Order { who, number } => Some(Asked::Order(owner(*who, *number)?, *number)),
+        Show::Order { who, number } => Some(Asked::Order(
+            owner((*who).as_bytes(), (*number).as_bytes())?,
+            *number,
+        )),
         Show::Outbox { who, number } => Some(Asked::Outbox(named(*who)?, *number)),
         Show::Depositors => Some(Asked::Depositors),
     }

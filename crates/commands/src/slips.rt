@@ -25,20 +25,20 @@ use store::{Command, Goods, Ident, Refusal, Sheet, SheetKind, Who};
 #[derive(Drop)]
 pub struct Slip<'a> {
     pub(crate) who: Who,
-    pub(crate) told: ClerkWords<'a>,
+    pub(crate) words: ClerkWords<'a>,
     pub(crate) text: Vec<u8>,
     pub(crate) sheet: Sheet,
-    pub ghost given: { IsTrue (is_command Two (command_of who told sheet)) },
+    pub ghost given: { IsTrue (is_command Two (command_of who words sheet)) },
 }
 
 // The depositor that a clerk's words name; None where a word can't be read.
-fn depositor(told: &ClerkWords<'_>) -> Option<Who>
-    ensures { result ≡ depositor_of told.now }
+fn depositor(words: &ClerkWords<'_>) -> Option<Who>
+    ensures { result ≡ depositor_of words.now }
 {
-    let who = Who::new(told.who.as_bytes())?;
-    Ident::new(told.ticket.as_bytes(), MOST_TICKET)?;
-    if told.kind != SheetKind::Recount {
-        Ident::new(told.number.as_bytes(), MOST_NUMBER)?;
+    let who = Who::new(words.who.as_bytes())?;
+    Ident::new(words.ticket.as_bytes(), MOST_TICKET)?;
+    if words.kind != SheetKind::Recount {
+        Ident::new(words.number.as_bytes(), MOST_NUMBER)?;
     }
     Some(who)
 }
@@ -54,18 +54,18 @@ struct Read {
 // may have; None where a word can't be read (32). A file that can't be read is Device (44).
 fn read_slip<R: Files + AllocGlobal>(
     rt: &R,
-    told: &ClerkWords<'_>,
+    words: &ClerkWords<'_>,
 ) -> Result<Option<Read>, CommandError>
     ensures read { IfOk result
-        (λ found. IfSome found (λ read. depositor_of told.now ≡ Some read.who)) }
-    ensures none { IfOk result (λ found. IfNone found (depositor_of told.now ≡ None)) }
+        (λ found. IfSome found (λ read. depositor_of words.now ≡ Some read.who)) }
+    ensures none { IfOk result (λ found. IfNone found (depositor_of words.now ≡ None)) }
 {
-    let Some(who) = depositor(told) else {
+    let Some(who) = depositor(words) else {
         return Ok(None);
     };
-    match read_first(rt, told.sheet, u64::from(MOST_SHEET) + 1) {
+    match read_first(rt, words.sheet, u64::from(MOST_SHEET) + 1) {
         Ok(text) => Ok(Some(Read { who, text })),
-        Err(error) => Err(about_file(rt.alloc(), told.sheet, &error)),
+        Err(error) => Err(about_file(rt.alloc(), words.sheet, &error)),
     }
 }
 
@@ -110,19 +110,19 @@ fn sheet_of(
 /// bytes); a file that can't be read is Device (44).
 pub fn slip_of<'a, R: Files + AllocGlobal>(
     rt: &R,
-    told: &ClerkWords<'a>,
+    words: &ClerkWords<'a>,
 ) -> Result<Result<Slip<'a>, Refusal>, CommandError>
     ensures slip { IfOk result
-        (λ made. IfOk made (λ slip. IsSlipOf told.now slip.who slip.told slip.text.items slip.sheet)) }
-    ensures none { IfOk result (λ made. IfErr made (IsNoSlip told.now)) }
+        (λ made. IfOk made (λ slip. IsSlipOf words.now slip.who slip.words slip.text.items slip.sheet)) }
+    ensures none { IfOk result (λ made. IfErr made (IsNoSlip words.now)) }
 {
-    let Some(Read { who, text }) = read_slip(rt, told)? else {
+    let Some(Read { who, text }) = read_slip(rt, words)? else {
         return Ok(Err(Refusal::BadText));
     };
-    match sheet_of(rt.alloc(), told.kind, &text)? {
+    match sheet_of(rt.alloc(), words.kind, &text)? {
         Ok(sheet) => Ok(Ok(Slip {
             who,
-            told: *told,
+            words: *words,
             text,
             sheet,
         })),
@@ -133,17 +133,17 @@ pub fn slip_of<'a, R: Files + AllocGlobal>(
 /// The text of a clerk's sheet, tested as `slip_of` tests it, for a server that reads it again.
 pub fn sheet_text_of<R: Files + AllocGlobal>(
     rt: &R,
-    told: &ClerkWords<'_>,
+    words: &ClerkWords<'_>,
 ) -> Result<Result<Vec<u8>, Refusal>, CommandError>
     ensures text { IfOk result (λ made. IfOk made (λ text. (who : Partner) × (sheet : List Line)
-        × (depositor_of told.now ≡ Some who)
-        × (sheet_read told.now.kind text.items ≡ Ok sheet))) }
-    ensures none { IfOk result (λ made. IfErr made (IsNoSlip told.now)) }
+        × (depositor_of words.now ≡ Some who)
+        × (sheet_read words.now.kind text.items ≡ Ok sheet))) }
+    ensures none { IfOk result (λ made. IfErr made (IsNoSlip words.now)) }
 {
-    let Some(Read { text, .. }) = read_slip(rt, told)? else {
+    let Some(Read { text, .. }) = read_slip(rt, words)? else {
         return Ok(Err(Refusal::BadText));
     };
-    match sheet_of(rt.alloc(), told.kind, &text)? {
+    match sheet_of(rt.alloc(), words.kind, &text)? {
         Ok(_) => Ok(Ok(text)),
         Err(refusal) => Ok(Err(refusal)),
     }
@@ -152,14 +152,14 @@ pub fn sheet_text_of<R: Files + AllocGlobal>(
 /// The lines of a clerk's sheet in a text, by item and then lot; None where it makes no sheet.
 pub(crate) fn lines_in(
     alloc: Global,
-    told: &ClerkWords<'_>,
+    words: &ClerkWords<'_>,
     text: &[u8],
 ) -> Result<Option<Vec<Goods>>, AllocError>
     ensures { (sheet : List Line)
-        → sheet_of_text Two told.now.kind text.now ≡ Ok sheet
+        → sheet_of_text Two words.now.kind text.now ≡ Ok sheet
         → IfOk result (λ found. option_map (λ lines. lines.items) found ≡ Some sheet) }
 {
-    match sheet(alloc, told.kind, text)? {
+    match sheet(alloc, words.kind, text)? {
         Ok(sheet) => Ok(Some(sheet.lines(alloc)?)),
         Err(_) => Ok(None),
     }
@@ -167,13 +167,13 @@ pub(crate) fn lines_in(
 
 /// What a clerk did, as a command.
 pub fn clerk<'a>(slip: &'a Slip<'_>) -> Command<'a>
-    ensures told { asked result ≡ command_of slip.now.who slip.now.told slip.now.sheet }
+    ensures told { asked result ≡ command_of slip.now.who slip.now.words slip.now.sheet }
     ensures given { is_command Two (asked result) ≡ true }
 {
-    let told = &slip.told;
+    let words = &slip.words;
     Command::Clerk {
         who: slip.who,
-        ticket: told.ticket.as_bytes(),
-        act: act_of(told.kind, told.number.as_bytes(), &slip.sheet),
+        ticket: words.ticket.as_bytes(),
+        act: act_of(words.kind, words.number.as_bytes(), &slip.sheet),
     }
 }

@@ -40,21 +40,11 @@ fn has_version(head: &Segment<'_>) -> bool
     same(head.element(7), b"X") && same(head.element(8), b"004010")
 }
 
-// An element of ST.
-fn head_element<'a>(set: &Set<'a>, n: usize) -> &'a [u8]
-    ensures { result.now ≡ cuts.element (meant.head_of set.now.set) n }
-{
-    match set.segments().first() {
-        Some(first) => first.element(n),
-        None => &[],
-    }
-}
-
 // Whether one of the sets has the control number.
 fn stands_in(sets: &[Set<'_>], number: &[u8]) -> bool
     ensures { result ≡ list_any (λ s. bytes_eq number.now (meant.control_of s.set)) sets.now }
 {
-    sets.iter().any(|s| same(number, head_element(s, 2)))
+    sets.iter().any(|s| same(number, s.head_element(2)))
 }
 
 impl<'a> Group<'a> {
@@ -93,13 +83,13 @@ impl<'a> Group<'a> {
         if !set.is_closed() {
             return Some(2);
         }
-        if !belongs(self.head().element(1), head_element(set, 1)) {
+        if !belongs(self.head().element(1), set.head_element(1)) {
             return Some(1);
         }
         if is_repeated {
             return Some(7);
         }
-        if !same(last_element(segments, 2), head_element(set, 2)) {
+        if !same(last_element(segments, 2), set.head_element(2)) {
             return Some(3);
         }
         if !has_value(last_element(segments, 1), segments.len()) {
@@ -117,7 +107,7 @@ impl<'a> Group<'a> {
         let sets = self.sets();
         let mut faults = Vec::new(alloc);
         for (index, set) in sets.iter().enumerate() {
-            let is_repeated = stands_in(&sets[..index], head_element(set, 2));
+            let is_repeated = stands_in(&sets[..index], set.head_element(2));
             faults.push(self.set_fault(set, is_repeated))?;
         }
         Ok(faults)

@@ -1,6 +1,7 @@
 ghost use Rattle.std.specs.Prelude.{◌≡◌, ◌≤◌, length, map, option_copied, option_map};
 ghost use Rattle.profile.specs.Limits.{most_bytes};
-ghost use Rattle.profile.specs.Cut.{AreOf, segments_of};
+ghost use Rattle.profile.specs.Cut.{AreOf, element, segments_of};
+ghost use Rattle.profile.specs.Structure.{head_of};
 ghost use Rattle.envelope.specs.Parts as held;
 
 use segments::{Delims, Segment};
@@ -89,6 +90,16 @@ impl<'a> Set<'a> {
         ensures few { length result.now ≤ most_bytes }
     {
         &self.segments
+    }
+
+    /// An element of its ST; nothing where it has none.
+    pub fn head_element(&self, n: usize) -> &'a [u8]
+        ensures { result.now ≡ element (head_of self.now.set) n }
+    {
+        match self.segments().first() {
+            Some(first) => first.element(n),
+            None => &[],
+        }
     }
 
     /// Whether SE stands last.

@@ -3,7 +3,7 @@ use Rattle.std.proofs.Common.{◌≡◌, codes, refl, Some, None, true, false}
 use Rattle.store.specs.Refusal.TheVariants as refusals
 use Rattle.store.specs.Fault.TheVariants as faults
 use Rattle.errands.specs.Heard.{heard, heard_look, heard_report, note_in, number_in}
-use Rattle.errands.specs.declared.answers.Answered.TheVariants.{Done, Refused, Stopped}
+use Rattle.errands.specs.declared.answers.HeardAs.TheVariants.{Done, Refused, Stopped}
 
 -- another number in the trailer than in the header
 noted : note_in (codes "ISA*00*          *00*          *ZZ*WHSE1          *ZZ*ACME           *250304*0915*U*00401*000000000*0*P*>~TA1*000000007*250304*0915*R*001~IEA*0*000000000~") ≡ Some 1

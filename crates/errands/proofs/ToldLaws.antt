@@ -10,7 +10,7 @@ use Rattle.commands.specs.Telling.{line_of}
 use Rattle.intake.specs.Calls.{deed_reply}
 use Rattle.errands.specs.Heard.{heard, printed_document}
 use Rattle.errands.specs.Told.{IsReply, IsReplyToInterchange, IsToldAs, is_interchange}
-use Rattle.errands.specs.declared.answers.Answered.TheVariants.{Done}
+use Rattle.errands.specs.declared.answers.HeardAs.TheVariants.{Done}
 
 pub act_told : (r : Reply) → IsReply r → IsToldAs r (deed_reply (told r))
 unfolding digits

@@ -1,6 +1,6 @@
 -- Which requests a command makes of a server, and what it tells of the answers.
 use Rattle.std.specs.Prelude.{◌≡◌, ◌⊎◌, ◌∷◌, ℕ, true, false, List, [], Option, Some, None, codes}
-use Rattle.remote.specs.declared.answers.Answer.{Answer}
+use Rattle.remote.specs.declared.answers.ServerAnswer.{ServerAnswer}
 use Rattle.remote.specs.declared.requests.Verb.{Verb}
 use Rattle.remote.specs.declared.requests.Verb.TheVariants.{Get, Post}
 use Rattle.store.specs.Fault.TheVariants.{OutOfMemory}
@@ -11,23 +11,23 @@ use Rattle.command_line.specs.declared.words.Show.{Show}
 use Rattle.command_line.specs.declared.words.Show.TheVariants as show
 use Rattle.errands.specs.Heard.{IsHalted, IsTold, TellsNothing, heard, heard_look, heard_report, printed_document, printed_report}
 use Rattle.errands.specs.Paths.{deed_path, look_path, path_text}
-use Rattle.errands.specs.declared.answers.Answered.{Answered}
+use Rattle.errands.specs.declared.answers.HeardAs.{HeardAs}
 use Rattle.errands.specs.declared.errand.Errand.{Errand}
 use Rattle.errands.specs.declared.errand.Errand.TheVariants as errand
 
 -- the answer was told as that to a command, as that to a query, and as that to a query of what
 -- clerks alone are shown
-abbrev pub TellsAsDocument : Answer → Option (List ℕ) → Option (List ℕ) → ExitStatus → Type 0
+abbrev pub TellsAsDocument : ServerAnswer → Option (List ℕ) → Option (List ℕ) → ExitStatus → Type 0
 TellsAsDocument a before after status =
     IsTold (printed_document a.is_interchange a.body.items)
     (heard a.status a.is_interchange a.body.items) before after status
 
-abbrev pub TellsAsReport : Answer → Option (List ℕ) → Option (List ℕ) → ExitStatus → Type 0
+abbrev pub TellsAsReport : ServerAnswer → Option (List ℕ) → Option (List ℕ) → ExitStatus → Type 0
 TellsAsReport a before after status =
     IsTold (printed_report a.status a.body.items)
     (heard_report a.status a.is_interchange a.body.items) before after status
 
-abbrev pub TellsAsLook : Answer → Option (List ℕ) → Option (List ℕ) → ExitStatus → Type 0
+abbrev pub TellsAsLook : ServerAnswer → Option (List ℕ) → Option (List ℕ) → ExitStatus → Type 0
 TellsAsLook a before after status =
     IsTold (printed_report a.status a.body.items)
     (heard_look a.status a.is_interchange a.body.items) before after status
@@ -35,14 +35,14 @@ TellsAsLook a before after status =
 -- how a courier, a request (its verb, path and body) and an answer belong together, and how a
 -- courier and a request without one do
 abbrev pub Brings : Type 0 → Type 1
-Brings C = C → Verb → List ℕ → List ℕ → Answer → C → Type 0
+Brings C = C → Verb → List ℕ → List ℕ → ServerAnswer → C → Type 0
 
 abbrev pub Loses : Type 0 → Type 1
 Loses C = C → Verb → List ℕ → List ℕ → C → Type 0
 
 -- an answer is heard so as that to a command, to a query, or to a query of what clerks alone are
 -- shown
-abbrev pub IsHeardAs : Answer → Answered → Type 0
+abbrev pub IsHeardAs : ServerAnswer → HeardAs → Type 0
 IsHeardAs a h =
     (heard a.status a.is_interchange a.body.items ≡ h)
     ⊎ ((heard_report a.status a.is_interchange a.body.items ≡ h)
@@ -58,7 +58,7 @@ module _ {C : Type 0} (brings : Brings C) (loses : Loses C) (stop : CommandError
   -- an answer was brought that is heard as what stops a command so
   abbrev pub IsStoppedThere : Type 0
   IsStoppedThere =
-      (old new : C) × (verb : Verb) × (path body : List ℕ) × (a : Answer) × (h : Answered)
+      (old new : C) × (verb : Verb) × (path body : List ℕ) × (a : ServerAnswer) × (h : HeardAs)
       × brings old verb path body a new × IsHeardAs a h × IsHalted h stop
 
   -- What stops a command at a server: want of memory before it is asked, a request without an
@@ -70,28 +70,28 @@ module _ {C : Type 0} (brings : Brings C) (old new : C) (before after : Option (
     (status : ExitStatus) where
   -- a body was posted, and the answer told
   abbrev pub IsPosted : List ℕ → List ℕ → Type 0
-  IsPosted path body = (a : Answer) × brings old Post path body a new
+  IsPosted path body = (a : ServerAnswer) × brings old Post path body a new
       × TellsAsDocument a before after status
 
   -- a report was asked for, and told
   abbrev pub IsReported : Show → Type 0
-  IsReported s = (a : Answer) × brings old Get (look_path s) [] a new
+  IsReported s = (a : ServerAnswer) × brings old Get (look_path s) [] a new
       × TellsAsReport a before after status
 
   -- what clerks alone are shown was asked for, and told
   abbrev pub IsLooked : Show → Type 0
-  IsLooked s = (a : Answer) × brings old Get (look_path s) [] a new
+  IsLooked s = (a : ServerAnswer) × brings old Get (look_path s) [] a new
       × TellsAsLook a before after status
 
   -- what was asked for is told; where it isn't there, another request was made, which says why
-  abbrev pub IsAskedTwice : Show → List ℕ → (Answer → Answer → Type 0) → Type 0
+  abbrev pub IsAskedTwice : Show → List ℕ → (ServerAnswer → ServerAnswer → Type 0) → Type 0
   IsAskedTwice s other tells =
-      (a b : Answer) × (mid : C) × (a.status ≡ 404) × brings old Get (look_path s) [] a mid
+      (a b : ServerAnswer) × (mid : C) × (a.status ≡ 404) × brings old Get (look_path s) [] a mid
       × brings mid Get other [] b new × tells a b
 
   abbrev pub IsContent : Show → List ℕ → Type 0
   IsContent s who =
-      ((a : Answer) × brings old Get (look_path s) [] a new × TellsAsDocument a before after status)
+      ((a : ServerAnswer) × brings old Get (look_path s) [] a new × TellsAsDocument a before after status)
       ⊎ IsAskedTwice s (path_text (codes "outbox" ∷ who ∷ []))
       (λ a b. TellsAsReport b before after status ⊎ TellsNothing before after status)
 

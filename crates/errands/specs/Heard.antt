@@ -13,8 +13,8 @@ use Rattle.commands.specs.Stops.{IsDeviceFault, fault_in}
 use Rattle.commands.specs.declared.told.CommandError.{CommandError}
 use Rattle.commands.specs.declared.told.ExitStatus.{ExitStatus}
 use Rattle.commands.specs.declared.told.ExitStatus.TheVariants as statuses
-use Rattle.errands.specs.declared.answers.Answered.{Answered}
-use Rattle.errands.specs.declared.answers.Answered.TheVariants.{Done, Refused, Stopped}
+use Rattle.errands.specs.declared.answers.HeardAs.{HeardAs}
+use Rattle.errands.specs.declared.answers.HeardAs.TheVariants.{Done, Refused, Stopped}
 
 -- the value of digits; 0 for any other text, and 1000 for any that is larger
 abbrev pub value_of : List ℕ → ℕ
@@ -79,23 +79,23 @@ stands_under status refusals.TicketUsed = status == 409
 stands_under status r = status == 422
 
 -- a refusal by its number
-abbrev pub heard_line : ℕ → List ℕ → Answered
+abbrev pub heard_line : ℕ → List ℕ → HeardAs
 heard_line status line = by (numbered (number_in line))
   where
-    by : Option Refusal → Answered
+    by : Option Refusal → HeardAs
     by (Some r) = if stands_under status r then Refused r else Stopped faults.Device
     by None = Stopped faults.Device
 
-abbrev pub heard_note : List ℕ → Answered
+abbrev pub heard_note : List ℕ → HeardAs
 heard_note text = by (note_in text)
   where
-    by : Option ℕ → Answered
+    by : Option ℕ → HeardAs
     by (Some code) = Refused (refusals.Note code)
     by None = Stopped faults.Device
 
 -- The answer to a command: what is done has a document, or nothing (204) where an interchange has
 -- an empty answer.
-abbrev pub heard : ℕ → Bool → List ℕ → Answered
+abbrev pub heard : ℕ → Bool → List ℕ → HeardAs
 heard status is_interchange body = first_of (heard_line status body)
     ((status == 200 && is_interchange, Done)
     ∷ (status == 204, Done)
@@ -107,7 +107,7 @@ heard status is_interchange body = first_of (heard_line status body)
 
 -- The answer to a query, whose report is no interchange. A server says `404 Not Found` of a
 -- depositor whom it doesn't know.
-abbrev pub heard_report : ℕ → Bool → List ℕ → Answered
+abbrev pub heard_report : ℕ → Bool → List ℕ → HeardAs
 heard_report status is_interchange body = first_of (heard_line status body)
     ((status == 200 && not is_interchange, Done)
     ∷ (status == 404 && number_in body == 404, Refused refusals.UnknownDepositor)
@@ -116,7 +116,7 @@ heard_report status is_interchange body = first_of (heard_line status body)
 
 -- The answer to a query of what clerks alone are shown. What it is refused for stands in its body
 -- by number, so a 404 without such a number is no server's that takes clerks' requests.
-abbrev pub heard_look : ℕ → Bool → List ℕ → Answered
+abbrev pub heard_look : ℕ → Bool → List ℕ → HeardAs
 heard_look status is_interchange body = first_of (heard_line status body)
     ((status == 200 && not is_interchange, Done)
     ∷ (status == 503, Stopped (fault_numbered (number_in body)))
@@ -131,24 +131,24 @@ abbrev pub printed_report : ℕ → List ℕ → List ℕ
 printed_report status body = if status == 200 then body else []
 
 -- the exit status that an answer gives; a fault stops a command
-abbrev pub IsStatus : Answered → ExitStatus → Type 0
+abbrev pub IsStatus : HeardAs → ExitStatus → Type 0
 IsStatus Done status = status ≡ statuses.Done
 IsStatus (Refused r) status = status ≡ statuses.Refused
 IsStatus (Stopped f) status = ⊥
 
 -- an answer was told: this was printed, and the exit status is its
-pub record IsTold (printed : List ℕ) (h : Answered) (before after : Option (List ℕ)) (status : ExitStatus) : Type 0 where
+pub record IsTold (printed : List ℕ) (h : HeardAs) (before after : Option (List ℕ)) (status : ExitStatus) : Type 0 where
   pub text : Appends before after printed
   pub says : IsStatus h status
 
 -- the fault that an answer tells, if it tells one
-abbrev pub stop_of : Answered → Option Fault
+abbrev pub stop_of : HeardAs → Option Fault
 stop_of (Stopped fault) = Some fault
 stop_of h = None
 
 -- what stops a command with an answer: the fault that it tells; and where it tells none, a device
 -- that doesn't take what is printed, or want of memory
-abbrev pub IsHalted : Answered → CommandError → Type 0
+abbrev pub IsHalted : HeardAs → CommandError → Type 0
 IsHalted h stop = by (stop_of h)
   where
     by : Option Fault → Type 0
@@ -160,6 +160,6 @@ abbrev pub TellsNothing : Option (List ℕ) → Option (List ℕ) → ExitStatus
 TellsNothing before after status = Appends before after [] × (status ≡ statuses.Refused)
 
 -- what is told of an answer on standard error: the line of a refusal
-abbrev pub told_line : Answered → List ℕ
+abbrev pub told_line : HeardAs → List ℕ
 told_line (Refused refusal) = refusal_line refusal
 told_line other = []

@@ -8,8 +8,8 @@ use Rattle.store.specs.declared.serving.Reply.{Reply}
 use Rattle.store.specs.declared.serving.Reply.TheVariants.{Accepted, Stored, Refused}
 use Rattle.commands.specs.Telling.{line_of, text_of}
 use Rattle.errands.specs.Heard.{heard, note_in, printed_document}
-use Rattle.errands.specs.declared.answers.Answered.{Answered}
-use Rattle.errands.specs.declared.answers.Answered.TheVariants as says
+use Rattle.errands.specs.declared.answers.HeardAs.{HeardAs}
+use Rattle.errands.specs.declared.answers.HeardAs.TheVariants as says
 
 -- whether a response has an interchange
 abbrev pub is_interchange : Response → Bool
@@ -20,7 +20,7 @@ is_interchange r = by r.kind
     by (Some kind) = bytes_eq kind x12_type
 
 -- what a reply says
-abbrev pub said : Reply → Answered
+abbrev pub said : Reply → HeardAs
 said (Accepted text) = says.Done
 said (Stored text) = says.Done
 said (Refused refusal text) = says.Refused refusal

@@ -8,7 +8,7 @@ use store::{Fault, Refusal};
 
 /// What an answer of a server comes to.
 #[derive(Clone, Copy, PartialEq, Eq)]
-pub enum Answered {
+pub enum HeardAs {
     /// What was asked for is done.
     Done,
     /// It was refused.
@@ -126,63 +126,63 @@ fn stands_under(status: u16, refusal: Refusal) -> bool
 }
 
 // What a refusal's line comes to.
-fn heard_line(status: u16, line: &[u8]) -> Answered
+fn heard_line(status: u16, line: &[u8]) -> HeardAs
     ensures { result ≡ meant.heard_line status line.now }
 {
     match numbered(number_in(line)) {
-        Some(refusal) if stands_under(status, refusal) => Answered::Refused(refusal),
-        _ => Answered::Stopped(Fault::Device),
+        Some(refusal) if stands_under(status, refusal) => HeardAs::Refused(refusal),
+        _ => HeardAs::Stopped(Fault::Device),
     }
 }
 
 // What an interchange that refuses with a note comes to.
-fn heard_note(text: &[u8]) -> Answered
+fn heard_note(text: &[u8]) -> HeardAs
     ensures { result ≡ meant.heard_note text.now }
 {
     match note_in(text) {
-        Some(code) => Answered::Refused(Refusal::Note(code)),
-        None => Answered::Stopped(Fault::Device),
+        Some(code) => HeardAs::Refused(Refusal::Note(code)),
+        None => HeardAs::Stopped(Fault::Device),
     }
 }
 
 /// What the answer to a command comes to, by its status, by whether its body is an interchange, and
 /// by its body. An interchange that is too large (413) is refused as one that can't be read, as it
 /// is over a book in a file.
-pub fn heard(status: u16, is_interchange: bool, body: &[u8]) -> Answered
+pub fn heard(status: u16, is_interchange: bool, body: &[u8]) -> HeardAs
     ensures { result ≡ meant.heard status is_interchange body.now }
 {
     match status {
-        200 if is_interchange => Answered::Done,
-        204 => Answered::Done,
-        409 if is_interchange => Answered::Refused(Refusal::Duplicate),
+        200 if is_interchange => HeardAs::Done,
+        204 => HeardAs::Done,
+        409 if is_interchange => HeardAs::Refused(Refusal::Duplicate),
         422 if is_interchange => heard_note(body),
-        413 => Answered::Refused(Refusal::Unreadable),
-        503 => Answered::Stopped(fault_numbered(number_in(body))),
+        413 => HeardAs::Refused(Refusal::Unreadable),
+        503 => HeardAs::Stopped(fault_numbered(number_in(body))),
         _ => heard_line(status, body),
     }
 }
 
 /// What the answer to a query comes to. A server says `404 Not Found` of a depositor whom it
 /// doesn't know.
-pub fn heard_report(status: u16, is_interchange: bool, body: &[u8]) -> Answered
+pub fn heard_report(status: u16, is_interchange: bool, body: &[u8]) -> HeardAs
     ensures { result ≡ meant.heard_report status is_interchange body.now }
 {
     match status {
-        200 if !is_interchange => Answered::Done,
-        404 if number_in(body) == 404 => Answered::Refused(Refusal::UnknownDepositor),
-        503 => Answered::Stopped(fault_numbered(number_in(body))),
+        200 if !is_interchange => HeardAs::Done,
+        404 if number_in(body) == 404 => HeardAs::Refused(Refusal::UnknownDepositor),
+        503 => HeardAs::Stopped(fault_numbered(number_in(body))),
         _ => heard_line(status, body),
     }
 }
 
 /// What the answer to a query of what clerks alone are shown comes to. A server that takes their
 /// requests says by number what it refuses one for; a 404 without a number is another's.
-pub fn heard_look(status: u16, is_interchange: bool, body: &[u8]) -> Answered
+pub fn heard_look(status: u16, is_interchange: bool, body: &[u8]) -> HeardAs
     ensures { result ≡ meant.heard_look status is_interchange body.now }
 {
     match status {
-        200 if !is_interchange => Answered::Done,
-        503 => Answered::Stopped(fault_numbered(number_in(body))),
+        200 if !is_interchange => HeardAs::Done,
+        503 => HeardAs::Stopped(fault_numbered(number_in(body))),
         _ => heard_line(status, body),
     }
 }

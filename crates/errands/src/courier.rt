@@ -1,17 +1,17 @@
 //! What carries requests to a server.
-use remote::{Answer, Request, Unanswered, call};
+use remote::{Request, ServerAnswer, Unanswered, call};
 use std::net::SocketAddr;
 use std::time::Duration;
 
 /// What carries a request to a server, and brings its answer.
 pub trait Courier {
     ghost use Rattle.std.specs.Prelude.{ℕ, ⊤, List, IfOk, IfErr};
-    ghost use Rattle.remote.specs.declared.answers.Answer.{Answer};
+    ghost use Rattle.remote.specs.declared.answers.ServerAnswer.{ServerAnswer};
     ghost use Rattle.remote.specs.declared.requests.Verb.{Verb};
 
     // Relates what it is, the verb, the path and the body of a request, its answer, and what it is
     // then. Of a network nothing is said.
-    ghost brings: { Self → Verb → List ℕ → List ℕ → Answer → Self → Type 0 } = { λ _ _ _ _ _ _. ⊤ };
+    ghost brings: { Self → Verb → List ℕ → List ℕ → ServerAnswer → Self → Type 0 } = { λ _ _ _ _ _ _. ⊤ };
 
     // Relates what it is, the verb, the path and the body of a request to which it brings no
     // answer, and what it is then.
@@ -19,7 +19,7 @@ pub trait Courier {
 
     /// The answer to a request. Device where none comes: what was asked for may be done all the
     /// same.
-    fn carry(&mut self, request: &Request<'_>) -> Result<Answer, Unanswered>
+    fn carry(&mut self, request: &Request<'_>) -> Result<ServerAnswer, Unanswered>
         ensures brought { IfOk result
             (λ answer. brings self.old request.now.verb request.now.path.now request.now.body.now
             answer self.new) }
@@ -47,7 +47,7 @@ impl<'a> Network<'a> {
 }
 
 impl Courier for Network<'_> {
-    fn carry(&mut self, request: &Request<'_>) -> Result<Answer, Unanswered> {
+    fn carry(&mut self, request: &Request<'_>) -> Result<ServerAnswer, Unanswered> {
         call(
             self.rt,
             &self.server,

@@ -43,10 +43,10 @@ pub fn errand_of<'a, R: Files + AllocGlobal>(
             Err(error) => Err(about_file(rt.alloc(), *file, &error)),
         },
         Task::Act {
-            act: BookAct::Clerk(told),
+            act: BookAct::Clerk(words),
             ..
-        } => match sheet_text_of(rt, told)? {
-            Ok(text) => Ok(Ok(Errand::Deed(*told, text))),
+        } => match sheet_text_of(rt, words)? {
+            Ok(text) => Ok(Ok(Errand::Deed(*words, text))),
             Err(refusal) => Ok(Err(refusal)),
         },
         Task::Show(show) => match ask(show) {

@@ -30,13 +30,13 @@ pub fn an_interchange_is_told_as_over_the_book(reply: &Reply)
 
 /// A server finds a clerk's act, of words that can be read, at the path to which its sheet is
 /// posted.
-pub fn an_act_is_asked_where_it_is_taken(told: &ClerkWords<'_>)
-    ensures { (who : Partner) → depositor_of told.now ≡ Some who
-        → call_of (deed_path told.now)
-        ≡ Some (deed_call told.now.kind told.now.who.now told.now.ticket.now
-        told.now.number.now) }
+pub fn an_act_is_asked_where_it_is_taken(words: &ClerkWords<'_>)
+    ensures { (who : Partner) → depositor_of words.now ≡ Some who
+        → call_of (deed_path words.now)
+        ≡ Some (deed_call words.now.kind words.now.who.now words.now.ticket.now
+        words.now.number.now) }
 {
-    let _ = told;
+    let _ = words;
 }
 
 /// A server finds a picking sheet, the stock as CSV, what is open, and who is enrolled at the paths

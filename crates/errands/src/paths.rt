@@ -47,13 +47,13 @@ fn path_with<'a>(
 }
 
 /// The path to which a clerk's sheet is posted.
-pub(crate) fn deed_path(alloc: Global, told: &ClerkWords<'_>) -> Result<String, AllocError>
-    ensures { IfOk result (λ path. string_bytes path ≡ meant.deed_path told.now) }
+pub(crate) fn deed_path(alloc: Global, words: &ClerkWords<'_>) -> Result<String, AllocError>
+    ensures { IfOk result (λ path. string_bytes path ≡ meant.deed_path words.now) }
 {
-    let name = name_of(told.kind);
-    match told.kind {
-        SheetKind::Recount => path_without(alloc, name, told.who, told.ticket),
-        _ => path_with(alloc, name, told.who, told.ticket, told.number),
+    let name = name_of(words.kind);
+    match words.kind {
+        SheetKind::Recount => path_without(alloc, name, words.who, words.ticket),
+        _ => path_with(alloc, name, words.who, words.ticket, words.number),
     }
 }
 

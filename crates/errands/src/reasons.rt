@@ -3,13 +3,13 @@
 ghost use Rattle.std.specs.Prelude.{◌≡◌, IfErr, None};
 ghost use Rattle.commands.specs.Stops.{IsDeviceFault};
 
-use crate::answers::{Answered, heard};
+use crate::answers::{HeardAs, heard};
 use crate::courier::Courier;
 use crate::errand::Errand;
 use crate::running::get_any;
 use command_line::{ClerkWords, Show};
 use commands::{CommandError, Kept, reason, tell_cause};
-use remote::{Answer, Request, Unanswered};
+use remote::{Request, ServerAnswer, Unanswered};
 use std::alloc::{AllocError, Global};
 use std::io;
 use std::net::SocketAddr;
@@ -20,7 +20,7 @@ use store::Refusal;
 #[derive(Drop)]
 pub struct Listening<C: Courier> {
     inner: C,
-    last: Option<Answered>,
+    last: Option<HeardAs>,
 }
 
 impl<C: Courier> Listening<C> {
@@ -34,7 +34,7 @@ impl<C: Courier> Listening<C> {
     // What the last answer refused, if it refused something.
     fn refusal(&self) -> Option<Refusal> {
         match self.last {
-            Some(Answered::Refused(refusal)) => Some(refusal),
+            Some(HeardAs::Refused(refusal)) => Some(refusal),
             _ => None,
         }
     }
@@ -45,7 +45,7 @@ impl<C: Courier> Courier for Listening<C> {
 
     ghost loses = { λ old verb path body new. C.loses old.inner verb path body new.inner };
 
-    fn carry(&mut self, request: &Request<'_>) -> Result<Answer, Unanswered> {
+    fn carry(&mut self, request: &Request<'_>) -> Result<ServerAnswer, Unanswered> {
         let answer = self.inner.carry(request)?;
         self.last = Some(heard(answer.status, answer.is_interchange, &answer.body));
         Ok(answer)

@@ -1,131 +1,22 @@
 //! A running server asked, and its answer told.
-ghost use Rattle.std.specs.Prelude.{◌≡◌, [], IfOk, IfErr, OnOk, None, Some};
-ghost use Rattle.std.specs.Io.KnownBytes.{Appends};
+ghost use Rattle.std.specs.Prelude.{◌≡◌, [], IfOk, IfErr, None, Some};
 ghost use Rattle.commands.specs.Stops.{IsDeviceFault, fault_in};
-ghost use Rattle.errands.specs.Heard.{IsHalted, IsStatus, IsTold, stop_of, told_line, heard as heard_of, heard_look as look_of, heard_report as report_of, printed_document, printed_report};
+ghost use Rattle.errands.specs.Heard.{stop_of, heard_report as report_of};
 ghost use Rattle.errands.specs.Carried.{IsCarried, IsContent, IsHaltedThere, IsExported, IsLooked, IsPosted, IsReported, IsShown};
 ghost use Rattle.errands.specs.Paths.{look_path as path_for};
 
-use crate::answers::{Answered, heard, heard_look, heard_report};
+use crate::answers::{HeardAs, heard, heard_look, heard_report};
 use crate::courier::Courier;
 use crate::errand::Errand;
 use crate::paths::{deed_path, look_path};
+use crate::telling::{tell_document, tell_look, tell_report};
 use command_line::Show;
-use commands::{CommandError, ExitStatus, about_server, tell_refusal, tell_text};
-use remote::{Answer, Request, Unanswered, Verb};
+use commands::{CommandError, ExitStatus, about_server};
+use remote::{Request, ServerAnswer, Unanswered, Verb};
 use std::alloc::Global;
 use std::io;
 use std::net::SocketAddr;
 use store::Fault;
-
-// Tells what an answer comes to: nothing more of what is done, and a refusal on standard error.
-fn tell_heard<E: io::Write>(
-    alloc: Global,
-    heard: Answered,
-    err: &mut E,
-) -> Result<ExitStatus, CommandError>
-    ensures status { IfOk result (IsStatus heard) }
-    ensures said { OnOk result
-        (Appends (E.contents err.old) (E.contents err.new) (told_line heard)) }
-    ensures halted { IfErr result (IsHalted heard) }
-{
-    match heard {
-        Answered::Done => Ok(ExitStatus::Done),
-        Answered::Refused(refusal) => tell_refusal(alloc, err, refusal),
-        Answered::Stopped(fault) => Err(CommandError::Fault(fault)),
-    }
-}
-
-/// Tells the answer to a command: its document, or the interchange that refuses another, and a
-/// refusal.
-pub fn tell_document<W: io::Write, E: io::Write>(
-    alloc: Global,
-    answer: &Answer,
-    out: &mut W,
-    err: &mut E,
-) -> Result<ExitStatus, CommandError>
-    ensures told { IfOk result (λ status. IsTold
-        (printed_document answer.now.is_interchange answer.now.body.items)
-        (heard_of answer.now.status answer.now.is_interchange answer.now.body.items)
-        (W.contents out.old) (W.contents out.new) status) }
-    ensures said { OnOk result (Appends (E.contents err.old) (E.contents err.new) (told_line
-        (heard_of answer.now.status answer.now.is_interchange answer.now.body.items))) }
-    ensures halted { IfErr result
-        (IsHalted (heard_of answer.now.status answer.now.is_interchange answer.now.body.items)) }
-{
-    let heard = heard(answer.status, answer.is_interchange, &answer.body);
-    if let Answered::Stopped(fault) = heard {
-        return Err(CommandError::Fault(fault));
-    }
-    if answer.is_interchange {
-        tell_text(out, &answer.body)?;
-    }
-    tell_heard(alloc, heard, err)
-}
-
-// Tells the answer to a query, as it is heard: the report, or a refusal.
-fn tell_query<W: io::Write, E: io::Write>(
-    alloc: Global,
-    answer: &Answer,
-    heard: Answered,
-    out: &mut W,
-    err: &mut E,
-) -> Result<ExitStatus, CommandError>
-    ensures told { IfOk result (λ status. IsTold
-        (printed_report answer.now.status answer.now.body.items) heard
-        (W.contents out.old) (W.contents out.new) status) }
-    ensures said { OnOk result
-        (Appends (E.contents err.old) (E.contents err.new) (told_line heard)) }
-    ensures halted { IfErr result (IsHalted heard) }
-{
-    if let Answered::Stopped(fault) = heard {
-        return Err(CommandError::Fault(fault));
-    }
-    if answer.status == 200 {
-        out.write_all(&answer.body)?;
-    }
-    tell_heard(alloc, heard, err)
-}
-
-/// Tells the answer to a query: the report, or a refusal.
-pub fn tell_report<W: io::Write, E: io::Write>(
-    alloc: Global,
-    answer: &Answer,
-    out: &mut W,
-    err: &mut E,
-) -> Result<ExitStatus, CommandError>
-    ensures told { IfOk result (λ status. IsTold
-        (printed_report answer.now.status answer.now.body.items)
-        (report_of answer.now.status answer.now.is_interchange answer.now.body.items)
-        (W.contents out.old) (W.contents out.new) status) }
-    ensures said { OnOk result (Appends (E.contents err.old) (E.contents err.new) (told_line
-        (report_of answer.now.status answer.now.is_interchange answer.now.body.items))) }
-    ensures halted { IfErr result
-        (IsHalted (report_of answer.now.status answer.now.is_interchange answer.now.body.items)) }
-{
-    let heard = heard_report(answer.status, answer.is_interchange, &answer.body);
-    tell_query(alloc, answer, heard, out, err)
-}
-
-/// Tells the answer to a query of what clerks alone are shown: the report, or a refusal.
-pub fn tell_look<W: io::Write, E: io::Write>(
-    alloc: Global,
-    answer: &Answer,
-    out: &mut W,
-    err: &mut E,
-) -> Result<ExitStatus, CommandError>
-    ensures told { IfOk result (λ status. IsTold
-        (printed_report answer.now.status answer.now.body.items)
-        (look_of answer.now.status answer.now.is_interchange answer.now.body.items)
-        (W.contents out.old) (W.contents out.new) status) }
-    ensures said { OnOk result (Appends (E.contents err.old) (E.contents err.new) (told_line
-        (look_of answer.now.status answer.now.is_interchange answer.now.body.items))) }
-    ensures halted { IfErr result
-        (IsHalted (look_of answer.now.status answer.now.is_interchange answer.now.body.items)) }
-{
-    let heard = heard_look(answer.status, answer.is_interchange, &answer.body);
-    tell_query(alloc, answer, heard, out, err)
-}
 
 // Asks a server.
 fn ask_server<C: Courier>(
@@ -133,7 +24,7 @@ fn ask_server<C: Courier>(
     courier: &mut C,
     server: &SocketAddr,
     request: &Request<'_>,
-) -> Result<Answer, CommandError>
+) -> Result<ServerAnswer, CommandError>
     ensures brought { IfOk result
         (λ answer. C.brings courier.old request.now.verb request.now.path.now request.now.body.now
         answer courier.new) }
@@ -154,7 +45,7 @@ fn ask_server<C: Courier>(
 
 // The fault that an answer tells, with what is said of it; Device (44) of an answer that no such
 // server gives.
-fn about_stop(alloc: Global, server: &SocketAddr, fault: Fault) -> CommandError
+fn about_server_stop(alloc: Global, server: &SocketAddr, fault: Fault) -> CommandError
     ensures { fault_in result ≡ Some fault }
 {
     let said = match fault {
@@ -187,7 +78,7 @@ fn post<C: Courier, W: io::Write, E: io::Write>(
     };
     let answer = ask_server(alloc, courier, server, &request)?;
     match heard(answer.status, answer.is_interchange, &answer.body) {
-        Answered::Stopped(fault) => Err(about_stop(alloc, server, fault)),
+        HeardAs::Stopped(fault) => Err(about_server_stop(alloc, server, fault)),
         _ => tell_document(alloc, &answer, out, err),
     }
 }
@@ -198,7 +89,7 @@ pub(crate) fn get_any<C: Courier>(
     courier: &mut C,
     server: &SocketAddr,
     show: &Show<'_>,
-) -> Result<Answer, CommandError>
+) -> Result<ServerAnswer, CommandError>
     ensures brought { IfOk result
         (λ answer. C.brings courier.old Verb.Get (path_for show.now) [] answer courier.new) }
     ensures halted { IfErr result (IsHaltedThere C.brings C.loses) }
@@ -219,7 +110,7 @@ fn get<C: Courier>(
     courier: &mut C,
     server: &SocketAddr,
     show: &Show<'_>,
-) -> Result<Answer, CommandError>
+) -> Result<ServerAnswer, CommandError>
     ensures brought { IfOk result
         (λ answer. C.brings courier.old Verb.Get (path_for show.now) [] answer courier.new) }
     ensures halted { IfErr result (IsHaltedThere C.brings C.loses) }
@@ -228,7 +119,7 @@ fn get<C: Courier>(
 {
     let answer = get_any(alloc, courier, server, show)?;
     match heard_report(answer.status, answer.is_interchange, &answer.body) {
-        Answered::Stopped(fault) => Err(about_stop(alloc, server, fault)),
+        HeardAs::Stopped(fault) => Err(about_server_stop(alloc, server, fault)),
         _ => Ok(answer),
     }
 }
@@ -239,15 +130,15 @@ fn get_text<C: Courier>(
     courier: &mut C,
     server: &SocketAddr,
     show: &Show<'_>,
-) -> Result<Answer, CommandError>
+) -> Result<ServerAnswer, CommandError>
     ensures brought { IfOk result
         (λ answer. C.brings courier.old Verb.Get (path_for show.now) [] answer courier.new) }
     ensures halted { IfErr result (IsHaltedThere C.brings C.loses) }
 {
     let answer = get_any(alloc, courier, server, show)?;
     match heard(answer.status, answer.is_interchange, &answer.body) {
-        Answered::Stopped(fault) if answer.status != 404 => {
-            Err(about_stop(alloc, server, fault))
+        HeardAs::Stopped(fault) if answer.status != 404 => {
+            Err(about_server_stop(alloc, server, fault))
         }
         _ => Ok(answer),
     }
@@ -286,7 +177,7 @@ fn clerks_look<C: Courier, W: io::Write, E: io::Write>(
 {
     let answer = get_any(alloc, courier, server, show)?;
     match heard_look(answer.status, answer.is_interchange, &answer.body) {
-        Answered::Stopped(fault) => Err(about_stop(alloc, server, fault)),
+        HeardAs::Stopped(fault) => Err(about_server_stop(alloc, server, fault)),
         _ => tell_look(alloc, &answer, out, err),
     }
 }
@@ -313,7 +204,7 @@ fn export<C: Courier, W: io::Write, E: io::Write>(
     }
     let stock = get(alloc, courier, server, &Show::Stock { who, is_csv: false })?;
     if stock.status == 200 {
-        return Err(about_stop(alloc, server, Fault::Device));
+        return Err(about_server_stop(alloc, server, Fault::Device));
     }
     tell_report(alloc, &answer, out, err)
 }
@@ -340,7 +231,7 @@ fn content<C: Courier, W: io::Write, E: io::Write>(
     }
     let list = get(alloc, courier, server, &Show::Outbox { who, number: None })?;
     match heard_report(list.status, list.is_interchange, &list.body) {
-        Answered::Done => Ok(ExitStatus::Refused),
+        HeardAs::Done => Ok(ExitStatus::Refused),
         _ => tell_report(alloc, &list, out, err),
     }
 }
@@ -395,8 +286,8 @@ pub fn carry_out<C: Courier, W: io::Write, E: io::Write>(
 {
     match errand {
         Errand::Send(bytes) => post(alloc, courier, server, "/x12", bytes, out, err),
-        Errand::Deed(told, sheet) => {
-            let path = deed_path(alloc, told)?;
+        Errand::Deed(words, sheet) => {
+            let path = deed_path(alloc, words)?;
             post(alloc, courier, server, path.as_str(), sheet, out, err)
         }
         Errand::Look(show) => look(alloc, courier, server, show, out, err),

@@ -36,8 +36,8 @@ pub struct PassedOver {
     pub why: WhyPassed,
 }
 
-// The most bytes of a name to which `.ans` can be added: a name in a folder has 255 at most.
-const MOST_NAME: usize = 251;
+/// The most bytes of a name to which `.ans` can be added: a name in a folder has 255 at most.
+pub(crate) const MOST_FILE_NAME: usize = 251;
 
 // Whether a name is that of an interchange.
 pub(crate) fn is_interchange(name: &str) -> bool
@@ -50,7 +50,7 @@ pub(crate) fn is_interchange(name: &str) -> bool
 pub(crate) fn why_passed(name: &str, is_file: bool) -> Option<WhyPassed>
     ensures { result ≡ meant.why_passed name.now is_file }
 {
-    if name.len() > MOST_NAME {
+    if name.len() > MOST_FILE_NAME {
         Some(WhyPassed::LongName)
     } else if is_file {
         None

@@ -32,9 +32,10 @@ pub use folders::{
 };
 pub use gauge::Gauge;
 pub use listening::{serve_count, serve_within};
+pub use looking::owner;
 pub use patience::Patience;
 pub use responding::respond;
 pub use response::{Allow, Body, MediaType, Response, Status};
-pub use served::{Connection, RequestLine, Served, write_sender};
+pub use served::{Connection, RequestLine, Served, write_partner, write_sender};
 pub use serving::{serve_one, serve_telling};
 pub use slips::act_of;

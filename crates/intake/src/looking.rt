@@ -42,8 +42,8 @@ fn export_at<K: Keeper>(alloc: Global, keeper: &mut K, who: &[u8]) -> Result<Res
     }
 }
 
-// The depositor whose order is named; None where a part of the path can't be read.
-fn owner(who: &[u8], number: &[u8]) -> Option<Who>
+/// The depositor whose order is named; None where one of the two texts can't be read.
+pub fn owner(who: &[u8], number: &[u8]) -> Option<Who>
     ensures { result ≡ owner_of who.now number.now }
 {
     Ident::new(number, MOST_NUMBER)?;

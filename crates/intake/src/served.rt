@@ -1,6 +1,7 @@
 //! What a server tells of the connections that it had.
 ghost use Rattle.std.specs.Prelude.{OnOk};
 ghost use Rattle.std.specs.Io.KnownBytes.{Appends};
+ghost use Rattle.profile.specs.Header.{who_text};
 ghost use Rattle.intake.specs.Lines.{sender_text};
 
 use http::StatusCode;
@@ -33,17 +34,25 @@ pub struct Served {
     pub bytes: u64,
 }
 
+/// Writes a partner: `QQ-ID`, its qualifier and id. An error is the writer's, which then may have a
+/// beginning of it.
+pub fn write_partner<W: io::Write>(out: &mut W, who: &Who) -> io::Result<()>
+    ensures { OnOk result (Appends (W.contents out.old) (W.contents out.new) (who_text who.now)) }
+{
+    out.write_all(who.qualifier())?;
+    out.write_all(b"-")?;
+    out.write_all(who.id())
+}
+
 /// Writes who sent an interchange, as a line tells it: `QQ-ID`, or `-` where nobody is told. An
 /// error is the writer's, which then may have a beginning of it.
 pub fn write_sender<W: io::Write>(out: &mut W, sender: &Option<Who>) -> io::Result<()>
     ensures { OnOk result (Appends (W.contents out.old) (W.contents out.new) (sender_text sender.now)) }
 {
-    let Some(who) = sender else {
-        return out.write_all(b"-");
-    };
-    out.write_all(who.qualifier())?;
-    out.write_all(b"-")?;
-    out.write_all(who.id())
+    match sender {
+        Some(who) => write_partner(out, who),
+        None => out.write_all(b"-"),
+    }
 }
 
 /// A connection that was accepted, or couldn't be.

@@ -7,13 +7,13 @@ use Rattle.httparse.specs.Grammar.{ResponseHead, print_response}
 use Rattle.httparse.specs.Spans.{IsResponseWithin, IsResponseAt, header_bytes, name_and_value}
 use Rattle.httparse.specs.declared.spans.HeaderSpan.{HeaderSpan}
 use Rattle.httparse.specs.declared.spans.ResponseSpans.{ResponseSpans}
-use Rattle.remote.specs.declared.heading.Told.{Told}
+use Rattle.remote.specs.declared.heading.Said.{Said}
 use Rattle.remote.specs.Fields.{Says}
-use Rattle.remote.specs.Answers.{HasHead, IsInput, IsFront, IsAnswer}
+use Rattle.remote.specs.Answers.{most_head, most_fields, HasHead, IsInput, IsFront, IsAnswer}
 use Rattle.remote.proofs.Filling.{more_input}
 
 -- the head that the spans cover is one of an input that begins with those bytes
-head_within : (got more : List ℕ) (fields : List HeaderSpan) (spans : ResponseSpans) (h : ResponseHead) → length got ≤ 8192 → length fields ≤ 32
+head_within : (got more : List ℕ) (fields : List HeaderSpan) (spans : ResponseSpans) (h : ResponseHead) → length got ≤ most_head → length fields ≤ most_fields
     → IsResponseWithin got fields spans → IsResponseAt got fields spans h → HasHead (got ++ more) h (drop spans.len got ++ more)
 head_within got more fields spans h room many within at =
     let fits = within.section.len_fits in
@@ -32,13 +32,13 @@ head_within got more fields spans h room many within at =
 tail_is : (bs : List ℕ) (at : ℕ) → take (length bs - at) (drop at bs) ≡ drop at bs
 tail_is bs at = rw (sym (length-drop at bs)) (take-length (drop at bs))
 
-pub answer_is : (old new : Option (List ℕ)) (got : List ℕ) (fields : List HeaderSpan) (spans : ResponseSpans) (h : ResponseHead) (told : Told) (body : Vec ℕ Global)
-    → length got ≤ 8192 → length fields ≤ 32 → IsResponseWithin got fields spans → IsResponseAt got fields spans h → Consumes old new got
-    → Says (map (header_bytes got) (take spans.headers fields)) told
-    → (input : List ℕ) × IsInput new input × IsFront body.items told.size (take (length got - spans.len) (drop spans.len got) ++ input)
-    → IsAnswer old (record { status = spans.code; is_interchange = told.is_interchange; body = body })
-answer_is old new got fields spans h told body room many within at bytes says front =
-    let says : Says (map name_and_value h.fields) told = subst (λ (fields : List (List ℕ × List ℕ)). Says fields told) at.fields says in
+pub answer_is : (old new : Option (List ℕ)) (got : List ℕ) (fields : List HeaderSpan) (spans : ResponseSpans) (h : ResponseHead) (said : Said) (body : Vec ℕ Global)
+    → length got ≤ most_head → length fields ≤ most_fields → IsResponseWithin got fields spans → IsResponseAt got fields spans h → Consumes old new got
+    → Says (map (header_bytes got) (take spans.headers fields)) said
+    → (input : List ℕ) × IsInput new input × IsFront body.items said.size (take (length got - spans.len) (drop spans.len got) ++ input)
+    → IsAnswer old (record { status = spans.code; is_interchange = said.is_interchange; body = body })
+answer_is old new got fields spans h said body room many within at bytes says front =
+    let says : Says (map name_and_value h.fields) said = subst (λ (fields : List (List ℕ × List ℕ)). Says fields said) at.fields says in
     record {
       input = got ++ front.0;
       is_input = more_input old new got front.0 bytes front.1;
@@ -49,8 +49,8 @@ answer_is old new got fields spans h told body room many within at bytes says fr
       kind = says.kind;
       body = record {
         whole = says.whole;
-        size = told.size;
+        size = said.size;
         length = says.length;
-        front = subst (λ (l : List ℕ). IsFront body.items told.size (l ++ front.0)) (tail_is got spans.len) front.2;
+        front = subst (λ (l : List ℕ). IsFront body.items said.size (l ++ front.0)) (tail_is got spans.len) front.2;
       };
     }

@@ -2,12 +2,12 @@
 use Rattle.std.proofs.Common.{◌≡◌, ℕ, List, Option, Some, None, ◌∙◌, sym, subst, ap, take, codes}
 use Rattle.httparse.specs.Grammar.{ResponseHead, ReadsResponse, status_code}
 use Rattle.httparse.proofs.GrammarLemmas.{response_unique}
-use Rattle.remote.specs.declared.answers.Answer.{Answer}
+use Rattle.remote.specs.declared.answers.ServerAnswer.{ServerAnswer}
 use Rattle.remote.specs.Fields.{stated, is_x12}
 use Rattle.remote.specs.Answers.{IsAnswer, IsSame, HasBody}
 
 -- what is read from what a reader has is read from some input
-pub of_some_input : (known : Option (List ℕ)) (a : Answer) → IsAnswer known a → IsAnswer None a
+pub of_some_input : (known : Option (List ℕ)) (a : ServerAnswer) → IsAnswer known a → IsAnswer None a
 of_some_input known a p = record {
   input = p.input;
   is_input = tt;
@@ -27,7 +27,7 @@ one_body h rest a b p q =
     let size : p.size ≡ q.size = same_size p.size q.size _ p.length q.length in
     p.front.1 ∙ ap (λ n. take n rest) size ∙ sym q.front.1
 
-pub one_answer : (input : List ℕ) (a b : Answer) → IsAnswer (Some input) a → IsAnswer (Some input) b → IsSame a b
+pub one_answer : (input : List ℕ) (a b : ServerAnswer) → IsAnswer (Some input) a → IsAnswer (Some input) b → IsSame a b
 one_answer input a b p q =
     let first : ReadsResponse input p.head p.rest = subst (λ (l : List ℕ). ReadsResponse l p.head p.rest) p.is_input p.begins.reads in
     let second : ReadsResponse input q.head q.rest = subst (λ (l : List ℕ). ReadsResponse l q.head q.rest) q.is_input q.begins.reads in

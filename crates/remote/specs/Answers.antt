@@ -2,7 +2,15 @@
 use Rattle.std.specs.Prelude.{◌≡◌, ℕ, ◌≤◌, List, [], Option, Some, IfSome, length, take, codes}
 use Rattle.httparse.specs.Grammar.{ResponseHead, ReadsResponse, print_response, status_code}
 use Rattle.remote.specs.Fields.{stated, is_x12, body_length}
-use Rattle.remote.specs.declared.answers.Answer.{Answer}
+use Rattle.remote.specs.declared.answers.ServerAnswer.{ServerAnswer}
+use Rattle.remote.specs.declared.reading.TheConstants.{MOST_HEAD, MOST_FIELDS}
+
+-- the room for a head: bytes, and fields
+abbrev pub most_head : ℕ
+most_head = MOST_HEAD
+
+abbrev pub most_fields : ℕ
+most_fields = MOST_FIELDS
 
 -- the input is what the reader has, where that is known
 abbrev pub IsInput : Option (List ℕ) → List ℕ → Type 0
@@ -11,8 +19,8 @@ IsInput known input = IfSome known (λ bytes. input ≡ bytes)
 -- the input begins with that head, within the room, and then has rest
 pub record HasHead (input : List ℕ) (h : ResponseHead) (rest : List ℕ) : Type 0 where
   pub reads : ReadsResponse input h rest
-  pub size : length (print_response h) ≤ 8192
-  pub fields : length h.fields ≤ 32
+  pub size : length (print_response h) ≤ most_head
+  pub fields : length h.fields ≤ most_fields
 
 -- that many bytes, the first of these
 abbrev pub IsFront : List ℕ → ℕ → List ℕ → Type 0
@@ -26,7 +34,7 @@ pub record HasBody (h : ResponseHead) (rest body : List ℕ) : Type 0 where
   pub front : IsFront body size rest
 
 -- what a reader has begins with a head and its body, and the answer is what they say
-pub record IsAnswer (known : Option (List ℕ)) (a : Answer) : Type 0 where
+pub record IsAnswer (known : Option (List ℕ)) (a : ServerAnswer) : Type 0 where
   pub input : List ℕ
   pub is_input : IsInput known input
   pub head : ResponseHead
@@ -37,7 +45,7 @@ pub record IsAnswer (known : Option (List ℕ)) (a : Answer) : Type 0 where
   pub body : HasBody head rest a.body.items
 
 -- both say the same
-pub record IsSame (a b : Answer) : Type 0 where
+pub record IsSame (a b : ServerAnswer) : Type 0 where
   pub status : a.status ≡ b.status
   pub kind : a.is_interchange ≡ b.is_interchange
   pub body : a.body.items ≡ b.body.items

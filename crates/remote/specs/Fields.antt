@@ -4,7 +4,8 @@ use Rattle.httparse.specs.Grammar.{ResponseHead}
 use Rattle.httparse.specs.Spans.{name_and_value}
 use Rattle.fields.specs.Fields.{values}
 use Rattle.profile.specs.Bytes.{is_number, value}
-use Rattle.remote.specs.declared.heading.Told.{Told}
+use Rattle.remote.specs.declared.heading.TheConstants.{MOST_BODY}
+use Rattle.remote.specs.declared.heading.Said.{Said}
 
 -- the values of the fields of this name in a head
 abbrev pub stated : List ℕ → ResponseHead → List (List ℕ)
@@ -12,7 +13,7 @@ stated name h = values name (map name_and_value h.fields)
 
 -- the largest body that is read
 abbrev pub most_body : ℕ
-most_body = 16777216
+most_body = MOST_BODY
 
 -- the length of a body by the values of Content-Length, 0 where there are none, as in a 204; none
 -- where there are several, or one that isn't digits, or one that is too large
@@ -29,7 +30,7 @@ is_x12 (text ∷ []) = bytes_eq text (codes "application/EDI-X12")
 is_x12 (text ∷ other ∷ more) = false
 
 -- what these fields say of a body, which is in one piece
-pub record Says (fields : List (List ℕ × List ℕ)) (told : Told) : Type 0 where
+pub record Says (fields : List (List ℕ × List ℕ)) (said : Said) : Type 0 where
   pub whole : values (codes "Transfer-Encoding") fields ≡ []
-  pub length : body_length (values (codes "Content-Length") fields) ≡ Some told.size
-  pub kind : told.is_interchange ≡ is_x12 (values (codes "Content-Type") fields)
+  pub length : body_length (values (codes "Content-Length") fields) ≡ Some said.size
+  pub kind : said.is_interchange ≡ is_x12 (values (codes "Content-Type") fields)

@@ -1,15 +1,16 @@
+//! A response read: what a server answered.
 ghost use Rattle.std.specs.Prelude.{IfOk};
 ghost use Rattle.remote.specs.Answers.{IsAnswer};
 
-use crate::heading::told_of;
-use crate::reading::{read_body, read_head};
+use crate::heading::said_of;
+use crate::reading::{MOST_FIELDS, MOST_HEAD, read_body, read_head};
 use httparse::spans::EMPTY_HEADER_SPAN;
 use std::alloc::Global;
 use std::io::Read;
 
 /// What a server answered.
 #[derive(Drop)]
-pub struct Answer {
+pub struct ServerAnswer {
     /// The status, as 200 (RFC 9110, 15).
     pub status: u16,
     /// Whether the body's type is `application/EDI-X12` (RFC 1767).
@@ -31,18 +32,18 @@ pub enum Unanswered {
 /// 32 fields, where the body is in chunks, is cut off, or states more than one length, one that
 /// isn't digits, or one above 16,777,216; OutOfMemory where there is no memory for a body of its
 /// length.
-pub fn read_answer<R: Read>(alloc: Global, reader: &mut R) -> Result<Answer, Unanswered>
+pub fn read_answer<R: Read>(alloc: Global, reader: &mut R) -> Result<ServerAnswer, Unanswered>
     ensures { IfOk result (IsAnswer (R.remaining reader.old)) }
 {
-    let mut buf = [0u8; 8192];
-    let mut fields = [EMPTY_HEADER_SPAN; 32];
+    let mut buf = [0u8; MOST_HEAD];
+    let mut fields = [EMPTY_HEADER_SPAN; MOST_FIELDS];
     let begun = read_head(reader, &mut buf, &mut fields)?;
     let got = &buf[..begun.filled];
-    let told = told_of(got, &fields[..begun.spans.headers])?;
-    let body = read_body(alloc, reader, &got[begun.spans.len..], told.size)?;
-    Ok(Answer {
+    let said = said_of(got, &fields[..begun.spans.headers])?;
+    let body = read_body(alloc, reader, &got[begun.spans.len..], said.size)?;
+    Ok(ServerAnswer {
         status: begun.spans.code,
-        is_interchange: told.is_interchange,
+        is_interchange: said.is_interchange,
         body,
     })
 }

@@ -1,7 +1,7 @@
 ghost use Rattle.std.specs.Prelude.{IfOk, None};
 ghost use Rattle.remote.specs.Answers.{IsAnswer};
 
-use crate::answers::{Answer, Unanswered, read_answer};
+use crate::answers::{ServerAnswer, Unanswered, read_answer};
 use crate::requests::{Request, write_request};
 use std::io;
 use std::net::{Net, OpenStream, SocketAddr, TcpStream};
@@ -26,7 +26,7 @@ pub fn call<N: Net + AllocGlobal>(
     server: &SocketAddr,
     request: &Request<'_>,
     patience: Duration,
-) -> Result<Answer, Unanswered>
+) -> Result<ServerAnswer, Unanswered>
     ensures { IfOk result (IsAnswer None) }
 {
     let alloc = rt.alloc();

@@ -1,3 +1,4 @@
+//! What the head of a response says of its body.
 ghost use Rattle.std.specs.Prelude.{◌≡◌, ℕ, List, [], ◌∷◌, length, map, All, IfOk};
 ghost use Rattle.httparse.specs.Spans.{IsHeaderWithin, header_bytes};
 ghost use Rattle.fields.specs.Fields.{IsValues};
@@ -8,8 +9,8 @@ use fields::{Values, values_of};
 use httparse::spans::HeaderSpan;
 use segments::{all_digits, value_up_to};
 
-// The largest body that is read.
-const MOST_BODY: u64 = 16_777_216;
+/// The largest body that is read, in bytes.
+pub(crate) const MOST_BODY: u64 = 16_777_216;
 
 // The length that a text states, if it is one that is read.
 fn length_value(text: &[u8]) -> Option<usize>
@@ -48,7 +49,7 @@ fn is_x12_type(values: &Values<'_>) -> bool
 
 /// What the fields of a head say of its body.
 #[derive(Clone, Copy)]
-pub(crate) struct Told {
+pub(crate) struct Said {
     /// Whether its type is the one of interchanges.
     pub is_interchange: bool,
     /// How many bytes it has.
@@ -57,7 +58,7 @@ pub(crate) struct Told {
 
 /// What these fields say, or Device where the body is in chunks, or its length isn't one that is
 /// read.
-pub(crate) fn told_of(buf: &[u8], fields: &[HeaderSpan]) -> Result<Told, Unanswered>
+pub(crate) fn said_of(buf: &[u8], fields: &[HeaderSpan]) -> Result<Said, Unanswered>
     requires { All (IsHeaderWithin (length buf.now)) fields.now }
     ensures { IfOk result (Says (map (header_bytes buf.now) fields.now)) }
 {
@@ -65,7 +66,7 @@ pub(crate) fn told_of(buf: &[u8], fields: &[HeaderSpan]) -> Result<Told, Unanswe
         return Err(Unanswered::Device);
     };
     match length_of(&values_of(buf, fields, b"Content-Length")) {
-        Some(size) => Ok(Told {
+        Some(size) => Ok(Said {
             is_interchange: is_x12_type(&values_of(buf, fields, b"Content-Type")),
             size,
         }),

@@ -3,11 +3,11 @@ ghost use Rattle.std.specs.Prelude.{ℕ, ◌<◌, ◌^◌, List, Some, length, I
 ghost use Rattle.remote.specs.Answers.{IsAnswer, IsSame};
 ghost use Rattle.remote.specs.ReadBack.{IsVisible, IsReadBack};
 ghost use Rattle.remote.specs.declared.requests.Verb.{Verb};
-ghost use Rattle.remote.specs.declared.answers.Answer.{Answer};
+ghost use Rattle.remote.specs.declared.answers.ServerAnswer.{ServerAnswer};
 
 /// An input has one answer: no two readings of it differ in what they say.
-pub fn an_input_has_one_answer()
-    ensures { (input : List ℕ) (a b : Answer) → IsAnswer (Some input) a → IsAnswer (Some input) b
+pub fn an_input_is_read_as_one_answer()
+    ensures { (input : List ℕ) (a b : ServerAnswer) → IsAnswer (Some input) a → IsAnswer (Some input) b
         → IsSame a b }
 {}
 

@@ -9,7 +9,7 @@ mod paths;
 mod reading;
 mod requests;
 
-pub use answers::{Answer, Unanswered, read_answer};
+pub use answers::{ServerAnswer, Unanswered, read_answer};
 pub use calling::call;
 pub use paths::path_of;
 pub use requests::{Request, Verb, write_request};

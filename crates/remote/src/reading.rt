@@ -1,7 +1,8 @@
+//! The bytes of a response, read: its head, and its body.
 ghost use Rattle.std.specs.Prelude.{◌≡◌, ℕ, ◌+◌, ◌<◌, ◌≤◌, ◌++◌, List, length, take, drop, OnOk, IfOk};
 ghost use Rattle.std.specs.Io.KnownBytes.{Consumes};
 ghost use Rattle.httparse.specs.Spans.{IsResponseWithin, IsResponseOf};
-ghost use Rattle.remote.specs.Answers.{IsInput, IsFront};
+ghost use Rattle.remote.specs.Answers.{IsInput, IsFront, most_head, most_fields};
 
 use crate::answers::Unanswered;
 use httparse::Status;
@@ -11,6 +12,12 @@ use std::io::{ErrorKind, Read};
 
 // How often a read is begun that is interrupted, as it is where a command is stopped and goes on.
 const TRIES: u8 = 100;
+
+/// The most bytes of a response's head that are read.
+pub(crate) const MOST_HEAD: usize = 8_192;
+
+/// The most fields of a response's head that are read.
+pub(crate) const MOST_FIELDS: usize = 32;
 
 // One read, begun again where it is interrupted.
 fn read_some<R: Read>(reader: &mut R, buf: &mut [u8]) -> Result<usize, Unanswered>
@@ -48,15 +55,15 @@ pub(crate) struct Beginning {
     pub spans: ResponseSpans,
 }
 
-/// Reads the head of a response, of at most 8,192 bytes and 32 fields, with perhaps some of what is
-/// after it. Device where the reader fails, or begins with no such head.
+/// Reads the head of a response, of at most `MOST_HEAD` bytes and `MOST_FIELDS` fields, with perhaps
+/// some of what is after it. Device where the reader fails, or begins with no such head.
 pub(crate) fn read_head<R: Read>(
     reader: &mut R,
     buf: &mut [u8],
     fields: &mut [HeaderSpan],
 ) -> Result<Beginning, Unanswered>
-    requires room { length buf.old ≡ 8192 }
-    requires fields { length fields.old ≡ 32 }
+    requires room { length buf.old ≡ most_head }
+    requires fields { length fields.old ≡ most_fields }
     ensures within { IfOk result (λ read. read.filled ≤ length buf.new) }
     ensures bytes { IfOk result
         (λ read. Consumes (R.remaining reader.old) (R.remaining reader.new) (take read.filled buf.new)) }

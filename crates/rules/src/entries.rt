@@ -82,11 +82,11 @@ impl Entry {
         self.who.is(who)
     }
 
-    /// Whether the entry is the depositor's and has the key.
-    pub fn is_under(&self, who: &Who, key: &[u8]) -> bool
-        ensures { result ≡ (who_eq self.now.who who.now && bytes_eq self.now.key key.now) }
+    /// Whether the entry is the depositor's and stands under the mark.
+    pub fn is_under(&self, who: &Who, mark: &[u8]) -> bool
+        ensures { result ≡ (who_eq self.now.who who.now && bytes_eq self.now.key mark.now) }
     {
-        self.who.is(who) && self.key.as_slice() == key
+        self.who.is(who) && self.key.as_slice() == mark
     }
 
     /// Whether the entry is one that counts: any but an enrolment.

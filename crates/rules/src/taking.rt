@@ -35,16 +35,6 @@ struct TakenSets<'a> {
     told: Vec<ToldSet<'a>>,
 }
 
-// An element of the ST of a set.
-fn head_element<'a>(set: &Set<'a>, n: usize) -> &'a [u8]
-    ensures { result.now ≡ element (meant.head_of set.now.set) n }
-{
-    match set.segments().first() {
-        Some(first) => first.element(n),
-        None => &[],
-    }
-}
-
 // What is told of a set.
 fn told<'a>(set: &Set<'a>, rejection: Option<Rejection<'a>>) -> ToldSet<'a>
     ensures { result ≡ record {
@@ -54,8 +44,8 @@ fn told<'a>(set: &Set<'a>, rejection: Option<Rejection<'a>>) -> ToldSet<'a>
     } }
 {
     ToldSet {
-        number: head_element(set, 1),
-        control: head_element(set, 2),
+        number: set.head_element(1),
+        control: set.head_element(2),
         rejection,
     }
 }

@@ -78,7 +78,7 @@ impl Order {
     }
 
     /// The sum of the quantities as the set states it (W76, element 1), right or wrong.
-    pub fn total(&self) -> u32
+    pub fn stated_total(&self) -> u32
         ensures { result ≡ self.now.total }
     {
         self.total

@@ -134,7 +134,7 @@ pub(crate) fn advice_fault(
     if let Some(fault) = pair_fault(alloc, advice, rows)? {
         return Ok(Some(fault));
     }
-    if advice_total(lines) != u64::from(advice.total()) {
+    if advice_total(lines) != u64::from(advice.stated_total()) {
         return Ok(Some(trade_fault(b"W03", advice.total_position(), 1)));
     }
     Ok(None)
@@ -185,7 +185,7 @@ pub(crate) fn order_fault(
     if let Some(position) = repeated_item(alloc, lines)? {
         return Ok(Some(trade_fault(b"W01", position, 5)));
     }
-    if order_total(lines) != u64::from(order.total()) {
+    if order_total(lines) != u64::from(order.stated_total()) {
         return Ok(Some(trade_fault(b"W76", order.total_position(), 1)));
     }
     Ok(None)

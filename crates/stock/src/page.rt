@@ -79,13 +79,6 @@ impl Page {
         self.entries + 1
     }
 
-    /// How many events there have been since the last entry, at most 1,000.
-    pub fn recent(&self) -> u32
-        ensures { result ≡ self.now.recent }
-    {
-        self.recent
-    }
-
     /// Its rows, one for each pair that an advice or a count named, by item and then lot bytes. On
     /// every page nothing is below 0, and no more is reserved of a pair than is on hand.
     pub fn rows(&self) -> &[Row]

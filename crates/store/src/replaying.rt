@@ -52,18 +52,6 @@ impl ReplayBook {
             entries: Vec::new(alloc),
         }
     }
-
-    /// A book that keeps these entries, in their order.
-    pub fn of(alloc: Global, warehouse: Warehouse, entries: Vec<Entry>) -> ReplayBook
-        ensures warehouse { result.warehouse ≡ warehouse }
-        ensures entries { result.entries ≡ entries.items }
-    {
-        ReplayBook {
-            alloc,
-            warehouse,
-            entries,
-        }
-    }
 }
 
 // The page of a depositor with one entry of the register more; another depositor's adds nothing.
@@ -148,35 +136,35 @@ pub(crate) fn outgoing_later(
     Ok(replay(alloc, warehouse, page, entry)?.outgoing)
 }
 
-// The place of a depositor's first entry under a key.
-fn place_of(entries: &[Entry], who: &Who, key: &[u8]) -> Option<usize>
-    ensures { MatchOption result (find (is_under who.now key.now) entries.now ≡ None)
-        (λ i. IsAt (is_under who.now key.now) entries.now i) }
+// The place of a depositor's first entry under a mark.
+fn place_of(entries: &[Entry], who: &Who, mark: &[u8]) -> Option<usize>
+    ensures { MatchOption result (find (is_under who.now mark.now) entries.now ≡ None)
+        (λ i. IsAt (is_under who.now mark.now) entries.now i) }
 {
     for (i, entry) in entries.iter().enumerate() {
-        if entry.is_under(who, key) {
+        if entry.is_under(who, mark) {
             return Some(i);
         }
     }
     None
 }
 
-// A depositor's first entry under a key, with the text that went out for it.
+// A depositor's first entry under a mark, with the text that went out for it.
 fn recalled(
     alloc: Global,
     warehouse: &Warehouse,
     entries: &[Entry],
     who: &Who,
-    key: &[u8],
+    mark: &[u8],
 ) -> Result<Option<Known>, AllocError>
     ensures known { (L : List register.Entry) → entries.now ≡ all_written L
         → IsLegal Two warehouse.now L
         → IfOk result (λ known. IsRecalled known
-        (recalled warehouse.now key.now (register.own L who.now))) }
+        (recalled warehouse.now mark.now (register.own L who.now))) }
     ensures recorded { IfOk result (λ known. option_map
-        (λ k. k.entry) known ≡ find (is_under who.now key.now) entries.now) }
+        (λ k. k.entry) known ≡ find (is_under who.now mark.now) entries.now) }
 {
-    let Some(i) = place_of(entries, who, key) else {
+    let Some(i) = place_of(entries, who, mark) else {
         return Ok(None);
     };
     let entry = entries[i].copy()?;
@@ -258,8 +246,8 @@ impl Keeper for ReplayBook {
     }
 
     fn known(&mut self, who: Who, key: &Key<'_>) -> Result<Option<Known>, Fault> {
-        let key = key.text(self.alloc)?;
-        Ok(recalled(self.alloc, &self.warehouse, &self.entries, &who, &key)?)
+        let mark = key.text(self.alloc)?;
+        Ok(recalled(self.alloc, &self.warehouse, &self.entries, &who, &mark)?)
     }
 
     fn commit(

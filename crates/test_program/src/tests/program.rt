@@ -89,6 +89,11 @@ impl Ran {
     }
 }
 
+// Whether the file holds this text.
+fn holds(rt: &HostRuntime, file: &str, text: &str) -> Result<bool, Fail> {
+    Ok(fs::read(rt, file)?.as_slice() == text.as_bytes())
+}
+
 // Runs a line of words.
 fn run(rt: &HostRuntime, words: &[&str]) -> Result<Ran, Fail> {
     let mut out = Vec::new(rt.alloc());

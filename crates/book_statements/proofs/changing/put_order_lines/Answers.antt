@@ -27,8 +27,8 @@ loop-line-preserved g c =
       wrote = wrote_on _ _ _ _ _ _ _ _ was.wrote c.in_ok-put_order_line.ensures.wrote (λ led put last rest.
           let number : c.in-Some.next ≡ c.loop-line.line-index + 1 = search rules in
           let element : c.line-item.result ≡ get_or c.deref-line-items.result.now c.loop-line.line-index c.line-item.result = search rules in
-          let one = subst (λ (p : ℕ × PageLine). Leads (order_line_change c.args.who.now c.as_slice-key.result.now p ∷ []) (state g.S.Store c.loop-line.tx.conn.now).now (state g.S.Store c.put_order_line.new.tx.conn.now).now) (λ i. (number i, element i)) put in
-          led last (left_on (order_line_change c.args.who.now c.as_slice-key.result.now) c.deref-line-items.result.now c.loop-line.line-index c.line-item.result _ _ last c.loop-line-test.true one rest));
+          let one = subst (λ (p : ℕ × PageLine). Leads (order_line_change c.args.who.now c.as_slice-number.result.now p ∷ []) (state g.S.Store c.loop-line.tx.conn.now).now (state g.S.Store c.put_order_line.new.tx.conn.now).now) (λ i. (number i, element i)) put in
+          led last (left_on (order_line_change c.args.who.now c.as_slice-number.result.now) c.deref-line-items.result.now c.loop-line.line-index c.line-item.result _ _ last c.loop-line-test.true one rest));
     }
 
 pub returns-in_default-clause-wrote : goal.returns-in_default-clause-wrote
@@ -44,6 +44,6 @@ returns-in_err-put_order_line-clause-wrote g c =
 pub returns-clause-wrote : goal.returns-clause-wrote
 returns-clause-wrote g c =
     let here = (state g.S.Store c.loop-line.tx.conn.now).now in
-    let shown = (λ i. map (order_line_change c.args.who.now ((c.as_slice-key.ensures.value ∙ ap (λ (k : PageOrder). k.number) c.order.view_is) i)) (enumerate_from 1 ((c.deref-line-items.ensures.value ∙ ap (λ (k : PageOrder). k.lines) c.order.view_is) i))) ∙ sym (order_lines_are c.args.who.now c.args.order.now) in
+    let shown = (λ i. map (order_line_change c.args.who.now ((c.as_slice-number.ensures.value ∙ ap (λ (k : PageOrder). k.number) c.order.view_is) i)) (enumerate_from 1 ((c.deref-line-items.ensures.value ∙ ap (λ (k : PageOrder). k.lines) c.order.view_is) i))) ∙ sym (order_lines_are c.args.who.now c.args.order.now) in
     wrote_as _ _ _ _ _ c.loop-line.invariant.wrote (λ led. subst (λ cs. Leads cs (state g.S.Store c.args.tx.now.conn.now).now here) shown
-    (led here (left_none (order_line_change c.args.who.now c.as_slice-key.result.now) c.deref-line-items.result.now c.loop-line.line-index (c.loop-line.line-index + 1) here (omega (arith, c.loop-line-test.false)))))
+    (led here (left_none (order_line_change c.args.who.now c.as_slice-number.result.now) c.deref-line-items.result.now c.loop-line.line-index (c.loop-line.line-index + 1) here (omega (arith, c.loop-line-test.false)))))

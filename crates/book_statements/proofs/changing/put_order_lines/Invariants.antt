@@ -13,7 +13,7 @@ invariant-loop-line g l = record {
   same : l.tx.conn.ghost_name ≡ l.fn.tx.conn.ghost_name;
   number : l.n ≡ l.line-index;
   wrote : WroteSoFar
-      ((last : Database) → Leads (map (order_line_change l.who l.key) (enumerate_from (l.line-index + 1) (drop l.line-index l.line-items))) (state g.S.Store l.tx.conn.now).now last
-      → Leads (map (order_line_change l.who l.key) (enumerate_from 1 l.line-items)) (state g.S.Store l.fn.tx.conn.now).now last)
+      ((last : Database) → Leads (map (order_line_change l.who l.number) (enumerate_from (l.line-index + 1) (drop l.line-index l.line-items))) (state g.S.Store l.tx.conn.now).now last
+      → Leads (map (order_line_change l.who l.number) (enumerate_from 1 l.line-items)) (state g.S.Store l.fn.tx.conn.now).now last)
       (state g.S.Store l.fn.tx.conn.now) (state g.S.Store l.tx.conn.now) l.fn.calls l.calls;
 }

@@ -11,7 +11,7 @@ abbrev pub invariant-loop-line : goal.invariant-loop-line
 invariant-loop-line g l = record {
   same : l.tx.conn.ghost_name ≡ l.fn.tx.conn.ghost_name;
   wrote : WroteSoFar
-      ((last : Database) → Leads (map (reservation_change l.who l.key) (drop l.line-index l.line-items)) (state g.S.Store l.tx.conn.now).now last
-      → Leads (map (reservation_change l.who l.key) l.line-items) (state g.S.Store l.fn.tx.conn.now).now last)
+      ((last : Database) → Leads (map (reservation_change l.who l.number) (drop l.line-index l.line-items)) (state g.S.Store l.tx.conn.now).now last
+      → Leads (map (reservation_change l.who l.number) l.line-items) (state g.S.Store l.fn.tx.conn.now).now last)
       (state g.S.Store l.fn.tx.conn.now) (state g.S.Store l.tx.conn.now) l.fn.calls l.calls;
 }

@@ -13,7 +13,7 @@ returns-then-answer-ne404-clause-halted g c =
 -- a server that shows the stock, but not as CSV, is one without clerks
 pub returns-then-stock-eq200-clause-halted : goal.returns-then-stock-eq200-clause-halted
 returns-then-stock-eq200-clause-halted g c =
-    halted_by _ _ c.about_stop.result c.in_ok-stock.stock _ c.in_ok-stock.ensures.brought (inr (inl refl)) (rw c.in_ok-stock.ensures.heard (inr c.about_stop.ensures))
+    halted_by _ _ c.about_server_stop.result c.in_ok-stock.stock _ c.in_ok-stock.ensures.brought (inr (inl refl)) (rw c.in_ok-stock.ensures.heard (inr c.about_server_stop.ensures))
 
 pub returns-clause-told : goal.returns-clause-told
 returns-clause-told g c =

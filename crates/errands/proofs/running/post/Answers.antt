@@ -1,12 +1,12 @@
 use Rattle.std.proofs.Common.{inl, refl, rules}
 use Rattle.std.proofs.lemmas.Result.{IfOk-weaker, IfErr-weaker}
 use Rattle.errands.proofs.HaltLaws.{halted_by}
-use Rattle.errands.specs.declared.answers.Answered.TheVariants.{Stopped}
+use Rattle.errands.specs.declared.answers.HeardAs.TheVariants.{Stopped}
 use Rattle.errands.proofs.running.post.Goals as goal
 
 pub returns-in-Stopped-clause-halted : goal.returns-in-Stopped-clause-halted
 returns-in-Stopped-clause-halted g c =
-    halted_by _ _ c.about_stop.result c.in_ok-answer.answer (Stopped c.in-Stopped.fault) c.in_ok-answer.ensures.brought (inl (search rules)) c.about_stop.ensures
+    halted_by _ _ c.about_server_stop.result c.in_ok-answer.answer (Stopped c.in-Stopped.fault) c.in_ok-answer.ensures.brought (inl (search rules)) c.about_server_stop.ensures
 
 pub returns-clause-told : goal.returns-clause-told
 returns-clause-told g c = IfOk-weaker c.tell_document.result _ _ (λ status told. (c.in_ok-answer.answer, c.in_ok-answer.ensures.brought, told)) c.tell_document.ensures.told

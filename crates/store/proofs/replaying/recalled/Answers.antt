@@ -11,7 +11,7 @@ use Rattle.store.proofs.replaying.recalled.Goals as goal
 
 pub returns-in_default-clause-known : goal.returns-in_default-clause-known
 returns-in_default-clause-known c = λ L is legal.
-    subst (IsRecalled None) (sym (recalled_none c.args.warehouse.now c.args.who.now c.args.key.now L c.args.entries.now is c.in_default.ensures)) tt
+    subst (IsRecalled None) (sym (recalled_none c.args.warehouse.now c.args.who.now c.args.mark.now L c.args.entries.now is c.in_default.ensures)) tt
 
 pub returns-in_default-clause-recorded : goal.returns-in_default-clause-recorded
 returns-in_default-clause-recorded c = sym c.in_default.ensures
@@ -20,7 +20,7 @@ pub returns-clause-known : goal.returns-clause-known
 returns-clause-known c = λ L is legal.
     let W = c.args.warehouse.now in
     let who = c.args.who.now in
-    let key = c.args.key.now in
+    let key = c.args.mark.now in
     let i = c.in-Some.i in
     let w = c.index-entries-i.result in
     let at = c.in-Some.ensures in
@@ -34,4 +34,4 @@ returns-clause-known c = λ L is legal.
     is_recalled W L i w c.in_ok-entry.entry e c.in_ok-outgoing.outgoing.items _ t.1 c.in_ok-entry.ensures sent (recalled_at_place W who key L i w e t.1 first here)
 
 pub returns-clause-recorded : goal.returns-clause-recorded
-returns-clause-recorded c = ap Some c.in_ok-entry.ensures ∙ sym (find_at (is_under c.args.who.now c.args.key.now) c.args.entries.now c.in-Some.i c.index-entries-i.result c.in-Some.ensures c.index-entries-i.is)
+returns-clause-recorded c = ap Some c.in_ok-entry.ensures ∙ sym (find_at (is_under c.args.who.now c.args.mark.now) c.args.entries.now c.in-Some.i c.index-entries-i.result c.in-Some.ensures c.index-entries-i.is)

@@ -9,7 +9,7 @@ use errands::{
     tell_report,
 };
 use intake::{Audience, Gauge, serve_telling};
-use remote::{Answer, Request, Unanswered, read_answer, write_request};
+use remote::{Request, ServerAnswer, Unanswered, read_answer, write_request};
 use std::alloc::Global;
 use std::io::Write;
 use std::net::{Ipv4Addr, SocketAddr, SocketAddrV4};
@@ -40,7 +40,7 @@ impl<K: Keeper> InMemory<'_, K> {
 }
 
 impl<K: Keeper> Courier for InMemory<'_, K> {
-    fn carry(&mut self, request: &Request<'_>) -> Result<Answer, Unanswered> {
+    fn carry(&mut self, request: &Request<'_>) -> Result<ServerAnswer, Unanswered> {
         let mut bytes = Vec::new(self.alloc);
         if write_request(&mut bytes, "127.0.0.1:8080", request).is_err() {
             return Err(Unanswered::OutOfMemory);
@@ -166,7 +166,7 @@ pub(super) fn play_asked(
 }
 
 // The answer that a response is.
-fn answer_of(rt: &HostRuntime, response: &str) -> Result<Answer, Fail> {
+fn answer_of(rt: &HostRuntime, response: &str) -> Result<ServerAnswer, Fail> {
     let mut bytes = response.as_bytes();
     match read_answer(rt.alloc(), &mut bytes) {
         Ok(answer) => Ok(answer),

@@ -42,11 +42,6 @@ fn fill(rt: &HostRuntime) -> Result<(), Fail> {
     Ok(())
 }
 
-// Whether the file holds this text.
-fn holds(rt: &HostRuntime, file: &str, text: &str) -> Result<bool, Fail> {
-    Ok(fs::read(rt, file)?.as_slice() == text.as_bytes())
-}
-
 // Whether the answers in the folder are right: each is the interchange that is answered, and what
 // can't be read has none.
 fn are_answered(rt: &HostRuntime) -> Result<bool, Fail> {
@@ -140,6 +135,15 @@ fn fill_oddly(rt: &HostRuntime) -> Result<(), Fail> {
     Ok(())
 }
 
+// Whether the answer of the first file is a file of its own, and nothing of an earlier stop is left.
+fn is_tidy(rt: &HostRuntime) -> Result<bool, Fail> {
+    Ok(
+        fs::symlink_metadata(rt, "inbox/a.x12.ans")?.is_file()
+            && !fs::exists(rt, "inbox/a.x12.new")?
+            && !fs::exists(rt, "inbox/b.x12.new")?,
+    )
+}
+
 // An answer is a file of its own: a link at its name is replaced and never followed, and what an
 // earlier stop left is removed. What is no file is passed over.
 #[test]
@@ -149,8 +153,7 @@ fn links_are_replaced(rt: HostRuntime) -> Result<(), Fail> {
     run_lines(&rt, "case.book", SCRIPT)?.compare("links", &WANTED)?;
     assert!(rt; are_answered(&rt)? && holds(&rt, "kept.txt", "kept")?);
     run_lines(&rt, "case.book", AGAIN)?.compare("passed over", &PASSED)?;
-    assert!(rt; fs::symlink_metadata(&rt, "inbox/a.x12.ans")?.is_file());
-    assert!(rt; !fs::exists(&rt, "inbox/a.x12.new")? && !fs::exists(&rt, "inbox/b.x12.new")?);
+    assert!(rt; is_tidy(&rt)?);
     Ok(())
 }
 

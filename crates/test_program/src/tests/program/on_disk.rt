@@ -131,23 +131,32 @@ fn play_unopened(rt: &HostRuntime, rows: &str) -> Result<(), Fail> {
     Ok(())
 }
 
+// Lays what the lines of UNOPENED name: files, sheets, and a database of another table.
+fn lay_unopened(rt: &HostRuntime) -> Result<(), Fail> {
+    remove_book(rt, "other.book", "other.book-wal")?;
+    remove_book(rt, "held.book", "held.book-wal")?;
+    fs::write(rt, "text.book", "no database")?;
+    for (name, sheet) in BAD_SHEETS {
+        fs::write(rt, name, sheet)?;
+    }
+    let note = "CREATE TABLE note (id INTEGER PRIMARY KEY) STRICT";
+    over_database(rt, "other.book", note, "")
+}
+
+// Whether there is no such book, nor its log.
+fn is_absent(rt: &HostRuntime, book: &str, log: &str) -> Result<bool, Fail> {
+    Ok(!fs::exists(rt, book)? && !fs::exists(rt, log)?)
+}
+
 // What can't be opened is a fault, and nothing is made or changed of it; words and files come
 // before the book.
 #[test]
 fn files_that_are_no_book_stay_as_they_are(rt: HostRuntime) -> Result<(), Fail> {
-    remove_book(&rt, "other.book", "other.book-wal")?;
-    remove_book(&rt, "held.book", "held.book-wal")?;
-    fs::write(&rt, "text.book", "no database")?;
-    for (name, sheet) in BAD_SHEETS {
-        fs::write(&rt, name, sheet)?;
-    }
-    let note = "CREATE TABLE note (id INTEGER PRIMARY KEY) STRICT";
-    over_database(&rt, "other.book", note, "")?;
+    lay_unopened(&rt)?;
     let other = fs::read(&rt, "other.book")?;
     over_database(&rt, "held.book", "", UNOPENED)?;
-    assert!(rt; fs::read(&rt, "other.book")? == other);
-    assert!(rt; !fs::exists(&rt, "nowhere.book")? && !fs::exists(&rt, "nowhere.book-wal")?);
-    assert!(rt; !fs::exists(&rt, "/proc/house.book")? && !fs::exists(&rt, "/proc/house.book-wal")?);
-    assert!(rt; fs::read(&rt, "text.book")?.as_slice() == b"no database".as_slice());
+    assert!(rt; fs::read(&rt, "other.book")? == other && holds(&rt, "text.book", "no database")?);
+    assert!(rt; is_absent(&rt, "nowhere.book", "nowhere.book-wal")?);
+    assert!(rt; is_absent(&rt, "/proc/house.book", "/proc/house.book-wal")?);
     Ok(())
 }

@@ -104,25 +104,113 @@ fn heard(rt: &HostRuntime, client: &mut TcpStream) -> Result<Vec<u8>, Fail> {
     Ok(whole)
 }
 
-// Whether a line says something.
-fn says(line: Option<&str>, what: &str) -> bool {
+// What comes of two requests.
+#[derive(Clone, Copy)]
+struct Two<'a> {
+    // whether the moments are the clock's
+    has_clock: bool,
+    // the statuses that are printed
+    printed: &'a [u8],
+    // what each line begins with
+    begins: &'a str,
+    // what the line of each says
+    says: (&'a str, &'a str),
+}
+
+// Whether a line begins so and says something.
+fn says(line: Option<&str>, begins: &str, what: &str) -> bool {
     match line {
-        Some(line) => line.contains(what),
+        Some(line) => line.starts_with(begins) && line.contains(what),
         None => false,
     }
 }
 
-// Whether a line tells of a connection of this machine at the moment, and of what it asked for and
-// was answered.
-fn tells(line: Option<&str>, what: &str) -> bool {
-    match line {
-        Some(line) => line.starts_with("2025-03-04T09:15 127.0.0.1:") && line.contains(what),
-        None => false,
+// Whether this is what comes of the two, and no more.
+fn is_told(told: &Told, two: &Two<'_>) -> bool {
+    let mut lines = told.err.lines();
+    told.out.as_slice() == two.printed
+        && says(lines.next(), two.begins, two.says.0)
+        && says(lines.next(), two.begins, two.says.1)
+        && lines.next().is_none()
+}
+
+// Serves two clients that wrote these requests before: what each is answered.
+fn two_answered<K: Keeper>(
+    rt: &HostRuntime,
+    listener: &TcpListener,
+    book: &mut K,
+    moment: Moment,
+    first: &[u8],
+    second: &[u8],
+    two: &Two<'_>,
+) -> Result<(Vec<u8>, Vec<u8>), Fail> {
+    let mut first = asked(rt, listener, first)?;
+    let mut second = asked(rt, listener, second)?;
+    let told = served(rt, listener, book, moment, two.has_clock, false)?;
+    if !is_told(&told, two) {
+        return Err(Fail::new(format_args!("told: {}", told.err)));
     }
+    Ok((heard(rt, &mut first)?, heard(rt, &mut second)?))
+}
+
+const STRANGER: &[u8] = b"GET /stock/ZZ-NONE HTTP/1.1\r\n\r\n";
+
+const WITHOUT_LENGTH: &[u8] = b"POST /x12 HTTP/1.1\r\n\r\n";
+
+const BY_THE_CLOCK: Two<'static> = Two {
+    has_clock: true,
+    printed: b"404\n411\n",
+    begins: "",
+    says: (" GET /stock/ZZ-NONE - 404 ", " POST /x12 - 411 "),
+};
+
+const POSTED: Two<'static> = Two {
+    has_clock: false,
+    printed: b"200\n409\n",
+    begins: "2025-03-04T09:15 127.0.0.1:",
+    says: (
+        " POST /x12 ZZ-ACME 200 359 bytes ",
+        " POST /x12 ZZ-ACME 409 254 bytes ",
+    ),
+};
+
+// Whether the advice, and another under its control number, are answered and told.
+fn are_posted<K: Keeper>(
+    rt: &HostRuntime,
+    listener: &TcpListener,
+    book: &mut K,
+    moment: Moment,
+) -> Result<bool, Fail> {
+    let advice = posted(rt, ADVICE)?;
+    let other = posted(rt, CHANGED)?;
+    let (answer, conflict) = two_answered(
+        rt,
+        listener,
+        book,
+        moment,
+        advice.as_bytes(),
+        other.as_bytes(),
+        &POSTED,
+    )?;
+    let response = format!(in rt.alloc(); "{HEAD}{}", ANSWER.trim_end())?;
+    Ok(answer.as_slice() == response.as_bytes() && conflict.as_slice() == CONFLICT)
 }
 
 const NOT_ACCEPTED: &str =
     "2025-03-04T09:15 - - - - 44 0 bytes\n2025-03-04T09:15 - - - - 44 0 bytes\n";
+
+// Whether two that couldn't be accepted, since no client waits, are told as 44.
+fn are_not_accepted<K: Keeper>(
+    rt: &HostRuntime,
+    listener: &TcpListener,
+    book: &mut K,
+    moment: Moment,
+) -> Result<bool, Fail> {
+    listener.set_nonblocking(true)?;
+    let told = served(rt, listener, book, moment, false, false)?;
+    let printed = b"fault 44 Device\nfault 44 Device\n".as_slice();
+    Ok(told.out.as_slice() == printed && told.err.as_str() == NOT_ACCEPTED)
+}
 
 // Clients that wrote before they are served, one after the other: two by the clock, and two at one
 // moment. Where no client waits an accept fails, which is told as 44 and counts as a connection.
@@ -131,28 +219,17 @@ fn each_connection_is_told(rt: HostRuntime) -> Result<(), Fail> {
     let moment = Moment::new(2025, 3, 4, 9, 15).ok_or("a moment")?;
     let mut book = enrolled(&rt, moment)?;
     let listener = TcpListener::bind(&rt, "127.0.0.1:0")?;
-    let _first = asked(&rt, &listener, b"GET /stock/ZZ-NONE HTTP/1.1\r\n\r\n")?;
-    let _second = asked(&rt, &listener, b"POST /x12 HTTP/1.1\r\n\r\n")?;
-    let told = served(&rt, &listener, &mut book, moment, true, false)?;
-    assert!(rt; told.out.as_slice() == b"404\n411\n".as_slice());
-    let mut lines = told.err.lines();
-    assert!(rt; says(lines.next(), " GET /stock/ZZ-NONE - 404 "));
-    assert!(rt; says(lines.next(), " POST /x12 - 411 ") && lines.next().is_none());
-    let (first, changed) = (posted(&rt, ADVICE)?, posted(&rt, CHANGED)?);
-    let response = format!(in rt.alloc(); "{HEAD}{}", ANSWER.trim_end())?;
-    let mut third = asked(&rt, &listener, first.as_bytes())?;
-    let mut fourth = asked(&rt, &listener, changed.as_bytes())?;
-    let told = served(&rt, &listener, &mut book, moment, false, false)?;
-    assert!(rt; told.out.as_slice() == b"200\n409\n".as_slice());
-    let mut lines = told.err.lines();
-    assert!(rt; tells(lines.next(), " POST /x12 ZZ-ACME 200 359 bytes "));
-    assert!(rt; tells(lines.next(), " POST /x12 ZZ-ACME 409 254 bytes ") && lines.next().is_none());
-    assert!(rt; heard(&rt, &mut third)?.as_slice() == response.as_bytes());
-    assert!(rt; heard(&rt, &mut fourth)?.as_slice() == CONFLICT);
-    listener.set_nonblocking(true)?;
-    let told = served(&rt, &listener, &mut book, moment, false, false)?;
-    assert!(rt; told.out.as_slice() == b"fault 44 Device\nfault 44 Device\n".as_slice());
-    assert!(rt; told.err.as_str() == NOT_ACCEPTED);
+    two_answered(
+        &rt,
+        &listener,
+        &mut book,
+        moment,
+        STRANGER,
+        WITHOUT_LENGTH,
+        &BY_THE_CLOCK,
+    )?;
+    assert!(rt; are_posted(&rt, &listener, &mut book, moment)?);
+    assert!(rt; are_not_accepted(&rt, &listener, &mut book, moment)?);
     Ok(())
 }
 

@@ -7,7 +7,7 @@ use Rattle.book_tables.proofs.connected.Tables.known_of.Goals as goal
 
 pub returns-in_default-clause-known : goal.returns-in_default-clause-known
 returns-in_default-clause-known g c = λ clean W L stands.
-    nothing_known W L c.args.who c.args.key.now (sym c.in_default.is ∙ c.in_ok-entry.ensures.entry clean W L stands)
+    nothing_known W L c.args.who c.args.mark.now (sym c.in_default.is ∙ c.in_ok-entry.ensures.entry clean W L stands)
 
 pub returns-in-Ok-clause-known : goal.returns-in-Ok-clause-known
 returns-in-Ok-clause-known g c = λ clean W L stands.
@@ -15,7 +15,7 @@ returns-in-Ok-clause-known g c = λ clean W L stands.
     let mid = state g.S.Store c.entry_under.new.self.conn in
     let new = state g.S.Store c.content_under.new.self.conn in
     let early = clean_before mid new c.content_under.ensures.asked.left clean in
-    let it = known_there W L c.args.who c.args.key.now c.in-Some.entry (sym (c.in_ok-entry.ensures.entry early W L stands) ∙ c.in-Some.is) in
+    let it = known_there W L c.args.who c.args.mark.now c.in-Some.entry (sym (c.in_ok-entry.ensures.entry early W L stands) ∙ c.in-Some.is) in
     it.recalls c.in-Ok.outgoing.items (c.in-Ok.ensures.content clean W L (stands_later old mid W L early c.entry_under.ensures.asked.left stands) it.before it.entry it.back it.split (c.number.ensures ∙ it.number))
 
 pub returns-in-Ok-clause-asked : goal.returns-in-Ok-clause-asked

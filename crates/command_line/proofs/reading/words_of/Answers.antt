@@ -1,5 +1,5 @@
 use Rattle.std.proofs.Common.{refl}
-use Rattle.command_line.proofs.reading.told_of.Goals as goal
+use Rattle.command_line.proofs.reading.words_of.Goals as goal
 
 pub returns-clause-told : goal.returns-clause-told
 returns-clause-told c = (c.in_ok-given.ensures, c.in_ok-given-2.ensures, c.in_ok-number.ensures, c.in_ok-given-3.ensures)

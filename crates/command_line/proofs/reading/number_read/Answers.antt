@@ -3,8 +3,8 @@ use Rattle.clap.specs.Walk.{Row, Text}
 use Rattle.command_line.specs.Lines as meant
 use Rattle.profile.specs.declared.sheet_kind.SheetKind.{SheetKind}
 use Rattle.profile.specs.declared.sheet_kind.SheetKind.TheVariants.{Count, Pick, Recount}
-use Rattle.command_line.proofs.reading.number_told.Goals as goal
-use Rattle.command_line.proofs.reading.number_told.Goals.{in-Recount, in_default+in_ok-given-in_default}
+use Rattle.command_line.proofs.reading.number_read.Goals as goal
+use Rattle.command_line.proofs.reading.number_read.Goals.{in-Recount, in_default+in_ok-given-in_default}
 
 -- what is no recount has the number of its line
 numbered : (d : SheetKind) (rows : List Row) (number : Text) → (d ≡ Recount → ⊥) → meant.Has rows (codes "number") number

@@ -1,0 +1,119 @@
+//! The answer to a command or a query, told.
+ghost use Rattle.std.specs.Prelude.{[], IfOk, IfErr, OnOk};
+ghost use Rattle.std.specs.Io.KnownBytes.{Appends};
+ghost use Rattle.errands.specs.Heard.{IsHalted, IsStatus, IsTold, told_line, heard as heard_of, heard_look as look_of, heard_report as report_of, printed_document, printed_report};
+
+use crate::answers::{HeardAs, heard, heard_look, heard_report};
+use commands::{CommandError, ExitStatus, tell_refusal, tell_text};
+use remote::ServerAnswer;
+use std::alloc::Global;
+use std::io;
+
+// Tells what an answer comes to: nothing more of what is done, and a refusal on standard error.
+fn tell_heard<E: io::Write>(
+    alloc: Global,
+    heard: HeardAs,
+    err: &mut E,
+) -> Result<ExitStatus, CommandError>
+    ensures status { IfOk result (IsStatus heard) }
+    ensures said { OnOk result
+        (Appends (E.contents err.old) (E.contents err.new) (told_line heard)) }
+    ensures halted { IfErr result (IsHalted heard) }
+{
+    match heard {
+        HeardAs::Done => Ok(ExitStatus::Done),
+        HeardAs::Refused(refusal) => tell_refusal(alloc, err, refusal),
+        HeardAs::Stopped(fault) => Err(CommandError::Fault(fault)),
+    }
+}
+
+/// Tells the answer to a command: its document, or the interchange that refuses another, and a
+/// refusal.
+pub fn tell_document<W: io::Write, E: io::Write>(
+    alloc: Global,
+    answer: &ServerAnswer,
+    out: &mut W,
+    err: &mut E,
+) -> Result<ExitStatus, CommandError>
+    ensures told { IfOk result (λ status. IsTold
+        (printed_document answer.now.is_interchange answer.now.body.items)
+        (heard_of answer.now.status answer.now.is_interchange answer.now.body.items)
+        (W.contents out.old) (W.contents out.new) status) }
+    ensures said { OnOk result (Appends (E.contents err.old) (E.contents err.new) (told_line
+        (heard_of answer.now.status answer.now.is_interchange answer.now.body.items))) }
+    ensures halted { IfErr result
+        (IsHalted (heard_of answer.now.status answer.now.is_interchange answer.now.body.items)) }
+{
+    let heard = heard(answer.status, answer.is_interchange, &answer.body);
+    if let HeardAs::Stopped(fault) = heard {
+        return Err(CommandError::Fault(fault));
+    }
+    if answer.is_interchange {
+        tell_text(out, &answer.body)?;
+    }
+    tell_heard(alloc, heard, err)
+}
+
+// Tells the answer to a query, as it is heard: the report, or a refusal.
+fn tell_query<W: io::Write, E: io::Write>(
+    alloc: Global,
+    answer: &ServerAnswer,
+    heard: HeardAs,
+    out: &mut W,
+    err: &mut E,
+) -> Result<ExitStatus, CommandError>
+    ensures told { IfOk result (λ status. IsTold
+        (printed_report answer.now.status answer.now.body.items) heard
+        (W.contents out.old) (W.contents out.new) status) }
+    ensures said { OnOk result
+        (Appends (E.contents err.old) (E.contents err.new) (told_line heard)) }
+    ensures halted { IfErr result (IsHalted heard) }
+{
+    if let HeardAs::Stopped(fault) = heard {
+        return Err(CommandError::Fault(fault));
+    }
+    if answer.status == 200 {
+        out.write_all(&answer.body)?;
+    }
+    tell_heard(alloc, heard, err)
+}
+
+/// Tells the answer to a query: the report, or a refusal.
+pub fn tell_report<W: io::Write, E: io::Write>(
+    alloc: Global,
+    answer: &ServerAnswer,
+    out: &mut W,
+    err: &mut E,
+) -> Result<ExitStatus, CommandError>
+    ensures told { IfOk result (λ status. IsTold
+        (printed_report answer.now.status answer.now.body.items)
+        (report_of answer.now.status answer.now.is_interchange answer.now.body.items)
+        (W.contents out.old) (W.contents out.new) status) }
+    ensures said { OnOk result (Appends (E.contents err.old) (E.contents err.new) (told_line
+        (report_of answer.now.status answer.now.is_interchange answer.now.body.items))) }
+    ensures halted { IfErr result
+        (IsHalted (report_of answer.now.status answer.now.is_interchange answer.now.body.items)) }
+{
+    let heard = heard_report(answer.status, answer.is_interchange, &answer.body);
+    tell_query(alloc, answer, heard, out, err)
+}
+
+/// Tells the answer to a query of what clerks alone are shown: the report, or a refusal.
+pub fn tell_look<W: io::Write, E: io::Write>(
+    alloc: Global,
+    answer: &ServerAnswer,
+    out: &mut W,
+    err: &mut E,
+) -> Result<ExitStatus, CommandError>
+    ensures told { IfOk result (λ status. IsTold
+        (printed_report answer.now.status answer.now.body.items)
+        (look_of answer.now.status answer.now.is_interchange answer.now.body.items)
+        (W.contents out.old) (W.contents out.new) status) }
+    ensures said { OnOk result (Appends (E.contents err.old) (E.contents err.new) (told_line
+        (look_of answer.now.status answer.now.is_interchange answer.now.body.items))) }
+    ensures halted { IfErr result
+        (IsHalted (look_of answer.now.status answer.now.is_interchange answer.now.body.items)) }
+{
+    let heard = heard_look(answer.status, answer.is_interchange, &answer.body);
+    tell_query(alloc, answer, heard, out, err)
+}
