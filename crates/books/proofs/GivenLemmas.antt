@@ -1,5 +1,5 @@
 -- Options, and entries at their places.
-use Rattle.std.proofs.Common.{Bool, true, false, IsTrue, inl, inr, ap, ◌≡◌, ◌⊎◌, ◌<◌, ℕ, zero, suc, List, [], ◌∷◌, ◌++◌, length, Option, Some, None, get_or, slice_get, sym, refl, ◌∙◌, arith}
+use Rattle.std.proofs.Common.{Bool, true, false, IsTrue, ◌≡◌, ◌<◌, ℕ, zero, suc, List, [], ◌∷◌, ◌++◌, length, Option, Some, None, get_or, slice_get, sym, refl, ◌∙◌, arith}
 use Rattle.std.specs.Prelude.{IsSomeAnd}
 use Rattle.profile.specs.Register.{Entry}
 use Rattle.rules.specs.Written.{Written}
@@ -44,9 +44,3 @@ only_memory Store old new L u clean why = refl
 only_memory Reopen old new L u clean why = absurd (let e : ◌≡◌ {A = Bool} true false = sym (why.reopen refl) ∙ u.opened in cc)
 only_memory NotThisBook old new L u clean why = absurd (why.not_this refl clean L u.keeps)
 only_memory Device old new L u clean why = absurd (why.device refl)
-
--- and so does one that is made where no table is in the way
-pub made_memory : (f : Fault) → (f ≡ NotThisBook → ⊥) → (f ≡ NotThisBook) ⊎ ((f ≡ OutOfMemory) ⊎ (f ≡ Store)) → of_copy f ≡ OutOfMemory
-made_memory f free (inl none) = absurd (free none)
-made_memory f free (inr (inl memory)) = ap of_copy memory
-made_memory f free (inr (inr refused)) = ap of_copy refused

@@ -1,3 +1,4 @@
 pub mod Parsing
 pub mod LineLaws
 pub mod MomentLaws
+mod RowsNumbers

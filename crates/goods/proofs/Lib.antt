@@ -8,6 +8,7 @@ pub mod OfPairLemmas
 pub mod Sums
 pub mod Pairs
 pub mod Ranks
+pub mod Sorted
 pub mod LotLemmas
 pub mod Shares
 pub mod Rising

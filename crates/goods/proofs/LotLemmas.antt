@@ -1,40 +1,26 @@
 -- The lots that rows name.
-use Rattle.std.proofs.Common.{◌≡◌, ℕ, zero, suc, ◌+◌, ◌<◌, ◌≤◌, Bool, true, false, cond, ltb, List, [], ◌∷◌, ◌++◌, ◌⊎◌, refl, ap, sym, ◌∙◌, subst, inl, inr, arith, length, get_or, take, map, Option, Some}
+use Rattle.std.proofs.Common.{◌≡◌, ℕ, zero, suc, ◌+◌, ◌<◌, ◌≤◌, Bool, true, false, ◌&&◌, cond, ltb, List, [], ◌∷◌, ◌++◌, ◌⊎◌, refl, ap, sym, ◌∙◌, subst, inl, inr, arith, length, get_or, take, map, Option, Some}
 use Rattle.std.proofs.lemmas.Bool.{cases_Bool, both_ways, and_parts, ltb-true, lt-ltb}
 use Rattle.std.proofs.lemmas.List.{take_more, map-append, append-nil}
 use Rattle.std.proofs.lemmas.List.Elements.{filter-append}
 use Rattle.std.proofs.lemmas.Slice.Eq.{bytes_eq-Decides}
-use Rattle.std.specs.Prelude.{bytes_eq, filter, find, option_and_then}
+use Rattle.std.specs.List.Sorted.{IsPermutation, IsSortedBy}
+use Rattle.std.specs.Prelude.{bytes_eq, count_by, filter, find, option_and_then}
+use Rattle.std.proofs.lemmas.List.Sorted.{IsPermutation-sym, sum_by-IsPermutation}
+use Rattle.std.proofs.lemmas.List.Sums.{sum_by-cons}
 use Rattle.profile.specs.declared.rules.Rules.{Rules}
-use Rattle.profile.specs.Lists.{placed, in_order}
+use Rattle.profile.specs.Lists.{in_order}
 use Rattle.profile.specs.Rows.{LotRow}
 use Rattle.profile.specs.Allotment.{Ranked, ranks_before}
 use Rattle.goods.specs.Lots.{is_lot_of, rank_of, ranks_of}
 use Rattle.profile.specs.Bytes.{comes_before}
-use Rattle.goods.proofs.Orders.{Has, AreTotal, in_order_same}
+use Rattle.goods.proofs.Orders.{Has, AreTotal, Rises, has_in_order, in_order_has, in_order_rises, in_order_same, rising_same}
+use Rattle.goods.proofs.Sorted.{Settles, has_moved, settled}
 use Rattle.goods.proofs.Texts.{texts_never}
-use Rattle.goods.proofs.Ranks.{ranks_order, ranks_total}
+use Rattle.goods.proofs.Ranks.{ranks_one, ranks_order, ranks_weak}
 use Rattle.goods.specs.OfPairs.{is_row, of_pair, date_of_pair, one, since as first_count, IsDistinct}
 use Rattle.goods.proofs.Dates.{dates_same}
 use Rattle.goods.proofs.OfPairLemmas.{of_pair_cons, of_pair_absent, part_yes, part_no, row_is}
-
-pub has_append : {X : Type 0} (z : X) (xs ys : List X) → Has z (xs ++ ys) → Has z xs ⊎ Has z ys
-has_append z [] ys h = inr h
-has_append z (x ∷ xs) ys h = elim h [ inl a ↦ inl (inl a) | inr b ↦ elim (has_append z xs ys b) [ inl a ↦ inl (inr a) | inr c ↦ inr c ] ]
-
-pub append_has : {X : Type 0} (z : X) (xs ys : List X) → Has z xs ⊎ Has z ys → Has z (xs ++ ys)
-append_has z [] ys h = elim h [ inl a ↦ absurd a | inr b ↦ b ]
-append_has z (x ∷ xs) ys h = elim h [
-  | inl a ↦ elim a [ inl b ↦ inl b | inr b ↦ inr (append_has z xs ys (inl b)) ]
-  | inr b ↦ inr (append_has z xs ys (inr b))
-]
-
--- one rank more
-pub ranks_push : (r : Rules) (xs : List Ranked) (x : Ranked) → AreTotal (ranks_before r) (x ∷ xs)
-    → placed (ranks_before r) x (in_order (ranks_before r) xs) ≡ in_order (ranks_before r) (xs ++ x ∷ [])
-ranks_push r xs x total = in_order_same (ranks_before r) (ranks_order r) (x ∷ xs) (xs ++ x ∷ []) total
-    (λ z h. append_has z xs (x ∷ []) (elim h [ inl a ↦ inr (inl a) | inr b ↦ inl b ]))
-    (λ z h. elim (has_append z xs (x ∷ []) h) [ inl a ↦ inr a | inr b ↦ elim b [ inl c ↦ inl c | inr c ↦ absurd c ] ])
 
 pub ranks_more : (item : List ℕ) (rows : List LotRow) (i : ℕ) (r : LotRow) → i < length rows → r ≡ get_or rows i r
     → ranks_of item (take (i + 1) rows) ≡ ranks_of item (take i rows) ++ map rank_of (cond (is_lot_of item r) (r ∷ []) [])
@@ -112,7 +98,7 @@ date_has a b (x ∷ xs) r h e few = elim h [
 
 -- a page has each lot of an item once
 pub ranks_once : (r : Rules) (item : List ℕ) (rows : List LotRow) → IsDistinct rows → AreTotal (ranks_before r) (ranks_of item rows)
-ranks_once r item rows distinct = ranks_total r (λ lot. date_of_pair item lot rows) (ranks_of item rows) (λ x h.
+ranks_once r item rows distinct = ranks_one r (λ lot. date_of_pair item lot rows) (ranks_of item rows) (λ x h.
     let m = map_has rank_of x (filter (is_lot_of item) rows) h in
     let g = filter_has (is_lot_of item) m.0 rows m.1 in
     let q = and_parts (bytes_eq m.0.item item) (ltb 0 m.0.since) g.1 in
@@ -120,40 +106,76 @@ ranks_once r item rows distinct = ranks_total r (λ lot. date_of_pair item lot r
     ap (λ (k : Ranked). k.expiry) m.2 ∙ sym (date_has item m.0.lot rows m.0 g.0 here (distinct item m.0.lot))
     ∙ ap (λ (k : Ranked). date_of_pair item k.lot rows) (sym m.2))
 
-has_at : (rows : List LotRow) (i : ℕ) (x : LotRow) → i < length rows → x ≡ get_or rows i x → Has x rows
-has_at [] i x within is = absurd (omega arith)
-has_at (y ∷ ys) zero x within is = inl is
-has_at (y ∷ ys) (suc i) x within is = inr (has_at ys i x (omega arith) is)
+pub lots_step_yes : (item : List ℕ) (rows : List LotRow) (i : ℕ) (x : LotRow) (before after : List Ranked) → i < length rows → x ≡ get_or rows i x
+    → before ≡ ranks_of item (take i rows) → is_lot_of item x ≡ true → after ≡ before ++ rank_of x ∷ [] → after ≡ ranks_of item (take (i + 1) rows)
+lots_step_yes item rows i x before after within is inv holds made =
+    made ∙ ap (λ (ks : List Ranked). ks ++ rank_of x ∷ []) inv
+    ∙ ap (λ (v : Bool). ranks_of item (take i rows) ++ map rank_of (cond v (x ∷ []) [])) (sym holds) ∙ sym (ranks_more item rows i x within is)
 
-take_has : (x : LotRow) (i : ℕ) (rows : List LotRow) → Has x (take i rows) → Has x rows
-take_has x zero rows h = absurd h
-take_has x (suc i) [] h = absurd h
-take_has x (suc i) (y ∷ ys) h = elim h [ inl a ↦ inl a | inr b ↦ inr (take_has x i ys b) ]
+pub lots_step_no : (item : List ℕ) (rows : List LotRow) (i : ℕ) (x : LotRow) (before : List Ranked) → i < length rows → x ≡ get_or rows i x
+    → before ≡ ranks_of item (take i rows) → is_lot_of item x ≡ false → before ≡ ranks_of item (take (i + 1) rows)
+lots_step_no item rows i x before within is inv fails =
+    inv ∙ sym (append-nil (ranks_of item (take i rows)))
+    ∙ ap (λ (v : Bool). ranks_of item (take i rows) ++ map rank_of (cond v (x ∷ []) [])) (sym fails) ∙ sym (ranks_more item rows i x within is)
 
-pub lots_step_yes : (r : Rules) (item : List ℕ) (rows : List LotRow) (i : ℕ) (x : LotRow) (before after : List Ranked) → IsDistinct rows → i < length rows → x ≡ get_or rows i x
-    → before ≡ in_order (ranks_before r) (ranks_of item (take i rows)) → is_lot_of item x ≡ true → after ≡ placed (ranks_before r) (rank_of x) before
-    → after ≡ in_order (ranks_before r) (ranks_of item (take (i + 1) rows))
-lots_step_yes r item rows i x before after distinct within is inv holds made =
-    made ∙ ap (placed (ranks_before r) (rank_of x)) inv ∙ ranks_push r (ranks_of item (take i rows)) (rank_of x) total
-    ∙ ap (in_order (ranks_before r)) (ap (λ (v : Bool). ranks_of item (take i rows) ++ map rank_of (cond v (x ∷ []) [])) (sym holds) ∙ sym (ranks_more item rows i x within is))
-  where
-    there : (z : Ranked) → Has z (rank_of x ∷ ranks_of item (take i rows)) → Has z (ranks_of item rows)
-    there z h = elim h [
-      | inl a ↦ subst (λ (w : Ranked). Has w (ranks_of item rows)) (sym a) (has_map rank_of x (filter (is_lot_of item) rows) (has_filter (is_lot_of item) x rows (has_at rows i x within is) holds))
-      | inr b ↦
-          let m = map_has rank_of z (filter (is_lot_of item) (take i rows)) b in
-          let g = filter_has (is_lot_of item) m.0 (take i rows) m.1 in
-          subst (λ (w : Ranked). Has w (ranks_of item rows)) (sym m.2) (has_map rank_of m.0 (filter (is_lot_of item) rows) (has_filter (is_lot_of item) m.0 rows (take_has m.0 i rows g.0) g.1))
-    ]
+-- A page has each lot of an item once, so that lots which were sorted rise.
 
-    total : AreTotal (ranks_before r) (rank_of x ∷ ranks_of item (take i rows))
-    total = λ v w p q. ranks_once r item rows distinct v w (there v p) (there w q)
+abbrev tally : List ℕ → List Ranked → ℕ
+tally lot ks = count_by (λ k. bytes_eq k.lot lot) ks
 
-pub lots_step_no : (r : Rules) (item : List ℕ) (rows : List LotRow) (i : ℕ) (x : LotRow) (before : List Ranked) → i < length rows → x ≡ get_or rows i x
-    → before ≡ in_order (ranks_before r) (ranks_of item (take i rows)) → is_lot_of item x ≡ false
-    → before ≡ in_order (ranks_before r) (ranks_of item (take (i + 1) rows))
-lots_step_no r item rows i x before within is inv fails =
-    inv ∙ ap (in_order (ranks_before r)) (sym (append-nil (ranks_of item (take i rows))) ∙ ap (λ (v : Bool). ranks_of item (take i rows) ++ map rank_of (cond v (x ∷ []) [])) (sym fails) ∙ sym (ranks_more item rows i x within is))
+tally_cons : (lot : List ℕ) (k : Ranked) (ks : List Ranked) → tally lot (k ∷ ks) ≡ cond (bytes_eq k.lot lot) 1 0 + tally lot ks
+tally_cons lot k ks = sum_by-cons (λ (x : Ranked). cond (bytes_eq x.lot lot) 1 0) k ks
+
+tally_itself : (k : Ranked) (ks : List Ranked) → tally k.lot (k ∷ ks) ≡ 1 + tally k.lot ks
+tally_itself k ks = tally_cons k.lot k ks ∙ ap (λ (v : Bool). cond v 1 0 + tally k.lot ks) ((bytes_eq-Decides k.lot k.lot).1 refl)
+
+tally_has : (k : Ranked) (ks : List Ranked) → Has k ks → 0 < tally k.lot ks
+tally_has k [] h = absurd h
+tally_has k (j ∷ ks) h = elim h [
+  | inl a ↦ subst (λ (x : Ranked). 0 < tally k.lot (x ∷ ks)) a (omega (arith, tally_itself k ks))
+  | inr b ↦ omega (arith, tally_cons k.lot j ks, tally_has k ks b)
+]
+
+-- the lots are among the rows of their pairs
+tally_few : (item lot : List ℕ) (rows : List LotRow) → tally lot (ranks_of item rows) ≤ of_pair one item lot rows
+tally_few item lot [] = omega arith
+tally_few item lot (r ∷ rows) = elim (cases_Bool (is_lot_of item r)) [
+  | inl e ↦
+      let same : bytes_eq r.item item ≡ true = (and_parts (bytes_eq r.item item) (ltb 0 r.since) e).0 in
+      let more : tally lot (ranks_of item (r ∷ rows)) ≡ cond (bytes_eq r.lot lot) 1 0 + tally lot (ranks_of item rows) = rw e (tally_cons lot (rank_of r) (ranks_of item rows)) in
+      let told : of_pair one item lot (r ∷ rows) ≡ cond (bytes_eq r.lot lot) 1 0 + of_pair one item lot rows =
+      of_pair_cons one item lot r rows ∙ ap (λ (v : Bool). cond (v && bytes_eq r.lot lot) 1 0 + of_pair one item lot rows) same in
+      omega (arith, more, told, tally_few item lot rows)
+  | inr e ↦
+      let as_many : tally lot (ranks_of item (r ∷ rows)) ≡ tally lot (ranks_of item rows) = rw e refl in
+      omega (arith, as_many, of_pair_cons one item lot r rows, tally_few item lot rows)
+]
+
+lots_rise : (r : Rules) (ks : List Ranked) → Settles (ranks_before r) ks → AreTotal (ranks_before r) ks → ((lot : List ℕ) → tally lot ks ≤ 1) → Rises (ranks_before r) ks
+lots_rise r [] s total few = tt
+lots_rise r (k ∷ ks) s total few = (
+  λ z has. elim (cases_Bool (ranks_before r k z)) [
+    | inl e ↦ e
+    | inr e ↦
+        let same : k ≡ z = total k z (inl refl) (inr has) e (s.0 z has) in
+        let twice : 0 < tally k.lot ks = subst (λ (x : Ranked). 0 < tally x.lot ks) (sym same) (tally_has z ks has) in
+        absurd (omega (arith, few k.lot, tally_itself k ks, twice))
+  ],
+  lots_rise r ks s.1 (λ x y p q. total x y (inr p) (inr q)) (λ lot. omega (arith, few lot, tally_cons lot k ks)),
+)
+
+pub lots_sorted : (r : Rules) (item : List ℕ) (rows : List LotRow) (ks : List Ranked) → IsDistinct rows → IsPermutation (ranks_of item rows) ks
+    → IsSortedBy (ranks_before r) ks → ks ≡ in_order (ranks_before r) (ranks_of item rows)
+lots_sorted r item rows ks distinct moved up =
+    let js = ranks_of item rows in
+    let total = ranks_once r item rows distinct in
+    let among = has_moved ks js (IsPermutation-sym js ks moved) in
+    let few : (lot : List ℕ) → tally lot ks ≤ 1 = λ lot. omega (arith, sum_by-IsPermutation (λ (k : Ranked). cond (bytes_eq k.lot lot) 1 0) js ks moved, tally_few item lot rows, distinct item lot) in
+    rising_same (ranks_before r) (ranks_order r) ks (in_order (ranks_before r) js)
+    (lots_rise r ks (settled (ranks_before r) (ranks_weak r) ks up) (λ x y p q. total x y (among x p) (among y q)) few)
+    (in_order_rises (ranks_before r) (ranks_order r) js)
+    (λ z has. in_order_has (ranks_before r) z js total (among z has))
+    (λ z has. has_moved js ks moved z (has_in_order (ranks_before r) z js has))
 
 -- a pair that something is told of has a row
 pub of_pair_find : (f : LotRow → ℕ) (a b : List ℕ) (rows : List LotRow) → 0 < of_pair f a b rows → (r : LotRow) × Has r rows × (is_row a b r ≡ true)

@@ -1,6 +1,11 @@
 -- The lots of an item that a page has, and what a line of an order is given of them.
-use Rattle.std.specs.Prelude.{ℕ, ◌-◌, Bool, ◌&&◌, List, map, filter, flat_map, bytes_eq, nat_lt, Option}
+use Rattle.std.specs.Prelude.{ℕ, ◌-◌, Bool, ◌&&◌, List, map, filter, flat_map, bytes_eq, nat_lt, Option, Some, None}
+use Rattle.std.specs.Cmp.Lexicographic.{slice_cmp}
+use Rattle.std.specs.Ordering.{nat_cmp, ordering_then}
+use Rattle.std.specs.declared.cmp.Ordering.{Ordering}
+use Rattle.std.specs.declared.cmp.Ordering.TheVariants.{Less, Equal, Greater}
 use Rattle.profile.specs.declared.rules.Rules.{Rules}
+use Rattle.profile.specs.declared.rules.Rules.TheVariants.{One, Two}
 use Rattle.profile.specs.Rows.{LotRow}
 use Rattle.profile.specs.Allotment.{Ranked, ranks_before, may_have, shares_from}
 use Rattle.profile.specs.Lists.{in_order}
@@ -16,6 +21,24 @@ rank_of r = record { expiry = r.expiry; since = r.since; lot = r.lot }
 
 abbrev pub ranks_of : List ℕ → List LotRow → List Ranked
 ranks_of item rows = map rank_of (filter (is_lot_of item) rows)
+
+-- How two lots stand to one another.
+
+-- by their dates, a lot without one last
+abbrev pub date_order : Option (List ℕ) → Option (List ℕ) → Ordering
+date_order (Some x) (Some y) = slice_cmp nat_cmp x y
+date_order (Some x) None = Less
+date_order None (Some y) = Greater
+date_order None None = Equal
+
+-- by the first count that named each, and then by their bytes
+abbrev pub count_order : Ranked → Ranked → Ordering
+count_order a b = ordering_then (nat_cmp a.since b.since) (slice_cmp nat_cmp a.lot b.lot)
+
+-- under rules 2 by the date before that
+abbrev pub rank_order : Rules → Ranked → Ranked → Ordering
+rank_order One a b = count_order a b
+rank_order Two a b = ordering_then (date_order a.expiry b.expiry) (count_order a b)
 
 -- what is free of a pair
 abbrev pub free_in : List LotRow → List ℕ → List ℕ → ℕ

@@ -16,6 +16,6 @@ pub use corrections::{are_on_hand, has_below, has_unknown};
 pub use documents::{Function, KnownDocument};
 pub use known_advices::{KnownAdvice, total};
 pub use known_orders::{KnownLine, KnownOrder};
-pub use lines::{comes_before, exceeds, is_of, pairs_order, quantity_of, rises};
+pub use lines::{exceeds, in_order, is_of, quantity_of};
 pub use lots::{all_shares, new_line};
 pub use rows::{Column, Row, amount_of, place_of, rank_of};

@@ -1,13 +1,15 @@
 //! The order of lines, and what they give a pair.
-ghost use Rattle.std.specs.Prelude.{◌≡◌, ◌<◌, ◌^◌, ℕ, List, true};
+ghost use Rattle.std.specs.Prelude.{◌≡◌, ◌<◌, ◌^◌, ℕ, List, IfOk, true};
 ghost use Rattle.std.specs.List.{list_any};
 ghost use Rattle.profile.specs.Clerk.{is_ascending};
 ghost use Rattle.profile.specs.Events.{is_pair, pair_before, quantity_of};
+ghost use Rattle.profile.specs.Lists.{in_order};
 ghost use Rattle.goods.specs.Keyed.{key_before, IsRank};
 ghost use Rattle.goods.specs.Pairs.{pair_key, pairs_order};
 ghost use Rattle.goods.specs.Steps.{exceeds};
 
 use sets_in::Goods;
+use std::alloc::AllocError;
 use std::cmp::Ordering;
 
 /// How a line stands to another, by item and then by lot bytes.
@@ -30,6 +32,17 @@ pub fn rises(lines: &[Goods]) -> bool
     ensures { result ≡ is_ascending lines.now }
 {
     lines.is_sorted_by(|line, next| comes_before(line, next))
+}
+
+/// The lines by item and then by lot bytes, each pair once: of lines of one pair, that which stands
+/// last stays. Want of memory is the one error.
+pub fn in_order(mut lines: Vec<Goods>) -> Result<Vec<Goods>, AllocError>
+    ensures { IfOk result (λ each. each.items ≡ in_order pair_before lines.items) }
+{
+    lines.reverse();
+    lines.sort_by(|line, other| pairs_order(line, other))?;
+    lines.dedup_by(|line, last| pairs_order(line, last).is_eq());
+    Ok(lines)
 }
 
 /// Whether a line is of the pair.

@@ -1,99 +1,73 @@
-ghost use Rattle.std.specs.Prelude.{◌≡◌, ◌≤◌, ◌<◌, ℕ, true, slice_index_or, min, IfOk, OnOk, MatchOption, length, option_map};
-ghost use Rattle.std.specs.List.{insert};
-ghost use Rattle.profile.specs.Allotment.{expires_before, counted_before, ranks_before, may_have};
+ghost use Rattle.std.specs.Prelude.{◌≡◌, ◌≤◌, ◌<◌, ℕ, true, slice_index_or, min, IfOk, IsPermutation, length};
+ghost use Rattle.std.specs.List.Sorted.{IsSortedBy};
+ghost use Rattle.profile.specs.Allotment.{ranks_before, may_have};
 ghost use Rattle.profile.specs.Bytes.{comes_before};
 ghost use Rattle.profile.specs.Rows.{LotRow};
-ghost use Rattle.profile.specs.Lists.{placed, in_order};
-ghost use Rattle.goods.specs.Keyed.{rises_by, IsRank, IsSorted};
-ghost use Rattle.goods.specs.Lots.{is_lot_of, rank_of, ranks_of, free_in, shares_in, all_shares_in};
+ghost use Rattle.profile.specs.Lists.{in_order};
+ghost use Rattle.goods.specs.Keyed.{IsSorted};
+ghost use Rattle.goods.specs.Lots.{is_lot_of, date_order, count_order, rank_order, ranks_of, free_in, shares_in, all_shares_in};
 
 use crate::rows::{Column, Row, amount_of};
 use profile::Rules;
 use sets_in::{Goods, OrderLine};
 use std::alloc::{AllocError, Global};
+use std::cmp::Ordering;
 use std::marker::Model;
 
-// A lot with its date, if it has one, and the number of the first count that named it.
+// The row of a lot, with its date, if it has one, and the number of the first count that named it.
 #[derive(Drop)]
-struct Ranked {
-    expiry: Option<Vec<u8>>,
-    since: u32,
-    lot: Vec<u8>,
+struct Ranked<'a> {
+    row: &'a Row,
 }
 
-impl Model for Ranked {
-    ghost use Rattle.std.specs.Prelude.{option_map};
+impl<'a> Model for Ranked<'a> {
     ghost use Rattle.profile.specs.Allotment.{Ranked};
+    ghost use Rattle.goods.specs.Lots.{rank_of};
 
     ghost Value = { Ranked };
 
-    ghost view = { λ r. record {
-      expiry = option_map (λ v. v.items) r.expiry;
-      since = r.since;
-      lot = r.lot.items;
-    } };
+    ghost view = { λ r. rank_of r.row.now };
 }
 
-impl Ranked {
-    fn of(alloc: Global, row: &Row) -> Result<Ranked, AllocError>
-        ensures { IfOk result (λ ranked. ranked ≡ rank_of row.now) }
-    {
-        Ok(Ranked {
-            expiry: copied_date(alloc, row)?,
-            since: row.since,
-            lot: row.lot.to_vec(alloc)?,
-        })
-    }
-
-    fn lot(&self) -> &[u8]
+impl<'a> Ranked<'a> {
+    fn lot(&self) -> &'a [u8]
         ensures { result.now ≡ self.now.lot }
     {
-        &self.lot
+        let row = self.row;
+        &row.lot
     }
 
-    // Whether it expires before another, or has a date where the other has none.
-    fn expires_before(&self, other: &Ranked) -> bool
-        ensures { result ≡ expires_before self.now.expiry other.now.expiry }
+    // How its date stands to another's. A lot without a date comes last.
+    fn date_order(&self, other: &Ranked<'_>) -> Ordering
+        ensures { result ≡ date_order self.now.expiry other.now.expiry }
     {
-        match (&self.expiry, &other.expiry) {
-            (Some(date), Some(other)) => date.as_slice().cmp(&other.as_slice()).is_lt(),
-            (Some(_), None) => true,
-            (None, _) => false,
+        let (row, other) = (self.row, other.row);
+        match (&row.expiry, &other.expiry) {
+            (Some(date), Some(other)) => date.as_slice().cmp(&other.as_slice()),
+            (Some(_), None) => Ordering::Less,
+            (None, Some(_)) => Ordering::Greater,
+            (None, None) => Ordering::Equal,
         }
     }
 
-    // Whether it was counted before another: by the first count that named it, then by its bytes.
-    fn counted_before(&self, other: &Ranked) -> bool
-        ensures { result ≡ counted_before self.now other.now }
+    // How it stands to another by the first count that named each, then by their bytes.
+    fn count_order(&self, other: &Ranked<'_>) -> Ordering
+        ensures { result ≡ count_order self.now other.now }
     {
-        if self.since == other.since {
-            return self.lot.as_slice().cmp(&other.lot.as_slice()).is_lt();
-        }
-        self.since < other.since
+        let (row, other) = (self.row, other.row);
+        let lots = row.lot.as_slice().cmp(&other.lot.as_slice());
+        row.since.cmp(&other.since).then(lots)
     }
 
-    // Whether it is given before another: under rules 1 by its count, under rules 2 by its date
-    // before that.
-    fn comes_before(&self, other: &Ranked, rules: Rules) -> bool
-        ensures { result ≡ ranks_before rules self.now other.now }
+    // How it stands to another in what is given: under rules 1 by its count, under rules 2 by its
+    // date before that.
+    fn order(&self, other: &Ranked<'_>, rules: Rules) -> Ordering
+        ensures { result ≡ rank_order rules self.now other.now }
     {
         match rules {
-            Rules::One => self.counted_before(other),
-            Rules::Two => {
-                self.expires_before(other)
-                    || !other.expires_before(self) && self.counted_before(other)
-            }
+            Rules::One => self.count_order(other),
+            Rules::Two => self.date_order(other).then(self.count_order(other)),
         }
-    }
-}
-
-// A copy of the date of a row, if it has one.
-fn copied_date(alloc: Global, row: &Row) -> Result<Option<Vec<u8>>, AllocError>
-    ensures { IfOk result (λ date. option_map (λ v. v.items) date ≡ row.now.expiry) }
-{
-    match &row.expiry {
-        Some(date) => Ok(Some(date.to_vec(alloc)?)),
-        None => Ok(None),
     }
 }
 
@@ -102,42 +76,6 @@ fn is_lot_of(row: &Row, item: &[u8]) -> bool
     ensures { result ≡ is_lot_of item.now row.now }
 {
     row.item.as_slice() == item && 0 < row.since
-}
-
-// How many lots are given before another.
-fn rank_among(ranked: &[Ranked], new: &Ranked, rules: Rules) -> usize
-    requires { rises_by (ranks_before rules) (λ r. r) ranked.now ≡ true }
-    ensures { IsRank (ranks_before rules) (λ r. r) ranked.now new.now result }
-{
-    ranked.partition_point(|other| other.comes_before(new, rules))
-}
-
-// Where a lot belongs, if it isn't there.
-fn place_among(ranked: &[Ranked], new: &Ranked, rules: Rules) -> Option<usize>
-    requires { rises_by (ranks_before rules) (λ r. r) ranked.now ≡ true }
-    ensures { MatchOption result (placed (ranks_before rules) new.now ranked.now ≡ ranked.now)
-        (λ i. (i ≤ length ranked.now)
-        × (placed (ranks_before rules) new.now ranked.now ≡ insert ranked.now i new.now)) }
-{
-    let i = rank_among(ranked, new, rules);
-    if i == ranked.len() {
-        return Some(i);
-    }
-    if new.comes_before(&ranked[i], rules) {
-        return Some(i);
-    }
-    None
-}
-
-// Puts a lot in its place.
-fn place(ranked: &mut Vec<Ranked>, new: Ranked, rules: Rules) -> Result<(), AllocError>
-    requires { rises_by (ranks_before rules) (λ r. r) ranked.old.items ≡ true }
-    ensures { OnOk result (ranked.new.items ≡ placed (ranks_before rules) new ranked.old.items) }
-{
-    if let Some(i) = place_among(ranked, &new, rules) {
-        ranked.insert(i, new)?;
-    }
-    Ok(())
 }
 
 // Where the rows of an item begin: those before are of items before it.
@@ -159,20 +97,46 @@ fn item_end(rows: &[Row], item: &[u8]) -> usize
     rows.partition_point(|row| !row.is_after_item(item))
 }
 
-// The lots of an item that a count named, in the order of the rules.
-fn lots(alloc: Global, rows: &[Row], item: &[u8], rules: Rules) -> Result<Vec<Ranked>, AllocError>
+// The lots of an item that a count named, in the order of the rows.
+fn counted_lots<'a>(
+    alloc: Global,
+    rows: &'a [Row],
+    item: &[u8],
+) -> Result<Vec<Ranked<'a>>, AllocError>
     requires { IsSorted rows.now }
-    ensures { IfOk result
-        (λ lots. lots.items ≡ in_order (ranks_before rules) (ranks_of item.now rows.now)) }
+    ensures { IfOk result (λ lots. lots.items ≡ ranks_of item.now rows.now) }
 {
     let mut lots = Vec::new(alloc);
     for i in item_start(rows, item)..item_end(rows, item) {
         let row = &rows[i];
         if is_lot_of(row, item) {
-            place(&mut lots, Ranked::of(alloc, row)?, rules)?;
+            lots.push(Ranked { row })?;
         }
     }
     Ok(lots)
+}
+
+// The same lots in the order of the rules.
+fn sorted(mut lots: Vec<Ranked<'_>>, rules: Rules) -> Vec<Ranked<'_>>
+    ensures same { IsPermutation lots.entry.items result.items }
+    ensures sorted { IsSortedBy (ranks_before rules) result.items }
+{
+    lots.sort_unstable_by(|lot, other| lot.order(other, rules));
+    lots
+}
+
+// The lots of an item that a count named, in the order of the rules.
+fn lots<'a>(
+    alloc: Global,
+    rows: &'a [Row],
+    item: &[u8],
+    rules: Rules,
+) -> Result<Vec<Ranked<'a>>, AllocError>
+    requires { IsSorted rows.now }
+    ensures { IfOk result
+        (λ lots. lots.items ≡ in_order (ranks_before rules) (ranks_of item.now rows.now)) }
+{
+    Ok(sorted(counted_lots(alloc, rows, item)?, rules))
 }
 
 /// A line of so much of a pair; want of memory is the one error.

@@ -5,3 +5,4 @@ pub mod Answering
 pub mod OneAnswer
 pub mod ReadingBack
 mod RowsTexts
+mod RowsNumbers

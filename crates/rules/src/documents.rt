@@ -1,10 +1,9 @@
 //! What the documents of a clerk's acts tell: receipts, shipments and adjustments.
-ghost use Rattle.std.specs.Prelude.{◌≡◌, ◌≤◌, ◌++◌, List, Ok, not, true, IfOk, OnOk, MatchOption, bytes_eq, filter, length, map, sum_by};
-ghost use Rattle.std.specs.List.{insert};
+ghost use Rattle.std.specs.Prelude.{◌≡◌, ◌≤◌, ◌++◌, List, Ok, not, true, IfOk, bytes_eq, filter, length, map, sum_by};
 ghost use Rattle.profile.specs.declared.rules.Rules.TheVariants.{Two};
 ghost use Rattle.profile.specs.Bytes.{comes_before};
 ghost use Rattle.profile.specs.Events.{pair_before};
-ghost use Rattle.profile.specs.Lists.{in_order, placed};
+ghost use Rattle.profile.specs.Lists.{in_order};
 ghost use Rattle.profile.specs.Limits.{most_lines};
 ghost use Rattle.rules.specs.Documents.{adjusted_from, adjustment_text, picked_lot, received_line, receipt_text, shipment_text, shipped_of};
 ghost use Rattle.profile.specs.Clerk.{is_ascending, is_sheet, performed};
@@ -12,7 +11,7 @@ ghost use Rattle.profile.specs.declared.sheet_kind.SheetKind.TheVariants.{Recoun
 ghost use Rattle.profile.specs.Events.{Event};
 ghost use Rattle.profile.specs.Texts.{document_of};
 ghost use Rattle.rules.specs.Asked.{act_of};
-ghost use Rattle.stock.specs.Keyed.{rises_by, IsRank};
+ghost use Rattle.stock.specs.Keyed.{IsRank};
 ghost use Rattle.stock.specs.Pages.{PageFacts};
 ghost use Rattle.stock.specs.Parts.{Named, IsPart};
 ghost use Rattle.stock.specs.Shows.{Shows};
@@ -26,111 +25,22 @@ use sets_out::{
     ShippedLine, write_interchange,
 };
 use std::alloc::{AllocError, Global};
-use std::marker::Model;
-use stock::{KnownAdvice, KnownLine, KnownOrder, Page, Sheet, quantity_of, total};
+use stock::{
+    KnownAdvice, KnownLine, KnownOrder, Page, Sheet, in_order, joined, quantity_of, total,
+};
 
-/// A quantity of a pair of an item and a lot.
-#[derive(Drop)]
-struct Pair<'a> {
-    item: &'a [u8],
-    lot: &'a [u8],
-    quantity: u32,
-}
-
-impl<'a> Model for Pair<'a> {
-    ghost use Rattle.profile.specs.Means.{Line};
-
-    ghost Value = { Line };
-
-    ghost view = { λ p. record { item = p.item.now; lot = p.lot.now; quantity = p.quantity } };
-}
-
-// Whether a line comes before another, by item and then lot bytes.
-fn is_before(line: &Pair<'_>, other: &Pair<'_>) -> bool
-    ensures { result ≡ pair_before line.now other.now }
+// Each pair that was advised or counted, by item and then lot bytes.
+fn pairs_of(alloc: Global, advised: &[Goods], counted: &[Goods]) -> Result<Vec<Goods>, AllocError>
+    ensures { IfOk result
+        (λ pairs. pairs.items ≡ in_order pair_before (advised.now ++ counted.now)) }
 {
-    line.item.cmp(&other.item).is_lt()
-        || (line.item == other.item && line.lot.cmp(&other.lot).is_lt())
-}
-
-// How many lines come before another.
-fn rank_among(lines: &[Pair<'_>], new: &Pair<'_>) -> usize
-    requires { rises_by pair_before (λ l. l) lines.now ≡ true }
-    ensures { IsRank pair_before (λ l. l) lines.now new.now result }
-{
-    lines.partition_point(|other| is_before(other, new))
-}
-
-// Where a line belongs, if its pair isn't there.
-fn place_among(lines: &[Pair<'_>], new: &Pair<'_>) -> Option<usize>
-    requires { rises_by pair_before (λ l. l) lines.now ≡ true }
-    ensures { MatchOption result (placed pair_before new.now lines.now ≡ lines.now)
-        (λ i. (i ≤ length lines.now)
-        × (placed pair_before new.now lines.now ≡ insert lines.now i new.now)) }
-{
-    let i = rank_among(lines, new);
-    if i == lines.len() {
-        return Some(i);
-    }
-    if is_before(new, &lines[i]) {
-        return Some(i);
-    }
-    None
-}
-
-// Puts a line in its place, if its pair isn't there.
-fn place<'a>(lines: &mut Vec<Pair<'a>>, new: Pair<'a>) -> Result<(), AllocError>
-    requires { rises_by pair_before (λ l. l) lines.old.items ≡ true }
-    ensures { OnOk result (lines.new.items ≡ placed pair_before new.entry lines.old.items) }
-{
-    if let Some(i) = place_among(lines, &new) {
-        lines.insert(i, new)?;
-    }
-    Ok(())
-}
-
-// The same line.
-fn same<'a>(line: &Pair<'a>) -> Pair<'a>
-    ensures { result ≡ line.now }
-{
-    Pair {
-        item: line.item,
-        lot: line.lot,
-        quantity: line.quantity,
-    }
-}
-
-// The pairs of the lines, each once, by item and then lot bytes.
-fn sorted<'a>(alloc: Global, lines: &[Pair<'a>]) -> Result<Vec<Pair<'a>>, AllocError>
-    ensures { IfOk result (λ sorted. sorted.items ≡ in_order pair_before lines.now) }
-{
-    let mut sorted = Vec::new(alloc);
-    let mut left = lines.len();
-    while left > 0 {
-        left -= 1;
-        place(&mut sorted, same(&lines[left]))?;
-    }
-    Ok(sorted)
-}
-
-// Adds lines.
-fn lend<'a>(lines: &mut Vec<Pair<'a>>, goods: &'a [Goods]) -> Result<(), AllocError>
-    ensures { OnOk result (lines.new.items ≡ lines.old.items ++ goods.now) }
-{
-    for line in goods {
-        lines.push(Pair {
-            item: &line.item,
-            lot: &line.lot,
-            quantity: line.quantity,
-        })?;
-    }
-    Ok(())
+    in_order(joined(alloc, advised, counted)?)
 }
 
 // Each pair with what the sheet gives it.
 fn received<'a>(
     alloc: Global,
-    pairs: &[Pair<'a>],
+    pairs: &'a [Goods],
     sheet: &[Goods],
 ) -> Result<Vec<CountedLine<'a>>, AllocError>
     requires { is_ascending sheet.now ≡ true }
@@ -139,9 +49,9 @@ fn received<'a>(
     let mut lines = Vec::new(alloc);
     for pair in pairs {
         lines.push(CountedLine {
-            item: pair.item,
-            lot: pair.lot,
-            quantity: quantity_of(sheet, pair.item, pair.lot),
+            item: &pair.item,
+            lot: &pair.lot,
+            quantity: quantity_of(sheet, &pair.item, &pair.lot),
         })?;
     }
     Ok(lines)
@@ -161,24 +71,6 @@ fn written(
     Ok(text)
 }
 
-// Each pair that was advised or counted, with what was counted, by item and then lot bytes.
-fn receipt_lines<'a>(
-    alloc: Global,
-    advised: &'a [Goods],
-    counted: &'a [Goods],
-) -> Result<Vec<CountedLine<'a>>, AllocError>
-    requires { is_ascending counted.now ≡ true }
-    ensures { IfOk result
-        (λ lines. lines.items
-        ≡ map (received_line counted.now) (in_order pair_before (advised.now ++ counted.now))) }
-{
-    let mut pairs = Vec::new(alloc);
-    lend(&mut pairs, advised)?;
-    lend(&mut pairs, counted)?;
-    let pairs = sorted(alloc, &pairs)?;
-    received(alloc, &pairs, counted)
-}
-
 // The 944 of a count: each pair that was advised or counted, with what was counted.
 fn receipt(
     alloc: Global,
@@ -189,7 +81,8 @@ fn receipt(
     ensures { IfOk result (λ text. text.items ≡ receipt_text envelope.now advice.now sheet.now) }
 {
     let counted = sheet.lines(alloc)?;
-    let lines = receipt_lines(alloc, advice.lines(), &counted)?;
+    let pairs = pairs_of(alloc, advice.lines(), &counted)?;
+    let lines = received(alloc, &pairs, &counted)?;
     let receipt = Receipt {
         order: advice.order(),
         shipment: advice.shipment(),

@@ -1,5 +1,5 @@
 -- The lots of a page are those that its events name.
-use Rattle.std.proofs.Common.{◌≡◌, ℕ, ◌<◌, Bool, true, false, ◌||◌, eqb, ltb, List, [], ◌∷◌, ◌⊎◌, refl, ap, sym, ◌∙◌, subst, inl, inr, arith, map, Option, Some, None}
+use Rattle.std.proofs.Common.{◌≡◌, ℕ, ◌<◌, Bool, true, false, ◌||◌, eqb, ltb, List, [], ◌∷◌, ◌++◌, ◌⊎◌, refl, ap, sym, ◌∙◌, subst, inl, inr, arith, map, Option, Some, None}
 use Rattle.std.proofs.lemmas.Bool.{cases_Bool, both_ways, and_parts, ltb-true, lt-ltb, eqb-false, ne_eqb}
 use Rattle.std.proofs.lemmas.Slice.Eq.{bytes_eq-Decides}
 use Rattle.std.specs.Prelude.{bytes_eq, filter, flat_map, unwrap_or}
@@ -16,7 +16,18 @@ use Rattle.goods.specs.OfPairs.{is_row, of_pair, since as first_count, positive,
 use Rattle.goods.specs.Pages.{PageFacts}
 use Rattle.stock.specs.Shows.{Shows}
 use Rattle.goods.proofs.OfPairLemmas.{row_is}
-use Rattle.goods.proofs.LotLemmas.{has_append, append_has, has_map, map_has, has_filter, filter_has, of_pair_has, date_has, ranks_once, of_pair_find}
+use Rattle.goods.proofs.LotLemmas.{has_map, map_has, has_filter, filter_has, of_pair_has, date_has, ranks_once, of_pair_find}
+
+has_append : {X : Type 0} (z : X) (xs ys : List X) → Has z (xs ++ ys) → Has z xs ⊎ Has z ys
+has_append z [] ys h = inr h
+has_append z (x ∷ xs) ys h = elim h [ inl a ↦ inl (inl a) | inr b ↦ elim (has_append z xs ys b) [ inl a ↦ inl (inr a) | inr c ↦ inr c ] ]
+
+append_has : {X : Type 0} (z : X) (xs ys : List X) → Has z xs ⊎ Has z ys → Has z (xs ++ ys)
+append_has z [] ys h = elim h [ inl a ↦ absurd a | inr b ↦ b ]
+append_has z (x ∷ xs) ys h = elim h [
+  | inl a ↦ elim a [ inl b ↦ inl b | inr b ↦ inr (append_has z xs ys (inl b)) ]
+  | inr b ↦ inr (append_has z xs ys (inr b))
+]
 
 -- a list of events names a lot where a count of it does
 lot_in_sheet : (item lot : List ℕ) (sheet : List Line) → Has lot (map (λ l. l.lot) (filter (λ l. bytes_eq l.item item) sheet)) → list_any (is_pair item lot) sheet ≡ true

@@ -25,9 +25,11 @@ mod steps;
 pub use acknowledgments::acknowledge;
 pub use allotment::allot;
 pub use announcements::announce;
+pub use copies::joined;
 pub use drafts::Draft;
 pub use goods::{
-    Function, KnownAdvice, KnownDocument, KnownLine, KnownOrder, Row, place_of, quantity_of, total,
+    Function, KnownAdvice, KnownDocument, KnownLine, KnownOrder, Row, in_order, place_of,
+    quantity_of, total,
 };
 pub use page::Page;
 pub use picks::pick;
