@@ -25,8 +25,8 @@ pub fn is_blank<S: Alter + Drop>(database: &Connection<S>) -> bool
     schema.tables.len() == 0 && schema.indexes.len() == 0 && schema.views.len() == 0
 }
 
-// An empty book of the warehouse in a database that holds nothing. What it lacks is memory: an empty
-// file gets an empty database, so one that holds something isn't met.
+// An empty book of the warehouse in a database that holds nothing. What it lacks is memory: an
+// empty file gets an empty database, so one that holds something isn't met.
 fn over_nothing<S: Alter + Drop>(
     alloc: Global,
     database: Connection<S>,

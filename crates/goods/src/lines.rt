@@ -12,23 +12,23 @@ use sets_in::Goods;
 use std::alloc::AllocError;
 use std::cmp::Ordering;
 
-/// How a line stands to another, by item and then by lot bytes.
-pub fn pairs_order(line: &Goods, other: &Goods) -> Ordering
+// How a line stands to another, by item and then by lot bytes.
+fn pairs_order(line: &Goods, other: &Goods) -> Ordering
     ensures { result ≡ pairs_order line.now other.now }
 {
     let lots = line.lot.as_slice().cmp(other.lot.as_slice());
     line.item.as_slice().cmp(other.item.as_slice()).then(lots)
 }
 
-/// Whether a line stands before another, by item and then by lot bytes.
-pub fn comes_before(line: &Goods, other: &Goods) -> bool
+// Whether a line stands before another, by item and then by lot bytes.
+fn comes_before(line: &Goods, other: &Goods) -> bool
     ensures { result ≡ pair_before line.now other.now }
 {
     pairs_order(line, other).is_lt()
 }
 
-/// Whether each line stands before the next, so that no pair stands twice.
-pub fn rises(lines: &[Goods]) -> bool
+// Whether each line stands before the next, so that no pair stands twice.
+fn rises(lines: &[Goods]) -> bool
     ensures { result ≡ is_ascending lines.now }
 {
     lines.is_sorted_by(|line, next| comes_before(line, next))
