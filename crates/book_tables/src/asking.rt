@@ -18,7 +18,6 @@ use store::Fault;
 impl<S: Alter + Drop> Tables<S> {
     /// The version and the warehouse of the book. 43 where `book` hasn't one row, or that row has
     /// no version that is read or no warehouse.
-    #[tactic(auto, using(book_statements::proofs::Limited::spends_both, book_statements::proofs::Limited::spends_same))]
     pub(crate) fn house(&mut self) -> Result<(Rules, Warehouse), Fault>
         ensures house { HasCleanDisk (state S.Store self.new.conn)
             → IfOk result (λ h. (rows : List Cells) × Finds house_text []
@@ -43,7 +42,6 @@ impl<S: Alter + Drop> Tables<S> {
     }
 
     /// How many entries there are.
-    #[tactic(auto, using(book_statements::proofs::Limited::spends_both, book_statements::proofs::Limited::spends_same))]
     pub(crate) fn count(&mut self) -> Result<u64, Fault>
         ensures few { IfOk result (λ n. n < 2 ^ 63) }
         ensures count { OfStandingAs S.Store self.old self.new
@@ -56,7 +54,6 @@ impl<S: Alter + Drop> Tables<S> {
     }
 
     /// The version and the warehouse of the book, and how many entries there are.
-    #[tactic(auto, using(book_statements::proofs::Limited::spends_both, book_statements::proofs::Limited::spends_same))]
     pub fn found(&mut self) -> Result<((Rules, Warehouse), u64), Fault>
         ensures few { IfOk result (λ found. found.1 < 2 ^ 63) }
         ensures house { HasCleanDisk (state S.Store self.new.conn)

@@ -117,7 +117,6 @@ fn are_same_rows(rows: &[Row], others: &[Row]) -> bool
 impl<S: Alter + Drop> Tables<S> {
     // Whether a text that only reads the book's tables answers the same rows there. A fault of the
     // other tables is 40, and no call of these is counted for it.
-    #[tactic(auto, using(book_statements::proofs::Limited::spends_same))]
     fn shows_the_same<T: Alter + Drop>(
         &mut self,
         other: &mut Tables<T>,

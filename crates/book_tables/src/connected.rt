@@ -123,7 +123,6 @@ impl<S: Alter + Drop> Tables<S> {
 
     /// The rows that a text answers which only reads, under any schema: the tables are as they
     /// were. A refused call is 40 or 41, and counts.
-    #[tactic(auto, using(book_statements::proofs::Limited::spends_both, book_statements::proofs::Limited::spends_same))]
     pub(crate) fn ask(&mut self, sql: &str, params: &[ValueRef<'_>]) -> Result<Vec<Row>, Fault>
         requires { OnlyReads sql.now }
         ensures finds { HasCleanDisk (state S.Store self.new.conn)
@@ -155,7 +154,6 @@ impl<S: Alter + Drop> Tables<S> {
 
     /// Appends an entry under the next number, with what its command changes and what goes out for
     /// it, in one transaction.
-    #[tactic(auto, using(book_statements::proofs::Limited::spends_both, book_statements::proofs::Limited::spends_same))]
     pub fn append<'a>(
         &mut self,
         seq: u64,
@@ -189,7 +187,6 @@ impl<S: Alter + Drop> Tables<S> {
 
     /// Makes the tables of an empty register of the warehouse, of a book of version 2, in one
     /// transaction.
-    #[tactic(auto, using(book_statements::proofs::Limited::spends_both, book_statements::proofs::Limited::spends_same))]
     pub fn make(&mut self, warehouse: &Warehouse) -> Result<(), Fault>
         ensures ok { HasCleanDisk (state S.Store self.new.conn)
             → OnOk result (Makes (state S.Store self.old.conn) (state S.Store self.new.conn)
@@ -214,7 +211,6 @@ impl<S: Alter + Drop> Tables<S> {
 
     /// Carries a book of version 1, which has so many entries, over to version 2, in one
     /// transaction. Of its entries `told` is handed how many were gone over of how many.
-    #[tactic(auto, using(book_statements::proofs::Limited::spends_both, book_statements::proofs::Limited::spends_same))]
     pub fn carry_over<T: FnMut(u64, u64)>(&mut self, entries: u64, told: T) -> Result<(), Fault>
         requires few { entries < 2 ^ 63 }
         requires told { T.IsAlwaysCallable told }

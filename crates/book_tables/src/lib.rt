@@ -1,6 +1,6 @@
 //! The SQLite tables of a warehouse's book: an entry and what it changes are written in one
 //! transaction, and what a command needs is read back by keys.
-#![tactic(auto)]
+#![tactic(auto, using(book_statements::proofs::Limited::spends_both, book_statements::proofs::Limited::spends_same))]
 
 mod advised;
 mod asking;

@@ -54,7 +54,6 @@ impl<S: Alter + Drop> Model for Book<S> {
 
 // Carries tables of version 1, which have so many entries, over to version 2; those of version 2
 // stay. Of the entries `told` is handed how many were gone over of how many.
-#[tactic(auto, using(book_statements::proofs::Limited::spends_both, book_statements::proofs::Limited::spends_same))]
 fn bring_up<S: Alter + Drop, T: FnMut(u64, u64)>(
     tables: &mut Tables<S>,
     version: Rules,
@@ -79,7 +78,6 @@ impl<S: Alter + Drop> Book<S> {
     /// Makes the tables of an empty register of the warehouse. A fault hands the tables back: 43
     /// where the store has a table with the name of a table of the book already, which leaves it as
     /// it is, and 40 or 41 where a call was refused.
-    #[tactic(auto, using(book_statements::proofs::Limited::spends_both, book_statements::proofs::Limited::spends_same))]
     pub fn create(
         alloc: Global,
         mut tables: Tables<S>,
@@ -128,7 +126,6 @@ impl<S: Alter + Drop> Book<S> {
     /// the tables back, which stand for the same register: 40 or 41 where a call was refused, 43
     /// where `book` hasn't one row, or that row has another version than 1 and 2 or no warehouse,
     /// which leaves the tables as they were, whatever they are.
-    #[tactic(auto, using(book_statements::proofs::Limited::spends_both, book_statements::proofs::Limited::spends_same))]
     pub fn open_from(alloc: Global, tables: Tables<S>) -> Result<Book<S>, (Fault, Tables<S>)>
         ensures ok { IfOk result (IsOpened S.Store tables) }
         ensures err { IfErr result (λ e. IsHandedBack S.Store tables e.0 e.1) }
@@ -139,7 +136,6 @@ impl<S: Alter + Drop> Book<S> {
 
     /// The same as `open_from`; and while a book of version 1 is carried over, `told` is handed,
     /// after each of its entries, how many were gone over and how many there are.
-    #[tactic(auto, using(book_statements::proofs::Limited::spends_both, book_statements::proofs::Limited::spends_same))]
     pub fn open_from_telling<T: FnMut(u64, u64)>(
         alloc: Global,
         mut tables: Tables<S>,
@@ -173,7 +169,6 @@ impl<S: Alter + Drop> Book<S> {
     /// again, one after another, to an empty book in memory; 43 where one of them isn't. Nothing is
     /// written. 40 and 41 are those of a query, 42 that of a book that has to be opened again. It
     /// holds a second book in memory for as long as it runs.
-    #[tactic(auto, using(book_statements::proofs::Limited::spends_both, book_statements::proofs::Limited::spends_same))]
     pub fn verify(&mut self) -> Result<u64, Fault>
         ensures stands { StandsChecked S.Store self.old self.new result }
         ensures whole { CountsKept S.Store self.old self.new result }
@@ -186,7 +181,6 @@ impl<S: Alter + Drop> Book<S> {
 
     /// The same as `verify`; and `told` is handed, after each entry, how many were given again and
     /// how many there are.
-    #[tactic(auto, using(book_statements::proofs::Limited::spends_both, book_statements::proofs::Limited::spends_same))]
     pub fn verify_telling<T: FnMut(u64, u64)>(&mut self, told: T) -> Result<u64, Fault>
         requires told { T.IsAlwaysCallable told }
         ensures stands { StandsChecked S.Store self.old self.new result }
@@ -204,7 +198,6 @@ impl<S: Alter + Drop> Book<S> {
 
     // How many entries the register has, where every table is what comes of giving their commands
     // again to this empty book.
-    #[tactic(auto, using(book_statements::proofs::Limited::spends_both, book_statements::proofs::Limited::spends_same))]
     fn check_by<C: Alter + Drop, T: FnMut(u64, u64)>(
         &mut self,
         copy: Book<C>,

@@ -30,7 +30,6 @@ impl<S: Alter + Drop> Keeper for Book<S> {
 
     /// Just the part that is needed of a depositor's page, from the running rows; None for a
     /// stranger.
-    #[tactic(auto, using(book_statements::proofs::Limited::spends_both, book_statements::proofs::Limited::spends_same))]
     fn load(&mut self, who: Who, need: &Need) -> Result<Option<Page>, Fault>
         ensures page { OfKept (standing_of S.Store self.old) (standing_of S.Store self.new)
             (λ L. IfOk result (λ page. IsHeld need.now page (decided.standing (register.own L who)))) }
@@ -48,7 +47,6 @@ impl<S: Alter + Drop> Keeper for Book<S> {
         self.tables.page_for(self.alloc, who, need)
     }
 
-    #[tactic(auto, using(book_statements::proofs::Limited::spends_both, book_statements::proofs::Limited::spends_same))]
     fn known(&mut self, who: Who, key: &Key<'_>) -> Result<Option<Known>, Fault>
         ensures entry { OfKept (standing_of S.Store self.old) (standing_of S.Store self.new)
             (λ L. IfOk result (λ known. IsRecalled known (decided.recalled
@@ -70,7 +68,6 @@ impl<S: Alter + Drop> Keeper for Book<S> {
     /// Appends an entry, with the rows that it changes and the text that goes out for it, in one
     /// transaction. After a fault of the store the book has to be opened again, and answers 42
     /// until then. 41 where the numbers that SQLite has for entries are used up.
-    #[tactic(auto, using(book_statements::proofs::Limited::spends_both, book_statements::proofs::Limited::spends_same))]
     fn commit(&mut self, entry: &Entry, changes: &[Change], outgoing: &[u8]) -> Result<(), Fault>
         ensures ok { (standing_of S.Store self.new).doubt ≡ 0
             → (L : List register.Entry) (e : register.Entry)
@@ -124,7 +121,6 @@ impl<S: Alter + Drop> Keeper for Book<S> {
         }
     }
 
-    #[tactic(auto, using(book_statements::proofs::Limited::spends_both, book_statements::proofs::Limited::spends_same))]
     fn stock_rows(&mut self, who: Who) -> Result<Option<Vec<StockRow>>, Fault>
         ensures rows { OfKept (standing_of S.Store self.old) (standing_of S.Store self.new)
             (λ L. IfOk result (λ rows. option_map (λ v. v.items) rows ≡ stock_of L who)) }
@@ -138,7 +134,6 @@ impl<S: Alter + Drop> Keeper for Book<S> {
         self.tables.stock_of(self.alloc, who)
     }
 
-    #[tactic(auto, using(book_statements::proofs::Limited::spends_both, book_statements::proofs::Limited::spends_same))]
     fn outbox(&mut self, who: Who) -> Result<Option<Vec<OutRow>>, Fault>
         ensures rows { OfKept (standing_of S.Store self.old) (standing_of S.Store self.new)
             (λ L. IfOk result (λ rows. option_map (λ v. v.items) rows ≡ outbox_of
@@ -153,7 +148,6 @@ impl<S: Alter + Drop> Keeper for Book<S> {
         self.tables.outbox_of(self.alloc, who)
     }
 
-    #[tactic(auto, using(book_statements::proofs::Limited::spends_both, book_statements::proofs::Limited::spends_same))]
     fn text(&mut self, who: Who, n: u32) -> Result<Option<Option<Vec<u8>>>, Fault>
         ensures text { OfKept (standing_of S.Store self.old) (standing_of S.Store self.new)
             (λ L. IfOk result (λ text. option_map (option_map (λ v. v.items)) text ≡ text_of
@@ -168,7 +162,6 @@ impl<S: Alter + Drop> Keeper for Book<S> {
         self.tables.text_of(self.alloc, who, n)
     }
 
-    #[tactic(auto, using(book_statements::proofs::Limited::spends_both, book_statements::proofs::Limited::spends_same))]
     fn open(&mut self, who: Who) -> Result<Option<Page>, Fault>
         ensures work { OfKept (standing_of S.Store self.old) (standing_of S.Store self.new)
             (λ L. IfOk result (λ page. option_map open_on page ≡ open_of L who)) }
@@ -182,7 +175,6 @@ impl<S: Alter + Drop> Keeper for Book<S> {
         self.tables.open_of(self.alloc, who)
     }
 
-    #[tactic(auto, using(book_statements::proofs::Limited::spends_both, book_statements::proofs::Limited::spends_same))]
     fn depositors(&mut self) -> Result<Vec<Who>, Fault>
         ensures whole { OfKept (standing_of S.Store self.old) (standing_of S.Store self.new)
             (λ L. IfOk result (λ whos. whos.items ≡ enrolled L)) }

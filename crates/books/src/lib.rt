@@ -1,5 +1,5 @@
 //! A warehouse's book in SQLite tables: what a crash leaves is a prefix of what was answered.
-#![tactic(auto)]
+#![tactic(auto, using(book_statements::proofs::Limited::spends_both, book_statements::proofs::Limited::spends_same))]
 
 mod blank;
 mod book;
