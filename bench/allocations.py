@@ -1,8 +1,8 @@
 #!/usr/bin/env python3
 """Fails each allocation of each test of a crate in turn. Not part of the gate.
 
-Usage: bench/allocations.py CRATE [TEST] [--most N]
-       (CRATE is one whose tests `rt test` built, as tests: crates/test_calls/out/test_calls_tests; `test_calls want_of_memory` is a day whose commands are given again)
+Usage: bench/allocations.py CRATE|PROGRAM [TEST] [--most N]
+       (CRATE is one whose tests `rt test` built, as tests: crates/test_calls/out/test_calls_tests; PROGRAM is such a program elsewhere, as bench/sweeps.py says)
 
 A library put before the C library's lets the Nth call of malloc or realloc answer that there is no memory, for N = 1, 2, .. up
 to as many as the test makes (or N evenly chosen ones under --most), a run each. Want of memory is a result that code and test
@@ -86,7 +86,7 @@ def main(words):
     most = int(words[words.index("--most") + 1]) if "--most" in words else 1_000_000
     crate = words[0]
     chosen = words[1] if len(words) > 1 and not words[1].startswith("--") else ""
-    program = os.path.join(HERE, "..", "crates", crate, "out", f"{crate}_tests")
+    program = crate if os.sep in crate else os.path.join(HERE, "..", "crates", crate, "out", f"{crate}_tests")
     program = os.path.abspath(program)
     listed = subprocess.run([program, "--list"], capture_output=True, text=True, check=True).stdout
     tests = [line.removesuffix(": test") for line in listed.splitlines() if line.endswith(": test") and chosen in line]

@@ -9,7 +9,7 @@ ghost use Rattle.store.specs.Held.{IsHeld};
 ghost use Rattle.store.specs.Known.{first_under};
 ghost use Rattle.store.specs.Open.{open_of, open_on, enrolled};
 ghost use Rattle.store.specs.Sent.{text_of};
-ghost use Rattle.store.specs.Standing.{IsUsable, IsUnchanged, IsQuery, IsNext, IsFault, IsCommitFault, LeavesEither, GoesOn, OfKept};
+ghost use Rattle.store.specs.Standing.{IsUsable, IsUnchanged, IsQuery, IsNext, IsFault, IsCommitFault, LeavesEither, GoesOn, OfKept, OfUsable};
 ghost use Rattle.book_statements.specs.Limits.{AreCounted};
 ghost use Rattle.book_tables.specs.Needed.{needed_part};
 ghost use Rattle.books.specs.Opened.{standing_of};
@@ -69,21 +69,19 @@ impl<S: Alter + Drop> Keeper for Book<S> {
     /// transaction. After a fault of the store the book has to be opened again, and answers 42
     /// until then. 41 where the numbers that SQLite has for entries are used up.
     fn commit(&mut self, entry: &Entry, changes: &[Change], outgoing: &[u8]) -> Result<(), Fault>
-        ensures ok { (standing_of S.Store self.new).doubt ≡ 0
-            → (L : List register.Entry) (e : register.Entry)
-            → IsUsable (standing_of S.Store self.old) L
+        ensures ok { OfUsable (standing_of S.Store self.old) (standing_of S.Store self.new)
+            (λ L. (e : register.Entry)
             → IsNext (standing_of S.Store self.old).warehouse L e entry.now changes.now outgoing.now
-            → OnOk result (IsUsable (standing_of S.Store self.new) (L ++ e ∷ [])) }
+            → OnOk result (IsUsable (standing_of S.Store self.new) (L ++ e ∷ []))) }
         ensures keeps { (standing_of S.Store self.new).doubt ≡ 0
             → (L : List register.Entry) (e : register.Entry)
             → (standing_of S.Store self.old).keeps L
             → IsNext (standing_of S.Store self.old).warehouse L e entry.now changes.now outgoing.now
             → OnOk result ((standing_of S.Store self.new).keeps (L ++ e ∷ [])) }
-        ensures left { (standing_of S.Store self.new).doubt ≡ 0
-            → (L : List register.Entry) (e : register.Entry)
-            → IsUsable (standing_of S.Store self.old) L
+        ensures left { OfUsable (standing_of S.Store self.old) (standing_of S.Store self.new)
+            (λ L. (e : register.Entry)
             → IsNext (standing_of S.Store self.old).warehouse L e entry.now changes.now outgoing.now
-            → OnErr result (LeavesEither (standing_of S.Store self.new) L (L ++ e ∷ [])) }
+            → OnErr result (LeavesEither (standing_of S.Store self.new) L (L ++ e ∷ []))) }
         ensures opened { OnOk result ((standing_of S.Store self.new).shut ≡ false) }
         ensures fault { IfErr result (λ fault. IsFault fault (standing_of S.Store self.old)
             (standing_of S.Store self.new)) }

@@ -67,7 +67,7 @@ fn make_ready<'a, R: Files + AllocGlobal>(
             Err(error) => Err(about_file(rt.alloc(), *file, &error)),
         },
         BookAct::Take { dir } => Ok(Ok(Ready::Take(*dir))),
-        BookAct::Clerk(told) => match slip_of(rt, told)? {
+        BookAct::Clerk(words) => match slip_of(rt, words)? {
             Ok(slip) => Ok(Ok(Ready::Clerk(slip))),
             Err(refusal) => Ok(Err(refusal)),
         },

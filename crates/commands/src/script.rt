@@ -93,7 +93,7 @@ fn tell_why<R: Files + AllocGlobal, K: Keeper, E: io::Write>(
 {
     let Words::Over {
         task: Task::Act {
-            act: BookAct::Clerk(told),
+            act: BookAct::Clerk(clerk),
             ..
         },
         ..
@@ -101,7 +101,7 @@ fn tell_why<R: Files + AllocGlobal, K: Keeper, E: io::Write>(
     else {
         return Ok(());
     };
-    match slip_of(rt, told)? {
+    match slip_of(rt, clerk)? {
         Ok(slip) => tell_reason(rt.alloc(), book, &slip, err),
         Err(_) => Ok(()),
     }

@@ -2,7 +2,8 @@
 use Rattle.std.proofs.Common.{◌≡◌, codes, refl, Some, None, true, false}
 use Rattle.store.specs.Refusal.TheVariants as refusals
 use Rattle.store.specs.Fault.TheVariants as faults
-use Rattle.errands.specs.Heard.{heard, heard_look, heard_report, note_in, number_in}
+use Rattle.intake.specs.declared.audience.Audience.TheVariants.{Partners, Clerks}
+use Rattle.errands.specs.Heard.{heard, heard_query, note_in, number_in}
 use Rattle.errands.specs.declared.answers.HeardAs.TheVariants.{Done, Refused, Stopped}
 
 -- another number in the trailer than in the header
@@ -28,14 +29,14 @@ unknown = refl
 nowhere : heard 404 false (codes "404 Not Found\n") ≡ Stopped faults.Device
 nowhere = refl
 
-nobody : heard_report 404 false (codes "404 Not Found\n") ≡ Refused refusals.UnknownDepositor
+nobody : heard_query Partners 404 false (codes "404 Not Found\n") ≡ Refused refusals.UnknownDepositor
 nobody = refl
 
 -- of what clerks alone are shown
-stranger : heard_look 404 false (codes "20 UnknownDepositor\n") ≡ Refused refusals.UnknownDepositor
+stranger : heard_query Clerks 404 false (codes "20 UnknownDepositor\n") ≡ Refused refusals.UnknownDepositor
 stranger = refl
 
-without_clerks : heard_look 404 false (codes "404 Not Found\n") ≡ Stopped faults.Device
+without_clerks : heard_query Clerks 404 false (codes "404 Not Found\n") ≡ Stopped faults.Device
 without_clerks = refl
 
 stopped : heard 503 false (codes "41 Store\n") ≡ Stopped faults.Store

@@ -9,28 +9,25 @@ use Rattle.commands.specs.declared.told.CommandError.{CommandError}
 use Rattle.commands.specs.declared.told.ExitStatus.{ExitStatus}
 use Rattle.command_line.specs.declared.words.Show.{Show}
 use Rattle.command_line.specs.declared.words.Show.TheVariants as show
-use Rattle.errands.specs.Heard.{IsHalted, IsTold, TellsNothing, heard, heard_look, heard_report, printed_document, printed_report}
+use Rattle.intake.specs.declared.audience.Audience.{Audience}
+use Rattle.intake.specs.declared.audience.Audience.TheVariants.{Partners, Clerks}
+use Rattle.errands.specs.Heard.{IsHalted, IsTold, TellsNothing, heard, heard_query, printed_document, printed_report}
 use Rattle.errands.specs.Paths.{deed_path, look_path, path_text}
 use Rattle.errands.specs.declared.answers.HeardAs.{HeardAs}
 use Rattle.errands.specs.declared.errand.Errand.{Errand}
 use Rattle.errands.specs.declared.errand.Errand.TheVariants as errand
 
--- the answer was told as that to a command, as that to a query, and as that to a query of what
--- clerks alone are shown
+-- the answer was told as that to a command, and as that to a query of what these are shown
 abbrev pub TellsAsDocument : ServerAnswer → Option (List ℕ) → Option (List ℕ) → ExitStatus → Type 0
 TellsAsDocument a before after status =
     IsTold (printed_document a.is_interchange a.body.items)
     (heard a.status a.is_interchange a.body.items) before after status
 
-abbrev pub TellsAsReport : ServerAnswer → Option (List ℕ) → Option (List ℕ) → ExitStatus → Type 0
-TellsAsReport a before after status =
+abbrev pub TellsAsReport : Audience → ServerAnswer → Option (List ℕ) → Option (List ℕ) → ExitStatus
+    → Type 0
+TellsAsReport shown a before after status =
     IsTold (printed_report a.status a.body.items)
-    (heard_report a.status a.is_interchange a.body.items) before after status
-
-abbrev pub TellsAsLook : ServerAnswer → Option (List ℕ) → Option (List ℕ) → ExitStatus → Type 0
-TellsAsLook a before after status =
-    IsTold (printed_report a.status a.body.items)
-    (heard_look a.status a.is_interchange a.body.items) before after status
+    (heard_query shown a.status a.is_interchange a.body.items) before after status
 
 -- how a courier, a request (its verb, path and body) and an answer belong together, and how a
 -- courier and a request without one do
@@ -40,13 +37,11 @@ Brings C = C → Verb → List ℕ → List ℕ → ServerAnswer → C → Type 
 abbrev pub Loses : Type 0 → Type 1
 Loses C = C → Verb → List ℕ → List ℕ → C → Type 0
 
--- an answer is heard so as that to a command, to a query, or to a query of what clerks alone are
--- shown
+-- an answer is heard so as that to a command, or to a query of what some are shown
 abbrev pub IsHeardAs : ServerAnswer → HeardAs → Type 0
 IsHeardAs a h =
     (heard a.status a.is_interchange a.body.items ≡ h)
-    ⊎ ((heard_report a.status a.is_interchange a.body.items ≡ h)
-    ⊎ (heard_look a.status a.is_interchange a.body.items ≡ h))
+    ⊎ ((shown : Audience) × (heard_query shown a.status a.is_interchange a.body.items ≡ h))
 
 module _ {C : Type 0} (brings : Brings C) (loses : Loses C) (stop : CommandError) where
   -- a request had no answer
@@ -73,15 +68,10 @@ module _ {C : Type 0} (brings : Brings C) (old new : C) (before after : Option (
   IsPosted path body = (a : ServerAnswer) × brings old Post path body a new
       × TellsAsDocument a before after status
 
-  -- a report was asked for, and told
-  abbrev pub IsReported : Show → Type 0
-  IsReported s = (a : ServerAnswer) × brings old Get (look_path s) [] a new
-      × TellsAsReport a before after status
-
-  -- what clerks alone are shown was asked for, and told
-  abbrev pub IsLooked : Show → Type 0
-  IsLooked s = (a : ServerAnswer) × brings old Get (look_path s) [] a new
-      × TellsAsLook a before after status
+  -- what these are shown was asked for, and told
+  abbrev pub IsReported : Audience → Show → Type 0
+  IsReported shown s = (a : ServerAnswer) × brings old Get (look_path s) [] a new
+      × TellsAsReport shown a before after status
 
   -- what was asked for is told; where it isn't there, another request was made, which says why
   abbrev pub IsAskedTwice : Show → List ℕ → (ServerAnswer → ServerAnswer → Type 0) → Type 0
@@ -93,22 +83,22 @@ module _ {C : Type 0} (brings : Brings C) (old new : C) (before after : Option (
   IsContent s who =
       ((a : ServerAnswer) × brings old Get (look_path s) [] a new × TellsAsDocument a before after status)
       ⊎ IsAskedTwice s (path_text (codes "outbox" ∷ who ∷ []))
-      (λ a b. TellsAsReport b before after status ⊎ TellsNothing before after status)
+      (λ a b. TellsAsReport Partners b before after status ⊎ TellsNothing before after status)
 
   abbrev pub IsExported : Show → List ℕ → Type 0
   IsExported s who =
-      IsReported s ⊎ IsAskedTwice s (path_text (codes "stock" ∷ who ∷ []))
-      (λ a b. TellsAsReport a before after status)
+      IsReported Partners s ⊎ IsAskedTwice s (path_text (codes "stock" ∷ who ∷ []))
+      (λ a b. TellsAsReport Partners a before after status)
 
   abbrev pub IsShown : Show → Type 0
   IsShown (show.Outbox who (Some n)) = IsContent (show.Outbox who (Some n)) who.now
-  IsShown (show.Outbox who None) = IsReported (show.Outbox who None)
+  IsShown (show.Outbox who None) = IsReported Partners (show.Outbox who None)
   IsShown (show.Stock who true) = IsExported (show.Stock who true) who.now
-  IsShown (show.Stock who false) = IsReported (show.Stock who false)
-  IsShown s = IsLooked s
+  IsShown (show.Stock who false) = IsReported Partners (show.Stock who false)
+  IsShown s = IsReported Clerks s
 
   -- an interchange is posted to /x12, a clerk's sheet to the path of the act
   abbrev pub IsCarried : Errand → Type 0
   IsCarried (errand.Send bytes) = IsPosted (codes "/x12") bytes.items
-  IsCarried (errand.Deed told sheet) = IsPosted (deed_path told) sheet.items
+  IsCarried (errand.Deed words sheet) = IsPosted (deed_path words) sheet.items
   IsCarried (errand.Look s) = IsShown s

@@ -1,5 +1,5 @@
 -- What an answer of a server comes to, and what is printed of it.
-use Rattle.std.specs.Prelude.{◌≡◌, ℕ, Bool, ◌==◌, ◌&&◌, ◌||◌, not, List, [], ◌∷◌, take, length, nat_lt, if◌then◌else◌, Option, Some, None, slice_get, slice_index, unwrap_or, option_and_then, min}
+use Rattle.std.specs.Prelude.{◌≡◌, ℕ, Bool, false, ◌==◌, ◌&&◌, ◌||◌, not, List, [], ◌∷◌, take, length, nat_lt, if◌then◌else◌, Option, Some, None, slice_get, slice_index, unwrap_or, option_and_then, min}
 use Rattle.std.specs.List.{slice_split, list_all}
 use Rattle.std.specs.Io.KnownBytes.{Appends}
 use Rattle.profile.specs.Bytes.{is_digit, value}
@@ -8,6 +8,8 @@ use Rattle.store.specs.Refusal.{Refusal}
 use Rattle.store.specs.Refusal.TheVariants as refusals
 use Rattle.store.specs.Fault.{Fault}
 use Rattle.store.specs.Fault.TheVariants as faults
+use Rattle.intake.specs.declared.audience.Audience.{Audience}
+use Rattle.intake.specs.declared.audience.Audience.TheVariants.{Partners, Clerks}
 use Rattle.commands.specs.Telling.{line_of, refusal_line}
 use Rattle.commands.specs.Stops.{IsDeviceFault, fault_in}
 use Rattle.commands.specs.declared.told.CommandError.{CommandError}
@@ -105,20 +107,18 @@ heard status is_interchange body = first_of (heard_line status body)
     ∷ (status == 503, Stopped (fault_numbered (number_in body)))
     ∷ [])
 
--- The answer to a query, whose report is no interchange. A server says `404 Not Found` of a
--- depositor whom it doesn't know.
-abbrev pub heard_report : ℕ → Bool → List ℕ → HeardAs
-heard_report status is_interchange body = first_of (heard_line status body)
-    ((status == 200 && not is_interchange, Done)
-    ∷ (status == 404 && number_in body == 404, Refused refusals.UnknownDepositor)
-    ∷ (status == 503, Stopped (fault_numbered (number_in body)))
-    ∷ [])
+-- Whether a 404 is of a depositor whom the server doesn't know. Of what partners are shown a server
+-- says `404 Not Found` then. Where clerks alone are shown something, why they aren't stands in the
+-- body by its own number, so a 404 without one is no server's that takes clerks' requests.
+abbrev pub is_nobody : Audience → List ℕ → Bool
+is_nobody Partners body = number_in body == 404
+is_nobody Clerks body = false
 
--- The answer to a query of what clerks alone are shown. What it is refused for stands in its body
--- by number, so a 404 without such a number is no server's that takes clerks' requests.
-abbrev pub heard_look : ℕ → Bool → List ℕ → HeardAs
-heard_look status is_interchange body = first_of (heard_line status body)
+-- The answer to a query of what these are shown, which is no interchange.
+abbrev pub heard_query : Audience → ℕ → Bool → List ℕ → HeardAs
+heard_query shown status is_interchange body = first_of (heard_line status body)
     ((status == 200 && not is_interchange, Done)
+    ∷ (status == 404 && is_nobody shown body, Refused refusals.UnknownDepositor)
     ∷ (status == 503, Stopped (fault_numbered (number_in body)))
     ∷ [])
 

@@ -3,6 +3,7 @@ ghost use Rattle.std.specs.Prelude.{◌≡◌, ◌==◌, option_copied, slice_ge
 ghost use Rattle.std.specs.List.{slice_split};
 ghost use Rattle.errands.specs.Heard as meant;
 
+use intake::Audience;
 use segments::{all_digits, value_up_to};
 use store::{Fault, Refusal};
 
@@ -162,26 +163,25 @@ pub fn heard(status: u16, is_interchange: bool, body: &[u8]) -> HeardAs
     }
 }
 
-/// What the answer to a query comes to. A server says `404 Not Found` of a depositor whom it
-/// doesn't know.
-pub fn heard_report(status: u16, is_interchange: bool, body: &[u8]) -> HeardAs
-    ensures { result ≡ meant.heard_report status is_interchange body.now }
+// Whether a 404 is of a depositor whom the server doesn't know.
+fn is_nobody(shown: Audience, body: &[u8]) -> bool
+    ensures { result ≡ meant.is_nobody shown body.now }
 {
-    match status {
-        200 if !is_interchange => HeardAs::Done,
-        404 if number_in(body) == 404 => HeardAs::Refused(Refusal::UnknownDepositor),
-        503 => HeardAs::Stopped(fault_numbered(number_in(body))),
-        _ => heard_line(status, body),
+    match shown {
+        Audience::Partners => number_in(body) == 404,
+        Audience::Clerks => false,
     }
 }
 
-/// What the answer to a query of what clerks alone are shown comes to. A server that takes their
-/// requests says by number what it refuses one for; a 404 without a number is another's.
-pub fn heard_look(status: u16, is_interchange: bool, body: &[u8]) -> HeardAs
-    ensures { result ≡ meant.heard_look status is_interchange body.now }
+/// What the answer to a query of what these are shown comes to. A server says `404 Not Found` to
+/// partners of a depositor whom it doesn't know. To clerks it says by number what it refuses a query
+/// of theirs for; a 404 without a number is another server's.
+pub fn heard_query(shown: Audience, status: u16, is_interchange: bool, body: &[u8]) -> HeardAs
+    ensures { result ≡ meant.heard_query shown status is_interchange body.now }
 {
     match status {
         200 if !is_interchange => HeardAs::Done,
+        404 if is_nobody(shown, body) => HeardAs::Refused(Refusal::UnknownDepositor),
         503 => HeardAs::Stopped(fault_numbered(number_in(body))),
         _ => heard_line(status, body),
     }

@@ -11,9 +11,9 @@ mod reasons;
 mod running;
 mod telling;
 
-pub use answers::{HeardAs, heard, heard_look, heard_report};
+pub use answers::{HeardAs, heard, heard_query};
 pub use courier::{Courier, Network};
 pub use errand::{Errand, errand_of};
 pub use reasons::{Listening, tell_reason_there};
 pub use running::carry_out;
-pub use telling::{tell_document, tell_look, tell_report};
+pub use telling::{tell_document, tell_report};

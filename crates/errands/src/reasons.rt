@@ -112,14 +112,14 @@ fn pairs_in<'a>(
 }
 
 // What shows why what a clerk did is refused; None where no line of the sheet is the reason.
-fn shown_for<'a>(refusal: Refusal, told: &ClerkWords<'a>) -> Option<Show<'a>> {
+fn shown_for<'a>(refusal: Refusal, words: &ClerkWords<'a>) -> Option<Show<'a>> {
     match refusal {
         Refusal::NotReserved => Some(Show::Order {
-            who: told.who,
-            number: told.number,
+            who: words.who,
+            number: words.number,
         }),
         Refusal::UnknownLot | Refusal::BelowReserved => Some(Show::Stock {
-            who: told.who,
+            who: words.who,
             is_csv: true,
         }),
         _ => None,
@@ -138,10 +138,10 @@ pub fn tell_reason_there<C: Courier, E: io::Write>(
 ) -> Result<(), CommandError>
     ensures { IfErr result IsDeviceFault }
 {
-    let (Errand::Deed(told, sheet), Some(refusal)) = (errand, courier.refusal()) else {
+    let (Errand::Deed(words, sheet), Some(refusal)) = (errand, courier.refusal()) else {
         return Ok(());
     };
-    let Some(show) = shown_for(refusal, told) else {
+    let Some(show) = shown_for(refusal, words) else {
         return Ok(());
     };
     let answer = get_any(alloc, courier, server, &show)?;
@@ -152,7 +152,7 @@ pub fn tell_reason_there<C: Courier, E: io::Write>(
         return Ok(());
     };
     let kept = pairs_in(alloc, refusal, report)?;
-    if let Some(why) = reason(alloc, refusal, told, sheet, &kept)? {
+    if let Some(why) = reason(alloc, refusal, words, sheet, &kept)? {
         tell_cause(err, &why)?;
     }
     Ok(())

@@ -1,17 +1,18 @@
 //! A running server asked, and its answer told.
 ghost use Rattle.std.specs.Prelude.{◌≡◌, [], IfOk, IfErr, None, Some};
 ghost use Rattle.commands.specs.Stops.{IsDeviceFault, fault_in};
-ghost use Rattle.errands.specs.Heard.{stop_of, heard_report as report_of};
-ghost use Rattle.errands.specs.Carried.{IsCarried, IsContent, IsHaltedThere, IsExported, IsLooked, IsPosted, IsReported, IsShown};
+ghost use Rattle.errands.specs.Heard.{stop_of, heard_query as query_of};
+ghost use Rattle.errands.specs.Carried.{IsCarried, IsContent, IsHaltedThere, IsExported, IsPosted, IsReported, IsShown};
 ghost use Rattle.errands.specs.Paths.{look_path as path_for};
 
-use crate::answers::{HeardAs, heard, heard_look, heard_report};
+use crate::answers::{HeardAs, heard, heard_query};
 use crate::courier::Courier;
 use crate::errand::Errand;
 use crate::paths::{deed_path, look_path};
-use crate::telling::{tell_document, tell_look, tell_report};
+use crate::telling::{tell_document, tell_report};
 use command_line::Show;
 use commands::{CommandError, ExitStatus, about_server};
+use intake::Audience;
 use remote::{Request, ServerAnswer, Unanswered, Verb};
 use std::alloc::Global;
 use std::io;
@@ -104,21 +105,22 @@ pub(crate) fn get_any<C: Courier>(
     ask_server(alloc, courier, server, &request)
 }
 
-// The answer to a query for a report, where it is one.
+// The answer to a query of what these are shown, where it is one.
 fn get<C: Courier>(
     alloc: Global,
     courier: &mut C,
     server: &SocketAddr,
+    shown: Audience,
     show: &Show<'_>,
 ) -> Result<ServerAnswer, CommandError>
     ensures brought { IfOk result
         (λ answer. C.brings courier.old Verb.Get (path_for show.now) [] answer courier.new) }
     ensures halted { IfErr result (IsHaltedThere C.brings C.loses) }
-    ensures heard { IfOk result (λ answer. stop_of (report_of answer.status answer.is_interchange
+    ensures heard { IfOk result (λ answer. stop_of (query_of shown answer.status answer.is_interchange
         answer.body.items) ≡ None) }
 {
     let answer = get_any(alloc, courier, server, show)?;
-    match heard_report(answer.status, answer.is_interchange, &answer.body) {
+    match heard_query(shown, answer.status, answer.is_interchange, &answer.body) {
         HeardAs::Stopped(fault) => Err(about_server_stop(alloc, server, fault)),
         _ => Ok(answer),
     }
@@ -144,42 +146,23 @@ fn get_text<C: Courier>(
     }
 }
 
-// Asks for a report, and tells it.
+// Asks for what these are shown, and tells it.
 fn report<C: Courier, W: io::Write, E: io::Write>(
     alloc: Global,
     courier: &mut C,
     server: &SocketAddr,
+    shown: Audience,
     show: &Show<'_>,
     out: &mut W,
     err: &mut E,
 ) -> Result<ExitStatus, CommandError>
     ensures told { IfOk result
         (λ status. IsReported C.brings courier.old courier.new (W.contents out.old)
-        (W.contents out.new) status show.now) }
+        (W.contents out.new) status shown show.now) }
     ensures halted { IfErr result (IsHaltedThere C.brings C.loses) }
 {
-    let answer = get(alloc, courier, server, show)?;
-    tell_report(alloc, &answer, out, err)
-}
-
-// Asks for what clerks alone are shown, and tells it.
-fn clerks_look<C: Courier, W: io::Write, E: io::Write>(
-    alloc: Global,
-    courier: &mut C,
-    server: &SocketAddr,
-    show: &Show<'_>,
-    out: &mut W,
-    err: &mut E,
-) -> Result<ExitStatus, CommandError>
-    ensures told { IfOk result (λ status. IsLooked C.brings courier.old courier.new (W.contents out.old)
-        (W.contents out.new) status show.now) }
-    ensures halted { IfErr result (IsHaltedThere C.brings C.loses) }
-{
-    let answer = get_any(alloc, courier, server, show)?;
-    match heard_look(answer.status, answer.is_interchange, &answer.body) {
-        HeardAs::Stopped(fault) => Err(about_server_stop(alloc, server, fault)),
-        _ => tell_look(alloc, &answer, out, err),
-    }
+    let answer = get(alloc, courier, server, shown, show)?;
+    tell_report(alloc, shown, &answer, out, err)
 }
 
 // Asks for the stock as CSV, and tells it. A server without `--clerks` says 404 of every depositor
@@ -198,15 +181,17 @@ fn export<C: Courier, W: io::Write, E: io::Write>(
         (W.contents out.new) status show.now who.now) }
     ensures halted { IfErr result (IsHaltedThere C.brings C.loses) }
 {
-    let answer = get(alloc, courier, server, show)?;
+    let partners = Audience::Partners;
+    let answer = get(alloc, courier, server, partners, show)?;
     if answer.status != 404 {
-        return tell_report(alloc, &answer, out, err);
+        return tell_report(alloc, partners, &answer, out, err);
     }
-    let stock = get(alloc, courier, server, &Show::Stock { who, is_csv: false })?;
+    let rows = Show::Stock { who, is_csv: false };
+    let stock = get(alloc, courier, server, partners, &rows)?;
     if stock.status == 200 {
         return Err(about_server_stop(alloc, server, Fault::Device));
     }
-    tell_report(alloc, &answer, out, err)
+    tell_report(alloc, partners, &answer, out, err)
 }
 
 // Asks for a text that went out, and tells it. A server says 404 of a number without a text and of
@@ -229,10 +214,12 @@ fn content<C: Courier, W: io::Write, E: io::Write>(
     if answer.status != 404 {
         return tell_document(alloc, &answer, out, err);
     }
-    let list = get(alloc, courier, server, &Show::Outbox { who, number: None })?;
-    match heard_report(list.status, list.is_interchange, &list.body) {
+    let partners = Audience::Partners;
+    let texts = Show::Outbox { who, number: None };
+    let list = get(alloc, courier, server, partners, &texts)?;
+    match heard_query(partners, list.status, list.is_interchange, &list.body) {
         HeardAs::Done => Ok(ExitStatus::Refused),
-        _ => tell_report(alloc, &list, out, err),
+        _ => tell_report(alloc, partners, &list, out, err),
     }
 }
 
@@ -252,17 +239,17 @@ fn look<C: Courier, W: io::Write, E: io::Write>(
     match show {
         Show::Outbox { who, number } => match number {
             Some(_) => content(alloc, courier, server, *who, show, out, err),
-            None => report(alloc, courier, server, show, out, err),
+            None => report(alloc, courier, server, Audience::Partners, show, out, err),
         },
         Show::Stock { who, is_csv } => {
             if *is_csv {
                 export(alloc, courier, server, *who, show, out, err)
             } else {
-                report(alloc, courier, server, show, out, err)
+                report(alloc, courier, server, Audience::Partners, show, out, err)
             }
         }
         Show::Open { .. } | Show::Order { .. } | Show::Depositors => {
-            clerks_look(alloc, courier, server, show, out, err)
+            report(alloc, courier, server, Audience::Clerks, show, out, err)
         }
     }
 }

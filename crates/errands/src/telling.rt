@@ -1,10 +1,11 @@
 //! The answer to a command or a query, told.
 ghost use Rattle.std.specs.Prelude.{[], IfOk, IfErr, OnOk};
 ghost use Rattle.std.specs.Io.KnownBytes.{Appends};
-ghost use Rattle.errands.specs.Heard.{IsHalted, IsStatus, IsTold, told_line, heard as heard_of, heard_look as look_of, heard_report as report_of, printed_document, printed_report};
+ghost use Rattle.errands.specs.Heard.{IsHalted, IsStatus, IsTold, told_line, heard as heard_of, heard_query as query_of, printed_document, printed_report};
 
-use crate::answers::{HeardAs, heard, heard_look, heard_report};
+use crate::answers::{HeardAs, heard, heard_query};
 use commands::{CommandError, ExitStatus, tell_refusal, tell_text};
+use intake::Audience;
 use remote::ServerAnswer;
 use std::alloc::Global;
 use std::io;
@@ -54,21 +55,24 @@ pub fn tell_document<W: io::Write, E: io::Write>(
     tell_heard(alloc, heard, err)
 }
 
-// Tells the answer to a query, as it is heard: the report, or a refusal.
-fn tell_query<W: io::Write, E: io::Write>(
+/// Tells the answer to a query of what these are shown: the report, or a refusal.
+pub fn tell_report<W: io::Write, E: io::Write>(
     alloc: Global,
+    shown: Audience,
     answer: &ServerAnswer,
-    heard: HeardAs,
     out: &mut W,
     err: &mut E,
 ) -> Result<ExitStatus, CommandError>
     ensures told { IfOk result (λ status. IsTold
-        (printed_report answer.now.status answer.now.body.items) heard
+        (printed_report answer.now.status answer.now.body.items)
+        (query_of shown answer.now.status answer.now.is_interchange answer.now.body.items)
         (W.contents out.old) (W.contents out.new) status) }
-    ensures said { OnOk result
-        (Appends (E.contents err.old) (E.contents err.new) (told_line heard)) }
-    ensures halted { IfErr result (IsHalted heard) }
+    ensures said { OnOk result (Appends (E.contents err.old) (E.contents err.new) (told_line
+        (query_of shown answer.now.status answer.now.is_interchange answer.now.body.items))) }
+    ensures halted { IfErr result
+        (IsHalted (query_of shown answer.now.status answer.now.is_interchange answer.now.body.items)) }
 {
+    let heard = heard_query(shown, answer.status, answer.is_interchange, &answer.body);
     if let HeardAs::Stopped(fault) = heard {
         return Err(CommandError::Fault(fault));
     }
@@ -76,44 +80,4 @@ fn tell_query<W: io::Write, E: io::Write>(
         out.write_all(&answer.body)?;
     }
     tell_heard(alloc, heard, err)
-}
-
-/// Tells the answer to a query: the report, or a refusal.
-pub fn tell_report<W: io::Write, E: io::Write>(
-    alloc: Global,
-    answer: &ServerAnswer,
-    out: &mut W,
-    err: &mut E,
-) -> Result<ExitStatus, CommandError>
-    ensures told { IfOk result (λ status. IsTold
-        (printed_report answer.now.status answer.now.body.items)
-        (report_of answer.now.status answer.now.is_interchange answer.now.body.items)
-        (W.contents out.old) (W.contents out.new) status) }
-    ensures said { OnOk result (Appends (E.contents err.old) (E.contents err.new) (told_line
-        (report_of answer.now.status answer.now.is_interchange answer.now.body.items))) }
-    ensures halted { IfErr result
-        (IsHalted (report_of answer.now.status answer.now.is_interchange answer.now.body.items)) }
-{
-    let heard = heard_report(answer.status, answer.is_interchange, &answer.body);
-    tell_query(alloc, answer, heard, out, err)
-}
-
-/// Tells the answer to a query of what clerks alone are shown: the report, or a refusal.
-pub fn tell_look<W: io::Write, E: io::Write>(
-    alloc: Global,
-    answer: &ServerAnswer,
-    out: &mut W,
-    err: &mut E,
-) -> Result<ExitStatus, CommandError>
-    ensures told { IfOk result (λ status. IsTold
-        (printed_report answer.now.status answer.now.body.items)
-        (look_of answer.now.status answer.now.is_interchange answer.now.body.items)
-        (W.contents out.old) (W.contents out.new) status) }
-    ensures said { OnOk result (Appends (E.contents err.old) (E.contents err.new) (told_line
-        (look_of answer.now.status answer.now.is_interchange answer.now.body.items))) }
-    ensures halted { IfErr result
-        (IsHalted (look_of answer.now.status answer.now.is_interchange answer.now.body.items)) }
-{
-    let heard = heard_look(answer.status, answer.is_interchange, &answer.body);
-    tell_query(alloc, answer, heard, out, err)
 }

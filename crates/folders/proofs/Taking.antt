@@ -10,7 +10,7 @@ use Rattle.profile.specs.Moments.{Moment}
 use Rattle.profile.specs.Register.{Entry, Command, Interchange}
 use Rattle.profile.specs.Reply as replies
 use Rattle.profile.specs.Accepted.{accepted_on, replies_on, after, reply_to}
-use Rattle.store.specs.Standing.{Standing, IsUsable, KeepsLegal, IsFault, GoesOn, LeavesEither, OfKept}
+use Rattle.store.specs.Standing.{Standing, IsUsable, KeepsLegal, IsFault, GoesOn, LeavesEither, OfKept, OfUsable}
 use Rattle.store.specs.Fault.{Fault}
 use Rattle.store.specs.Fault.TheVariants.{OutOfMemory, Store, Reopen, NotThisBook, Device}
 use Rattle.store.proofs.Changes.{clean_before, leaves_first, refused_after, unchanged_refl, usable_stays}
@@ -155,8 +155,8 @@ none_counted stop a t is = record {
 
 -- a reply to the text of a file
 pub file_taken : (a b : Standing) (t : Moment) (text : List ℕ) (reply : replies.Reply) (told : Became) → told ≡ became reply
-    → (b.doubt ≡ 0 → (L : List Entry) → IsUsable a L → reply ≡ reply_to Two a.warehouse L (Interchange text) t)
-    → (b.doubt ≡ 0 → (L : List Entry) → IsUsable a L → IsUsable b (after Two a.warehouse L (Interchange text, t)))
+    → OfUsable a b (λ L. reply ≡ reply_to Two a.warehouse L (Interchange text) t)
+    → OfUsable a b (λ L. IsUsable b (after Two a.warehouse L (Interchange text, t)))
     → OfKept a b (λ L. KeepsLegal b (after Two a.warehouse L (Interchange text, t))) → AreTaken a b t (text ∷ []) (told ∷ [])
 file_taken a b t text reply told is said goes keeps = record {
   told_is = λ clean L u. ap (λ (x : Became). x ∷ []) (is ∙ ap became (said clean L u));
@@ -174,7 +174,7 @@ unread a fault t why = record {
 
 -- a fault of the book when a file is handed in
 pub unsubmitted : (a b : Standing) (fault : Fault) (t : Moment) (text : List ℕ) → IsFault fault a b
-    → (b.doubt ≡ 0 → (L : List Entry) → IsUsable a L → LeavesEither b L (after Two a.warehouse L (Interchange text, t))) → IsUntaken fault a b t
+    → OfUsable a b (λ L. LeavesEither b L (after Two a.warehouse L (Interchange text, t))) → IsUntaken fault a b t
 unsubmitted a b fault t text f left = record {
   last = text;
   taken = record {
@@ -185,7 +185,7 @@ unsubmitted a b fault t text f left = record {
 }
 
 -- an answer that can't be written
-pub unanswered : (a b : Standing) (fault : Fault) (t : Moment) (text : List ℕ) → (b.doubt ≡ 0 → (L : List Entry) → IsUsable a L → IsUsable b (after Two a.warehouse L (Interchange text, t)))
+pub unanswered : (a b : Standing) (fault : Fault) (t : Moment) (text : List ℕ) → OfUsable a b (λ L. IsUsable b (after Two a.warehouse L (Interchange text, t)))
     → a.shut ≡ b.shut → IsDeviceFault fault → IsUntaken fault a b t
 unanswered a b fault t text goes same why = record {
   last = text;

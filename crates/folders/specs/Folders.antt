@@ -8,7 +8,7 @@ use Rattle.profile.specs.Register.{Entry, Command, Interchange}
 use Rattle.profile.specs.Reply as replies
 use Rattle.profile.specs.declared.refusals.Refusal.{Refusal}
 use Rattle.profile.specs.Accepted.{accepted_on, replies_on}
-use Rattle.store.specs.Standing.{Standing, IsUsable, KeepsLegal, LeavesEither, OfKept, Refused}
+use Rattle.store.specs.Standing.{Standing, IsUsable, KeepsLegal, LeavesEither, OfKept, OfUsable, Refused}
 use Rattle.store.specs.Fault.{Fault}
 use Rattle.store.specs.Fault.TheVariants.{OutOfMemory, Store, Reopen, NotThisBook, Device}
 use Rattle.folders.specs.declared.folder.FileOutcome.{FileOutcome}
@@ -46,10 +46,10 @@ IsDeviceFault fault = (fault ≡ OutOfMemory) ⊎ (fault ≡ Device)
 -- The texts were handed in one after the other: this became of them, and the register is the one
 -- after them.
 pub record AreTaken (old new : Standing) (t : Moment) (texts : List (List ℕ)) (told : List Became) : Type 0 where
-  pub told_is : new.doubt ≡ 0 → (L : List Entry) → IsUsable old L
-      → told ≡ map became (replies_on Two old.warehouse L (handed t texts))
-  pub usable : new.doubt ≡ 0 → (L : List Entry) → IsUsable old L
-      → IsUsable new (accepted_on Two old.warehouse L (handed t texts))
+  pub told_is : OfUsable old new
+      (λ L. told ≡ map became (replies_on Two old.warehouse L (handed t texts)))
+  pub usable : OfUsable old new
+      (λ L. IsUsable new (accepted_on Two old.warehouse L (handed t texts)))
   pub keeps : OfKept old new (λ L. KeepsLegal new (accepted_on Two old.warehouse L (handed t texts)))
 
 -- a text was handed in, and this became of it
@@ -63,9 +63,9 @@ pub record AreTakenUntil (old new : Standing) (t : Moment) (texts : List (List �
   pub usable : new.doubt ≡ 0 → new.shut ≡ false → (L : List Entry) → IsUsable old L
       → IsUsable new (accepted_on Two old.warehouse L (handed t texts))
       ⊎ IsUsable new (accepted_on Two old.warehouse L (handed t (texts ++ last ∷ [])))
-  pub left : new.doubt ≡ 0 → (L : List Entry) → IsUsable old L
-      → LeavesEither new (accepted_on Two old.warehouse L (handed t texts))
-      (accepted_on Two old.warehouse L (handed t (texts ++ last ∷ [])))
+  pub left : OfUsable old new
+      (λ L. LeavesEither new (accepted_on Two old.warehouse L (handed t texts))
+      (accepted_on Two old.warehouse L (handed t (texts ++ last ∷ []))))
 
 -- Why the rest of a folder wasn't taken.
 pub record IsFolderFault (fault : Fault) (old new : Standing) : Type 0 where

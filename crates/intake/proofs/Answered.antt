@@ -5,7 +5,7 @@ use Rattle.profile.specs.Moments.{Moment}
 use Rattle.profile.specs.Register.{Command, Entry, Interchange}
 use Rattle.profile.specs.Accepted.{IsLegal, is_accepted, reply_to, after}
 use Rattle.profile.specs.Response.{Response, Method, Route, is_exchange, resp, fault_response}
-use Rattle.store.specs.Standing.{Standing, IsUsable, IsUnchanged, IsFault, LeavesEither}
+use Rattle.store.specs.Standing.{Standing, IsUsable, IsUnchanged, IsFault, LeavesEither, OfUsable}
 use Rattle.store.specs.Fault.{Fault}
 use Rattle.store.specs.Fault.TheVariants.{OutOfMemory}
 use Rattle.store.proofs.Changes.{unchanged_refl, leaves_first}
@@ -28,14 +28,14 @@ some_handed_in m r body c e = by (is_exchange m r) e
 
 module _ (old new : Standing) (t : Moment) where
   abbrev pub Taken : Command → Type 0
-  Taken c = new.doubt ≡ 0 → (L : List Entry) → IsUsable old L → IsUsable new (after Two old.warehouse L (c, t))
+  Taken c = OfUsable old new (λ L. IsUsable new (after Two old.warehouse L (c, t)))
 
   abbrev pub Repeated : Command → Type 0
   Repeated c = new.doubt ≡ 0 → (L : List Entry) → old.keeps L → IsLegal Two old.warehouse L
       → is_accepted (reply_to Two old.warehouse L c t) ≡ false → IsUnchanged old new
 
   abbrev pub Left : Command → Type 0
-  Left c = new.doubt ≡ 0 → (L : List Entry) → IsUsable old L → LeavesEither new L (after Two old.warehouse L (c, t))
+  Left c = OfUsable old new (λ L. LeavesEither new L (after Two old.warehouse L (c, t)))
 
 module _ (old new : Standing) (t : Moment) (m : Method) (r : Route) (body : List ℕ) where
   pub served : (answer : Response) → (new.doubt ≡ 0 → (L : List Entry) → old.keeps L → IsLegal Two old.warehouse L → answer ≡ resp Two old.warehouse L m r body t)

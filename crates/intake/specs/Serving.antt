@@ -7,7 +7,7 @@ use Rattle.profile.specs.Header.{Who}
 use Rattle.profile.specs.Register.{Command, Entry, Interchange}
 use Rattle.profile.specs.Accepted.{IsLegal, is_accepted, reply_to, after}
 use Rattle.profile.specs.Response.{Method, Response, fault_response, response_to, submitted, response_bytes}
-use Rattle.store.specs.Standing.{Standing, IsUsable, IsUnchanged, IsFault, LeavesEither}
+use Rattle.store.specs.Standing.{Standing, IsUsable, IsUnchanged, IsFault, LeavesEither, OfKept, OfUsable}
 use Rattle.store.specs.Fault.{Fault}
 use Rattle.std.specs.Io.KnownBytes.{Appends}
 use Rattle.intake.specs.Gauges.{Grew, AppendsBeginning}
@@ -53,11 +53,10 @@ pub record IsServed (old new : Standing) (t : Moment) (submits : Option Command)
   pub response : new.doubt ≡ 0 → (L : List Entry) → old.keeps L → IsLegal Two old.warehouse L
       → r ≡ meant L
   pub kept : submits ≡ None → IsUnchanged old new
-  pub taken : (c : Command) → submits ≡ Some c → new.doubt ≡ 0 → (L : List Entry) → IsUsable old L
-      → IsUsable new (after Two old.warehouse L (c, t))
-  pub repeated : (c : Command) → submits ≡ Some c → new.doubt ≡ 0 → (L : List Entry) → old.keeps L
-      → IsLegal Two old.warehouse L
-      → is_accepted (reply_to Two old.warehouse L c t) ≡ false → IsUnchanged old new
+  pub taken : (c : Command) → submits ≡ Some c
+      → OfUsable old new (λ L. IsUsable new (after Two old.warehouse L (c, t)))
+  pub repeated : (c : Command) → submits ≡ Some c → OfKept old new
+      (λ L. is_accepted (reply_to Two old.warehouse L c t) ≡ false → IsUnchanged old new)
   pub opened : (c : Command) → submits ≡ Some c → new.shut ≡ false
 
 -- The 503 of a fault that happened. The book is as it was, or it has to be opened again; then a
@@ -67,8 +66,8 @@ pub record IsFaulted (old new : Standing) (t : Moment) (submits : Option Command
   pub response : r ≡ fault_response fault
   pub why : IsFault fault old new
   pub kept : submits ≡ None → IsUnchanged old new
-  pub left : (c : Command) → submits ≡ Some c → new.doubt ≡ 0 → (L : List Entry) → IsUsable old L
-      → LeavesEither new L (after Two old.warehouse L (c, t))
+  pub left : (c : Command) → submits ≡ Some c
+      → OfUsable old new (λ L. LeavesEither new L (after Two old.warehouse L (c, t)))
 
 abbrev pub IsAnswered : Standing → Standing → Moment → Option Command → (List Entry → Response)
     → Response → Type 0

@@ -3,7 +3,7 @@ ghost use Rattle.profile.specs.declared.rules.Rules.TheVariants.{Two};
 ghost use Rattle.profile.specs.Accepted.{is_accepted, reply_to, after};
 ghost use Rattle.profile.specs.Register.{Entry, Interchange};
 ghost use Rattle.profile.specs.Response.{Post, is_exchange, reply_response, resp};
-ghost use Rattle.store.specs.Standing.{IsUsable, IsUnchanged, GoesOn, IsFault, LeavesEither, OfKept};
+ghost use Rattle.store.specs.Standing.{IsUsable, IsUnchanged, GoesOn, IsFault, LeavesEither, OfKept, OfUsable};
 ghost use Rattle.intake.specs.Answers.{seen};
 ghost use Rattle.intake.specs.Asking.{route_asks, IsResponseOf, IsShutAnswer};
 ghost use Rattle.intake.specs.Fields.{seen_method, method_of};
@@ -33,15 +33,13 @@ fn hand_in<K: Keeper>(
     ensures repeated { OfKept (K.standing keeper.old) (K.standing keeper.new)
         (λ L. is_accepted (reply_to Two (K.standing keeper.old).warehouse L (Interchange body.now) moment)
         ≡ false → OnOk result (IsUnchanged (K.standing keeper.old) (K.standing keeper.new))) }
-    ensures taken { (K.standing keeper.new).doubt ≡ 0 → (L : List Entry)
-        → IsUsable (K.standing keeper.old) L
-        → OnOk result (IsUsable (K.standing keeper.new) (after Two (K.standing keeper.old).warehouse L
-        (Interchange body.now, moment))) }
-    ensures left { (K.standing keeper.new).doubt ≡ 0 → (L : List Entry)
-        → IsUsable (K.standing keeper.old) L
-        → OnErr result (LeavesEither (K.standing keeper.new) L
+    ensures taken { OfUsable (K.standing keeper.old) (K.standing keeper.new)
+        (λ L. OnOk result (IsUsable (K.standing keeper.new) (after Two (K.standing keeper.old).warehouse L
+        (Interchange body.now, moment)))) }
+    ensures left { OfUsable (K.standing keeper.old) (K.standing keeper.new)
+        (λ L. OnErr result (LeavesEither (K.standing keeper.new) L
         (after Two (K.standing keeper.old).warehouse L
-        (Interchange body.now, moment))) }
+        (Interchange body.now, moment)))) }
     ensures opened { OnOk result ((K.standing keeper.new).shut ≡ false) }
     ensures fault { IfErr result
         (λ fault. IsFault fault (K.standing keeper.old) (K.standing keeper.new)) }
@@ -71,16 +69,14 @@ fn posted<K: Keeper>(
         (λ L. is_accepted (reply_to Two (K.standing keeper.old).warehouse L (Interchange body.now) moment)
         ≡ false → OnOk result (IsUnchanged (K.standing keeper.old) (K.standing keeper.new))) }
     ensures taken { is_exchange Post (seen_route route.now) ≡ true
-        → (K.standing keeper.new).doubt ≡ 0
-        → (L : List Entry) → IsUsable (K.standing keeper.old) L
-        → OnOk result (IsUsable (K.standing keeper.new) (after Two (K.standing keeper.old).warehouse L
-        (Interchange body.now, moment))) }
+        → OfUsable (K.standing keeper.old) (K.standing keeper.new)
+        (λ L. OnOk result (IsUsable (K.standing keeper.new) (after Two (K.standing keeper.old).warehouse L
+        (Interchange body.now, moment)))) }
     ensures left { is_exchange Post (seen_route route.now) ≡ true
-        → (K.standing keeper.new).doubt ≡ 0
-        → (L : List Entry) → IsUsable (K.standing keeper.old) L
-        → OnErr result (LeavesEither (K.standing keeper.new) L
+        → OfUsable (K.standing keeper.old) (K.standing keeper.new)
+        (λ L. OnErr result (LeavesEither (K.standing keeper.new) L
         (after Two (K.standing keeper.old).warehouse L
-        (Interchange body.now, moment))) }
+        (Interchange body.now, moment)))) }
     ensures opened { is_exchange Post (seen_route route.now) ≡ true
         → OnOk result ((K.standing keeper.new).shut ≡ false) }
     ensures fault { IfErr result
@@ -116,14 +112,14 @@ fn answered<K: Keeper>(
         moment) ≡ false
         → OnOk result (IsUnchanged (K.standing keeper.old) (K.standing keeper.new))) }
     ensures taken { is_exchange (seen_method method) (seen_route route.now) ≡ true
-        → (K.standing keeper.new).doubt ≡ 0 → (L : List Entry) → IsUsable (K.standing keeper.old) L
-        → OnOk result (IsUsable (K.standing keeper.new) (after Two (K.standing keeper.old).warehouse L
-        (Interchange body.now, moment))) }
+        → OfUsable (K.standing keeper.old) (K.standing keeper.new)
+        (λ L. OnOk result (IsUsable (K.standing keeper.new) (after Two (K.standing keeper.old).warehouse L
+        (Interchange body.now, moment)))) }
     ensures left { is_exchange (seen_method method) (seen_route route.now) ≡ true
-        → (K.standing keeper.new).doubt ≡ 0 → (L : List Entry) → IsUsable (K.standing keeper.old) L
-        → OnErr result (LeavesEither (K.standing keeper.new) L
+        → OfUsable (K.standing keeper.old) (K.standing keeper.new)
+        (λ L. OnErr result (LeavesEither (K.standing keeper.new) L
         (after Two (K.standing keeper.old).warehouse L
-        (Interchange body.now, moment))) }
+        (Interchange body.now, moment)))) }
     ensures opened { is_exchange (seen_method method) (seen_route route.now) ≡ true
         → OnOk result ((K.standing keeper.new).shut ≡ false) }
     ensures fault { IfErr result

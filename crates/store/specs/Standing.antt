@@ -49,6 +49,10 @@ abbrev pub OfKept : Standing → Standing → (List Entry → Type 0) → Type 0
 OfKept old new P = new.doubt ≡ 0 → (L : List Entry) → old.keeps L → IsLegal Two old.warehouse L
     → P L
 
+-- of the register of a book that serves, if the disk is in no doubt after the call
+abbrev pub OfUsable : Standing → Standing → (List Entry → Type 0) → Type 0
+OfUsable old new P = new.doubt ≡ 0 → (L : List Entry) → IsUsable old L → P L
+
 -- no count falls, and the warehouse is the same
 pub record GoesOn (old new : Standing) : Type 0 where
   pub warehouse : new.warehouse ≡ old.warehouse

@@ -8,7 +8,7 @@ ghost use Rattle.store.specs.Held.{IsHeld};
 ghost use Rattle.store.specs.Known.{first_under};
 ghost use Rattle.store.specs.Open.{open_of, open_on, enrolled};
 ghost use Rattle.store.specs.Sent.{text_of};
-ghost use Rattle.store.specs.Standing.{Standing, IsUsable, IsNext, IsUnchanged, GoesOn, LeavesEither, IsFault, IsCommitFault, IsQuery, OfKept};
+ghost use Rattle.store.specs.Standing.{Standing, IsUsable, IsNext, IsUnchanged, GoesOn, LeavesEither, IsFault, IsCommitFault, IsQuery, OfKept, OfUsable};
 
 use crate::rows::{OutRow, StockRow};
 use profile::Fault;
@@ -50,20 +50,19 @@ pub trait Keeper {
     /// Appends an entry, with the rows that it changes and the text that goes out for it, in one
     /// transaction.
     fn commit(&mut self, entry: &Entry, changes: &[Change], outgoing: &[u8]) -> Result<(), Fault>
-        ensures ok { (standing self.new).doubt ≡ 0 → (L : List register.Entry) (e : register.Entry)
-            → IsUsable (standing self.old) L
+        ensures ok { OfUsable (standing self.old) (standing self.new)
+            (λ L. (e : register.Entry)
             → IsNext (standing self.old).warehouse L e entry.now changes.now outgoing.now
-            → OnOk result (IsUsable (standing self.new) (L ++ e ∷ [])) }
+            → OnOk result (IsUsable (standing self.new) (L ++ e ∷ []))) }
         ensures keeps { (standing self.new).doubt ≡ 0
             → (L : List register.Entry) (e : register.Entry)
             → (standing self.old).keeps L
             → IsNext (standing self.old).warehouse L e entry.now changes.now outgoing.now
             → OnOk result ((standing self.new).keeps (L ++ e ∷ [])) }
-        ensures left { (standing self.new).doubt ≡ 0
-            → (L : List register.Entry) (e : register.Entry)
-            → IsUsable (standing self.old) L
+        ensures left { OfUsable (standing self.old) (standing self.new)
+            (λ L. (e : register.Entry)
             → IsNext (standing self.old).warehouse L e entry.now changes.now outgoing.now
-            → OnErr result (LeavesEither (standing self.new) L (L ++ e ∷ [])) }
+            → OnErr result (LeavesEither (standing self.new) L (L ++ e ∷ []))) }
         ensures opened { OnOk result ((standing self.new).shut ≡ false) }
         ensures fault { IfErr result
             (λ fault. IsFault fault (standing self.old) (standing self.new)) }

@@ -11,7 +11,7 @@ ghost use Rattle.rules.specs.Tabled.{LeadsInTables};
 ghost use Rattle.store.specs.Held.{IsDecided};
 ghost use Rattle.store.specs.Sent.{text_of};
 ghost use Rattle.store.specs.Runs.{told, all_asked, can_be_given, UnlessAccepted};
-ghost use Rattle.store.specs.Standing.{Standing, IsUsable, IsUnchanged, GoesOn, IsFault, IsQuery, IsRunFault, KeepsLegal, LeavesEither, OfKept};
+ghost use Rattle.store.specs.Standing.{Standing, IsUsable, IsUnchanged, GoesOn, IsFault, IsQuery, IsRunFault, KeepsLegal, LeavesEither, OfKept, OfUsable};
 
 use crate::keeping::Keeper;
 use crate::rows::{OutRow, StockRow};
@@ -105,33 +105,22 @@ pub fn submit_under<K: Keeper>(
     ensures reply { OfKept (K.standing keeper.old) (K.standing keeper.new)
         (λ L. IfOk result (λ reply. told reply ≡ reply_to rules (K.standing keeper.old).warehouse L
         (asked command.now) moment)) }
-    ensures ok { (K.standing keeper.new).doubt ≡ 0 → (L : List register.Entry)
-        → IsUsable (K.standing keeper.old) L
-        → IsLegal Two (K.standing keeper.old).warehouse (after rules (K.standing keeper.old).warehouse L (
-          asked
-              command.now,
-          moment,
-        ))
-        → OnOk result (IsUsable (K.standing keeper.new) (after rules (K.standing keeper.old).warehouse L (
-          asked
-              command.now,
-          moment,
-        ))) }
+    ensures ok { OfUsable (K.standing keeper.old) (K.standing keeper.new)
+        (λ L. IsLegal Two (K.standing keeper.old).warehouse (after rules (K.standing keeper.old).warehouse L
+        (asked command.now, moment))
+        → OnOk result (IsUsable (K.standing keeper.new) (after rules (K.standing keeper.old).warehouse L
+        (asked command.now, moment)))) }
     ensures keeps { OfKept (K.standing keeper.old) (K.standing keeper.new)
         (λ L. IsLegal Two (K.standing keeper.old).warehouse (after rules (K.standing keeper.old).warehouse L
         (asked command.now, moment))
         → OnOk result (KeepsLegal (K.standing keeper.new) (after rules (K.standing keeper.old).warehouse L
         (asked command.now, moment)))) }
-    ensures left { (K.standing keeper.new).doubt ≡ 0 → (L : List register.Entry)
-        → IsUsable (K.standing keeper.old) L
-        → IsLegal Two (K.standing keeper.old).warehouse (after rules (K.standing keeper.old).warehouse L (
-          asked
-              command.now,
-          moment,
-        ))
+    ensures left { OfUsable (K.standing keeper.old) (K.standing keeper.new)
+        (λ L. IsLegal Two (K.standing keeper.old).warehouse (after rules (K.standing keeper.old).warehouse L
+        (asked command.now, moment))
         → OnErr result (LeavesEither (K.standing keeper.new) L
         (after rules (K.standing keeper.old).warehouse L
-        (asked command.now, moment))) }
+        (asked command.now, moment)))) }
     ensures kept { IfOk result
         (λ reply. UnlessAccepted reply (IsUnchanged (K.standing keeper.old) (K.standing keeper.new))) }
     ensures opened { OnOk result ((K.standing keeper.new).shut ≡ false) }
@@ -171,22 +160,19 @@ pub fn submit<K: Keeper>(
     ensures reply { OfKept (K.standing keeper.old) (K.standing keeper.new)
         (λ L. IfOk result (λ reply. told reply ≡ reply_to Two (K.standing keeper.old).warehouse L
         (asked command.now) moment)) }
-    ensures ok { (K.standing keeper.new).doubt ≡ 0 → (L : List register.Entry)
-        → IsUsable (K.standing keeper.old) L → is_command Two (asked command.now) ≡ true
-        → OnOk result (IsUsable (K.standing keeper.new) (after Two (K.standing keeper.old).warehouse L (
-          asked
-              command.now,
-          moment,
-        ))) }
+    ensures ok { OfUsable (K.standing keeper.old) (K.standing keeper.new)
+        (λ L. is_command Two (asked command.now) ≡ true
+        → OnOk result (IsUsable (K.standing keeper.new) (after Two (K.standing keeper.old).warehouse L
+        (asked command.now, moment)))) }
     ensures keeps { OfKept (K.standing keeper.old) (K.standing keeper.new)
         (λ L. is_command Two (asked command.now) ≡ true
         → OnOk result (KeepsLegal (K.standing keeper.new) (after Two (K.standing keeper.old).warehouse L
         (asked command.now, moment)))) }
-    ensures left { (K.standing keeper.new).doubt ≡ 0 → (L : List register.Entry)
-        → IsUsable (K.standing keeper.old) L → is_command Two (asked command.now) ≡ true
+    ensures left { OfUsable (K.standing keeper.old) (K.standing keeper.new)
+        (λ L. is_command Two (asked command.now) ≡ true
         → OnErr result (LeavesEither (K.standing keeper.new) L
         (after Two (K.standing keeper.old).warehouse L
-        (asked command.now, moment))) }
+        (asked command.now, moment)))) }
     ensures kept { IfOk result
         (λ reply. UnlessAccepted reply (IsUnchanged (K.standing keeper.old) (K.standing keeper.new))) }
     ensures opened { OnOk result ((K.standing keeper.new).shut ≡ false) }
@@ -252,24 +238,21 @@ fn answer_next<K: Keeper>(
     ensures reply { OfKept (K.standing keeper.old) (K.standing keeper.new)
         (λ L. OnOk result (map told replies.new.items ≡ map told replies.old.items ++ reply_to Two
         (K.standing keeper.old).warehouse L (asked command.now) moment ∷ [])) }
-    ensures ok { (K.standing keeper.new).doubt ≡ 0 → (L : List register.Entry)
-        → IsUsable (K.standing keeper.old) L → is_command Two (asked command.now) ≡ true
-        → OnOk result (IsUsable (K.standing keeper.new) (after Two (K.standing keeper.old).warehouse L (
-          asked
-              command.now,
-          moment,
-        ))) }
+    ensures ok { OfUsable (K.standing keeper.old) (K.standing keeper.new)
+        (λ L. is_command Two (asked command.now) ≡ true
+        → OnOk result (IsUsable (K.standing keeper.new) (after Two (K.standing keeper.old).warehouse L
+        (asked command.now, moment)))) }
     ensures keeps { OfKept (K.standing keeper.old) (K.standing keeper.new)
         (λ L. is_command Two (asked command.now) ≡ true
         → OnOk result (KeepsLegal (K.standing keeper.new) (after Two (K.standing keeper.old).warehouse L
         (asked command.now, moment)))) }
     ensures more { OnOk result (length replies.new.items ≡ length replies.old.items + 1) }
     ensures no_more { OnErr result (replies.new.items ≡ replies.old.items) }
-    ensures left { (K.standing keeper.new).doubt ≡ 0 → (L : List register.Entry)
-        → IsUsable (K.standing keeper.old) L → is_command Two (asked command.now) ≡ true
+    ensures left { OfUsable (K.standing keeper.old) (K.standing keeper.new)
+        (λ L. is_command Two (asked command.now) ≡ true
         → OnErr result (LeavesEither (K.standing keeper.new) L
         (after Two (K.standing keeper.old).warehouse L
-        (asked command.now, moment))) }
+        (asked command.now, moment)))) }
     ensures opened { OnOk result ((K.standing keeper.old).shut ≡ (K.standing keeper.new).shut) }
     ensures fault { IfErr result
         (λ fault. IsFault fault (K.standing keeper.old) (K.standing keeper.new)) }
@@ -289,28 +272,25 @@ fn answer_next<K: Keeper>(
 pub fn run<K: Keeper>(alloc: Global, keeper: &mut K, commands: &[(Command<'_>, Moment)]) -> Outcome
     ensures all { IsNone result.fault → length result.replies.items ≡ length commands.now }
     ensures stopped { IsSome result.fault → length result.replies.items < length commands.now }
-    ensures replies { (K.standing keeper.new).doubt ≡ 0 → (L : List register.Entry)
-        → IsUsable (K.standing keeper.old) L
-        → can_be_given (take (length result.replies.items + 1) commands.now) ≡ true
+    ensures replies { OfUsable (K.standing keeper.old) (K.standing keeper.new)
+        (λ L. can_be_given (take (length result.replies.items + 1) commands.now) ≡ true
         → map told result.replies.items ≡ replies_on Two (K.standing keeper.old).warehouse L (take (length
-        result.replies.items) (all_asked commands.now)) }
-    ensures left { (K.standing keeper.new).doubt ≡ 0 → (L : List register.Entry)
-        → IsUsable (K.standing keeper.old) L
-        → can_be_given (take (length result.replies.items + 1) commands.now) ≡ true
+        result.replies.items) (all_asked commands.now))) }
+    ensures left { OfUsable (K.standing keeper.old) (K.standing keeper.new)
+        (λ L. can_be_given (take (length result.replies.items + 1) commands.now) ≡ true
         → (K.standing keeper.new).shut ≡ false
         → IsUsable (K.standing keeper.new)
         (accepted_on Two (K.standing keeper.old).warehouse L (take (length
-        result.replies.items) (all_asked commands.now))) }
-    ensures broken { (K.standing keeper.new).doubt ≡ 0 → (L : List register.Entry)
-        → IsUsable (K.standing keeper.old) L
-        → can_be_given (take (length result.replies.items + 1) commands.now) ≡ true
+        result.replies.items) (all_asked commands.now)))) }
+    ensures broken { OfUsable (K.standing keeper.old) (K.standing keeper.new)
+        (λ L. can_be_given (take (length result.replies.items + 1) commands.now) ≡ true
         → (K.standing keeper.new).shut ≡ true
         → IsSome result.fault × LeavesEither (K.standing keeper.new)
         (accepted_on Two (K.standing keeper.old).warehouse L (take (length result.replies.items) (all_asked
         commands.now)))
         (accepted_on Two (K.standing keeper.old).warehouse L (take (length result.replies.items
         + 1) (all_asked
-        commands.now))) }
+        commands.now)))) }
     ensures goes { GoesOn (K.standing keeper.old) (K.standing keeper.new) }
     ensures fault { IfSome result.fault
         (λ fault. IsRunFault fault (can_be_given (take (length result.replies.items + 1) commands.now))

@@ -1,3 +1,2 @@
 mod calls;
-mod laying;
 mod texts;

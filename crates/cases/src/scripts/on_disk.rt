@@ -58,42 +58,42 @@ UPDATE outgoing SET state = 'open', kind = '999' WHERE n = 2|outbox ZZ-ACME
 ";
 
 /// Lines over books that can't be opened: the book, the line over it, its exit status, and what is
-/// told, its lines too with `|` between them. In `/proc` nobody can make a file.
+/// told, with `|` after each of its lines. In `/proc` nobody can make a file.
 pub const UNOPENED: &str = "\
-nowhere.book|stock ZZ-ACME|3|fault 44 Device
-.|stock ZZ-ACME|3|fault 44 Device
-no-folder/a.book|init ZZ-WHSE1|3|fault 44 Device
-/proc/house.book|init ZZ-WHSE1|3|fault 44 Device
-/proc/house.book|enrol ZZ-ACME|3|fault 44 Device
-/proc/house.book|stock ZZ-ACME|3|fault 44 Device
-:memory:|init ZZ-WHSE1|3|fault 44 Device
-held.book|enrol ZZ-ACME --wait 1|3|fault 44 Device
-held.book|init ZZ-WHSE1 --wait 0|3|fault 44 Device
-text.book|stock ZZ-ACME|3|fault 43 NotThisBook
-text.book|init ZZ-WHSE1|3|fault 43 NotThisBook
-other.book|stock ZZ-ACME|3|fault 41 Store
-other.book|init ZZ-WHSE1|3|fault 43 NotThisBook
-text.book|init WHSE1|1|refused 32 BadText
-text.book|outbox acme|1|refused 32 BadText
-text.book|send no.x12|3|fault 44 Device
-text.book|recount ZZ-ACME R#1 no.csv|1|refused 32 BadText
-nowhere.book|stock ZZ-ACME --explain|3|fault 44 Device|nowhere.book: no such file; `whx12 init WHO --book nowhere.book` makes a book
-held.book|stock ZZ-ACME --wait 0 --explain|3|fault 44 Device|held.book is in use: is a server running? Ask it by --server ADDR, or wait longer by --wait SECONDS
-/proc/house.book|init ZZ-WHSE1 --explain|3|fault 44 Device|/proc/house.book can't be opened: look at its rights, those of its folder, and whether it has a second name (a hard link)
-other.book|stock ZZ-ACME --explain|3|fault 41 Store|other.book: the database refused a statement; is it a book, and its disk full or failing?
-other.book|init ZZ-WHSE1 --explain|3|fault 43 NotThisBook|other.book has a book already, or other tables
-text.book|stock ZZ-ACME --explain|3|fault 43 NotThisBook|text.book is no book of this program, or is damaged: see docs/OPERATIONS.md on backups
-text.book|send no.x12 --explain|3|fault 44 Device|no.x12: no such file
-text.book|send . --explain|3|fault 44 Device|.: it is a folder
-text.book|batch no.txt --explain|3|fault 44 Device|no.txt: no such file
-text.book|init WHSE1 --explain|1|refused 32 BadText|WHSE1: a name is a qualifier of two characters, a hyphen and an id of 2 to 15, as ZZ-ACME, of A to Z, 0 to 9, - and .
-text.book|recount ZZ-ACME R#1 no.csv --explain|1|refused 32 BadText|R#1: a ticket has 1 to 20 characters of A to Z, 0 to 9, - and .
-text.book|orders ZZ-ACME ORD#1 --explain|1|refused 32 BadText|ORD#1: a number has 1 to 22 characters of A to Z, 0 to 9, - and .
-text.book|count ZZ-ACME C-1 SHP1 item.csv --explain|1|refused 32 BadText|item.csv line 2: an item has 1 to 20 characters of A to Z, 0 to 9, - and .
-text.book|count ZZ-ACME C-1 SHP1 much.csv --explain|1|refused 30 TooMuch|much.csv line 3: BOLT L2: a quantity is at most 999,999
-text.book|recount ZZ-ACME R-1 digits.csv --explain|1|refused 32 BadText|digits.csv line 1: BOLT L1: a quantity is digits alone
-text.book|pick ZZ-ACME P-1 ORD1 twice.csv --explain|1|refused 31 RepeatedLine|twice.csv line 2: BOLT L1: a line before it has this pair
-text.book|pick ZZ-ACME P-1 ORD1 none.csv --explain|1|refused 32 BadText|none.csv line 1: BOLT L1: a picked quantity is 1 at least
-nowhere.book|serve --listen 0.0.0.0:8080 --count 1 --anyone|3|fault 44 Device
-text.book|roster text.book --explain|1|refused 32 BadText|text.book: a list is TOML with the key `depositors`, an array of names as \"ZZ-ACME\"
+nowhere.book|stock ZZ-ACME|3|fault 44 Device|
+.|stock ZZ-ACME|3|fault 44 Device|
+no-folder/a.book|init ZZ-WHSE1|3|fault 44 Device|
+/proc/house.book|init ZZ-WHSE1|3|fault 44 Device|
+/proc/house.book|enrol ZZ-ACME|3|fault 44 Device|
+/proc/house.book|stock ZZ-ACME|3|fault 44 Device|
+:memory:|init ZZ-WHSE1|3|fault 44 Device|
+held.book|enrol ZZ-ACME --wait 1|3|fault 44 Device|
+held.book|init ZZ-WHSE1 --wait 0|3|fault 44 Device|
+text.book|stock ZZ-ACME|3|fault 43 NotThisBook|
+text.book|init ZZ-WHSE1|3|fault 43 NotThisBook|
+other.book|stock ZZ-ACME|3|fault 41 Store|
+other.book|init ZZ-WHSE1|3|fault 43 NotThisBook|
+text.book|init WHSE1|1|refused 32 BadText|
+text.book|outbox acme|1|refused 32 BadText|
+text.book|send no.x12|3|fault 44 Device|
+text.book|recount ZZ-ACME R#1 no.csv|1|refused 32 BadText|
+nowhere.book|stock ZZ-ACME --explain|3|fault 44 Device|nowhere.book: no such file; `whx12 init WHO --book nowhere.book` makes a book|
+held.book|stock ZZ-ACME --wait 0 --explain|3|fault 44 Device|held.book is in use: is a server running? Ask it by --server ADDR, or wait longer by --wait SECONDS|
+/proc/house.book|init ZZ-WHSE1 --explain|3|fault 44 Device|/proc/house.book can't be opened: look at its rights, those of its folder, and whether it has a second name (a hard link)|
+other.book|stock ZZ-ACME --explain|3|fault 41 Store|other.book: the database refused a statement; is it a book, and its disk full or failing?|
+other.book|init ZZ-WHSE1 --explain|3|fault 43 NotThisBook|other.book has a book already, or other tables|
+text.book|stock ZZ-ACME --explain|3|fault 43 NotThisBook|text.book is no book of this program, or is damaged: see docs/OPERATIONS.md on backups|
+text.book|send no.x12 --explain|3|fault 44 Device|no.x12: no such file|
+text.book|send . --explain|3|fault 44 Device|.: it is a folder|
+text.book|batch no.txt --explain|3|fault 44 Device|no.txt: no such file|
+text.book|init WHSE1 --explain|1|refused 32 BadText|WHSE1: a name is a qualifier of two characters, a hyphen and an id of 2 to 15, as ZZ-ACME, of A to Z, 0 to 9, - and .|
+text.book|recount ZZ-ACME R#1 no.csv --explain|1|refused 32 BadText|R#1: a ticket has 1 to 20 characters of A to Z, 0 to 9, - and .|
+text.book|orders ZZ-ACME ORD#1 --explain|1|refused 32 BadText|ORD#1: a number has 1 to 22 characters of A to Z, 0 to 9, - and .|
+text.book|count ZZ-ACME C-1 SHP1 item.csv --explain|1|refused 32 BadText|item.csv line 2: an item has 1 to 20 characters of A to Z, 0 to 9, - and .|
+text.book|count ZZ-ACME C-1 SHP1 much.csv --explain|1|refused 30 TooMuch|much.csv line 3: BOLT L2: a quantity is at most 999,999|
+text.book|recount ZZ-ACME R-1 digits.csv --explain|1|refused 32 BadText|digits.csv line 1: BOLT L1: a quantity is digits alone|
+text.book|pick ZZ-ACME P-1 ORD1 twice.csv --explain|1|refused 31 RepeatedLine|twice.csv line 2: BOLT L1: a line before it has this pair|
+text.book|pick ZZ-ACME P-1 ORD1 none.csv --explain|1|refused 32 BadText|none.csv line 1: BOLT L1: a picked quantity is 1 at least|
+nowhere.book|serve --listen 0.0.0.0:8080 --count 1 --anyone|3|fault 44 Device|
+text.book|roster text.book --explain|1|refused 32 BadText|text.book: a list is TOML with the key `depositors`, an array of names as \"ZZ-ACME\"|
 ";

@@ -1,14 +1,7 @@
 //! Public calls, where it isn't a story that shows them: stores that fail, requests and responses
-//! that break off, want of memory.
-mod beside;
+//! that break off.
 mod breaking;
-mod carried;
-mod day;
 mod exchanges;
-mod in_tables;
-mod needed;
-mod stopped;
-mod want;
 pub(crate) mod worked;
 
 use std::test::Fail;

@@ -23,6 +23,7 @@ mod carried;
 mod changes;
 mod inboxes;
 mod on_disk;
+mod ran;
 mod served;
 mod usage;
 
@@ -34,7 +35,7 @@ use cases::sections::section_of;
 use cases::spreading::spread;
 use cases::stories;
 use commands::Verbosity;
-use running::command;
+use ran::{Ran, Wanted, do_lines, run, run_explained, run_lines, run_over, run_text, run_words};
 use std::fs;
 use std::test::Fail;
 
@@ -46,116 +47,9 @@ const ADVICE: &str =
 const ANSWER: &str =
     "ISA*00*          *00*          *ZZ*WHSE1          *ZZ*ACME           *250304*0915*U*00401*000000001*0*P*>~TA1*000000001*250304*0915*A*000~GS*FA*WHSE1*ACME*20250304*0915*1*X*004010~ST*997*0001~AK1*AR*1~AK2*943*0001~AK5*A~AK9*A*1*1*1~SE*6*0001~GE*1*1~IEA*1*000000001~\n";
 
-// What is to come of a script.
-#[derive(Clone, Copy)]
-struct Wanted<'a> {
-    // what is printed
-    printed: &'a str,
-    // what is told on standard error
-    told: &'a str,
-    // the exit status
-    status: u8,
-}
-
-// What a run came to.
-#[derive(Drop)]
-struct Ran {
-    // the exit status
-    status: u8,
-    // what was printed
-    out: String,
-    // what was told on standard error
-    err: String,
-}
-
-impl Ran {
-    // What was printed and told, as texts.
-    fn new(rt: &HostRuntime, status: u8, out: &[u8], err: &[u8]) -> Result<Ran, Fail> {
-        Ok(Ran {
-            status,
-            out: std::str::from_utf8(out)?.to_string(rt.alloc())?,
-            err: std::str::from_utf8(err)?.to_string(rt.alloc())?,
-        })
-    }
-
-    // A failure, if it isn't what was to come of a script.
-    fn compare(&self, name: &str, wanted: &Wanted<'_>) -> Result<(), Fail> {
-        let (status, told, printed) = (self.status, self.err.as_str(), self.out.as_str());
-        if status == wanted.status && told == wanted.told && printed == wanted.printed {
-            Ok(())
-        } else {
-            Err(Fail::new(format_args!("{name}: status {status}, told {told}, printed {printed}")))
-        }
-    }
-}
-
 // Whether the file holds this text.
 fn holds(rt: &HostRuntime, file: &str, text: &str) -> Result<bool, Fail> {
     Ok(fs::read(rt, file)?.as_slice() == text.as_bytes())
-}
-
-// Runs a line of words.
-fn run(rt: &HostRuntime, words: &[&str]) -> Result<Ran, Fail> {
-    let mut out = Vec::new(rt.alloc());
-    let mut err = Vec::new(rt.alloc());
-    let status = command(rt, words, &mut out, &mut err);
-    Ran::new(rt, status, &out, &err)
-}
-
-// Runs a script of this text.
-fn run_text(rt: &HostRuntime, text: &str) -> Result<Ran, Fail> {
-    fs::write(rt, "case.script", text)?;
-    run(rt, &["script", "case.script"])
-}
-
-// Runs a script of this text, and asks why lines are refused.
-fn run_explained(rt: &HostRuntime, text: &str) -> Result<Ran, Fail> {
-    fs::write(rt, "case.script", text)?;
-    run(rt, &["script", "case.script", "--explain"])
-}
-
-// Runs a line of words over the book in a file, which is named after its first word. The result is
-// the exit status.
-fn run_over(
-    rt: &HostRuntime,
-    book: &str,
-    line: &str,
-    out: &mut Vec<u8>,
-    err: &mut Vec<u8>,
-) -> Result<u8, Fail> {
-    let mut words = Vec::new(rt.alloc());
-    for word in line.split(' ') {
-        words.push(word)?;
-        if words.len() == 1 {
-            words.push("--book")?;
-            words.push(book)?;
-        }
-    }
-    Ok(command(rt, &words, out, err))
-}
-
-// Runs the lines of a text over the book in a file, one after the other, to the first that is no
-// done or refused command. The status is the greatest one.
-fn run_lines(rt: &HostRuntime, book: &str, text: &str) -> Result<Ran, Fail> {
-    let mut out = Vec::new(rt.alloc());
-    let mut err = Vec::new(rt.alloc());
-    let mut status = 0;
-    for line in text.split('\n') {
-        if !line.is_empty() && status < 2 {
-            status = run_over(rt, book, line, &mut out, &mut err)?.max(status);
-        }
-    }
-    Ran::new(rt, status, &out, &err)
-}
-
-// Runs lines of the same kind, each of which is to be done.
-fn do_lines(rt: &HostRuntime, book: &str, text: &str) -> Result<(), Fail> {
-    let ran = run_lines(rt, book, text)?;
-    if ran.status == 0 && ran.err.is_empty() {
-        Ok(())
-    } else {
-        Err(Fail::new(format_args!("{text}: status {}, told {}", ran.status, ran.err)))
-    }
 }
 
 // Removes a file, if it is there.
@@ -247,26 +141,38 @@ enum Ways {
     Each,
 }
 
+// Plays the script of a case, and asks why lines are refused where the case says what is told then.
+fn play_ways(
+    rt: &HostRuntime,
+    name: &str,
+    sections: &str,
+    ways: Ways,
+    wanted: &Wanted<'_>,
+) -> Result<(), Fail> {
+    let script = section_of(sections, "script").1;
+    match ways {
+        Ways::Whole => play_whole(rt, name, script, wanted)?,
+        Ways::Each => play(rt, name, script, wanted)?,
+    }
+    match section_of(sections, "explained").1 {
+        "" => Ok(()),
+        told => play_explained(rt, name, script, &Wanted { told, ..*wanted }),
+    }
+}
+
 // Plays a case.
 fn play_case(rt: &HostRuntime, case: &str, ways: Ways) -> Result<(), Fail> {
     let (name, sections) = case.split_once('\n').ok_or("sections")?;
     write_files(rt, sections)?;
     let (status, told) = section_of(sections, "ends");
+    let status = status.parse()?;
     let printed = spread(rt.alloc(), section_of(sections, "printed").1)?;
     let wanted = Wanted {
         printed: printed.as_str(),
         told,
-        status: status.parse()?,
+        status,
     };
-    let script = section_of(sections, "script").1;
-    match ways {
-        Ways::Whole => play_whole(rt, name, script, &wanted)?,
-        Ways::Each => play(rt, name, script, &wanted)?,
-    }
-    match section_of(sections, "explained").1 {
-        "" => Ok(()),
-        told => play_explained(rt, name, script, &Wanted { told, ..wanted }),
-    }
+    play_ways(rt, name, sections, ways, &wanted)
 }
 
 // Plays each case of a text, after the files that they have in common.

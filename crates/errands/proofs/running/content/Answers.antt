@@ -1,5 +1,6 @@
 use Rattle.std.proofs.Common.{rules, inl, inr, refl}
 use Rattle.std.proofs.lemmas.Result.{IfOk-weaker, IfErr-weaker}
+use Rattle.intake.specs.declared.audience.Audience.TheVariants.{Partners}
 use Rattle.errands.proofs.HaltLaws.{halted_by}
 use Rattle.errands.proofs.running.content.Goals as goal
 
@@ -19,4 +20,4 @@ returns-clause-told g c =
 
 pub returns-clause-halted : goal.returns-clause-halted
 returns-clause-halted g c =
-    IfErr-weaker c.tell_report.result _ _ (λ stop halts. halted_by _ _ stop c.in_ok-list.list _ c.in_ok-list.ensures.brought (inr (inl refl)) halts) c.tell_report.ensures.halted
+    IfErr-weaker c.tell_report.result _ _ (λ stop halts. halted_by _ _ stop c.in_ok-list.list _ c.in_ok-list.ensures.brought (inr (Partners, refl)) halts) c.tell_report.ensures.halted

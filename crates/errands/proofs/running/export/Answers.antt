@@ -1,5 +1,6 @@
 use Rattle.std.proofs.Common.{rules, inl, inr, refl}
 use Rattle.std.proofs.lemmas.Result.{IfOk-weaker, IfErr-weaker}
+use Rattle.intake.specs.declared.audience.Audience.TheVariants.{Partners}
 use Rattle.errands.proofs.HaltLaws.{halted_by}
 use Rattle.errands.proofs.running.export.Goals as goal
 
@@ -8,12 +9,12 @@ returns-then-answer-ne404-clause-told g c = IfOk-weaker c.tell_report.result _ _
 
 pub returns-then-answer-ne404-clause-halted : goal.returns-then-answer-ne404-clause-halted
 returns-then-answer-ne404-clause-halted g c =
-    IfErr-weaker c.tell_report.result _ _ (λ stop halts. halted_by _ _ stop c.in_ok-answer.answer _ c.in_ok-answer.ensures.brought (inr (inl refl)) halts) c.tell_report.ensures.halted
+    IfErr-weaker c.tell_report.result _ _ (λ stop halts. halted_by _ _ stop c.in_ok-answer.answer _ c.in_ok-answer.ensures.brought (inr (Partners, refl)) halts) c.tell_report.ensures.halted
 
 -- a server that shows the stock, but not as CSV, is one without clerks
 pub returns-then-stock-eq200-clause-halted : goal.returns-then-stock-eq200-clause-halted
 returns-then-stock-eq200-clause-halted g c =
-    halted_by _ _ c.about_server_stop.result c.in_ok-stock.stock _ c.in_ok-stock.ensures.brought (inr (inl refl)) (rw c.in_ok-stock.ensures.heard (inr c.about_server_stop.ensures))
+    halted_by _ _ c.about_server_stop.result c.in_ok-stock.stock _ c.in_ok-stock.ensures.brought (inr (Partners, refl)) (rw c.in_ok-stock.ensures.heard (inr c.about_server_stop.ensures))
 
 pub returns-clause-told : goal.returns-clause-told
 returns-clause-told g c =
@@ -21,4 +22,4 @@ returns-clause-told g c =
 
 pub returns-clause-halted : goal.returns-clause-halted
 returns-clause-halted g c =
-    IfErr-weaker c.tell_report-2.result _ _ (λ stop halts. halted_by _ _ stop c.in_ok-answer.answer _ c.in_ok-answer.ensures.brought (inr (inl refl)) halts) c.tell_report-2.ensures.halted
+    IfErr-weaker c.tell_report-2.result _ _ (λ stop halts. halted_by _ _ stop c.in_ok-answer.answer _ c.in_ok-answer.ensures.brought (inr (Partners, refl)) halts) c.tell_report-2.ensures.halted

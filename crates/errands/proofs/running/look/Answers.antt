@@ -15,7 +15,7 @@ returns-else-is_csv-clause-told g c = rw (c.in-Stock.is, c.if-is_csv.false) (rw 
 
 pub returns-in-Open-clause-told : goal.returns-in-Open-clause-told
 returns-in-Open-clause-told g c = elim c.in-Open.is [
-  | inl is ↦ rw is.1 (rw is.1 at c.clerks_look.ensures.told)
-  | inr (inl is) ↦ rw is.2 (rw is.2 at c.clerks_look.ensures.told)
-  | inr (inr is) ↦ rw is (rw is at c.clerks_look.ensures.told)
+  | inl is ↦ rw is.1 (rw is.1 at c.report-in-Open.ensures.told)
+  | inr (inl is) ↦ rw is.2 (rw is.2 at c.report-in-Open.ensures.told)
+  | inr (inr is) ↦ rw is (rw is at c.report-in-Open.ensures.told)
 ]

@@ -29,7 +29,7 @@ returns-in_err-commit-in-Accepted-clause-left g c = λ clean L u later.
     let house = c.judge.ensures.query.same.goes.warehouse in
     at_fault c.from_residual-in_err-commit-in-Accepted.result
     (subst (λ (M : List Entry). LeavesEither new L M) (later_accepted c.args.rules old.warehouse L asking t c.in-Accepted.outgoing.items is.0)
-    (c.in_err-commit-in-Accepted.ensures.left clean L (entry_of c.args.rules asking t) (usable_stays old mid c.judge.ensures.query.same early L u)
+    (c.in_err-commit-in-Accepted.ensures.left clean L (usable_stays old mid c.judge.ensures.query.same early L u) (entry_of c.args.rules asking t)
     (next_at (sym house) (sym c.deref.ensures.value) (sym c.deref-in-Accepted.ensures.value) next)))
 
 pub returns-in_err-commit-in-Accepted-clause-fault : goal.returns-in_err-commit-in-Accepted-clause-fault
@@ -72,7 +72,7 @@ returns-in_ok-commit-in-Accepted-clause-ok g c = λ clean L u later.
     (subst (LeadsInTables c.args.rules old.warehouse L asking t) c.in-Accepted.is (c.in_ok-text.ensures.tables early L u.keeps u.legal)) in
     let house = c.judge.ensures.query.same.goes.warehouse in
     subst (IsUsable new) (later_accepted c.args.rules old.warehouse L asking t c.in-Accepted.outgoing.items is.0)
-    (c.in_ok-commit-in-Accepted.ensures.ok clean L (entry_of c.args.rules asking t) (usable_stays old mid c.judge.ensures.query.same early L u)
+    (c.in_ok-commit-in-Accepted.ensures.ok clean L (usable_stays old mid c.judge.ensures.query.same early L u) (entry_of c.args.rules asking t)
     (next_at (sym house) (sym c.deref.ensures.value) (sym c.deref-in-Accepted.ensures.value) next))
 
 pub returns-in-Stored-clause-keeps : goal.returns-in-Stored-clause-keeps

@@ -1,9 +1,6 @@
 //! The worked example that the calls have in common: ZZ ACME announces 100 BOLT to ZZ WHSE1 on
 //! 2025-03-04, and 90 are counted.
-use books::{Book, Tables};
 use profile::Rules;
-use sqlite::{Alter, Connection};
-use sqlite_trees::memory::MemStore;
 use std::alloc::Global;
 use std::test::Fail;
 use store::{
@@ -19,20 +16,12 @@ pub(crate) const ADVICE: &[u8] =
 pub(crate) const ANSWER: &[u8] =
     b"ISA*00*          *00*          *ZZ*WHSE1          *ZZ*ACME           *250304*0915*U*00401*000000001*0*P*>~TA1*000000001*250304*0915*A*000~GS*FA*WHSE1*ACME*20250304*0915*1*X*004010~ST*997*0001~AK1*AR*1~AK2*943*0001~AK5*A~AK9*A*1*1*1~SE*6*0001~GE*1*1~IEA*1*000000001~";
 
-// The same advice with 101 for 100, under the same control number, and what it is answered after
-// the other.
-pub(crate) const OTHER: &[u8] =
-    b"ISA*00*          *00*          *ZZ*ACME           *ZZ*WHSE1          *250304*0915*U*00401*000000001*1*P*>~GS*AR*ACME*WHSE1*20250304*0915*1*X*004010~ST*943*0001~W06*F*PO77*20250303*SHP1~W04*101*EA**SK*BOLT~N9*LT*L1~W03*101~SE*6*0001~GE*1*1~IEA*1*000000001~";
-
-pub(crate) const DUPLICATE: &[u8] =
-    b"ISA*00*          *00*          *ZZ*WHSE1          *ZZ*ACME           *250304*0915*U*00401*000000000*0*P*>~TA1*000000001*250304*0915*R*025~IEA*0*000000000~";
-
 // The 944 of the count of 90 of it, under number 2 at the same moment: 259 bytes.
 pub(crate) const RECEIPT: &[u8] =
     b"ISA*00*          *00*          *ZZ*WHSE1          *ZZ*ACME           *250304*0915*U*00401*000000002*0*P*>~GS*RE*WHSE1*ACME*20250304*0915*2*X*004010~ST*944*0001~W17*F*20250304*2*PO77*SHP1~W07*90*EA**SK*BOLT~N9*LT*L1~W14*90*100~SE*6*0001~GE*1*2~IEA*1*000000002~";
 
 // What fails a test that met a fault.
-fn failed(fault: Fault) -> Fail {
+pub(crate) fn failed(fault: Fault) -> Fail {
     Fail::new(format_args!("fault {}", fault.number()))
 }
 
@@ -62,36 +51,6 @@ pub(crate) fn morning() -> Result<Moment, Fail> {
 // A book in memory, of which nobody is a depositor.
 pub(crate) fn empty(alloc: Global) -> Result<ReplayBook, Fail> {
     Ok(ReplayBook::new(alloc, house()?))
-}
-
-// New tables in memory.
-pub(crate) fn fresh(alloc: Global) -> Result<Tables<MemStore>, Fail> {
-    Ok(Tables::new(Connection::open_in_memory(alloc)?))
-}
-
-// The tables of a connection, which is to be in no transaction.
-pub(crate) fn settled<S: Alter + Drop>(conn: Connection<S>) -> Result<Tables<S>, Fail> {
-    if conn.is_autocommit() {
-        Ok(Tables::new(conn))
-    } else {
-        Err("an open transaction".into())
-    }
-}
-
-// A new book in tables.
-pub(crate) fn created<S: Alter + Drop>(alloc: Global, tables: Tables<S>) -> Result<Book<S>, Fail> {
-    match Book::create(alloc, tables, house()?) {
-        Ok(book) => Ok(book),
-        Err((fault, _)) => Err(failed(fault)),
-    }
-}
-
-// The book in tables that have one.
-pub(crate) fn opened<S: Alter + Drop>(alloc: Global, tables: Tables<S>) -> Result<Book<S>, Fail> {
-    match Book::open_from(alloc, tables) {
-        Ok(book) => Ok(book),
-        Err((fault, _)) => Err(failed(fault)),
-    }
 }
 
 // A sheet of one line: 90 of BOLT, L1.

@@ -5,8 +5,7 @@ use cases::clerks::{deeds, faults, looks, response_of, strays};
 use command_line::{Place, Task, Words, line};
 use commands::{CommandError, ExitStatus, Verbosity, play_over, tell_stop, tell_unready};
 use errands::{
-    Courier, Errand, Listening, carry_out, errand_of, tell_document, tell_look, tell_reason_there,
-    tell_report,
+    Courier, Errand, Listening, carry_out, errand_of, tell_document, tell_reason_there, tell_report,
 };
 use intake::{Audience, Gauge, serve_telling};
 use remote::{Request, ServerAnswer, Unanswered, read_answer, write_request};
@@ -76,6 +75,17 @@ fn carry<K: Keeper, W: Write, E: Write>(
     Ok(status)
 }
 
+// The moment of a line, or the worked one.
+fn moment_of(task: &Task<'_>) -> Result<Moment, CommandError> {
+    match task {
+        Task::Act {
+            at: Some(moment),
+            ..
+        } => Ok(*moment),
+        _ => Moment::new(2025, 3, 4, 9, 15).ok_or(CommandError::Fault(Fault::Device)),
+    }
+}
+
 // Asks a server of the book for what a line says.
 fn ask_for<K: Keeper, W: Write, E: Write>(
     rt: &HostRuntime,
@@ -85,13 +95,7 @@ fn ask_for<K: Keeper, W: Write, E: Write>(
     out: &mut W,
     err: &mut E,
 ) -> Result<ExitStatus, CommandError> {
-    let moment = match task {
-        Task::Act {
-            at: Some(moment),
-            ..
-        } => *moment,
-        _ => Moment::new(2025, 3, 4, 9, 15).ok_or(CommandError::Fault(Fault::Device))?,
-    };
+    let moment = moment_of(task)?;
     match errand_of(rt, task)? {
         Ok(errand) => carry(rt, book, moment, &errand, verbosity, out, err),
         Err(refusal) => tell_unready(rt, task, refusal, verbosity, err),
@@ -100,6 +104,27 @@ fn ask_for<K: Keeper, W: Write, E: Write>(
 
 // What a server takes.
 const ASKED: &str = "send count pick recount stock orders outbox open depositors";
+
+// Whether a server takes what a line says.
+fn is_asked(row: &str) -> bool {
+    let first = row.split(' ').next().unwrap_or("");
+    ASKED.split(' ').any(|name| name == first)
+}
+
+// Asks a server of the book for what the words of a line say.
+fn ask_words<K: Keeper, W: Write, E: Write>(
+    rt: &HostRuntime,
+    book: &mut K,
+    words: &Words<'_>,
+    verbosity: Verbosity,
+    out: &mut W,
+    err: &mut E,
+) -> Result<ExitStatus, CommandError> {
+    match words {
+        Words::Over { task, .. } => ask_for(rt, book, task, verbosity, out, err),
+        _ => Err(CommandError::Fault(Fault::Device)),
+    }
+}
 
 // Plays a line of a script: through a server of the book, if one takes it.
 fn play_line<K: Keeper, W: Write, E: Write>(
@@ -110,31 +135,30 @@ fn play_line<K: Keeper, W: Write, E: Write>(
     out: &mut W,
     err: &mut E,
 ) -> Result<ExitStatus, CommandError> {
-    let first = row.split(' ').next().unwrap_or("");
-    if !ASKED.split(' ').any(|name| name == first) {
+    if !is_asked(row) {
         return play_over(rt, book, row, Verbosity::QUIET, out, err);
     }
-    let words: Vec<&str> = row.split(' ').collect(rt.alloc())?;
-    match line(rt.alloc(), Place::Script, &words)? {
-        Words::Over { task, .. } => ask_for(rt, book, &task, verbosity, out, err),
-        _ => Err(CommandError::Fault(Fault::Device)),
-    }
+    let row: Vec<&str> = row.split(' ').collect(rt.alloc())?;
+    let words = line(rt.alloc(), Place::Script, &row)?;
+    ask_words(rt, book, &words, verbosity, out, err)
 }
 
-// Plays the lines after the first of a script that no fault ends, which makes the book.
-fn play_lines<K: Keeper>(
+// Plays lines of a script that no fault ends, of which the first is its second. The result is the
+// exit status.
+fn play_each<K: Keeper, W: Write, E: Write>(
     rt: &HostRuntime,
     book: &mut K,
     rest: &str,
     verbosity: Verbosity,
-) -> Result<Ran, Fail> {
-    let (mut out, mut err) = (Vec::new(rt.alloc()), Vec::new(rt.alloc()));
+    out: &mut W,
+    err: &mut E,
+) -> Result<ExitStatus, Fail> {
     let mut status = ExitStatus::Done;
     for (i, row) in rest.split('\n').enumerate() {
         if row.is_empty() {
             continue;
         }
-        let Ok(next) = play_line(rt, book, row, verbosity, &mut out, &mut err) else {
+        let Ok(next) = play_line(rt, book, row, verbosity, out, err) else {
             return Err("a fault".into());
         };
         if verbosity.explains && next == ExitStatus::Refused {
@@ -142,6 +166,18 @@ fn play_lines<K: Keeper>(
         }
         status = status.and(next);
     }
+    Ok(status)
+}
+
+// What comes of the lines after the first of such a script, which makes the book.
+fn play_lines<K: Keeper>(
+    rt: &HostRuntime,
+    book: &mut K,
+    rest: &str,
+    verbosity: Verbosity,
+) -> Result<Ran, Fail> {
+    let (mut out, mut err) = (Vec::new(rt.alloc()), Vec::new(rt.alloc()));
+    let status = play_each(rt, book, rest, verbosity, &mut out, &mut err)?;
     Ran::new(rt, status.code(), &out, &err)
 }
 
@@ -165,8 +201,9 @@ pub(super) fn play_asked(
     }
 }
 
-// The answer that a response is.
-fn answer_of(rt: &HostRuntime, response: &str) -> Result<ServerAnswer, Fail> {
+// The answer that the response of a case is.
+fn answer_of(rt: &HostRuntime, case: &str) -> Result<ServerAnswer, Fail> {
+    let response = response_of(rt.alloc(), section_of(case, "answered").1)?;
     let mut bytes = response.as_bytes();
     match read_answer(rt.alloc(), &mut bytes) {
         Ok(answer) => Ok(answer),
@@ -175,17 +212,27 @@ fn answer_of(rt: &HostRuntime, response: &str) -> Result<ServerAnswer, Fail> {
     }
 }
 
+// Tells the answer to a command of a kind.
+fn tell_answer<W: Write, E: Write>(
+    alloc: Global,
+    by: &str,
+    answer: &ServerAnswer,
+    out: &mut W,
+    err: &mut E,
+) -> Result<ExitStatus, CommandError> {
+    match by {
+        "report" => tell_report(alloc, Audience::Partners, answer, out, err),
+        "look" => tell_report(alloc, Audience::Clerks, answer, out, err),
+        _ => tell_document(alloc, answer, out, err),
+    }
+}
+
 // Tells the answer of a case as its command does.
 fn told(rt: &HostRuntime, case: &str) -> Result<Ran, Fail> {
-    let response = response_of(rt.alloc(), section_of(case, "answered").1)?;
-    let answer = answer_of(rt, response.as_str())?;
+    let answer = answer_of(rt, case)?;
     let (mut out, mut err) = (Vec::new(rt.alloc()), Vec::new(rt.alloc()));
-    let ended = match section_of(case, "by").0 {
-        "report" => tell_report(rt.alloc(), &answer, &mut out, &mut err),
-        "look" => tell_look(rt.alloc(), &answer, &mut out, &mut err),
-        _ => tell_document(rt.alloc(), &answer, &mut out, &mut err),
-    };
-    let status = match ended {
+    let by = section_of(case, "by").0;
+    let status = match tell_answer(rt.alloc(), by, &answer, &mut out, &mut err) {
         Ok(status) => status,
         Err(stop) => tell_stop(&mut err, &stop, false),
     };
@@ -213,17 +260,18 @@ fn the_answers_of_a_server_are_told_as_over_the_book(rt: HostRuntime) -> Result<
     Ok(())
 }
 
+// Whether a response that breaks off after these bytes is no answer.
+fn is_no_answer(alloc: Global, mut bytes: &[u8]) -> bool {
+    matches!(read_answer(alloc, &mut bytes), Err(Unanswered::Device))
+}
+
 // No beginning of a response is an answer.
 #[test]
 fn a_response_that_breaks_off_is_no_answer(rt: HostRuntime) -> Result<(), Fail> {
     let case = deeds::CASES.split("@case ").nth(1).ok_or("a case")?;
     let response = response_of(rt.alloc(), section_of(case, "answered").1)?;
     for k in 0..response.len() {
-        let mut bytes = &response.as_bytes()[..k];
-        assert!(rt;
-            matches!(read_answer(rt.alloc(), &mut bytes), Err(Unanswered::Device)),
-            "{k}"
-        );
+        assert!(rt; is_no_answer(rt.alloc(), &response.as_bytes()[..k]), "{k}");
     }
     Ok(())
 }
@@ -235,15 +283,7 @@ fn a_server_that_is_not_there_is_a_fault(rt: HostRuntime) -> Result<(), Fail> {
     fs::write(&rt, "bad.csv", "BOLT,L1\n")?;
     for row in UNASKED.lines() {
         let (line, rest) = row.split_once('|').ok_or("a line")?;
-        let (status, told) = rest.split_once('|').ok_or("a status")?;
-        let told = told.replace(rt.alloc(), "|", "\n")?;
-        let words: Vec<&str> = line.split(' ').collect(rt.alloc())?;
-        let wanted = Wanted {
-            printed: "",
-            told: told.as_str(),
-            status: status.parse()?,
-        };
-        run(&rt, &words)?.compare(line, &wanted)?;
+        run_words(&rt, line)?.compare_row(&rt, line, rest)?;
     }
     Ok(())
 }

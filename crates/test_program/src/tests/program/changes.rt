@@ -30,8 +30,11 @@ fn play_changes(rt: &HostRuntime, changes: &str, wanted: &Wanted<'_>) -> Result<
     for line in changes.lines() {
         let (from, rest) = line.split_once('|').ok_or("a part of the advice")?;
         let (to, part) = rest.split_once('|').ok_or("what stands in its place")?;
-        let text = ADVICE.replace(rt.alloc(), from, to)?;
-        fs::write(rt, "changed.x12", text.as_str())?;
+        fs::write(
+            rt,
+            "changed.x12",
+            ADVICE.replace(rt.alloc(), from, to)?.as_str(),
+        )?;
         play_changed(rt, part, wanted)?;
     }
     Ok(())

@@ -12,17 +12,23 @@ const LEFT: Wanted<'static> = Wanted {
     status: 3,
 };
 
+// Makes a book over the one that is there, shows its stock, and checks it. The result is the status
+// of the first.
+fn look_after(rt: &HostRuntime, out: &mut Vec<u8>, err: &mut Vec<u8>) -> Result<u8, Fail> {
+    let status = run_over(rt, "case.book", "init ZZ-OTHER", out, err)?;
+    run_over(rt, "case.book", "stock ZZ-ACME --csv", out, err)?;
+    run_over(rt, "case.book", "verify", out, err)?;
+    Ok(status)
+}
+
 // A book isn't made over another, which stays as it is: its rows are those of its six entries.
 #[test]
 fn a_day_is_kept_in_a_file(rt: HostRuntime) -> Result<(), Fail> {
     play_all(&rt, CASES)?;
     let mut out = Vec::new(rt.alloc());
     let mut err = Vec::new(rt.alloc());
-    let status = run_over(&rt, "case.book", "init ZZ-OTHER", &mut out, &mut err)?;
-    run_over(&rt, "case.book", "stock ZZ-ACME --csv", &mut out, &mut err)?;
-    run_over(&rt, "case.book", "verify", &mut out, &mut err)?;
-    Ran::new(&rt, status, &out, &err)?.compare("after the day", &LEFT)?;
-    Ok(())
+    let status = look_after(&rt, &mut out, &mut err)?;
+    Ran::new(&rt, status, &out, &err)?.compare("after the day", &LEFT)
 }
 
 const LESS: Wanted<'static> = Wanted {
@@ -116,17 +122,7 @@ fn play_unopened(rt: &HostRuntime, rows: &str) -> Result<(), Fail> {
     for row in rows.lines() {
         let (book, rest) = row.split_once('|').ok_or("a book")?;
         let (line, rest) = rest.split_once('|').ok_or("a line")?;
-        let (status, rest) = rest.split_once('|').ok_or("a status")?;
-        let told = match rest.split_once('|') {
-            Some((told, cause)) => format!(in rt.alloc(); "{told}\n{cause}\n")?,
-            None => format!(in rt.alloc(); "{rest}\n")?,
-        };
-        let wanted = Wanted {
-            printed: "",
-            told: told.as_str(),
-            status: status.parse()?,
-        };
-        run_lines(rt, book, line)?.compare(book, &wanted)?;
+        run_lines(rt, book, line)?.compare_row(rt, book, rest)?;
     }
     Ok(())
 }
@@ -143,6 +139,11 @@ fn lay_unopened(rt: &HostRuntime) -> Result<(), Fail> {
     over_database(rt, "other.book", note, "")
 }
 
+// Whether the files are as before that are no books.
+fn are_left(rt: &HostRuntime, other: &[u8]) -> Result<bool, Fail> {
+    Ok(fs::read(rt, "other.book")?.as_slice() == other && holds(rt, "text.book", "no database")?)
+}
+
 // Whether there is no such book, nor its log.
 fn is_absent(rt: &HostRuntime, book: &str, log: &str) -> Result<bool, Fail> {
     Ok(!fs::exists(rt, book)? && !fs::exists(rt, log)?)
@@ -155,7 +156,7 @@ fn files_that_are_no_book_stay_as_they_are(rt: HostRuntime) -> Result<(), Fail> 
     lay_unopened(&rt)?;
     let other = fs::read(&rt, "other.book")?;
     over_database(&rt, "held.book", "", UNOPENED)?;
-    assert!(rt; fs::read(&rt, "other.book")? == other && holds(&rt, "text.book", "no database")?);
+    assert!(rt; are_left(&rt, &other)?);
     assert!(rt; is_absent(&rt, "nowhere.book", "nowhere.book-wal")?);
     assert!(rt; is_absent(&rt, "/proc/house.book", "/proc/house.book-wal")?);
     Ok(())

@@ -134,6 +134,22 @@ fn is_told(told: &Told, two: &Two<'_>) -> bool {
         && lines.next().is_none()
 }
 
+// Serves two clients. A failure, if something else comes of them.
+fn serve_two<K: Keeper>(
+    rt: &HostRuntime,
+    listener: &TcpListener,
+    book: &mut K,
+    moment: Moment,
+    two: &Two<'_>,
+) -> Result<(), Fail> {
+    let told = served(rt, listener, book, moment, two.has_clock, false)?;
+    if is_told(&told, two) {
+        Ok(())
+    } else {
+        Err(Fail::new(format_args!("told: {}", told.err)))
+    }
+}
+
 // Serves two clients that wrote these requests before: what each is answered.
 fn two_answered<K: Keeper>(
     rt: &HostRuntime,
@@ -146,10 +162,7 @@ fn two_answered<K: Keeper>(
 ) -> Result<(Vec<u8>, Vec<u8>), Fail> {
     let mut first = asked(rt, listener, first)?;
     let mut second = asked(rt, listener, second)?;
-    let told = served(rt, listener, book, moment, two.has_clock, false)?;
-    if !is_told(&told, two) {
-        return Err(Fail::new(format_args!("told: {}", told.err)));
-    }
+    serve_two(rt, listener, book, moment, two)?;
     Ok((heard(rt, &mut first)?, heard(rt, &mut second)?))
 }
 
@@ -239,22 +252,34 @@ const RECOUNT: &[u8] =
 
 const PICKING: &[u8] = b"GET /orders/ZZ-NONE/ORD1 HTTP/1.1\r\n\r\n";
 
+// Whether two clerks get these statuses, and the second this body.
+fn are_served<K: Keeper>(
+    rt: &HostRuntime,
+    listener: &TcpListener,
+    book: &mut K,
+    moment: Moment,
+    clerks: bool,
+    (printed, body): (&[u8], &str),
+) -> Result<bool, Fail> {
+    let _first = asked(rt, listener, RECOUNT)?;
+    let mut second = asked(rt, listener, PICKING)?;
+    let is_printed = served(rt, listener, book, moment, false, clerks)?
+        .out
+        .as_slice()
+        == printed;
+    Ok(is_printed && heard(rt, &mut second)?.ends_with(body.as_bytes()))
+}
+
 // Only a server that is told to takes what clerks ask for.
 #[test]
 fn clerks_are_served_where_it_is_said(rt: HostRuntime) -> Result<(), Fail> {
     let moment = Moment::new(2025, 3, 4, 9, 15).ok_or("a moment")?;
     let mut book = enrolled(&rt, moment)?;
     let listener = TcpListener::bind(&rt, "127.0.0.1:0")?;
-    for (clerks, printed, body) in [
-        (false, b"404\n404\n", "404 Not Found\n"),
-        (true, b"422\n404\n", "20 UnknownDepositor\n"),
-    ] {
-        let _first = asked(&rt, &listener, RECOUNT)?;
-        let mut second = asked(&rt, &listener, PICKING)?;
-        let told = served(&rt, &listener, &mut book, moment, false, clerks)?;
-        assert!(rt; told.out.as_slice() == printed.as_slice());
-        assert!(rt; heard(&rt, &mut second)?.ends_with(body.as_bytes()));
-    }
+    let without: (&[u8], &str) = (b"404\n404\n", "404 Not Found\n");
+    let with: (&[u8], &str) = (b"422\n404\n", "20 UnknownDepositor\n");
+    assert!(rt; are_served(&rt, &listener, &mut book, moment, false, without)?);
+    assert!(rt; are_served(&rt, &listener, &mut book, moment, true, with)?);
     Ok(())
 }
 

@@ -19,8 +19,7 @@ impl Ran {
 fn words_of_the_program_are_read(rt: HostRuntime) -> Result<(), Fail> {
     run(&rt, &[])?.is_unread("no word", "", "")?;
     for line in WORDS.lines() {
-        let words: Vec<&str> = line.split(' ').collect(rt.alloc())?;
-        run(&rt, &words)?.is_unread(line, "", "")?;
+        run_words(&rt, line)?.is_unread(line, "", "")?;
     }
     assert!(rt; !fs::exists(&rt, "b.book")?);
     let wanted = Wanted {
@@ -93,13 +92,17 @@ fn a_batch_says_where_it_stopped(rt: HostRuntime) -> Result<(), Fail> {
 // The help of each line of a script has an example.
 const HELPED: &str = "init enrol roster send take count pick recount stock orders outbox";
 
+// What the help of such a line says.
+fn help_of(rt: &HostRuntime, name: &str) -> Result<String, Fail> {
+    let line = format!(in rt.alloc(); "{name} --help")?;
+    Ok(run_line(rt, &line)?.err)
+}
+
 #[test]
 fn help_has_an_example(rt: HostRuntime) -> Result<(), Fail> {
     for name in HELPED.split(' ') {
-        let line = format!(in rt.alloc(); "{name} --help")?;
         let example = format!(in rt.alloc(); "Example: whx12 {name} ")?;
-        let ran = run_line(&rt, &line)?;
-        assert!(rt; ran.err.contains(example.as_str()), "at {name}");
+        assert!(rt; help_of(&rt, name)?.contains(example.as_str()), "at {name}");
     }
     Ok(())
 }
@@ -121,15 +124,16 @@ const ASKED: [(&str, &str); 7] = [
     ("--version", "whx12 "),
 ];
 
+// Whether a line prints this part among the rest, and tells nothing.
+fn prints(rt: &HostRuntime, line: &str, part: &str) -> Result<bool, Fail> {
+    let ran = run_words(rt, line)?;
+    Ok(ran.status == 0 && ran.err.is_empty() && ran.out.contains(part))
+}
+
 #[test]
 fn help_is_printed(rt: HostRuntime) -> Result<(), Fail> {
     for (line, part) in ASKED {
-        let words: Vec<&str> = line.split(' ').collect(rt.alloc())?;
-        let ran = run(&rt, &words)?;
-        assert!(rt;
-            ran.status == 0 && ran.err.is_empty() && ran.out.contains(part),
-            "at {line}"
-        );
+        assert!(rt; prints(&rt, line, part)?, "at {line}");
     }
     Ok(())
 }

@@ -8,7 +8,7 @@ use Rattle.books.proofs.KeepingLemmas.{is_appended, kept_now, usable_now, leaves
 use Rattle.books.proofs.keeping.BookKeeper.commit.Goals as goal
 
 pub returns-in-Ok-clause-ok : goal.returns-in-Ok-clause-ok
-returns-in-Ok-clause-ok g c = rw (← c.self.view_is, c.if-self.false) (λ clean L e u next.
+returns-in-Ok-clause-ok g c = rw (← c.self.view_is, c.if-self.false) (λ clean L u e next.
     let b = c.self.inside in
     let whose : c.deref.result.now ≡ who_text c.args.entry.now.who = c.deref.ensures.value ∙ c.in_ok-who.ensures ∙ ap who_text c.who.ensures in
     let it = is_appended (state g.S.Store b.tables.conn) b.warehouse b.entries L e (b.entries + 1) c.deref.result.now c.args.entry.now c.args.changes.now c.args.outgoing.now u.keeps refl whose next in
@@ -23,7 +23,7 @@ returns-in-Ok-clause-keeps g c = rw (← c.self.view_is) (λ clean L e k next.
     kept_now (state g.S.Store c.append.new.self.conn) b.warehouse (b.entries + 1) (L ++ e ∷ []) (length_push L e b.entries k.count) (c.in-Ok.ensures.ok clean b.warehouse L e it))
 
 pub returns-clause-left : goal.returns-clause-left
-returns-clause-left g c = rw (← c.self.view_is, c.if-self.false) (λ clean L e u next.
+returns-clause-left g c = rw (← c.self.view_is, c.if-self.false) (λ clean L u e next.
     let b = c.self.inside in
     let whose : c.deref.result.now ≡ who_text c.args.entry.now.who = c.deref.ensures.value ∙ c.in_ok-who.ensures ∙ ap who_text c.who.ensures in
     let it = is_appended (state g.S.Store b.tables.conn) b.warehouse b.entries L e (b.entries + 1) c.deref.result.now c.args.entry.now c.args.changes.now c.args.outgoing.now u.keeps refl whose next in
@@ -31,13 +31,13 @@ returns-clause-left g c = rw (← c.self.view_is, c.if-self.false) (λ clean L e
     (Extends (state g.S.Store b.tables.conn) (b.entries + 1) c.deref.result.now c.args.entry.now c.args.changes.now c.args.outgoing.now) clean c.append.ensures.crash (λ db p. p b.warehouse L e it) u)
 
 pub returns-then-self-ge-GREATEST-clause-left : goal.returns-then-self-ge-GREATEST-clause-left
-returns-then-self-ge-GREATEST-clause-left g c = rw (← c.self.view_is, c.if-self.false) (λ clean L e u next.
+returns-then-self-ge-GREATEST-clause-left g c = rw (← c.self.view_is, c.if-self.false) (λ clean L u e next.
     let b = c.self.inside in
     subst (λ (h : Held g.row.S.Denot). LeavesEither (standing_in (state g.S.Store h) b.warehouse b.entries c.use_up.new.self.refused true) L (L ++ e ∷ [])) (sym c.use_up.ensures.conn)
     (leaves_as_before (state g.S.Store b.tables.conn) b.warehouse b.entries b.entries b.tables.refused c.use_up.new.self.refused true L (L ++ e ∷ []) u))
 
 pub returns-in_err-who-clause-left : goal.returns-in_err-who-clause-left
-returns-in_err-who-clause-left g c = rw (← c.self.view_is, c.if-self.false) (λ clean L e u next.
+returns-in_err-who-clause-left g c = rw (← c.self.view_is, c.if-self.false) (λ clean L u e next.
     let b = c.self.inside in
     on_err_always c.from_residual.result (LeavesEither (standing_in (state g.S.Store b.tables.conn) b.warehouse b.entries b.tables.refused false) L (L ++ e ∷ []))
     (leaves_as_before (state g.S.Store b.tables.conn) b.warehouse b.entries b.entries b.tables.refused b.tables.refused false L (L ++ e ∷ []) u))

@@ -14,7 +14,7 @@ with_row rows grown row L e more was is =
     more ∙ ap (λ (ws : List Written). ws ++ row ∷ []) was ∙ ap (λ (w : Written). all_written L ++ w ∷ []) is ∙ sym (written_more [] L e)
 
 pub returns-clause-ok : goal.returns-clause-ok
-returns-clause-ok c = λ clean L e u next.
+returns-clause-ok c = λ clean L u e next.
     let view = ap (λ (b : Replayed). b.entries) c.self.view_is in
     let house = ap (λ (b : Replayed). b.warehouse) c.self.view_is in
     let same = with_row c.self.inside.entries.items c.append.new.entries.items c.args.entry.now L e c.in_ok-append.ensures.ok (view ∙ u.keeps) next.entry in

@@ -1,9 +1,8 @@
 //! A book in SQLite tables, as SQL shows it.
 use super::day::{Trial, Want, answers, is_wanted, on_day};
+use super::new_tables::{created, fresh, opened};
 use super::stopped::shows_whole;
-use super::worked::{
-    acme, counts, created, enrols, faultless, fresh, morning, ninety, opened, takes,
-};
+use crate::tests::calls::worked::{acme, counts, enrols, faultless, morning, ninety, takes};
 use books::Tables;
 use sqlite::types::ValueRef;
 use sqlite::{Alter, Connection};

@@ -1,16 +1,24 @@
 //! A worked day of ZZ ACME: an advice, resends of it, its count, an order, its pick, the
 //! acknowledgment of that, and the count once more. It makes six entries.
+use super::new_tables::fresh;
 use super::stopped::Stop;
-use super::worked::{
-    ADVICE, ANSWER, DUPLICATE, OTHER, RECEIPT, acme, count, fresh, is_accepted, is_stored, morning,
-    ninety,
-};
 use super::{carried, in_tables, stopped, want};
+use crate::tests::calls::worked::{
+    ADVICE, ANSWER, RECEIPT, acme, count, is_accepted, is_stored, morning, ninety,
+};
 use std::alloc::Global;
 use std::test::Fail;
 use store::{
     Act, Command, DocumentState, Moment, OutKind, OutRow, Reply, Sheet, SheetKind, StockRow, Who,
 };
+
+// The worked advice with 101 for 100, under the same control number, and what it is answered after
+// the other.
+const OTHER: &[u8] =
+    b"ISA*00*          *00*          *ZZ*ACME           *ZZ*WHSE1          *250304*0915*U*00401*000000001*1*P*>~GS*AR*ACME*WHSE1*20250304*0915*1*X*004010~ST*943*0001~W06*F*PO77*20250303*SHP1~W04*101*EA**SK*BOLT~N9*LT*L1~W03*101~SE*6*0001~GE*1*1~IEA*1*000000001~";
+
+const DUPLICATE: &[u8] =
+    b"ISA*00*          *00*          *ZZ*WHSE1          *ZZ*ACME           *250304*0915*U*00401*000000000*0*P*>~TA1*000000001*250304*0915*R*025~IEA*0*000000000~";
 
 // An order of 120 BOLT under control number 2, and its answer under number 3.
 const ORDER: &[u8] =

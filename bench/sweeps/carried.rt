@@ -1,9 +1,10 @@
 //! Books of version 1, which are carried over as they are opened, and whose store refuses a call of
 //! that and all later ones, for each call in turn.
-use super::super::laying::lay;
 use super::day::{Trial, on_day};
+use super::laying::lay;
+use super::new_tables::{opened, settled};
 use super::stopped::{Stop, answers_again, are_answers_from, is_whole};
-use super::worked::{acme, faultless, opened, settled};
+use crate::tests::calls::worked::{acme, faultless};
 use books::{Book, Tables};
 use cases::version1::{BESIDE, COUNTED, DATED, ORDERED, TABLES, hundred_lines, with_lines};
 use reports::{outbox_list, stock_csv};

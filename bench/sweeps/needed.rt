@@ -1,6 +1,7 @@
 //! What a book in tables hands out of a depositor's page: just what a command names, whatever else
 //! stands in the book.
-use super::worked::{ADVICE, acme, count, created, enrols, faultless, fresh, morning, ninety};
+use super::new_tables::{created, fresh};
+use crate::tests::calls::worked::{ADVICE, acme, count, enrols, faultless, morning, ninety};
 use profile::Rules;
 use std::alloc::{AllocError, Global};
 use std::test::Fail;

@@ -2,8 +2,9 @@
 //! again where it has to be: run with each allocation failing in turn (bench/allocations.py). One
 //! allocation fails in a run at most, so no more than one call may end for want of memory.
 use super::day::{Trial, Want, answers, is_wanted, on_day};
+use super::new_tables::opened;
 use super::stopped::{is_whole, made};
-use super::worked::{acme, faultless, house, is_stored, opened};
+use crate::tests::calls::worked::{acme, faultless, house, is_stored};
 use books::{Book, Tables};
 use sqlite::Alter;
 use std::alloc::Global;

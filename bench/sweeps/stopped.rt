@@ -1,7 +1,8 @@
 //! Books whose store refuses a call and all later ones, for each call in turn. What is left is
 //! opened, checked whole, and given all commands again.
 use super::day::{Trial, answers, are_goods, is_sent, is_wanted, on_day};
-use super::worked::{acme, faultless, fresh, house, opened};
+use super::new_tables::{fresh, opened};
+use crate::tests::calls::worked::{acme, faultless, house};
 use books::{Book, Tables};
 use sqlite::Alter;
 use sqlite_trees::store::Reopen;

@@ -1,7 +1,8 @@
 //! A book beside a table of the house's own.
-use super::super::laying::lay;
 use super::in_tables::{announced, counted, must_show};
-use super::worked::{acme, fresh, morning, settled};
+use super::laying::lay;
+use super::new_tables::{fresh, settled};
+use crate::tests::calls::worked::{acme, morning};
 use books::Tables;
 use sqlite::Alter;
 use std::alloc::Global;

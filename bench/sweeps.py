@@ -1,0 +1,60 @@
+#!/usr/bin/env python3
+"""Runs the tests of bench/sweeps: a worked day over a book in tables that is stopped at each call of its store, and more. Not part of the gate.
+
+Usage: bench/sweeps.py [--folder FOLDER]     (default: in a folder of its own, which is removed)
+
+The tests stand beside those of `test_calls` and use its worked example. In a copy of the crates their modules are laid into that crate, whose
+libraries are then those of a book in tables too, and `rt ci test_calls` proves and runs it there, over the libraries that an `rt ci` of
+the repository kept on this machine. In a FOLDER that is kept, `rt test` in crates/test_calls makes the program that bench/allocations.py takes.
+The status is that of `rt ci`.
+"""
+import os
+import shutil
+import subprocess
+import sys
+import tempfile
+
+HERE = os.path.dirname(os.path.abspath(__file__))
+TOP = os.path.dirname(HERE)
+CRATE = "test_calls"
+# What the tests use beside the libraries of `test_calls`.
+MORE = "books stops sqlite sqlite_disk sqlite_trees"
+
+
+def lay(folder):
+    """Copies the crates, and lays the sweeps into `test_calls`."""
+    shutil.copytree(os.path.join(TOP, "crates"), os.path.join(folder, "crates"), ignore=shutil.ignore_patterns("out", "must-fail"))
+    shutil.copy(os.path.join(TOP, "HANDLES"), folder)
+    with open(os.path.join(TOP, "crates.txt"), encoding="utf-8") as file:
+        lines = file.read().splitlines()
+    with open(os.path.join(folder, "crates.txt"), "w", encoding="utf-8") as file:
+        file.writelines(line + (" " + MORE if line.startswith(CRATE + ":") else "") + "\n" for line in lines)
+    tests = os.path.join(folder, "crates", CRATE, "src", "tests")
+    sweeps = os.path.join(tests, "sweeps")
+    shutil.copytree(os.path.join(HERE, "sweeps"), sweeps)
+    os.rename(os.path.join(sweeps, "sweeps.rt"), tests + "/sweeps.rt")
+    shutil.copy(os.path.join(folder, "crates", "test_program", "src", "tests", "laying.rt"), sweeps)
+    with open(tests + ".rt", encoding="utf-8") as file:
+        modules = sorted([*file.read().splitlines(), "mod sweeps;"])
+    with open(tests + ".rt", "w", encoding="utf-8") as file:
+        file.writelines(line + "\n" for line in modules)
+
+
+def run(folder):
+    """Lays the sweeps, and runs them: the status of `rt ci`."""
+    lay(folder)
+    return subprocess.run(["rt", "ci", CRATE], cwd=folder, check=False).returncode
+
+
+def main():
+    if sys.argv[1:2] == ["--folder"] and len(sys.argv) == 3:
+        os.makedirs(sys.argv[2], exist_ok=True)
+        sys.exit(run(sys.argv[2]))
+    if len(sys.argv) > 1:
+        sys.exit(__doc__)
+    with tempfile.TemporaryDirectory(prefix="whx12-sweeps-") as folder:
+        sys.exit(run(folder))
+
+
+if __name__ == "__main__":
+    main()
