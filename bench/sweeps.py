@@ -31,8 +31,11 @@ def lay(folder):
         file.writelines(line + (" " + MORE if line.startswith(CRATE + ":") else "") + "\n" for line in lines)
     tests = os.path.join(folder, "crates", CRATE, "src", "tests")
     sweeps = os.path.join(tests, "sweeps")
-    shutil.copytree(os.path.join(HERE, "sweeps"), sweeps)
-    os.rename(os.path.join(sweeps, "sweeps.rt"), tests + "/sweeps.rt")
+    os.mkdir(sweeps)
+    for name in os.listdir(os.path.join(HERE, "sweeps")):
+        # `rt` wants no .rt file outside of a crate, so they stand as texts
+        to = tests if name == "sweeps.rt.txt" else sweeps
+        shutil.copy(os.path.join(HERE, "sweeps", name), os.path.join(to, name.removesuffix(".txt")))
     shutil.copy(os.path.join(folder, "crates", "test_program", "src", "tests", "laying.rt"), sweeps)
     with open(tests + ".rt", encoding="utf-8") as file:
         modules = sorted([*file.read().splitlines(), "mod sweeps;"])
