@@ -5,9 +5,10 @@ Usage: bench/sweeps.py [--folder FOLDER]     (default: in a folder of its own, w
 
 The tests stand beside those of `test_calls` and use its worked example. In a copy of the crates their modules are laid into that crate, whose
 libraries are then those of a book in tables too, and `rt ci test_calls` proves and runs it there, over the libraries that an `rt ci` of
-the repository kept on this machine. In a FOLDER that is kept, `rt test` in crates/test_calls makes the program that bench/allocations.py takes.
+the repository kept on this machine. FOLDER/test_calls_tests is the program that ran, which bench/allocations.py takes.
 The status is that of `rt ci`.
 """
+import glob
 import os
 import shutil
 import subprocess
@@ -15,6 +16,8 @@ import sys
 import tempfile
 
 HERE = os.path.dirname(os.path.abspath(__file__))
+# What earlier runs of `rt ci` on this machine kept.
+KEPT = "/opt/rattle-kept"
 TOP = os.path.dirname(HERE)
 CRATE = "test_calls"
 # What the tests use beside the libraries of `test_calls`.
@@ -44,9 +47,14 @@ def lay(folder):
 
 
 def run(folder):
-    """Lays the sweeps, and runs them: the status of `rt ci`."""
+    """Lays the sweeps, and runs them: the status of `rt ci`. The program that ran is put into the folder."""
     lay(folder)
-    return subprocess.run(["rt", "ci", CRATE], cwd=folder, check=False).returncode
+    ran = subprocess.run(["rt", "ci", CRATE], cwd=folder, check=False)
+    programs = glob.glob(f"{KEPT}/tests-{CRATE}-*/0")
+    if ran.returncode == 0 and programs:
+        program = shutil.copy(max(programs, key=os.path.getmtime), f"{folder}/{CRATE}_tests")
+        os.chmod(program, 0o755)
+    return ran.returncode
 
 
 def main():
