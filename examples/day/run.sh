@@ -22,8 +22,8 @@ progress() {
             now=$(basename "${folder%/out/rlib}")
         fi
     done
-    # The two crates of tests and that of their texts are no part of the program.
-    echo "proving $now; $proved of $((all - 3)) crates are proved"
+    # The two crates of tests, that of their texts, and `stops` are no part of the program.
+    echo "proving $now; $proved of $((all - 4)) crates are proved"
 }
 
 build() {

@@ -16,7 +16,7 @@ use Rattle.sqlite_rules.proofs.ListLemmas.{has_filtered, has_kept}
 use Rattle.sqlite_rules.proofs.ProbeLemmas.{has_mapped, mapped_has}
 use Rattle.profile.specs.Tables.{Cell, Null, Number, Text, Blob, TableRow}
 use Rattle.profile.specs.Schema as schema
-use Rattle.profile.specs.Schema.{Schema, key_in, is_by_key, outgoing_schema, reservation_schema, key_before}
+use Rattle.profile.specs.Schema.{Schema, key_in, outgoing_schema, reservation_schema, key_before}
 use Rattle.profile.specs.Changes.{with_state, is_reserved_for}
 use Rattle.book_statements.specs.Held.{value_of, values, Holds, entry_values}
 use Rattle.book_statements.specs.Standing.{AreByKey, HasKey, has_key_cells, IsOutgoing, IsBySeq}

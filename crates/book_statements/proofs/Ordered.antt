@@ -6,7 +6,6 @@ use Rattle.std.proofs.lemmas.Bool.{lt-ltb}
 use Rattle.sqlite_rules.specs.Lists.{Has}
 use Rattle.sqlite_rules.proofs.ProbeLemmas.{has_mapped}
 use Rattle.profile.specs.declared.rules.Rules.{Rules}
-use Rattle.profile.specs.declared.rules.Rules.TheVariants.{Two}
 use Rattle.profile.specs.Bytes.{comes_before}
 use Rattle.profile.specs.Moments.{Moment}
 use Rattle.profile.specs.Header.{Who, who_text}
@@ -14,7 +13,6 @@ use Rattle.profile.specs.Means.{Line, Advice, Address}
 use Rattle.profile.specs.Events.{Event, Advised, Ordered, Reserved, pair_before}
 use Rattle.profile.specs.Register.{Deed, Enrolled, Received, Performed, Entry, own, is_numbered, next_number}
 use Rattle.profile.specs.History.{events}
-use Rattle.profile.specs.Accepted.{IsLegal}
 use Rattle.profile.specs.Rows.{OutRow, named, lot_row, running_rows, out_row, outgoing_on, outgoing_rows}
 use Rattle.profile.specs.Page.{PageAdvice, PageLine, PageOrder, advices_of, orders_of, page_advice, page_order, page_advices, page_orders, reserved_lines}
 use Rattle.profile.specs.Lists.{in_order}
@@ -272,6 +270,3 @@ all_shaped f sent table.LotExpiry row there = tt
 
 pub all_ordered : (W : Who) (L : List Entry) → AreOrdered (filled W L)
 all_ordered W L = record { each = table_is_ordered W L; shaped = all_shaped (filled W L) (outgoing_are W L) }
-
-pub legal_ordered : (W : Who) (L : List Entry) → IsLegal Two W L → AreOrdered (filled W L)
-legal_ordered W L legal = all_ordered W L

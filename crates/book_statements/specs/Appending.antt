@@ -31,7 +31,9 @@ entry_changes W L e = tables.Puts (codes "entry") (entry_row L e)
 -- what is given to be appended: the entry as it is written down after the register, under the next
 -- number, with the text that goes out for it, and with changes that lead from the register's tables
 -- to those with the entry
-pub record Appends (W : Who) (L : List Entry) (e : Entry) (n : ℕ) (row : Written) (changes : List Change) (text : List ℕ) : Type 0 where
+pub record Appends
+    (W : Who) (L : List Entry) (e : Entry) (n : ℕ) (row : Written) (changes : List Change)
+    (text : List ℕ) : Type 0 where
   pub next : n ≡ length L + 1
   pub entry : row ≡ written L e
   pub outgoing : text ≡ out W (own L e.who) e

@@ -75,7 +75,8 @@ pub record IsAskFault (fault : Fault) (old new : State) (refused more : ℕ) : T
 
 -- What queries leave, any number of them and whatever they tell: the tables as they were, a refused
 -- call counted and no other, and as many fewer calls left as were made.
-pub record Went {S T : Type 0} (store : Ghosts S) (old new : Kept S) (result : Result T Fault) : Type 0 where
+pub record Went
+    {S T : Type 0} (store : Ghosts S) (old new : Kept S) (result : Result T Fault) : Type 0 where
   pub left : IsAsked (state store old.conn) (state store new.conn)
   pub fault : IfErr result
       (λ f. IsAskFault f (state store old.conn) (state store new.conn) old.refused new.refused)
@@ -84,7 +85,8 @@ pub record Went {S T : Type 0} (store : Ghosts S) (old new : Kept S) (result : R
   pub limit : Counts old new
 
 -- The same of at least one: there was a call left where it answers Ok.
-pub record Asked {S T : Type 0} (store : Ghosts S) (old new : Kept S) (result : Result T Fault) : Type 0 where
+pub record Asked
+    {S T : Type 0} (store : Ghosts S) (old new : Kept S) (result : Result T Fault) : Type 0 where
   pub left : IsAsked (state store old.conn) (state store new.conn)
   pub fault : IfErr result
       (λ f. IsAskFault f (state store old.conn) (state store new.conn) old.refused new.refused)

@@ -22,7 +22,8 @@ use Rattle.book_statements.specs.Exits.{HasGrown}
 
 -- the rows of a register's tables in version 1: another version, and no rows of rules
 abbrev pub first_filled : Who → List Entry → Filled
-first_filled W L = with_rows table.EntryRules [] (with_rows table.Book (book_table One W) (filled W L))
+first_filled W L = with_rows table.EntryRules []
+    (with_rows table.Book (book_table One W) (filled W L))
 
 -- the trees of the first nine tables hold these rows
 abbrev pub AreHeldFirst : Filled → Trees → Type 0

@@ -18,7 +18,9 @@ StandsWhileOpen s W L = IsTrue s.is_open → Stands W L s.now
 
 -- the tables stood for a register whose rows are in order, and this entry is appended to it, which
 -- leaves it legal
-pub record IsAppended (s : State) (W : Who) (L : List Entry) (e : Entry) (seq : ℕ) (who : List ℕ) (row : Written) (changes : List Change) (text : List ℕ) : Type 0 where
+pub record IsAppended
+    (s : State) (W : Who) (L : List Entry) (e : Entry) (seq : ℕ) (who : List ℕ) (row : Written)
+    (changes : List Change) (text : List ℕ) : Type 0 where
   pub stood : StandsWhileOpen s W L
   pub ordered : AreOrdered (filled W L)
   pub legal : IsLegal Two W (L ++ e ∷ [])

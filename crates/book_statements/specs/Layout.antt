@@ -67,7 +67,14 @@ lot_expiry_text =
 
 abbrev pub column_of : Bool → Kind → List ℕ → Column
 column_of not_null kind name =
-    record { name = name; kind = kind; is_strict = true; not_null = not_null; default = value.Null; collation = Binary }
+    record {
+      name = name;
+      kind = kind;
+      is_strict = true;
+      not_null = not_null;
+      default = value.Null;
+      collation = Binary;
+    }
 
 abbrev pub number : List ℕ → Column
 number name = column_of true Integer name

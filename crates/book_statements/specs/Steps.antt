@@ -56,14 +56,16 @@ Spares number old new =
     → book_trees new t.tree ≡ book_trees old t.tree) book_tables
 
 -- a statement wrote into one table of the book, and its rows became what `Rows` says
-pub record WritesInto (number : ℕ) (Rows : List Row → List Row → Type 0) (old new : Database) : Type 0 where
+pub record WritesInto
+    (number : ℕ) (Rows : List Row → List Row → Type 0) (old new : Database) : Type 0 where
   pub sound : IsDatabase new
   pub schema : new.schema ≡ old.schema
   pub others : Spares number old new
   pub rows : Rows (book_trees old number) (book_trees new number)
 
 -- the same of a tree, whatever table's it is
-pub record WritesAt (tree : ℕ) (Rows : List Row → List Row → Type 0) (old new : Database) : Type 0 where
+pub record WritesAt
+    (tree : ℕ) (Rows : List Row → List Row → Type 0) (old new : Database) : Type 0 where
   pub sound : IsDatabase new
   pub schema : new.schema ≡ old.schema
   pub others : AllByRecursion (λ (t : Table). t.tree ≢ tree

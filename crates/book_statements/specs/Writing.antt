@@ -15,7 +15,9 @@ use Rattle.book_statements.specs.Steps.{GoesOn}
 
 -- Where it answers Ok, `Done` came about and the transaction goes on; whatever it answers, nothing
 -- is committed by it.
-pub record Wrote {T : Type 0} (Done : Type 0) (old new : State) (before after : Calls) (result : Result T Fault) : Type 0 where
+pub record Wrote
+    {T : Type 0} (Done : Type 0) (old new : State) (before after : Calls) (result : Result T Fault)
+    : Type 0 where
   pub done : HasCleanDisk new → IsTrue old.in_transaction → OnOk result Done
   pub inside : HasCleanDisk new → IsTrue old.in_transaction
       → OnOk result (IsTrue new.in_transaction)
@@ -47,7 +49,8 @@ pub record Ran (sql : List ℕ) (params : Row) (old new : State) : Type 0 where
 
 -- A transaction is over, by one call of the store: where it answers Ok, what stood in it is
 -- committed, and else nothing of it is left.
-pub record Ended {T : Type 0} (old new : State) (before after : Calls) (result : Result T Fault) : Type 0 where
+pub record Ended
+    {T : Type 0} (old new : State) (before after : Calls) (result : Result T Fault) : Type 0 where
   pub done : HasCleanDisk new → OnOk result ((new.now ≡ old.now) × LeavesIt new)
   pub undone : HasCleanDisk new → IsTrue old.in_transaction → OnErr result (IsRolledBack old new)
   pub survives : Survives old new (λ db. db ≡ old.now.trees)

@@ -51,6 +51,7 @@ pub fn write_entry<'a, S: Alter>(
     outgoing: &'a [u8],
 ) -> Result<(), Fault>
     requires { seq < 2 ^ 63 }
+
     ensures same_reference { tx.new.conn.ghost_name ≡ tx.old.conn.ghost_name }
     ensures wrote { WroteIn S.Store (λ old new. IsTrue old.is_open
         × ((W : Partner) (L : List register.Entry) (e : register.Entry) → who.now ≡ who_text e.who

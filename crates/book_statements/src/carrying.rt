@@ -22,6 +22,7 @@ pub(crate) fn give_first_rules<S: Alter, T: FnMut(u64, u64)>(
 ) -> Result<(), Fault>
     requires few { entries < 2 ^ 63 }
     requires told { T.IsAlwaysCallable told }
+
     ensures same_reference { tx.new.conn.ghost_name ≡ tx.old.conn.ghost_name }
     ensures wrote { WroteIn S.Store (λ old new. GivesRules entries old.now new.now)
         tx.old.conn.now tx.new.conn.now calls.old calls.new result }
@@ -61,6 +62,7 @@ pub fn carry_all<S: Alter, T: FnMut(u64, u64)>(
 ) -> Result<(), Fault>
     requires few { entries < 2 ^ 63 }
     requires told { T.IsAlwaysCallable told }
+
     ensures same_reference { tx.new.conn.ghost_name ≡ tx.old.conn.ghost_name }
     ensures wrote { WroteIn S.Store (λ old new. IsLive old → CarriesOver entries old new)
         tx.old.conn.now tx.new.conn.now calls.old calls.new result }

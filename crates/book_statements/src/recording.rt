@@ -26,6 +26,7 @@ fn entry_params<'a>(
     moment: &'a [u8],
 ) -> [ValueRef<'a>; 6]
     requires { seq < 2 ^ 63 }
+
     ensures { bound result ≡ values (written_row seq who.now entry.now moment.now) }
 {
     [
@@ -48,6 +49,7 @@ pub(crate) fn insert_entry<'a, S: Alter>(
     moment: &'a [u8],
 ) -> Result<(), Fault>
     requires { seq < 2 ^ 63 }
+
     ensures same_reference { tx.new.conn.ghost_name ≡ tx.old.conn.ghost_name }
     ensures wrote { WroteIn S.Store (λ old new. IsTrue old.is_open
         × Leads (Puts (codes "entry") (written_row seq who.now entry.now moment.now) ∷ []) old.now
@@ -75,6 +77,7 @@ fn number_of(rules: Rules) -> i64
 // The columns of a row of `entry_rules`.
 fn rules_params(seq: u64, rules: Rules) -> [ValueRef<'static>; 2]
     requires { seq < 2 ^ 63 }
+
     ensures { bound result ≡ values (rules_row seq rules) }
 {
     [ValueRef::Int(seq as i64), ValueRef::Int(number_of(rules))]
@@ -88,6 +91,7 @@ pub(crate) fn insert_rules<S: Alter>(
     rules: Rules,
 ) -> Result<(), Fault>
     requires { seq < 2 ^ 63 }
+
     ensures same_reference { tx.new.conn.ghost_name ≡ tx.old.conn.ghost_name }
     ensures wrote { WroteIn S.Store (λ old new. Leads
         (Puts (codes "entry_rules") (rules_row seq rules) ∷ []) old.now new.now)

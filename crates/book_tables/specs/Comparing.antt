@@ -53,4 +53,5 @@ Compares false one two = (t : TableName) × ShowBoth (whole_text t) one two fals
 -- the rows of the book's tables stand in the order of their rowids, which are integers, as a store
 -- keeps the rows of any table
 abbrev pub AreTables : Database → Type 0
-AreTables db = AllByRecursion (λ (t : Table). IsShaped shape.Table (book_trees db t.tree)) book_tables
+AreTables db = AllByRecursion (λ (t : Table). IsShaped shape.Table (book_trees db t.tree))
+    book_tables

@@ -86,7 +86,6 @@ impl<S: Alter + Drop> Tables<S> {
         ensures asked { Asked S.Store self.old self.new result }
     {
         let rows = self.under_text(
-            alloc,
             "SELECT shipment, ord, is_open FROM advice WHERE who = ?1 AND shipment = ?2",
             who,
             shipment,
@@ -114,7 +113,6 @@ impl<S: Alter + Drop> Tables<S> {
         ensures asked { Asked S.Store self.old self.new result }
     {
         let rows = self.under_text(
-            alloc,
             "SELECT item, lot, quantity FROM advice_line WHERE who = ?1 AND shipment = ?2 ORDER BY line",
             who,
             shipment,

@@ -123,6 +123,7 @@ impl<S: Alter + Drop> Tables<S> {
         sql: &str,
     ) -> Result<bool, Fault>
         requires { OnlyReads sql.now }
+
         ensures same { HasCleanDisk (state S.Store self.new.conn)
             → HasCleanDisk (state T.Store other.new.conn)
             → IfOk result (ShowBoth sql.now (state S.Store self.old.conn)

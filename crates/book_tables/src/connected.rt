@@ -54,6 +54,7 @@ impl<S: Alter + Drop> Tables<S> {
     /// may be made.
     pub fn new(conn: Connection<S>) -> Tables<S>
         requires { conn.in_transaction ≡ false }
+
         ensures conn { result.conn ≡ conn }
         ensures refused { result.refused ≡ 0 }
         ensures made { result.made ≡ 0 }
@@ -125,6 +126,7 @@ impl<S: Alter + Drop> Tables<S> {
     /// were. A refused call is 40 or 41, and counts.
     pub(crate) fn ask(&mut self, sql: &str, params: &[ValueRef<'_>]) -> Result<Vec<Row>, Fault>
         requires { OnlyReads sql.now }
+
         ensures finds { HasCleanDisk (state S.Store self.new.conn)
             → IfOk result (λ rows. IsTrue (state S.Store self.old.conn).is_open
             × Finds sql.now (bound params.now)
@@ -163,6 +165,7 @@ impl<S: Alter + Drop> Tables<S> {
         outgoing: &'a [u8],
     ) -> Result<(), Fault>
         requires { seq < 2 ^ 63 }
+
         ensures ok { HasCleanDisk (state S.Store self.new.conn)
             → OnOk result ((W : Partner) (L : List register.Entry) (e : register.Entry)
             → IsAppended (state S.Store self.old.conn) W L e seq who.now entry.now changes.now
@@ -214,6 +217,7 @@ impl<S: Alter + Drop> Tables<S> {
     pub fn carry_over<T: FnMut(u64, u64)>(&mut self, entries: u64, told: T) -> Result<(), Fault>
         requires few { entries < 2 ^ 63 }
         requires told { T.IsAlwaysCallable told }
+
         ensures ok { HasCleanDisk (state S.Store self.new.conn)
             → OnOk result (CarriesOver entries (state S.Store self.old.conn)
             (state S.Store self.new.conn)) }

@@ -63,7 +63,7 @@ fn add_enrolment(
     ensures text { IfOk result (λ text. text.items ≡ next_text enrolment.who) }
 {
     found.push(enrolment)?;
-    let mut text = enrolment.who.text(alloc)?;
+    let mut text = enrolment.who.text().to_vec(alloc)?;
     text.push(0)?;
     Ok(text)
 }
@@ -95,7 +95,7 @@ impl<S: Alter + Drop> Tables<S> {
             (λ W L. IfOk result (λ enrolled. enrolled ≡ not (length (register.own L who) == 0))) }
         ensures asked { Asked S.Store self.old self.new result }
     {
-        let rows = self.of_depositor(alloc, "SELECT seq FROM entry WHERE who = ?1 LIMIT 1", who)?;
+        let rows = self.of_depositor("SELECT seq FROM entry WHERE who = ?1 LIMIT 1", who)?;
         Ok(!rows.is_empty())
     }
 

@@ -10,7 +10,6 @@ use crate::connected::Tables;
 use rules::Who;
 use sqlite::types::ValueRef;
 use sqlite::{Alter, Row};
-use std::alloc::Global;
 use store::Fault;
 
 // A depositor's text, and another.
@@ -30,13 +29,9 @@ fn number_params<'a>(who: &'a [u8], n: u32) -> [ValueRef<'a>; 2]
 impl<S: Alter + Drop> Tables<S> {
     /// The rows that a text answers which reads the book's tables, where its parameter is a
     /// depositor.
-    pub(crate) fn of_depositor(
-        &mut self,
-        alloc: Global,
-        sql: &str,
-        who: Who,
-    ) -> Result<Vec<Row>, Fault>
+    pub(crate) fn of_depositor(&mut self, sql: &str, who: Who) -> Result<Vec<Row>, Fault>
         requires { OnlyReads sql.now }
+
         ensures finds { HasCleanDisk (state S.Store self.new.conn)
             → IfOk result (λ rows. IsTrue (state S.Store self.old.conn).is_open
             × Finds sql.now (value.Text (who_text who)
@@ -44,19 +39,13 @@ impl<S: Alter + Drop> Tables<S> {
         ensures live { OnOk result (IsLive (state S.Store self.old.conn)) }
         ensures asked { Asked S.Store self.old self.new result }
     {
-        let text = who.text(alloc)?;
-        self.ask(sql, &[ValueRef::Text(&text)])
+        self.ask(sql, &[ValueRef::Text(who.text())])
     }
 
     /// The same where the parameters are a depositor and a text.
-    pub(crate) fn under_text(
-        &mut self,
-        alloc: Global,
-        sql: &str,
-        who: Who,
-        text: &[u8],
-    ) -> Result<Vec<Row>, Fault>
+    pub(crate) fn under_text(&mut self, sql: &str, who: Who, text: &[u8]) -> Result<Vec<Row>, Fault>
         requires { OnlyReads sql.now }
+
         ensures finds { HasCleanDisk (state S.Store self.new.conn)
             → IfOk result (λ rows. IsTrue (state S.Store self.old.conn).is_open
             × Finds sql.now (value.Text (who_text who)
@@ -64,19 +53,13 @@ impl<S: Alter + Drop> Tables<S> {
         ensures live { OnOk result (IsLive (state S.Store self.old.conn)) }
         ensures asked { Asked S.Store self.old self.new result }
     {
-        let partner = who.text(alloc)?;
-        self.ask(sql, &text_params(&partner, text))
+        self.ask(sql, &text_params(who.text(), text))
     }
 
     /// The same where the parameters are a depositor and a number.
-    pub(crate) fn under_number(
-        &mut self,
-        alloc: Global,
-        sql: &str,
-        who: Who,
-        n: u32,
-    ) -> Result<Vec<Row>, Fault>
+    pub(crate) fn under_number(&mut self, sql: &str, who: Who, n: u32) -> Result<Vec<Row>, Fault>
         requires { OnlyReads sql.now }
+
         ensures finds { HasCleanDisk (state S.Store self.new.conn)
             → IfOk result (λ rows. IsTrue (state S.Store self.old.conn).is_open
             × Finds sql.now (value.Text (who_text who)
@@ -84,7 +67,6 @@ impl<S: Alter + Drop> Tables<S> {
         ensures live { OnOk result (IsLive (state S.Store self.old.conn)) }
         ensures asked { Asked S.Store self.old self.new result }
     {
-        let text = who.text(alloc)?;
-        self.ask(sql, &number_params(&text, n))
+        self.ask(sql, &number_params(who.text(), n))
     }
 }

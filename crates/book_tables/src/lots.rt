@@ -99,13 +99,11 @@ impl<S: Alter + Drop> Tables<S> {
         ensures asked { Asked S.Store self.old self.new result }
     {
         let rows = self.under_text(
-            alloc,
             "SELECT item, lot, since, expected, on_hand, reserved, shipped FROM stock WHERE who = ?1 AND item = ?2 ORDER BY item, lot",
             who,
             item,
         )?;
         let dates = self.under_text(
-            alloc,
             "SELECT item, lot, expiry FROM lot_expiry WHERE who = ?1 AND item = ?2 ORDER BY item, lot",
             who,
             item,
@@ -124,12 +122,10 @@ impl<S: Alter + Drop> Tables<S> {
         ensures asked { Asked S.Store self.old self.new result }
     {
         let rows = self.of_depositor(
-            alloc,
             "SELECT item, lot, since, expected, on_hand, reserved, shipped FROM stock WHERE who = ?1 ORDER BY item, lot",
             who,
         )?;
         let dates = self.of_depositor(
-            alloc,
             "SELECT item, lot, expiry FROM lot_expiry WHERE who = ?1 ORDER BY item, lot",
             who,
         )?;

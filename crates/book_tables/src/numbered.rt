@@ -21,6 +21,7 @@ use store::Fault;
 // The number of an entry.
 fn seq_params(seq: u64) -> [ValueRef<'static>; 1]
     requires { seq < 2 ^ 63 }
+
     ensures { bound result ≡ value.Int (pos seq) ∷ [] }
 {
     [ValueRef::Int(seq as i64)]
@@ -67,6 +68,7 @@ impl<S: Alter + Drop> Tables<S> {
     // The rows of `entry` with a number: there is one at most.
     fn rows_at(&mut self, seq: u64) -> Result<Vec<Row>, Fault>
         requires { seq < 2 ^ 63 }
+
         ensures finds { HasCleanDisk (state S.Store self.new.conn)
             → IfOk result (λ rows. IsTrue (state S.Store self.old.conn).is_open
             × Finds numbered_text (value.Int (pos seq) ∷ []) (state S.Store self.old.conn).now
@@ -82,6 +84,7 @@ impl<S: Alter + Drop> Tables<S> {
     // The rows of `entry_rules` with a number: there is one at most.
     fn rules_rows_at(&mut self, seq: u64) -> Result<Vec<Row>, Fault>
         requires { seq < 2 ^ 63 }
+
         ensures finds { HasCleanDisk (state S.Store self.new.conn)
             → IfOk result (λ rows. IsTrue (state S.Store self.old.conn).is_open
             × Finds rules_text (value.Int (pos seq) ∷ []) (state S.Store self.old.conn).now
@@ -98,6 +101,7 @@ impl<S: Alter + Drop> Tables<S> {
     // none.
     fn rules_at(&mut self, seq: u64) -> Result<Option<Rules>, Fault>
         requires { seq < 2 ^ 63 }
+
         ensures rules { OfStanding S.Store self.old self.new
             (λ W L. IfOk result (λ rules. rules ≡ option_map (λ (w : Written). w.rules)
             (written_at (all_written L) seq))) }
@@ -118,6 +122,7 @@ impl<S: Alter + Drop> Tables<S> {
     /// for it, and 41 where a call is refused.
     pub fn entry_at(&mut self, alloc: Global, seq: u64) -> Result<Option<Entry>, Fault>
         requires { seq < 2 ^ 63 }
+
         ensures entry { OfStanding S.Store self.old self.new
             (λ W L. IfOk result (λ entry. entry ≡ written_at (all_written L) seq)) }
         ensures was_open { HasCleanDisk (state S.Store self.new.conn)

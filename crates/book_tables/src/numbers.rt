@@ -73,7 +73,6 @@ impl<S: Alter + Drop> Tables<S> {
         ensures asked { Asked S.Store self.old self.new result }
     {
         let rows = self.under_number(
-            alloc,
             "SELECT kind, state FROM outgoing WHERE who = ?1 AND n = ?2",
             who,
             n,
@@ -101,7 +100,6 @@ impl<S: Alter + Drop> Tables<S> {
         ensures asked { Asked S.Store self.old self.new result }
     {
         let rows = self.under_number(
-            alloc,
             "SELECT content FROM outgoing WHERE who = ?1 AND n = ?2",
             who,
             n,
@@ -127,7 +125,6 @@ impl<S: Alter + Drop> Tables<S> {
         ensures asked { Asked S.Store self.old self.new result }
     {
         let rows = self.of_depositor(
-            alloc,
             "SELECT n FROM outgoing WHERE who = ?1 ORDER BY n DESC LIMIT 1",
             who,
         )?;

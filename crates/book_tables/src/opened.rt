@@ -44,7 +44,6 @@ impl<S: Alter + Drop> Tables<S> {
         ensures asked { Asked S.Store self.old self.new result }
     {
         let rows = self.under_number(
-            alloc,
             "SELECT shipment FROM advice WHERE who = ?1 AND is_open = ?2 ORDER BY shipment",
             who,
             OPEN,
@@ -63,7 +62,6 @@ impl<S: Alter + Drop> Tables<S> {
         ensures asked { Asked S.Store self.old self.new result }
     {
         let rows = self.under_number(
-            alloc,
             "SELECT ord FROM orders WHERE who = ?1 AND is_open = ?2 ORDER BY ord",
             who,
             OPEN,

@@ -16,6 +16,7 @@ impl<S: Alter + Drop> Tables<S> {
     /// each table rise by their rowids, so these can be compared with others.
     pub fn over(alloc: Global, store: S) -> Result<Tables<S>, (Error, S)>
         requires { IsClean (S.Store.view store) → IsFresh (S.Store.view store) }
+
         ensures opens { IfOk result (λ t. HasCleanDisk (state S.Store t.conn)
             → Opens (state S.Store t.conn) × IsLive (state S.Store t.conn)) }
         ensures tables { IfOk result (λ t. HasCleanDisk (state S.Store t.conn)

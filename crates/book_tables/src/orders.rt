@@ -129,7 +129,6 @@ impl<S: Alter + Drop> Tables<S> {
         ensures asked { Asked S.Store self.old self.new result }
     {
         let rows = self.under_text(
-            alloc,
             "SELECT ord, is_open, to_name, to_one, to_two, to_place FROM orders WHERE who = ?1 AND ord = ?2",
             who,
             number,
@@ -157,7 +156,6 @@ impl<S: Alter + Drop> Tables<S> {
         ensures asked { Asked S.Store self.old self.new result }
     {
         let rows = self.under_text(
-            alloc,
             "SELECT item, lot, quantity FROM order_line WHERE who = ?1 AND ord = ?2 ORDER BY line",
             who,
             number,
@@ -182,7 +180,6 @@ impl<S: Alter + Drop> Tables<S> {
         ensures asked { Asked S.Store self.old self.new result }
     {
         let rows = self.under_text(
-            alloc,
             "SELECT item, lot, quantity FROM reservation WHERE who = ?1 AND ord = ?2 ORDER BY item, lot",
             who,
             number,

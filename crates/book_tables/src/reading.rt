@@ -122,6 +122,7 @@ pub(crate) fn seq_at(row: &Row, at: usize) -> Option<u64>
 // The value of at most four bytes as digits.
 fn value(text: &[u8]) -> u64
     requires { length text.now ≤ 4 }
+
     ensures { result ≡ bytes.value text.now }
 {
     let mut value: u64 = 0;

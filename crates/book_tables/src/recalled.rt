@@ -30,15 +30,14 @@ pub(crate) fn content_in(alloc: Global, rows: &[Row]) -> Result<Option<Vec<u8>>,
 }
 
 impl<S: Alter + Drop> Tables<S> {
-    /// A depositor's entry under a mark, as it is written down. 43 where its row shows no number, or
-    /// the entry under it isn't one.
+    /// A depositor's entry under a mark, as it is written down. 43 where its row shows no number,
+    /// or the entry under it isn't one.
     fn entry_under(&mut self, alloc: Global, who: Who, mark: &[u8]) -> Result<Option<Entry>, Fault>
         ensures entry { OfStanding S.Store self.old self.new
             (λ W L. IfOk result (λ entry. entry ≡ first_under who mark.now L)) }
         ensures asked { Asked S.Store self.old self.new result }
     {
         let rows = self.under_text(
-            alloc,
             "SELECT seq FROM entry WHERE who = ?1 AND mark = ?2 ORDER BY seq",
             who,
             mark,
@@ -62,7 +61,6 @@ impl<S: Alter + Drop> Tables<S> {
         ensures asked { Asked S.Store self.old self.new result }
     {
         let rows = self.under_number(
-            alloc,
             "SELECT content FROM outgoing WHERE who = ?1 AND n = ?2",
             who,
             n,

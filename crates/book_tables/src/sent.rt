@@ -112,7 +112,6 @@ impl<S: Alter + Drop> Tables<S> {
         ensures asked { Asked S.Store self.old self.new result }
     {
         let rows = self.of_depositor(
-            alloc,
             "SELECT n, kind, content, state FROM outgoing WHERE who = ?1 ORDER BY n",
             who,
         )?;

@@ -19,7 +19,9 @@ use Rattle.book_statements.specs.Standing.{StandsIn}
 
 -- tables of version 1 with so many entries are carried over, and those of version 2 stay as they
 -- are
-pub record BringsUp {S T : Type 0} (store : Ghosts S) (version : Rules) (entries : ℕ) (old new : Kept S) (result : Result T Fault) : Type 0 where
+pub record BringsUp
+    {S T : Type 0} (store : Ghosts S) (version : Rules) (entries : ℕ) (old new : Kept S)
+    (result : Result T Fault) : Type 0 where
   pub stays : version ≡ Two → new ≡ old
   pub fails : OnErr result (version ≡ One)
   pub done : HasCleanDisk (state store new.conn) → version ≡ One

@@ -45,11 +45,13 @@ pub record IsOpened {S : Type 0} (store : Ghosts S) (tables : Kept S) (b : Opene
 
 -- the tables that an opening hands back with a fault: a book of version 1 stays one, or was carried
 -- over whole, and what is no book is as it was
-pub record IsHandedBack {S : Type 0} (store : Ghosts S) (tables : Kept S) (fault : Fault) (back : Kept S) : Type 0 where
+pub record IsHandedBack
+    {S : Type 0} (store : Ghosts S) (tables : Kept S) (fault : Fault) (back : Kept S) : Type 0 where
   pub not_this : fault ≡ NotThisBook → HasCleanDisk (state store back.conn)
       → (rows : List Cells) × Finds house_text [] (state store tables.conn).now rows
       × ((q : Rules) (W : Who) → IsHouse q rows W → ⊥)
-  pub this : HasCleanDisk (state store back.conn) → OfRegister store tables (λ _ _. fault ≢ NotThisBook)
+  pub this : HasCleanDisk (state store back.conn) → OfRegister store tables
+      (λ _ _. fault ≢ NotThisBook)
   pub asked : OpensAs (state store tables.conn) (state store back.conn)
   pub untouched : fault ≡ NotThisBook → IsAsked (state store tables.conn) (state store back.conn)
   pub carried : HasCleanDisk (state store back.conn) → (W : Who) (L : List Entry)

@@ -14,7 +14,7 @@ use Rattle.profile.specs.declared.rules.Rules.TheVariants.{One}
 use Rattle.profile.specs.Header.{Who}
 use Rattle.profile.specs.Register.{Entry}
 use Rattle.profile.specs.Accepted.{IsLegal}
-use Rattle.store.specs.Standing.{Standing, IsUsable}
+use Rattle.store.specs.Standing.{Standing, IsUsable, OfAnyKept}
 use Rattle.store.specs.Fault.{Fault}
 use Rattle.store.specs.Fault.TheVariants.{OutOfMemory, Store}
 use Rattle.book_statements.specs.Exits.{StandsWhileOpen}
@@ -55,7 +55,8 @@ pub record Stays (n : ℕ) (s : State) (W : Who) (copy : Standing) (L : List Ent
   pub usable : IsUsable copy (take n L)
 
 -- the same, where these are the rules of the last of them
-pub record Follows (n : ℕ) (last : Rules) (s : State) (W : Who) (copy : Standing) (L : List Entry) : Type 0 where
+pub record Follows
+    (n : ℕ) (last : Rules) (s : State) (W : Who) (copy : Standing) (L : List Entry) : Type 0 where
   pub stays : Stays n s W copy L
   pub last_is : last ≡ last_rules One (take n L)
   pub legal : IsLegal last copy.warehouse (take n L)
@@ -66,17 +67,22 @@ pub record StandsForMany (W : Who) (n : ℕ) (db : Database) : Type 0 where
   pub long : length register ≡ n
   pub stands : Stands W register db
 
+-- of a book whose database is laid out as one, and has its tables, if the disk is in no doubt after
+-- the call
+abbrev pub OfTables : {S : Type 0} → Ghosts S → Opened S → Opened S → Type 0 → Type 0
+OfTables store old new P =
+    (standing_of store new).doubt ≡ 0 → IsLaid (state store old.tables.conn)
+    → (IsTrue (state store old.tables.conn).is_open → AreTables (state store old.tables.conn).now)
+    → P
+
 -- what a check of a book says that ends: its tables, where they are open and are tables of a book,
 -- stand for a register of so many entries
 abbrev pub StandsChecked : {S : Type 0} → Ghosts S → Opened S → Opened S → Result ℕ Fault → Type 0
-StandsChecked store old new result =
-    (standing_of store new).doubt ≡ 0 → IsLaid (state store old.tables.conn)
-    → (IsTrue (state store old.tables.conn).is_open → AreTables (state store old.tables.conn).now)
-    → IfOk result (λ n. IsTrue (state store old.tables.conn).is_open
-    × StandsForMany old.warehouse n (state store old.tables.conn).now)
+StandsChecked store old new result = OfTables store old new
+    (IfOk result (λ n. IsTrue (state store old.tables.conn).is_open
+    × StandsForMany old.warehouse n (state store old.tables.conn).now))
 
 -- and it counts the entries of each register that the book keeps
 abbrev pub CountsKept : {S : Type 0} → Ghosts S → Opened S → Opened S → Result ℕ Fault → Type 0
 CountsKept store old new result =
-    (standing_of store new).doubt ≡ 0 → (L : List Entry) → (standing_of store old).keeps L
-    → IfOk result (λ n. n ≡ length L)
+    OfAnyKept (standing_of store old) (standing_of store new) (λ L. IfOk result (λ n. n ≡ length L))

@@ -33,6 +33,7 @@ fn over_nothing<S: Alter + Drop>(
     warehouse: Warehouse,
 ) -> Result<Book<S>, Fault>
     requires { database.in_transaction ≡ false }
+
     ensures warehouse { IfOk result (λ b. b.warehouse ≡ warehouse) }
     ensures usable { IfOk result (λ b. HasCleanDisk (state S.Store b.tables.conn)
         → IsUsable (standing_of S.Store b) []) }

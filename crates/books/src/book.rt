@@ -15,7 +15,7 @@ ghost use Rattle.book_statements.specs.Standing.{StandsIn};
 ghost use Rattle.book_tables.specs.Taken.{has_book_table};
 
 use crate::blank::blank;
-use crate::verifying::replayed;
+use crate::verifying::give_all;
 use book_tables::Tables;
 use profile::Rules;
 use rules::Warehouse;
@@ -62,6 +62,7 @@ fn bring_up<S: Alter + Drop, T: FnMut(u64, u64)>(
 ) -> Result<(), Fault>
     requires few { entries < 2 ^ 63 }
     requires told { T.IsAlwaysCallable told }
+
     ensures brought { BringsUp S.Store version entries tables.old tables.new result }
     ensures named { IfErr result (λ f. (f ≡ Fault.OutOfMemory) ⊎ (f ≡ Fault.Store)) }
     ensures counted { OnErr result (Rises tables.old.refused tables.new.refused) }
@@ -142,6 +143,7 @@ impl<S: Alter + Drop> Book<S> {
         told: T,
     ) -> Result<Book<S>, (Fault, Tables<S>)>
         requires told { T.IsAlwaysCallable told }
+
         ensures ok { IfOk result (IsOpened S.Store tables) }
         ensures err { IfErr result (λ e. IsHandedBack S.Store tables e.0 e.1) }
         ensures allowed { OnOk result (tables.limit ≢ Some 0) }
@@ -172,7 +174,8 @@ impl<S: Alter + Drop> Book<S> {
     pub fn verify(&mut self) -> Result<u64, Fault>
         ensures stands { StandsChecked S.Store self.old self.new result }
         ensures whole { CountsKept S.Store self.old self.new result }
-        ensures query { IsQuery (standing_of S.Store self.old) (standing_of S.Store self.new) result }
+        ensures query { IsQuery (standing_of S.Store self.old) (standing_of S.Store self.new)
+            result }
         ensures shut { self.old.shut ≡ true → IsErrOf result Fault.Reopen }
         ensures limit { Counts self.old.tables self.new.tables }
     {
@@ -183,44 +186,48 @@ impl<S: Alter + Drop> Book<S> {
     /// how many there are.
     pub fn verify_telling<T: FnMut(u64, u64)>(&mut self, told: T) -> Result<u64, Fault>
         requires told { T.IsAlwaysCallable told }
+
         ensures stands { StandsChecked S.Store self.old self.new result }
         ensures whole { CountsKept S.Store self.old self.new result }
-        ensures query { IsQuery (standing_of S.Store self.old) (standing_of S.Store self.new) result }
+        ensures query { IsQuery (standing_of S.Store self.old) (standing_of S.Store self.new)
+            result }
         ensures shut { self.old.shut ≡ true → IsErrOf result Fault.Reopen }
         ensures limit { Counts self.old.tables self.new.tables }
     {
         if self.shut {
             return Err(Fault::Reopen);
         }
-        let copy = blank(self.alloc, self.warehouse)?;
-        self.check_by(copy, told)
+        let mut copy = blank(self.alloc, self.warehouse)?;
+        self.check_by(&mut copy, told)
     }
 
     // How many entries the register has, where every table is what comes of giving their commands
     // again to this empty book.
     fn check_by<C: Alter + Drop, T: FnMut(u64, u64)>(
         &mut self,
-        copy: Book<C>,
+        copy: &mut Book<C>,
         told: T,
     ) -> Result<u64, Fault>
         requires clean { IsAlwaysClean C.Store }
-        requires empty { IsUsable (standing_of C.Store copy) [] }
-        requires warehouse { copy.warehouse ≡ self.old.warehouse }
+        requires empty { IsUsable (standing_of C.Store copy.old) [] }
+        requires warehouse { copy.old.warehouse ≡ self.old.warehouse }
         requires told { T.IsAlwaysCallable told }
+
         ensures stands { StandsChecked S.Store self.old self.new result }
         ensures whole { CountsKept S.Store self.old self.new result }
-        ensures query { IsQuery (standing_of S.Store self.old) (standing_of S.Store self.new) result }
+        ensures query { IsQuery (standing_of S.Store self.old) (standing_of S.Store self.new)
+            result }
         ensures limit { Counts self.old.tables self.new.tables }
     {
-        let found = replayed(self.alloc, &mut self.tables, copy, self.entries, told)?;
-        let Some(mut copy) = found else {
+        let all = give_all(self.alloc, &mut self.tables, copy, self.entries, told)?;
+        if !all {
             return Err(Fault::NotThisBook);
-        };
-        if self.tables.same_tables(&mut copy.tables)? {
-            Ok(copy.entries)
-        } else {
-            Err(Fault::NotThisBook)
         }
+        let same = self.tables.same_tables(&mut copy.tables)?;
+        if !same {
+            return Err(Fault::NotThisBook);
+        }
+        Ok(copy.entries)
     }
 
     /// Hands the tables back.

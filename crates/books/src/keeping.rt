@@ -9,7 +9,7 @@ ghost use Rattle.store.specs.Held.{IsHeld};
 ghost use Rattle.store.specs.Known.{first_under};
 ghost use Rattle.store.specs.Open.{open_of, open_on, enrolled};
 ghost use Rattle.store.specs.Sent.{text_of};
-ghost use Rattle.store.specs.Standing.{IsUsable, IsUnchanged, IsQuery, IsNext, IsFault, IsCommitFault, LeavesEither, GoesOn, OfKept, OfUsable};
+ghost use Rattle.store.specs.Standing.{IsUsable, IsUnchanged, IsQuery, IsNext, IsFault, IsCommitFault, LeavesEither, GoesOn, OfAnyKept, OfKept, OfUsable};
 ghost use Rattle.book_statements.specs.Limits.{AreCounted};
 ghost use Rattle.book_tables.specs.Needed.{needed_part};
 ghost use Rattle.books.specs.Opened.{standing_of};
@@ -32,12 +32,13 @@ impl<S: Alter + Drop> Keeper for Book<S> {
     /// stranger.
     fn load(&mut self, who: Who, need: &Need) -> Result<Option<Page>, Fault>
         ensures page { OfKept (standing_of S.Store self.old) (standing_of S.Store self.new)
-            (λ L. IfOk result (λ page. IsHeld need.now page (decided.standing (register.own L who)))) }
-        ensures part { (standing_of S.Store self.new).doubt ≡ 0 → (L : List register.Entry)
-            → (standing_of S.Store self.old).keeps L → IfOk result
-            (λ page. page ≡ needed_part need.now L who) }
+            (λ L. IfOk result (λ page. IsHeld need.now page
+            (decided.standing (register.own L who)))) }
+        ensures part { OfAnyKept (standing_of S.Store self.old) (standing_of S.Store self.new)
+            (λ L. IfOk result (λ page. page ≡ needed_part need.now L who)) }
         ensures rest { IfOk result IsAtRest }
-        ensures query { IsQuery (standing_of S.Store self.old) (standing_of S.Store self.new) result }
+        ensures query { IsQuery (standing_of S.Store self.old) (standing_of S.Store self.new)
+            result }
         ensures shut { (standing_of S.Store self.old).shut ≡ true → IsErrOf result Fault.Reopen }
         ensures calls { AreCounted self.old.tables self.new.tables result }
     {
@@ -51,10 +52,11 @@ impl<S: Alter + Drop> Keeper for Book<S> {
         ensures entry { OfKept (standing_of S.Store self.old) (standing_of S.Store self.new)
             (λ L. IfOk result (λ known. IsRecalled known (decided.recalled
             (standing_of S.Store self.old).warehouse (mark_of key.now) (register.own L who)))) }
-        ensures recorded { (standing_of S.Store self.new).doubt ≡ 0 → (L : List register.Entry)
-            → (standing_of S.Store self.old).keeps L
-            → IfOk result (λ known. option_map (λ k. k.entry) known ≡ first_under who (mark_of key.now) L) }
-        ensures query { IsQuery (standing_of S.Store self.old) (standing_of S.Store self.new) result }
+        ensures recorded { OfAnyKept (standing_of S.Store self.old) (standing_of S.Store self.new)
+            (λ L. IfOk result (λ known. option_map (λ k. k.entry) known
+            ≡ first_under who (mark_of key.now) L)) }
+        ensures query { IsQuery (standing_of S.Store self.old) (standing_of S.Store self.new)
+            result }
         ensures shut { (standing_of S.Store self.old).shut ≡ true → IsErrOf result Fault.Reopen }
         ensures calls { AreCounted self.old.tables self.new.tables result }
     {
@@ -73,11 +75,10 @@ impl<S: Alter + Drop> Keeper for Book<S> {
             (λ L. (e : register.Entry)
             → IsNext (standing_of S.Store self.old).warehouse L e entry.now changes.now outgoing.now
             → OnOk result (IsUsable (standing_of S.Store self.new) (L ++ e ∷ []))) }
-        ensures keeps { (standing_of S.Store self.new).doubt ≡ 0
-            → (L : List register.Entry) (e : register.Entry)
-            → (standing_of S.Store self.old).keeps L
+        ensures keeps { OfAnyKept (standing_of S.Store self.old) (standing_of S.Store self.new)
+            (λ L. (e : register.Entry)
             → IsNext (standing_of S.Store self.old).warehouse L e entry.now changes.now outgoing.now
-            → OnOk result ((standing_of S.Store self.new).keeps (L ++ e ∷ [])) }
+            → OnOk result ((standing_of S.Store self.new).keeps (L ++ e ∷ []))) }
         ensures left { OfUsable (standing_of S.Store self.old) (standing_of S.Store self.new)
             (λ L. (e : register.Entry)
             → IsNext (standing_of S.Store self.old).warehouse L e entry.now changes.now outgoing.now
@@ -105,9 +106,10 @@ impl<S: Alter + Drop> Keeper for Book<S> {
             self.shut = true;
             return Err(self.tables.use_up());
         }
-        let who = entry.who().text(self.alloc)?;
+        let depositor = entry.who();
+        let who = depositor.text();
         let seq = self.entries + 1;
-        match self.tables.append(seq, &who, entry, changes, outgoing) {
+        match self.tables.append(seq, who, entry, changes, outgoing) {
             Ok(()) => {
                 self.entries = seq;
                 Ok(())
@@ -122,7 +124,8 @@ impl<S: Alter + Drop> Keeper for Book<S> {
     fn stock_rows(&mut self, who: Who) -> Result<Option<Vec<StockRow>>, Fault>
         ensures rows { OfKept (standing_of S.Store self.old) (standing_of S.Store self.new)
             (λ L. IfOk result (λ rows. option_map (λ v. v.items) rows ≡ stock_of L who)) }
-        ensures query { IsQuery (standing_of S.Store self.old) (standing_of S.Store self.new) result }
+        ensures query { IsQuery (standing_of S.Store self.old) (standing_of S.Store self.new)
+            result }
         ensures shut { (standing_of S.Store self.old).shut ≡ true → IsErrOf result Fault.Reopen }
         ensures calls { AreCounted self.old.tables self.new.tables result }
     {
@@ -136,7 +139,8 @@ impl<S: Alter + Drop> Keeper for Book<S> {
         ensures rows { OfKept (standing_of S.Store self.old) (standing_of S.Store self.new)
             (λ L. IfOk result (λ rows. option_map (λ v. v.items) rows ≡ outbox_of
             (standing_of S.Store self.old).warehouse L who)) }
-        ensures query { IsQuery (standing_of S.Store self.old) (standing_of S.Store self.new) result }
+        ensures query { IsQuery (standing_of S.Store self.old) (standing_of S.Store self.new)
+            result }
         ensures shut { (standing_of S.Store self.old).shut ≡ true → IsErrOf result Fault.Reopen }
         ensures calls { AreCounted self.old.tables self.new.tables result }
     {
@@ -150,7 +154,8 @@ impl<S: Alter + Drop> Keeper for Book<S> {
         ensures text { OfKept (standing_of S.Store self.old) (standing_of S.Store self.new)
             (λ L. IfOk result (λ text. option_map (option_map (λ v. v.items)) text ≡ text_of
             (standing_of S.Store self.old).warehouse L who n)) }
-        ensures query { IsQuery (standing_of S.Store self.old) (standing_of S.Store self.new) result }
+        ensures query { IsQuery (standing_of S.Store self.old) (standing_of S.Store self.new)
+            result }
         ensures shut { (standing_of S.Store self.old).shut ≡ true → IsErrOf result Fault.Reopen }
         ensures calls { AreCounted self.old.tables self.new.tables result }
     {
@@ -163,7 +168,8 @@ impl<S: Alter + Drop> Keeper for Book<S> {
     fn open(&mut self, who: Who) -> Result<Option<Page>, Fault>
         ensures work { OfKept (standing_of S.Store self.old) (standing_of S.Store self.new)
             (λ L. IfOk result (λ page. option_map open_on page ≡ open_of L who)) }
-        ensures query { IsQuery (standing_of S.Store self.old) (standing_of S.Store self.new) result }
+        ensures query { IsQuery (standing_of S.Store self.old) (standing_of S.Store self.new)
+            result }
         ensures shut { (standing_of S.Store self.old).shut ≡ true → IsErrOf result Fault.Reopen }
         ensures calls { AreCounted self.old.tables self.new.tables result }
     {
@@ -176,7 +182,8 @@ impl<S: Alter + Drop> Keeper for Book<S> {
     fn depositors(&mut self) -> Result<Vec<Who>, Fault>
         ensures whole { OfKept (standing_of S.Store self.old) (standing_of S.Store self.new)
             (λ L. IfOk result (λ whos. whos.items ≡ enrolled L)) }
-        ensures query { IsQuery (standing_of S.Store self.old) (standing_of S.Store self.new) result }
+        ensures query { IsQuery (standing_of S.Store self.old) (standing_of S.Store self.new)
+            result }
         ensures shut { (standing_of S.Store self.old).shut ≡ true → IsErrOf result Fault.Reopen }
         ensures calls { AreCounted self.old.tables self.new.tables result }
     {

@@ -8,7 +8,7 @@ ghost use Rattle.profile.specs.Register as register;
 ghost use Rattle.rules.specs.Written.{written};
 ghost use Rattle.sqlite.specs.Held.{state};
 ghost use Rattle.sqlite.specs.State.{HasCleanDisk};
-ghost use Rattle.store.specs.Standing.{GoesOn, IsUsable};
+ghost use Rattle.store.specs.Standing.{GoesOn, IsUsable, OfUsable};
 ghost use Rattle.books.specs.Opened.{standing_of};
 ghost use Rattle.book_statements.specs.Asking.{Went};
 ghost use Rattle.book_statements.specs.Exits.{StandsWhileOpen};
@@ -52,14 +52,13 @@ fn give<K: Keeper>(
     ensures copy { (K.standing copy.new).doubt ≡ 0 → (W : Partner)
         → IsCopy last W (K.standing copy.old)
         → IfOk result (λ given. IfSome given (λ rules. IsCopy rules W (K.standing copy.new))) }
-    ensures next { (K.standing copy.new).doubt ≡ 0
-        → (L : List register.Entry) (e : register.Entry) (later : List register.Entry)
+    ensures next { OfUsable (K.standing copy.old) (K.standing copy.new)
+        (λ L. (e : register.Entry) (later : List register.Entry)
         → entry.now ≡ written L e → IsLegal Two (K.standing copy.old).warehouse (L ++ e ∷ later)
         → last ≡ last_rules One L → IsLegal last (K.standing copy.old).warehouse L
-        → IsUsable (K.standing copy.old) L
         → IfOk result (λ given. (given ≡ Some e.rules)
         × IsLegal e.rules (K.standing copy.new).warehouse (L ++ e ∷ [])
-        × IsUsable (K.standing copy.new) (L ++ e ∷ [])) }
+        × IsUsable (K.standing copy.new) (L ++ e ∷ []))) }
     ensures goes { GoesOn (K.standing copy.old) (K.standing copy.new) }
     ensures named { (K.standing copy.new).doubt ≡ 0 → (W : Partner)
         → IsCopy last W (K.standing copy.old) → IfErr result (λ f. f ≡ Fault.OutOfMemory) }
@@ -90,8 +89,10 @@ fn give_entry<S: Alter + Drop, C: Alter + Drop>(
 ) -> Result<Option<Rules>, Fault>
     requires clean { IsAlwaysClean C.Store }
     requires copy { IsCopy last copy.old.warehouse (standing_of C.Store copy.old) }
+
     ensures copy { (W : Partner) → IsCopy last W (standing_of C.Store copy.old)
-        → IfOk result (λ given. IfSome given (λ rules. IsCopy rules W (standing_of C.Store copy.new))) }
+        → IfOk result (λ given. IfSome given (λ rules. IsCopy rules W
+        (standing_of C.Store copy.new))) }
     ensures next { HasCleanDisk (state S.Store tables.new.conn)
         → (W : Partner) (L : List register.Entry)
         → before < length L → Follows before last (state S.Store tables.old.conn) W
@@ -110,35 +111,36 @@ fn give_entry<S: Alter + Drop, C: Alter + Drop>(
     }
 }
 
-/// An empty book of the warehouse, to which the commands of so many entries were given again, in
-/// their order, each under the rules of its entry; None where one is missing, no command made it,
-/// or the rules fall. After each, `told` is handed how many were given of how many.
-pub(crate) fn replayed<S: Alter + Drop, C: Alter + Drop, T: FnMut(u64, u64)>(
+/// Gives an empty book of the warehouse the commands of so many entries again, in their order, each
+/// under the rules of its entry; false where one is missing, no command made it, or the rules fall.
+/// After each, `told` is handed how many were given of how many.
+pub(crate) fn give_all<S: Alter + Drop, C: Alter + Drop, T: FnMut(u64, u64)>(
     alloc: Global,
     tables: &mut Tables<S>,
-    mut copy: Book<C>,
+    copy: &mut Book<C>,
     entries: u64,
     mut told: T,
-) -> Result<Option<Book<C>>, Fault>
+) -> Result<bool, Fault>
     requires clean { IsAlwaysClean C.Store }
-    requires empty { IsUsable (standing_of C.Store copy) [] }
+    requires empty { IsUsable (standing_of C.Store copy.old) [] }
     requires told { T.IsAlwaysCallable told }
-    ensures copy { IfOk result
-        (λ o. IfSome o (λ b. IsCopy Two copy.warehouse (standing_of C.Store b))) }
+
+    ensures copy { IfOk result (λ all. all ≡ true
+        → IsCopy Two copy.old.warehouse (standing_of C.Store copy.new)) }
     ensures whole { HasCleanDisk (state S.Store tables.new.conn) → (L : List register.Entry)
         → entries ≡ length L
-        → StandsWhileOpen (state S.Store tables.old.conn) copy.warehouse L
-        → IfOk result (λ o. IsSomeAnd o (λ b. Stays entries (state S.Store tables.new.conn) copy.warehouse
-        (standing_of C.Store b) L)) }
+        → StandsWhileOpen (state S.Store tables.old.conn) copy.old.warehouse L
+        → IfOk result (λ all. (all ≡ true) × Stays entries (state S.Store tables.new.conn)
+        copy.old.warehouse (standing_of C.Store copy.new) L) }
     ensures went { Went S.Store tables.old tables.new result }
 {
     let mut last = Rules::One;
     for before in 0..entries {
-        let Some(rules) = give_entry(alloc, tables, &mut copy, before, last)? else {
-            return Ok(None);
+        let Some(rules) = give_entry(alloc, tables, copy, before, last)? else {
+            return Ok(false);
         };
         last = rules;
         told(before + 1, entries);
     }
-    Ok(Some(copy))
+    Ok(true)
 }

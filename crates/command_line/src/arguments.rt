@@ -170,7 +170,8 @@ pub(crate) fn with_sheet<'a>(
     command: Result<Command<'a>, AllocError>,
 ) -> Result<Command<'a>, AllocError>
     ensures { (s : Shape) → IfOk command.entry (IsCommand s)
-        → IfOk result (IsCommand (meant.and_rule (meant.and_rule s meant.sheet_rule) meant.at_rule)) }
+        → IfOk result (IsCommand (meant.and_rule (meant.and_rule s meant.sheet_rule)
+        meant.at_rule)) }
 {
     let command = with(command, sheet(alloc));
     with_at(alloc, command)

@@ -8,6 +8,7 @@ use segments::{Moment, all_digits, number};
 // Whether two digits stand at a place.
 fn has_pair(text: &[u8], at: usize) -> bool
     requires { at + 2 ≤ length text.now }
+
     ensures { result ≡ written.has_pair at text.now }
 {
     all_digits(&text[at..at + 2])
@@ -16,6 +17,7 @@ fn has_pair(text: &[u8], at: usize) -> bool
 // Whether a mark stands at a place.
 fn has_mark(text: &[u8], at: usize, mark: &[u8]) -> bool
     requires { at + 1 ≤ length text.now }
+
     ensures { result ≡ written.has_mark at mark.now text.now }
 {
     &text[at..at + 1] == mark
@@ -42,6 +44,7 @@ fn is_form(text: &[u8]) -> bool
 fn pair_at(text: &[u8], at: usize) -> u8
     requires within { at + 2 ≤ length text.now }
     requires digits { written.has_pair at text.now ≡ true }
+
     ensures { result ≡ value (written.pair_at at text.now) }
 {
     number(&text[at..at + 2]) as u8

@@ -16,6 +16,7 @@ pub(crate) const MOST_CONNECTIONS: u32 = 65_535;
 // None where it is another text.
 fn number_to(most: u32, text: &[u8]) -> Option<u32>
     requires { most < 1000000 }
+
     ensures number { result ≡ written.number_to most text.now }
     ensures within { IfSome result (λ number. number ≤ most) }
 {

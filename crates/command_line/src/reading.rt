@@ -147,6 +147,7 @@ fn part_task_of<'a>(
     at: Option<Moment>,
 ) -> Result<Task<'a>, LineFault>
     requires { meant.SaysMoment (rows_of (found_of values.now)) at }
+
     ensures { IfOk result (meant.SaysTask (name.now, rows_of (found_of values.now))) }
 {
     if let Some(act) = act_of(alloc, name, values)? {
@@ -166,6 +167,7 @@ fn task_at<'a>(
     at: Option<Moment>,
 ) -> Result<Task<'a>, LineFault>
     requires { meant.SaysMoment (rows_of (found_of values.now)) at }
+
     ensures { IfOk result (meant.SaysTask (name.now, rows_of (found_of values.now))) }
 {
     let task = match name {
@@ -201,6 +203,7 @@ fn over<'a>(
     values: &ArgMatches<'a>,
 ) -> Result<Words<'a>, LineFault>
     requires { meant.SaysServer (rows_of (found_of values.now)) None }
+
     ensures { IfOk result (meant.Says place (name.now, rows_of (found_of values.now))) }
 {
     Ok(Words::Over {
@@ -233,6 +236,7 @@ fn remote<'a>(
     server: SocketAddr,
 ) -> Result<Words<'a>, LineFault>
     requires { meant.SaysServer (rows_of (found_of values.now)) (Some server) }
+
     ensures { (p : _) → IfOk result (meant.Says p (name.now, rows_of (found_of values.now))) }
 {
     leaves_to_server(alloc, values)?;

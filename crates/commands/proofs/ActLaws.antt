@@ -8,7 +8,7 @@ use Rattle.profile.specs.Accepted.{after}
 use Rattle.profile.specs.Moments.{Moment}
 use Rattle.profile.specs.Register.{Entry, Command}
 use Rattle.profile.specs.Reply as replies
-use Rattle.store.specs.Standing.{Standing, IsUsable, LeavesEither}
+use Rattle.store.specs.Standing.{Standing, IsUsable, LeavesEither, OfUsable}
 use Rattle.commands.specs.Enrolling as listed
 use Rattle.commands.specs.Statuses.{and_then}
 use Rattle.commands.specs.Stops.{IsDeviceStop, IsStopped}
@@ -23,7 +23,7 @@ leaves_second s L next u = record { stand = u.stand; each = λ M h. inr (u.only 
 
 -- of a command that was answered: what couldn't be told
 pub untold : {T : Type 0} (old new : Standing) (c : Command) (t : Moment) (r : Result T CommandError) → new.shut ≡ false
-    → (new.doubt ≡ 0 → (L : List Entry) → IsUsable old L → IsUsable new (after Two old.warehouse L (c, t))) → IfErr r IsDeviceStop → IfErr r (IsStopped old new c t)
+    → OfUsable old new (λ L. IsUsable new (after Two old.warehouse L (c, t))) → IfErr r IsDeviceStop → IfErr r (IsStopped old new c t)
 untold old new c t (Ok x) opened done why = tt
 untold old new c t (Err e) opened done why = inr (record { opened = opened; done = done; why = why })
 

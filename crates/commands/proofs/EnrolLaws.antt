@@ -4,13 +4,13 @@ use Rattle.std.proofs.KnownBytes.{Appends-trans}
 use Rattle.std.specs.Io.KnownBytes.{Appends}
 use Rattle.std.proofs.lemmas.List.{map-append, take_more}
 use Rattle.profile.specs.declared.rules.Rules.TheVariants.{Two}
-use Rattle.profile.specs.Accepted.{IsLegal, accepted_on, replies_on, after, reply_to}
+use Rattle.profile.specs.Accepted.{accepted_on, replies_on, after, reply_to}
 use Rattle.profile.specs.Header.{Who}
 use Rattle.profile.specs.Moments.{Moment}
 use Rattle.profile.specs.Register.{Entry, Enrol}
 use Rattle.store.proofs.Changes.{clean_before, refused_after}
 use Rattle.store.proofs.Replies.{accepted_on-more, replies_on-more}
-use Rattle.store.specs.Standing.{Standing, IsUsable, KeepsLegal, GoesOn, LeavesEither, IsFault, IsRunFault, OfKept}
+use Rattle.store.specs.Standing.{Standing, IsUsable, KeepsLegal, GoesOn, LeavesEither, IsFault, IsRunFault, OfKept, OfUsable}
 use Rattle.store.specs.Fault.{Fault}
 use Rattle.commands.proofs.ActLaws.{reply_more}
 use Rattle.commands.proofs.TellingLaws.{appends_nothing}
@@ -53,9 +53,9 @@ grown V W L xs who t house =
     ∙ sym (ap (accepted_on Two W L) (enrolments_more t xs who) ∙ accepted_on-more Two W L (enrolments t xs) (Enrol who, t))
 
 enrolled_more : (a b c : Standing) (xs : List Who) (who : Who) (t : Moment) (out mid later : Option (List ℕ)) (status one : ExitStatus) → GoesOn a b → GoesOn b c → AreEnrolled a b xs t out mid status
-    → (c.doubt ≡ 0 → (L : List Entry) → b.keeps L → IsLegal Two b.warehouse L → one ≡ told.status_of (reply_to Two b.warehouse L (Enrol who) t))
-    → (c.doubt ≡ 0 → (L : List Entry) → b.keeps L → IsLegal Two b.warehouse L → Appends mid later (line_of who (reply_to Two b.warehouse L (Enrol who) t)))
-    → (c.doubt ≡ 0 → (L : List Entry) → IsUsable b L → IsUsable c (after Two b.warehouse L (Enrol who, t)))
+    → OfKept b c (λ L. one ≡ told.status_of (reply_to Two b.warehouse L (Enrol who) t))
+    → OfKept b c (λ L. Appends mid later (line_of who (reply_to Two b.warehouse L (Enrol who) t)))
+    → OfUsable b c (λ L. IsUsable c (after Two b.warehouse L (Enrol who, t)))
     → OfKept b c (λ L. KeepsLegal c (after Two b.warehouse L (Enrol who, t)))
     → AreEnrolled a c (xs ++ who ∷ []) t out later (and_then status one)
 enrolled_more a b c xs who t out mid later status one p q before said prints goes stays = record {
@@ -89,9 +89,9 @@ one_more whos i who lt is = take_more whos i who lt ∙ ap (λ w. take i whos ++
 -- the list of the first ones, with the next
 pub enrolled_next : (a b c : Standing) (whos : List Who) (i : ℕ) (who : Who) (t : Moment) (out mid later : Option (List ℕ)) (status one last : ExitStatus) → last ≡ and_then status one
     → i < length whos → who ≡ get_or whos i who → GoesOn a b → GoesOn b c → AreEnrolled a b (take i whos) t out mid status
-    → (c.doubt ≡ 0 → (L : List Entry) → b.keeps L → IsLegal Two b.warehouse L → one ≡ told.status_of (reply_to Two b.warehouse L (Enrol who) t))
-    → (c.doubt ≡ 0 → (L : List Entry) → b.keeps L → IsLegal Two b.warehouse L → Appends mid later (line_of who (reply_to Two b.warehouse L (Enrol who) t)))
-    → (c.doubt ≡ 0 → (L : List Entry) → IsUsable b L → IsUsable c (after Two b.warehouse L (Enrol who, t)))
+    → OfKept b c (λ L. one ≡ told.status_of (reply_to Two b.warehouse L (Enrol who) t))
+    → OfKept b c (λ L. Appends mid later (line_of who (reply_to Two b.warehouse L (Enrol who) t)))
+    → OfUsable b c (λ L. IsUsable c (after Two b.warehouse L (Enrol who, t)))
     → OfKept b c (λ L. KeepsLegal c (after Two b.warehouse L (Enrol who, t)))
     → AreEnrolled a c (take (i + 1) whos) t out later last
 enrolled_next a b c whos i who t out mid later status one last ends lt is p q before said prints goes stays =
@@ -130,7 +130,7 @@ list_stopped a b c xs who t out mid status stop p q same before (inr h) = inr (r
 -- the list stops at one, after those that were handed in
 pub stopped_at : (a b c : Standing) (whos : List Who) (i : ℕ) (who : Who) (t : Moment) (out mid : Option (List ℕ)) (status : ExitStatus) (stop : CommandError) → GoesOn a b → GoesOn b c
     → a.shut ≡ b.shut → i < length whos → who ≡ get_or whos i who → AreEnrolled a b (take i whos) t out mid status
-    → (c.doubt ≡ 0 → (L : List Entry) → IsUsable b L → LeavesEither c L (after Two b.warehouse L (Enrol who, t)))
+    → OfUsable b c (λ L. LeavesEither c L (after Two b.warehouse L (Enrol who, t)))
     → IsStopped b c (Enrol who) t stop → AreEnrolledUntil a c whos t stop
 stopped_at a b c whos i who t out mid status stop p q same lt is before left why =
     let next = one_more whos i who lt is in

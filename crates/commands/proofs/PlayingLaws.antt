@@ -1,6 +1,6 @@
 -- Rows that are played one after another.
 use borrow.Author.Tests.{ne_eqb, eqb-true}
-use Rattle.std.proofs.Common.{lit<, ◌==◌, ◌≡◌, ℕ, Bool, true, false, length, List, [], ◌∷◌, ◌++◌, Option, Some, None, refl, sym, subst, ap, ◌∙◌, arith}
+use Rattle.std.proofs.Common.{lit<, ◌==◌, ◌≡◌, ℕ, Bool, true, false, length, List, [], ◌∷◌, ◌++◌, Option, Some, None, refl, sym, ap, ◌∙◌, arith}
 use Rattle.std.specs.Prelude.{filter, if◌then◌else◌}
 use Rattle.std.specs.Borrow.{Bor}
 use Rattle.std.proofs.lemmas.Fn.{FoldsTo-push}
@@ -8,7 +8,7 @@ use Rattle.std.proofs.lemmas.List.Elements.{All-from_get_or}
 use Rattle.std.proofs.lemmas.List.Splits.{slice_split_first, slice_split_none}
 use Rattle.std.proofs.lemmas.Str.Pattern.{IsSplitOnceResult, split_once_first, split_parts}
 use Rattle.profile.specs.Readings.{parts_at}
-use Rattle.std.proofs.Common.{append_assoc, append-nil}
+use Rattle.std.proofs.Common.{append_assoc}
 use Rattle.store.specs.Standing.{Standing}
 use Rattle.commands.specs.Playing.{asks, rows_left, IsRowDone, IsRowStopped, HasPlayed, HasStopped}
 use Rattle.commands.specs.declared.told.CommandError.{CommandError}
@@ -65,12 +65,6 @@ one_more standing contents p q u text left next row first asked done s = record 
       ∙ sym (append_assoc s.front (row ∷ []) (filter asks (rows_left next)));
   played = FoldsTo-push (IsRowDone standing contents) p s.front q row u s.played done;
 }
-
-pub all_played : {K W : Type 0} (standing : K → Standing) (contents : W → Option (List ℕ)) (p q : K × (W × ExitStatus)) (text left : Option (Bor (List ℕ)))
-    → rows_left left ≡ [] → SoFar standing contents p text left q → HasPlayed standing contents p (filter asks (rows_left text)) q
-all_played standing contents p q text left none s =
-    subst (λ (rows : List (List ℕ)). HasPlayed standing contents p rows q)
-    (sym (s.are ∙ ap (λ (rows : List (List ℕ)). s.front ++ filter asks rows) none ∙ append-nil s.front)) s.played
 
 pub stopped_at : {K W : Type 0} (standing : K → Standing) (contents : W → Option (List ℕ)) (p q : K × (W × ExitStatus)) (text left next : Option (Bor (List ℕ))) (row : List ℕ) (new : K) (after : W) (stop : CommandError)
     → rows_left left ≡ row ∷ rows_left next → asks row ≡ true → IsRowStopped standing contents q.0 q.1.0 row new after stop → SoFar standing contents p text left q

@@ -3,7 +3,6 @@ use Rattle.std.proofs.Common.{◌≡◌, ◌≢◌, ◌∙◌, ℕ, Bool, List, 
 use Rattle.std.specs.Prelude.{if◌then◌else◌, IsErrOf}
 use Rattle.std.specs.Io.KnownBytes.{Appends}
 use Rattle.profile.specs.declared.rules.Rules.TheVariants.{Two}
-use Rattle.profile.specs.Accepted.{IsLegal}
 use Rattle.profile.specs.History.{History}
 use Rattle.profile.specs.Need.{Need, need_of_number}
 use Rattle.profile.specs.declared.refusals.Refusal.{Refusal}
@@ -18,7 +17,7 @@ use Rattle.reports.specs.declared.picking.NoSheet.TheVariants.{UnknownOrder, Ord
 use Rattle.store.specs.Pages.{PageFacts}
 use Rattle.store.specs.Held.{IsHeld}
 use Rattle.store.specs.Open.{OpenWork, open_on}
-use Rattle.store.specs.Standing.{Standing, IsQueryFault}
+use Rattle.store.specs.Standing.{Standing, IsQueryFault, OfKept}
 use Rattle.store.specs.Fault.TheVariants as faults
 use Rattle.commands.specs.Stops.{IsDeviceStop}
 use Rattle.commands.specs.Shown.{Shown, IsShown, IsShowStopped, shown_stock, shown_open, shown_order, shown_sheet}
@@ -58,7 +57,7 @@ starved old new = record {
 
 -- what was read, and couldn't be told
 pub unshown : {T : Type 0} (old new : Standing) (shown : List Entry → Shown) (what : Shown) (r : Result T CommandError)
-    → (new.doubt ≡ 0 → (L : List Entry) → old.keeps L → IsLegal Two old.warehouse L → what ≡ shown L) → IfErr r IsDeviceStop → IfErr r (IsShowStopped old new shown)
+    → OfKept old new (λ L. what ≡ shown L) → IfErr r IsDeviceStop → IfErr r (IsShowStopped old new shown)
 unshown old new shown what (Ok x) read why = tt
 unshown old new shown what (Err e) read why = inr (record { what = what; read = read; why = why })
 
@@ -143,7 +142,7 @@ no_order_read number first second need o q p why f s n is held listed not =
 
 -- why there is none, which couldn't be told; want of memory is another fault
 pub untold_order : (old new : Standing) (shown : List Entry → Shown) (why : NoSheet) (r : Result ExitStatus CommandError)
-    → (why ≢ OutOfMemory → new.doubt ≡ 0 → (L : List Entry) → old.keeps L → IsLegal Two old.warehouse L → ([], Refused) ≡ shown L)
+    → (why ≢ OutOfMemory → OfKept old new (λ L. ([], Refused) ≡ shown L))
     → IfErr r IsDeviceStop → (why ≡ OutOfMemory → IsErrOf r (stops.Fault faults.OutOfMemory)) → IfErr r (IsShowStopped old new shown)
 untold_order old new shown UnknownOrder r read halted memory = unshown old new shown ([], Refused) r (read (λ e. absurd (cc))) halted
 untold_order old new shown OrderClosed r read halted memory = unshown old new shown ([], Refused) r (read (λ e. absurd (cc))) halted

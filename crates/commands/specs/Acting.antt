@@ -1,11 +1,11 @@
 -- What a command that was made ready does to a book, and what is printed of it.
-use Rattle.std.specs.Prelude.{◌≡◌, ℕ, List, [], Option, Result, IfOk, IfErr, OnOk, OnErr}
+use Rattle.std.specs.Prelude.{ℕ, List, [], Option, Result, IfOk, IfErr, OnOk, OnErr}
 use Rattle.std.specs.Io.KnownBytes.{Appends}
 use Rattle.profile.specs.declared.rules.Rules.TheVariants.{Two}
-use Rattle.profile.specs.Accepted.{IsLegal, reply_to, after}
+use Rattle.profile.specs.Accepted.{reply_to, after}
 use Rattle.profile.specs.Moments.{Moment}
-use Rattle.profile.specs.Register.{Entry, Command, Enrol, Interchange}
-use Rattle.store.specs.Standing.{Standing, IsUsable, LeavesEither}
+use Rattle.profile.specs.Register.{Command, Enrol, Interchange}
+use Rattle.store.specs.Standing.{Standing, IsUsable, LeavesEither, OfKept, OfUsable}
 use Rattle.commands.specs.Clerks.{command_of}
 use Rattle.commands.specs.Enrolling.{IsEnrolling}
 use Rattle.commands.specs.Stops.{IsStopped}
@@ -22,13 +22,15 @@ Ending = Result ExitStatus CommandError
 
 -- One command was handed in: its reply is printed, the register is the one after it, and a stop, of
 -- which it is said what it was, leaves the one before it or that one.
-pub record IsAnswered (old new : Standing) (c : Command) (t : Moment) (before later : Option (List ℕ)) (ending : Ending) : Type 0 where
-  pub printed : new.doubt ≡ 0 → (L : List Entry) → old.keeps L → IsLegal Two old.warehouse L
-      → IfOk ending (IsPrinted (reply_to Two old.warehouse L c t) before later)
-  pub done : new.doubt ≡ 0 → (L : List Entry) → IsUsable old L
-      → OnOk ending (IsUsable new (after Two old.warehouse L (c, t)))
-  pub left : new.doubt ≡ 0 → (L : List Entry) → IsUsable old L
-      → OnErr ending (LeavesEither new L (after Two old.warehouse L (c, t)))
+pub record IsAnswered
+    (old new : Standing) (c : Command) (t : Moment) (before later : Option (List ℕ))
+    (ending : Ending) : Type 0 where
+  pub printed : OfKept old new
+      (λ L. IfOk ending (IsPrinted (reply_to Two old.warehouse L c t) before later))
+  pub done : OfUsable old new
+      (λ L. OnOk ending (IsUsable new (after Two old.warehouse L (c, t))))
+  pub left : OfUsable old new
+      (λ L. OnErr ending (LeavesEither new L (after Two old.warehouse L (c, t))))
   pub stopped : IfErr ending (IsStopped old new c t)
 
 -- what was made ready was done; a list of depositors and a folder are many commands
@@ -48,8 +50,8 @@ IsPerformed old new (ready.Clerk slip) t before later ending =
 abbrev pub IsSaid : Standing → Standing → Command → Moment → Option (List ℕ) → Option (List ℕ)
     → Ending → Type 0
 IsSaid old new c t before later ending =
-    new.doubt ≡ 0 → (L : List Entry) → old.keeps L → IsLegal Two old.warehouse L
-    → OnOk ending (Appends before later (said_of (reply_to Two old.warehouse L c t)))
+    OfKept old new
+    (λ L. OnOk ending (Appends before later (said_of (reply_to Two old.warehouse L c t))))
 
 -- the same of what was made ready; what is refused of a list is printed, and of what `take` tells
 -- nothing is said here

@@ -34,7 +34,9 @@ sheet_read kind text =
 
 -- what a slip of these words has: the words, the depositor that they name, a text, and the sheet of
 -- their kind that is read of it
-pub record IsSlipOf (t : ClerkWords) (who : Who) (kept : ClerkWords) (text : List ℕ) (sheet : List Line) : Type 0 where
+pub record IsSlipOf
+    (t : ClerkWords) (who : Who) (kept : ClerkWords) (text : List ℕ) (sheet : List Line)
+    : Type 0 where
   pub words : kept ≡ t
   pub named : depositor_of t ≡ Some who
   pub read : sheet_read t.kind text ≡ Ok sheet

@@ -9,7 +9,7 @@ use Rattle.profile.specs.Moments.{Moment}
 use Rattle.profile.specs.Refusals.{refusal_number}
 use Rattle.profile.specs.Register.{Entry, Command, Enrol}
 use Rattle.profile.specs.Reply as replies
-use Rattle.store.specs.Standing.{Standing, IsUsable, KeepsLegal, LeavesEither, IsRunFault, OfKept}
+use Rattle.store.specs.Standing.{Standing, IsUsable, KeepsLegal, LeavesEither, IsRunFault, OfKept, OfUsable}
 use Rattle.commands.specs.Stops.{IsDeviceStop, IsFaultThat}
 use Rattle.commands.specs.declared.told.CommandError.{CommandError}
 use Rattle.commands.specs.declared.told.ExitStatus.{ExitStatus}
@@ -41,20 +41,23 @@ lines_of W L t (who ∷ whos) = line_of who (reply_to Two W L (Enrol who) t)
 
 -- each of them was handed in: the register is the one after all, this is the status, and a line is
 -- printed of each
-pub record AreEnrolled (old new : Standing) (whos : List Who) (t : Moment) (before later : Option (List ℕ)) (status : ExitStatus) : Type 0 where
-  pub usable : new.doubt ≡ 0 → (L : List Entry) → IsUsable old L
-      → IsUsable new (accepted_on Two old.warehouse L (enrolments t whos))
-  pub keeps : OfKept old new (λ L. KeepsLegal new (accepted_on Two old.warehouse L (enrolments t whos)))
-  pub says : new.doubt ≡ 0 → (L : List Entry) → IsUsable old L
-      → status ≡ status_of (replies_on Two old.warehouse L (enrolments t whos))
-  pub printed : new.doubt ≡ 0 → (L : List Entry) → IsUsable old L
-      → Appends before later (lines_of old.warehouse L t whos)
+pub record AreEnrolled
+    (old new : Standing) (whos : List Who) (t : Moment) (before later : Option (List ℕ))
+    (status : ExitStatus) : Type 0 where
+  pub usable : OfUsable old new
+      (λ L. IsUsable new (accepted_on Two old.warehouse L (enrolments t whos)))
+  pub keeps : OfKept old new (λ L. KeepsLegal new
+      (accepted_on Two old.warehouse L (enrolments t whos)))
+  pub says : OfUsable old new
+      (λ L. status ≡ status_of (replies_on Two old.warehouse L (enrolments t whos)))
+  pub printed : OfUsable old new (λ L. Appends before later (lines_of old.warehouse L t whos))
 
 -- these were handed in, and the line of the last couldn't be printed
-pub record IsUnlisted (old new : Standing) (whos : List Who) (t : Moment) (stop : CommandError) : Type 0 where
+pub record IsUnlisted
+    (old new : Standing) (whos : List Who) (t : Moment) (stop : CommandError) : Type 0 where
   pub opened : new.shut ≡ false
-  pub done : new.doubt ≡ 0 → (L : List Entry) → IsUsable old L
-      → IsUsable new (accepted_on Two old.warehouse L (enrolments t whos))
+  pub done : OfUsable old new
+      (λ L. IsUsable new (accepted_on Two old.warehouse L (enrolments t whos)))
   pub why : IsDeviceStop stop
 
 -- what stopped a list at the last of these: a fault of the book by which it wasn't answered, or one
@@ -65,12 +68,13 @@ IsListStopped old new whos t stop =
 
 -- so many were handed in, and one more perhaps: a crash leaves the register after those, or after
 -- that one too
-pub record AreEnrolledUntil (old new : Standing) (whos : List Who) (t : Moment) (stop : CommandError) : Type 0 where
+pub record AreEnrolledUntil
+    (old new : Standing) (whos : List Who) (t : Moment) (stop : CommandError) : Type 0 where
   pub count : ℕ
   pub within : count < length whos
-  pub left : new.doubt ≡ 0 → (L : List Entry) → IsUsable old L
-      → LeavesEither new (accepted_on Two old.warehouse L (enrolments t (take count whos)))
-      (accepted_on Two old.warehouse L (enrolments t (take (count + 1) whos)))
+  pub left : OfUsable old new
+      (λ L. LeavesEither new (accepted_on Two old.warehouse L (enrolments t (take count whos)))
+      (accepted_on Two old.warehouse L (enrolments t (take (count + 1) whos))))
   pub stopped : IsListStopped old new (take (count + 1) whos) t stop
 
 -- how a list ended

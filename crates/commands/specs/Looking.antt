@@ -1,10 +1,7 @@
 -- What comes of a line that shows something, and of a line of a script.
 use Rattle.std.specs.Prelude.{◌≡◌, ◌⊎◌, ℕ, Bool, false, List, Option, Some, IfOk, IfErr, is_some, option_map}
-use Rattle.profile.specs.declared.rules.Rules.TheVariants.{Two}
-use Rattle.profile.specs.Accepted.{IsLegal}
 use Rattle.profile.specs.Header.{who_of}
-use Rattle.profile.specs.Register.{Entry}
-use Rattle.store.specs.Standing.{Standing, IsUnchanged}
+use Rattle.store.specs.Standing.{Standing, IsUnchanged, OfKept}
 use Rattle.intake.specs.Calls.{owner_of}
 use Rattle.commands.specs.Acting.{Ending}
 use Rattle.commands.specs.Readying.{IsChange, IsLeft}
@@ -35,20 +32,26 @@ abbrev pub is_readable : Show → Bool
 is_readable s = is_some (asked_for s)
 
 -- it was shown, and the book is as before
-pub record IsLook (old new : Standing) (asked : Asked) (before later : Option (List ℕ)) (ending : Ending) : Type 0 where
-  pub shown : new.doubt ≡ 0 → (L : List Entry) → old.keeps L → IsLegal Two old.warehouse L
-      → IfOk ending (IsShown (shown_of old.warehouse L asked) before later)
+pub record IsLook
+    (old new : Standing) (asked : Asked) (before later : Option (List ℕ)) (ending : Ending)
+    : Type 0 where
+  pub shown : OfKept old new
+      (λ L. IfOk ending (IsShown (shown_of old.warehouse L asked) before later))
   pub same : IsUnchanged old new
   pub stopped : IfErr ending (IsShowStopped old new (λ L. shown_of old.warehouse L asked))
 
 -- what the words ask for was shown
-pub record IsLookFor (old new : Standing) (s : Show) (before later : Option (List ℕ)) (ending : Ending) : Type 0 where
+pub record IsLookFor
+    (old new : Standing) (s : Show) (before later : Option (List ℕ)) (ending : Ending)
+    : Type 0 where
   pub asked : Asked
   pub is : IsAskedFor s asked
   pub look : IsLook old new asked before later ending
 
 -- a word of them can't be read
-pub record IsUnread (old new : Standing) (s : Show) (before later : Option (List ℕ)) (ending : Ending) : Type 0 where
+pub record IsUnread
+    (old new : Standing) (s : Show) (before later : Option (List ℕ)) (ending : Ending)
+    : Type 0 where
   pub words : is_readable s ≡ false
   pub left : IsLeft old new before later ending
 

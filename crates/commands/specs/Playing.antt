@@ -37,7 +37,9 @@ pub record IsRead (row : List ℕ) (asked : Words) : Type 0 where
 
 -- A row was answered: its words were read, what they ask for was done with this ending, which left
 -- the book so, and telling why it was refused changed nothing.
-pub record IsRowAnswered {K : Type 0} (standing : K → Standing) (old new : K) (row : List ℕ) (before later : Option (List ℕ)) (ending : Ending) : Type 0 where
+pub record IsRowAnswered
+    {K : Type 0} (standing : K → Standing) (old new : K) (row : List ℕ)
+    (before later : Option (List ℕ)) (ending : Ending) : Type 0 where
   pub asked : Words
   pub read : IsRead row asked
   pub left : K
@@ -46,7 +48,9 @@ pub record IsRowAnswered {K : Type 0} (standing : K → Standing) (old new : K) 
 
 -- A row was done, or refused: of a book, what was printed and the status so far the row makes those
 -- after it.
-pub record IsRowDone {K W : Type 0} (standing : K → Standing) (contents : W → Option (List ℕ)) (p : K × (W × ExitStatus)) (row : List ℕ) (q : K × (W × ExitStatus)) : Type 0 where
+pub record IsRowDone
+    {K W : Type 0} (standing : K → Standing) (contents : W → Option (List ℕ))
+    (p : K × (W × ExitStatus)) (row : List ℕ) (q : K × (W × ExitStatus)) : Type 0 where
   pub status : ExitStatus
   pub answered : IsRowAnswered standing p.0 q.0 row (contents p.1.0) (contents q.1.0) (Ok status)
   pub ends : q.1.1 ≡ and_then p.1.1 status
@@ -65,7 +69,10 @@ abbrev pub HasPlayed : {K W : Type 0} → (K → Standing) → (W → Option (Li
 HasPlayed standing contents p rows q = FoldsTo (IsRowDone standing contents) p rows q
 
 -- Rows were played, one after the other, up to one that stopped it.
-pub record HasStopped {K W : Type 0} (standing : K → Standing) (contents : W → Option (List ℕ)) (p : K × (W × ExitStatus)) (rows : List (List ℕ)) (new : K) (after : W) (stop : CommandError) : Type 0 where
+pub record HasStopped
+    {K W : Type 0} (standing : K → Standing) (contents : W → Option (List ℕ))
+    (p : K × (W × ExitStatus)) (rows : List (List ℕ)) (new : K) (after : W) (stop : CommandError)
+    : Type 0 where
   pub front : List (List ℕ)
   pub row : List ℕ
   pub others : List (List ℕ)

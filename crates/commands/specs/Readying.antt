@@ -45,18 +45,23 @@ IsUnready a refusal = ⊥
 
 -- the words or their files were refused, or a fault came first: the book is as before, and nothing
 -- is printed
-pub record IsLeft (old new : Standing) (before later : Option (List ℕ)) (ending : Ending) : Type 0 where
+pub record IsLeft
+    (old new : Standing) (before later : Option (List ℕ)) (ending : Ending) : Type 0 where
   pub same : IsUnchanged old new
   pub printed : Appends before later []
   pub says : IfOk ending (λ status. status ≡ Refused)
 
 -- these words were refused for a reason that holds of them, or a fault came first
-pub record IsNotReady (old new : Standing) (a : BookAct) (before later : Option (List ℕ)) (ending : Ending) : Type 0 where
+pub record IsNotReady
+    (old new : Standing) (a : BookAct) (before later : Option (List ℕ)) (ending : Ending)
+    : Type 0 where
   pub left : IsLeft old new before later ending
   pub why : OnOk ending ((refusal : Refusal) × IsUnready a refusal)
 
 -- what the words ask for was done, at the moment that the line says, if it says one
-pub record IsDoneAt (old new : Standing) (a : BookAct) (at : Option Moment) (before later : Option (List ℕ)) (ending : Ending) : Type 0 where
+pub record IsDoneAt
+    (old new : Standing) (a : BookAct) (at : Option Moment) (before later : Option (List ℕ))
+    (ending : Ending) : Type 0 where
   pub ready : Ready
   pub made : IsMadeReady a ready
   pub moment : Moment

@@ -23,7 +23,9 @@ NextMoment asks true p m q = (found : Option Moment) × asks p.0 found q.0
 
 -- So many connections were served, one after the other, each as `serves` says, and each at the
 -- moment that was next then.
-pub record Comes {F K : Type 0} (asks : F → Option Moment → F → Type 0) (serves : K → Connection → K → Type 0) (has_clock : Bool) (ask : F) (first : Moment) (book left : K) (count : ℕ) : Type 0 where
+pub record Comes
+    {F K : Type 0} (asks : F → Option Moment → F → Type 0) (serves : K → Connection → K → Type 0)
+    (has_clock : Bool) (ask : F) (first : Moment) (book left : K) (count : ℕ) : Type 0 where
   pub connections : List Connection
   pub last : F × Moment
   pub moments : FoldsTo (NextMoment asks has_clock) (ask, first) (map moment_of connections) last
@@ -31,7 +33,9 @@ pub record Comes {F K : Type 0} (asks : F → Option Moment → F → Type 0) (s
   pub counted : length connections ≡ count
 
 -- The same, where nothing is known of the clock: without it each comes at the first moment.
-pub record Came {K : Type 0} (serves : K → Connection → K → Type 0) (has_clock : Bool) (first : Moment) (book left : K) (count : ℕ) : Type 0 where
+pub record Came
+    {K : Type 0} (serves : K → Connection → K → Type 0) (has_clock : Bool) (first : Moment)
+    (book left : K) (count : ℕ) : Type 0 where
   pub connections : List Connection
   pub moments : has_clock ≡ false → All (λ (c : Connection). c.moment ≡ first) connections
   pub served : FoldsTo serves book connections left

@@ -2,7 +2,6 @@
 use Rattle.std.specs.Prelude.{◌≡◌, ◌⊎◌, ℕ, Bool, List, [], if◌then◌else◌, Option, Some, None, Result, Ok, Err}
 use Rattle.std.specs.Io.KnownBytes.{Appends}
 use Rattle.profile.specs.declared.rules.Rules.TheVariants.{Two}
-use Rattle.profile.specs.Accepted.{IsLegal}
 use Rattle.profile.specs.Decision.{standing}
 use Rattle.profile.specs.Header.{Who}
 use Rattle.profile.specs.History.{History}
@@ -13,7 +12,7 @@ use Rattle.profile.specs.Rows.{StockRow, OutRow, stock_of, outbox_of}
 use Rattle.reports.specs.Open.{depositor_list, open_report}
 use Rattle.store.specs.Open.{OpenWork, enrolled, open_of}
 use Rattle.store.specs.Sent.{text_of}
-use Rattle.store.specs.Standing.{Standing, IsQueryFault}
+use Rattle.store.specs.Standing.{Standing, IsQueryFault, OfKept}
 use Rattle.commands.specs.Stops.{IsDeviceStop, IsFaultThat}
 use Rattle.commands.specs.Telling.{line_of}
 use Rattle.commands.specs.declared.told.CommandError.{CommandError}
@@ -69,15 +68,16 @@ shown_of W L (asks.Outbox who (Some n)) = shown_text (text_of W L who n)
 shown_of W L asks.Depositors = shown_depositors (enrolled L)
 
 -- it was printed, and the status is the one that it gives
-pub record IsShown (shown : Shown) (before later : Option (List ℕ)) (status : ExitStatus) : Type 0 where
+pub record IsShown
+    (shown : Shown) (before later : Option (List ℕ)) (status : ExitStatus) : Type 0 where
   pub printed : Appends before later shown.0
   pub says : status ≡ shown.1
 
 -- what is to be shown of the register was read, and couldn't be told
-pub record IsUnshown (old new : Standing) (shown : List Entry → Shown) (stop : CommandError) : Type 0 where
+pub record IsUnshown
+    (old new : Standing) (shown : List Entry → Shown) (stop : CommandError) : Type 0 where
   pub what : Shown
-  pub read : new.doubt ≡ 0 → (L : List Entry) → old.keeps L → IsLegal Two old.warehouse L
-      → what ≡ shown L
+  pub read : OfKept old new (λ L. what ≡ shown L)
   pub why : IsDeviceStop stop
 
 -- what kept it from being shown: a fault of the book by which it wasn't read, or one of a device

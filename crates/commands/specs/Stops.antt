@@ -1,12 +1,12 @@
 -- What stops a command: a fault of the book, or one of a device.
-use Rattle.std.specs.Prelude.{◌≡◌, ◌⊎◌, false, List, Option, Some, None}
+use Rattle.std.specs.Prelude.{◌≡◌, ◌⊎◌, false, Option, Some, None}
 use Rattle.std.specs.IoError.{error_kind}
 use Rattle.std.specs.declared.io.Error.{Error}
 use Rattle.profile.specs.declared.rules.Rules.TheVariants.{Two}
 use Rattle.profile.specs.Accepted.{after}
 use Rattle.profile.specs.Moments.{Moment}
-use Rattle.profile.specs.Register.{Entry, Command}
-use Rattle.store.specs.Standing.{Standing, IsUsable, IsFault}
+use Rattle.profile.specs.Register.{Command}
+use Rattle.store.specs.Standing.{Standing, IsUsable, IsFault, OfUsable}
 use Rattle.store.specs.Fault.{Fault}
 use Rattle.store.specs.Fault.TheVariants as faults
 use Rattle.folders.specs.Folders.{fault_of_kind}
@@ -41,10 +41,10 @@ IsFaultThat (stops.Fault fault) P = P fault
 IsFaultThat (stops.Caused fault cause) P = P fault
 
 -- a command was answered, and its reply couldn't be told
-pub record IsUntold (old new : Standing) (c : Command) (t : Moment) (stop : CommandError) : Type 0 where
+pub record IsUntold
+    (old new : Standing) (c : Command) (t : Moment) (stop : CommandError) : Type 0 where
   pub opened : new.shut ≡ false
-  pub done : new.doubt ≡ 0 → (L : List Entry) → IsUsable old L
-      → IsUsable new (after Two old.warehouse L (c, t))
+  pub done : OfUsable old new (λ L. IsUsable new (after Two old.warehouse L (c, t)))
   pub why : IsDeviceStop stop
 
 -- what stopped a command: a fault of the book by which it wasn't answered, or one of a device after

@@ -39,7 +39,9 @@ is_left entry = is_long entry.why
 
 -- The interchanges of these texts were taken, and these passed over: what became of each is
 -- printed, and the status is 1 where one was refused or can't be answered.
-pub record IsFolderTaken (old new : Standing) (t : Moment) (before later : Option (List ℕ)) (status : ExitStatus) : Type 0 where
+pub record IsFolderTaken
+    (old new : Standing) (t : Moment) (before later : Option (List ℕ)) (status : ExitStatus)
+    : Type 0 where
   pub texts : List (List ℕ)
   pub files : List Taken
   pub taken : AreTaken old new t texts (map became_in files)

@@ -1,11 +1,11 @@
-ghost use Rattle.std.specs.Prelude.{◌≡◌, List, true, IfOk, IfErr, IfSome, OnOk, OnErr};
+ghost use Rattle.std.specs.Prelude.{◌≡◌, true, IfOk, IfErr, IfSome, OnOk, OnErr};
 ghost use Rattle.std.specs.Io.KnownBytes.{Appends};
 ghost use Rattle.profile.specs.declared.rules.Rules.TheVariants.{Two};
-ghost use Rattle.profile.specs.Accepted.{IsLegal, is_command, reply_to, after};
-ghost use Rattle.profile.specs.Register.{Entry, Enrol as Enrolment, Interchange as Received};
+ghost use Rattle.profile.specs.Accepted.{is_command, reply_to, after};
+ghost use Rattle.profile.specs.Register.{Enrol as Enrolment, Interchange as Received};
 ghost use Rattle.store.specs.Asked.{asked};
 ghost use Rattle.store.specs.Runs.{told};
-ghost use Rattle.store.specs.Standing.{IsUsable, GoesOn, LeavesEither, OfKept};
+ghost use Rattle.store.specs.Standing.{IsUsable, GoesOn, LeavesEither, OfKept, OfUsable};
 ghost use Rattle.commands.specs.Acting.{IsAnswered, IsPerformed, IsSaid, IsSaidOf};
 ghost use Rattle.commands.specs.Clerks.{command_of};
 ghost use Rattle.commands.specs.Readying.{IsMadeReady, IsUnready};
@@ -127,19 +127,18 @@ fn hand_in<K: Keeper, W: io::Write, E: io::Write>(
     err: &mut E,
 ) -> Result<ExitStatus, CommandError>
     requires { is_command Two (asked command.now) ≡ true }
+
     ensures printed { OfKept (K.standing book.old) (K.standing book.new)
         (λ L. IfOk result (λ status. IsPrinted (reply_to Two (K.standing book.old).warehouse L
         (asked command.now) moment) (W.contents out.old) (W.contents out.new) status)) }
     ensures said { IsSaid (K.standing book.old) (K.standing book.new) (asked command.now) moment
         (E.contents err.old) (E.contents err.new) result }
-    ensures done { (K.standing book.new).doubt ≡ 0 → (L : List Entry)
-        → IsUsable (K.standing book.old) L
-        → OnOk result (IsUsable (K.standing book.new)
-        (after Two (K.standing book.old).warehouse L (asked command.now, moment))) }
-    ensures left { (K.standing book.new).doubt ≡ 0 → (L : List Entry)
-        → IsUsable (K.standing book.old) L
-        → OnErr result (LeavesEither (K.standing book.new) L
-        (after Two (K.standing book.old).warehouse L (asked command.now, moment))) }
+    ensures done { OfUsable (K.standing book.old) (K.standing book.new)
+        (λ L. OnOk result (IsUsable (K.standing book.new)
+        (after Two (K.standing book.old).warehouse L (asked command.now, moment)))) }
+    ensures left { OfUsable (K.standing book.old) (K.standing book.new)
+        (λ L. OnErr result (LeavesEither (K.standing book.new) L
+        (after Two (K.standing book.old).warehouse L (asked command.now, moment)))) }
     ensures stopped { IfErr result
         (IsStopped (K.standing book.old) (K.standing book.new) (asked command.now) moment) }
     ensures goes { GoesOn (K.standing book.old) (K.standing book.new) }
@@ -175,8 +174,8 @@ fn send<K: Keeper, W: io::Write, E: io::Write>(
     out: &mut W,
     err: &mut E,
 ) -> Result<ExitStatus, CommandError>
-    ensures answered { IsAnswered (K.standing book.old) (K.standing book.new) (Received bytes.now) moment
-        (W.contents out.old) (W.contents out.new) result }
+    ensures answered { IsAnswered (K.standing book.old) (K.standing book.new) (Received bytes.now)
+        moment (W.contents out.old) (W.contents out.new) result }
     ensures said { IsSaid (K.standing book.old) (K.standing book.new) (Received bytes.now) moment
         (E.contents err.old) (E.contents err.new) result }
     ensures goes { GoesOn (K.standing book.old) (K.standing book.new) }

@@ -2,11 +2,11 @@
 ghost use Rattle.std.specs.Io.KnownBytes.{Appends};
 ghost use Rattle.std.specs.Prelude.{◌≡◌, ◌++◌, ℕ, List, Some, IfErr, IfNone, IfOk, IfSome, OnOk, OnErr, option_map, codes, map};
 ghost use Rattle.profile.specs.declared.rules.Rules.TheVariants.{Two};
-ghost use Rattle.profile.specs.Accepted.{IsLegal, reply_to, after};
+ghost use Rattle.profile.specs.Accepted.{reply_to, after};
 ghost use Rattle.profile.specs.Header.{who_text};
-ghost use Rattle.profile.specs.Register.{Entry, Enrol};
+ghost use Rattle.profile.specs.Register.{Enrol};
 ghost use Rattle.store.specs.Runs.{told};
-ghost use Rattle.store.specs.Standing.{IsUsable, KeepsLegal, GoesOn, LeavesEither, OfKept};
+ghost use Rattle.store.specs.Standing.{IsUsable, KeepsLegal, GoesOn, LeavesEither, OfKept, OfUsable};
 ghost use Rattle.commands.specs.Enrolling.{AreEnrolled, AreEnrolledUntil, line_of};
 ghost use Rattle.commands.specs.Readying.{IsNoRoster};
 ghost use Rattle.commands.specs.Stops.{IsDeviceStop, IsStopped};
@@ -15,7 +15,6 @@ ghost use Rattle.rosters.specs.Rosters as meant;
 
 use crate::files::{MOST_ROSTER, read_within};
 use crate::told::{CommandError, ExitStatus};
-use intake::write_partner;
 use rosters::depositors;
 use std::alloc::Global;
 use std::io;
@@ -28,7 +27,7 @@ fn tell_partner<W: io::Write>(out: &mut W, who: &Who) -> Result<(), CommandError
         (Appends (W.contents out.old) (W.contents out.new) (who_text who.now ++ codes " ")) }
     ensures halted { IfErr result IsDeviceStop }
 {
-    write_partner(out, who)?;
+    out.write_all(who.text())?;
     out.write_all(b" ")?;
     Ok(())
 }
@@ -67,23 +66,21 @@ fn enrol_one<K: Keeper, W: io::Write>(
     out: &mut W,
 ) -> Result<ExitStatus, CommandError>
     ensures says { OfKept (K.standing book.old) (K.standing book.new)
-        (λ L. IfOk result (λ status. status ≡ status_of (reply_to Two (K.standing book.old).warehouse L
-        (Enrol who) moment))) }
+        (λ L. IfOk result (λ status. status ≡ status_of
+        (reply_to Two (K.standing book.old).warehouse L (Enrol who) moment))) }
     ensures printed { OfKept (K.standing book.old) (K.standing book.new)
-        (λ L. OnOk result (Appends (W.contents out.old) (W.contents out.new) (line_of who (reply_to Two
-        (K.standing book.old).warehouse L (Enrol who) moment)))) }
-    ensures done { (K.standing book.new).doubt ≡ 0 → (L : List Entry)
-        → IsUsable (K.standing book.old) L
-        → OnOk result (IsUsable (K.standing book.new)
-        (after Two (K.standing book.old).warehouse L (Enrol who, moment))) }
+        (λ L. OnOk result (Appends (W.contents out.old) (W.contents out.new)
+        (line_of who (reply_to Two (K.standing book.old).warehouse L (Enrol who) moment)))) }
+    ensures done { OfUsable (K.standing book.old) (K.standing book.new)
+        (λ L. OnOk result (IsUsable (K.standing book.new)
+        (after Two (K.standing book.old).warehouse L (Enrol who, moment)))) }
     ensures keeps { OfKept (K.standing book.old) (K.standing book.new)
         (λ L. OnOk result (KeepsLegal (K.standing book.new)
         (after Two (K.standing book.old).warehouse L (Enrol who, moment)))) }
     ensures opened { OnOk result ((K.standing book.old).shut ≡ (K.standing book.new).shut) }
-    ensures left { (K.standing book.new).doubt ≡ 0 → (L : List Entry)
-        → IsUsable (K.standing book.old) L
-        → OnErr result (LeavesEither (K.standing book.new) L
-        (after Two (K.standing book.old).warehouse L (Enrol who, moment))) }
+    ensures left { OfUsable (K.standing book.old) (K.standing book.new)
+        (λ L. OnErr result (LeavesEither (K.standing book.new) L
+        (after Two (K.standing book.old).warehouse L (Enrol who, moment)))) }
     ensures stopped { IfErr result
         (IsStopped (K.standing book.old) (K.standing book.new) (Enrol who) moment) }
     ensures goes { GoesOn (K.standing book.old) (K.standing book.new) }

@@ -296,7 +296,8 @@ fn page_reason(alloc: Global, page: &Page, slip: &Slip<'_>) -> Result<Option<Str
 
 /// Tells what a refusal is about, as a line.
 pub fn tell_cause<E: io::Write>(err: &mut E, cause: &str) -> io::Result<()>
-    ensures { OnOk result (Appends (E.contents err.old) (E.contents err.new) (cause.now ++ codes "\n")) }
+    ensures { OnOk result (Appends (E.contents err.old) (E.contents err.new)
+        (cause.now ++ codes "\n")) }
 {
     err.write_all(cause.as_bytes())?;
     err.write_all(b"\n")

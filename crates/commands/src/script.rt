@@ -192,7 +192,8 @@ fn play_from<R: Files + Clock + AllocGlobal + Clone + Drop, K: Keeper, W: io::Wr
         (book.old, (out.old, ExitStatus.Done)) (filter asks (rows_left text.entry))
         (book.new, (out.new, status))) }
     ensures stopped { IfErr result (λ stop. HasStopped K.standing W.contents
-        (book.old, (out.old, ExitStatus.Done)) (filter asks (rows_left text.entry)) book.new out.new stop) }
+        (book.old, (out.old, ExitStatus.Done)) (filter asks (rows_left text.entry)) book.new out.new
+        stop) }
     ensures goes { GoesOn (K.standing book.old) (K.standing book.new) }
 {
     let mut status = ExitStatus::Done;

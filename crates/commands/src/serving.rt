@@ -140,6 +140,7 @@ fn serve_asking<
 ) -> Result<ExitStatus, CommandError>
     requires asks { (f : F) → F.pre f }
     requires admits { A.IsAlwaysCallable admits }
+
     ensures served { OnOk result (Comes F.step
         (λ old c new. IsServed audience (K.standing old) (K.standing new) c)
         has_clock ask first book.old book.new service.now.count) }
@@ -151,6 +152,7 @@ fn serve_asking<
     let mut is_told = true;
     let clock = move ||
         requires { (f : F) → F.pre f }
+
         ensures { NextMoment F.step has_clock (ask.entry, last.entry) result (ask.exit, last.exit) }
     {
         if has_clock {
@@ -202,6 +204,7 @@ pub fn serve_on<K: Keeper, A: FnMut() -> bool, W: io::Write, E: io::Write>(
     err: &mut E,
 ) -> Result<ExitStatus, CommandError>
     requires admits { A.IsAlwaysCallable admits }
+
     ensures served { OnOk result (Served K.standing (meant.audience_of service.now.clerks)
         has_clock first book.old book.new service.now.count) }
     ensures ended { OnErr result (ServedUpTo K.standing (meant.audience_of service.now.clerks)

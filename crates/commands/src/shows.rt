@@ -97,8 +97,8 @@ fn stock<K: Keeper, W: io::Write, E: io::Write>(
     err: &mut E,
 ) -> Result<ExitStatus, CommandError>
     ensures shown { OfKept (K.standing book.old) (K.standing book.new)
-        (λ L. IfOk result (λ status. IsShown (shown_stock is_csv (stock_of L who)) (W.contents out.old)
-        (W.contents out.new) status)) }
+        (λ L. IfOk result (λ status. IsShown (shown_stock is_csv (stock_of L who))
+        (W.contents out.old) (W.contents out.new) status)) }
     ensures same { IsUnchanged (K.standing book.old) (K.standing book.new) }
     ensures stopped { IfErr result (IsShowStopped (K.standing book.old) (K.standing book.new)
         (λ L. shown_stock is_csv (stock_of L who))) }
@@ -194,7 +194,8 @@ fn outbox<K: Keeper, W: io::Write, E: io::Write>(
     err: &mut E,
 ) -> Result<ExitStatus, CommandError>
     ensures shown { OfKept (K.standing book.old) (K.standing book.new)
-        (λ L. IfOk result (λ status. IsShown (shown_list (outbox_of (K.standing book.old).warehouse L who))
+        (λ L. IfOk result (λ status. IsShown (shown_list
+        (outbox_of (K.standing book.old).warehouse L who))
         (W.contents out.old) (W.contents out.new) status)) }
     ensures same { IsUnchanged (K.standing book.old) (K.standing book.new) }
     ensures stopped { IfErr result (IsShowStopped (K.standing book.old) (K.standing book.new)
@@ -240,7 +241,8 @@ fn content<K: Keeper, W: io::Write, E: io::Write>(
 ) -> Result<ExitStatus, CommandError>
     ensures shown { OfKept (K.standing book.old) (K.standing book.new)
         (λ L. IfOk result (λ status. IsShown (shown_text (text_of
-        (K.standing book.old).warehouse L who number)) (W.contents out.old) (W.contents out.new) status)) }
+        (K.standing book.old).warehouse L who number)) (W.contents out.old) (W.contents out.new)
+        status)) }
     ensures same { IsUnchanged (K.standing book.old) (K.standing book.new) }
     ensures stopped { IfErr result (IsShowStopped (K.standing book.old) (K.standing book.new)
         (λ L. shown_text (text_of (K.standing book.old).warehouse L who number))) }

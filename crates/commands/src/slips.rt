@@ -113,7 +113,8 @@ pub fn slip_of<'a, R: Files + AllocGlobal>(
     words: &ClerkWords<'a>,
 ) -> Result<Result<Slip<'a>, Refusal>, CommandError>
     ensures slip { IfOk result
-        (λ made. IfOk made (λ slip. IsSlipOf words.now slip.who slip.words slip.text.items slip.sheet)) }
+        (λ made. IfOk made (λ slip. IsSlipOf words.now slip.who slip.words slip.text.items
+        slip.sheet)) }
     ensures none { IfOk result (λ made. IfErr made (IsNoSlip words.now)) }
 {
     let Some(Read { who, text }) = read_slip(rt, words)? else {

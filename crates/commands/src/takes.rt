@@ -102,9 +102,10 @@ pub fn take<R: Files + AllocGlobal + Clone + Drop, K: Keeper, W: io::Write, E: i
     out: &mut W,
     err: &mut E,
 ) -> Result<ExitStatus, CommandError>
-    ensures taken { IfOk result (meant.IsFolderTaken (K.standing book.old) (K.standing book.new) moment
-        (W.contents out.old) (W.contents out.new)) }
-    ensures halted { IfErr result (meant.IsHalted (K.standing book.old) (K.standing book.new) moment) }
+    ensures taken { IfOk result (meant.IsFolderTaken (K.standing book.old) (K.standing book.new)
+        moment (W.contents out.old) (W.contents out.new)) }
+    ensures halted { IfErr result (meant.IsHalted (K.standing book.old) (K.standing book.new)
+        moment) }
     ensures goes { GoesOn (K.standing book.old) (K.standing book.new) }
 {
     let taken = take_folder_telling(rt, dir, book, moment, |done, all| {

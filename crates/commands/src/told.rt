@@ -111,7 +111,8 @@ pub fn usage(alloc: Global, text: &str) -> CommandError {
 
 /// Writes a text that goes out and LF, where there is one.
 pub fn tell_text<W: io::Write>(out: &mut W, text: &[u8]) -> Result<(), CommandError>
-    ensures printed { OnOk result (Appends (W.contents out.old) (W.contents out.new) (line_of text.now)) }
+    ensures printed { OnOk result (Appends (W.contents out.old) (W.contents out.new)
+        (line_of text.now)) }
     ensures halted { IfErr result IsDeviceStop }
 {
     if !text.is_empty() {

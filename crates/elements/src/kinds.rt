@@ -80,6 +80,7 @@ fn is_zero(text: &[u8]) -> bool
 fn names_day(text: &[u8]) -> bool
     requires eight { length text.now ≡ 8 }
     requires digits { list_all bytes.is_digit text.now ≡ true }
+
     ensures { result ≡ moments.is_day (bytes.value (take 4 text.now))
         (bytes.value (take 2 (drop 4 text.now))) (bytes.value (drop 6 text.now)) }
 {

@@ -36,9 +36,6 @@ pick_some true true d x e = (refl, cc)
 pick_some true false d x e = absurd (cc)
 pick_some false g d x e = absurd (cc)
 
-pub not_begun : (text : List ℕ) → is_begun text ≡ false → is_unreadable text ≡ true
-not_begun text h = in_parts text ∙ rw h refl
-
 last_or_true : (a : Bool) → (a || true) ≡ true
 last_or_true true = refl
 last_or_true false = refl

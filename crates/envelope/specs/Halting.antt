@@ -15,7 +15,8 @@ first_noted : (ps : List (Bool × ℕ))
     → first_of None (map (λ p. (p.0, Some (noted p.1))) ps) ≡ option_map noted (first_note ps)
 first_noted [] = refl
 first_noted (p ∷ ps) =
-    by_test p.0 (first_note ps) (first_of None (map (λ p. (p.0, Some (noted p.1))) ps)) (first_noted ps)
+    by_test p.0 (first_note ps) (first_of None (map (λ p. (p.0, Some (noted p.1))) ps))
+    (first_noted ps)
   where
     by_test : (b : Bool) (o : Option ℕ) (h : Option Halt) → h ≡ option_map noted o
         → (if b then Some (noted p.1) else h) ≡ option_map noted (if b then Some p.1 else o)

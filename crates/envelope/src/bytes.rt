@@ -36,6 +36,7 @@ pub(crate) fn all_alphanumeric(text: &[u8]) -> bool
 // Whether the digits are of this value.
 pub(crate) fn has_value(text: &[u8], n: usize) -> bool
     requires { n < 10 ^ 18 }
+
     ensures { result ≡ (meant.value text.now == n) }
 {
     value_up_to(text, n as u64 + 1) == n as u64
@@ -57,6 +58,7 @@ pub(crate) fn stripped(text: &[u8]) -> &[u8]
 #[tactic(auto, using(crate::proofs::Spaces::filled))]
 fn padded(id: &[u8]) -> [u8; MOST_PARTNER]
     requires { length id.now ≤ most_partner }
+
     ensures { result ≡ meant.padded most_partner id.now }
 {
     let mut padded = [b' '; MOST_PARTNER];
@@ -68,6 +70,7 @@ fn padded(id: &[u8]) -> [u8; MOST_PARTNER]
 #[tactic(auto, using(crate::proofs::Spaces::too_long))]
 pub(crate) fn is_padded(field: &[u8], id: &[u8]) -> bool
     requires { length field.now ≡ most_partner }
+
     ensures { result ≡ bytes_eq field.now (meant.padded most_partner id.now) }
 {
     if id.len() > MOST_PARTNER {

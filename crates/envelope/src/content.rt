@@ -46,7 +46,8 @@ fn are_named(segments: &[Segment<'_>]) -> bool
 
 // Whether each segment has an id of that shape.
 fn have_ids(segments: &[Segment<'_>]) -> bool
-    ensures { result ≡ list_all (λ s. meant.is_segment_id (cuts.id_of s)) (cuts.segments_of segments.now) }
+    ensures { result ≡ list_all (λ s. meant.is_segment_id (cuts.id_of s))
+        (cuts.segments_of segments.now) }
 {
     are_named(segments)
 }

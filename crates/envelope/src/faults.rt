@@ -13,7 +13,8 @@ use std::alloc::{AllocError, Global};
 
 // Whether groups of the functional identifier GS01 are read.
 fn is_read(function: &[u8]) -> bool
-    ensures { result ≡ not (is_none (find (λ k. bytes_eq (kind_function k) function.now) set_kinds)) }
+    ensures { result ≡ not (is_none (find (λ k. bytes_eq (kind_function k) function.now)
+        set_kinds)) }
 {
     matches!(function, b"OW" | b"AR" | b"FA")
 }

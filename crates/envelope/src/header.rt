@@ -31,6 +31,7 @@ impl<'a> Model for Isa<'a> {
 // Where an element of ISA begins, and how wide it is.
 fn place(n: usize) -> (usize, usize)
     requires { n < 17 }
+
     ensures value { result ≡ unwrap_or (slice_get meant.places n) (0, 0) }
     ensures within { result.0 + result.1 ≤ 105 }
 {
@@ -41,6 +42,7 @@ fn place(n: usize) -> (usize, usize)
 pub(crate) fn element(text: &[u8], n: usize) -> &[u8]
     requires long { 106 ≤ length text.now }
     requires there { n < 17 }
+
     ensures value { result.now ≡ meant.isa text.now n }
     ensures wide { length result.now ≡ width n }
 {
@@ -53,6 +55,7 @@ impl<'a> Isa<'a> {
     /// sender's qualifier and id, ISA13 is the control number.
     pub fn element(&self, n: usize) -> &'a [u8]
         requires { n < 17 }
+
         ensures value { result.now ≡ meant.isa self.now n }
         ensures wide { length result.now ≡ width n }
     {

@@ -90,6 +90,7 @@ pub(crate) fn last_element<'a>(segments: &[Segment<'a>], n: usize) -> &'a [u8]
 // Where the id stands first at or after a place, or the end.
 fn place_from(segments: &[Segment<'_>], from: usize, id: &[u8]) -> usize
     requires { from ≤ length segments.now }
+
     ensures value { result ≡ from + position_or_len (marked id.now) (drop from segments.now) }
     ensures within { result ≤ length segments.now }
 {
@@ -99,6 +100,7 @@ fn place_from(segments: &[Segment<'_>], from: usize, id: &[u8]) -> usize
 // Where the first run at or after a place begins, a segment with the id, and where it ends.
 pub(crate) fn run_from(segments: &[Segment<'_>], from: usize, id: &[u8]) -> Option<(usize, usize)>
     requires { from ≤ length segments.now }
+
     ensures { MatchOption result ((parted (marked id.now) (drop from segments.now)).runs ≡ [])
         (λ r. (r.0 < r.1) × (r.1 ≤ length segments.now) × (from < r.1)
         × ((d : cuts.Piece) → marked id.now (get_or segments.now r.0 d) ≡ true)

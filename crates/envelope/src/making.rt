@@ -36,6 +36,7 @@ fn make_set<'a>(
     requires same { AreOf delims (head.now ∷ others.now) }
     requires begins { has_id (codes "ST") head.now.elements ≡ true }
     requires few { length others.now < most_bytes }
+
     ensures { IfOk result
         (λ s. s ≡ held.set_under delims (meant.set_of (held.bare (head.now, others.now)))) }
 {
@@ -51,6 +52,7 @@ fn make_sets<'a>(
 ) -> Result<Vec<Set<'a>>, AllocError>
     requires same { AreOf delims segments.now }
     requires few { length segments.now ≤ most_bytes }
+
     ensures { IfOk result
         (λ v. v.items ≡ map (held.set_under delims)
         (map meant.set_of (parted (has_id (codes "ST")) (segments_of segments.now)).runs)) }
@@ -84,6 +86,7 @@ fn make_group<'a>(
 ) -> Result<Group<'a>, AllocError>
     requires same { AreOf delims (head.now ∷ others.now) }
     requires few { length others.now ≤ most_bytes }
+
     ensures { IfOk result
         (λ g. g ≡ held.group_under delims (meant.group_of (held.bare (head.now, others.now)))) }
 {
@@ -100,6 +103,7 @@ fn make_groups<'a>(
 ) -> Result<Vec<Group<'a>>, AllocError>
     requires same { AreOf delims segments.now }
     requires few { length segments.now ≤ most_bytes }
+
     ensures { IfOk result
         (λ v. v.items ≡ map (held.group_under delims)
         (map meant.group_of (parted (has_id (codes "GS")) (segments_of segments.now)).runs)) }
@@ -122,8 +126,10 @@ fn groups_of<'a>(
 ) -> Result<Vec<Group<'a>>, AllocError>
     requires same { AreOf delims segments.now }
     requires few { length segments.now ≤ most_bytes }
+
     ensures { IfOk result
-        (λ v. v.items ≡ map (held.group_under delims) (meant.groups_of (segments_of segments.now))) }
+        (λ v. v.items ≡ map (held.group_under delims) (meant.groups_of
+        (segments_of segments.now))) }
 {
     match segments.split_first() {
         Some((_, others)) => make_groups(alloc, delims, before(others, b"IEA")),
@@ -140,6 +146,7 @@ pub(crate) fn interchange_of<'a>(
 ) -> Result<Interchange<'a>, AllocError>
     requires same { AreOf delims segments.now }
     requires few { length segments.now ≤ most_bytes }
+
     ensures { IfOk result
         (λ i. i ≡ record { delims = delims; groups = meant.groups_of (segments_of segments.now) }) }
 {

@@ -30,6 +30,7 @@ const CLOCK: ElementRow = ElementRow {
 #[tactic(auto, using(crate::proofs::Moments::no_date_fault))]
 fn is_date(delims: &Delims, text: &[u8]) -> bool
     requires { length text.now ≡ 6 }
+
     ensures { result ≡ moments.is_date (codes "20" ++ text.now) }
 {
     let mut date = *b"20000000";
@@ -41,6 +42,7 @@ fn is_date(delims: &Delims, text: &[u8]) -> bool
 #[tactic(auto, using(crate::proofs::Moments::no_clock_fault))]
 fn is_clock(delims: &Delims, text: &[u8]) -> bool
     requires { length text.now ≡ 4 }
+
     ensures { result ≡ moments.is_clock text.now }
 {
     element_fault(delims, &CLOCK, text).is_none()

@@ -69,6 +69,7 @@ impl<'a> Set<'a> {
     // A set of these segments.
     pub(crate) fn new(delims: Delims, segments: Vec<Segment<'a>>, is_closed: bool) -> Set<'a>
         requires { held.AreKept delims segments.items is_closed }
+
         ensures { result ≡ record {
           delims = delims;
           set = record { segments = segments_of segments.entry.items; is_closed = is_closed };
@@ -114,6 +115,7 @@ impl<'a> Group<'a> {
     // A group of these.
     pub(crate) fn new(head: Segment<'a>, sets: Vec<Set<'a>>, tail: Option<Segment<'a>>) -> Group<'a>
         requires { held.AreHeld head.delims sets.items tail }
+
         ensures { result ≡ record {
           delims = head.entry.delims;
           group = record {
@@ -142,7 +144,8 @@ impl<'a> Group<'a> {
 
     /// GE, if there is one.
     pub fn tail(&self) -> Option<&Segment<'a>>
-        ensures { option_copied result ≡ option_map (held.piece self.now.delims) self.now.group.tail }
+        ensures { option_copied result ≡ option_map (held.piece self.now.delims)
+            self.now.group.tail }
     {
         self.tail.as_ref()
     }
@@ -152,6 +155,7 @@ impl<'a> Interchange<'a> {
     // An interchange of these groups.
     pub(crate) fn new(delims: Delims, groups: Vec<Group<'a>>) -> Interchange<'a>
         requires { groups.items ≡ map (held.group_under delims) (map (λ g. g.group) groups.items) }
+
         ensures { result ≡ record {
           delims = delims;
           groups = map (λ g. g.group) groups.entry.items;

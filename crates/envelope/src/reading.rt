@@ -12,6 +12,7 @@ use segments::{Delims, all_digits};
 // Whether the text begins as a header does.
 fn begins(text: &[u8]) -> bool
     requires { 106 ≤ length text.now }
+
     ensures { result ≡ bytes_eq (take 3 text.now) (codes "ISA") }
 {
     same(&text[..3], b"ISA")
@@ -48,6 +49,7 @@ fn is_separated(delims: &Delims, text: &[u8]) -> bool
 // Whether ISA01 to ISA15 are data: ISA16 is a delimiter.
 fn has_data(delims: &Delims, text: &[u8]) -> bool
     requires { 106 ≤ length text.now }
+
     ensures { result ≡ list_all
         (λ n. list_all (is_data delims.now) (meant.isa text.now n)) (range_with_len 1 15) }
 {
@@ -88,6 +90,7 @@ fn is_begun(text: &[u8]) -> bool
 // Whether all bytes are what they may be.
 fn is_filled(delims: &Delims, text: &[u8]) -> bool
     requires { 106 ≤ length text.now }
+
     ensures { result ≡ parts.is_filled delims.now text.now }
 {
     if !is_separated(delims, text) {

@@ -31,7 +31,8 @@ fn are_trailers_well_formed(delims: &Delims, segments: &[Segment<'_>]) -> bool
 }
 
 fn ends_with_trailer(segments: &[Segment<'_>]) -> bool
-    ensures { result ≡ cuts.has_id (codes "IEA") (cuts.last_segment (cuts.segments_of segments.now)) }
+    ensures { result ≡ cuts.has_id (codes "IEA") (cuts.last_segment
+        (cuts.segments_of segments.now)) }
 {
     same(last_element(segments, 0), b"IEA")
 }

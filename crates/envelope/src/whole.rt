@@ -26,6 +26,7 @@ fn is_some_left(rest: &[u8]) -> bool
 /// text.
 pub fn structure<'a>(alloc: Global, text: &'a [u8], isa: &Isa<'a>) -> Result<Interchange<'a>, Halt>
     requires { isa.now ≡ text.now }
+
     ensures { MatchResult result
         (λ i. (structure_note text.now ≡ None)
         × (i ≡ record {

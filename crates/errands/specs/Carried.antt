@@ -81,7 +81,8 @@ module _ {C : Type 0} (brings : Brings C) (old new : C) (before after : Option (
 
   abbrev pub IsContent : Show → List ℕ → Type 0
   IsContent s who =
-      ((a : ServerAnswer) × brings old Get (look_path s) [] a new × TellsAsDocument a before after status)
+      ((a : ServerAnswer) × brings old Get (look_path s) [] a new × TellsAsDocument a before after
+      status)
       ⊎ IsAskedTwice s (path_text (codes "outbox" ∷ who ∷ []))
       (λ a b. TellsAsReport Partners b before after status ⊎ TellsNothing before after status)
 

@@ -4,6 +4,7 @@ use Rattle.std.specs.List.{slice_split, list_all}
 use Rattle.std.specs.Io.KnownBytes.{Appends}
 use Rattle.profile.specs.Bytes.{is_digit, value}
 use Rattle.profile.specs.Lists.{first_of}
+use Rattle.profile.specs.Refusals.{refusal_numbered, fault_numbered}
 use Rattle.store.specs.Refusal.{Refusal}
 use Rattle.store.specs.Refusal.TheVariants as refusals
 use Rattle.store.specs.Fault.{Fault}
@@ -15,12 +16,13 @@ use Rattle.commands.specs.Stops.{IsDeviceFault, fault_in}
 use Rattle.commands.specs.declared.told.CommandError.{CommandError}
 use Rattle.commands.specs.declared.told.ExitStatus.{ExitStatus}
 use Rattle.commands.specs.declared.told.ExitStatus.TheVariants as statuses
+use Rattle.errands.specs.declared.answers.TheConstants.{PAST_NUMBERS}
 use Rattle.errands.specs.declared.answers.HeardAs.{HeardAs}
 use Rattle.errands.specs.declared.answers.HeardAs.TheVariants.{Done, Refused, Stopped}
 
--- the value of digits; 0 for any other text, and 1000 for any that is larger
+-- the value of digits; 0 for any other text, and what is past all numbers for any that is larger
 abbrev pub value_of : List ℕ → ℕ
-value_of text = if list_all is_digit text then min (value text) 1000 else 0
+value_of text = if list_all is_digit text then min (value text) PAST_NUMBERS else 0
 
 -- the number that a text begins with, before its first space
 abbrev pub number_in : List ℕ → ℕ
@@ -30,8 +32,8 @@ number_in text = value_of (unwrap_or (slice_get (slice_split (λ b. b == 32) tex
 abbrev pub note_of : List ℕ → Option ℕ
 note_of piece =
     if nat_lt (length piece) 3 then None
-    else (if nat_lt 255 (min (value (take 3 piece)) 1000) then None
-    else Some (min (value (take 3 piece)) 1000))
+    else (if nat_lt 255 (min (value (take 3 piece)) PAST_NUMBERS) then None
+    else Some (min (value (take 3 piece)) PAST_NUMBERS))
 
 -- The code of the note in an interchange that refuses another, which is TA105. What separates its
 -- elements is its fourth byte; the sixteen elements of ISA and four of TA1 stand before it.
@@ -40,36 +42,10 @@ note_in text =
     if nat_lt (length text) 4 then None
     else option_and_then note_of (slice_get (slice_split (λ b. b == slice_index text 3) text) 21)
 
-abbrev pub numbered : ℕ → Option Refusal
-numbered n = first_of None
-    ((n == 1, Some refusals.Unreadable)
-    ∷ (n == 3, Some refusals.Duplicate)
-    ∷ (n == 20, Some refusals.UnknownDepositor)
-    ∷ (n == 21, Some refusals.TicketUsed)
-    ∷ (n == 22, Some refusals.UnknownAdvice)
-    ∷ (n == 23, Some refusals.AdviceClosed)
-    ∷ (n == 24, Some refusals.UnknownOrder)
-    ∷ (n == 25, Some refusals.OrderClosed)
-    ∷ (n == 26, Some refusals.NotReserved)
-    ∷ (n == 27, Some refusals.UnknownLot)
-    ∷ (n == 28, Some refusals.BelowReserved)
-    ∷ (n == 29, Some refusals.NoDifference)
-    ∷ (n == 30, Some refusals.TooMuch)
-    ∷ (n == 31, Some refusals.RepeatedLine)
-    ∷ (n == 32, Some refusals.BadText)
-    ∷ (n == 33, Some refusals.TooManyLines)
-    ∷ (n == 34, Some refusals.NumbersUsedUp)
-    ∷ (n == 35, Some refusals.AlreadyEnrolled)
-    ∷ [])
-
--- a server that can be heard tells no 44 of itself
-abbrev pub fault_numbered : ℕ → Fault
-fault_numbered n = first_of faults.Device
-    ((n == 40, faults.OutOfMemory)
-    ∷ (n == 41, faults.Store)
-    ∷ (n == 42, faults.Reopen)
-    ∷ (n == 43, faults.NotThisBook)
-    ∷ [])
+-- the fault that a body tells by its number; a server that can be heard tells no 44 of itself, so
+-- that stands for what no such server answers
+abbrev pub fault_in_body : List ℕ → Fault
+fault_in_body body = unwrap_or (fault_numbered (number_in body)) faults.Device
 
 -- whether a server tells the refusal under this status: what can't be read is 404 in a path and 422
 -- in a sheet
@@ -82,7 +58,7 @@ stands_under status r = status == 422
 
 -- a refusal by its number
 abbrev pub heard_line : ℕ → List ℕ → HeardAs
-heard_line status line = by (numbered (number_in line))
+heard_line status line = by (refusal_numbered (number_in line))
   where
     by : Option Refusal → HeardAs
     by (Some r) = if stands_under status r then Refused r else Stopped faults.Device
@@ -104,7 +80,7 @@ heard status is_interchange body = first_of (heard_line status body)
     ∷ (status == 409 && is_interchange, Refused refusals.Duplicate)
     ∷ (status == 422 && is_interchange, heard_note body)
     ∷ (status == 413, Refused refusals.Unreadable)
-    ∷ (status == 503, Stopped (fault_numbered (number_in body)))
+    ∷ (status == 503, Stopped (fault_in_body body))
     ∷ [])
 
 -- Whether a 404 is of a depositor whom the server doesn't know. Of what partners are shown a server
@@ -119,7 +95,7 @@ abbrev pub heard_query : Audience → ℕ → Bool → List ℕ → HeardAs
 heard_query shown status is_interchange body = first_of (heard_line status body)
     ((status == 200 && not is_interchange, Done)
     ∷ (status == 404 && is_nobody shown body, Refused refusals.UnknownDepositor)
-    ∷ (status == 503, Stopped (fault_numbered (number_in body)))
+    ∷ (status == 503, Stopped (fault_in_body body))
     ∷ [])
 
 -- a document, or the interchange that refuses another, and a line feed
@@ -137,7 +113,9 @@ IsStatus (Refused r) status = status ≡ statuses.Refused
 IsStatus (Stopped f) status = ⊥
 
 -- an answer was told: this was printed, and the exit status is its
-pub record IsTold (printed : List ℕ) (h : HeardAs) (before after : Option (List ℕ)) (status : ExitStatus) : Type 0 where
+pub record IsTold
+    (printed : List ℕ) (h : HeardAs) (before after : Option (List ℕ)) (status : ExitStatus)
+    : Type 0 where
   pub text : Appends before after printed
   pub says : IsStatus h status
 

@@ -25,12 +25,15 @@ fn part(text: &[u8], separator: u8, n: usize) -> Option<&[u8]>
     text.split(|b| *b == separator).nth(n)
 }
 
-// The value of digits, up to 1000; 0 of any other text.
+/// Greater than any status, and than the number of any refusal, note or fault.
+const PAST_NUMBERS: u64 = 1_000;
+
+// The value of digits, up to `PAST_NUMBERS`; 0 of any other text.
 fn value_of(text: &[u8]) -> u64
     ensures { result ≡ meant.value_of text.now }
 {
     if all_digits(text) {
-        value_up_to(text, 1_000)
+        value_up_to(text, PAST_NUMBERS)
     } else {
         0
     }
@@ -53,7 +56,7 @@ fn note_of(piece: &[u8]) -> Option<u8>
     if piece.len() < 3 {
         return None;
     }
-    let code = value_up_to(&piece[..3], 1_000);
+    let code = value_up_to(&piece[..3], PAST_NUMBERS);
     if code > 255 {
         return None;
     }
@@ -73,44 +76,11 @@ fn note_in(text: &[u8]) -> Option<u8>
     }
 }
 
-// The refusal of this number; a note has its own way to be told.
-fn numbered(number: u64) -> Option<Refusal>
-    ensures { result ≡ meant.numbered number }
+// The fault that a 503 tells. A server that can be heard tells no 44 of itself.
+fn fault_in_body(body: &[u8]) -> Fault
+    ensures { result ≡ meant.fault_in_body body.now }
 {
-    Some(match number {
-        1 => Refusal::Unreadable,
-        3 => Refusal::Duplicate,
-        20 => Refusal::UnknownDepositor,
-        21 => Refusal::TicketUsed,
-        22 => Refusal::UnknownAdvice,
-        23 => Refusal::AdviceClosed,
-        24 => Refusal::UnknownOrder,
-        25 => Refusal::OrderClosed,
-        26 => Refusal::NotReserved,
-        27 => Refusal::UnknownLot,
-        28 => Refusal::BelowReserved,
-        29 => Refusal::NoDifference,
-        30 => Refusal::TooMuch,
-        31 => Refusal::RepeatedLine,
-        32 => Refusal::BadText,
-        33 => Refusal::TooManyLines,
-        34 => Refusal::NumbersUsedUp,
-        35 => Refusal::AlreadyEnrolled,
-        _ => return None,
-    })
-}
-
-// The fault of this number.
-fn fault_numbered(number: u64) -> Fault
-    ensures { result ≡ meant.fault_numbered number }
-{
-    match number {
-        40 => Fault::OutOfMemory,
-        41 => Fault::Store,
-        42 => Fault::Reopen,
-        43 => Fault::NotThisBook,
-        _ => Fault::Device,
-    }
+    Fault::numbered(number_in(body)).unwrap_or(Fault::Device)
 }
 
 // Whether a server tells the refusal under this status.
@@ -130,7 +100,7 @@ fn stands_under(status: u16, refusal: Refusal) -> bool
 fn heard_line(status: u16, line: &[u8]) -> HeardAs
     ensures { result ≡ meant.heard_line status line.now }
 {
-    match numbered(number_in(line)) {
+    match Refusal::numbered(number_in(line)) {
         Some(refusal) if stands_under(status, refusal) => HeardAs::Refused(refusal),
         _ => HeardAs::Stopped(Fault::Device),
     }
@@ -158,7 +128,7 @@ pub fn heard(status: u16, is_interchange: bool, body: &[u8]) -> HeardAs
         409 if is_interchange => HeardAs::Refused(Refusal::Duplicate),
         422 if is_interchange => heard_note(body),
         413 => HeardAs::Refused(Refusal::Unreadable),
-        503 => HeardAs::Stopped(fault_numbered(number_in(body))),
+        503 => HeardAs::Stopped(fault_in_body(body)),
         _ => heard_line(status, body),
     }
 }
@@ -174,15 +144,15 @@ fn is_nobody(shown: Audience, body: &[u8]) -> bool
 }
 
 /// What the answer to a query of what these are shown comes to. A server says `404 Not Found` to
-/// partners of a depositor whom it doesn't know. To clerks it says by number what it refuses a query
-/// of theirs for; a 404 without a number is another server's.
+/// partners of a depositor whom it doesn't know. To clerks it says by number what it refuses a
+/// query of theirs for; a 404 without a number is another server's.
 pub fn heard_query(shown: Audience, status: u16, is_interchange: bool, body: &[u8]) -> HeardAs
     ensures { result ≡ meant.heard_query shown status is_interchange body.now }
 {
     match status {
         200 if !is_interchange => HeardAs::Done,
         404 if is_nobody(shown, body) => HeardAs::Refused(Refusal::UnknownDepositor),
-        503 => HeardAs::Stopped(fault_numbered(number_in(body))),
+        503 => HeardAs::Stopped(fault_in_body(body)),
         _ => heard_line(status, body),
     }
 }

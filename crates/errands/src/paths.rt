@@ -41,7 +41,8 @@ fn path_with<'a>(
     number: &'a str,
 ) -> Result<String, AllocError>
     ensures { IfOk result
-        (λ path. string_bytes path ≡ meant.path_text (name.now ∷ who.now ∷ ticket.now ∷ number.now ∷ [])) }
+        (λ path. string_bytes path ≡ meant.path_text (name.now ∷ who.now ∷ ticket.now ∷ number.now
+        ∷ [])) }
 {
     path_of(alloc, &[name, who, ticket, number])
 }

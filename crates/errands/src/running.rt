@@ -68,8 +68,8 @@ fn post<C: Courier, W: io::Write, E: io::Write>(
     out: &mut W,
     err: &mut E,
 ) -> Result<ExitStatus, CommandError>
-    ensures told { IfOk result (λ status. IsPosted C.brings courier.old courier.new (W.contents out.old)
-        (W.contents out.new) status path.now body.now) }
+    ensures told { IfOk result (λ status. IsPosted C.brings courier.old courier.new
+        (W.contents out.old) (W.contents out.new) status path.now body.now) }
     ensures halted { IfErr result (IsHaltedThere C.brings C.loses) }
 {
     let request = Request {
@@ -116,8 +116,8 @@ fn get<C: Courier>(
     ensures brought { IfOk result
         (λ answer. C.brings courier.old Verb.Get (path_for show.now) [] answer courier.new) }
     ensures halted { IfErr result (IsHaltedThere C.brings C.loses) }
-    ensures heard { IfOk result (λ answer. stop_of (query_of shown answer.status answer.is_interchange
-        answer.body.items) ≡ None) }
+    ensures heard { IfOk result (λ answer. stop_of (query_of shown answer.status
+        answer.is_interchange answer.body.items) ≡ None) }
 {
     let answer = get_any(alloc, courier, server, show)?;
     match heard_query(shown, answer.status, answer.is_interchange, &answer.body) {
@@ -206,8 +206,8 @@ fn content<C: Courier, W: io::Write, E: io::Write>(
     out: &mut W,
     err: &mut E,
 ) -> Result<ExitStatus, CommandError>
-    ensures told { IfOk result (λ status. IsContent C.brings courier.old courier.new (W.contents out.old)
-        (W.contents out.new) status show.now who.now) }
+    ensures told { IfOk result (λ status. IsContent C.brings courier.old courier.new
+        (W.contents out.old) (W.contents out.new) status show.now who.now) }
     ensures halted { IfErr result (IsHaltedThere C.brings C.loses) }
 {
     let answer = get_text(alloc, courier, server, show)?;
@@ -232,8 +232,8 @@ fn look<C: Courier, W: io::Write, E: io::Write>(
     out: &mut W,
     err: &mut E,
 ) -> Result<ExitStatus, CommandError>
-    ensures told { IfOk result (λ status. IsShown C.brings courier.old courier.new (W.contents out.old)
-        (W.contents out.new) status show.now) }
+    ensures told { IfOk result (λ status. IsShown C.brings courier.old courier.new
+        (W.contents out.old) (W.contents out.new) status show.now) }
     ensures halted { IfErr result (IsHaltedThere C.brings C.loses) }
 {
     match show {

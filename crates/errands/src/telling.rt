@@ -70,7 +70,8 @@ pub fn tell_report<W: io::Write, E: io::Write>(
     ensures said { OnOk result (Appends (E.contents err.old) (E.contents err.new) (told_line
         (query_of shown answer.now.status answer.now.is_interchange answer.now.body.items))) }
     ensures halted { IfErr result
-        (IsHalted (query_of shown answer.now.status answer.now.is_interchange answer.now.body.items)) }
+        (IsHalted (query_of shown answer.now.status answer.now.is_interchange
+        answer.now.body.items)) }
 {
     let heard = heard_query(shown, answer.status, answer.is_interchange, &answer.body);
     if let HeardAs::Stopped(fault) = heard {

@@ -18,6 +18,7 @@ pub enum Values<'b> {
 // Whether a field has this name, in letters of either case.
 fn has_name(buf: &[u8], field: HeaderSpan, name: &[u8]) -> bool
     requires { IsHeaderWithin (length buf.now) field }
+
     ensures { result ≡ is_named name.now (header_bytes buf.now field) }
 {
     field.name.of(buf).eq_ignore_ascii_case(name)
@@ -26,6 +27,7 @@ fn has_name(buf: &[u8], field: HeaderSpan, name: &[u8]) -> bool
 /// Whether one of a head's fields has this name, in letters of either case.
 pub fn is_among(buf: &[u8], fields: &[HeaderSpan], name: &[u8]) -> bool
     requires { All (IsHeaderWithin (length buf.now)) fields.now }
+
     ensures { result ≡ has_field name.now (map (header_bytes buf.now) fields.now) }
 {
     for field in fields {
@@ -39,6 +41,7 @@ pub fn is_among(buf: &[u8], fields: &[HeaderSpan], name: &[u8]) -> bool
 /// The values of a head's fields that have this name, in letters of either case.
 pub fn values_of<'b>(buf: &'b [u8], fields: &[HeaderSpan], name: &[u8]) -> Values<'b>
     requires { All (IsHeaderWithin (length buf.now)) fields.now }
+
     ensures { IsValues result (values name.now (map (header_bytes buf.now) fields.now)) }
 {
     let mut found = None;

@@ -96,9 +96,9 @@ stopped_later a b c fault t texts told p same q before file = record {
   texts = texts;
   last = file.last;
   taken = record {
-    usable = λ clean opened L u.
+    usable = λ clean L u opened.
         let mid = before.usable (clean_before b c q clean) L u in
-        either_usable c _ _ _ _ refl (last_later a b t texts file.last L p) (file.taken.usable clean opened _ mid);
+        either_usable c _ _ _ _ refl (last_later a b t texts file.last L p) (file.taken.usable clean _ mid opened);
     left = λ clean L u.
         let mid = before.usable (clean_before b c q clean) L u in
         subst (LeavesEither c (accepted_on Two a.warehouse L (handed t texts))) (last_later a b t texts file.last L p) (file.taken.left clean _ mid);
@@ -128,7 +128,7 @@ stopped_between a b fault t texts told p same before why = record {
   texts = texts;
   last = [];
   taken = record {
-    usable = λ clean opened L u. inl (before.usable clean L u);
+    usable = λ clean L u opened. inl (before.usable clean L u);
     left = λ clean L u. leaves_first b _ _ (before.usable clean L u);
   };
   why = device_fault fault a b (sym same) why;
@@ -168,7 +168,7 @@ file_taken a b t text reply told is said goes keeps = record {
 pub unread : (a : Standing) (fault : Fault) (t : Moment) → IsDeviceFault fault → IsUntaken fault a a t
 unread a fault t why = record {
   last = [];
-  taken = record { usable = λ clean opened L u. inl u; left = λ clean L u. leaves_first a L _ u };
+  taken = record { usable = λ clean L u opened. inl u; left = λ clean L u. leaves_first a L _ u };
   why = device_fault fault a a refl why;
 }
 
@@ -178,7 +178,7 @@ pub unsubmitted : (a b : Standing) (fault : Fault) (t : Moment) (text : List ℕ
 unsubmitted a b fault t text f left = record {
   last = text;
   taken = record {
-    usable = λ clean opened L u. inl (usable_stays a b (f.clean (opened ∙ sym u.opened)) clean L u);
+    usable = λ clean L u opened. inl (usable_stays a b (f.clean (opened ∙ sym u.opened)) clean L u);
     left = left;
   };
   why = record { grew = f.broken; store = f.why.store; reopen = f.why.reopen; not_this = λ h clean L k legal. f.why.not_this h clean L k };
@@ -190,7 +190,7 @@ pub unanswered : (a b : Standing) (fault : Fault) (t : Moment) (text : List ℕ)
 unanswered a b fault t text goes same why = record {
   last = text;
   taken = record {
-    usable = λ clean opened L u. inr (goes clean L u);
+    usable = λ clean L u opened. inr (goes clean L u);
     left = λ clean L u. let v = goes clean L u in record { stand = v.stand; each = λ M h. inr (v.only M h) };
   };
   why = device_fault fault a b (sym same) why;

@@ -4,7 +4,7 @@ use Rattle.std.specs.declared.io.ErrorKind.{ErrorKind}
 use Rattle.std.specs.declared.io.ErrorKind.TheVariants as kinds
 use Rattle.profile.specs.declared.rules.Rules.TheVariants.{Two}
 use Rattle.profile.specs.Moments.{Moment}
-use Rattle.profile.specs.Register.{Entry, Command, Interchange}
+use Rattle.profile.specs.Register.{Command, Interchange}
 use Rattle.profile.specs.Reply as replies
 use Rattle.profile.specs.declared.refusals.Refusal.{Refusal}
 use Rattle.profile.specs.Accepted.{accepted_on, replies_on}
@@ -45,12 +45,14 @@ IsDeviceFault fault = (fault ≡ OutOfMemory) ⊎ (fault ≡ Device)
 
 -- The texts were handed in one after the other: this became of them, and the register is the one
 -- after them.
-pub record AreTaken (old new : Standing) (t : Moment) (texts : List (List ℕ)) (told : List Became) : Type 0 where
+pub record AreTaken
+    (old new : Standing) (t : Moment) (texts : List (List ℕ)) (told : List Became) : Type 0 where
   pub told_is : OfUsable old new
       (λ L. told ≡ map became (replies_on Two old.warehouse L (handed t texts)))
   pub usable : OfUsable old new
       (λ L. IsUsable new (accepted_on Two old.warehouse L (handed t texts)))
-  pub keeps : OfKept old new (λ L. KeepsLegal new (accepted_on Two old.warehouse L (handed t texts)))
+  pub keeps : OfKept old new (λ L. KeepsLegal new
+      (accepted_on Two old.warehouse L (handed t texts)))
 
 -- a text was handed in, and this became of it
 abbrev pub IsFileTaken : Standing → Standing → Moment → FileOutcome → Type 0
@@ -59,10 +61,11 @@ IsFileTaken old new t outcome = (text : List ℕ)
 
 -- The texts were handed in, and one more perhaps. The register is the one after those, or after
 -- that one too; a crash leaves one of the two, also where the book has to be opened again.
-pub record AreTakenUntil (old new : Standing) (t : Moment) (texts : List (List ℕ)) (last : List ℕ) : Type 0 where
-  pub usable : new.doubt ≡ 0 → new.shut ≡ false → (L : List Entry) → IsUsable old L
+pub record AreTakenUntil
+    (old new : Standing) (t : Moment) (texts : List (List ℕ)) (last : List ℕ) : Type 0 where
+  pub usable : OfUsable old new (λ L. new.shut ≡ false
       → IsUsable new (accepted_on Two old.warehouse L (handed t texts))
-      ⊎ IsUsable new (accepted_on Two old.warehouse L (handed t (texts ++ last ∷ [])))
+      ⊎ IsUsable new (accepted_on Two old.warehouse L (handed t (texts ++ last ∷ []))))
   pub left : OfUsable old new
       (λ L. LeavesEither new (accepted_on Two old.warehouse L (handed t texts))
       (accepted_on Two old.warehouse L (handed t (texts ++ last ∷ []))))

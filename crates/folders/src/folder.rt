@@ -191,6 +191,7 @@ pub fn take_folder_telling<R: Files + AllocGlobal + Clone + Drop, K: Keeper, T: 
     mut told: T,
 ) -> Result<TakenFolder, FolderStop>
     requires told { T.IsAlwaysCallable told }
+
     ensures taken { IfOk result
         (λ folder. (texts : List (List ℕ))
         × AreTaken (K.standing keeper.old) (K.standing keeper.new) moment texts (map

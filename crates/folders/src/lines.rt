@@ -13,7 +13,8 @@ use store::Refusal;
 
 // Writes what a note is told as.
 fn write_note<W: io::Write>(out: &mut W, code: u8) -> io::Result<()>
-    ensures { OnOk result (Appends (W.contents out.old) (W.contents out.new) (refused_text (Note code))) }
+    ensures { OnOk result (Appends (W.contents out.old) (W.contents out.new)
+        (refused_text (Note code))) }
 {
     out.write_all(b"refused ")?;
     out.write_all(&zero_filled::<NOTE_DIGITS>(u64::from(code)))

@@ -18,7 +18,8 @@ rises_by less key [] = true
 rises_by less key (x ∷ xs) = list_all (λ y. less (key x) (key y)) xs && rises_by less key xs
 
 -- i elements have a key before k, and they stand first
-pub record IsRank {X K : Type 0} (less : K → K → Bool) (key : X → K) (xs : List X) (k : K) (i : ℕ) : Type 0 where
+pub record IsRank
+    {X K : Type 0} (less : K → K → Bool) (key : X → K) (xs : List X) (k : K) (i : ℕ) : Type 0 where
   pub bound : i ≤ length xs
   pub below : (j : ℕ) (d : X) → j < i → less (key (slice_index_or xs j d)) k ≡ true
   pub above : (j : ℕ) (d : X) → i ≤ j → j < length xs → less (key (slice_index_or xs j d)) k ≡ false

@@ -51,7 +51,8 @@ abbrev pub with_said : ℕ → Bool → List PageDocument → List PageDocument
 with_said n accepts ds = said_of_found (document_at n ds) accepts ds
 
 -- goods are counted: the advice is closed, the sheet is on hand
-pub record IsReceived (n : ℕ) (k : PageAdvice) (sheet : List Line) (old new : PageFacts) : Type 0 where
+pub record IsReceived
+    (n : ℕ) (k : PageAdvice) (sheet : List Line) (old new : PageFacts) : Type 0 where
   pub rows : IsCounted n k.lines sheet old.rows new.rows
   pub advices : new.advices ≡ put_advice (closed_advice k) old.advices
   pub orders : new.orders ≡ old.orders

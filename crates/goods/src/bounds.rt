@@ -28,6 +28,7 @@ fn all_within(rows: &[Row], most: u64) -> bool
 /// many entries can bring, of each row.
 pub fn are_within(rows: &[Row], entries: u32) -> bool
     requires { entries < most_entries + 1 }
+
     ensures { result ≡ list_all (meant.is_within (meant.most_of entries)) rows.now }
 {
     let most = (u64::from(MOST_RECOUNTED) + 1) * (MOST_SETS as u64 * u64::from(entries));

@@ -10,6 +10,7 @@ use sets_in::Goods;
 /// Whether no count named the pair of one of the lines.
 pub fn has_unknown(rows: &[Row], lines: &[Goods]) -> bool
     requires { IsSorted rows.now }
+
     ensures { result ≡ list_any (is_unknown rows.now) lines.now }
 {
     for line in lines {
@@ -23,6 +24,7 @@ pub fn has_unknown(rows: &[Row], lines: &[Goods]) -> bool
 // Whether a line is below what is reserved of its pair.
 fn is_below(rows: &[Row], line: &Goods) -> bool
     requires { IsSorted rows.now }
+
     ensures { result ≡ is_below rows.now line.now }
 {
     u64::from(line.quantity) < amount_of(rows, Column::Reservation, &line.item, &line.lot)
@@ -31,6 +33,7 @@ fn is_below(rows: &[Row], line: &Goods) -> bool
 /// Whether one of the lines is below what is reserved of its pair.
 pub fn has_below(rows: &[Row], lines: &[Goods]) -> bool
     requires { IsSorted rows.now }
+
     ensures { result ≡ list_any (is_below rows.now) lines.now }
 {
     for line in lines {
@@ -44,6 +47,7 @@ pub fn has_below(rows: &[Row], lines: &[Goods]) -> bool
 // Whether a line is what is on hand of its pair.
 fn is_on_hand(rows: &[Row], line: &Goods) -> bool
     requires { IsSorted rows.now }
+
     ensures { result ≡ is_on_hand rows.now line.now }
 {
     u64::from(line.quantity) == amount_of(rows, Column::OnHand, &line.item, &line.lot)
@@ -52,6 +56,7 @@ fn is_on_hand(rows: &[Row], line: &Goods) -> bool
 /// Whether each line is what is on hand of its pair.
 pub fn are_on_hand(rows: &[Row], lines: &[Goods]) -> bool
     requires { IsSorted rows.now }
+
     ensures { result ≡ list_all (is_on_hand rows.now) lines.now }
 {
     for line in lines {

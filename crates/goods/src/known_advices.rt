@@ -36,6 +36,7 @@ impl KnownAdvice {
     /// An advice of these numbers and at most 999 lines; it is open until it is counted.
     pub fn new(shipment: Vec<u8>, order: Vec<u8>, lines: Vec<Goods>, is_open: bool) -> KnownAdvice
         requires { length lines.items ≤ most_lines Two }
+
         ensures { result ≡ record {
           shipment = shipment.items;
           order = order.items;
@@ -120,6 +121,7 @@ impl KnownAdvice {
 /// The sum of the quantities of lines, in the unit EA.
 pub fn total(lines: &[Goods]) -> u64
     requires { length lines.now ≤ most_lines Two }
+
     ensures { result ≡ sum_by (λ l. l.quantity) lines.now }
 {
     let mut total: u64 = 0;

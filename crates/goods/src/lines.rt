@@ -63,6 +63,7 @@ fn is_before(line: &Goods, item: &[u8], lot: &[u8]) -> bool
 // How many lines stand before a pair.
 fn rank_of(lines: &[Goods], item: &[u8], lot: &[u8]) -> usize
     requires { is_ascending lines.now ≡ true }
+
     ensures { IsRank key_before pair_key lines.now (item.now, lot.now) result }
 {
     lines.partition_point(|line| is_before(line, item, lot))
@@ -72,6 +73,7 @@ fn rank_of(lines: &[Goods], item: &[u8], lot: &[u8]) -> usize
 /// do: the pair is found by halves.
 pub fn quantity_of(lines: &[Goods], item: &[u8], lot: &[u8]) -> u64
     requires { is_ascending lines.now ≡ true }
+
     ensures { result ≡ quantity_of lines.now item.now lot.now }
 {
     let i = rank_of(lines, item, lot);
@@ -88,6 +90,7 @@ pub fn quantity_of(lines: &[Goods], item: &[u8], lot: &[u8]) -> u64
 // The quantity that lines give a pair, in whichever order they stand.
 fn sum_of(lines: &[Goods], item: &[u8], lot: &[u8]) -> u64
     requires { quantity_of lines.now item.now lot.now < 2 ^ 64 }
+
     ensures { result ≡ quantity_of lines.now item.now lot.now }
 {
     let mut quantity: u64 = 0;
@@ -104,6 +107,7 @@ fn sum_of(lines: &[Goods], item: &[u8], lot: &[u8]) -> u64
 fn given(lines: &[Goods], rises: bool, item: &[u8], lot: &[u8]) -> u64
     requires fits { quantity_of lines.now item.now lot.now < 2 ^ 64 }
     requires asked { rises ≡ is_ascending lines.now }
+
     ensures { result ≡ quantity_of lines.now item.now lot.now }
 {
     if rises {
@@ -115,6 +119,7 @@ fn given(lines: &[Goods], rises: bool, item: &[u8], lot: &[u8]) -> u64
 /// Whether one of the lines exceeds what is reserved of its pair.
 pub fn exceeds(reserved: &[Goods], lines: &[Goods]) -> bool
     requires { (item lot : List ℕ) → quantity_of reserved.now item lot < 2 ^ 64 }
+
     ensures { result ≡ list_any (exceeds reserved.now) lines.now }
 {
     let rises = rises(reserved);

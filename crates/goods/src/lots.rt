@@ -81,6 +81,7 @@ fn is_lot_of(row: &Row, item: &[u8]) -> bool
 // Where the rows of an item begin: those before are of items before it.
 fn item_start(rows: &[Row], item: &[u8]) -> usize
     requires { IsSorted rows.now }
+
     ensures { (k : ℕ) (d : LotRow) → k < result
         → comes_before (slice_index_or rows.now k d).item item.now ≡ true }
 {
@@ -90,6 +91,7 @@ fn item_start(rows: &[Row], item: &[u8]) -> usize
 // Where the rows of an item end: those from there on are of items after it.
 fn item_end(rows: &[Row], item: &[u8]) -> usize
     requires { IsSorted rows.now }
+
     ensures bound { result ≤ length rows.now }
     ensures back { (k : ℕ) (d : LotRow) → result ≤ k → k < length rows.now
         → comes_before item.now (slice_index_or rows.now k d).item ≡ true }
@@ -104,6 +106,7 @@ fn counted_lots<'a>(
     item: &[u8],
 ) -> Result<Vec<Ranked<'a>>, AllocError>
     requires { IsSorted rows.now }
+
     ensures { IfOk result (λ lots. lots.items ≡ ranks_of item.now rows.now) }
 {
     let mut lots = Vec::new(alloc);
@@ -133,6 +136,7 @@ fn lots<'a>(
     rules: Rules,
 ) -> Result<Vec<Ranked<'a>>, AllocError>
     requires { IsSorted rows.now }
+
     ensures { IfOk result
         (λ lots. lots.items ≡ in_order (ranks_before rules) (ranks_of item.now rows.now)) }
 {
@@ -154,6 +158,7 @@ pub fn new_line(alloc: Global, item: &[u8], lot: &[u8], quantity: u32) -> Result
 // What is free of a pair: on hand and not reserved.
 fn free(rows: &[Row], item: &[u8], lot: &[u8]) -> u64
     requires { IsSorted rows.now }
+
     ensures { result ≡ free_in rows.now item.now lot.now }
 {
     let on_hand = amount_of(rows, Column::OnHand, item, lot);
@@ -185,6 +190,7 @@ fn shares(
     rules: Rules,
 ) -> Result<Vec<Goods>, AllocError>
     requires { IsSorted rows.now }
+
     ensures { IfOk result (λ shares. shares.items ≡ shares_in rules rows.now line.now) }
 {
     let lots = lots(alloc, rows, &line.item, rules)?;
@@ -208,6 +214,7 @@ pub fn all_shares(
     rules: Rules,
 ) -> Result<Vec<Goods>, AllocError>
     requires { IsSorted rows.now }
+
     ensures { IfOk result (λ all. all.items ≡ all_shares_in rules rows.now lines.now) }
 {
     let mut all = Vec::new(alloc);

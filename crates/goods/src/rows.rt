@@ -203,6 +203,7 @@ impl Row {
     /// Adds to an amount.
     pub fn add(&mut self, column: Column, n: u32)
         requires { amount (column_of column) self.old + n < 2 ^ 64 }
+
         ensures { self.new ≡ raised (column_of column) n self.old }
     {
         match column {
@@ -216,6 +217,7 @@ impl Row {
     /// Takes from an amount.
     pub fn take(&mut self, column: Column, n: u32)
         requires { n ≤ amount (column_of column) self.old }
+
         ensures { self.new ≡ lowered (column_of column) n self.old }
     {
         match column {
@@ -240,6 +242,7 @@ fn copied_date(alloc: Global, line: &AdviceLine) -> Result<Option<Vec<u8>>, Allo
 /// How many rows come before that of a pair.
 pub fn rank_of(rows: &[Row], item: &[u8], lot: &[u8]) -> usize
     requires { IsSorted rows.now }
+
     ensures { IsRank key_before row_key rows.now (item.now, lot.now) result }
 {
     rows.partition_point(|row| row.is_before(item, lot))
@@ -248,6 +251,7 @@ pub fn rank_of(rows: &[Row], item: &[u8], lot: &[u8]) -> usize
 /// The place of the row of a pair.
 pub fn place_of(rows: &[Row], item: &[u8], lot: &[u8]) -> Option<usize>
     requires { IsSorted rows.now }
+
     ensures { MatchOption result (of_pair one item.now lot.now rows.now ≡ 0)
         (λ i. IsPlace item.now lot.now rows.now i) }
 {
@@ -264,6 +268,7 @@ pub fn place_of(rows: &[Row], item: &[u8], lot: &[u8]) -> Option<usize>
 /// An amount of a pair: 0 where there is no row of it.
 pub fn amount_of(rows: &[Row], column: Column, item: &[u8], lot: &[u8]) -> u64
     requires { IsSorted rows.now }
+
     ensures { result ≡ of_pair (amount (column_of column)) item.now lot.now rows.now }
 {
     match place_of(rows, item, lot) {
@@ -275,6 +280,7 @@ pub fn amount_of(rows: &[Row], column: Column, item: &[u8], lot: &[u8]) -> u64
 // The number of the first count that named a pair, or 0.
 pub(crate) fn since_of(rows: &[Row], item: &[u8], lot: &[u8]) -> u32
     requires { IsSorted rows.now }
+
     ensures { result ≡ of_pair since item.now lot.now rows.now }
 {
     match place_of(rows, item, lot) {

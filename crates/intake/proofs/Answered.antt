@@ -3,9 +3,9 @@ use Rattle.std.proofs.Common.{◌≡◌, ℕ, List, Bool, true, false, refl, Opt
 use Rattle.profile.specs.declared.rules.Rules.TheVariants.{Two}
 use Rattle.profile.specs.Moments.{Moment}
 use Rattle.profile.specs.Register.{Command, Entry, Interchange}
-use Rattle.profile.specs.Accepted.{IsLegal, is_accepted, reply_to, after}
+use Rattle.profile.specs.Accepted.{is_accepted, reply_to, after}
 use Rattle.profile.specs.Response.{Response, Method, Route, is_exchange, resp, fault_response}
-use Rattle.store.specs.Standing.{Standing, IsUsable, IsUnchanged, IsFault, LeavesEither, OfUsable}
+use Rattle.store.specs.Standing.{Standing, IsUsable, IsUnchanged, IsFault, LeavesEither, OfKept, OfUsable}
 use Rattle.store.specs.Fault.{Fault}
 use Rattle.store.specs.Fault.TheVariants.{OutOfMemory}
 use Rattle.store.proofs.Changes.{unchanged_refl, leaves_first}
@@ -31,14 +31,14 @@ module _ (old new : Standing) (t : Moment) where
   Taken c = OfUsable old new (λ L. IsUsable new (after Two old.warehouse L (c, t)))
 
   abbrev pub Repeated : Command → Type 0
-  Repeated c = new.doubt ≡ 0 → (L : List Entry) → old.keeps L → IsLegal Two old.warehouse L
-      → is_accepted (reply_to Two old.warehouse L c t) ≡ false → IsUnchanged old new
+  Repeated c = OfKept old new
+      (λ L. is_accepted (reply_to Two old.warehouse L c t) ≡ false → IsUnchanged old new)
 
   abbrev pub Left : Command → Type 0
   Left c = OfUsable old new (λ L. LeavesEither new L (after Two old.warehouse L (c, t)))
 
 module _ (old new : Standing) (t : Moment) (m : Method) (r : Route) (body : List ℕ) where
-  pub served : (answer : Response) → (new.doubt ≡ 0 → (L : List Entry) → old.keeps L → IsLegal Two old.warehouse L → answer ≡ resp Two old.warehouse L m r body t)
+  pub served : (answer : Response) → OfKept old new (λ L. answer ≡ resp Two old.warehouse L m r body t)
       → (is_exchange m r ≡ false → IsUnchanged old new) → (is_exchange m r ≡ true → Taken old new t (Interchange body)) → (is_exchange m r ≡ true → Repeated old new t (Interchange body))
       → (is_exchange m r ≡ true → new.shut ≡ false) → IsAnswered old new t (handed_in m r body) (λ L. resp Two old.warehouse L m r body t) answer
   served answer response kept taken repeated opened = inl (record {

@@ -1,10 +1,10 @@
 -- what a book that has to be opened again answers
-use Rattle.std.proofs.Common.{◌≡◌, ◌≢◌, ℕ, List, Bool, true, false, Some, refl, sym, subst, inl, inr}
+use Rattle.std.proofs.Common.{◌≡◌, ◌≢◌, ℕ, List, Bool, false, Some, refl, sym, subst, inr}
 use Rattle.std.specs.Prelude.{Result}
 use Rattle.httparse.specs.Grammar.{RequestHead}
 use Rattle.profile.specs.Response.{Method, Post, Response}
 use Rattle.store.specs.Standing.{Standing}
-use Rattle.store.specs.Fault.TheVariants.{OutOfMemory, Reopen}
+use Rattle.store.specs.Fault.TheVariants.{OutOfMemory}
 use Rattle.intake.specs.Asking.{asks_in, call_asks, asks_with, target_asks, IsResponseOf, IsShutAnswer}
 use Rattle.intake.specs.Fields.{head_of}
 use Rattle.intake.specs.Targets.{Target, asked_with, seen_call, target_of}
@@ -21,10 +21,6 @@ module _ (old : Standing) (asks : Bool) (r : Response) where
   -- where memory is wanting
   pub starved : IsResponseOf OutOfMemory r → IsShutAnswer old asks r
   starved is = λ shut yes. inr is
-
-  -- where the book was asked
-  pub reopens : (old.shut ≡ true → asks ≡ true → IsResponseOf Reopen r) → IsShutAnswer old asks r
-  reopens is = λ shut yes. inl (is shut yes)
 
 -- by the body that is asked with
 pub asked_by : (old : Standing) (r : Response) (audience : Audience) (h : RequestHead) (rest : List ℕ) (q : Result (List ℕ) ℕ) → asked_with (head_of h) (target_of audience h.target) rest ≡ q

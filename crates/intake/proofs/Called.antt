@@ -1,15 +1,15 @@
 -- what clerks are answered
 use Rattle.std.proofs.Common.{◌≡◌, ◌≢◌, ◌∙◌, ℕ, List, false, refl, Some, None, sym, ap, subst, inl, inr}
-use Rattle.std.specs.Prelude.{Result, Err}
+use Rattle.std.specs.Prelude.{Result}
 use Rattle.profile.specs.declared.rules.Rules.TheVariants.{Two}
-use Rattle.profile.specs.Accepted.{IsLegal, is_accepted, reply_to}
+use Rattle.profile.specs.Accepted.{is_accepted, reply_to}
 use Rattle.profile.specs.Header.{Who}
 use Rattle.profile.specs.Moments.{Moment}
 use Rattle.profile.specs.Register.{Command, Entry}
 use Rattle.profile.specs.Reply as replies
 use Rattle.profile.specs.Response.{Response, Post, OtherMethod, fault_response}
 use Rattle.store.specs.Runs.{told, UnlessAccepted}
-use Rattle.store.specs.Standing.{Standing, IsUnchanged, IsFault, IsQueryFault}
+use Rattle.store.specs.Standing.{Standing, IsUnchanged, IsFault, IsQueryFault, OfKept}
 use Rattle.store.specs.Fault.{Fault}
 use Rattle.store.specs.declared.serving.Reply.{Reply}
 use Rattle.store.proofs.Changes.{unchanged_refl}
@@ -25,7 +25,7 @@ use Rattle.intake.proofs.Replied.{not_accepted}
 module _ (old new : Standing) (t : Moment) where
   -- what is shown, and the book is as it was
   pub shown : (meant : List Entry → Response) (answer : Response)
-      → (new.doubt ≡ 0 → (L : List Entry) → old.keeps L → IsLegal Two old.warehouse L → answer ≡ meant L)
+      → OfKept old new (λ L. answer ≡ meant L)
       → IsUnchanged old new → IsAnswered old new t None meant answer
   shown meant answer response same = inl (record {
     response = response;
@@ -47,7 +47,7 @@ module _ (old new : Standing) (t : Moment) where
 
   -- a deed that was answered
   pub done : (a c : Command) (reply : Reply) (answer : Response) → a ≡ c → answer ≡ deed_reply (told reply)
-      → (new.doubt ≡ 0 → (L : List Entry) → old.keeps L → IsLegal Two old.warehouse L → told reply ≡ reply_to Two old.warehouse L a t)
+      → OfKept old new (λ L. told reply ≡ reply_to Two old.warehouse L a t)
       → Taken old new t a → UnlessAccepted reply (IsUnchanged old new) → new.shut ≡ false
       → IsAnswered old new t (Some c) (λ L. deed_reply (reply_to Two old.warehouse L c t)) answer
   done a c reply answer same is said taken kept opened =
@@ -76,10 +76,6 @@ module _ (old new : Standing) (t : Moment) where
   Deeds answer q = IsAnswered old new t (deed_command q) (λ L. deed_response old.warehouse L t q) answer
 
 module _ (s : Standing) (t : Moment) where
-  -- where a deed comes to a response
-  pub refused_at : (answer : Response) → Deeds s s t answer (Err answer)
-  refused_at answer = shown s s t (λ L. answer) answer (λ clean L keeps legal. refl) (unchanged_refl s)
-
   -- anything but a deed is called for by GET alone
   pub not_posted : (call : Call) (body : List ℕ) (answer : Response) → ((d : Deed) → call ≢ calls.Deed d)
       → ((W : Who) (L : List Entry) (b : List ℕ) (at : Moment) → answer ≡ call_resp W L OtherMethod (seen_call call) b at)

@@ -1,11 +1,10 @@
 -- what was read so far, and the heads that it may begin with
-use Rattle.std.proofs.Common.{◌≡◌, ℕ, ◌+◌, ◌<◌, ◌≤◌, List, [], ◌++◌, take, drop, Option, Some, None, sym, subst, length, ◌∙◌, ap, take-append-drop, arith, length-append, append-nil, unwrap_or}
+use Rattle.std.proofs.Common.{◌≡◌, ℕ, ◌+◌, ◌<◌, ◌≤◌, List, [], ◌++◌, take, drop, Option, sym, subst, length, ◌∙◌, ap, take-append-drop, arith, length-append}
 use Rattle.std.proofs.lemmas.List.{take-append-le}
 use Rattle.std.proofs.Math.Seq.{take-append_seam}
 use Rattle.std.proofs.KnownBytes.{Consumes-trans}
-use Rattle.std.specs.Io.KnownBytes.{Consumes, IsAtEnd}
+use Rattle.std.specs.Io.KnownBytes.{Consumes}
 use Rattle.httparse.specs.Grammar.{RequestHead, ReadsRequest, HasNoRequest, print_request}
-use Rattle.httparse.specs.Spans.{RequestOverflows}
 use Rattle.intake.specs.Requests.{most_head, most_fields, HasHead, HasNoHead}
 use Rattle.httparse.specs.Spans.{IsRequestWithin, IsRequestAt}
 use Rattle.httparse.specs.declared.spans.HeaderSpan.{HeaderSpan}
@@ -28,12 +27,6 @@ none_in_nothing h rest reads =
     let some = some_bytes h in
     absurd (omega arith)
 
-pub none_refused : (got more : List ℕ) → RequestOverflows most_fields got → HasNoHead (got ++ more)
-none_refused got more over h rest found =
-    let many = over more h rest found.reads in
-    let few = found.fields in
-    absurd (omega arith)
-
 -- a head that fits what was read begins that
 within_read : (got more : List ℕ) (h : RequestHead) (rest : List ℕ) → length (print_request h) ≤ length got → ReadsRequest (got ++ more) h rest → ReadsRequest got h (drop (length (print_request h)) got)
 within_read got more h rest fits reads =
@@ -45,10 +38,6 @@ pub none_too_large : (got more : List ℕ) → length got ≡ most_head → HasN
 none_too_large got more full none h rest found =
     let size = found.size in
     none h _ (within_read got more h rest (omega arith) found.reads)
-
-pub none_cut_off : (got : List ℕ) (new : Option (List ℕ)) → HasNoRequest got → IsAtEnd new → HasNoHead (got ++ unwrap_or new [])
-none_cut_off got None none end h rest found = none h rest (rw (append-nil got) at found.reads)
-none_cut_off got (Some more) none end h rest found = none h rest (rw (end, append-nil got) at found.reads)
 
 -- the head that the spans cover is one of an input that begins with those bytes
 pub head_within : (got more : List ℕ) (fields : List HeaderSpan) (spans : RequestSpans) (h : RequestHead) → length got ≤ most_head → length fields ≤ most_fields

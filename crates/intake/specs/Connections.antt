@@ -27,10 +27,13 @@ pub record IsServedOn (audience : Audience) (old new : Standing) (c : Connection
   pub reads : ℕ × ℕ
   pub writes : ℕ × ℕ
   pub written : IfOk c.served.outcome
-      (λ status. IsWritten audience old new known c.moment before later status c.served.line c.served.sender c.served.bytes)
+      (λ status. IsWritten audience old new known c.moment before later status c.served.line
+      c.served.sender c.served.bytes)
   pub stopped : OnErr c.served.outcome
-      (IsUnread old new known before later reads.0 reads.1 c.served.line c.served.sender c.served.bytes
-      ⊎ IsUnwritten audience old new known c.moment before later writes.0 writes.1 c.served.line c.served.sender c.served.bytes)
+      (IsUnread old new known before later reads.0 reads.1 c.served.line c.served.sender
+      c.served.bytes
+      ⊎ IsUnwritten audience old new known c.moment before later writes.0 writes.1 c.served.line
+      c.served.sender c.served.bytes)
 
 -- A connection that couldn't be accepted: nothing of it is known.
 pub record IsNotAccepted (c : Connection) : Type 0 where
@@ -55,7 +58,10 @@ IsServed audience old new c = (old.shut ≡ false) × IsConnection audience old 
 -- other, each with the moment that the clock gave for it. This took the clock and the closure from
 -- one state to another. The same connections, one after the other, took the book from one state to
 -- another, each as `serves` says.
-pub record HasTold {K C T : Type 0} (serves : K → Connection → K → Type 0) (gives : C → Moment → C → Type 0) (takes : T → Connection → T → Type 0) (book left : K) (clock after : C) (told last : T) (count : ℕ) : Type 0 where
+pub record HasTold
+    {K C T : Type 0} (serves : K → Connection → K → Type 0) (gives : C → Moment → C → Type 0)
+    (takes : T → Connection → T → Type 0) (book left : K) (clock after : C) (told last : T)
+    (count : ℕ) : Type 0 where
   pub connections : List Connection
   pub served : FoldsTo serves book connections left
   pub asked : FoldsTo gives clock (map moment_of connections) after

@@ -5,7 +5,7 @@ use Rattle.profile.specs.declared.rules.Rules.TheVariants.{Two}
 use Rattle.profile.specs.Moments.{Moment}
 use Rattle.profile.specs.Header.{Who}
 use Rattle.profile.specs.Register.{Command, Entry, Interchange}
-use Rattle.profile.specs.Accepted.{IsLegal, is_accepted, reply_to, after}
+use Rattle.profile.specs.Accepted.{is_accepted, reply_to, after}
 use Rattle.profile.specs.Response.{Method, Response, fault_response, response_to, submitted, response_bytes}
 use Rattle.store.specs.Standing.{Standing, IsUsable, IsUnchanged, IsFault, LeavesEither, OfKept, OfUsable}
 use Rattle.store.specs.Fault.{Fault}
@@ -49,9 +49,10 @@ answer_of Clerks W L (Some h) rest t = call_answer (call_of h.target) W L h rest
 -- The response of the definitions, over a register that the book keeps. The book is left as the
 -- command that was submitted leaves it; where none was, or it isn't accepted now, the book is as it
 -- was.
-pub record IsServed (old new : Standing) (t : Moment) (submits : Option Command) (meant : List Entry → Response) (r : Response) : Type 0 where
-  pub response : new.doubt ≡ 0 → (L : List Entry) → old.keeps L → IsLegal Two old.warehouse L
-      → r ≡ meant L
+pub record IsServed
+    (old new : Standing) (t : Moment) (submits : Option Command) (meant : List Entry → Response)
+    (r : Response) : Type 0 where
+  pub response : OfKept old new (λ L. r ≡ meant L)
   pub kept : submits ≡ None → IsUnchanged old new
   pub taken : (c : Command) → submits ≡ Some c
       → OfUsable old new (λ L. IsUsable new (after Two old.warehouse L (c, t)))
@@ -61,7 +62,8 @@ pub record IsServed (old new : Standing) (t : Moment) (submits : Option Command)
 
 -- The 503 of a fault that happened. The book is as it was, or it has to be opened again; then a
 -- crash leaves the register as it was, or with the entry of the command that was submitted.
-pub record IsFaulted (old new : Standing) (t : Moment) (submits : Option Command) (r : Response) : Type 0 where
+pub record IsFaulted
+    (old new : Standing) (t : Moment) (submits : Option Command) (r : Response) : Type 0 where
   pub fault : Fault
   pub response : r ≡ fault_response fault
   pub why : IsFault fault old new
@@ -92,7 +94,9 @@ BeginsWith input (Some h) rest = HasHead input h rest
 
 -- the response to what a reader has, with what became of the book, and what is told of the head and
 -- of the sender; a book that has to be opened again answers as `IsShutAnswer` says
-pub record IsExchange (audience : Audience) (old new : Standing) (known : Option (List ℕ)) (t : Moment) (r : Response) (line : Option RequestLine) (sender : Option Who) : Type 0 where
+pub record IsExchange
+    (audience : Audience) (old new : Standing) (known : Option (List ℕ)) (t : Moment) (r : Response)
+    (line : Option RequestLine) (sender : Option Who) : Type 0 where
   pub input : List ℕ
   pub is_input : IsInput known input
   pub head : Option RequestHead
@@ -105,7 +109,9 @@ pub record IsExchange (audience : Audience) (old new : Standing) (known : Option
   pub shut : IsShutAnswer old (asks_in audience head rest) r
 
 -- the same of a request whose head was read, with the first bytes of what is after it
-pub record IsExchangeAfter (audience : Audience) (old new : Standing) (known : Option (List ℕ)) (t : Moment) (h : RequestHead) (start : List ℕ) (r : Response) (sender : Option Who) : Type 0 where
+pub record IsExchangeAfter
+    (audience : Audience) (old new : Standing) (known : Option (List ℕ)) (t : Moment)
+    (h : RequestHead) (start : List ℕ) (r : Response) (sender : Option Who) : Type 0 where
   pub input : List ℕ
   pub is_input : IsInput known input
   pub sent : TellsSender sender (command_in audience (Some h) (start ++ input)) r
@@ -115,7 +121,10 @@ pub record IsExchangeAfter (audience : Audience) (old new : Standing) (known : O
 
 -- A response was written: it was that to what the reader had. What is told is its status, the line
 -- of the request, who sent the interchange that was handed in, and how many bytes the response has.
-pub record IsWritten (audience : Audience) (old new : Standing) (known : Option (List ℕ)) (t : Moment) (before later : Option (List ℕ)) (status : ℕ) (line : Option RequestLine) (sender : Option Who) (bytes : ℕ) : Type 0 where
+pub record IsWritten
+    (audience : Audience) (old new : Standing) (known : Option (List ℕ)) (t : Moment)
+    (before later : Option (List ℕ)) (status : ℕ) (line : Option RequestLine) (sender : Option Who)
+    (bytes : ℕ) : Type 0 where
   pub response : Response
   pub exchange : IsExchange audience old new known t response line sender
   pub status_of : status ≡ response.status
@@ -124,7 +133,9 @@ pub record IsWritten (audience : Audience) (old new : Standing) (known : Option 
 
 -- The reader failed: nothing was handed in or written, and the book is as it was. The line is told
 -- where the head was read.
-pub record IsUnread (old new : Standing) (known before later : Option (List ℕ)) (errors more : ℕ) (line : Option RequestLine) (sender : Option Who) (bytes : ℕ) : Type 0 where
+pub record IsUnread
+    (old new : Standing) (known before later : Option (List ℕ)) (errors more : ℕ)
+    (line : Option RequestLine) (sender : Option Who) (bytes : ℕ) : Type 0 where
   pub book : IsUnchanged old new
   pub nothing : later ≡ before
   pub grew : Grew errors more
@@ -134,7 +145,10 @@ pub record IsUnread (old new : Standing) (known before later : Option (List ℕ)
 
 -- The writer failed: a beginning of the response was written, of so many bytes, and the book is as
 -- the request left it.
-pub record IsUnwritten (audience : Audience) (old new : Standing) (known : Option (List ℕ)) (t : Moment) (before later : Option (List ℕ)) (errors more : ℕ) (line : Option RequestLine) (sender : Option Who) (bytes : ℕ) : Type 0 where
+pub record IsUnwritten
+    (audience : Audience) (old new : Standing) (known : Option (List ℕ)) (t : Moment)
+    (before later : Option (List ℕ)) (errors more : ℕ) (line : Option RequestLine)
+    (sender : Option Who) (bytes : ℕ) : Type 0 where
   pub response : Response
   pub exchange : IsExchange audience old new known t response line sender
   pub beginning : AppendsBeginning before later (response_bytes response) bytes

@@ -85,7 +85,8 @@ fn call_of_four<'p>(
     ticket: &'p [u8],
     number: &'p [u8],
 ) -> Option<Call<'p>>
-    ensures { option_map seen_call result ≡ meant.call_of_four name.now who.now ticket.now number.now }
+    ensures { option_map seen_call result ≡ meant.call_of_four name.now who.now ticket.now
+        number.now }
 {
     let kind = if name == b"count".as_slice() {
         SheetKind::Count

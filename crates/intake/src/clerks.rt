@@ -25,7 +25,8 @@ use store::{Fault, Keeper, Moment, submit};
 fn performed<K: Keeper>(alloc: Global, keeper: &mut K, slip: &Slip<'_>, moment: Moment) -> Response
     ensures answered { let c = command_of slip.now.who slip.now.deed slip.now.sheet in
         IsAnswered (K.standing keeper.old) (K.standing keeper.new) moment (Some c)
-        (λ L. deed_reply (reply_to Two (K.standing keeper.old).warehouse L c moment)) (seen result) }
+        (λ L. deed_reply (reply_to Two (K.standing keeper.old).warehouse L c moment))
+        (seen result) }
     ensures goes { GoesOn (K.standing keeper.old) (K.standing keeper.new) }
     ensures shut { (K.standing keeper.old).shut ≡ true → IsResponseOf Fault.Reopen (seen result) }
 {

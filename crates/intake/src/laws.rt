@@ -23,7 +23,8 @@ pub fn an_input_asks_for_one_thing()
 /// Whoever is served, an input has one answer: no two readings of its beginning differ in the
 /// command that is submitted, nor in the response.
 pub fn an_input_has_one_answer()
-    ensures commands { (audience : Audience) (input : List ℕ) (g h : Option RequestHead) (r s : List ℕ)
+    ensures commands { (audience : Audience) (input : List ℕ) (g h : Option RequestHead)
+        (r s : List ℕ)
         → BeginsWith input g r → BeginsWith input h s
         → command_in audience g r ≡ command_in audience h s }
     ensures answers { (audience : Audience) (W : Who) (L : List Entry) (t : Moment) (input : List ℕ)

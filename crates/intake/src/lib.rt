@@ -36,6 +36,6 @@ pub use looking::owner;
 pub use patience::Patience;
 pub use responding::respond;
 pub use response::{Allow, Body, MediaType, Response, Status};
-pub use served::{Connection, RequestLine, Served, write_partner, write_sender};
+pub use served::{Connection, RequestLine, Served, write_sender};
 pub use serving::{serve_one, serve_telling};
 pub use slips::act_of;

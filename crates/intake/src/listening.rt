@@ -130,8 +130,8 @@ fn serve_next<K: Keeper, Q: Clock>(
 /// `told` is handed exactly that many.
 ///
 /// So the book goes from connection to connection, of the very ones that are told, in their order:
-/// each is as `IsServed` says of its book before, which needn't be opened again, and after. Whatever
-/// ends it, the book is as the last of them left it.
+/// each is as `IsServed` says of its book before, which needn't be opened again, and after.
+/// Whatever ends it, the book is as the last of them left it.
 pub fn serve_within<
     K: Keeper,
     C: FnMut() -> Moment,
@@ -152,6 +152,7 @@ pub fn serve_within<
     requires clock { C.IsAlwaysCallable clock }
     requires told { T.IsAlwaysCallable told }
     requires admits { A.IsAlwaysCallable admits }
+
     ensures goes { GoesOn (K.standing keeper.old) (K.standing keeper.new) }
     ensures fault { IfErr result (λ fault. (fault ≡ Fault.Reopen) ⊎ (fault ≡ Fault.Device)) }
     ensures device { IsErrOf result Fault.Device → (x : A) × (y : A) × A.step x false y }
@@ -194,6 +195,7 @@ pub fn serve_count<K: Keeper, C: FnMut() -> Moment, T: FnMut(Connection)>(
 ) -> Result<(), Fault>
     requires clock { C.IsAlwaysCallable clock }
     requires told { T.IsAlwaysCallable told }
+
     ensures goes { GoesOn (K.standing keeper.old) (K.standing keeper.new) }
     ensures fault { IfErr result (λ fault. fault ≡ Fault.Reopen) }
     ensures opened { OnOk result ((K.standing keeper.new).shut ≡ false) }

@@ -27,8 +27,8 @@ use store::{Fault, Ident, Keeper, Need, Refusal, Who};
 // The export of what the depositor has that a part of a path names.
 fn export_at<K: Keeper>(alloc: Global, keeper: &mut K, who: &[u8]) -> Result<Response, Fault>
     ensures response { OfKept (K.standing keeper.old) (K.standing keeper.new)
-        (λ L. IfOk result (λ r. seen r ≡ found_for who.now (stock_of L) (λ rows. with_body 200 plain_type
-        (reports.stock_csv Two rows)))) }
+        (λ L. IfOk result (λ r. seen r ≡ found_for who.now (stock_of L)
+        (λ rows. with_body 200 plain_type (reports.stock_csv Two rows)))) }
     ensures query { IsQuery (K.standing keeper.old) (K.standing keeper.new) result }
     ensures shut { (K.standing keeper.old).shut ≡ true → is_some (who_of who.now) ≡ true
         → IsErrOf result Fault.Reopen }
@@ -72,7 +72,8 @@ fn order_at<K: Keeper>(
     number: &[u8],
 ) -> Result<Response, Fault>
     ensures response { OfKept (K.standing keeper.old) (K.standing keeper.new)
-        (λ L. IfOk result (λ r. seen r ≡ order_response L (owner_of who.now number.now) number.now)) }
+        (λ L. IfOk result (λ r. seen r ≡ order_response L (owner_of who.now number.now)
+        number.now)) }
     ensures query { IsQuery (K.standing keeper.old) (K.standing keeper.new) result }
     ensures shut { (K.standing keeper.old).shut ≡ true
         → is_some (owner_of who.now number.now) ≡ true

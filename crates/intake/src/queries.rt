@@ -23,8 +23,8 @@ use store::{Fault, Keeper, Who};
 // The stock report of the depositor that a part of a path names.
 fn stock_at<K: Keeper>(alloc: Global, keeper: &mut K, who: &str) -> Result<Response, Fault>
     ensures response { OfKept (K.standing keeper.old) (K.standing keeper.new)
-        (λ L. IfOk result (λ r. seen r ≡ found_for who.now (stock_of L) (λ rows. with_body 200 plain_type
-        (reports.stock_report Two rows)))) }
+        (λ L. IfOk result (λ r. seen r ≡ found_for who.now (stock_of L)
+        (λ rows. with_body 200 plain_type (reports.stock_report Two rows)))) }
     ensures query { IsQuery (K.standing keeper.old) (K.standing keeper.new) result }
     ensures shut { (K.standing keeper.old).shut ≡ true → is_some (who_of who.now) ≡ true
         → IsErrOf result Fault.Reopen }
@@ -41,7 +41,8 @@ fn stock_at<K: Keeper>(alloc: Global, keeper: &mut K, who: &str) -> Result<Respo
 // The list of what went out to the depositor that a part of a path names.
 fn outbox_at<K: Keeper>(alloc: Global, keeper: &mut K, who: &str) -> Result<Response, Fault>
     ensures response { OfKept (K.standing keeper.old) (K.standing keeper.new)
-        (λ L. IfOk result (λ r. seen r ≡ found_for who.now (outbox_of (K.standing keeper.old).warehouse L)
+        (λ L. IfOk result (λ r. seen r ≡ found_for who.now
+        (outbox_of (K.standing keeper.old).warehouse L)
         (λ rows. with_body 200 plain_type (reports.outbox_list rows)))) }
     ensures query { IsQuery (K.standing keeper.old) (K.standing keeper.new) result }
     ensures shut { (K.standing keeper.old).shut ≡ true → is_some (who_of who.now) ≡ true
@@ -80,8 +81,8 @@ fn content_of(text: Option<Option<Vec<u8>>>) -> Response
 // another names.
 fn content_at<K: Keeper>(keeper: &mut K, who: &str, n: &str) -> Result<Response, Fault>
     ensures response { OfKept (K.standing keeper.old) (K.standing keeper.new)
-        (λ L. IfOk result (λ r. seen r ≡ found_for who.now (outbox_of (K.standing keeper.old).warehouse L)
-        (content_response n.now))) }
+        (λ L. IfOk result (λ r. seen r ≡ found_for who.now
+        (outbox_of (K.standing keeper.old).warehouse L) (content_response n.now))) }
     ensures query { IsQuery (K.standing keeper.old) (K.standing keeper.new) result }
     ensures shut { (K.standing keeper.old).shut ≡ true
         → (is_some (who_of who.now) && is_plain_number n.now) ≡ true

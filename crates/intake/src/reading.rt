@@ -23,6 +23,7 @@ pub(crate) struct Unread;
 // One more read, after what is there.
 fn read_more<R: Read>(reader: &mut Gauge<R>, buf: &mut [u8], filled: usize) -> Result<usize, Unread>
     requires { filled < length buf.old }
+
     ensures within { IfOk result (λ n. filled + n ≤ length buf.new) }
     ensures before { take filled buf.new ≡ take filled buf.old }
     ensures bytes { IfOk result
@@ -43,7 +44,8 @@ fn read_more<R: Read>(reader: &mut Gauge<R>, buf: &mut [u8], filled: usize) -> R
 fn fill<R: Read>(reader: &mut Gauge<R>, buf: &mut [u8]) -> Result<usize, Unread>
     ensures within { IfOk result (λ n. n ≤ length buf.new) }
     ensures bytes { IfOk result
-        (λ n. Consumes (R.remaining reader.old.inner) (R.remaining reader.new.inner) (take n buf.new)) }
+        (λ n. Consumes (R.remaining reader.old.inner) (R.remaining reader.new.inner)
+        (take n buf.new)) }
     ensures end { IfOk result (λ n. n < length buf.new → IsAtEnd (R.remaining reader.new.inner)) }
     ensures count { OnErr result (Grew reader.old.errors reader.new.errors) }
     ensures quiet { OnOk result (reader.new.errors ≡ reader.old.errors) }
@@ -77,6 +79,7 @@ pub(crate) fn read_head<R: Read>(
 ) -> Result<Beginning, Unread>
     requires room { length buf.old ≡ most_head }
     requires fields { length fields.old ≡ most_fields }
+
     ensures within { IfOk result (λ read. read.filled ≤ length buf.new) }
     ensures bytes { IfOk result
         (λ read. Consumes (R.remaining reader.old.inner) (R.remaining reader.new.inner)

@@ -28,14 +28,15 @@ fn hand_in<K: Keeper>(
     moment: Moment,
 ) -> Result<Response, Fault>
     ensures response { OfKept (K.standing keeper.old) (K.standing keeper.new)
-        (λ L. IfOk result (λ r. seen r ≡ reply_response (reply_to Two (K.standing keeper.old).warehouse L
-        (Interchange body.now) moment))) }
+        (λ L. IfOk result (λ r. seen r ≡ reply_response
+        (reply_to Two (K.standing keeper.old).warehouse L (Interchange body.now) moment))) }
     ensures repeated { OfKept (K.standing keeper.old) (K.standing keeper.new)
-        (λ L. is_accepted (reply_to Two (K.standing keeper.old).warehouse L (Interchange body.now) moment)
+        (λ L. is_accepted (reply_to Two (K.standing keeper.old).warehouse L (Interchange body.now)
+        moment)
         ≡ false → OnOk result (IsUnchanged (K.standing keeper.old) (K.standing keeper.new))) }
     ensures taken { OfUsable (K.standing keeper.old) (K.standing keeper.new)
-        (λ L. OnOk result (IsUsable (K.standing keeper.new) (after Two (K.standing keeper.old).warehouse L
-        (Interchange body.now, moment)))) }
+        (λ L. OnOk result (IsUsable (K.standing keeper.new)
+        (after Two (K.standing keeper.old).warehouse L (Interchange body.now, moment)))) }
     ensures left { OfUsable (K.standing keeper.old) (K.standing keeper.new)
         (λ L. OnErr result (LeavesEither (K.standing keeper.new) L
         (after Two (K.standing keeper.old).warehouse L
@@ -66,12 +67,13 @@ fn posted<K: Keeper>(
     ensures repeated { is_exchange Post (seen_route route.now) ≡ true
         → OfKept (K.standing keeper.old)
         (K.standing keeper.new)
-        (λ L. is_accepted (reply_to Two (K.standing keeper.old).warehouse L (Interchange body.now) moment)
+        (λ L. is_accepted (reply_to Two (K.standing keeper.old).warehouse L (Interchange body.now)
+        moment)
         ≡ false → OnOk result (IsUnchanged (K.standing keeper.old) (K.standing keeper.new))) }
     ensures taken { is_exchange Post (seen_route route.now) ≡ true
         → OfUsable (K.standing keeper.old) (K.standing keeper.new)
-        (λ L. OnOk result (IsUsable (K.standing keeper.new) (after Two (K.standing keeper.old).warehouse L
-        (Interchange body.now, moment)))) }
+        (λ L. OnOk result (IsUsable (K.standing keeper.new)
+        (after Two (K.standing keeper.old).warehouse L (Interchange body.now, moment)))) }
     ensures left { is_exchange Post (seen_route route.now) ≡ true
         → OfUsable (K.standing keeper.old) (K.standing keeper.new)
         (λ L. OnErr result (LeavesEither (K.standing keeper.new) L
@@ -102,8 +104,8 @@ fn answered<K: Keeper>(
     moment: Moment,
 ) -> Result<Response, Fault>
     ensures response { OfKept (K.standing keeper.old) (K.standing keeper.new)
-        (λ L. IfOk result (λ r. seen r ≡ resp Two (K.standing keeper.old).warehouse L (seen_method method)
-        (seen_route route.now) body.now moment)) }
+        (λ L. IfOk result (λ r. seen r ≡ resp Two (K.standing keeper.old).warehouse L
+        (seen_method method) (seen_route route.now) body.now moment)) }
     ensures kept { is_exchange (seen_method method) (seen_route route.now) ≡ false
         → IsUnchanged (K.standing keeper.old) (K.standing keeper.new) }
     ensures repeated { is_exchange (seen_method method) (seen_route route.now) ≡ true
@@ -113,8 +115,8 @@ fn answered<K: Keeper>(
         → OnOk result (IsUnchanged (K.standing keeper.old) (K.standing keeper.new))) }
     ensures taken { is_exchange (seen_method method) (seen_route route.now) ≡ true
         → OfUsable (K.standing keeper.old) (K.standing keeper.new)
-        (λ L. OnOk result (IsUsable (K.standing keeper.new) (after Two (K.standing keeper.old).warehouse L
-        (Interchange body.now, moment)))) }
+        (λ L. OnOk result (IsUsable (K.standing keeper.new)
+        (after Two (K.standing keeper.old).warehouse L (Interchange body.now, moment)))) }
     ensures left { is_exchange (seen_method method) (seen_route route.now) ≡ true
         → OfUsable (K.standing keeper.old) (K.standing keeper.new)
         (λ L. OnErr result (LeavesEither (K.standing keeper.new) L

@@ -53,7 +53,9 @@ fn router(alloc: Global) -> Result<Router<RouteKind>, InsertError>
 
 // The part of the path that a name took.
 fn part_of<'p>(params: &Params<'_, 'p>, name: &str) -> &'p str
-    requires { let p = params.now in AllText (walk p.pattern.now p.text.now p.path.now p.names.now 0 0) }
+    requires { let p = params.now in AllText (walk p.pattern.now p.text.now p.path.now p.names.now 0
+        0) }
+
     ensures { let p = params.now in result.now
         ≡ part name.now (walk p.pattern.now p.text.now p.path.now p.names.now 0 0) }
 {
@@ -62,7 +64,9 @@ fn part_of<'p>(params: &Params<'_, 'p>, name: &str) -> &'p str
 
 // The route of a place, with the parts that the path has for it.
 fn route_at<'p>(place: RouteKind, params: &Params<'_, 'p>) -> Route<'p>
-    requires { let p = params.now in AllText (walk p.pattern.now p.text.now p.path.now p.names.now 0 0) }
+    requires { let p = params.now in AllText (walk p.pattern.now p.text.now p.path.now p.names.now 0
+        0) }
+
     ensures { let p = params.now in seen_route result
         ≡ route_by place (walk p.pattern.now p.text.now p.path.now p.names.now 0 0) }
 {

@@ -62,7 +62,8 @@ pub(crate) fn answer_at<K: Keeper>(
         ≡ sender_in (target_command (seen_method method) (seen_target target.now) body.now) }
     ensures goes { GoesOn (K.standing keeper.old) (K.standing keeper.new) }
     ensures shut { IsShutAnswer (K.standing keeper.old)
-        (target_asks (seen_method method) (seen_target target.now) body.now) (seen result.response) }
+        (target_asks (seen_method method) (seen_target target.now) body.now)
+        (seen result.response) }
 {
     let response = respond_to(alloc, keeper, method, target, body, moment);
     if !hands_in(method, target) {

@@ -18,7 +18,8 @@ fn send<W: Write>(writer: &mut Gauge<W>, bytes: &[u8]) -> Result<(), Unwritten>
     ensures whole { OnOk result
         (Appends (W.contents writer.old.inner) (W.contents writer.new.inner) bytes.now) }
     ensures beginning { IfErr result (λ stop.
-        AppendsBeginning (W.contents writer.old.inner) (W.contents writer.new.inner) bytes.now stop.sent) }
+        AppendsBeginning (W.contents writer.old.inner) (W.contents writer.new.inner) bytes.now
+        stop.sent) }
     ensures count { OnErr result (Grew writer.old.errors writer.new.errors) }
     ensures quiet { OnOk result (writer.new.errors ≡ writer.old.errors) }
 {
@@ -40,11 +41,13 @@ pub(crate) fn send_pieces<W: Write>(
     pieces: &[&[u8]],
 ) -> Result<u64, Unwritten>
     requires { length (joined pieces.now) < 2 ^ 64 }
+
     ensures whole { OnOk result
         (Appends (W.contents writer.old.inner) (W.contents writer.new.inner) (joined pieces.now)) }
     ensures counted { IfOk result (λ sent. sent ≡ length (joined pieces.now)) }
     ensures beginning { IfErr result (λ stop.
-        AppendsBeginning (W.contents writer.old.inner) (W.contents writer.new.inner) (joined pieces.now) stop.sent) }
+        AppendsBeginning (W.contents writer.old.inner) (W.contents writer.new.inner)
+        (joined pieces.now) stop.sent) }
     ensures count { OnErr result (Grew writer.old.errors writer.new.errors) }
     ensures quiet { OnOk result (writer.new.errors ≡ writer.old.errors) }
 {

@@ -34,23 +34,14 @@ pub struct Served {
     pub bytes: u64,
 }
 
-/// Writes a partner: `QQ-ID`, its qualifier and id. An error is the writer's, which then may have a
-/// beginning of it.
-pub fn write_partner<W: io::Write>(out: &mut W, who: &Who) -> io::Result<()>
-    ensures { OnOk result (Appends (W.contents out.old) (W.contents out.new) (who_text who.now)) }
-{
-    out.write_all(who.qualifier())?;
-    out.write_all(b"-")?;
-    out.write_all(who.id())
-}
-
 /// Writes who sent an interchange, as a line tells it: `QQ-ID`, or `-` where nobody is told. An
 /// error is the writer's, which then may have a beginning of it.
 pub fn write_sender<W: io::Write>(out: &mut W, sender: &Option<Who>) -> io::Result<()>
-    ensures { OnOk result (Appends (W.contents out.old) (W.contents out.new) (sender_text sender.now)) }
+    ensures { OnOk result (Appends (W.contents out.old) (W.contents out.new)
+        (sender_text sender.now)) }
 {
     match sender {
-        Some(who) => write_partner(out, who),
+        Some(who) => out.write_all(who.text()),
         None => out.write_all(b"-"),
     }
 }

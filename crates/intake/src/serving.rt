@@ -37,6 +37,7 @@ fn answer<R: Read, K: Keeper>(
     moment: Moment,
 ) -> Result<Replied, Unread>
     requires { IsRequestWithin got.now fields.now spans.now }
+
     ensures answered { IfOk result
         (λ replied. (h : RequestHead) → IsRequestAt got.now fields.now spans.now h
         → IsExchangeAfter audience (K.standing keeper.old) (K.standing keeper.new)
@@ -91,6 +92,7 @@ fn copied_line(
     spans: &RequestSpans,
 ) -> Option<RequestLine>
     requires { IsRequestWithin got.now fields.now spans.now }
+
     ensures { IfSome result (IsLineAt got.now spans.now) }
 {
     let method = copied(alloc, spans.method.of(got))?;
@@ -117,10 +119,12 @@ fn receive<R: Read, K: Keeper>(
     moment: Moment,
 ) -> Received
     ensures answered { IfOk result.replied (λ replied.
-        IsExchange audience (K.standing keeper.old) (K.standing keeper.new) (R.remaining reader.old.inner) moment
-        (seen replied.response) result.line replied.sender) }
-    ensures line { OnErr result.replied (IfSome result.line (HasLine (R.remaining reader.old.inner))) }
-    ensures same { OnErr result.replied (IsUnchanged (K.standing keeper.old) (K.standing keeper.new)) }
+        IsExchange audience (K.standing keeper.old) (K.standing keeper.new)
+        (R.remaining reader.old.inner) moment (seen replied.response) result.line replied.sender) }
+    ensures line { OnErr result.replied (IfSome result.line
+        (HasLine (R.remaining reader.old.inner))) }
+    ensures same { OnErr result.replied (IsUnchanged (K.standing keeper.old)
+        (K.standing keeper.new)) }
     ensures count { OnErr result.replied (Grew reader.old.errors reader.new.errors) }
     ensures goes { GoesOn (K.standing keeper.old) (K.standing keeper.new) }
 {
@@ -169,7 +173,8 @@ pub fn serve_telling<R: Read, W: Write, K: Keeper>(
     moment: Moment,
 ) -> Served
     ensures written { IfOk result.outcome (λ status.
-        IsWritten audience (K.standing keeper.old) (K.standing keeper.new) (R.remaining reader.old.inner) moment
+        IsWritten audience (K.standing keeper.old) (K.standing keeper.new)
+        (R.remaining reader.old.inner) moment
         (W.contents writer.old.inner) (W.contents writer.new.inner) status result.line result.sender
         result.bytes) }
     ensures stopped { OnErr result.outcome (

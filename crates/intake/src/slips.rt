@@ -46,7 +46,8 @@ pub(crate) fn slip_of<'p>(
 ) -> Result<Result<Slip<'p>, Response>, AllocError>
     ensures made { IfOk result
         (λ made. IfOk made (λ slip. meant.deed_of deed.now.kind deed.now.who.now
-        deed.now.ticket.now deed.now.number.now text.now ≡ Ok (command_of slip.who slip.deed slip.sheet))) }
+        deed.now.ticket.now deed.now.number.now text.now ≡ Ok
+        (command_of slip.who slip.deed slip.sheet))) }
     ensures refused { IfOk result
         (λ made. IfErr made (λ response. meant.deed_of deed.now.kind deed.now.who.now
         deed.now.ticket.now deed.now.number.now text.now ≡ Err (seen response))) }

@@ -53,9 +53,6 @@ follows_itself : (r : Rules) → may_follow r r ≡ true
 follows_itself One = refl
 follows_itself Two = refl
 
-from_first : (r : Rules) → may_follow One r ≡ true
-from_first r = refl
-
 -- an entry more whose rules no entry is above
 one_after : (s : Rules) (L : List Entry) (e : Entry) → may_follow s e.rules ≡ true → never_fall s L ≡ true → follows_all e.rules L ≡ true → never_fall s (L ++ e ∷ []) ≡ true
 one_after s [] e f h k = both_true f refl

@@ -1,5 +1,5 @@
 ghost use Rattle.std.specs.Prelude.{◌≡◌};
-ghost use Rattle.profile.specs.Refusals.{OutOfMemory, fault_number, fault_name, fault_line};
+ghost use Rattle.profile.specs.Refusals.{OutOfMemory, fault_number, fault_numbered, fault_name, fault_line};
 
 use std::alloc::AllocError;
 
@@ -17,6 +17,15 @@ pub enum Fault {
     /// 44: a reader, a writer, a file or a socket failed.
     Device,
 }
+
+/// All of them.
+pub const FAULTS: [Fault; 5] = [
+    Fault::OutOfMemory,
+    Fault::Store,
+    Fault::Reopen,
+    Fault::NotThisBook,
+    Fault::Device,
+];
 
 impl From<AllocError> for Fault {
     ghost from_gives = { λ _ fault. fault ≡ OutOfMemory };
@@ -38,6 +47,16 @@ impl Fault {
             Fault::NotThisBook => 43,
             Fault::Device => 44,
         }
+    }
+
+    /// The fault of this number, if it is one's.
+    pub fn numbered(number: u64) -> Option<Fault>
+        ensures { result ≡ fault_numbered number }
+    {
+        FAULTS
+            .iter()
+            .copied()
+            .find(|fault| u64::from(fault.number()) == number)
     }
 
     /// Its name.

@@ -1,5 +1,5 @@
 ghost use Rattle.std.specs.Prelude.{◌≡◌, IfOk};
-ghost use Rattle.profile.specs.Refusals.{Note, refusal_number, refusal_name, plain_name, refusal_line};
+ghost use Rattle.profile.specs.Refusals.{Note, refusal_number, refusal_numbered, refusal_name, plain_name, refusal_line};
 
 use crate::numbers::zero_filled;
 use crate::widths::NOTE_DIGITS;
@@ -48,6 +48,28 @@ pub enum Refusal {
     AlreadyEnrolled,
 }
 
+/// Those that are told by number: all but a note, which is told by an interchange.
+pub const NUMBERED: [Refusal; 18] = [
+    Refusal::Unreadable,
+    Refusal::Duplicate,
+    Refusal::UnknownDepositor,
+    Refusal::TicketUsed,
+    Refusal::UnknownAdvice,
+    Refusal::AdviceClosed,
+    Refusal::UnknownOrder,
+    Refusal::OrderClosed,
+    Refusal::NotReserved,
+    Refusal::UnknownLot,
+    Refusal::BelowReserved,
+    Refusal::NoDifference,
+    Refusal::TooMuch,
+    Refusal::RepeatedLine,
+    Refusal::BadText,
+    Refusal::TooManyLines,
+    Refusal::NumbersUsedUp,
+    Refusal::AlreadyEnrolled,
+];
+
 // `Note(006)`, with the code in three digits.
 fn note_name(alloc: Global, code: u8) -> Result<Vec<u8>, AllocError>
     ensures { IfOk result (λ name. name.items ≡ refusal_name (Note code)) }
@@ -85,6 +107,17 @@ impl Refusal {
             Refusal::NumbersUsedUp => 34,
             Refusal::AlreadyEnrolled => 35,
         }
+    }
+
+    /// The refusal of this number, if it is one's. A note has its code beside its number, so there
+    /// is none for 2.
+    pub fn numbered(number: u64) -> Option<Refusal>
+        ensures { result ≡ refusal_numbered number }
+    {
+        NUMBERED
+            .iter()
+            .copied()
+            .find(|refusal| u64::from(refusal.number()) == number)
     }
 
     // Its name without a note's code.

@@ -60,6 +60,7 @@ pub(crate) struct Said {
 /// read.
 pub(crate) fn said_of(buf: &[u8], fields: &[HeaderSpan]) -> Result<Said, Unanswered>
     requires { All (IsHeaderWithin (length buf.now)) fields.now }
+
     ensures { IfOk result (Says (map (header_bytes buf.now) fields.now)) }
 {
     let Values::Absent = values_of(buf, fields, b"Transfer-Encoding") else {

@@ -7,7 +7,8 @@ ghost use Rattle.remote.specs.declared.answers.ServerAnswer.{ServerAnswer};
 
 /// An input has one answer: no two readings of it differ in what they say.
 pub fn an_input_is_read_as_one_answer()
-    ensures { (input : List ℕ) (a b : ServerAnswer) → IsAnswer (Some input) a → IsAnswer (Some input) b
+    ensures { (input : List ℕ) (a b : ServerAnswer) → IsAnswer (Some input) a → IsAnswer
+        (Some input) b
         → IsSame a b }
 {}
 

@@ -38,10 +38,12 @@ fn read_some<R: Read>(reader: &mut R, buf: &mut [u8]) -> Result<usize, Unanswere
 // One more read, after what is there.
 fn read_more<R: Read>(reader: &mut R, buf: &mut [u8], filled: usize) -> Result<usize, Unanswered>
     requires { filled < length buf.old }
+
     ensures within { IfOk result (λ n. filled + n ≤ length buf.new) }
     ensures before { take filled buf.new ≡ take filled buf.old }
     ensures bytes { IfOk result
-        (λ n. Consumes (R.remaining reader.old) (R.remaining reader.new) (take n (drop filled buf.new))) }
+        (λ n. Consumes (R.remaining reader.old) (R.remaining reader.new)
+        (take n (drop filled buf.new))) }
 {
     read_some(reader, &mut buf[filled..])
 }
@@ -55,8 +57,8 @@ pub(crate) struct Beginning {
     pub spans: ResponseSpans,
 }
 
-/// Reads the head of a response, of at most `MOST_HEAD` bytes and `MOST_FIELDS` fields, with perhaps
-/// some of what is after it. Device where the reader fails, or begins with no such head.
+/// Reads the head of a response, of at most `MOST_HEAD` bytes and `MOST_FIELDS` fields, with
+/// perhaps some of what is after it. Device where the reader fails, or begins with no such head.
 pub(crate) fn read_head<R: Read>(
     reader: &mut R,
     buf: &mut [u8],
@@ -64,9 +66,11 @@ pub(crate) fn read_head<R: Read>(
 ) -> Result<Beginning, Unanswered>
     requires room { length buf.old ≡ most_head }
     requires fields { length fields.old ≡ most_fields }
+
     ensures within { IfOk result (λ read. read.filled ≤ length buf.new) }
     ensures bytes { IfOk result
-        (λ read. Consumes (R.remaining reader.old) (R.remaining reader.new) (take read.filled buf.new)) }
+        (λ read. Consumes (R.remaining reader.old) (R.remaining reader.new)
+        (take read.filled buf.new)) }
     ensures head { IfOk result
         (λ read. IsResponseOf (take read.filled buf.new) fields.new read.spans) }
     ensures spans { IfOk result

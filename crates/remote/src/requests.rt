@@ -53,7 +53,8 @@ fn post_pieces<'a>(path: &'a str, host: &'a str, digits: &'a [u8], body: &'a [u8
 
 // Writes these pieces one after the other.
 fn write_pieces<W: Write>(writer: &mut W, pieces: &[&[u8]]) -> io::Result<()>
-    ensures { OnOk result (Appends (W.contents writer.old) (W.contents writer.new) (joined pieces.now)) }
+    ensures { OnOk result (Appends (W.contents writer.old) (W.contents writer.new)
+        (joined pieces.now)) }
 {
     for piece in pieces {
         writer.write_all(piece)?;

@@ -8,10 +8,10 @@ use std::alloc::{AllocError, Global};
 use store::Who;
 
 // Appends the line of a depositor.
-fn append_who(alloc: Global, out: &mut Vec<u8>, who: &Who) -> Result<(), AllocError>
+fn append_who(out: &mut Vec<u8>, who: &Who) -> Result<(), AllocError>
     ensures { OnOk result (out.new.items ≡ out.old.items ++ ended (who_text who.now)) }
 {
-    out.extend_from_slice(&who.text(alloc)?)?;
+    out.extend_from_slice(who.text())?;
     out.push(b'\n')?;
     Ok(())
 }
@@ -23,7 +23,7 @@ pub fn depositor_list(alloc: Global, whos: &[Who]) -> Result<Vec<u8>, AllocError
 {
     let mut text = Vec::new(alloc);
     for who in whos {
-        append_who(alloc, &mut text, who)?;
+        append_who(&mut text, who)?;
     }
     Ok(text)
 }

@@ -33,6 +33,7 @@ fn write_row(writer: &mut Writer<Vec<u8>>, row: &StockRow) -> Result<(), Error>
 // Writes the record of headings and those of the rows.
 fn write_rows(writer: &mut Writer<Vec<u8>>, rows: &[StockRow]) -> Result<(), Error>
     requires { Holds writer.old [] }
+
     ensures { OnOk result (Holds writer.new (meant.stock_csv Two rows.now)) }
 {
     writer.write_fields(&[

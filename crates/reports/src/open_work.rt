@@ -60,7 +60,8 @@ fn append_advice(out: &mut Vec<u8>, advice: &KnownAdvice) -> Result<(), AllocErr
 // Appends the headings of advices, and the lines of those that are open.
 fn append_advices(out: &mut Vec<u8>, advices: &[KnownAdvice]) -> Result<(), AllocError>
     ensures { OnOk result (out.new.items ≡ out.old.items
-        ++ (meant.advice_headings ++ flat_map meant.advice_line (filter (λ a. a.is_open) advices.now))) }
+        ++ (meant.advice_headings ++ flat_map meant.advice_line
+        (filter (λ a. a.is_open) advices.now))) }
 {
     append_advice_columns(out, b"advice", b"lines", b"expected", b"order")?;
     for advice in advices {
@@ -119,7 +120,8 @@ fn append_short_part(
     reserved: &[Goods],
     line: &KnownLine,
 ) -> Result<(), AllocError>
-    ensures { OnOk result (out.new.items ≡ out.old.items ++ meant.short_part reserved.now line.now) }
+    ensures { OnOk result (out.new.items ≡ out.old.items ++ meant.short_part reserved.now
+        line.now) }
 {
     let short = short_of(reserved, line);
     if short == 0 {
@@ -143,7 +145,8 @@ fn append_order(out: &mut Vec<u8>, order: &KnownOrder) -> Result<(), AllocError>
 // Appends the headings of orders, and those that are open.
 fn append_orders(out: &mut Vec<u8>, orders: &[KnownOrder]) -> Result<(), AllocError>
     ensures { OnOk result (out.new.items ≡ out.old.items
-        ++ (meant.order_headings ++ flat_map meant.order_part (filter (λ k. k.is_open) orders.now))) }
+        ++ (meant.order_headings ++ flat_map meant.order_part
+        (filter (λ k. k.is_open) orders.now))) }
 {
     append_order_columns(out, b"order", b"lines", b"ship to")?;
     for order in orders {

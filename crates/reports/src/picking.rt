@@ -35,7 +35,8 @@ impl From<AllocError> for NoSheet {
 
 // Appends the text and LF.
 fn append_ended(out: &mut Vec<u8>, beginning: &[u8], text: &[u8]) -> Result<(), AllocError>
-    ensures { OnOk result (out.new.items ≡ out.old.items ++ meant.ended (beginning.now ++ text.now)) }
+    ensures { OnOk result (out.new.items ≡ out.old.items ++ meant.ended
+        (beginning.now ++ text.now)) }
 {
     out.extend_from_slice(beginning)?;
     out.extend_from_slice(text)?;
@@ -76,7 +77,8 @@ fn append_destination(out: &mut Vec<u8>, order: &KnownOrder) -> Result<(), Alloc
 
 // Appends a line of the sheet.
 fn append_line(out: &mut Vec<u8>, item: &[u8], lot: &[u8], quantity: u32) -> Result<(), AllocError>
-    ensures { OnOk result (out.new.items ≡ out.old.items ++ meant.pick_line item.now lot.now quantity) }
+    ensures { OnOk result (out.new.items ≡ out.old.items ++ meant.pick_line item.now lot.now
+        quantity) }
 {
     let mut buffer = Buffer::new();
     append_left(out, item, MOST_ITEM)?;
@@ -90,7 +92,8 @@ fn append_line(out: &mut Vec<u8>, item: &[u8], lot: &[u8], quantity: u32) -> Res
 
 // Appends a line for each reservation of the item.
 fn append_held(out: &mut Vec<u8>, reserved: &[Goods], item: &[u8]) -> Result<(), AllocError>
-    ensures { OnOk result (out.new.items ≡ out.old.items ++ held_lines (held_of reserved.now item.now)) }
+    ensures { OnOk result (out.new.items ≡ out.old.items ++ held_lines
+        (held_of reserved.now item.now)) }
 {
     for line in reserved {
         if line.item.as_slice() == item {

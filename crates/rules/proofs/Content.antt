@@ -16,7 +16,7 @@ use Rattle.profile.specs.Structure.{Group, group_of, groups_of}
 use Rattle.profile.specs.Halt.{structure_note, is_content_invalid}
 use Rattle.sets_in.specs.Amounts.{IsAmount}
 use Rattle.sets_in.proofs.Sound.{amount_of, first_row, taken, not_false, wider}
-use Rattle.rules.specs.Judging.{IsSmall}
+use Rattle.sets_taken.specs.Judging.{IsSmall}
 
 -- GE01 of a GE that is well formed
 none_is : {X : Type 0} (o : Option X) → is_none o ≡ true → o ≡ None

@@ -21,13 +21,14 @@ use Rattle.sets_out.proofs.TextLaws.{answer-told}
 use Rattle.stock.specs.Pages.{PageFacts}
 use Rattle.stock.specs.Parts.{Named, IsPart}
 use Rattle.stock.specs.declared.steps.Change.{Change}
-use Rattle.rules.specs.Needs.{NamesGroups, HasNeeded}
+use Rattle.sets_taken.specs.SetNames.{NamesGroups}
+use Rattle.rules.specs.Needs.{HasNeeded}
 use Rattle.profile.specs.Lists.{or_else}
 use Rattle.profile.specs.Halt.{header_notes, structure_notes, structure_note}
 use Rattle.envelope.specs.Conditions.{first_note}
 use Rattle.envelope.specs.Halting.{first_appended}
 use Rattle.rules.specs.Written.{Written, Recalled, written_as}
-use Rattle.rules.specs.Judging.{AreGroupsTaken}
+use Rattle.sets_taken.specs.Judging.{AreGroupsTaken}
 use Rattle.rules.specs.Decided.{IsPageOf, IsEntry, StandsFor, IsRecalled, IsUnder, IsGiven, IsReply, entries_of}
 use Rattle.rules.specs.declared.decisions.Decision.{Decision}
 

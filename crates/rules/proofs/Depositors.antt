@@ -22,8 +22,8 @@ use Rattle.stock.proofs.Keys.{IsTest, find_put, put_rises}
 use Rattle.stock.proofs.KeyLemmas.{texts_strict}
 use Rattle.rules.specs.Played.{CanFollow}
 use Rattle.rules.proofs.Registers.{Along1, follows_own, who_is, same_who}
-use Rattle.rules.proofs.KeyedLists.{last_found, order_rises, find_ordered, same_found}
-use Rattle.rules.proofs.Blocks.{IsSplit, split}
+use Rattle.sets_taken.proofs.KeyedLists.{last_found, order_rises, find_ordered, same_found}
+use Rattle.sets_taken.proofs.Blocks.{IsSplit, split}
 
 -- Who enrolled.
 

@@ -19,10 +19,10 @@ use Rattle.stock.specs.Puts.{put_change}
 use Rattle.stock.specs.declared.steps.Change.{Change}
 use Rattle.stock.specs.declared.steps.Change.TheVariants.{Stock, Advice, Order, Sent, Document}
 use Rattle.rules.specs.Lasting.{is_of, is_replaced, lasting, HasPairsOnce, HaveRows, AreMarked}
-use Rattle.rules.specs.Proper.{KeepsDate, AreProper}
+use Rattle.sets_taken.specs.Proper.{KeepsDate, AreProper}
 use Rattle.rules.specs.Decided.{IsPageOf, AreLeading}
-use Rattle.rules.proofs.Dates.{AreKept, date_put, same_kept}
-use Rattle.rules.proofs.KeyedLists.{same_found}
+use Rattle.sets_taken.proofs.Dates.{AreKept, date_put, same_kept}
+use Rattle.sets_taken.proofs.KeyedLists.{same_found}
 
 -- Pairs.
 

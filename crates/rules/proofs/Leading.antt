@@ -19,9 +19,10 @@ use Rattle.stock.specs.Puts.{put}
 use Rattle.stock.specs.Shows.{Shows}
 use Rattle.stock.proofs.PageLemmas.{next_shows}
 use Rattle.stock.specs.Parts.{Named, IsPart}
-use Rattle.rules.specs.Needs.{NamesGroups, NamesAct}
-use Rattle.rules.specs.Judging.{after, AreGroupsTaken}
-use Rattle.rules.specs.Proper.{AreProper}
+use Rattle.sets_taken.specs.SetNames.{NamesGroups}
+use Rattle.rules.specs.Needs.{NamesAct}
+use Rattle.sets_taken.specs.Judging.{after, AreGroupsTaken}
+use Rattle.sets_taken.specs.Proper.{AreProper}
 use Rattle.rules.specs.Decided.{Makes, IsPageOf, IsNoEntry, AreLeading, LeadsOn, LeadsFrom, ChangesNothing}
 use Rattle.rules.specs.declared.decisions.Decision.{Decision}
 use Rattle.rules.specs.declared.decisions.Decision.TheVariants.{Stored, Refused, Accepted}

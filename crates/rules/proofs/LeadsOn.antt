@@ -28,18 +28,19 @@ use Rattle.stock.specs.declared.steps.Change.{Change}
 use Rattle.stock.proofs.Texts.{texts_never}
 use Rattle.rules.specs.Needs.{HasNeeded}
 use Rattle.rules.specs.Decided.{IsPageOf, AreLeading, StandsFor, LeadsFrom, led_to}
-use Rattle.rules.specs.Tabled.{table_changes, LeadsInTables}
+use Rattle.sets_taken.specs.Tabled.{table_changes}
+use Rattle.rules.specs.Decided.{LeadsInTables}
 use Rattle.rules.specs.declared.decisions.Decision.{Decision}
 use Rattle.rules.specs.declared.decisions.Decision.TheVariants.{Stored, Refused, Accepted}
 use Rattle.rules.proofs.Follows.{legal_follow, own_sender}
 use Rattle.rules.proofs.Plays.{clean_read}
 use Rattle.rules.proofs.Registers.{who_is, own_with, own_without, done_own}
-use Rattle.rules.proofs.Rowed.{rows_in_order}
+use Rattle.sets_taken.proofs.Rowed.{rows_in_order}
 use Rattle.rules.proofs.Once.{advices_once, orders_once}
 use Rattle.rules.proofs.Paged.{advices_are_page, orders_are_page}
-use Rattle.rules.proofs.Blocks.{prefixed, blocks, blocks_below, blocks_above}
-use Rattle.rules.proofs.TableSteps.{Sides, IsBeside, framed, eleven, Others, AreBeside, of_page}
-use Rattle.rules.proofs.TableChanges.{steps, sorted_with_all}
+use Rattle.sets_taken.proofs.Blocks.{prefixed, blocks, blocks_below, blocks_above}
+use Rattle.sets_taken.proofs.TableSteps.{Sides, IsBeside, framed, eleven, Others, AreBeside, of_page}
+use Rattle.sets_taken.proofs.TableChanges.{steps, sorted_with_all}
 use Rattle.rules.proofs.Depositors.{IsAmong, among, partner_of, unnumbered}
 use Rattle.rules.proofs.SentRows.{entry_put, entry_rules_put, row_put, all_framed, AreStates, rows_led, new_lower}
 

@@ -19,9 +19,10 @@ use Rattle.profile.proofs.NeedLaws.{Within, alone, in_left, in_right, within_lef
 use Rattle.profile.proofs.NamesLaws.{TwoAtLeast, advice_items, document_named, names_groups, need_of_group, need_of_groups, need_of_set, order_items, order_named, shipment_named, two_segments}
 use Rattle.stock.specs.Pages.{PageFacts, IsSound, advice_at, is_in_lines, is_number, order_at}
 use Rattle.stock.specs.Parts.{IsClosed, IsPart, Named, are_items}
-use Rattle.rules.specs.Needs.{NamesAct, NamesFor, NamesGroups, NamesJudged, NamesSet, NamesSets, NamesUnder}
+use Rattle.rules.specs.Needs.{NamesAct, NamesFor}
+use Rattle.sets_taken.specs.SetNames.{NamesGroups, NamesJudged, NamesSet, NamesSets, NamesUnder}
 use Rattle.rules.specs.Naming.{as_page, named_of}
-use Rattle.rules.proofs.KeyedLists.{all_found}
+use Rattle.sets_taken.proofs.KeyedLists.{all_found}
 use Rattle.rules.proofs.NamesFound.{all_among, found_among, mapped, one_of_all, others_closed, those_closed}
 
 module _ (need : Need) (P : PageFacts) where

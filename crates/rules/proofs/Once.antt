@@ -13,8 +13,8 @@ use Rattle.profile.specs.History.{History, after_entry, events, events_added}
 use Rattle.profile.proofs.TextLaws.{text_is}
 use Rattle.rules.specs.Played.{no_history}
 use Rattle.rules.proofs.Plays.{added_of}
-use Rattle.rules.proofs.Added.{IsOfSet, AreOfSets, IsOfAct, of_received, of_performed}
-use Rattle.rules.proofs.KeyedLists.{Once, once_more}
+use Rattle.sets_taken.proofs.Added.{IsOfSet, AreOfSets, IsOfAct, of_received, of_performed}
+use Rattle.sets_taken.proofs.KeyedLists.{Once, once_more}
 
 -- what a set's event has only where no earlier event has it, and no other event
 pub record IsNew {Y : Type 0} (f : Event → Option Y) : Type 0 where

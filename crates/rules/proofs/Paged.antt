@@ -13,7 +13,7 @@ use Rattle.stock.specs.Shows.{Shows}
 use Rattle.stock.proofs.Keys.{IsTest}
 use Rattle.stock.proofs.KeyLemmas.{texts_strict, shipment_test, number_test}
 use Rattle.stock.proofs.Finds.{or_else_none}
-use Rattle.rules.proofs.KeyedLists.{Once, last_found, once_last, find_map, rises_map, order_rises, find_ordered, same_found}
+use Rattle.sets_taken.proofs.KeyedLists.{Once, last_found, once_last, find_map, rises_map, order_rises, find_ordered, same_found}
 
 -- Advices.
 

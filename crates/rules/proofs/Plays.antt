@@ -27,7 +27,7 @@ use Rattle.stock.specs.declared.steps.Change.{Change}
 use Rattle.stock.proofs.PartLemmas.{part_of_self}
 use Rattle.stock.specs.Shows.{Shows}
 use Rattle.rules.specs.Written.{Written, written_as}
-use Rattle.rules.specs.Judging.{AreGroupsTaken, after}
+use Rattle.sets_taken.specs.Judging.{AreGroupsTaken, after}
 use Rattle.rules.proofs.Whole.{all_groups}
 use Rattle.rules.specs.Decided.{IsPageOf}
 use Rattle.rules.specs.Played.{number_after, IsBefore, IsPlayed, IsReplayed, is_clean}

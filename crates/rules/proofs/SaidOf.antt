@@ -26,9 +26,9 @@ use Rattle.stock.specs.declared.steps.Change.TheVariants.{Stock, Advice, Order, 
 use Rattle.stock.proofs.Finds.{first_found-append, or_else_none, found_says}
 use Rattle.stock.proofs.KeyLemmas.{document_put, sent_found}
 use Rattle.rules.specs.Played.{no_history}
-use Rattle.rules.specs.Proper.{AreProper}
+use Rattle.sets_taken.specs.Proper.{AreProper}
 use Rattle.rules.proofs.Plays.{added_of}
-use Rattle.rules.proofs.Added.{AreOfSets, IsOfSet, IsOfAct, of_received, of_performed}
+use Rattle.sets_taken.proofs.Added.{AreOfSets, IsOfSet, IsOfAct, of_received, of_performed}
 use Rattle.rules.proofs.SentUnder.{numbered_le}
 
 -- Later entries' documents.

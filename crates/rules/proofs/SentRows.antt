@@ -25,13 +25,13 @@ use Rattle.stock.specs.Puts.{put_change}
 use Rattle.stock.specs.Shows.{Shows, sent_under, document_of}
 use Rattle.stock.specs.declared.steps.Change.{Change}
 use Rattle.stock.specs.declared.steps.Change.TheVariants.{Stock, Advice, Order, Sent, Document}
-use Rattle.rules.specs.Proper.{AreProper}
-use Rattle.rules.proofs.KeyedLists.{both}
-use Rattle.rules.proofs.Tables.{last_cell}
-use Rattle.rules.proofs.Blocks.{prefixed, is_below, is_above, put_row_by, put_map, put_within}
-use Rattle.rules.proofs.Portions.{rest_in}
-use Rattle.rules.proofs.TableSteps.{Sides, IsBeside, framed, text_apart}
-use Rattle.rules.proofs.TableChanges.{said_in}
+use Rattle.sets_taken.specs.Proper.{AreProper}
+use Rattle.sets_taken.proofs.KeyedLists.{both}
+use Rattle.sets_taken.proofs.Tables.{last_cell}
+use Rattle.sets_taken.proofs.Blocks.{prefixed, is_below, is_above, put_row_by, put_map, put_within}
+use Rattle.sets_taken.proofs.Portions.{rest_in}
+use Rattle.sets_taken.proofs.TableSteps.{Sides, IsBeside, framed, text_apart}
+use Rattle.sets_taken.proofs.TableChanges.{said_in}
 use Rattle.rules.proofs.Registers.{Along1, IsDone, along_at}
 use Rattle.rules.proofs.SentUnder.{sent_of, sent_at}
 use Rattle.rules.proofs.SaidOf.{said_by, said_stays, said_above, decided_row, all_decided, decided_state, untouched, untouched_new}

@@ -20,7 +20,7 @@ use Rattle.stock.specs.Shows.{sent_if, sent_under}
 use Rattle.stock.proofs.Finds.{first_found-append, or_else_none}
 use Rattle.rules.specs.Played.{no_history}
 use Rattle.rules.proofs.Plays.{added_of}
-use Rattle.rules.proofs.Added.{AreOfSets, IsOfSet, of_received, of_performed}
+use Rattle.sets_taken.proofs.Added.{AreOfSets, IsOfSet, of_received, of_performed}
 use Rattle.rules.proofs.Registers.{Along1, IsDone, done_own, along_at}
 
 -- what a deed sends

@@ -1,13 +1,9 @@
 -- Whom a readable interchange names.
 use Rattle.std.proofs.Common.{◌≡◌, ℕ, Bool, true, false, List, refl, sym, ◌∙◌, ap, Option, Some, None}
 use Rattle.std.specs.Prelude.{option_map, if◌then◌else◌}
-use Rattle.profile.specs.declared.rules.Rules.{Rules}
 use Rattle.profile.specs.Header.{Who, is_unreadable, is_partner, sender, isa}
-use Rattle.profile.specs.Moments.{Moment}
 use Rattle.profile.specs.Register.{Interchange, command_mark, interchange_mark}
 use Rattle.profile.specs.Accepted.{subject}
-use Rattle.profile.specs.Reply.{interchange_entry}
-use Rattle.rules.specs.Written.{Written, written_as}
 use Rattle.rules.specs.Asked.{sender_named, mark_of}
 use Rattle.rules.specs.declared.commands.Key.{Key}
 use Rattle.std.specs.Prelude.{MatchOption}
@@ -34,11 +30,3 @@ named_is text w h = by_test (is_partner (sender text)) refl h
     by_test : (b : Bool) → is_partner (sender text) ≡ b → Some w ≡ (if b then Some (sender text) else None) → w ≡ sender text
     by_test true e g = cc
     by_test false e g = absurd (cc)
-
--- an entry of these parts is that of the interchange
-pub entry_named : (r : Rules) (text header : List ℕ) (w : Who) (n : ℕ) (t : Moment) (e : Written) → header ≡ text → Some w ≡ sender_named header
-    → e ≡ record { who = w; key = interchange_mark (isa header 13); n = n; moment = t; body = text; rules = r } → e ≡ written_as n (interchange_entry r text t)
-entry_named r text header w n t e same is made =
-    let whose : w ≡ sender text = named_is text w (is ∙ ap sender_named same) in
-    made ∙ ap (λ (x : List ℕ). record { who = w; key = interchange_mark (isa x 13); n = n; moment = t; body = text; rules = r }) same
-    ∙ ap (λ (x : Who). record { who = x; key = interchange_mark (isa text 13); n = n; moment = t; body = text; rules = r }) whose

@@ -12,7 +12,8 @@ use Rattle.stock.specs.Pages.{PageFacts, IsSound}
 use Rattle.stock.specs.Parts.{all_named}
 use Rattle.stock.proofs.PartLemmas.{part_of_self, all_items, all_ordered}
 use Rattle.rules.specs.Decided.{IsHeldPart, IsPageOf, StandsFor}
-use Rattle.rules.specs.Needs.{NamesSet, NamesJudged, NamesUnder, NamesSets, NamesGroups, NamesAct}
+use Rattle.sets_taken.specs.SetNames.{NamesSet, NamesJudged, NamesUnder, NamesSets, NamesGroups}
+use Rattle.rules.specs.Needs.{NamesAct}
 use Rattle.rules.specs.Naming.{named_of}
 use Rattle.profile.specs.Need.{Need, need_of}
 use Rattle.rules.proofs.NeedNames.{needed}

@@ -1,5 +1,5 @@
 -- What a page and what is known stand for, and the decision on a command.
-use Rattle.std.specs.Prelude.{ℕ, ◌≡◌, ◌+◌, List, [], Option, Some, None}
+use Rattle.std.specs.Prelude.{ℕ, ◌≡◌, ◌+◌, ◌++◌, ◌∷◌, List, [], Option, Some, None}
 use Rattle.profile.specs.declared.rules.Rules.{Rules}
 use Rattle.profile.specs.Moments.{Moment}
 use Rattle.profile.specs.Register as meant
@@ -7,7 +7,10 @@ use Rattle.profile.specs.History.{History, after_entry}
 use Rattle.profile.specs.Need.{Need}
 use Rattle.profile.specs.Reply as replies
 use Rattle.profile.specs.Decision as known
-use Rattle.profile.specs.Accepted.{entry_of, depositor_of}
+use Rattle.profile.specs.Accepted.{IsLegal, entry_of, depositor_of}
+use Rattle.profile.specs.Changes as tables
+use Rattle.profile.specs.Header.{Who}
+use Rattle.sets_taken.specs.Tabled.{table_changes}
 use Rattle.stock.specs.Pages.{PageFacts, AreSorted, IsSound, next_entry}
 use Rattle.stock.specs.Parts.{IsPart}
 use Rattle.stock.specs.Puts.{put}
@@ -15,7 +18,7 @@ use Rattle.stock.specs.declared.steps.Change.{Change}
 use Rattle.stock.specs.Shows.{Shows}
 use Rattle.rules.specs.Naming.{named_of}
 use Rattle.rules.specs.Needs.{HasNeeded}
-use Rattle.rules.specs.Proper.{AreProper}
+use Rattle.sets_taken.specs.Proper.{AreProper}
 use Rattle.rules.specs.Written.{Recalled, written_as, unnumbered}
 use Rattle.rules.specs.declared.decisions.Decision.{Decision}
 use Rattle.rules.specs.declared.decisions.Decision.TheVariants.{Stored, Refused, Accepted}
@@ -56,7 +59,9 @@ IsUnder key (Some k) = meant.mark k.entry ≡ key
 
 -- what a decision on a command is given: the page of the depositor that it names, and what is known
 -- under its key
-pub record IsGiven (held : Option PageFacts) (recalled : Option Recalled) (c : meant.Command) (h : Option History) (k : Option known.Recalled) : Type 0 where
+pub record IsGiven
+    (held : Option PageFacts) (recalled : Option Recalled) (c : meant.Command) (h : Option History)
+    (k : Option known.Recalled) : Type 0 where
   pub page : StandsFor c held h
   pub known : IsRecalled recalled k
   pub under : IsUnder (meant.command_mark c) k
@@ -125,3 +130,14 @@ abbrev pub Makes : Rules → meant.Command → Moment → Decision → Type 0
 Makes r c t (Stored text) = Unit {0}
 Makes r c t (Refused refusal text) = Unit {0}
 Makes r c t (Accepted e changes text) = unnumbered e ≡ written_as 0 (entry_of r c t)
+
+-- the changes of a command that is accepted under these rules make of the tables of a legal
+-- register, in the version of its book, those of the register with the command's entry, if that is
+-- one
+abbrev pub LeadsInTables : Rules → Who → List meant.Entry → meant.Command → Moment → Decision
+    → Type 0
+LeadsInTables r W L c t (Stored text) = Unit {0}
+LeadsInTables r W L c t (Refused refusal text) = Unit {0}
+LeadsInTables r W L c t (Accepted e changes text) =
+    (v : Rules) → IsLegal v W L → IsLegal v W (L ++ entry_of r c t ∷ [])
+    → tables.LeadOn v W L (entry_of r c t) (table_changes (entry_of r c t).who changes.items)

@@ -1,12 +1,8 @@
 pub mod Written
 pub mod Asked
-pub mod Judging
 pub mod Decided
-pub mod Documents
 pub mod Likely
 pub mod Played
-pub mod Tabled
-pub mod Proper
 pub mod Defined
 pub mod Kinds
 pub mod Needs
@@ -15,6 +11,8 @@ pub mod LegalPages
 pub mod Fitting
 pub mod Given
 pub mod Lasting
+-- of sets
+pub use Rattle.sets_taken.specs.Tabled
 -- of pages
 pub use Rattle.stock.specs.Function
 pub use Rattle.stock.specs.Functions

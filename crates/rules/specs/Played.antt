@@ -32,13 +32,15 @@ is_clean deed = true
 
 -- a numbered entry's events are added to the page of a history, and its text went out; the entry
 -- doesn't count yet
-pub record IsPlayed (W : Who) (h : History) (e : Entry) (p : PageFacts) (text : List ℕ) : Type 0 where
+pub record IsPlayed
+    (W : Who) (h : History) (e : Entry) (p : PageFacts) (text : List ℕ) : Type 0 where
   pub shows : Shows p (h.events ++ events_added e.rules h.events (h.numbered + 1) e.deed)
   pub entries : p.entries ≡ h.numbered
   pub outgoing : text ≡ out_by W h e
 
 -- the page of a history with one entry more, and that entry's text
-pub record IsReplayed (W : Who) (h : History) (e : Entry) (p : PageFacts) (text : List ℕ) : Type 0 where
+pub record IsReplayed
+    (W : Who) (h : History) (e : Entry) (p : PageFacts) (text : List ℕ) : Type 0 where
   pub page : IsPageOf p (after_entry h e)
   pub outgoing : text ≡ out_by W h e
 

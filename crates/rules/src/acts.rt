@@ -18,12 +18,12 @@ ghost use Rattle.stock.specs.Stops.{StopsAct};
 ghost use Rattle.rules.specs.Asked.{act_of, command_of, entry_of};
 ghost use Rattle.rules.specs.Written.{written_as};
 ghost use Rattle.rules.specs.Decided.{IsNoEntry, Makes, IsPageOf, IsEntry, IsRecalled, IsUnder, IsReply, LeadsOn, AreLeading};
-ghost use Rattle.rules.specs.Proper.{AreProper};
+ghost use Rattle.sets_taken.specs.Proper.{AreProper};
 
 use crate::commands::{Act, Key};
 use crate::decisions::Decision;
-use crate::documents::document;
 use crate::entries::{Entry, Known};
+use crate::told::document;
 use profile::{MOST_ENTRIES, Refusal, Rules};
 use sets_out::Envelope;
 use std::alloc::{AllocError, Global};
@@ -32,6 +32,7 @@ use stock::{ActStop, Change, Page, Step, pick, receive, recount};
 /// What an act's event changes on the page.
 pub(crate) fn perform(alloc: Global, page: &Page, act: &Act<'_>) -> Result<Step, ActStop>
     requires { page.now.recent < most_sets }
+
     ensures ok { IfOk result
         (λ step. (n : Named) (P : PageFacts) (es : List Event) → IsPart n page.now P
         → NamesAct n page.now (act_of act.now) → Shows P es
@@ -102,6 +103,7 @@ fn accepted(
         → IsPageOf P h
         → AreLeading P changes.items
         (after_entry h (entry_of rules envelope.now ticket.now act.now)) }
+
     ensures comes { IfOk result
         (Makes rules (command_of envelope.now ticket.now act.now) envelope.now.moment) }
     ensures leads { IfOk result
@@ -137,6 +139,7 @@ fn fresh(
 ) -> Result<Decision, AllocError>
     requires number { envelope.now.number ≡ page.now.entries + 1 }
     requires rest { page.now.recent ≡ 0 }
+
     ensures comes { IfOk result
         (Makes rules (command_of envelope.now ticket.now act.now) envelope.now.moment) }
     ensures leads { IfOk result
@@ -188,6 +191,7 @@ pub(crate) fn clerk(
 ) -> Result<Decision, AllocError>
     requires number { envelope.now.number ≡ page.now.entries + 1 }
     requires rest { page.now.recent ≡ 0 }
+
     ensures comes { IfOk result
         (Makes rules (command_of envelope.now ticket.now act.now) envelope.now.moment) }
     ensures leads { IfOk result
@@ -198,8 +202,8 @@ pub(crate) fn clerk(
         → IsUnder (register.ticket_mark ticket.now) k
         → IsReply rules page.now.entries (command_of envelope.now ticket.now act.now)
         envelope.now.moment
-        (recalled.clerk_by rules envelope.now.warehouse (Some h) k envelope.now.depositor ticket.now (act_of
-        act.now) envelope.now.moment) d) }
+        (recalled.clerk_by rules envelope.now.warehouse (Some h) k envelope.now.depositor ticket.now
+        (act_of act.now) envelope.now.moment) d) }
 {
     match known {
         Some(known) => again(alloc, known, act),

@@ -8,7 +8,7 @@ ghost use Rattle.rules.specs.Asked.{act_of, asked};
 ghost use Rattle.profile.specs.Header.{Who as Partner};
 ghost use Rattle.profile.specs.Register as register;
 ghost use Rattle.rules.specs.Decided.{Makes, IsAtRest, IsGiven, StandsFor, IsReply, LeadsFrom, entries_of};
-ghost use Rattle.rules.specs.Tabled.{LeadsInTables};
+ghost use Rattle.rules.specs.Decided.{LeadsInTables};
 ghost use Rattle.rules.specs.Written.{written_as};
 
 use crate::acts::clerk;
@@ -93,7 +93,9 @@ fn perform(
     rules: Rules,
 ) -> Result<Decision, AllocError>
     requires { IsAtRest page }
-    ensures comes { IfOk result (Makes rules (register.Clerk who ticket.now (act_of act.now)) moment) }
+
+    ensures comes { IfOk result (Makes rules (register.Clerk who ticket.now (act_of act.now))
+        moment) }
     ensures leads { IfOk result
         (LeadsFrom rules page (register.Clerk who ticket.now (act_of act.now)) moment) }
     ensures reply { IfOk result
@@ -130,6 +132,7 @@ pub fn decide(
     rules: Rules,
 ) -> Result<Decision, AllocError>
     requires { IsAtRest page }
+
     ensures comes { IfOk result (Makes rules (asked command.now) moment) }
     ensures leads { IfOk result (LeadsFrom rules page (asked command.now) moment) }
     ensures tables { IfOk result

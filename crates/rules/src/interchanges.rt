@@ -23,11 +23,11 @@ use crate::decisions::Decision;
 use crate::entries::{Entry, Known};
 use crate::house::Warehouse;
 use crate::lasting::lasting;
-use crate::taking::take_groups;
 use envelope::{Halt, Interchange, Isa, header_note, isa, structure};
 use profile::{MOST_ENTRIES, Refusal, Rules};
 use segments::{Moment, Who};
 use sets_out::Envelope;
+use sets_taken::take_groups;
 use std::alloc::{AllocError, Global};
 use stock::Page;
 
@@ -41,8 +41,8 @@ fn noted(
 ) -> Result<Decision, AllocError>
     ensures comes { IfOk result (IsNoEntry) }
     ensures reply { IfOk result (λ d. (r : Rules) (n : ℕ) (c : register.Command)
-        → IsReply r n c moment (replies.Refused (refusals.Note code) (replies.refusal_answer warehouse.now
-        header.now moment (refusals.Note code))) d) }
+        → IsReply r n c moment (replies.Refused (refusals.Note code)
+        (replies.refusal_answer warehouse.now header.now moment (refusals.Note code))) d) }
 {
     let answer = refusal(alloc, warehouse.who(), header, moment, code)?;
     Ok(Decision::Refused(Refusal::Note(code), answer))
@@ -59,12 +59,13 @@ pub(crate) fn again(
     moment: Moment,
 ) -> Result<Decision, AllocError>
     requires { header.now ≡ text.now }
+
     ensures comes { IfOk result (IsNoEntry) }
     ensures reply { IfOk result
         (λ d. (r : Rules) (n : ℕ) (k : recalled.Recalled) → IsEntry known.now k
         → register.mark k.entry ≡ register.interchange_mark (meant_isa text.now 13)
-        → IsReply r n (register.Interchange text.now) moment (recalled.interchange_again warehouse.now
-        text.now moment k) d) }
+        → IsReply r n (register.Interchange text.now) moment
+        (recalled.interchange_again warehouse.now text.now moment k) d) }
 {
     if known.is_of(text) {
         return Ok(Decision::Stored(known.outgoing().to_vec(alloc)?));
@@ -123,6 +124,7 @@ fn accepted(
     requires number { envelope.number ≡ page.entries + 1 }
     requires rest { page.recent ≡ 0 }
     requires whose { envelope.depositor ≡ sender text.now }
+
     ensures comes { IfOk result (Makes rules (register.Interchange text.now) envelope.moment) }
     ensures leads { IfOk result
         (LeadsOn rules page (register.Interchange text.now) envelope.moment) }
@@ -185,6 +187,7 @@ fn fresh(
     requires readable { is_unreadable text.now ≡ false }
     requires rest { page.recent ≡ 0 }
     requires whose { who ≡ sender text.now }
+
     ensures comes { IfOk result (Makes rules (register.Interchange text.now) moment) }
     ensures leads { IfOk result (LeadsOn rules page (register.Interchange text.now) moment) }
     ensures reply { IfOk result (λ d. (h : History) (P : PageFacts)
@@ -222,6 +225,7 @@ fn readable(
     requires same { header.now ≡ text.now }
     requires readable { is_unreadable text.now ≡ false }
     requires rest { IsAtRest page }
+
     ensures comes { IfOk result (Makes rules (register.Interchange text.now) moment) }
     ensures leads { IfOk result (LeadsFrom rules page (register.Interchange text.now) moment) }
     ensures reply { IfOk result (λ d. (h : Option History) (k : Option recalled.Recalled)
@@ -253,6 +257,7 @@ pub(crate) fn interchange(
     rules: Rules,
 ) -> Result<Decision, AllocError>
     requires { IsAtRest page }
+
     ensures comes { IfOk result (Makes rules (register.Interchange text.now) moment) }
     ensures leads { IfOk result (LeadsFrom rules page (register.Interchange text.now) moment) }
     ensures reply { IfOk result (λ d. (h : Option History) (k : Option recalled.Recalled)

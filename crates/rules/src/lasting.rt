@@ -13,6 +13,7 @@ fn lasts(rows: &[Row], marks: &mut Vec<bool>, change: &Change) -> bool
     requires sorted { IsSorted rows.now }
     requires beside { length marks.old.items ≡ length rows.now }
     requires row { HaveRows rows.now (change.now ∷ []) }
+
     ensures lasts { (later : List Put) → AreMarked rows.now later marks.old.items
         → result ≡ not (is_replaced change.now later) }
     ensures marks { (later : List Put) → AreMarked rows.now later marks.old.items
@@ -50,6 +51,7 @@ pub(crate) fn lasting(
     changes: Vec<Change>,
 ) -> Result<Vec<Change>, AllocError>
     requires { HaveRows page.now.rows changes.items }
+
     ensures lasts { IfOk result (λ kept. kept.items ≡ lasting changes.items) }
     ensures once { IfOk result (λ kept. HasPairsOnce kept.items) }
 {

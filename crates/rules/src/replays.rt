@@ -27,14 +27,14 @@ ghost use Rattle.rules.specs.Written.{written_as};
 use crate::acts::perform;
 use crate::answers::answer;
 use crate::commands::Act;
-use crate::documents::document;
 use crate::entries::Entry;
 use crate::house::Warehouse;
 use crate::readings::read;
-use crate::taking::take_groups;
+use crate::told::document;
 use envelope::{Halt, Interchange, Isa, isa, structure};
 use profile::{MOST_ENTRIES, Rules};
 use sets_out::Envelope;
+use sets_taken::take_groups;
 use std::alloc::{AllocError, Global};
 use stock::{ActStop, Page, Step};
 
@@ -74,6 +74,7 @@ fn grouped(
     } }
     requires clean { structure_note header.now ≡ None }
     requires rest { page.recent ≡ 0 }
+
     ensures entries { IfOk result (λ r. r.page.entries ≡ page.entries) }
     ensures played { IfOk result
         (λ r. (h : History) → IsPageOf page h → envelope.number ≡ h.numbered + 1
@@ -118,6 +119,7 @@ fn structured(
 ) -> Result<Replayed, AllocError>
     requires same { header.now ≡ text.now }
     requires rest { page.recent ≡ 0 }
+
     ensures entries { IfOk result (λ r. r.page.entries ≡ page.entries) }
     ensures played { IfOk result
         (λ r. (h : History) → IsPageOf page h → envelope.number ≡ h.numbered + 1
@@ -145,6 +147,7 @@ fn received(
     rules: Rules,
 ) -> Result<Replayed, AllocError>
     requires { page.recent ≡ 0 }
+
     ensures entries { IfOk result (λ r. r.page.entries ≡ page.entries) }
     ensures played { IfOk result
         (λ r. (h : History) → IsPageOf page h → envelope.number ≡ h.numbered + 1
@@ -184,11 +187,12 @@ fn stepped(
     step: &Step,
 ) -> Result<Replayed, AllocError>
     requires { IsSound (put step.now.changes.items page) }
+
     ensures { IfOk result (λ r. (r.page ≡ put step.now.changes.items page)
         × ((es : List Event) (e : Event) → Shows page es
         → performed es envelope.now.number (act_of act.now) ≡ Ok e
-        → r.outgoing.items ≡ document_of envelope.now.warehouse envelope.now.depositor envelope.now.moment
-        envelope.now.number e)) }
+        → r.outgoing.items ≡ document_of envelope.now.warehouse envelope.now.depositor
+        envelope.now.moment envelope.now.number e)) }
 {
     // what is known of every page
     let _ = page.rows();
@@ -207,6 +211,7 @@ fn done(
     act: &Act<'_>,
 ) -> Result<Replayed, AllocError>
     requires { page.recent ≡ 0 }
+
     ensures entries { IfOk result (λ r. r.page.entries ≡ page.entries) }
     ensures played { IfOk result (λ r. (h : History) (ticket : List ℕ) (q : Rules) → IsPageOf page h
         → envelope.number ≡ h.numbered + 1
@@ -230,6 +235,7 @@ fn performed(
     rules: Rules,
 ) -> Result<Replayed, AllocError>
     requires { page.recent ≡ 0 }
+
     ensures entries { IfOk result (λ r. r.page.entries ≡ page.entries) }
     ensures played { IfOk result (λ r. (h : History) (ticket : List ℕ) (act : register.Act)
         → IsPageOf page h → envelope.number ≡ h.numbered + 1
@@ -247,6 +253,7 @@ fn performed(
 // The page with one numbered entry more.
 fn ended(page: Page) -> Page
     requires { page.entries < most_entries }
+
     ensures next { result ≡ next_entry page }
     ensures shows { (es : List Event) → Shows page es → Shows result es }
 {
@@ -263,6 +270,7 @@ fn numbered(
     entry: &Entry,
 ) -> Result<Replayed, AllocError>
     requires { page.recent ≡ 0 }
+
     ensures rest { IfOk result (λ r. r.page.recent ≡ 0) }
     ensures replayed { IfOk result (λ r. (h : History) (e : register.Entry) → IsPageOf page h
         → register.is_numbered e ≡ true
@@ -301,6 +309,7 @@ pub fn replay(
     entry: &Entry,
 ) -> Result<Replayed, AllocError>
     requires { IsAtRest page }
+
     ensures rest { IfOk result (λ r. r.page.recent ≡ 0) }
     ensures replayed { IfOk result (λ r. (h : History) (e : register.Entry) → IsBefore page h e
         → entry.now ≡ written_as (number_after h e) e → number_after h e ≤ most_entries

@@ -2,10 +2,9 @@
 use Rattle.std.specs.Prelude.{◌≡◌, ℕ, List, [], ◌∷◌, ◌++◌, Option, OnOk, codes, decimal, length, IsTrue}
 use Rattle.std.specs.Io.KnownBytes.{Appends}
 use Rattle.profile.specs.Header.{Who}
-use Rattle.profile.specs.Register.{Entry}
 use Rattle.sqlite.specs.Effect.{Database, IsDatabase}
 use Rattle.sqlite.specs.State.{State}
-use Rattle.store.specs.Standing.{Standing, IsUnchanged}
+use Rattle.store.specs.Standing.{Standing, IsUnchanged, OfAnyKept}
 use Rattle.book_statements.specs.Asking.{IsOfFirst}
 use Rattle.book_tables.specs.Comparing.{AreTables}
 use Rattle.book_statements.specs.Layout.{IsLayout}
@@ -17,9 +16,9 @@ abbrev pub told_whole : ℕ → List ℕ
 told_whole n = codes "ok " ++ decimal n ++ 10 ∷ []
 
 -- a book was checked whole, and is as before
-pub record IsChecked (old new : Standing) (before later : Option (List ℕ)) (ending : Ending) : Type 0 where
-  pub told : new.doubt ≡ 0 → (L : List Entry) → old.keeps L
-      → OnOk ending (Appends before later (told_whole (length L)))
+pub record IsChecked
+    (old new : Standing) (before later : Option (List ℕ)) (ending : Ending) : Type 0 where
+  pub told : OfAnyKept old new (λ L. OnOk ending (Appends before later (told_whole (length L))))
   pub same : IsUnchanged old new
 
 -- the database stands for a register, and how many entries that has is printed

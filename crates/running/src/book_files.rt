@@ -60,6 +60,7 @@ pub fn make<S: Alter + Drop>(
     warehouse: Warehouse,
 ) -> Result<Book<S>, CommandError>
     requires { database.in_transaction ≡ false }
+
     ensures usable { IfOk result (λ b. HasCleanDisk (state S.Store b.tables.conn)
         → IsUsable (standing_of S.Store b) []) }
     ensures warehouse { IfOk result (λ b. b.warehouse ≡ warehouse) }
@@ -90,6 +91,7 @@ pub fn open<S: Alter + Drop, T: FnMut(u64, u64)>(
 ) -> Result<Book<S>, CommandError>
     requires free { database.in_transaction ≡ false }
     requires told { T.IsAlwaysCallable told }
+
     ensures usable { IfOk result (λ b. OfFile S.Store database b
         (λ _ L. IsUsable (standing_of S.Store b) L)) }
     ensures warehouse { IfOk result (λ b. OfFile S.Store database b (λ W _. b.warehouse ≡ W)) }
@@ -113,6 +115,7 @@ pub fn open_anew<S: Alter + Drop, T: FnMut(u64, u64)>(
 ) -> Result<Book<S>, CommandError>
     requires free { database.in_transaction ≡ false }
     requires told { T.IsAlwaysCallable told }
+
     ensures opened { IfOk result (λ b. b.shut ≡ false) }
     ensures anew { IfOk result (λ b. HasCleanDisk (state S.Store b.tables.conn)
         → IsReadAnew (state S.Store database) (state S.Store b.tables.conn)) }

@@ -4,9 +4,8 @@ ghost use Rattle.std.specs.Prelude.{◌≡◌, false, IfOk, IsTrue};
 ghost use Rattle.sqlite.specs.Held.{state};
 ghost use Rattle.sqlite.specs.State.{HasCleanDisk};
 ghost use Rattle.store.specs.Standing.{IsUnchanged};
-ghost use Rattle.book_tables.specs.Comparing.{AreTables, IsLaid};
 ghost use Rattle.books.specs.Opened.{standing_of};
-ghost use Rattle.books.specs.Verified.{CountsKept, StandsChecked};
+ghost use Rattle.books.specs.Verified.{CountsKept, OfTables, StandsChecked};
 ghost use Rattle.running.specs.Checking.{IsChecked, IsFoundWhole, TellsWhole};
 
 use crate::book_files::close;
@@ -49,12 +48,10 @@ fn check<S: Alter + Drop, W: io::Write, E: io::Write>(
 ) -> Result<ExitStatus, CommandError>
     ensures checked { IsChecked (standing_of S.Store book.old) (standing_of S.Store book.new)
         (W.contents out.old) (W.contents out.new) result }
-    ensures stands { (standing_of S.Store book.new).doubt ≡ 0
-        → IsLaid (state S.Store book.old.tables.conn)
-        → (IsTrue (state S.Store book.old.tables.conn).is_open
-        → AreTables (state S.Store book.old.tables.conn).now)
-        → IfOk result (λ _. IsTrue (state S.Store book.old.tables.conn).is_open
-        × TellsWhole (state S.Store book.old.tables.conn).now (W.contents out.old) (W.contents out.new)) }
+    ensures stands { OfTables S.Store book.old book.new
+        (IfOk result (λ _. IsTrue (state S.Store book.old.tables.conn).is_open
+        × TellsWhole (state S.Store book.old.tables.conn).now (W.contents out.old)
+        (W.contents out.new))) }
 {
     let entries = watched(book, verbosity, err)?;
     write!(out, "ok {entries}\n")?;
@@ -72,6 +69,7 @@ pub(crate) fn check_over<S: Alter + Drop, W: io::Write, E: io::Write>(
     err: &mut E,
 ) -> Result<(ExitStatus, Connection<S>), CommandError>
     requires { database.in_transaction ≡ false }
+
     ensures whole { IfOk result (λ r. HasCleanDisk (state S.Store r.1)
         → IsFoundWhole (state S.Store database) (W.contents out.old) (W.contents out.new)) }
 {

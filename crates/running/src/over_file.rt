@@ -75,6 +75,7 @@ fn open_for<S: Alter + Drop, T: FnMut(u64, u64)>(
 ) -> Result<Book<S>, CommandError>
     requires free { database.in_transaction ≡ false }
     requires told { T.IsAlwaysCallable told }
+
     ensures anew { job.now ≡ Job.Check → IfOk result
         (λ b. HasCleanDisk (state S.Store b.tables.conn)
         → IsReadAnew (state S.Store database) (state S.Store b.tables.conn)) }
@@ -95,6 +96,7 @@ pub(crate) fn open_watched<S: Alter + Drop, E: io::Write>(
     err: &mut E,
 ) -> Result<Book<S>, CommandError>
     requires { database.in_transaction ≡ false }
+
     ensures anew { job.now ≡ Job.Check → IfOk result
         (λ b. HasCleanDisk (state S.Store b.tables.conn)
         → IsReadAnew (state S.Store database) (state S.Store b.tables.conn)) }

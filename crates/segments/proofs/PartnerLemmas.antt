@@ -1,5 +1,5 @@
 -- Partners from their parts, and from their text.
-use Rattle.std.proofs.Common.{◌≡◌, ℕ, ◌-◌, ◌≤◌, Bool, true, false, List, [], ◌∷◌, ◌++◌, length, get_or, take, drop, refl, sym, subst, ◌∙◌, ap, arith, Some, None, length-drop}
+use Rattle.std.proofs.Common.{◌≡◌, ℕ, ◌+◌, ◌-◌, ◌≤◌, Bool, true, false, List, [], ◌∷◌, ◌++◌, length, get_or, take, drop, suc, refl, sym, subst, ◌∙◌, ap, arith, Some, None, length-drop}
 use Rattle.std.specs.Prelude.{◌&&◌, if◌then◌else◌, nat_le, bytes_eq, Option}
 use Rattle.std.specs.List.{list_all}
 use Rattle.std.specs.Prelude.{replicate, IsTrue}
@@ -12,13 +12,8 @@ use Rattle.std.proofs.lemmas.Slice.Eq.{bytes_eq-Decides}
 use Rattle.profile.specs.Bytes.{is_identifier, is_identifier_byte, is_alphanumeric}
 use Rattle.profile.specs.Header.{Who, is_partner, who_of, who_text}
 use Rattle.profile.specs.Limits.{least_partner, most_partner}
-
--- two bytes are the first and the second
-pub two_bytes : (q : List ℕ) → length q ≡ 2 → get_or q 0 0 ∷ get_or q 1 0 ∷ [] ≡ q
-two_bytes [] h = absurd (omega (arith, h))
-two_bytes (a ∷ []) h = absurd (omega (arith, h))
-two_bytes (a ∷ b ∷ []) h = refl
-two_bytes (a ∷ b ∷ x ∷ xs) h = absurd (omega (arith, h))
+use Rattle.segments.specs.Filled.{IsFilled, partner_in}
+use borrow.Rule.Slice.PartMut.{post_of}
 
 -- what stands between two ends is the whole
 whole_text : (text : List ℕ) → 3 ≤ length text → get_or text 2 0 ≡ 45 → take 2 text ++ 45 ∷ [] ++ drop 3 text ≡ text
@@ -48,18 +43,38 @@ short_id id h =
 abbrev pair_of : List ℕ → List ℕ → Who
 pair_of q i = record { qualifier = q; id = i }
 
-partner_eq : {q r i j : List ℕ} → q ≡ r → i ≡ j → pair_of q i ≡ pair_of r j
-partner_eq {q = q} {j = j} e f = ap (λ x. pair_of q x) f ∙ ap (λ x. pair_of x j) e
+-- what is kept of a partner
+abbrev IsWhole : List ℕ → ℕ → Type 0
+IsWhole text n = IsFilled text n × IsTrue (is_partner (partner_in text n))
 
--- a qualifier of two bytes, and an id that was written over the spaces of its width, are a partner
-pub filled_partner : (q id new : List ℕ) → length q ≡ 2 → list_all is_alphanumeric q ≡ true → is_identifier least_partner most_partner id ≡ true → new ≡ id
-    → (length id ≤ most_partner) × (length (new ++ drop (length id) (replicate most_partner 32)) ≡ most_partner) × (drop (length id) (new ++ drop (length id) (replicate most_partner 32)) ≡ replicate (most_partner - length id) 32)
-    × IsTrue (is_partner (record { qualifier = get_or q 0 0 ∷ get_or q 1 0 ∷ []; id = take (length id) (new ++ drop (length id) (replicate most_partner 32)) }))
-filled_partner q id new two all ident written =
+-- the text of a qualifier of two bytes, and of an id that was written over the spaces of its width
+filled_id : (a b : ℕ) (id new : List ℕ) (n : ℕ) → n ≡ length id → list_all is_alphanumeric (a ∷ b ∷ []) ≡ true → is_identifier least_partner most_partner id ≡ true → new ≡ id
+    → IsWhole (a ∷ b ∷ 45 ∷ (new ++ drop n (replicate most_partner 32))) (suc (suc (suc n)))
+filled_id a b id new n size all ident written =
     let short = short_id id ident in
-    let f = filled (length id) new short (ap length written) in
-    let front : take (length id) (new ++ drop (length id) (replicate most_partner 32)) ≡ id = rw written (take-append_seam id (drop (length id) (replicate most_partner 32))) in
-    let same : pair_of q id ≡ pair_of (get_or q 0 0 ∷ get_or q 1 0 ∷ []) (take (length id) (new ++ drop (length id) (replicate most_partner 32))) =
-    partner_eq (sym (two_bytes q two)) (sym front) in
-    let whole : is_partner (pair_of q id) ≡ true = rw (two, all) ident in
-    (short, f.1, f.2, subst (λ (w : Who). IsTrue (is_partner w)) same whole)
+    let f = filled n new (omega (arith, short, size)) (ap length written ∙ sym size) in
+    let tail : List ℕ = new ++ drop n (replicate most_partner 32) in
+    let front : take n tail ≡ id = rw (size, written) (take-append_seam id (drop (length id) (replicate most_partner 32))) in
+    let back : take (suc (suc (suc n)) - 3) tail ≡ id = ap (λ k. take k tail) (omega arith) ∙ front in
+    let whole : is_partner (pair_of (a ∷ b ∷ []) id) ≡ true = rw all ident in (
+      record {
+        long = omega arith;
+        short = omega (arith, short, size);
+        wide = ap (λ k. suc (suc (suc k))) f.1;
+        rest = f.2 ∙ ap (λ k. replicate k 32) (omega arith);
+        front = ap (λ t. a ∷ b ∷ 45 ∷ t) (front ∙ sym back);
+      },
+      subst (λ i. IsTrue (is_partner (pair_of (a ∷ b ∷ []) i))) (sym back) whole,
+    )
+
+-- the same, as the bytes are put into their places
+put_id : (a b : ℕ) (id new : List ℕ) (n m k : ℕ) → n ≡ length id → m ≡ n → k ≡ suc (suc (suc n)) → list_all is_alphanumeric (a ∷ b ∷ []) ≡ true → is_identifier least_partner most_partner id ≡ true
+    → new ≡ id → IsWhole (a ∷ b ∷ 45 ∷ (new ++ drop m (replicate most_partner 32))) k
+put_id a b id new n m k size same long all ident written = rw (same, long) (filled_id a b id new n size all ident written)
+
+pub filled_partner : (q id new : List ℕ) → length q ≡ 2 → list_all is_alphanumeric q ≡ true → is_identifier least_partner most_partner id ≡ true → new ≡ id
+    → IsWhole (get_or q 0 0 ∷ get_or q 1 0 ∷ 45 ∷ (new ++ post_of 3 (3 + length id - 3) (get_or q 0 0 ∷ get_or q 1 0 ∷ 45 ∷ replicate most_partner 32))) (3 + length id)
+filled_partner [] id new two all ident written = absurd (omega (arith, two))
+filled_partner (a ∷ []) id new two all ident written = absurd (omega (arith, two))
+filled_partner (a ∷ b ∷ []) id new two all ident written = put_id a b id new (length id) _ _ refl (omega arith) (omega arith) all ident written
+filled_partner (a ∷ b ∷ c ∷ q) id new two all ident written = absurd (omega (arith, two))

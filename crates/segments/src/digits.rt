@@ -13,6 +13,7 @@ pub fn all_digits(text: &[u8]) -> bool
 /// The value of digits, and `most` where that is less: so a text may have any length.
 pub fn value_up_to(text: &[u8], most: u64) -> u64
     requires { most ≤ 10 ^ 18 }
+
     ensures { result ≡ min (bytes.value text.now) most }
 {
     let mut value: u64 = 0;
@@ -26,6 +27,7 @@ pub fn value_up_to(text: &[u8], most: u64) -> u64
 pub fn number(text: &[u8]) -> u32
     requires few { length text.now ≤ 9 }
     requires digits { list_all bytes.is_digit text.now ≡ true }
+
     ensures { result ≡ bytes.value text.now }
 {
     value_up_to(text, 999_999_999) as u32

@@ -1,33 +1,36 @@
 ghost use Rattle.std.specs.Prelude.{◌≡◌, ◌≤◌, ◌-◌, ◌++◌, ◌&&◌, true, false, Some, None, IfOk, if◌then◌else◌, IsTrue, take, drop, replicate, length, bytes_eq};
 ghost use Rattle.profile.specs.Header.{Who as Partner, is_partner, who_eq, who_of, who_text};
 ghost use Rattle.profile.specs.Limits.{most_partner};
-ghost use Rattle.segments.specs.Filled.{length_front, filled_front};
+ghost use Rattle.segments.specs.Filled.{IsFilled, partner_in, length_front, filled_front};
+ghost use Rattle.segments.specs.declared.partners.TheConstants.{TEXT_BYTES};
 
 use crate::idents::{all_alphanumeric, is_ident};
 use profile::{LEAST_PARTNER, MOST_PARTNER, QUALIFIER_BYTES};
-use std::alloc::{AllocError, Global};
 use std::marker::Model;
 
+// The bytes of the longest text of a partner: a qualifier, a hyphen, and an id.
+const TEXT_BYTES: usize = QUALIFIER_BYTES + 1 + MOST_PARTNER;
+
 /// A trading partner, as two elements of ISA name it: a qualifier of two of A to Z and 0 to 9, and
-/// an id of 2 to 15 identifier bytes, which is kept filled up with spaces.
+/// an id of 2 to 15 identifier bytes. It is kept as its text, `ZZ-ACME`, which is filled up with
+/// spaces.
 #[derive(Clone, Copy)]
 pub struct Who {
-    qualifier: [u8; QUALIFIER_BYTES],
-    id: [u8; MOST_PARTNER],
+    text: [u8; TEXT_BYTES],
     len: usize,
 }
 
 impl Model for Who {
     ghost Value = { Partner };
 
-    ghost view = { λ w. record { qualifier = w.qualifier; id = take w.len w.id } };
+    ghost view = { λ w. partner_in w.text w.len };
 
-    ghost invariant = { λ w. (w.len ≤ most_partner) × (length w.id ≡ most_partner) × (drop w.len w.id ≡ replicate (most_partner - w.len) 32)
-        × IsTrue (is_partner (record { qualifier = w.qualifier; id = take w.len w.id })) };
+    ghost invariant = { λ w. IsFilled w.text w.len
+        × IsTrue (is_partner (partner_in w.text w.len)) };
 
-    ghost inverse = { λ p. record { qualifier = p.qualifier; id = p.id ++ replicate (most_partner - length p.id) 32; len = length p.id } };
+    ghost inverse = { λ p. record { text = who_text p ++ replicate (TEXT_BYTES - length (who_text p)) 32; len = length (who_text p) } };
 
-    ghost inverse_ok = { λ a h i. record { qualifier = a.qualifier; id = filled_front a.id a.len h.0 h.1 h.2 i; len = length_front a.id a.len h.0 h.1 i } };
+    ghost inverse_ok = { λ a h i. record { text = filled_front a.text a.len h.0 i; len = length_front a.text a.len h.0 i } };
 }
 
 impl Who {
@@ -45,15 +48,13 @@ impl Who {
         if !is_ident(id, LEAST_PARTNER, MOST_PARTNER) {
             return None;
         }
-        let qualifier = [qualifier[0], qualifier[1]];
-        let mut filled = [b' '; MOST_PARTNER];
-        let len = id.len();
-        filled[..len].copy_from_slice(id);
-        Some(Who {
-            qualifier,
-            id: filled,
-            len,
-        })
+        let len = 3 + id.len();
+        let mut text = [b' '; TEXT_BYTES];
+        text[0] = qualifier[0];
+        text[1] = qualifier[1];
+        text[2] = b'-';
+        text[3..len].copy_from_slice(id);
+        Some(Who { text, len })
     }
 
     /// The partner that the text writes, as `ZZ-ACME`; else None.
@@ -70,25 +71,21 @@ impl Who {
     pub fn qualifier(&self) -> &[u8]
         ensures { result.now ≡ self.now.qualifier }
     {
-        &self.qualifier
+        &self.text[..QUALIFIER_BYTES]
     }
 
     /// The id, 2 to 15 bytes.
     pub fn id(&self) -> &[u8]
         ensures { result.now ≡ self.now.id }
     {
-        &self.id[..self.len]
+        &self.text[3..self.len]
     }
 
-    /// Its text, qualifier, hyphen and id, as `ZZ-ACME`. Want of memory is the one error.
-    pub fn text(&self, alloc: Global) -> Result<Vec<u8>, AllocError>
-        ensures { IfOk result (λ text. text.items ≡ who_text self.now) }
+    /// Its text, qualifier, hyphen and id, as `ZZ-ACME`.
+    pub fn text(&self) -> &[u8]
+        ensures { result.now ≡ who_text self.now }
     {
-        let mut text = Vec::new(alloc);
-        text.extend_from_slice(self.qualifier())?;
-        text.push(b'-')?;
-        text.extend_from_slice(self.id())?;
-        Ok(text)
+        &self.text[..self.len]
     }
 
     /// Whether the two are one partner.

@@ -106,9 +106,6 @@ no_ship_to_in : (xs : List Segment) → Lacks (codes "N1") xs → ship_to xs ≡
 no_ship_to_in [] h = refl
 no_ship_to_in (x ∷ xs) h = later_ship_to x xs (no_ship_to x h.0) ∙ no_ship_to_in xs h.1
 
-abbrev party_found : Parties → Option Address
-party_found ps = option_map address_in (find (λ p. is_ship_to p.n1) ps)
-
 abbrev find_ship_to : Parties → Option (Party Segment)
 find_ship_to ps = find (λ p. is_ship_to p.n1) ps
 

@@ -31,10 +31,6 @@ pub first_with : (id : List ℕ) (ps : List Piece) (i : ℕ) (p : Piece) (whole 
     → has_id id (get_or ps i p).elements ≡ true → whole ≡ (get_or ps i p).elements
 first_with id ps i p whole h e t = e ∙ ap (segment_with id) (left_here ps i p h) ∙ with_yes id (get_or ps i p).elements (segments_of (drop (i + 1) ps)) t
 
-pub later_with : (id : List ℕ) (ps : List Piece) (i : ℕ) (p : Piece) (whole : Segment) → i < length ps → whole ≡ segment_with id (segments_of (drop i ps))
-    → has_id id (get_or ps i p).elements ≡ false → whole ≡ segment_with id (segments_of (drop (i + 1) ps))
-later_with id ps i p whole h e t = e ∙ ap (segment_with id) (left_here ps i p h) ∙ with_no id (get_or ps i p).elements (segments_of (drop (i + 1) ps)) t
-
 -- places
 
 pub from_yes : (id : List ℕ) (n : ℕ) (s : Segment) (ss : List Segment) → has_id id s ≡ true → places_from id n (s ∷ ss) ≡ n ∷ places_from id (n + 1) ss
@@ -59,11 +55,6 @@ segment_nth : (ps : List Piece) (i : ℕ) (p : Piece) → i < length ps → unwr
 segment_nth [] i p h = absurd (omega arith)
 segment_nth (q ∷ ps) zero p h = refl
 segment_nth (q ∷ ps) (suc i) p h = segment_nth ps i p (omega arith)
-
-pub segment_here : (ps : List Piece) (i : ℕ) (p : Piece) → i < length ps → meant.segment_at (segments_of ps) (i + 1) ≡ (get_or ps i p).elements
-segment_here ps i p h =
-    let e : i + 1 - 1 ≡ i = omega arith in
-    ap (λ n. unwrap_or (slice_get (segments_of ps) n) []) e ∙ segment_nth ps i p h
 
 pub amount_here : (id : List ℕ) (place most : ℕ) (ps : List Piece) (i : ℕ) (p : Piece) → i < length ps → HaveAmounts id place most (segments_of ps)
     → has_id id (get_or ps i p).elements ≡ true → IsAmount most (element (meant.segment_at (segments_of ps) (i + 1)) place)

@@ -53,9 +53,6 @@ one_written out (b ∷ bs) ts =
     ∙ ap (λ (y : List ℕ). spaced_with out y) (first_joined b bs ts)
     ∙ in_turn out b bs (join_with_byte 32 (texts_of ts))
 
-pub none_written : (ts : List (List ℕ)) → spaced ts ≡ spaced_after [] ts
-none_written ts = sym (after_none (spaced ts))
-
 pub written_more : (texts : List (Bor (List ℕ))) (i : ℕ) (d : Bor (List ℕ)) (out new whole : List ℕ) → i < length texts
     → whole ≡ spaced_after out (map (λ t. t.now) (drop i texts)) → new ≡ spaced_with out (get_or texts i d).now
     → whole ≡ spaced_after new (map (λ t. t.now) (drop (i + 1) texts))

@@ -76,7 +76,12 @@ address_in p =
 abbrev pub lines_at : ℕ → List (Goods Segment) → List OrderLine
 lines_at n [] = []
 lines_at n (g ∷ gs) =
-    record { item = element g.w01 5; pin = option_map (λ s. element s 2) g.n9; quantity = value (element g.w01 1); position = n + 1 } ∷ lines_at (n + length (in_goods g)) gs
+    record {
+      item = element g.w01 5;
+      pin = option_map (λ s. element s 2) g.n9;
+      quantity = value (element g.w01 1);
+      position = n + 1;
+    } ∷ lines_at (n + length (in_goods g)) gs
 
 abbrev pub meaning : OrderSet Segment → Order
 meaning t =

@@ -35,9 +35,12 @@ impl Model for AckIn {
 // The segments of an acknowledgment, with what is known of the document's number.
 fn acknowledged<'a>(set: &Checked<'a>) -> &'a [Segment<'a>]
     requires { set.now.kind ≡ kinds.FunctionalAcknowledgment }
+
     ensures same { result.now ≡ set.now.pieces }
-    ensures document { IsAmount 9 (element (segment_with (codes "AK1") (segments_of result.now)) 2) }
-    ensures says { SaysAck (segments_of result.now) (meant.acknowledgment_of (segments_of result.now)) }
+    ensures document { IsAmount 9 (element (segment_with (codes "AK1") (segments_of result.now))
+        2) }
+    ensures says { SaysAck (segments_of result.now) (meant.acknowledgment_of
+        (segments_of result.now)) }
 {
     set.segments()
 }
@@ -45,6 +48,7 @@ fn acknowledged<'a>(set: &Checked<'a>) -> &'a [Segment<'a>]
 // What the segments of an acknowledgment say.
 fn said(alloc: Global, segments: &[Segment<'_>]) -> Result<AckIn, AllocError>
     requires { IsAmount 9 (element (segment_with (codes "AK1") (segments_of segments.now)) 2) }
+
     ensures { IfOk result (λ a. a ≡ meant.acknowledgment_of (segments_of segments.now)) }
 {
     let function = copied(alloc, element_with(segments, b"AK1", 1))?;
@@ -60,6 +64,7 @@ fn said(alloc: Global, segments: &[Segment<'_>]) -> Result<AckIn, AllocError>
 /// What an acknowledgment that was judged says. The one error is want of memory.
 pub fn ack(alloc: Global, set: &Checked<'_>) -> Result<AckIn, AllocError>
     requires { set.now.kind ≡ kinds.FunctionalAcknowledgment }
+
     ensures value { IfOk result (λ a. a ≡ meant.acknowledgment_of (segments_of set.now.pieces)) }
     ensures says { IfOk result (λ a. SaysAck (segments_of set.now.pieces) a) }
 {

@@ -18,6 +18,7 @@ use tables::Checked;
 // The segments of an advice, with what is known of their numbers.
 fn advised<'a>(set: &Checked<'a>) -> &'a [Segment<'a>]
     requires { set.now.kind ≡ kinds.ShipmentAdvice }
+
     ensures same { result.now ≡ set.now.pieces }
     ensures short { length result.now < 2 ^ 32 - 1 }
     ensures counted { IsCounted (codes "W04") (codes "W03") ADVICE_TOTAL_DIGITS_TWO
@@ -53,6 +54,7 @@ fn advice_line(
 ) -> Result<AdviceLine, AllocError>
     requires { IsAmount QUANTITY_DIGITS_TWO
         (element (meant.segment_at (segments_of segments.now) position) 1) }
+
     ensures line { IfOk result (λ l. l ≡ meant.advice_line (segments_of segments.now) position) }
     ensures small { IfOk result (λ l. l.line.quantity ≤ most_quantity Two) }
 {
@@ -75,7 +77,9 @@ fn advice_line(
 // The lines of an advice.
 fn advice_lines(alloc: Global, segments: &[Segment<'_>]) -> Result<Vec<AdviceLine>, AllocError>
     requires short { length segments.now < 2 ^ 32 - 1 }
-    requires quantities { HaveAmounts (codes "W04") 1 QUANTITY_DIGITS_TWO (segments_of segments.now) }
+    requires quantities { HaveAmounts (codes "W04") 1 QUANTITY_DIGITS_TWO
+        (segments_of segments.now) }
+
     ensures lines { IfOk result
         (λ v. v.items ≡ map (meant.advice_line (segments_of segments.now))
         (places_of (codes "W04") (segments_of segments.now))) }
@@ -99,6 +103,7 @@ fn said(alloc: Global, segments: &[Segment<'_>]) -> Result<Advice, AllocError>
     requires short { length segments.now < 2 ^ 32 - 1 }
     requires counted { IsCounted (codes "W04") (codes "W03") ADVICE_TOTAL_DIGITS_TWO
         (segments_of segments.now) }
+
     ensures { IfOk result (λ a. a ≡ meant.advice_of (segments_of segments.now)) }
 {
     let shipment = copied(alloc, element_with(segments, b"W06", 4))?;
@@ -117,6 +122,7 @@ fn said(alloc: Global, segments: &[Segment<'_>]) -> Result<Advice, AllocError>
 /// positions. The one error is want of memory.
 pub fn advice(alloc: Global, set: &Checked<'_>) -> Result<Advice, AllocError>
     requires { set.now.kind ≡ kinds.ShipmentAdvice }
+
     ensures value { IfOk result (λ a. a ≡ meant.advice_of (segments_of set.now.pieces)) }
     ensures says { IfOk result (λ a. SaysAdvice (segments_of set.now.pieces) a) }
 {

@@ -18,6 +18,7 @@ use tables::Checked;
 // The segments of an order, with what is known of their numbers.
 fn ordered<'a>(set: &Checked<'a>) -> &'a [Segment<'a>]
     requires { set.now.kind ≡ kinds.ShippingOrder }
+
     ensures same { result.now ≡ set.now.pieces }
     ensures short { length result.now < 2 ^ 32 - 1 }
     ensures counted { IsCounted (codes "W01") (codes "W76") ORDER_TOTAL_DIGITS_TWO
@@ -52,6 +53,7 @@ fn order_line(
 ) -> Result<OrderLine, AllocError>
     requires { IsAmount QUANTITY_DIGITS_TWO
         (element (meant.segment_at (segments_of segments.now) position) 1) }
+
     ensures line { IfOk result (λ l. l ≡ meant.order_line (segments_of segments.now) position) }
     ensures small { IfOk result (λ l. l.quantity ≤ most_quantity Two) }
 {
@@ -70,7 +72,9 @@ fn order_line(
 // The lines of an order.
 fn order_lines(alloc: Global, segments: &[Segment<'_>]) -> Result<Vec<OrderLine>, AllocError>
     requires short { length segments.now < 2 ^ 32 - 1 }
-    requires quantities { HaveAmounts (codes "W01") 1 QUANTITY_DIGITS_TWO (segments_of segments.now) }
+    requires quantities { HaveAmounts (codes "W01") 1 QUANTITY_DIGITS_TWO
+        (segments_of segments.now) }
+
     ensures lines { IfOk result
         (λ v. v.items ≡ map (meant.order_line (segments_of segments.now))
         (places_of (codes "W01") (segments_of segments.now))) }
@@ -92,6 +96,7 @@ fn said(alloc: Global, segments: &[Segment<'_>]) -> Result<Order, AllocError>
     requires short { length segments.now < 2 ^ 32 - 1 }
     requires counted { IsCounted (codes "W01") (codes "W76") ORDER_TOTAL_DIGITS_TWO
         (segments_of segments.now) }
+
     ensures { IfOk result (λ o. o ≡ meant.order_of (segments_of segments.now)) }
 {
     let number_text = copied(alloc, element_with(segments, b"W05", 2))?;
@@ -110,6 +115,7 @@ fn said(alloc: Global, segments: &[Segment<'_>]) -> Result<Order, AllocError>
 /// total, with their positions. The one error is want of memory.
 pub fn order(alloc: Global, set: &Checked<'_>) -> Result<Order, AllocError>
     requires { set.now.kind ≡ kinds.ShippingOrder }
+
     ensures value { IfOk result (λ o. o ≡ meant.order_of (segments_of set.now.pieces)) }
     ensures says { IfOk result (λ o. SaysOrder (segments_of set.now.pieces) o) }
 {

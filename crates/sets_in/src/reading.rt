@@ -11,6 +11,7 @@ use std::alloc::{AllocError, Global};
 /// The value of at most nine digits, as quantities and numbers of documents have them.
 pub fn number(text: &[u8]) -> u32
     requires { IsAmount 9 text.now }
+
     ensures { result ≡ value text.now }
 {
     segments::number(text)
@@ -57,6 +58,7 @@ pub(crate) fn has_id_at(segments: &[Segment<'_>], position: usize, id: &[u8]) ->
 /// The position of the first segment with the id, from 1; 0 where there is none.
 pub(crate) fn place_with(segments: &[Segment<'_>], id: &[u8]) -> u32
     requires { length segments.now < 2 ^ 32 - 1 }
+
     ensures { result ≡ place_of id.now (segments_of segments.now) }
 {
     for (index, segment) in segments.iter().enumerate() {

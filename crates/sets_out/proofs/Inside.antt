@@ -1,11 +1,11 @@
 -- Texts in which neither a separator nor a terminator stands.
-use Rattle.std.proofs.Common.{◌≡◌, ℕ, zero, suc, ◌+◌, ◌-◌, ◌/◌, ◌%◌, Bool, true, false, not, List, [], ◌∷◌, ◌++◌, length, replicate, refl, ap, arith, eqb-true}
+use Rattle.std.proofs.Common.{◌≡◌, ℕ, zero, suc, ◌+◌, ◌-◌, ◌/◌, ◌%◌, Bool, true, false, List, [], ◌∷◌, ◌++◌, length, replicate, refl, ap, arith, eqb-true}
 use Rattle.std.specs.Prelude.{codes, decimal, ◌||◌, ◌==◌, if◌then◌else◌, nat_lt}
 use Rattle.std.specs.Fmt.{digits, digits_onto, digit_glyph}
 use Rattle.std.specs.List.{list_all}
 use Rattle.std.specs.Cmp.Derive.{both_true}
 use Rattle.std.proofs.lemmas.Bool.Decides.{nat_tests}
-use Rattle.profile.specs.Bytes.{Delims, is_between, is_digit, is_identifier_byte, is_data, is_space, padded, zero_filled}
+use Rattle.profile.specs.Bytes.{Delims, is_digit, is_identifier_byte, is_data, is_space, padded, zero_filled}
 use Rattle.profile.specs.Cut.{is_inside}
 use Rattle.profile.specs.Header.{is_delimiter, are_delimiters}
 use Rattle.profile.specs.Moments.{Moment, date6, date8, time4}

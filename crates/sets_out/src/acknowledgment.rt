@@ -113,7 +113,8 @@ fn accepted(sets: &[ToldSet<'_>]) -> usize
 // AK901: A where all sets passed, P where some did, else R.
 fn code_of(accepted: usize, received: usize) -> &'static [u8]
     ensures { result.now
-        ≡ first_of (codes "P") ((accepted == 0, codes "R") ∷ (accepted == received, codes "A") ∷ []) }
+        ≡ first_of (codes "P") ((accepted == 0, codes "R") ∷ (accepted == received, codes "A")
+        ∷ []) }
 {
     if accepted == 0 {
         b"R"

@@ -32,6 +32,7 @@ fn append_goods(
 // The digits with `-` in front, at the front of what is returned.
 fn with_minus(digits: &[u8]) -> [u8; 41]
     requires { length digits.now ≤ 40 }
+
     ensures { take (length digits.now + 1) result ≡ 45 ∷ digits.now }
 {
     let mut text = [b'-'; 41];
@@ -122,7 +123,8 @@ pub(crate) fn append_body(
     lines: &[AdjustedLine<'_>],
 ) -> Result<usize, AllocError>
     ensures ok { IfOk result
-        (λ n. Appends delims out.old.items out.new.items (adjustment_body moment.now number lines.now) n) }
+        (λ n. Appends delims out.old.items out.new.items
+        (adjustment_body moment.now number lines.now) n) }
     ensures kept { Extends out.old.items out.new.items }
 {
     let date = moment.date();

@@ -6,7 +6,7 @@ ghost use Rattle.sets_out.specs.Documents.{receipt_body, shipment_body, adjustme
 ghost use Rattle.sets_out.specs.Handed.{function_of, number_of, body_of, receipt_of, shipment_of};
 
 use crate::envelopes::{
-    Envelope, append_ge, append_gs, append_iea, append_isa, append_se, append_st, filled,
+    Envelope, append_ge, append_gs, append_iea, append_isa_to, append_se, append_st,
 };
 use crate::sheets::{AdjustedLine, Document, Receipt, Shipment};
 use crate::{adjustments, receipts, shipments};
@@ -102,7 +102,8 @@ pub fn write_944(
     receipt: &Receipt<'_>,
 ) -> Result<(), AllocError>
     ensures ok { OnOk result (out.new.items ≡ out.old.items ++ text_of own_delims
-        (set_of_segments (codes "944") 1 (receipt_body moment.now number (receipt_of receipt.now)))) }
+        (set_of_segments (codes "944") 1 (receipt_body moment.now number
+        (receipt_of receipt.now)))) }
     ensures err { OnErr result (out.new.items ≡ out.old.items) }
 {
     write_set(out, moment, number, &Document::Received(receipt))
@@ -117,7 +118,8 @@ pub fn write_945(
     shipment: &Shipment<'_>,
 ) -> Result<(), AllocError>
     ensures ok { OnOk result (out.new.items ≡ out.old.items ++ text_of own_delims
-        (set_of_segments (codes "945") 1 (shipment_body moment.now number (shipment_of shipment.now)))) }
+        (set_of_segments (codes "945") 1 (shipment_body moment.now number
+        (shipment_of shipment.now)))) }
     ensures err { OnErr result (out.new.items ≡ out.old.items) }
 {
     write_set(out, moment, number, &Document::Shipped(shipment))
@@ -172,14 +174,7 @@ pub(crate) fn append_document(
     ensures kept { Extends out.old.items out.new.items }
 {
     let delims = Delims::of_documents();
-    append_isa(
-        out,
-        delims,
-        &envelope.warehouse,
-        &filled(&envelope.depositor),
-        &envelope.moment,
-        envelope.number,
-    )?;
+    append_isa_to(out, delims, envelope)?;
     append_group(out, delims, envelope, document)?;
     append_iea(out, delims, 1, envelope.number)?;
     Ok(())

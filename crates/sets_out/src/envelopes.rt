@@ -1,5 +1,6 @@
 ghost use Rattle.std.specs.Prelude.{◌≡◌, ◌+◌, ◌-◌, ◌++◌, ◌∷◌, [], codes, decimal, drop, replicate, map, flat_map, length, OnOk, IfOk};
 ghost use Rattle.profile.specs.Bytes.{padded, zero_filled};
+ghost use Rattle.profile.specs.declared.widths.TheConstants as widths;
 ghost use Rattle.profile.specs.Limits.{most_partner};
 ghost use Rattle.profile.specs.Cut.{joined};
 ghost use Rattle.profile.specs.Moments.{date6, date8, time4};
@@ -88,8 +89,8 @@ fn append_party(out: &mut Vec<u8>, separator: u8, party: &Party<'_>) -> Result<(
 
 // Appends ISA and its elements before the sides, or a beginning of that.
 fn append_opening(out: &mut Vec<u8>, separator: u8) -> Result<(), AllocError>
-    ensures ok { OnOk result (out.new.items ≡ out.old.items ++ joined separator (codes "ISA" ∷ codes "00" ∷
-        padded 10 [] ∷ codes "00" ∷ padded 10 [] ∷ [])) }
+    ensures ok { OnOk result (out.new.items ≡ out.old.items ++ joined separator
+        (codes "ISA" ∷ codes "00" ∷ padded 10 [] ∷ codes "00" ∷ padded 10 [] ∷ [])) }
     ensures kept { Extends out.old.items out.new.items }
 {
     let ten = &SPACES[..BLANK_BYTES];
@@ -118,8 +119,8 @@ fn append_closing(
 ) -> Result<(), AllocError>
     ensures ok { OnOk result (out.new.items ≡ out.old.items ++ (flat_map
         (λ e. delims.separator ∷ e) (date6 moment.now ∷ time4 moment.now ∷ codes "U" ∷ codes "00401"
-        ∷ zero_filled 9 number ∷ codes "0" ∷ codes "P" ∷ (delims.component ∷ []) ∷ []) ++ delims.terminator
-        ∷ [])) }
+        ∷ zero_filled widths.CONTROL_DIGITS number ∷ codes "0" ∷ codes "P" ∷ (delims.component ∷ []) ∷ [])
+        ++ delims.terminator ∷ [])) }
     ensures kept { Extends out.old.items out.new.items }
 {
     let date = moment.date();
@@ -162,6 +163,27 @@ pub(crate) fn append_isa(
     Ok(1)
 }
 
+// Appends ISA to the depositor of an envelope, or a beginning of it.
+pub(crate) fn append_isa_to(
+    out: &mut Vec<u8>,
+    delims: Delims,
+    envelope: &Envelope,
+) -> Result<usize, AllocError>
+    ensures ok { IfOk result (λ n. Appends delims out.old.items out.new.items (isa_segment delims
+        envelope.now.warehouse (receiver_of envelope.now.depositor) envelope.now.moment
+        envelope.now.number ∷ []) n) }
+    ensures kept { Extends out.old.items out.new.items }
+{
+    append_isa(
+        out,
+        delims,
+        &envelope.warehouse,
+        &filled(&envelope.depositor),
+        &envelope.moment,
+        envelope.number,
+    )
+}
+
 // Appends IEA, or nothing.
 pub(crate) fn append_iea(
     out: &mut Vec<u8>,
@@ -170,7 +192,7 @@ pub(crate) fn append_iea(
     number: u32,
 ) -> Result<usize, AllocError>
     ensures ok { IfOk result (λ n. Appends delims out.old.items out.new.items
-        ((codes "IEA" ∷ decimal groups ∷ zero_filled 9 number ∷ []) ∷ []) n) }
+        ((codes "IEA" ∷ decimal groups ∷ zero_filled widths.CONTROL_DIGITS number ∷ []) ∷ []) n) }
     ensures kept { Extends out.old.items out.new.items }
 {
     let mut buffer = Buffer::new();
@@ -232,7 +254,7 @@ pub(crate) fn append_st(
     place: u64,
 ) -> Result<usize, AllocError>
     ensures ok { IfOk result (λ n. Appends delims out.old.items out.new.items
-        ((codes "ST" ∷ number.now ∷ zero_filled 4 place ∷ []) ∷ []) n) }
+        ((codes "ST" ∷ number.now ∷ zero_filled widths.LEAST_SET_CONTROL place ∷ []) ∷ []) n) }
     ensures kept { Extends out.old.items out.new.items }
 {
     let control = zero_filled::<LEAST_SET_CONTROL>(place);
@@ -247,7 +269,7 @@ pub(crate) fn append_se(
     place: u64,
 ) -> Result<usize, AllocError>
     ensures ok { IfOk result (λ n. Appends delims out.old.items out.new.items
-        ((codes "SE" ∷ decimal segments ∷ zero_filled 4 place ∷ []) ∷ []) n) }
+        ((codes "SE" ∷ decimal segments ∷ zero_filled widths.LEAST_SET_CONTROL place ∷ []) ∷ []) n) }
     ensures kept { Extends out.old.items out.new.items }
 {
     let mut buffer = Buffer::new();

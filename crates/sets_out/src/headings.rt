@@ -70,7 +70,8 @@ pub fn write_ta1(
     heading: &Heading<'_>,
     note: Option<u16>,
 ) -> Result<(), AllocError>
-    ensures ok { OnOk result (out.new.items ≡ out.old.items ++ spelled delims (ta1_of heading.now note)) }
+    ensures ok { OnOk result (out.new.items ≡ out.old.items ++ spelled delims
+        (ta1_of heading.now note)) }
     ensures err { OnErr result (out.new.items ≡ out.old.items) }
 {
     let start = out.len();

@@ -6,7 +6,9 @@ ghost use Rattle.sets_out.specs.Interchanges.{acknowledged, answers_group, betwe
 
 use crate::acknowledgment::append_997;
 use crate::documents::append_document;
-use crate::envelopes::{Envelope, Party, append_ge, append_gs, append_iea, append_isa, filled};
+use crate::envelopes::{
+    Envelope, Party, append_ge, append_gs, append_iea, append_isa, append_isa_to,
+};
 use crate::headings::{Heading, append_ta1};
 use crate::sheets::Document;
 use crate::told::ToldGroup;
@@ -144,14 +146,7 @@ fn append_whole(out: &mut Vec<u8>, answer: &Answer<'_>) -> Result<(), AllocError
     ensures kept { Extends out.old.items out.new.items }
 {
     let (delims, envelope) = (answer.delims, &answer.envelope);
-    append_isa(
-        out,
-        delims,
-        &envelope.warehouse,
-        &filled(&envelope.depositor),
-        &envelope.moment,
-        envelope.number,
-    )?;
+    append_isa_to(out, delims, envelope)?;
     append_between(out, answer)?;
     append_iea(out, delims, groups(answer.told), envelope.number)?;
     Ok(())

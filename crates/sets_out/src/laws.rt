@@ -30,7 +30,8 @@ pub fn answer_is_of_what_is_told()
 /// A refusal is made of the heading.
 pub fn refusal_is_of_the_heading()
     ensures { (W : Who) (text : List ℕ) (t : Moment) (note : ℕ)
-        → refusal_interchange W text t note ≡ refusal_of (delims_of text) W t (heading_of text) note }
+        → refusal_interchange W text t note ≡ refusal_of (delims_of text) W t (heading_of text)
+        note }
 {}
 
 /// A 944 is made of the advice that a count closes and of its sheet.
@@ -113,5 +114,6 @@ pub fn document_is_cut_again()
     ensures { (W w : Who) (t : Moment) (n : ℕ) (document : Document) → is_partner W ≡ true
         → is_partner w ≡ true → IsDocumentOwn document
         → IsCutAgain own_delims (interchange_segments own_delims W (receiver_of w) t n
-        (group_of_sets W w t n (function_of document) (number_of document) (body_of t n document ∷ [])) 1) }
+        (group_of_sets W w t n (function_of document) (number_of document)
+        (body_of t n document ∷ [])) 1) }
 {}

@@ -99,7 +99,8 @@ fn append_goods(
 // LX, or nothing.
 fn append_place(out: &mut Vec<u8>, delims: Delims, place: u64) -> Result<usize, AllocError>
     ensures ok { IfOk result
-        (λ n. Appends delims out.old.items out.new.items ((codes "LX" ∷ decimal place ∷ []) ∷ []) n) }
+        (λ n. Appends delims out.old.items out.new.items ((codes "LX" ∷ decimal place ∷ []) ∷ [])
+        n) }
     ensures kept { Extends out.old.items out.new.items }
 {
     let mut buffer = Buffer::new();
@@ -163,7 +164,8 @@ fn append_first(
 // W03, or nothing.
 fn append_sum(out: &mut Vec<u8>, delims: Delims, shipped: u64) -> Result<usize, AllocError>
     ensures ok { IfOk result
-        (λ n. Appends delims out.old.items out.new.items ((codes "W03" ∷ decimal shipped ∷ []) ∷ []) n) }
+        (λ n. Appends delims out.old.items out.new.items ((codes "W03" ∷ decimal shipped ∷ []) ∷ [])
+        n) }
     ensures kept { Extends out.old.items out.new.items }
 {
     let mut buffer = Buffer::new();

@@ -99,6 +99,7 @@ fn repeated_in(before: &[ByteRecord], row: &ByteRecord) -> Option<&'static str>
 // The text of an identifier, whose bytes are ASCII.
 fn text_of(ident: &[u8]) -> &str
     requires { IsTrue (list_all is_identifier_byte ident.now) }
+
     ensures { result.now ≡ ident.now }
 {
     str::from_utf8(ident).unwrap_or("")
@@ -176,8 +177,8 @@ fn first_bad_in(
     None
 }
 
-/// The first line of a sheet's text that is a reason of this refusal (30 to 33), and why it is; None
-/// where there is none. A text that is refused so has one. The one error is want of memory.
+/// The first line of a sheet's text that is a reason of this refusal (30 to 33), and why it is;
+/// None where there is none. A text that is refused so has one. The one error is want of memory.
 pub fn first_bad(
     alloc: Global,
     kind: SheetKind,

@@ -35,9 +35,11 @@ fn line_of(alloc: Global, row: &ByteRecord) -> Result<Option<Line>, AllocError>
 // The lines of records; None where one hasn't three fields.
 fn lines_of(alloc: Global, rows: &[ByteRecord]) -> Result<Option<Vec<Line>>, AllocError>
     ensures lines { IfOk result
-        (λ found. IfSome found (λ lines. lines.items ≡ filter_map raw_line (map fields_of rows.now))) }
+        (λ found. IfSome found (λ lines. lines.items ≡ filter_map raw_line
+        (map fields_of rows.now))) }
     ensures uneven { IfOk result
-        (λ found. is_none found ≡ list_any (λ fields. is_none (raw_line fields)) (map fields_of rows.now)) }
+        (λ found. is_none found ≡ list_any (λ fields. is_none (raw_line fields))
+        (map fields_of rows.now)) }
 {
     let mut lines = Vec::new(alloc);
     for row in rows {

@@ -118,6 +118,7 @@ impl Line {
     // The line of a sheet with its quantity as a number.
     pub(crate) fn typed(&self, alloc: Global) -> Result<sets_in::Goods, AllocError>
         requires { bytes.value self.now.quantity ≤ most_recounted }
+
         ensures { IfOk result (λ l. l ≡ clerk.line_of self.now) }
     {
         let item = self.item.clone()?;

@@ -34,6 +34,7 @@ fn append_texts(out: &mut Vec<u8>, texts: &[&[u8]]) -> Result<(), AllocError>
 // Appends ITEM,LOT,QUANTITY and LF, or a beginning of it.
 fn append_line(out: &mut Vec<u8>, line: &Line) -> Result<(), AllocError>
     requires { bytes.value line.now.quantity ≤ most_recounted }
+
     ensures ok { OnOk result (out.new.items ≡ out.old.items ++ line_text (clerk.line_of line.now)) }
     ensures kept { Extends out.old.items out.new.items }
 {
@@ -46,6 +47,7 @@ fn append_line(out: &mut Vec<u8>, line: &Line) -> Result<(), AllocError>
 #[tactic(auto, using(segments::proofs::ExtendsLemmas::extends_trans, segments::proofs::ExtendsLemmas::extends_append))]
 pub(crate) fn append_lines(out: &mut Vec<u8>, lines: &[Line]) -> Result<(), AllocError>
     requires { All (λ (l : clerk.RawLine). bytes.value l.quantity ≤ most_recounted) lines.now }
+
     ensures ok { OnOk result (out.new.items ≡ out.old.items
         ++ flat_map line_text (map clerk.line_of lines.now)) }
     ensures kept { Extends out.old.items out.new.items }

@@ -1,5 +1,5 @@
 -- What is checked of lists is what is true of every page.
-use Rattle.std.proofs.Common.{◌≡◌, ℕ, zero, suc, ◌+◌, ◌<◌, ◌≤◌, Bool, true, false, cond, ◌&&◌, ◌⊎◌, List, [], ◌∷◌, length, map, take, ◌||◌, refl, sym, ap, ◌∙◌, arith, get_or, le-leb, inl, inr}
+use Rattle.std.proofs.Common.{◌≡◌, ℕ, zero, suc, ◌+◌, ◌<◌, ◌≤◌, Bool, true, cond, ◌&&◌, ◌⊎◌, List, [], ◌∷◌, length, map, take, ◌||◌, refl, sym, ap, ◌∙◌, arith, get_or, le-leb, inl, inr}
 use Rattle.std.proofs.lemmas.Bool.{and_parts, cases_Bool, leb-true}
 use Rattle.std.proofs.lemmas.List.{take_more}
 use Rattle.std.proofs.lemmas.List.Sums.{sum_by-append, sum_by-cons}
@@ -16,7 +16,6 @@ use Rattle.goods.specs.Pages.{AreSorted, IsSound, PageFacts, awaited, held, is_i
 use Rattle.goods.specs.Soundness.{all_expected, all_reserved, is_expected, is_kept, is_reserved, is_within, most_of}
 use Rattle.goods.specs.OfPairs.{IsDistinct, amount, is_row, one, of_pair}
 use Rattle.profile.proofs.TextLaws.{same_text}
-use Rattle.goods.proofs.Keys.{all_at}
 use Rattle.goods.proofs.KeyLemmas.{advices_once, documents_once, orders_once, sorted_distinct}
 use Rattle.goods.proofs.LotLemmas.{of_pair_has}
 use Rattle.goods.proofs.Orders.{Has}
@@ -48,13 +47,6 @@ given_least a b (k ∷ ks) (suc i) l within is e =
 pub any_map : {X Y : Type 0} (p : Y → Bool) (f : X → Y) (xs : List X) → list_any p (map f xs) ≡ list_any (λ x. p (f x)) xs
 any_map p f [] = refl
 any_map p f (x ∷ xs) = ap (λ (b : Bool). p (f x) || b) (any_map p f xs)
-
--- where one doesn't pass not all do
-pub not_all : {X : Type 0} (p : X → Bool) (xs : List X) (i : ℕ) (d : X) → i < length xs → p (get_or xs i d) ≡ false → list_all p xs ≡ false
-not_all p xs i d within h = elim (cases_Bool (list_all p xs)) [
-  | inr e ↦ e
-  | inl e ↦ let no : true ≡ false = sym (all_at p xs i d e within) ∙ h in absurd (cc (no))
-]
 
 -- ---- amounts of rows
 

@@ -30,10 +30,12 @@ fn is_decisive(page: &Page, ack: &AckIn) -> bool
 /// that it names by number and kind, if none before it did. Want of memory is the one error.
 pub fn acknowledge(alloc: Global, page: &Page, ack: &AckIn) -> Result<Step, AllocError>
     requires { page.now.recent < most_sets }
+
     ensures ok { IfOk result
         (λ step. (n : Named) (P : PageFacts) (es : List Event) → IsPart n page.now P
         → n.documents ack.now.document ≡ true → Shows P es
-        → Shows (put step.changes.items P) (es ++ Acknowledged (page.now.entries + 1) ack.now ∷ [])) }
+        → Shows (put step.changes.items P) (es ++ Acknowledged (page.now.entries + 1) ack.now
+        ∷ [])) }
     ensures changes { IfOk result
         (λ step. (n : Named) (P : PageFacts) → IsPart n page.now P
         → n.documents ack.now.document ≡ true → step.changes.items ≡ document_changes P ack.now) }

@@ -25,6 +25,7 @@ use std::alloc::{AllocError, Global};
 fn opened(alloc: Global, advice: &Advice, lines: Vec<Goods>) -> Result<KnownAdvice, AllocError>
     requires lines { lines.items ≡ meant_lines advice.now }
     requires few { length lines.items ≤ most_lines Two }
+
     ensures { IfOk result (λ known. known ≡ opened advice.now) }
 {
     let shipment = advice.shipment().to_vec(alloc)?;
@@ -36,6 +37,7 @@ fn opened(alloc: Global, advice: &Advice, lines: Vec<Goods>) -> Result<KnownAdvi
 fn changes(alloc: Global, page: &Page, advice: &Advice) -> Result<Vec<Change>, AllocError>
     requires unknown { advice_at advice.now.shipment page.now.advices ≡ None }
     requires room { page.now.recent < most_sets }
+
     ensures made { IfOk result
         (λ changes. (n : Named) (P : PageFacts) → IsPart n page.now P → NamesAdvice n advice.now
         → IsAnnounced advice.now P (put changes.items P)) }
@@ -61,6 +63,7 @@ fn changes(alloc: Global, page: &Page, advice: &Advice) -> Result<Vec<Change>, A
 /// isn't the sum), or want of memory.
 pub fn announce(alloc: Global, page: &Page, advice: &Advice) -> Result<Step, SetStop>
     requires { page.now.recent < most_sets }
+
     ensures ok { IfOk result
         (λ step. (n : Named) (P : PageFacts) (es : List Event) → IsPart n page.now P
         → NamesAdvice n advice.now → Shows P es → (advice_fault es advice.now ≡ None)

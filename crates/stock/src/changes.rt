@@ -15,6 +15,7 @@ pub(crate) fn row_changes(
     touched: &[Row],
 ) -> Result<Vec<Change>, AllocError>
     requires { IsSorted rows.now }
+
     ensures { IfOk result
         (λ changes. changes.items ≡ map Stock (changed_rows rows.now touched.now)) }
 {

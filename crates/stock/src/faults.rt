@@ -28,10 +28,12 @@ fn trade_fault(segment: &'static [u8], position: u32, place: u32) -> SetFault<'s
 // it are kept as rows, in order, so that each is found by halves.
 fn repeated_pair(alloc: Global, lines: &[AdviceLine]) -> Result<Option<u32>, AllocError>
     requires { HasFewLines lines.now }
+
     ensures room { IfOk result (λ o. IfSome o (λ n. n < 2 ^ 32 - 1)) }
     ensures first { IfOk result
         (λ o. o ≡ option_map
-        (λ (l : meant.AdviceLine). l.position) (events.repeated events.same_advice_pair [] lines.now)) }
+        (λ (l : meant.AdviceLine). l.position) (events.repeated events.same_advice_pair []
+        lines.now)) }
 {
     let mut seen = Vec::new(alloc);
     for line in lines {
@@ -48,6 +50,7 @@ fn repeated_pair(alloc: Global, lines: &[AdviceLine]) -> Result<Option<u32>, All
 fn redated_pair(lines: &[AdviceLine], rows: &[Row]) -> Option<u32>
     requires few { HasFewLines lines.now }
     requires sorted { IsSorted rows.now }
+
     ensures room { IfSome result (λ n. n < 2 ^ 32 - 1) }
     ensures first { result ≡ option_map
         (λ (l : meant.AdviceLine). l.position) (find (events.is_redated
@@ -90,6 +93,7 @@ fn pair_fault(
     rows: &[Row],
 ) -> Result<Option<SetFault<'static>>, AllocError>
     requires { IsSorted rows.now }
+
     ensures { IfOk result
         (λ f. option_map told f
         ≡ events.sooner (events.repeated_pair advice.now) (events.redated_pair
@@ -104,6 +108,7 @@ fn pair_fault(
 // The sum of the quantities of an advice.
 fn advice_total(lines: &[AdviceLine]) -> u64
     requires { HasFewLines lines.now }
+
     ensures { result ≡ sum_by (λ l. l.line.quantity) lines.now }
 {
     let mut total: u64 = 0;
@@ -123,6 +128,7 @@ pub(crate) fn advice_fault(
     rows: &[Row],
 ) -> Result<Option<SetFault<'static>>, AllocError>
     requires { IsSorted rows.now }
+
     ensures { IfOk result
         (λ f. option_map told f ≡ events.advice_fault_where is_known
         (λ item lot. date_of_pair item lot rows.now) advice.now) }
@@ -145,7 +151,8 @@ pub(crate) fn advice_fault(
 fn repeated_item(alloc: Global, lines: &[OrderLine]) -> Result<Option<u32>, AllocError>
     ensures { IfOk result
         (λ o. o ≡ option_map
-        (λ (l : meant.OrderLine). l.position) (events.repeated events.same_order_item [] lines.now)) }
+        (λ (l : meant.OrderLine). l.position) (events.repeated events.same_order_item []
+        lines.now)) }
 {
     let mut seen = Vec::new(alloc);
     for line in lines {
@@ -160,6 +167,7 @@ fn repeated_item(alloc: Global, lines: &[OrderLine]) -> Result<Option<u32>, Allo
 // The sum of the quantities of an order.
 fn order_total(lines: &[OrderLine]) -> u64
     requires { HasFewOrderLines lines.now }
+
     ensures { result ≡ sum_by (λ l. l.quantity) lines.now }
 {
     let mut total: u64 = 0;

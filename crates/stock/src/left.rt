@@ -26,7 +26,9 @@ pub(crate) fn amounts(alloc: Global, rows: &[Row], column: Column) -> Result<Vec
 fn take_line(rows: &[Row], left: &mut Vec<u64>, line: &Goods) -> bool
     requires sorted { IsSorted rows.now }
     requires beside { length left.old.items ≡ length rows.now }
-    ensures { IsLess rows.now (events.quantity_of (line.now ∷ [])) left.old.items left.new.items result }
+
+    ensures { IsLess rows.now (events.quantity_of (line.now ∷ [])) left.old.items left.new.items
+        result }
 {
     match place_of(rows, &line.item, &line.lot) {
         None => line.quantity == 0,
@@ -44,6 +46,7 @@ fn take_line(rows: &[Row], left: &mut Vec<u64>, line: &Goods) -> bool
 fn take_lines(rows: &[Row], left: &mut Vec<u64>, lines: &[Goods]) -> bool
     requires sorted { IsSorted rows.now }
     requires beside { length left.old.items ≡ length rows.now }
+
     ensures { IsLess rows.now (events.quantity_of lines.now) left.old.items left.new.items result }
 {
     for line in lines {
@@ -58,6 +61,7 @@ fn take_lines(rows: &[Row], left: &mut Vec<u64>, lines: &[Goods]) -> bool
 pub(crate) fn take_awaited(rows: &[Row], left: &mut Vec<u64>, advices: &[KnownAdvice]) -> bool
     requires sorted { IsSorted rows.now }
     requires beside { length left.old.items ≡ length rows.now }
+
     ensures { IsLess rows.now (pages.awaited advices.now) left.old.items left.new.items result }
 {
     for advice in advices {
@@ -72,6 +76,7 @@ pub(crate) fn take_awaited(rows: &[Row], left: &mut Vec<u64>, advices: &[KnownAd
 pub(crate) fn take_held(rows: &[Row], left: &mut Vec<u64>, orders: &[KnownOrder]) -> bool
     requires sorted { IsSorted rows.now }
     requires beside { length left.old.items ≡ length rows.now }
+
     ensures { IsLess rows.now (pages.held orders.now) left.old.items left.new.items result }
 {
     for order in orders {

@@ -177,6 +177,7 @@ impl Page {
     /// place. Want of memory is the one error; the page is given up.
     pub fn with(self, step: &Step) -> Result<Page, AllocError>
         requires { IsSound (put step.now.changes.items self) }
+
         ensures { IfOk result (λ page. page ≡ put step.now.changes.items self) }
     {
         let Page {
@@ -218,6 +219,7 @@ impl Page {
     /// Ends a numbered entry: there is one more, with no event since, and nothing else changes.
     pub fn next_entry(&mut self)
         requires { self.old.entries < most_entries }
+
         ensures next { self.new ≡ next_entry self.old }
         ensures shows { (es : List Event) → Shows self.old es → Shows self.new es }
     {

@@ -34,6 +34,7 @@ fn changes(
     requires known { order_at order.now.number page.now.orders ≡ Some order.now }
     requires is_open { order.now.is_open ≡ true }
     requires covered { list_any (exceeds order.now.reserved) sheet.now ≡ false }
+
     ensures made { IfOk result
         (λ changes. (n : Named) (P : PageFacts) → IsPart n page.now P
         → are_items n order.now.reserved ≡ true → are_items n sheet.now ≡ true
@@ -65,6 +66,7 @@ fn changes(
 /// each over all lines, or want of memory.
 pub fn pick(alloc: Global, page: &Page, number: &[u8], sheet: &Sheet) -> Result<Step, ActStop>
     requires { page.now.recent < most_sets }
+
     ensures ok { IfOk result
         (λ step. (n : Named) (P : PageFacts) (es : List Event) → IsPart n page.now P
         → NamesPick n page.now number.now sheet.now → Shows P es

@@ -15,6 +15,7 @@ use std::alloc::{AllocError, Global};
 // Whether one of the lines of which these are the rows is of the pair.
 pub(crate) fn is_among(seen: &[Row], item: &[u8], lot: &[u8]) -> bool
     requires { IsSorted seen.now }
+
     ensures { (lines : List Line) → AreRowsOf lines seen.now
         → result ≡ list_any (is_pair item.now lot.now) lines }
 {
@@ -27,6 +28,7 @@ pub(crate) fn is_among(seen: &[Row], item: &[u8], lot: &[u8]) -> bool
 // Puts a row in the place of that of its pair, or where that belongs.
 pub(crate) fn put_row(rows: &mut Vec<Row>, row: Row) -> Result<(), AllocError>
     requires { IsSorted rows.old.items }
+
     ensures { OnOk result (rows.new.items ≡ put_row row rows.old.items) }
 {
     if let Some(i) = place_of(rows, &row.item, &row.lot) {
@@ -41,6 +43,7 @@ pub(crate) fn put_row(rows: &mut Vec<Row>, row: Row) -> Result<(), AllocError>
 // The rows of the pairs that the lines name, as they are.
 pub(crate) fn touched(alloc: Global, rows: &[Row], lines: &[Goods]) -> Result<Vec<Row>, AllocError>
     requires { IsSorted rows.now }
+
     ensures { IfOk result (λ touched. IsTouched lines.now rows.now touched.items) }
 {
     let mut touched = Vec::new(alloc);
@@ -54,6 +57,7 @@ pub(crate) fn touched(alloc: Global, rows: &[Row], lines: &[Goods]) -> Result<Ve
 fn touch(rows: &[Row], touched: &mut Vec<Row>, line: &Goods) -> Result<(), AllocError>
     requires rows { IsSorted rows.now }
     requires touched { IsSorted touched.old.items }
+
     ensures { OnOk result (IsTouchedBy line.now rows.now touched.old.items touched.new.items) }
 {
     if let Some(i) = place_of(rows, &line.item, &line.lot) {
@@ -65,6 +69,7 @@ fn touch(rows: &[Row], touched: &mut Vec<Row>, line: &Goods) -> Result<(), Alloc
 // Whether a line gives a date to a pair whose row has another.
 pub(crate) fn is_redated(rows: &[Row], line: &AdviceLine) -> bool
     requires { IsSorted rows.now }
+
     ensures { result ≡ is_redated (λ item lot. date_of_pair item lot rows.now) line.now }
 {
     let goods = &line.line;
@@ -77,6 +82,7 @@ pub(crate) fn is_redated(rows: &[Row], line: &AdviceLine) -> bool
 // The place of the line's row, which is made where there is none.
 pub(crate) fn placed(alloc: Global, rows: &mut Vec<Row>, line: &Goods) -> Result<usize, AllocError>
     requires { IsSorted rows.old.items }
+
     ensures { IfOk result (λ i. IsPlaced rows.old.items rows.new.items line.now i) }
 {
     if let Some(i) = place_of(rows, &line.item, &line.lot) {
@@ -90,6 +96,7 @@ pub(crate) fn placed(alloc: Global, rows: &mut Vec<Row>, line: &Goods) -> Result
 // Whether the row is one of these.
 pub(crate) fn has_row(rows: &[Row], row: &Row) -> bool
     requires { IsSorted rows.now }
+
     ensures { result ≡ list_any (same_row row.now) rows.now }
 {
     match place_of(rows, &row.item, &row.lot) {

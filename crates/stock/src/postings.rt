@@ -22,7 +22,9 @@ fn add_line(
     requires sorted { IsSorted rows.old.items }
     requires fits { of_pair (amount (column_of column)) line.now.item line.now.lot rows.old.items +
         line.now.quantity < 2 ^ 64 }
-    ensures { OnOk result (IsAdded (column_of column) (line.now ∷ []) rows.old.items rows.new.items) }
+
+    ensures { OnOk result (IsAdded (column_of column) (line.now ∷ []) rows.old.items
+        rows.new.items) }
 {
     let i = placed(alloc, rows, line)?;
     let row = &mut rows[i];
@@ -33,8 +35,9 @@ fn add_line(
 // Takes a line from a column.
 fn take_line(rows: &mut Vec<Row>, column: Column, line: &Goods)
     requires sorted { IsSorted rows.old.items }
-    requires there { line.now.quantity ≤ of_pair (amount (column_of column)) line.now.item line.now.lot
-        rows.old.items }
+    requires there { line.now.quantity ≤ of_pair (amount (column_of column)) line.now.item
+        line.now.lot rows.old.items }
+
     ensures { IsTaken (column_of column) (line.now ∷ []) rows.old.items rows.new.items }
 {
     if let Some(i) = place_of(rows, &line.item, &line.lot) {
@@ -50,6 +53,7 @@ fn raise_line(rows: &mut Vec<Row>, column: Column, line: &Goods)
         line.now.quantity < 2 ^ 64 }
     requires there { of_pair one line.now.item line.now.lot rows.old.items ≡ 0
         → line.now.quantity ≡ 0 }
+
     ensures { IsRaised (column_of column) (line.now ∷ []) rows.old.items rows.new.items }
 {
     if let Some(i) = place_of(rows, &line.item, &line.lot) {
@@ -66,6 +70,7 @@ pub(crate) fn raise_lines(rows: &mut Vec<Row>, column: Column, lines: &[Goods])
         + quantity_of lines.now item lot < 2 ^ 64 }
     requires there { (item lot : List ℕ) → of_pair one item lot rows.old.items ≡ 0
         → quantity_of lines.now item lot ≡ 0 }
+
     ensures { IsRaised (column_of column) lines.now rows.old.items rows.new.items }
 {
     for line in lines {
@@ -79,9 +84,11 @@ pub(crate) fn ship(rows: &mut Vec<Row>, reserved: &[Goods], sheet: &[Goods])
     requires on_hand { (item lot : List ℕ)
         → quantity_of sheet.now item lot ≤ of_pair (amount OnHand) item lot rows.old.items }
     requires fits { (item lot : List ℕ)
-        → of_pair (amount Shipped) item lot rows.old.items + quantity_of sheet.now item lot < 2 ^ 64 }
+        → of_pair (amount Shipped) item lot rows.old.items + quantity_of sheet.now item lot < 2 ^
+        64 }
     requires there { (item lot : List ℕ)
         → quantity_of reserved.now item lot ≤ of_pair (amount Reservation) item lot rows.old.items }
+
     ensures { IsShipped reserved.now sheet.now rows.old.items rows.new.items }
 {
     take_lines(rows, Column::OnHand, sheet);
@@ -93,6 +100,7 @@ pub(crate) fn ship(rows: &mut Vec<Row>, reserved: &[Goods], sheet: &[Goods])
 fn set_line(rows: &mut Vec<Row>, line: &Goods)
     requires sorted { IsSorted rows.old.items }
     requires there { 1 ≤ of_pair one line.now.item line.now.lot rows.old.items }
+
     ensures { IsSet (line.now ∷ []) rows.old.items rows.new.items }
 {
     if let Some(i) = place_of(rows, &line.item, &line.lot) {
@@ -106,6 +114,7 @@ pub(crate) fn set_lines(rows: &mut Vec<Row>, lines: &[Goods])
     requires sorted { IsSorted rows.old.items }
     requires there { (item lot : List ℕ)
         → named_by lines.now item lot ≤ of_pair one item lot rows.old.items }
+
     ensures { IsSet lines.now rows.old.items rows.new.items }
 {
     for line in lines {
@@ -124,6 +133,7 @@ pub(crate) fn add_lines(
     requires fits { (item lot : List ℕ)
         → of_pair (amount (column_of column)) item lot rows.old.items
         + quantity_of lines.now item lot < 2 ^ 64 }
+
     ensures { OnOk result (IsAdded (column_of column) lines.now rows.old.items rows.new.items) }
 {
     for line in lines {
@@ -136,7 +146,9 @@ pub(crate) fn add_lines(
 pub(crate) fn take_lines(rows: &mut Vec<Row>, column: Column, lines: &[Goods])
     requires sorted { IsSorted rows.old.items }
     requires there { (item lot : List ℕ)
-        → quantity_of lines.now item lot ≤ of_pair (amount (column_of column)) item lot rows.old.items }
+        → quantity_of lines.now item lot ≤ of_pair (amount (column_of column)) item lot
+        rows.old.items }
+
     ensures { IsTaken (column_of column) lines.now rows.old.items rows.new.items }
 {
     for line in lines {
@@ -148,6 +160,7 @@ pub(crate) fn take_lines(rows: &mut Vec<Row>, column: Column, lines: &[Goods])
 fn mark_line(rows: &mut Vec<Row>, n: u32, line: &Goods)
     requires sorted { IsSorted rows.old.items }
     requires there { 1 ≤ of_pair one line.now.item line.now.lot rows.old.items }
+
     ensures { IsMarked n (line.now ∷ []) rows.old.items rows.new.items }
 {
     if let Some(i) = place_of(rows, &line.item, &line.lot) {
@@ -162,6 +175,7 @@ pub(crate) fn mark_lines(rows: &mut Vec<Row>, n: u32, lines: &[Goods])
     requires sorted { IsSorted rows.old.items }
     requires there { (item lot : List ℕ)
         → named_by lines.now item lot ≤ of_pair one item lot rows.old.items }
+
     ensures { IsMarked n lines.now rows.old.items rows.new.items }
 {
     for line in lines {
@@ -173,6 +187,7 @@ pub(crate) fn mark_lines(rows: &mut Vec<Row>, n: u32, lines: &[Goods])
 fn date_line(alloc: Global, rows: &mut Vec<Row>, line: &AdviceLine) -> Result<(), AllocError>
     requires sorted { IsSorted rows.old.items }
     requires there { 1 ≤ of_pair one line.now.line.item line.now.line.lot rows.old.items }
+
     ensures { OnOk result (IsDated (line.now ∷ []) rows.old.items rows.new.items) }
 {
     let goods = &line.line;
@@ -192,6 +207,7 @@ pub(crate) fn date_lines(
     requires sorted { IsSorted rows.old.items }
     requires there { (item lot : List ℕ)
         → named_by (map (λ l. l.line) lines.now) item lot ≤ of_pair one item lot rows.old.items }
+
     ensures { OnOk result (IsDated lines.now rows.old.items rows.new.items) }
 {
     for line in lines {
@@ -213,7 +229,9 @@ pub(crate) fn count(
     requires there { (item lot : List ℕ)
         → quantity_of expected.now item lot ≤ of_pair (amount Expected) item lot rows.old.items }
     requires fits { (item lot : List ℕ)
-        → of_pair (amount OnHand) item lot rows.old.items + quantity_of sheet.now item lot < 2 ^ 64 }
+        → of_pair (amount OnHand) item lot rows.old.items + quantity_of sheet.now item lot < 2 ^
+        64 }
+
     ensures { OnOk result (IsCounted n expected.now sheet.now rows.old.items rows.new.items) }
 {
     take_lines(rows, Column::Expected, expected);

@@ -32,6 +32,7 @@ fn changes(
     requires room { page.now.recent < most_sets }
     requires known { advice_at advice.now.shipment page.now.advices ≡ Some advice.now }
     requires is_open { advice.now.is_open ≡ true }
+
     ensures made { IfOk result
         (λ changes. (n : Named) (P : PageFacts) → IsPart n page.now P
         → are_items n advice.now.lines ≡ true → are_items n sheet.now ≡ true
@@ -68,6 +69,7 @@ fn changes(
 /// counted), or want of memory.
 pub fn receive(alloc: Global, page: &Page, shipment: &[u8], sheet: &Sheet) -> Result<Step, ActStop>
     requires { page.now.recent < most_sets }
+
     ensures ok { IfOk result
         (λ step. (n : Named) (P : PageFacts) (es : List Event) → IsPart n page.now P
         → NamesCount n page.now shipment.now sheet.now → Shows P es

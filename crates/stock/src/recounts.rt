@@ -27,6 +27,7 @@ fn changes(alloc: Global, page: &Page, sheet: &Sheet) -> Result<Vec<Change>, All
     requires room { page.now.recent < most_sets }
     requires known { list_any (is_unknown page.now.rows) sheet.now ≡ false }
     requires covered { list_any (is_below page.now.rows) sheet.now ≡ false }
+
     ensures made { IfOk result
         (λ changes. (n : Named) (P : PageFacts) → IsPart n page.now P → are_items n sheet.now ≡ true
         → IsRecounted (page.now.entries + 1) sheet.now P (put changes.items P)) }
@@ -53,6 +54,7 @@ fn changes(alloc: Global, page: &Page, sheet: &Sheet) -> Result<Vec<Change>, All
 /// differs from what is on hand), each over all lines, or want of memory.
 pub fn recount(alloc: Global, page: &Page, sheet: &Sheet) -> Result<Step, ActStop>
     requires { page.now.recent < most_sets }
+
     ensures ok { IfOk result
         (λ step. (n : Named) (P : PageFacts) (es : List Event) → IsPart n page.now P
         → are_items n sheet.now ≡ true → Shows P es

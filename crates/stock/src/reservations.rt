@@ -42,6 +42,7 @@ fn opened(
     lines: Vec<Goods>,
 ) -> Result<KnownOrder, AllocError>
     requires { lines.items ≡ reserved_lines shares.now }
+
     ensures { IfOk result (λ known. known ≡ opened_order order.now shares.now) }
 {
     let number = order.number().to_vec(alloc)?;
@@ -67,6 +68,7 @@ fn changes(
     requires unknown { order_at order.now.number page.now.orders ≡ None }
     requires once { repeated same_order_item [] order.now.lines ≡ None }
     requires allotted { (r : Rules) × (shares.now ≡ all_shares_in r page.now.rows order.now.lines) }
+
     ensures made { IfOk result
         (λ changes. (n : Named) (P : PageFacts) → IsPart n page.now P → NamesOrder n order.now
         → IsReserved order.now shares.now P (put changes.items P)) }
@@ -92,6 +94,7 @@ fn changes(
 /// want of memory.
 pub fn reserve(alloc: Global, page: &Page, order: &Order, rules: Rules) -> Result<Step, SetStop>
     requires { page.now.recent < most_sets }
+
     ensures ok { IfOk result
         (λ step. (n : Named) (P : PageFacts) (es : List Event) → IsPart n page.now P
         → NamesOrder n order.now → Shows P es

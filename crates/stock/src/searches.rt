@@ -11,6 +11,7 @@ use std::alloc::AllocError;
 // How many advices come before a shipment number.
 fn rank_of_advice(advices: &[KnownAdvice], shipment: &[u8]) -> usize
     requires { rises_by comes_before shipment_of advices.now ≡ true }
+
     ensures { IsRank comes_before shipment_of advices.now shipment.now result }
 {
     advices.partition_point(|advice| advice.is_before(shipment))
@@ -19,6 +20,7 @@ fn rank_of_advice(advices: &[KnownAdvice], shipment: &[u8]) -> usize
 /// The place of the advice under a shipment number.
 pub(crate) fn place_of_advice(advices: &[KnownAdvice], shipment: &[u8]) -> Option<usize>
     requires { rises_by comes_before shipment_of advices.now ≡ true }
+
     ensures { MatchOption result (advice_at shipment.now advices.now ≡ None)
         (λ i. IsAt (is_shipment shipment.now) advices.now i) }
 {
@@ -38,6 +40,7 @@ pub(crate) fn put_advice(
     advice: KnownAdvice,
 ) -> Result<(), AllocError>
     requires { rises_by comes_before shipment_of advices.old.items ≡ true }
+
     ensures { OnOk result (advices.new.items ≡ put_advice advice advices.old.items) }
 {
     if let Some(i) = place_of_advice(advices, advice.shipment()) {
@@ -52,6 +55,7 @@ pub(crate) fn put_advice(
 // How many orders come before a number.
 fn rank_of_order(orders: &[KnownOrder], number: &[u8]) -> usize
     requires { rises_by comes_before number_of orders.now ≡ true }
+
     ensures { IsRank comes_before number_of orders.now number.now result }
 {
     orders.partition_point(|order| order.is_before(number))
@@ -60,6 +64,7 @@ fn rank_of_order(orders: &[KnownOrder], number: &[u8]) -> usize
 /// The place of the order under a number.
 pub(crate) fn place_of_order(orders: &[KnownOrder], number: &[u8]) -> Option<usize>
     requires { rises_by comes_before number_of orders.now ≡ true }
+
     ensures { MatchOption result (order_at number.now orders.now ≡ None)
         (λ i. IsAt (is_number number.now) orders.now i) }
 {
@@ -76,6 +81,7 @@ pub(crate) fn place_of_order(orders: &[KnownOrder], number: &[u8]) -> Option<usi
 /// Puts an order in the place of that of its number, or where that belongs.
 pub(crate) fn put_order(orders: &mut Vec<KnownOrder>, order: KnownOrder) -> Result<(), AllocError>
     requires { rises_by comes_before number_of orders.old.items ≡ true }
+
     ensures { OnOk result (orders.new.items ≡ put_order order orders.old.items) }
 {
     if let Some(i) = place_of_order(orders, &order.number) {
@@ -90,6 +96,7 @@ pub(crate) fn put_order(orders: &mut Vec<KnownOrder>, order: KnownOrder) -> Resu
 // How many documents come before a number.
 fn rank_of_document(documents: &[KnownDocument], n: u32) -> usize
     requires { rises_by nat_lt entry_of documents.now ≡ true }
+
     ensures { IsRank nat_lt entry_of documents.now n result }
 {
     documents.partition_point(|document| document.n < n)
@@ -98,6 +105,7 @@ fn rank_of_document(documents: &[KnownDocument], n: u32) -> usize
 /// The place of the document with a number.
 pub(crate) fn place_of_document(documents: &[KnownDocument], n: u32) -> Option<usize>
     requires { rises_by nat_lt entry_of documents.now ≡ true }
+
     ensures { MatchOption result (document_at n documents.now ≡ None)
         (λ i. IsAt (is_document n) documents.now i) }
 {
@@ -117,6 +125,7 @@ pub(crate) fn put_document(
     document: KnownDocument,
 ) -> Result<(), AllocError>
     requires { rises_by nat_lt entry_of documents.old.items ≡ true }
+
     ensures { OnOk result (documents.new.items ≡ put_document document documents.old.items) }
 {
     if let Some(i) = place_of_document(documents, document.n) {
@@ -135,7 +144,9 @@ pub(crate) fn send(
     function: Function,
 ) -> Result<(), AllocError>
     requires { rises_by nat_lt entry_of documents.old.items ≡ true }
-    ensures { OnOk result (documents.new.items ≡ with_sent n (function_text function) documents.old.items) }
+
+    ensures { OnOk result (documents.new.items ≡ with_sent n (function_text function)
+        documents.old.items) }
 {
     if let Some(_) = place_of_document(documents, n) {
         return Ok(());
@@ -155,6 +166,7 @@ pub(crate) fn send(
 /// Keeps what is said of a document, if there is one under the number.
 pub(crate) fn put_said(documents: &mut Vec<KnownDocument>, n: u32, accepts: bool)
     requires { rises_by nat_lt entry_of documents.old.items ≡ true }
+
     ensures { documents.new.items ≡ with_said n accepts documents.old.items }
 {
     if let Some(i) = place_of_document(documents, n) {

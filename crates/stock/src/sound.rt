@@ -69,6 +69,7 @@ fn holds_at_most(orders: &[KnownOrder], item: &[u8], lot: &[u8], most: u64) -> b
 // Whether what open advices bring of a line's pair is expected.
 fn is_expected(rows: &[Row], advices: &[KnownAdvice], line: &Goods) -> bool
     requires { IsSorted rows.now }
+
     ensures { result ≡ meant.is_expected rows.now advices.now line.now }
 {
     let expected = amount_of(rows, Column::Expected, &line.item, &line.lot);
@@ -78,6 +79,7 @@ fn is_expected(rows: &[Row], advices: &[KnownAdvice], line: &Goods) -> bool
 // Whether what open orders hold of a line's pair is reserved.
 fn is_reserved(rows: &[Row], orders: &[KnownOrder], line: &Goods) -> bool
     requires { IsSorted rows.now }
+
     ensures { result ≡ meant.is_reserved rows.now orders.now line.now }
 {
     let reserved = amount_of(rows, Column::Reservation, &line.item, &line.lot);
@@ -87,6 +89,7 @@ fn is_reserved(rows: &[Row], orders: &[KnownOrder], line: &Goods) -> bool
 // Whether what open advices bring of each line's pair is expected.
 fn are_expected(rows: &[Row], advices: &[KnownAdvice], lines: &[Goods]) -> bool
     requires { IsSorted rows.now }
+
     ensures { result ≡ list_all (meant.is_expected rows.now advices.now) lines.now }
 {
     for line in lines {
@@ -100,6 +103,7 @@ fn are_expected(rows: &[Row], advices: &[KnownAdvice], lines: &[Goods]) -> bool
 // Whether what open orders hold of each line's pair is reserved.
 fn are_reserved(rows: &[Row], orders: &[KnownOrder], lines: &[Goods]) -> bool
     requires { IsSorted rows.now }
+
     ensures { result ≡ list_all (meant.is_reserved rows.now orders.now) lines.now }
 {
     for line in lines {
@@ -113,6 +117,7 @@ fn are_reserved(rows: &[Row], orders: &[KnownOrder], lines: &[Goods]) -> bool
 // Whether what an open advice brings is expected.
 fn advice_expected(rows: &[Row], advices: &[KnownAdvice], advice: &KnownAdvice) -> bool
     requires { IsSorted rows.now }
+
     ensures { result ≡ (if advice.now.is_open then list_all (meant.is_expected rows.now advices.now)
         advice.now.lines else true) }
 {
@@ -122,6 +127,7 @@ fn advice_expected(rows: &[Row], advices: &[KnownAdvice], advice: &KnownAdvice) 
 // Whether what an open order holds is reserved.
 fn order_reserved(rows: &[Row], orders: &[KnownOrder], order: &KnownOrder) -> bool
     requires { IsSorted rows.now }
+
     ensures { result ≡ (if order.now.is_open then list_all (meant.is_reserved rows.now orders.now)
         order.now.reserved else true) }
 {
@@ -132,6 +138,7 @@ fn order_reserved(rows: &[Row], orders: &[KnownOrder], order: &KnownOrder) -> bo
 // memory.
 fn each_expected(rows: &[Row], advices: &[KnownAdvice]) -> bool
     requires { IsSorted rows.now }
+
     ensures { result ≡ meant.all_expected rows.now advices.now advices.now }
 {
     for advice in advices {
@@ -146,6 +153,7 @@ fn each_expected(rows: &[Row], advices: &[KnownAdvice]) -> bool
 // memory.
 fn each_reserved(rows: &[Row], orders: &[KnownOrder]) -> bool
     requires { IsSorted rows.now }
+
     ensures { result ≡ meant.all_reserved rows.now orders.now orders.now }
 {
     for order in orders {
@@ -163,6 +171,7 @@ fn expected_at_once(
     advices: &[KnownAdvice],
 ) -> Result<bool, AllocError>
     requires { IsSorted rows.now }
+
     ensures { IfOk result (λ enough. enough ≡ meant.all_expected rows.now advices.now advices.now) }
 {
     let mut left = amounts(alloc, rows, Column::Expected)?;
@@ -172,6 +181,7 @@ fn expected_at_once(
 // The same of the orders with one look at each line, where there is memory for the sums.
 fn reserved_at_once(alloc: Global, rows: &[Row], orders: &[KnownOrder]) -> Result<bool, AllocError>
     requires { IsSorted rows.now }
+
     ensures { IfOk result (λ enough. enough ≡ meant.all_reserved rows.now orders.now orders.now) }
 {
     let mut left = amounts(alloc, rows, Column::Reservation)?;
@@ -181,6 +191,7 @@ fn reserved_at_once(alloc: Global, rows: &[Row], orders: &[KnownOrder]) -> Resul
 // Whether all that open advices bring is expected.
 fn all_expected(alloc: Global, rows: &[Row], advices: &[KnownAdvice]) -> bool
     requires { IsSorted rows.now }
+
     ensures { result ≡ meant.all_expected rows.now advices.now advices.now }
 {
     match expected_at_once(alloc, rows, advices) {
@@ -192,6 +203,7 @@ fn all_expected(alloc: Global, rows: &[Row], advices: &[KnownAdvice]) -> bool
 // Whether all that open orders hold is reserved.
 fn all_reserved(alloc: Global, rows: &[Row], orders: &[KnownOrder]) -> bool
     requires { IsSorted rows.now }
+
     ensures { result ≡ meant.all_reserved rows.now orders.now orders.now }
 {
     match reserved_at_once(alloc, rows, orders) {
@@ -281,6 +293,7 @@ pub(crate) fn is_kept(
     entries: u32,
 ) -> bool
     requires { IsSorted rows.now }
+
     ensures { (p : pages.PageFacts) → p.rows ≡ rows.now → p.advices ≡ advices.now
         → p.orders ≡ orders.now → p.entries ≡ entries → result ≡ meant.is_kept p }
 {

@@ -79,7 +79,9 @@ KeepsAnswers W given days M =
     → reply_to Two W M c s ≡ Stored text
 
 -- trees stand for the register that one day leaves of something that was left before
-pub record PassesTo (left : Trees → Type 0) (W : Who) (all : AllCarried left W) (given : List (Command × Moment)) (day : Result Answered Fault) (db : Trees) : Type 0 where
+pub record PassesTo
+    (left : Trees → Type 0) (W : Who) (all : AllCarried left W) (given : List (Command × Moment))
+    (day : Result Answered Fault) (db : Trees) : Type 0 where
   pub found : Trees
   pub was : left found
   pub register : List Entry
@@ -87,7 +89,9 @@ pub record PassesTo (left : Trees → Type 0) (W : Who) (all : AllCarried left W
   pub stands : LeavesCarried W register db
 
 -- trees stand for the register to which the days led, and which keeps what was answered
-pub record AreLed (W : Who) (L : List Entry) (given : List (List (Command × Moment))) (days : List (Result Answered Fault)) (db : Trees) : Type 0 where
+pub record AreLed
+    (W : Who) (L : List Entry) (given : List (List (Command × Moment)))
+    (days : List (Result Answered Fault)) (db : Trees) : Type 0 where
   pub register : List Entry
   pub passed : Pass W L given days register
   pub kept : KeepsAnswers W given days register

@@ -26,7 +26,9 @@ pub record IsReopened (old new : Standing) : Type 0 where
 -- Commands were answered on the register L, up to a fault. The book serves on their register; or,
 -- only where the fault was 40 or 41, it has to be opened again, and a crash leaves that register,
 -- or it with the next command's entry.
-pub record Runs (old new : Standing) (L : List Entry) (given : List (Command × Moment)) (o : Outcome) : Type 0 where
+pub record Runs
+    (old new : Standing) (L : List Entry) (given : List (Command × Moment)) (o : Outcome)
+    : Type 0 where
   pub goes : GoesOn old new
   pub answered : new.doubt ≡ 0
       → map told o.replies.items
@@ -40,7 +42,9 @@ pub record Runs (old new : Standing) (L : List Entry) (given : List (Command × 
 -- Commands were answered on the register L, up to a fault, and the stop after them left the
 -- register M. So many of them count: those that were answered, and perhaps the next, but only where
 -- the book had to be opened again, which it has to at 40 and 41 alone.
-pub record IsAnswered (W : Who) (L : List Entry) (given : List (Command × Moment)) (before : Answered) (M : List Entry) : Type 0 where
+pub record IsAnswered
+    (W : Who) (L : List Entry) (given : List (Command × Moment)) (before : Answered)
+    (M : List Entry) : Type 0 where
   pub replies : map told before.outcome.replies.items
       ≡ replies_on Two W L (take (length before.outcome.replies.items) given)
   pub broken : before.must_reopen ≡ true → MayBeThere before.outcome.fault
@@ -52,21 +56,26 @@ pub record IsAnswered (W : Who) (L : List Entry) (given : List (Command × Momen
 
 -- The first commands were answered on the register L, and the second ones are answered on the one
 -- that the stop between them left.
-pub record Crosses (old new : Standing) (L : List Entry) (first second : List (Command × Moment)) (before : Answered) (later : Outcome) : Type 0 where
+pub record Crosses
+    (old new : Standing) (L : List Entry) (first second : List (Command × Moment))
+    (before : Answered) (later : Outcome) : Type 0 where
   pub register : List Entry
   pub answered : IsAnswered old.warehouse L first before register
   pub warehouse : new.warehouse ≡ old.warehouse
   pub replies : map told later.replies.items
       ≡ replies_on Two old.warehouse register (take (length later.replies.items) second)
   pub opened : new.shut ≡ false
-      → IsUsable new (accepted_on Two old.warehouse register (take (length later.replies.items) second))
+      → IsUsable new (accepted_on Two old.warehouse register
+      (take (length later.replies.items) second))
   pub broken : new.shut ≡ true → MayBeThere later.fault × LeavesEither new
       (accepted_on Two old.warehouse register (take (length later.replies.items) second))
       (accepted_on Two old.warehouse register (take (length later.replies.items + 1) second))
 
 -- The commands were answered on the register L, and the book was not opened after the stop, for 40
 -- or 41. Whatever is left of its store stands for the register that the stop after them left.
-pub record Waits (W : Who) (L : List Entry) (given : List (Command × Moment)) (before : Answered) (fault : Fault) (left : Trees → Type 0) : Type 0 where
+pub record Waits
+    (W : Who) (L : List Entry) (given : List (Command × Moment)) (before : Answered) (fault : Fault)
+    (left : Trees → Type 0) : Type 0 where
   pub called : IsCallFault fault
   pub replies : map told before.outcome.replies.items
       ≡ replies_on Two W L (take (length before.outcome.replies.items) given)

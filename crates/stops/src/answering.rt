@@ -29,7 +29,8 @@ pub(crate) fn answer<K: Keeper>(
     ensures must_reopen { result.must_reopen ≡ (K.standing keeper.new).shut }
     ensures runs { (L : List register.Entry) → IsUsable (K.standing keeper.old) L
         → can_be_given (take (length result.outcome.replies.items + 1) commands.now) ≡ true
-        → Runs (K.standing keeper.old) (K.standing keeper.new) L (all_asked commands.now) result.outcome }
+        → Runs (K.standing keeper.old) (K.standing keeper.new) L (all_asked commands.now)
+        result.outcome }
     ensures goes { GoesOn (K.standing keeper.old) (K.standing keeper.new) }
 {
     let outcome = run(alloc, keeper, commands);

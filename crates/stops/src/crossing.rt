@@ -3,7 +3,7 @@ ghost use Rattle.std.specs.Prelude.{◌≡◌, ◌⊎◌, List, true, IfErr, IfO
 ghost use Rattle.profile.specs.Register as register;
 ghost use Rattle.sqlite_trees.specs.View.{IsClean};
 ghost use Rattle.store.specs.Runs.{all_asked, can_be_given};
-ghost use Rattle.store.specs.Standing.{IsUsable};
+ghost use Rattle.store.specs.Standing.{IsUsable, OfUsable};
 ghost use Rattle.books.specs.Opened.{standing_of};
 ghost use Rattle.stops.specs.Stopped.{Crosses, StoresAgain, Waits};
 
@@ -33,17 +33,17 @@ pub fn across<S: Alter + Reopen + Drop>(
         → length r.0.replies.items ≡ length second.now) }
     ensures named { IfErr result.1 (λ e. (e.0 ≡ Fault.NotThisBook) ⊎ ((e.0 ≡ Fault.OutOfMemory)
         ⊎ (e.0 ≡ Fault.Store))) }
-    ensures crossed { IfOk result.1 (λ r. (standing_of S.Store r.1).doubt ≡ 0
-        → (L : List register.Entry) → IsUsable (standing_of S.Store book) L
-        → can_be_given (take (length result.0.outcome.replies.items + 1) first.now) ≡ true
+    ensures crossed { IfOk result.1 (λ r. OfUsable (standing_of S.Store book)
+        (standing_of S.Store r.1)
+        (λ L. can_be_given (take (length result.0.outcome.replies.items + 1) first.now) ≡ true
         → can_be_given (take (length r.0.replies.items + 1) second.now) ≡ true
         → Crosses (standing_of S.Store book) (standing_of S.Store r.1) L (all_asked first.now)
-        (all_asked second.now) result.0 r.0) }
-    ensures stored { IfOk result.1 (λ r. (standing_of S.Store r.1).doubt ≡ 0
-        → (L : List register.Entry) → IsUsable (standing_of S.Store book) L
-        → can_be_given (take (length result.0.outcome.replies.items + 1) first.now) ≡ true
+        (all_asked second.now) result.0 r.0)) }
+    ensures stored { IfOk result.1 (λ r. OfUsable (standing_of S.Store book)
+        (standing_of S.Store r.1)
+        (λ L. can_be_given (take (length result.0.outcome.replies.items + 1) first.now) ≡ true
         → can_be_given (take (length r.0.replies.items + 1) second.now) ≡ true
-        → StoresAgain (all_asked first.now) (all_asked second.now) result.0 r.0) }
+        → StoresAgain (all_asked first.now) (all_asked second.now) result.0 r.0)) }
     ensures waits { IfErr result.1 (λ e. IsClean (S.Store.view e.1)
         → (L : List register.Entry) → IsUsable (standing_of S.Store book) L
         → can_be_given (take (length result.0.outcome.replies.items + 1) first.now) ≡ true

@@ -25,6 +25,7 @@ fn day<S: Alter + Reopen + Drop>(
     commands: &[(Command<'_>, Moment)],
 ) -> (Result<Answered, Fault>, S, bool)
     requires { IsClean (S.Store.view store) → IsTrue (S.Store.view store).is_numbered }
+
     ensures passes { IsClean (S.Store.view result.1)
         → can_be_given (reached_on commands.now result.0) ≡ true
         → (W : Partner) (all : AllCarried (S.Store.recovers store) W) → (db : Trees)
@@ -76,6 +77,7 @@ pub fn days<S: Alter + Reopen + Drop>(
     counts: &[usize],
 ) -> (Vec<Result<Answered, Fault>>, bool, S)
     requires { IsClean (S.Store.view store) → IsTrue (S.Store.view store).is_numbered }
+
     ensures led { IsClean (S.Store.view result.2)
         → list_all can_be_given (reached (day_by_day counts.now asked.now) result.0.items) ≡ true
         → (W : Partner) (L : List Entry)

@@ -54,6 +54,7 @@ pub(crate) fn opened_after<S: Alter + Reopen + Drop>(
     mut store: S,
 ) -> Result<Book<S>, (Fault, S, bool)>
     requires { IsClean (S.Store.view store) → IsTrue (S.Store.view store).is_numbered }
+
     ensures opened { IfOk result (λ b. (standing_of S.Store b).doubt ≡ 0
         → (W : Partner) (all : AllCarried (S.Store.recovers store) W)
         → IsOpenedOf (S.Store.recovers store) W all (standing_of S.Store b)) }

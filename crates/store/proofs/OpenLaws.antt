@@ -1,5 +1,5 @@
 -- What a depositor has open by its page, and who is enrolled by what is written down.
-use Rattle.std.proofs.Common.{◌≡◌, Bool, true, false, not, List, [], ◌∷◌, ◌++◌, map, refl, ap, ◌∙◌, Some, None}
+use Rattle.std.proofs.Common.{◌≡◌, Bool, true, false, not, List, [], ◌∷◌, ◌++◌, map, refl, ap, ◌∙◌, Some}
 use Rattle.std.specs.Prelude.{filter, nat_lt, count_by}
 use Rattle.profile.specs.Header.{Who}
 use Rattle.profile.specs.History.{history, events}
@@ -14,7 +14,7 @@ use Rattle.rules.proofs.Paged.{advices_are_page, orders_are_page}
 use Rattle.store.specs.Held.{IsHeldFor}
 use Rattle.store.specs.Open.{open_among, open_on, open_work, open_of, enrolled}
 use Rattle.store.specs.Replayed.{written_on}
-use Rattle.store.proofs.Entries.{shown_none, shown_some}
+use Rattle.store.proofs.Entries.{shown_some}
 use Rattle.store.proofs.WentOut.{positive}
 
 -- What is open.
@@ -23,9 +23,6 @@ pub work_of_page : (p : PageFacts) (M : List Entry) → IsSound p → IsPageOf p
 work_of_page p M sound h =
     ap (λ (listed : List PageAdvice). open_among listed p.orders) (advices_are_page p (events M) sound.sorted h.shows (advices_once M))
     ∙ ap (open_among (page_advices (events M))) (orders_are_page p (events M) sound.sorted h.shows (orders_once M))
-
-pub work_none : (L : List Entry) (who : Who) → IsHeldFor None (standing (own L who)) → None ≡ open_of L who
-work_none L who h = shown_none open_work (open_work []) L who h
 
 pub work_some : (L : List Entry) (who : Who) (p : PageFacts) → IsSound p → IsHeldFor (Some p) (standing (own L who)) → Some (open_on p) ≡ open_of L who
 work_some L who p sound h = shown_some open_work (open_on p) L who p h (λ M is. work_of_page p M sound is)

@@ -44,10 +44,13 @@ pub record KeepsLegal (s : Standing) (L : List Entry) : Type 0 where
   pub keeps : s.keeps L
   pub legal : IsLegal Two s.warehouse L
 
--- of the legal register that the book keeps, if the disk is in no doubt after the call
+-- of any register that the book keeps, if the disk is in no doubt after the call
+abbrev pub OfAnyKept : Standing → Standing → (List Entry → Type 0) → Type 0
+OfAnyKept old new P = new.doubt ≡ 0 → (L : List Entry) → old.keeps L → P L
+
+-- of one that is legal
 abbrev pub OfKept : Standing → Standing → (List Entry → Type 0) → Type 0
-OfKept old new P = new.doubt ≡ 0 → (L : List Entry) → old.keeps L → IsLegal Two old.warehouse L
-    → P L
+OfKept old new P = OfAnyKept old new (λ L. IsLegal Two old.warehouse L → P L)
 
 -- of the register of a book that serves, if the disk is in no doubt after the call
 abbrev pub OfUsable : Standing → Standing → (List Entry → Type 0) → Type 0
@@ -63,10 +66,9 @@ pub record GoesOn (old new : Standing) : Type 0 where
 pub record IsUnchanged (old new : Standing) : Type 0 where
   pub goes : GoesOn old new
   pub shut : new.shut ≡ old.shut
-  pub keeps : new.doubt ≡ 0 → (L : List Entry) → old.keeps L → new.keeps L
-  pub stand : new.doubt ≡ 0 → (L : List Entry) → old.keeps L → old.all_stand → new.all_stand
-  pub no_more : new.doubt ≡ 0 → (L : List Entry) → old.keeps L → (M : List Entry) → new.left M
-      → old.left M
+  pub keeps : OfAnyKept old new (λ L. new.keeps L)
+  pub stand : OfAnyKept old new (λ L. old.all_stand → new.all_stand)
+  pub no_more : OfAnyKept old new (λ L. (M : List Entry) → new.left M → old.left M)
 
 -- the store refused a call, or its count is at its greatest
 abbrev pub Refused : Standing → Standing → Type 0
@@ -76,7 +78,7 @@ Refused old new = (old.refusals < new.refusals) ⊎ (new.refusals ≡ 2 ^ 64 - 1
 pub record IsQueryFault (fault : Fault) (old new : Standing) : Type 0 where
   pub store : fault ≡ Store → Refused old new
   pub reopen : fault ≡ Reopen → old.shut ≡ true
-  pub not_this : fault ≡ NotThisBook → new.doubt ≡ 0 → (L : List Entry) → old.keeps L → ⊥
+  pub not_this : fault ≡ NotThisBook → OfAnyKept old new (λ L. ⊥)
   pub device : fault ≡ Device → ⊥
 
 -- what a query leaves, which is all as it was, and why it failed
@@ -109,7 +111,9 @@ pub record IsRunFault (fault : Fault) (given : Bool) (old new : Standing) : Type
 -- what a book is given to append: the entry as it is written down after the register, which stays
 -- legal with it, the changes that lead from the tables of the register to those with the entry, and
 -- the text that goes out for it
-pub record IsNext (W : Who) (L : List Entry) (e : Entry) (row : Written) (changes : List Change) (text : List ℕ) : Type 0 where
+pub record IsNext
+    (W : Who) (L : List Entry) (e : Entry) (row : Written) (changes : List Change) (text : List ℕ)
+    : Type 0 where
   pub entry : row ≡ written L e
   pub legal : IsLegal Two W (L ++ e ∷ [])
   pub leads : LeadOn Two W L e (table_changes e.who changes)

@@ -1,4 +1,4 @@
-ghost use Rattle.std.specs.Prelude.{◌<◌, ◌≡◌, ◌++◌, ◌∷◌, [], List, Bool, true, false, IfOk, OnOk, OnErr, IfErr, IsErrOf, option_map};
+ghost use Rattle.std.specs.Prelude.{◌<◌, ◌≡◌, ◌++◌, ◌∷◌, [], Bool, true, false, IfOk, OnOk, OnErr, IfErr, IsErrOf, option_map};
 ghost use Rattle.profile.specs.Register as register;
 ghost use Rattle.profile.specs.Decision as decided;
 ghost use Rattle.profile.specs.Rows.{stock_of, outbox_of};
@@ -8,7 +8,7 @@ ghost use Rattle.store.specs.Held.{IsHeld};
 ghost use Rattle.store.specs.Known.{first_under};
 ghost use Rattle.store.specs.Open.{open_of, open_on, enrolled};
 ghost use Rattle.store.specs.Sent.{text_of};
-ghost use Rattle.store.specs.Standing.{Standing, IsUsable, IsNext, IsUnchanged, GoesOn, LeavesEither, IsFault, IsCommitFault, IsQuery, OfKept, OfUsable};
+ghost use Rattle.store.specs.Standing.{Standing, IsUsable, IsNext, IsUnchanged, GoesOn, LeavesEither, IsFault, IsCommitFault, IsQuery, OfAnyKept, OfKept, OfUsable};
 
 use crate::rows::{OutRow, StockRow};
 use profile::Fault;
@@ -30,7 +30,8 @@ pub trait Keeper {
     /// entry; None for a stranger.
     fn load(&mut self, who: Who, need: &Need) -> Result<Option<Page>, Fault>
         ensures page { OfKept (standing self.old) (standing self.new)
-            (λ L. IfOk result (λ page. IsHeld need.now page (decided.standing (register.own L who)))) }
+            (λ L. IfOk result (λ page. IsHeld need.now page
+            (decided.standing (register.own L who)))) }
         ensures rest { IfOk result IsAtRest }
         ensures query { IsQuery (standing self.old) (standing self.new) result }
         ensures shut { (standing self.old).shut ≡ true → IsErrOf result Fault.Reopen };
@@ -39,11 +40,12 @@ pub trait Keeper {
     /// where there is none.
     fn known(&mut self, who: Who, key: &Key<'_>) -> Result<Option<Known>, Fault>
         ensures entry { OfKept (standing self.old) (standing self.new)
-            (λ L. IfOk result (λ known. IsRecalled known (decided.recalled (standing self.old).warehouse
+            (λ L. IfOk result (λ known. IsRecalled known
+            (decided.recalled (standing self.old).warehouse
             (mark_of key.now) (register.own L who)))) }
-        ensures recorded { (standing self.new).doubt ≡ 0 → (L : List register.Entry)
-            → (standing self.old).keeps L
-            → IfOk result (λ known. option_map (λ k. k.entry) known ≡ first_under who (mark_of key.now) L) }
+        ensures recorded { OfAnyKept (standing self.old) (standing self.new)
+            (λ L. IfOk result (λ known. option_map (λ k. k.entry) known
+            ≡ first_under who (mark_of key.now) L)) }
         ensures query { IsQuery (standing self.old) (standing self.new) result }
         ensures shut { (standing self.old).shut ≡ true → IsErrOf result Fault.Reopen };
 
@@ -54,11 +56,10 @@ pub trait Keeper {
             (λ L. (e : register.Entry)
             → IsNext (standing self.old).warehouse L e entry.now changes.now outgoing.now
             → OnOk result (IsUsable (standing self.new) (L ++ e ∷ []))) }
-        ensures keeps { (standing self.new).doubt ≡ 0
-            → (L : List register.Entry) (e : register.Entry)
-            → (standing self.old).keeps L
+        ensures keeps { OfAnyKept (standing self.old) (standing self.new)
+            (λ L. (e : register.Entry)
             → IsNext (standing self.old).warehouse L e entry.now changes.now outgoing.now
-            → OnOk result ((standing self.new).keeps (L ++ e ∷ [])) }
+            → OnOk result ((standing self.new).keeps (L ++ e ∷ []))) }
         ensures left { OfUsable (standing self.old) (standing self.new)
             (λ L. (e : register.Entry)
             → IsNext (standing self.old).warehouse L e entry.now changes.now outgoing.now

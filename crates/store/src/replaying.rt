@@ -63,10 +63,12 @@ fn with_entry(
     who: &Who,
 ) -> Result<Option<Page>, AllocError>
     requires { IsAtRest page }
+
     ensures page { (L later : List register.Entry) (i : ℕ) → IsLegal Two warehouse.now (L ++ later)
         → i < length (all_written L) → entry.now ≡ get_or (all_written L) i entry.now
         → IsHeldFor page (history_of (register.own (take i L) who.now))
-        → IfOk result (λ next. IsHeldFor next (history_of (register.own (take (i + 1) L) who.now))) }
+        → IfOk result (λ next. IsHeldFor next (history_of
+        (register.own (take (i + 1) L) who.now))) }
     ensures rest { IfOk result IsAtRest }
 {
     if entry.is_of(who) {

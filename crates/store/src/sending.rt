@@ -28,11 +28,13 @@ fn sent_at(
     who: &Who,
 ) -> Result<Option<OutRow>, AllocError>
     requires { i < length entries.now }
+
     ensures { IfOk result (λ row. (L : List register.Entry) → entries.now ≡ all_written L
         → IsLegal Two warehouse.now L → IsPageOf page.now (history (register.own L who.now))
-        → sent_on warehouse.now (events (register.own L who.now)) (register.own (take (i + 1) L) who.now)
-        ≡ sent_on warehouse.now (events (register.own L who.now)) (register.own (take i L) who.now) ++
-        option_to_list row) }
+        → sent_on warehouse.now (events (register.own L who.now))
+        (register.own (take (i + 1) L) who.now)
+        ≡ sent_on warehouse.now (events (register.own L who.now)) (register.own (take i L) who.now)
+        ++ option_to_list row) }
 {
     let entry = &entries[i];
     if !entry.is_of(who) {

@@ -7,7 +7,7 @@ ghost use Rattle.profile.specs.Accepted.{IsLegal, is_command, own_of, reply_to, 
 ghost use Rattle.profile.specs.Decision.{standing as history_of, recalled};
 ghost use Rattle.profile.specs.Rows.{stock_of, outbox_of};
 ghost use Rattle.rules.specs.Asked.{asked};
-ghost use Rattle.rules.specs.Tabled.{LeadsInTables};
+ghost use Rattle.rules.specs.Decided.{LeadsInTables};
 ghost use Rattle.store.specs.Held.{IsDecided};
 ghost use Rattle.store.specs.Sent.{text_of};
 ghost use Rattle.store.specs.Runs.{told, all_asked, can_be_given, UnlessAccepted};
@@ -46,6 +46,7 @@ fn judge_new<K: Keeper>(
     rules: Rules,
 ) -> Result<Decision, Fault>
     requires whose { (L : List register.Entry) → own_of L (asked command.now) ≡ register.own L who }
+
     ensures decision { OfKept (K.standing keeper.old) (K.standing keeper.new)
         (λ L. recalled (K.standing keeper.old).warehouse (register.command_mark (asked command.now))
         (own_of L (asked command.now)) ≡ None → IfOk result (IsDecided rules
@@ -106,23 +107,24 @@ pub fn submit_under<K: Keeper>(
         (λ L. IfOk result (λ reply. told reply ≡ reply_to rules (K.standing keeper.old).warehouse L
         (asked command.now) moment)) }
     ensures ok { OfUsable (K.standing keeper.old) (K.standing keeper.new)
-        (λ L. IsLegal Two (K.standing keeper.old).warehouse (after rules (K.standing keeper.old).warehouse L
-        (asked command.now, moment))
-        → OnOk result (IsUsable (K.standing keeper.new) (after rules (K.standing keeper.old).warehouse L
-        (asked command.now, moment)))) }
+        (λ L. IsLegal Two (K.standing keeper.old).warehouse
+        (after rules (K.standing keeper.old).warehouse L (asked command.now, moment))
+        → OnOk result (IsUsable (K.standing keeper.new)
+        (after rules (K.standing keeper.old).warehouse L (asked command.now, moment)))) }
     ensures keeps { OfKept (K.standing keeper.old) (K.standing keeper.new)
-        (λ L. IsLegal Two (K.standing keeper.old).warehouse (after rules (K.standing keeper.old).warehouse L
-        (asked command.now, moment))
-        → OnOk result (KeepsLegal (K.standing keeper.new) (after rules (K.standing keeper.old).warehouse L
-        (asked command.now, moment)))) }
+        (λ L. IsLegal Two (K.standing keeper.old).warehouse
+        (after rules (K.standing keeper.old).warehouse L (asked command.now, moment))
+        → OnOk result (KeepsLegal (K.standing keeper.new)
+        (after rules (K.standing keeper.old).warehouse L (asked command.now, moment)))) }
     ensures left { OfUsable (K.standing keeper.old) (K.standing keeper.new)
-        (λ L. IsLegal Two (K.standing keeper.old).warehouse (after rules (K.standing keeper.old).warehouse L
-        (asked command.now, moment))
+        (λ L. IsLegal Two (K.standing keeper.old).warehouse
+        (after rules (K.standing keeper.old).warehouse L (asked command.now, moment))
         → OnErr result (LeavesEither (K.standing keeper.new) L
         (after rules (K.standing keeper.old).warehouse L
         (asked command.now, moment)))) }
     ensures kept { IfOk result
-        (λ reply. UnlessAccepted reply (IsUnchanged (K.standing keeper.old) (K.standing keeper.new))) }
+        (λ reply. UnlessAccepted reply (IsUnchanged (K.standing keeper.old)
+        (K.standing keeper.new))) }
     ensures opened { OnOk result ((K.standing keeper.new).shut ≡ false) }
     ensures fault { IfErr result
         (λ fault. IsFault fault (K.standing keeper.old) (K.standing keeper.new)) }
@@ -162,19 +164,20 @@ pub fn submit<K: Keeper>(
         (asked command.now) moment)) }
     ensures ok { OfUsable (K.standing keeper.old) (K.standing keeper.new)
         (λ L. is_command Two (asked command.now) ≡ true
-        → OnOk result (IsUsable (K.standing keeper.new) (after Two (K.standing keeper.old).warehouse L
-        (asked command.now, moment)))) }
+        → OnOk result (IsUsable (K.standing keeper.new)
+        (after Two (K.standing keeper.old).warehouse L (asked command.now, moment)))) }
     ensures keeps { OfKept (K.standing keeper.old) (K.standing keeper.new)
         (λ L. is_command Two (asked command.now) ≡ true
-        → OnOk result (KeepsLegal (K.standing keeper.new) (after Two (K.standing keeper.old).warehouse L
-        (asked command.now, moment)))) }
+        → OnOk result (KeepsLegal (K.standing keeper.new)
+        (after Two (K.standing keeper.old).warehouse L (asked command.now, moment)))) }
     ensures left { OfUsable (K.standing keeper.old) (K.standing keeper.new)
         (λ L. is_command Two (asked command.now) ≡ true
         → OnErr result (LeavesEither (K.standing keeper.new) L
         (after Two (K.standing keeper.old).warehouse L
         (asked command.now, moment)))) }
     ensures kept { IfOk result
-        (λ reply. UnlessAccepted reply (IsUnchanged (K.standing keeper.old) (K.standing keeper.new))) }
+        (λ reply. UnlessAccepted reply (IsUnchanged (K.standing keeper.old)
+        (K.standing keeper.new))) }
     ensures opened { OnOk result ((K.standing keeper.new).shut ≡ false) }
     ensures fault { IfErr result
         (λ fault. IsFault fault (K.standing keeper.old) (K.standing keeper.new)) }
@@ -240,12 +243,12 @@ fn answer_next<K: Keeper>(
         (K.standing keeper.old).warehouse L (asked command.now) moment ∷ [])) }
     ensures ok { OfUsable (K.standing keeper.old) (K.standing keeper.new)
         (λ L. is_command Two (asked command.now) ≡ true
-        → OnOk result (IsUsable (K.standing keeper.new) (after Two (K.standing keeper.old).warehouse L
-        (asked command.now, moment)))) }
+        → OnOk result (IsUsable (K.standing keeper.new)
+        (after Two (K.standing keeper.old).warehouse L (asked command.now, moment)))) }
     ensures keeps { OfKept (K.standing keeper.old) (K.standing keeper.new)
         (λ L. is_command Two (asked command.now) ≡ true
-        → OnOk result (KeepsLegal (K.standing keeper.new) (after Two (K.standing keeper.old).warehouse L
-        (asked command.now, moment)))) }
+        → OnOk result (KeepsLegal (K.standing keeper.new)
+        (after Two (K.standing keeper.old).warehouse L (asked command.now, moment)))) }
     ensures more { OnOk result (length replies.new.items ≡ length replies.old.items + 1) }
     ensures no_more { OnErr result (replies.new.items ≡ replies.old.items) }
     ensures left { OfUsable (K.standing keeper.old) (K.standing keeper.new)
@@ -274,8 +277,8 @@ pub fn run<K: Keeper>(alloc: Global, keeper: &mut K, commands: &[(Command<'_>, M
     ensures stopped { IsSome result.fault → length result.replies.items < length commands.now }
     ensures replies { OfUsable (K.standing keeper.old) (K.standing keeper.new)
         (λ L. can_be_given (take (length result.replies.items + 1) commands.now) ≡ true
-        → map told result.replies.items ≡ replies_on Two (K.standing keeper.old).warehouse L (take (length
-        result.replies.items) (all_asked commands.now))) }
+        → map told result.replies.items ≡ replies_on Two (K.standing keeper.old).warehouse L
+        (take (length result.replies.items) (all_asked commands.now))) }
     ensures left { OfUsable (K.standing keeper.old) (K.standing keeper.new)
         (λ L. can_be_given (take (length result.replies.items + 1) commands.now) ≡ true
         → (K.standing keeper.new).shut ≡ false
@@ -286,15 +289,15 @@ pub fn run<K: Keeper>(alloc: Global, keeper: &mut K, commands: &[(Command<'_>, M
         (λ L. can_be_given (take (length result.replies.items + 1) commands.now) ≡ true
         → (K.standing keeper.new).shut ≡ true
         → IsSome result.fault × LeavesEither (K.standing keeper.new)
-        (accepted_on Two (K.standing keeper.old).warehouse L (take (length result.replies.items) (all_asked
-        commands.now)))
+        (accepted_on Two (K.standing keeper.old).warehouse L
+        (take (length result.replies.items) (all_asked commands.now)))
         (accepted_on Two (K.standing keeper.old).warehouse L (take (length result.replies.items
         + 1) (all_asked
         commands.now)))) }
     ensures goes { GoesOn (K.standing keeper.old) (K.standing keeper.new) }
     ensures fault { IfSome result.fault
-        (λ fault. IsRunFault fault (can_be_given (take (length result.replies.items + 1) commands.now))
-        (K.standing keeper.old) (K.standing keeper.new)) }
+        (λ fault. IsRunFault fault (can_be_given (take (length result.replies.items + 1)
+        commands.now)) (K.standing keeper.old) (K.standing keeper.new)) }
 {
     let mut replies = Vec::new(alloc);
     for (command, moment) in commands {

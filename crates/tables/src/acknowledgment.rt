@@ -74,7 +74,8 @@ fn after_head(id: Id) -> Option<Stage>
 }
 
 fn after_set(sets: u16, id: Id) -> Option<Stage>
-    ensures { option_map rest_of result ≡ found (words_after (text_of id) (rest_of (Stage.Sets sets))) }
+    ensures { option_map rest_of result ≡ found (words_after (text_of id)
+        (rest_of (Stage.Sets sets))) }
 {
     match id {
         Id::Ak2 if sets > 0 => Some(Stage::Segments(sets - 1, MOST_TOLD_SEGMENTS)),

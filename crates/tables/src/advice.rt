@@ -127,7 +127,8 @@ fn first_line(id: Id, rules: Rules) -> Option<Stage>
 
 fn after_goods(left: u16, id: Id) -> Option<Stage>
     ensures { (r : Rules)
-        → option_map (rest_of r) result ≡ found (words_after (text_of id) (rest_of r (Stage.Goods left))) }
+        → option_map (rest_of r) result ≡ found (words_after (text_of id)
+        (rest_of r (Stage.Goods left))) }
 {
     match id {
         Id::N9 => Some(Stage::Lot(left)),
@@ -137,7 +138,8 @@ fn after_goods(left: u16, id: Id) -> Option<Stage>
 
 fn after_lot(left: u16, id: Id) -> Option<Stage>
     ensures { (r : Rules)
-        → option_map (rest_of r) result ≡ found (words_after (text_of id) (rest_of r (Stage.Lot left))) }
+        → option_map (rest_of r) result ≡ found (words_after (text_of id)
+        (rest_of r (Stage.Lot left))) }
 {
     match id {
         Id::W04 if left > 0 => Some(Stage::Goods(left - 1)),

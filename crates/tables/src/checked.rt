@@ -74,6 +74,7 @@ fn first_fault<'a>(
     rules: Rules,
 ) -> Option<SetFault<'a>>
     requires { length segments.now < 2 ^ 32 - 1 }
+
     ensures { option_map told result
         ≡ set_fault rules delims.now (kind_words rules kind) (segments_of segments.now) }
 {
@@ -93,6 +94,7 @@ fn first_fault<'a>(
 // The first fault, by the delimiters that the segments have.
 fn fault_of<'a>(kind: SetKind, segments: &'a [Segment<'a>], rules: Rules) -> Option<SetFault<'a>>
     requires { length segments.now < 2 ^ 32 - 1 }
+
     ensures { IsJudged rules kind segments.now (option_map told result) }
 {
     match segments.first() {
@@ -111,6 +113,7 @@ pub fn judge<'a>(
 ) -> Result<Checked<'a>, SetFault<'a>>
     requires few { length segments.now < 2 ^ 32 - 1 }
     requires closed { IsClosed segments.now }
+
     ensures { MatchResult result
         (λ c. (c.kind ≡ kind) × (c.pieces ≡ segments.now)
         × IsFaultOf rules kind segments.now None × (c.rules ≡ rules))

@@ -48,6 +48,7 @@ fn element_in_error(
     segment: &Segment<'_>,
 ) -> Option<(u32, u8)>
     requires { length rows.now < 100 }
+
     ensures { option_map told_element result
         ≡ elements_meant.faulty_element delims.now (map row_of rows.now) segment.now.elements }
 {
@@ -65,6 +66,7 @@ fn inner_fault<'a>(
     segment: &Segment<'a>,
 ) -> Option<SetFault<'a>>
     requires { id_of segment.now.elements ≡ text_of id }
+
     ensures { (previous : List ℕ) → after_goods after ≡ is_goods previous
         → after_advised after ≡ is_advised previous
         → option_map told result
@@ -89,6 +91,7 @@ fn place_fault<'a>(
     segment: &Segment<'a>,
 ) -> SetFault<'a>
     requires { id_of segment.now.elements ≡ text_of id }
+
     ensures { (r : Rules)
         → told result ≡ meant.place_fault r (kind_words r kind) (rest_of r stage) position
         (id_of segment.now.elements) }
@@ -136,7 +139,8 @@ pub(crate) fn step<'a>(
         → MatchResult result
         (λ p. (meant.fault_at rules delims.now (kind_words rules kind)
         (rest_of rules progress.stage) previous position segment.now.elements ≡ None)
-        × (words_after (id_of segment.now.elements) (rest_of rules progress.stage) ≡ rest_of rules p.stage)
+        × (words_after (id_of segment.now.elements) (rest_of rules progress.stage) ≡ rest_of rules
+        p.stage)
         × (after_goods p.after ≡ is_goods (id_of segment.now.elements))
         × (after_advised p.after ≡ is_advised (id_of segment.now.elements)))
         (λ f. meant.fault_at rules delims.now (kind_words rules kind)

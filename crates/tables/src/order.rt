@@ -168,7 +168,8 @@ fn after_number(left: u16, id: Id) -> Option<Stage>
 
 fn after_goods(left: u16, id: Id) -> Option<Stage>
     ensures { (r : Rules)
-        → option_map (rest_of r) result ≡ found (words_after (text_of id) (rest_of r (Stage.Goods left))) }
+        → option_map (rest_of r) result ≡ found (words_after (text_of id)
+        (rest_of r (Stage.Goods left))) }
 {
     match id {
         Id::N9 => Some(Stage::Pinned(left)),
@@ -178,7 +179,8 @@ fn after_goods(left: u16, id: Id) -> Option<Stage>
 
 fn after_pin(left: u16, id: Id) -> Option<Stage>
     ensures { (r : Rules)
-        → option_map (rest_of r) result ≡ found (words_after (text_of id) (rest_of r (Stage.Pinned left))) }
+        → option_map (rest_of r) result ≡ found (words_after (text_of id)
+        (rest_of r (Stage.Pinned left))) }
 {
     match id {
         Id::Lx if left > 0 => Some(Stage::Numbered(left - 1)),

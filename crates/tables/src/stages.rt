@@ -4,7 +4,7 @@ ghost use Rattle.profile.specs.Words.{words_after, kind_words, mentions};
 ghost use Rattle.profile.specs.Faults.{wanted_id, place_code};
 ghost use Rattle.tables.specs.Ids.{text_of};
 ghost use Rattle.tables.specs.Languages.{found};
-ghost use Rattle.tables.specs.Stages.{rest_of, kind_at};
+ghost use Rattle.tables.specs.Stages.{rest_of};
 
 use crate::ids::Id;
 use crate::{acknowledgment, advice, order};

@@ -1,7 +1,6 @@
 //! What the program prints and tells. A case is a script with its files, and is played over a book
-//! in memory, through a server of such a book, and as a batch over a book in a file, which is
-//! opened once; most are also played line by line over such a book, which each line opens and
-//! closes.
+//! in memory, and as a batch over a book in a file, which is opened once; most are also played line
+//! by line over such a book, which each line opens and closes.
 //!
 //! Cases stand in texts (crate `cases`). A text is made of sections, each of which begins with `@`,
 //! a word and what belongs to it in the rest of the line, and ends where the next one begins:
@@ -34,7 +33,6 @@ use cases::scripts::{
 use cases::sections::section_of;
 use cases::spreading::spread;
 use cases::stories;
-use commands::Verbosity;
 use ran::{Ran, Wanted, do_lines, run, run_explained, run_lines, run_over, run_text, run_words};
 use std::fs;
 use std::test::Fail;
@@ -80,11 +78,9 @@ fn play_batch(rt: &HostRuntime, name: &str, script: &str, wanted: &Wanted<'_>) -
     run(rt, &["batch", "case.batch", "--book", "case.book"])?.compare(name, wanted)
 }
 
-// Plays a script over a book in memory, through a server of another one, and as a batch over a new
-// one in a file.
+// Plays a script over a book in memory, and as a batch over a new one in a file.
 fn play_whole(rt: &HostRuntime, name: &str, script: &str, wanted: &Wanted<'_>) -> Result<(), Fail> {
     run_text(rt, script)?.compare(name, wanted)?;
-    asked::play_asked(rt, name, script, Verbosity::QUIET, wanted)?;
     play_batch(rt, name, script, wanted)
 }
 
@@ -96,12 +92,7 @@ fn play_explained(
     script: &str,
     wanted: &Wanted<'_>,
 ) -> Result<(), Fail> {
-    let explains = Verbosity {
-        explains: true,
-        watches: false,
-    };
     run_explained(rt, script)?.compare(name, wanted)?;
-    asked::play_asked(rt, name, script, explains, wanted)?;
     let (first, rest) = script.split_once('\n').ok_or("a line")?;
     remove_book(rt, "case.book", "case.book-wal")?;
     do_lines(rt, "case.book", first)?;
@@ -185,90 +176,112 @@ fn play_cases(rt: &HostRuntime, text: &str, ways: Ways) -> Result<(), Fail> {
     Ok(())
 }
 
-fn play_all(rt: &HostRuntime, text: &str) -> Result<(), Fail> {
-    play_cases(rt, text, Ways::Each)
+// Plays the cases of texts, each way.
+fn play_all(rt: &HostRuntime, texts: &[&str]) -> Result<(), Fail> {
+    for text in texts {
+        play_cases(rt, text, Ways::Each)?;
+    }
+    Ok(())
 }
 
 // Plays stories, which look at what a depositor has after each command.
-fn tell(rt: &HostRuntime, text: &str) -> Result<(), Fail> {
-    play_cases(rt, text, Ways::Whole)
+fn tell(rt: &HostRuntime, texts: &[&str]) -> Result<(), Fail> {
+    for text in texts {
+        play_cases(rt, text, Ways::Whole)?;
+    }
+    Ok(())
 }
 
 #[test]
 fn stories_of_goods_are_told(rt: HostRuntime) -> Result<(), Fail> {
-    tell(&rt, stories::goods::CASES)?;
-    tell(&rt, stories::acknowledgments::CASES)?;
-    tell(&rt, stories::parties::CASES)
+    tell(
+        &rt,
+        &[
+            stories::goods::CASES,
+            stories::acknowledgments::CASES,
+            stories::parties::CASES,
+        ],
+    )
 }
 
 #[test]
 fn stories_of_counts_are_told(rt: HostRuntime) -> Result<(), Fail> {
-    tell(&rt, stories::counts::CASES)?;
-    tell(&rt, stories::recounts::CASES)
+    tell(&rt, &[stories::counts::CASES, stories::recounts::CASES])
 }
 
 #[test]
 fn stories_of_lots_are_told(rt: HostRuntime) -> Result<(), Fail> {
-    tell(&rt, stories::lots::CASES)?;
-    tell(&rt, stories::picked_lots::CASES)?;
-    tell(&rt, stories::expiries::CASES)?;
-    tell(&rt, stories::orders::CASES)
+    tell(
+        &rt,
+        &[
+            stories::lots::CASES,
+            stories::picked_lots::CASES,
+            stories::expiries::CASES,
+            stories::orders::CASES,
+        ],
+    )
 }
 
 #[test]
 fn stories_of_interchanges_are_told(rt: HostRuntime) -> Result<(), Fail> {
-    tell(&rt, stories::envelopes::CASES)?;
-    tell(&rt, stories::numbers::CASES)?;
-    tell(&rt, stories::sets::CASES)?;
-    tell(&rt, stories::faults::CASES)
+    tell(
+        &rt,
+        &[
+            stories::envelopes::CASES,
+            stories::numbers::CASES,
+            stories::sets::CASES,
+            stories::faults::CASES,
+        ],
+    )
 }
 
 #[test]
 fn stories_of_sizes_are_told(rt: HostRuntime) -> Result<(), Fail> {
-    tell(&rt, stories::sizes::CASES)
+    tell(&rt, &[stories::sizes::CASES])
 }
 
 #[test]
 fn goods_come_and_go(rt: HostRuntime) -> Result<(), Fail> {
-    play_all(&rt, goods::CASES)?;
-    play_all(&rt, lots::CASES)
+    play_all(&rt, &[goods::CASES, lots::CASES])
 }
 
 #[test]
 fn goods_are_picked_and_acknowledged(rt: HostRuntime) -> Result<(), Fail> {
-    play_all(&rt, picks::CASES)?;
-    play_all(&rt, acknowledged::CASES)
+    play_all(&rt, &[picks::CASES, acknowledged::CASES])
 }
 
 #[test]
 fn a_book_shows_what_it_has(rt: HostRuntime) -> Result<(), Fail> {
-    play_all(&rt, shown::CASES)?;
-    play_all(&rt, open_work::CASES)?;
-    play_all(&rt, addresses::CASES)?;
-    play_all(&rt, day::CASES)
+    play_all(
+        &rt,
+        &[shown::CASES, open_work::CASES, addresses::CASES, day::CASES],
+    )
 }
 
 #[test]
 fn envelopes_are_answered(rt: HostRuntime) -> Result<(), Fail> {
-    play_all(&rt, envelopes::CASES)
+    play_all(&rt, &[envelopes::CASES])
 }
 
 #[test]
 fn sheets_and_lists_are_read(rt: HostRuntime) -> Result<(), Fail> {
-    play_all(&rt, refused_sheets::CASES)?;
-    play_all(&rt, sheet_limits::CASES)?;
-    play_all(&rt, lists::CASES)
+    play_all(
+        &rt,
+        &[refused_sheets::CASES, sheet_limits::CASES, lists::CASES],
+    )
 }
 
 #[test]
 fn faults_stop_a_script(rt: HostRuntime) -> Result<(), Fail> {
-    play_all(&rt, cases::scripts::usage::CASES)?;
-    play_all(&rt, cases::scripts::inboxes::CASES)
+    play_all(
+        &rt,
+        &[cases::scripts::usage::CASES, cases::scripts::inboxes::CASES],
+    )
 }
 
 #[test]
 fn refused_lines_are_explained(rt: HostRuntime) -> Result<(), Fail> {
-    play_all(&rt, explained::CASES)?;
+    play_all(&rt, &[explained::CASES])?;
     let wanted = Wanted {
         printed: "",
         told: explained::TOLD,

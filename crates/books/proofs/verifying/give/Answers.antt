@@ -10,19 +10,19 @@ use Rattle.profile.proofs.RisingLaws.{legal-rises}
 use Rattle.rules.specs.Asked.{asked}
 use Rattle.rules.specs.Given.{RuledCommand, given_by, ruled_by}
 use Rattle.rules.proofs.Follows.{legal_follow}
-use Rattle.rules.proofs.GivenAgain.{made_again}
+use Rattle.rule_laws.proofs.GivenAgain.{made_again}
 use Rattle.store.specs.Standing.{IsUsable}
 use Rattle.books.proofs.GivenLemmas.{never_none, one_some}
 use Rattle.books.proofs.RulesLemmas.{legal_next, legal_now, rises_at}
 use Rattle.books.proofs.verifying.give.Goals as goal
 
 pub returns-in_default-clause-next : goal.returns-in_default-clause-next
-returns-in_default-clause-next g c = λ clean L e back is legal last so_far u.
+returns-in_default-clause-next g c = λ clean L u e back is legal last so_far.
     let follow = legal_follow _ _ _ L e back legal refl in
     absurd (never_none c.in_ok-given.field-0 (ruled_by e) c.in_default.not-Some (c.in_ok-given.ensures (number_of L e) e is follow.good))
 
 pub returns-then-not-may_follow-clause-next : goal.returns-then-not-may_follow-clause-next
-returns-then-not-may_follow-clause-next g c = λ clean L e back is legal last so_far u.
+returns-then-not-may_follow-clause-next g c = λ clean L u e back is legal last so_far.
     let W = (g.K.Keeper.standing c.args.copy.now).warehouse in
     let follow = legal_follow _ W _ L e back legal refl in
     let given : c.in-Some.given ≡ ruled_by e = one_some c.in_ok-given.field-0 c.in-Some.given (ruled_by e) c.in-Some.is (c.in_ok-given.ensures (number_of L e) e is follow.good) in
@@ -47,7 +47,7 @@ returns-in-Ok-clause-copy g c = λ clean W k.
     }
 
 pub returns-in-Ok-clause-next : goal.returns-in-Ok-clause-next
-returns-in-Ok-clause-next g c = λ clean L e back is legal last so_far u.
+returns-in-Ok-clause-next g c = λ clean L u e back is legal last so_far.
     let old = g.K.Keeper.standing c.args.copy.now in
     let W = old.warehouse in
     let follow = legal_follow _ W _ L e back legal refl in

@@ -47,7 +47,7 @@ returns-in-Some-clause-next g c = λ clean W L lt h.
       legal = subst (IsLegal e.rules (standing_of g.C.Store c.give.new.copy).warehouse) (sym t.more ∙ ap (λ n. take n L) (sym one)) its.1;
       last_is = sym (last_more One (take i L) e) ∙ ap (last_rules One) (sym t.more ∙ ap (λ n. take n L) (sym one));
     }))
-    (c.give.ensures.next (c.requires.clean c.give.new.copy.tables.conn) (take i L) e (drop (suc i) L) t.row legal' h.last_is h.legal f.usable)
+    (c.give.ensures.next (c.requires.clean c.give.new.copy.tables.conn) (take i L) f.usable e (drop (suc i) L) t.row legal' h.last_is h.legal)
 
 pub returns-in-None-clause-next : goal.returns-in-None-clause-next
 returns-in-None-clause-next g c = λ clean W L lt h.

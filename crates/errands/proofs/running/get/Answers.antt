@@ -1,4 +1,4 @@
-use Rattle.std.proofs.Common.{inl, inr, rules}
+use Rattle.std.proofs.Common.{inr, rules}
 use Rattle.errands.proofs.HaltLaws.{halted_by}
 use Rattle.errands.specs.declared.answers.HeardAs.TheVariants.{Stopped}
 use Rattle.errands.proofs.running.get.Goals as goal

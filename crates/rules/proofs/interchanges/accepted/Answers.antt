@@ -14,7 +14,7 @@ use Rattle.profile.specs.Header.{delims_of}
 use Rattle.envelope.specs.Parts.{GroupsOf}
 use Rattle.stock.specs.declared.steps.Change.{Change}
 use Rattle.rules.specs.Decided.{AreLeading}
-use Rattle.rules.specs.Judging.{IsSmall, AreGroupsTaken}
+use Rattle.sets_taken.specs.Judging.{IsSmall, AreGroupsTaken}
 use Rattle.rules.specs.Lasting.{HaveRows}
 use Rattle.rules.proofs.Content.{content}
 use Rattle.rules.proofs.Decides.{accepted_reply}

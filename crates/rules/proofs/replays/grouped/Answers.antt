@@ -7,7 +7,7 @@ use Rattle.profile.specs.Texts.{Told}
 use Rattle.sets_out.specs.Headings.{heading_of}
 use Rattle.sets_out.specs.Interchanges.{answer_of}
 use Rattle.envelope.specs.Parts.{GroupsOf}
-use Rattle.rules.specs.Judging.{IsSmall, AreGroupsTaken}
+use Rattle.sets_taken.specs.Judging.{IsSmall, AreGroupsTaken}
 use Rattle.rules.proofs.Content.{content}
 use Rattle.rules.proofs.Plays.{grouped_played}
 use Rattle.rules.proofs.replays.grouped.Goals as goal

@@ -11,15 +11,15 @@ returns-clause-ok c =
     let d = c.args.document.now in
     appends_interchange own_delims _ _ _ _ e.warehouse (receiver_of e.depositor) e.moment e.number 1
     (group_of_sets e.warehouse e.depositor e.moment e.number (function_of d) (number_of d) (body_of e.moment e.number d ∷ [])) _ _ _
-    (rw (c.of_documents-delims.ensures, c.filled.ensures) at c.in_ok-append_isa.ensures.ok)
+    (rw c.of_documents-delims.ensures at c.in_ok-append_isa_to.ensures.ok)
     (rw c.of_documents-delims.ensures at c.in_ok-append_group.ensures.ok)
     (rw c.of_documents-delims.ensures at c.in_ok-append_iea.ensures.ok)
 
 pub returns-in_err-append_group-clause-kept : goal.returns-in_err-append_group-clause-kept
-returns-in_err-append_group-clause-kept c = extends_trans _ _ _ c.in_ok-append_isa.ensures.kept c.in_err-append_group.ensures.kept
+returns-in_err-append_group-clause-kept c = extends_trans _ _ _ c.in_ok-append_isa_to.ensures.kept c.in_err-append_group.ensures.kept
 
 pub returns-in_err-append_iea-clause-kept : goal.returns-in_err-append_iea-clause-kept
-returns-in_err-append_iea-clause-kept c = extends_trans _ _ _ (extends_trans _ _ _ c.in_ok-append_isa.ensures.kept c.in_ok-append_group.ensures.kept) c.in_err-append_iea.ensures.kept
+returns-in_err-append_iea-clause-kept c = extends_trans _ _ _ (extends_trans _ _ _ c.in_ok-append_isa_to.ensures.kept c.in_ok-append_group.ensures.kept) c.in_err-append_iea.ensures.kept
 
 pub returns-clause-kept : goal.returns-clause-kept
-returns-clause-kept c = extends_trans _ _ _ (extends_trans _ _ _ c.in_ok-append_isa.ensures.kept c.in_ok-append_group.ensures.kept) c.in_ok-append_iea.ensures.kept
+returns-clause-kept c = extends_trans _ _ _ (extends_trans _ _ _ c.in_ok-append_isa_to.ensures.kept c.in_ok-append_group.ensures.kept) c.in_ok-append_iea.ensures.kept

@@ -1,4 +1,4 @@
-use Rattle.std.proofs.Common.{Some, ℕ, ◌≡◌, ◌∙◌, ◌++◌, ◌∷◌, [], ◌+◌, List, ℕ, refl, sym, ap, true, false}
+use Rattle.std.proofs.Common.{Some, ℕ, ◌≡◌, ◌∙◌, ◌++◌, ◌∷◌, [], ◌+◌, List, ℕ, sym, ap, true, false}
 use Rattle.std.proofs.lemmas.Slice.Eq.{bytes_eq-Decides}
 use Rattle.std.specs.List.{list_any}
 use Rattle.profile.specs.Events.{Picked}

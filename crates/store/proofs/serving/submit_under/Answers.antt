@@ -3,7 +3,7 @@ use Rattle.profile.specs.Register.{Entry}
 use Rattle.profile.specs.declared.rules.Rules.TheVariants.{Two}
 use Rattle.profile.specs.Accepted.{IsLegal, after, entry_of}
 use Rattle.rules.specs.Asked.{asked}
-use Rattle.rules.specs.Tabled.{LeadsInTables}
+use Rattle.rules.specs.Decided.{LeadsInTables}
 use Rattle.store.specs.Held.{IsDecided}
 use Rattle.store.specs.Standing.{IsUsable, KeepsLegal, LeavesEither}
 use Rattle.store.proofs.Changes.{clean_before, goes_trans, keeps_stays, usable_stays, fault_after, leaves_first, at_fault}
@@ -106,7 +106,7 @@ returns-in_ok-commit-in-Accepted-clause-keeps g c = λ clean L k legal later.
     let goes = goes_trans old mid new same.goes c.commit.ensures.goes in
     record {
       keeps = subst new.keeps (later_accepted c.args.rules old.warehouse L asking t c.in-Accepted.outgoing.items is.0)
-          (c.in_ok-commit-in-Accepted.ensures.keeps clean L (entry_of c.args.rules asking t) (same.keeps early L k)
+          (c.in_ok-commit-in-Accepted.ensures.keeps clean L (same.keeps early L k) (entry_of c.args.rules asking t)
           (next_at (sym same.goes.warehouse) (sym c.deref.ensures.value) (sym c.deref-in-Accepted.ensures.value) next));
       legal = subst (λ V. IsLegal Two V (after c.args.rules old.warehouse L (asking, t))) (sym goes.warehouse) later;
     }

@@ -1,5 +1,5 @@
 use Rattle.std.proofs.Common.{ap, ◌∙◌, ◌≡◌, rules, arith, sym, subst, take}
-use Rattle.std.specs.Prelude.{IsErrAnd, IfSome, IsSomeAnd}
+use Rattle.std.specs.Prelude.{IsErrAnd}
 use Rattle.std.proofs.lemmas.List.{take_all}
 use Rattle.sqlite.specs.Effect.{Database}
 use Rattle.sqlite.specs.Held.{state}
@@ -18,66 +18,65 @@ use Rattle.books.proofs.AskedBooks.{asked_query, asked_unchanged}
 use Rattle.books.proofs.GivenLemmas.{never_both}
 use Rattle.books.proofs.book.Book.check_by.Goals as goal
 
-pub returns-in_err-found-clause-query : goal.returns-in_err-found-clause-query
-returns-in_err-found-clause-query g c = rw (← c.self.view_is) (
+pub returns-in_err-all-clause-query : goal.returns-in_err-all-clause-query
+returns-in_err-all-clause-query g c = rw (← c.self.view_is) (
     let b = c.self.inside in
-    let m = c.replayed.new.tables in
+    let m = c.give_all.new.tables in
     let r = c.from_residual.result in
-    let same : IsErrAnd r (λ (f : Fault). f ≡ c.in_err-found.field-0.0) = search rules in
-    let went = went_fails g.S.Store b.tables m c.in_err-found.field-0.0 r same c.in_err-found.ensures.went in
+    let same : IsErrAnd r (λ (f : Fault). f ≡ c.in_err-all.field-0.0) = search rules in
+    let went = went_fails g.S.Store b.tables m c.in_err-all.field-0.0 r same c.in_err-all.ensures.went in
     asked_query r (state g.S.Store b.tables.conn) (state g.S.Store m.conn) b.warehouse b.entries b.tables.refused m.refused b.shut went.counts went.left went.fault)
 
-pub returns-in_err-same_tables-clause-query : goal.returns-in_err-same_tables-clause-query
-returns-in_err-same_tables-clause-query g c = rw (← c.self.view_is) (
+pub returns-in_err-same-clause-query : goal.returns-in_err-same-clause-query
+returns-in_err-same-clause-query g c = rw (← c.self.view_is) (
     let b = c.self.inside in
-    let m = c.replayed.new.tables in
+    let m = c.give_all.new.tables in
     let n = c.same_tables.new.self in
-    let r = c.from_residual-in_err-same_tables.result in
-    let same : IsErrAnd r (λ (f : Fault). f ≡ c.in_err-same_tables.field-0.0) = search rules in
-    let both = went_on g.S.Store b.tables m n c.in_ok-found.found r c.in_ok-found.ensures.went
-    (went_fails g.S.Store m n c.in_err-same_tables.field-0.0 r same (went_of g.S.Store m n _ c.in_err-same_tables.ensures.asked)) in
+    let r = c.from_residual-in_err-same.result in
+    let same : IsErrAnd r (λ (f : Fault). f ≡ c.in_err-same.field-0.0) = search rules in
+    let both = went_on g.S.Store b.tables m n c.in_ok-all.all r c.in_ok-all.ensures.went
+    (went_fails g.S.Store m n c.in_err-same.field-0.0 r same (went_of g.S.Store m n _ c.in_err-same.ensures.asked)) in
     asked_query r (state g.S.Store b.tables.conn) (state g.S.Store n.conn) b.warehouse b.entries b.tables.refused n.refused b.shut both.counts both.left both.fault)
 
-pub returns-then-branch-clause-query : goal.returns-then-branch-clause-query
-returns-then-branch-clause-query g c = rw (← c.self.view_is) (
+pub returns-clause-query : goal.returns-clause-query
+returns-clause-query g c = rw (← c.self.view_is) (
     let b = c.self.inside in
-    let m = c.replayed.new.tables in
+    let m = c.give_all.new.tables in
     let n = c.same_tables.new.self in
-    let both = went_on g.S.Store b.tables m n c.in_ok-found.found _ c.in_ok-found.ensures.went (went_of g.S.Store m n _ c.in_ok-same_tables.ensures.asked) in
+    let both = went_on g.S.Store b.tables m n c.in_ok-all.all _ c.in_ok-all.ensures.went (went_of g.S.Store m n _ c.in_ok-same.ensures.asked) in
     record { same = asked_unchanged (state g.S.Store b.tables.conn) (state g.S.Store n.conn) b.warehouse b.entries b.tables.refused n.refused b.shut both.counts both.left; fault = tt })
 
-pub returns-then-branch-clause-stands : goal.returns-then-branch-clause-stands
-returns-then-branch-clause-stands g c = rw (← c.self.view_is) (λ clean laid are.
+pub returns-clause-stands : goal.returns-clause-stands
+returns-clause-stands g c = rw (← c.self.view_is) (λ clean laid are.
     let b = c.self.inside in
     let W = b.warehouse in
     let old = state g.S.Store b.tables.conn in
-    let mid = state g.S.Store c.replayed.new.tables.conn in
+    let mid = state g.S.Store c.give_all.new.tables.conn in
     let new = state g.S.Store c.same_tables.new.self.conn in
     let other = state g.C.Store c.copy.inside.tables.conn in
-    let its = c.in_ok-same_tables.ensures in
+    let its = c.in_ok-same.ensures in
     let clean' = c.requires.clean c.same_tables.new.other.conn in
-    let before = c.in_ok-found.ensures.went.left.same (clean_before mid new its.asked.left clean) in
+    let before = c.in_ok-all.ensures.went.left.same (clean_before mid new its.asked.left clean) in
     let laid' : IsLaid mid = λ o. subst (λ (d : Database). IsLayout d.schema) (sym (before.now o)) (laid (before.was_open o)) in
-    let house : c.args.copy.warehouse ≡ W = c.requires.warehouse ∙ ap (λ (o : Opened _). o.warehouse) (sym c.self.view_is) in
-    let found : IsCopy Two W (standing_of g.C.Store c.in-Some.copy) =
-    subst (λ V. IsCopy Two V (standing_of g.C.Store c.in-Some.copy)) house
-    (subst (λ o. IfSome o (λ x. IsCopy Two c.args.copy.warehouse (standing_of g.C.Store x))) c.in-Some.is c.in_ok-found.ensures.copy) in
+    let house : c.args.copy.now.warehouse ≡ W = c.requires.warehouse ∙ ap (λ (o : Opened _). o.warehouse) (sym c.self.view_is) in
+    let found : IsCopy Two W (standing_of g.C.Store c.give_all.new.copy) =
+    subst (λ V. IsCopy Two V (standing_of g.C.Store c.give_all.new.copy)) house (c.in_ok-all.ensures.copy c.if-not-all.false) in
     let copy = subst (λ x. IsCopy Two W (standing_of g.C.Store x)) (sym c.copy.view_is) found in
     let usable = copy.usable in
     let kept = usable.keeps in
     let stood : StandsWhileOpen other W copy.register = subst (λ V. StandsWhileOpen other V copy.register) copy.warehouse kept.stands in
     let opened = its.was_open clean clean' in
     let same = before.now opened in
-    let now = its.stands clean clean' laid' (subst (λ (d : Database). AreTables d) (sym same) (are (before.was_open opened))) W copy.register stood c.if-branch.true in
+    let now = its.stands clean clean' laid' (subst (λ (d : Database). AreTables d) (sym same) (are (before.was_open opened))) W copy.register stood c.if-not-same.false in
     (before.was_open opened, record { register = copy.register; long = sym kept.count; stands = subst (Stands W copy.register) same now }))
 
-pub returns-clause-query : goal.returns-clause-query
-returns-clause-query g c = rw (← c.self.view_is) (record {
+pub returns-then-not-same-clause-query : goal.returns-then-not-same-clause-query
+returns-then-not-same-clause-query g c = rw (← c.self.view_is) (record {
   same =
       let b = c.self.inside in
-      let m = c.replayed.new.tables in
+      let m = c.give_all.new.tables in
       let n = c.same_tables.new.self in
-      let both = went_on g.S.Store b.tables m n c.in_ok-found.found _ c.in_ok-found.ensures.went (went_of g.S.Store m n _ c.in_ok-same_tables.ensures.asked) in
+      let both = went_on g.S.Store b.tables m n c.in_ok-all.all _ c.in_ok-all.ensures.went (went_of g.S.Store m n _ c.in_ok-same.ensures.asked) in
       asked_unchanged (state g.S.Store b.tables.conn) (state g.S.Store n.conn) b.warehouse b.entries b.tables.refused n.refused b.shut both.counts both.left;
   fault = record {
     store = λ e. absurd (let d : ◌≡◌ {A = Fault} NotThisBook Store = e in cc);
@@ -86,22 +85,21 @@ returns-clause-query g c = rw (← c.self.view_is) (record {
     not_this = λ e clean L kept.
         let b = c.self.inside in
         let W = b.warehouse in
-        let mid = state g.S.Store c.replayed.new.tables.conn in
+        let mid = state g.S.Store c.give_all.new.tables.conn in
         let new = state g.S.Store c.same_tables.new.self.conn in
         let other = state g.C.Store c.copy.inside.tables.conn in
-        let its = c.in_ok-same_tables.ensures in
-        let house : c.args.copy.warehouse ≡ W = c.requires.warehouse ∙ ap (λ (o : Opened _). o.warehouse) (sym c.self.view_is) in
-        let found : Stays b.entries mid W (standing_of g.C.Store c.in-Some.copy) L =
-        subst (λ V. Stays b.entries mid V (standing_of g.C.Store c.in-Some.copy) L) house
-        (subst (λ o. IsSomeAnd o (λ x. Stays b.entries mid c.args.copy.warehouse (standing_of g.C.Store x) L)) c.in-Some.is
-        (c.in_ok-found.ensures.whole (clean_before mid new its.asked.left clean) L kept.count
-        (subst (λ V. StandsWhileOpen (state g.S.Store b.tables.conn) V L) (sym house) kept.stands))) in
+        let its = c.in_ok-same.ensures in
+        let house : c.args.copy.now.warehouse ≡ W = c.requires.warehouse ∙ ap (λ (o : Opened _). o.warehouse) (sym c.self.view_is) in
+        let found : Stays b.entries mid W (standing_of g.C.Store c.give_all.new.copy) L =
+        subst (λ V. Stays b.entries mid V (standing_of g.C.Store c.give_all.new.copy) L) house
+        ((c.in_ok-all.ensures.whole (clean_before mid new its.asked.left clean) L kept.count
+        (subst (λ V. StandsWhileOpen (state g.S.Store b.tables.conn) V L) (sym house) kept.stands)).1) in
         let copy = subst (λ x. Stays b.entries mid W (standing_of g.C.Store x) L) (sym c.copy.view_is) found in
         let usable = copy.usable in
         let keeps = usable.keeps in
         let whole : take b.entries L ≡ L = take_all b.entries L (omega (arith, kept.count)) in
         let stood : StandsWhileOpen other W L =
         subst (λ V. StandsWhileOpen other V L) copy.warehouse (subst (StandsWhileOpen other c.copy.inside.warehouse) whole keeps.stands) in
-        never_both c.in_ok-same_tables.field-0 (its.same clean (c.requires.clean c.same_tables.new.other.conn) W L stood copy.stands) c.if-branch.false;
+        never_both c.in_ok-same.same (its.same clean (c.requires.clean c.same_tables.new.other.conn) W L stood copy.stands) c.if-not-same.true;
   };
 })

@@ -1,4 +1,4 @@
-use Rattle.std.proofs.Common.{◌≡◌, true, false, Some, None, Ok, map, refl}
+use Rattle.std.proofs.Common.{◌≡◌, true, false, Some, None, Ok, map}
 use Rattle.profile.specs.Clerk.{line_of, sheet_of, is_ascending}
 use Rattle.sheets.specs.Misfits.{misfit_of}
 use Rattle.sheets.proofs.RefusalLaws.{misfit_is}

@@ -27,6 +27,6 @@ returns-clause-ok c = λ clean L u e next.
     }
 
 pub returns-clause-keeps : goal.returns-clause-keeps
-returns-clause-keeps c = λ clean L e kept next.
+returns-clause-keeps c = λ clean L kept e next.
     let view = ap (λ (b : Replayed). b.entries) c.self.view_is in
     with_row c.self.inside.entries.items c.append.new.entries.items c.args.entry.now L e c.in_ok-append.ensures.ok (view ∙ kept) next.entry

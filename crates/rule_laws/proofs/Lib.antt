@@ -1,0 +1,10 @@
+pub mod Columns
+pub mod Covered
+pub mod Defines
+pub mod Expected
+pub mod Fits
+pub mod GivenAgain
+pub mod LegalPages
+pub mod OnePair
+pub mod Small
+pub mod SmallEvents

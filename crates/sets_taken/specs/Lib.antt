@@ -1,0 +1,4 @@
+pub mod SetNames
+pub mod Judging
+pub mod Proper
+pub mod Tabled

@@ -1,0 +1,157 @@
+//! What a set comes to over a page.
+ghost use Rattle.std.specs.Prelude.{◌≡◌, ◌<◌, ◌+◌, ◌-◌, ◌^◌, List, None, Some, IfOk, IfErr, length};
+ghost use Rattle.profile.specs.Limits.{most_sets};
+ghost use Rattle.profile.specs.Cut.{segments_of, AreOf};
+ghost use Rattle.profile.specs.Bytes.{Delims as Delimiters};
+ghost use Rattle.profile.specs.Events.{Event};
+ghost use Rattle.profile.specs.History as meant;
+ghost use Rattle.profile.specs.Faults.{set_fault};
+ghost use Rattle.profile.specs.declared.set_kind.SetKind.TheVariants as kinds;
+ghost use Rattle.profile.specs.Words.{kind_words};
+ghost use Rattle.stock.specs.Pages.{PageFacts, IsSound};
+ghost use Rattle.stock.specs.Parts.{Named, IsPart};
+ghost use Rattle.stock.specs.Puts.{put};
+ghost use Rattle.stock.specs.Shows.{Shows};
+ghost use Rattle.tables.specs.Judged.{IsClosed, told};
+ghost use Rattle.sets_taken.specs.SetNames.{NamesSet};
+ghost use Rattle.sets_taken.specs.Judging.{IsStep, IsStop, IsVerdict, CanBePut, OnPages};
+
+use profile::Rules;
+use segments::Segment;
+use sets_in::{ack, advice, order};
+use sets_out::{ElementFault, Rejection, SegmentFault};
+use std::alloc::{AllocError, Global};
+use stock::{Page, SetStop, Step, acknowledge, announce, reserve};
+use tables::{Checked, SetFault, SetKind, judge};
+
+/// What a set came to.
+#[derive(Drop)]
+pub enum Verdict<'a> {
+    /// It passed: what its event changes on the page.
+    Passed(Step),
+    /// It is rejected, and the page is as before.
+    Rejected(Rejection<'a>),
+}
+
+// A rejection for a segment in error.
+fn in_segment<'a>(fault: &SetFault<'a>) -> Rejection<'a>
+    ensures { result ≡ record { code = 5; segment = Some (told fault.now) } }
+{
+    let element = fault.element.map(|(place, code)| ElementFault {
+        place: place as usize,
+        code,
+    });
+    Rejection {
+        code: 5,
+        segment: Some(SegmentFault {
+            id: fault.segment,
+            position: fault.position as usize,
+            code: fault.code,
+            element,
+        }),
+    }
+}
+
+// The step of an advice.
+fn advised(alloc: Global, page: &Page, set: &Checked<'_>) -> Result<Step, SetStop>
+    requires kind { set.now.kind ≡ kinds.ShipmentAdvice }
+    requires room { page.now.recent < most_sets }
+
+    ensures ok { IfOk result (λ step. OnPages page.now set.now
+        (λ P es outcome. IsStep P es outcome step.changes.items)) }
+    ensures err { IfErr result
+        (λ stop. OnPages page.now set.now (λ _ _ outcome. IsStop outcome stop)) }
+    ensures sound { IfOk result (λ step. IsSound (put step.changes.items page.now)) }
+{
+    let advice = advice(alloc, set)?;
+    announce(alloc, page, &advice)
+}
+
+// The step of an order.
+fn ordered(alloc: Global, page: &Page, set: &Checked<'_>) -> Result<Step, SetStop>
+    requires kind { set.now.kind ≡ kinds.ShippingOrder }
+    requires room { page.now.recent < most_sets }
+
+    ensures ok { IfOk result (λ step. OnPages page.now set.now
+        (λ P es outcome. IsStep P es outcome step.changes.items)) }
+    ensures err { IfErr result
+        (λ stop. OnPages page.now set.now (λ _ _ outcome. IsStop outcome stop)) }
+    ensures sound { IfOk result (λ step. IsSound (put step.changes.items page.now)) }
+{
+    let order = order(alloc, set)?;
+    reserve(alloc, page, &order, set.rules())
+}
+
+// The step of an acknowledgment.
+fn acknowledged(alloc: Global, page: &Page, set: &Checked<'_>) -> Result<Step, SetStop>
+    requires kind { set.now.kind ≡ kinds.FunctionalAcknowledgment }
+    requires room { page.now.recent < most_sets }
+
+    ensures ok { IfOk result (λ step. OnPages page.now set.now
+        (λ P es outcome. IsStep P es outcome step.changes.items)) }
+    ensures err { IfErr result
+        (λ stop. OnPages page.now set.now (λ _ _ outcome. IsStop outcome stop)) }
+    ensures sound { IfOk result (λ step. IsSound (put step.changes.items page.now)) }
+{
+    let ack = ack(alloc, set)?;
+    Ok(acknowledge(alloc, page, &ack)?)
+}
+
+// The step of a set without a fault of its own, or its trade fault.
+fn traded(alloc: Global, page: &Page, set: &Checked<'_>) -> Result<Step, SetStop>
+    requires { page.now.recent < most_sets }
+
+    ensures ok { IfOk result (λ step. OnPages page.now set.now
+        (λ P es outcome. IsStep P es outcome step.changes.items)) }
+    ensures err { IfErr result
+        (λ stop. OnPages page.now set.now (λ _ _ outcome. IsStop outcome stop)) }
+    ensures sound { IfOk result (λ step. IsSound (put step.changes.items page.now)) }
+{
+    match set.kind() {
+        SetKind::ShipmentAdvice => advised(alloc, page, set),
+        SetKind::ShippingOrder => ordered(alloc, page, set),
+        SetKind::FunctionalAcknowledgment => acknowledged(alloc, page, set),
+    }
+}
+
+// What a set without a fault of its own came to.
+fn settled<'a>(alloc: Global, page: &Page, set: &Checked<'a>) -> Result<Verdict<'a>, AllocError>
+    requires { page.now.recent < most_sets }
+
+    ensures value { IfOk result (λ v. OnPages page.now set.now
+        (λ P es outcome. IsVerdict P es (meant.by_segment outcome) v)) }
+    ensures fits { IfOk result (CanBePut page.now) }
+{
+    match traded(alloc, page, set) {
+        Ok(step) => Ok(Verdict::Passed(step)),
+        Err(SetStop::Fault(fault)) => Ok(Verdict::Rejected(in_segment(&fault))),
+        Err(SetStop::OutOfMemory) => Err(AllocError),
+    }
+}
+
+/// What a set of a kind comes to by the rules over a page: it passes, or is rejected for its first
+/// segment in error. Want of memory is the one error.
+pub fn judged<'a>(
+    alloc: Global,
+    page: &Page,
+    kind: SetKind,
+    segments: &'a [Segment<'a>],
+    rules: Rules,
+) -> Result<Verdict<'a>, AllocError>
+    requires few { length segments.now < 2 ^ 32 - 1 }
+    requires closed { IsClosed segments.now }
+    requires room { page.now.recent < most_sets }
+
+    ensures value { IfOk result (λ v. (d : Delimiters) → AreOf d segments.now
+        → (n : Named) (P : PageFacts) (es : List Event) → IsPart n page.now P
+        → (set_fault rules d (kind_words rules kind) (segments_of segments.now) ≡ None
+        → NamesSet n kind (segments_of segments.now)) → Shows P es
+        → IsVerdict P es (meant.by_segment (meant.judged rules d es (page.now.entries + 1) kind
+        (segments_of segments.now))) v) }
+    ensures fits { IfOk result (CanBePut page.now) }
+{
+    match judge(kind, segments, rules) {
+        Ok(set) => settled(alloc, page, &set),
+        Err(fault) => Ok(Verdict::Rejected(in_segment(&fault))),
+    }
+}
