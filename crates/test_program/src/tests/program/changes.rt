@@ -55,7 +55,7 @@ const REFUSED: Wanted<'static> = Wanted {
 #[test]
 fn faults_of_sets_are_told(rt: HostRuntime) -> Result<(), Fail> {
     play_changes(&rt, OF_SETS, &ANSWERED)?;
-    play_all(&rt, &[sets::CASES])
+    play_all(&rt, sets::CASES)
 }
 
 #[test]

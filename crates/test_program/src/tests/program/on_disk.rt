@@ -24,7 +24,7 @@ fn look_after(rt: &HostRuntime, out: &mut Vec<u8>, err: &mut Vec<u8>) -> Result<
 // A book isn't made over another, which stays as it is: its rows are those of its six entries.
 #[test]
 fn a_day_is_kept_in_a_file(rt: HostRuntime) -> Result<(), Fail> {
-    play_all(&rt, &[CASES])?;
+    play_all(&rt, CASES)?;
     let mut out = Vec::new(rt.alloc());
     let mut err = Vec::new(rt.alloc());
     let status = look_after(&rt, &mut out, &mut err)?;
