@@ -73,9 +73,10 @@ pub(crate) fn blob_at(row: &Row, at: usize) -> Option<&[u8]>
     }
 }
 
-/// The number in a column; None where it is below 0 too.
+/// The number in a column, which SQLite can hold; None where it is below 0 too.
 pub(crate) fn number_at(row: &Row, at: usize) -> Option<u64>
-    ensures { MatchOption result ((n : ℕ) → column row.now at ≡ Int (pos n)
+    ensures few { IfSome result (λ n. n < 2 ^ 63) }
+    ensures number { MatchOption result ((n : ℕ) → column row.now at ≡ Int (pos n)
         → ⊥) (λ n. column row.now at ≡ Int (pos n)) }
 {
     match row.get_ref(at) {
@@ -104,18 +105,6 @@ pub(crate) fn flag_at(row: &Row, at: usize) -> Option<bool>
         Some(0) => Some(false),
         Some(1) => Some(true),
         _ => None,
-    }
-}
-
-/// The number of an entry in a column: one that SQLite can hold. None where it is below 0 too.
-pub(crate) fn seq_at(row: &Row, at: usize) -> Option<u64>
-    ensures few { IfSome result (λ n. n < 2 ^ 63) }
-    ensures number { MatchOption result ((n : ℕ) → column row.now at ≡ Int (pos n)
-        → ⊥) (λ n. column row.now at ≡ Int (pos n)) }
-{
-    match row.get_ref(at) {
-        Ok(value) => number_in(value),
-        Err(_) => None,
     }
 }
 

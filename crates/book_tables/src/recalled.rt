@@ -8,7 +8,7 @@ ghost use Rattle.book_statements.specs.Asking.{Asked, OfStanding};
 ghost use Rattle.book_tables.specs.Contents.{IsContent};
 
 use crate::connected::Tables;
-use crate::reading::{blob_at, seq_at};
+use crate::reading::{blob_at, number_at};
 use rules::{Entry, Known, Who};
 use sqlite::{Alter, Row};
 use std::alloc::{AllocError, Global};
@@ -45,7 +45,7 @@ impl<S: Alter + Drop> Tables<S> {
         let Some(row) = rows.first() else {
             return Ok(None);
         };
-        match seq_at(row, 0) {
+        match number_at(row, 0) {
             Some(seq) => self.entry_at(alloc, seq),
             None => Err(Fault::NotThisBook),
         }

@@ -1,11 +1,11 @@
 -- What comes of a line that shows something, and of a line of a script.
-use Rattle.std.specs.Prelude.{◌≡◌, ◌⊎◌, ℕ, Bool, false, List, Option, Some, IfOk, IfErr, is_some, option_map}
+use Rattle.std.specs.Prelude.{◌≡◌, ◌⊎◌, ℕ, Bool, false, List, Option, Some, is_some, option_map}
 use Rattle.profile.specs.Header.{who_of}
-use Rattle.store.specs.Standing.{Standing, IsUnchanged, OfKept}
+use Rattle.store.specs.Standing.{Standing}
 use Rattle.intake.specs.Calls.{owner_of}
 use Rattle.commands.specs.Acting.{Ending}
 use Rattle.commands.specs.Readying.{IsChange, IsLeft}
-use Rattle.commands.specs.Shown.{IsShown, IsShowStopped, shown_of}
+use Rattle.commands.specs.Shown.{IsLookAt, shown_of}
 use Rattle.commands.specs.declared.shows.Asked.{Asked}
 use Rattle.commands.specs.declared.shows.Asked.TheVariants as asks
 use Rattle.command_line.specs.declared.words.Show.{Show}
@@ -32,13 +32,9 @@ abbrev pub is_readable : Show → Bool
 is_readable s = is_some (asked_for s)
 
 -- it was shown, and the book is as before
-pub record IsLook
-    (old new : Standing) (asked : Asked) (before later : Option (List ℕ)) (ending : Ending)
-    : Type 0 where
-  pub shown : OfKept old new
-      (λ L. IfOk ending (IsShown (shown_of old.warehouse L asked) before later))
-  pub same : IsUnchanged old new
-  pub stopped : IfErr ending (IsShowStopped old new (λ L. shown_of old.warehouse L asked))
+abbrev pub IsLook : Standing → Standing → Asked → Option (List ℕ) → Option (List ℕ) → Ending → Type 0
+IsLook old new asked before later ending =
+    IsLookAt old new (λ L. shown_of old.warehouse L asked) before later ending
 
 -- what the words ask for was shown
 pub record IsLookFor

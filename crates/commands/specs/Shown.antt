@@ -1,18 +1,18 @@
 -- What is shown of a register, and the status that it gives.
-use Rattle.std.specs.Prelude.{◌≡◌, ◌⊎◌, ℕ, Bool, List, [], if◌then◌else◌, Option, Some, None, Result, Ok, Err}
+use Rattle.std.specs.Prelude.{◌≡◌, ◌⊎◌, ℕ, Bool, List, [], Option, Some, None, Result, Ok, Err, IfOk, IfErr}
 use Rattle.std.specs.Io.KnownBytes.{Appends}
-use Rattle.profile.specs.declared.rules.Rules.TheVariants.{Two}
 use Rattle.profile.specs.Decision.{standing}
 use Rattle.profile.specs.Header.{Who}
 use Rattle.profile.specs.History.{History}
 use Rattle.profile.specs.declared.refusals.Refusal.{Refusal}
 use Rattle.profile.specs.Register.{Entry, own}
-use Rattle.profile.specs.Reports.{stock_csv, stock_report, outbox_list, pick_list}
+use Rattle.profile.specs.Reports.{outbox_list, pick_list}
 use Rattle.profile.specs.Rows.{StockRow, OutRow, stock_of, outbox_of}
+use Rattle.reports.specs.Exports.{stock_text}
 use Rattle.reports.specs.Open.{depositor_list, open_report}
 use Rattle.store.specs.Open.{OpenWork, enrolled, open_of}
 use Rattle.store.specs.Sent.{text_of}
-use Rattle.store.specs.Standing.{Standing, IsQueryFault, OfKept}
+use Rattle.store.specs.Standing.{Standing, IsQueryFault, IsUnchanged, OfKept}
 use Rattle.commands.specs.Stops.{IsDeviceStop, IsFaultThat}
 use Rattle.commands.specs.Telling.{line_of}
 use Rattle.commands.specs.declared.told.CommandError.{CommandError}
@@ -28,10 +28,7 @@ Shown = List ℕ × ExitStatus
 -- a stranger is shown nothing
 abbrev pub shown_stock : Bool → Option (List StockRow) → Shown
 shown_stock is_csv None = ([], Refused)
-shown_stock is_csv (Some rows) = (
-  if is_csv then stock_csv Two rows else stock_report Two rows,
-  Done,
-)
+shown_stock is_csv (Some rows) = (stock_text is_csv rows, Done)
 
 abbrev pub shown_list : Option (List OutRow) → Shown
 shown_list None = ([], Refused)
@@ -85,3 +82,11 @@ pub record IsUnshown
 abbrev pub IsShowStopped : Standing → Standing → (List Entry → Shown) → CommandError → Type 0
 IsShowStopped old new shown stop =
     IsFaultThat stop (λ fault. IsQueryFault fault old new) ⊎ IsUnshown old new shown stop
+
+-- what is meant was shown, and the book is as before
+pub record IsLookAt
+    (old new : Standing) (meant : List Entry → Shown) (before later : Option (List ℕ))
+    (ending : Result ExitStatus CommandError) : Type 0 where
+  pub shown : OfKept old new (λ L. IfOk ending (IsShown (meant L) before later))
+  pub same : IsUnchanged old new
+  pub stopped : IfErr ending (IsShowStopped old new meant)

@@ -1,15 +1,14 @@
-ghost use Rattle.std.specs.Prelude.{◌≡◌, true, IfOk, IfErr, IfSome, OnOk, OnErr};
+ghost use Rattle.std.specs.Prelude.{◌≡◌, true, IfOk, IfErr, IfSome, OnOk};
 ghost use Rattle.std.specs.Io.KnownBytes.{Appends};
 ghost use Rattle.profile.specs.declared.rules.Rules.TheVariants.{Two};
-ghost use Rattle.profile.specs.Accepted.{is_command, reply_to, after};
-ghost use Rattle.profile.specs.Register.{Enrol as Enrolment, Interchange as Received};
+ghost use Rattle.profile.specs.Accepted.{is_command};
+ghost use Rattle.profile.specs.Register.{Enrol as Enrolment};
 ghost use Rattle.store.specs.Asked.{asked};
 ghost use Rattle.store.specs.Runs.{told};
-ghost use Rattle.store.specs.Standing.{IsUsable, GoesOn, LeavesEither, OfKept, OfUsable};
+ghost use Rattle.store.specs.Standing.{GoesOn};
 ghost use Rattle.commands.specs.Acting.{IsAnswered, IsPerformed, IsSaid, IsSaidOf};
-ghost use Rattle.commands.specs.Clerks.{command_of};
 ghost use Rattle.commands.specs.Readying.{IsMadeReady, IsUnready};
-ghost use Rattle.commands.specs.Stops.{IsDeviceStop, IsStopped};
+ghost use Rattle.commands.specs.Stops.{IsDeviceStop};
 ghost use Rattle.commands.specs.Telling.{IsPrinted, said_of};
 
 use crate::causes::about_file;
@@ -128,19 +127,10 @@ fn hand_in<K: Keeper, W: io::Write, E: io::Write>(
 ) -> Result<ExitStatus, CommandError>
     requires { is_command Two (asked command.now) ≡ true }
 
-    ensures printed { OfKept (K.standing book.old) (K.standing book.new)
-        (λ L. IfOk result (λ status. IsPrinted (reply_to Two (K.standing book.old).warehouse L
-        (asked command.now) moment) (W.contents out.old) (W.contents out.new) status)) }
+    ensures answered { IsAnswered (K.standing book.old) (K.standing book.new) (asked command.now)
+        moment (W.contents out.old) (W.contents out.new) result }
     ensures said { IsSaid (K.standing book.old) (K.standing book.new) (asked command.now) moment
         (E.contents err.old) (E.contents err.new) result }
-    ensures done { OfUsable (K.standing book.old) (K.standing book.new)
-        (λ L. OnOk result (IsUsable (K.standing book.new)
-        (after Two (K.standing book.old).warehouse L (asked command.now, moment)))) }
-    ensures left { OfUsable (K.standing book.old) (K.standing book.new)
-        (λ L. OnErr result (LeavesEither (K.standing book.new) L
-        (after Two (K.standing book.old).warehouse L (asked command.now, moment)))) }
-    ensures stopped { IfErr result
-        (IsStopped (K.standing book.old) (K.standing book.new) (asked command.now) moment) }
     ensures goes { GoesOn (K.standing book.old) (K.standing book.new) }
 {
     let reply = submit(alloc, book, command, moment)?;
@@ -165,44 +155,6 @@ fn enrol<K: Keeper, W: io::Write, E: io::Write>(
     hand_in(alloc, book, &Command::Enrol(who), moment, out, err)
 }
 
-// Submits the bytes of a file as an interchange.
-fn send<K: Keeper, W: io::Write, E: io::Write>(
-    alloc: Global,
-    book: &mut K,
-    bytes: &[u8],
-    moment: Moment,
-    out: &mut W,
-    err: &mut E,
-) -> Result<ExitStatus, CommandError>
-    ensures answered { IsAnswered (K.standing book.old) (K.standing book.new) (Received bytes.now)
-        moment (W.contents out.old) (W.contents out.new) result }
-    ensures said { IsSaid (K.standing book.old) (K.standing book.new) (Received bytes.now) moment
-        (E.contents err.old) (E.contents err.new) result }
-    ensures goes { GoesOn (K.standing book.old) (K.standing book.new) }
-{
-    hand_in(alloc, book, &Command::Interchange(bytes), moment, out, err)
-}
-
-// Submits what a clerk did.
-fn tell_slip<K: Keeper, W: io::Write, E: io::Write>(
-    alloc: Global,
-    book: &mut K,
-    slip: &Slip<'_>,
-    moment: Moment,
-    out: &mut W,
-    err: &mut E,
-) -> Result<ExitStatus, CommandError>
-    ensures answered { IsAnswered (K.standing book.old) (K.standing book.new)
-        (command_of slip.now.who slip.now.words slip.now.sheet) moment
-        (W.contents out.old) (W.contents out.new) result }
-    ensures said { IsSaid (K.standing book.old) (K.standing book.new)
-        (command_of slip.now.who slip.now.words slip.now.sheet) moment
-        (E.contents err.old) (E.contents err.new) result }
-    ensures goes { GoesOn (K.standing book.old) (K.standing book.new) }
-{
-    hand_in(alloc, book, &clerk(slip), moment, out, err)
-}
-
 /// Does to a book what was made ready, prints what comes of it, and tells a refusal on standard
 /// error, and as much more as is asked for.
 pub fn perform<R: Files + AllocGlobal + Clone + Drop, K: Keeper, W: io::Write, E: io::Write>(
@@ -224,8 +176,10 @@ pub fn perform<R: Files + AllocGlobal + Clone + Drop, K: Keeper, W: io::Write, E
     match ready {
         Ready::Enrol(who) => enrol(alloc, book, *who, moment, out, err),
         Ready::Roster(partners) => enrol_all(alloc, book, partners, moment, out),
-        Ready::Send(bytes) => send(alloc, book, bytes, moment, out, err),
+        Ready::Send(bytes) => {
+            hand_in(alloc, book, &Command::Interchange(bytes), moment, out, err)
+        }
         Ready::Take(dir) => take(rt, book, *dir, moment, verbosity, out, err),
-        Ready::Clerk(slip) => tell_slip(alloc, book, slip, moment, out, err),
+        Ready::Clerk(slip) => hand_in(alloc, book, &clerk(slip), moment, out, err),
     }
 }

@@ -1,28 +1,22 @@
 //! What is shown of a book, which stays as it is.
-ghost use Rattle.std.specs.Prelude.{◌≡◌, ◌≢◌, false, List, Some, IfErr, IfOk, IsErrOf, if◌then◌else◌, option_map};
-ghost use Rattle.profile.specs.declared.rules.Rules.TheVariants.{Two};
-ghost use Rattle.profile.specs.Reports as meant;
-ghost use Rattle.profile.specs.Accepted.{IsLegal};
+ghost use Rattle.std.specs.Prelude.{◌≡◌, false, Some, IfErr, IfOk, option_map};
 ghost use Rattle.profile.specs.Decision.{standing as history_of};
 ghost use Rattle.profile.specs.Header.{who_of};
-ghost use Rattle.profile.specs.Register.{Entry, own};
+ghost use Rattle.profile.specs.Register.{own};
 ghost use Rattle.profile.specs.Rows.{stock_of, outbox_of};
 ghost use Rattle.store.specs.Open.{open_of, enrolled};
 ghost use Rattle.store.specs.Sent.{text_of};
-ghost use Rattle.store.specs.Standing.{IsUnchanged, OfKept};
-ghost use Rattle.commands.specs.Looking.{IsAskedFor, asked_for, is_readable};
+ghost use Rattle.commands.specs.Looking.{IsAskedFor, IsLook, asked_for, is_readable};
 ghost use Rattle.commands.specs.Stops.{IsDeviceStop};
-ghost use Rattle.commands.specs.Shown.{IsShown, IsShowStopped, shown_stock, shown_open, shown_list, shown_text, shown_order, shown_depositors, shown_of};
+ghost use Rattle.commands.specs.Shown.{IsLookAt, IsShown, shown_stock, shown_open, shown_list, shown_text, shown_order, shown_depositors};
 
 use crate::told::{CommandError, ExitStatus, tell_refusal, tell_text};
 use command_line::Show;
 use intake::owner;
-use reports::{
-    NoSheet, depositor_list, open_report, outbox_list, pick_list, stock_csv, stock_report,
-};
-use std::alloc::{AllocError, Global};
+use reports::{depositor_list, open_report, outbox_list, pick_list, stock_text};
+use std::alloc::Global;
 use std::io;
-use store::{Fault, Keeper, Need, Refusal, StockRow, Who};
+use store::{Keeper, Need, Refusal, Who};
 
 /// What is to be shown, its words tested.
 #[derive(Clone, Copy)]
@@ -74,18 +68,6 @@ pub fn ask<'a>(show: &Show<'a>) -> Result<Asked<'a>, Refusal>
     }
 }
 
-// The stock report, or its export as CSV.
-fn stock_text(alloc: Global, rows: &[StockRow], is_csv: bool) -> Result<Vec<u8>, AllocError>
-    ensures { IfOk result (λ text. text.items ≡ (if is_csv then meant.stock_csv Two rows.now
-        else meant.stock_report Two rows.now)) }
-{
-    if is_csv {
-        stock_csv(alloc, rows)
-    } else {
-        stock_report(alloc, rows)
-    }
-}
-
 // Prints what a depositor has: the stock report, or its export as CSV. Refused is 20, an unknown
 // depositor.
 fn stock<K: Keeper, W: io::Write, E: io::Write>(
@@ -96,12 +78,9 @@ fn stock<K: Keeper, W: io::Write, E: io::Write>(
     out: &mut W,
     err: &mut E,
 ) -> Result<ExitStatus, CommandError>
-    ensures shown { OfKept (K.standing book.old) (K.standing book.new)
-        (λ L. IfOk result (λ status. IsShown (shown_stock is_csv (stock_of L who))
-        (W.contents out.old) (W.contents out.new) status)) }
-    ensures same { IsUnchanged (K.standing book.old) (K.standing book.new) }
-    ensures stopped { IfErr result (IsShowStopped (K.standing book.old) (K.standing book.new)
-        (λ L. shown_stock is_csv (stock_of L who))) }
+    ensures looked { IsLookAt (K.standing book.old) (K.standing book.new)
+        (λ L. shown_stock is_csv (stock_of L who))
+        (W.contents out.old) (W.contents out.new) result }
 {
     match store::stock(book, who)? {
         Some(rows) => {
@@ -120,12 +99,9 @@ fn open<K: Keeper, W: io::Write, E: io::Write>(
     out: &mut W,
     err: &mut E,
 ) -> Result<ExitStatus, CommandError>
-    ensures shown { OfKept (K.standing book.old) (K.standing book.new)
-        (λ L. IfOk result (λ status. IsShown (shown_open (open_of L who)) (W.contents out.old)
-        (W.contents out.new) status)) }
-    ensures same { IsUnchanged (K.standing book.old) (K.standing book.new) }
-    ensures stopped { IfErr result (IsShowStopped (K.standing book.old) (K.standing book.new)
-        (λ L. shown_open (open_of L who))) }
+    ensures looked { IsLookAt (K.standing book.old) (K.standing book.new)
+        (λ L. shown_open (open_of L who))
+        (W.contents out.old) (W.contents out.new) result }
 {
     match book.open(who)? {
         Some(page) => {
@@ -133,25 +109,6 @@ fn open<K: Keeper, W: io::Write, E: io::Write>(
             Ok(ExitStatus::Done)
         }
         None => tell_refusal(alloc, err, Refusal::UnknownDepositor),
-    }
-}
-
-// Tells why there is no picking sheet.
-fn tell_no_sheet<E: io::Write>(
-    alloc: Global,
-    err: &mut E,
-    why: NoSheet,
-) -> Result<ExitStatus, CommandError>
-    ensures refused { IfOk result
-        (λ status. (status ≡ ExitStatus.Refused) × (why ≢ NoSheet.OutOfMemory)) }
-    ensures halted { IfErr result IsDeviceStop }
-    ensures starved { why ≡ NoSheet.OutOfMemory
-        → IsErrOf result (CommandError.Fault Fault.OutOfMemory) }
-{
-    match why {
-        NoSheet::UnknownOrder => tell_refusal(alloc, err, Refusal::UnknownOrder),
-        NoSheet::OrderClosed => tell_refusal(alloc, err, Refusal::OrderClosed),
-        NoSheet::OutOfMemory => Err(CommandError::Fault(Fault::OutOfMemory)),
     }
 }
 
@@ -165,23 +122,20 @@ fn order<K: Keeper, W: io::Write, E: io::Write>(
     out: &mut W,
     err: &mut E,
 ) -> Result<ExitStatus, CommandError>
-    ensures shown { OfKept (K.standing book.old) (K.standing book.new)
-        (λ L. IfOk result (λ status. IsShown (shown_order number.now (history_of (own L who)))
-        (W.contents out.old) (W.contents out.new) status)) }
-    ensures same { IsUnchanged (K.standing book.old) (K.standing book.new) }
-    ensures stopped { IfErr result (IsShowStopped (K.standing book.old) (K.standing book.new)
-        (λ L. shown_order number.now (history_of (own L who)))) }
+    ensures looked { IsLookAt (K.standing book.old) (K.standing book.new)
+        (λ L. shown_order number.now (history_of (own L who)))
+        (W.contents out.old) (W.contents out.new) result }
 {
     let need = Need::order(alloc, number.as_bytes())?;
     let Some(page) = book.load(who, &need)? else {
         return tell_refusal(alloc, err, Refusal::UnknownDepositor);
     };
-    match pick_list(alloc, &page, number.as_bytes()) {
+    match pick_list(alloc, &page, number.as_bytes())? {
         Ok(sheet) => {
             out.write_all(&sheet)?;
             Ok(ExitStatus::Done)
         }
-        Err(why) => tell_no_sheet(alloc, err, why),
+        Err(refusal) => tell_refusal(alloc, err, refusal),
     }
 }
 
@@ -193,13 +147,9 @@ fn outbox<K: Keeper, W: io::Write, E: io::Write>(
     out: &mut W,
     err: &mut E,
 ) -> Result<ExitStatus, CommandError>
-    ensures shown { OfKept (K.standing book.old) (K.standing book.new)
-        (λ L. IfOk result (λ status. IsShown (shown_list
-        (outbox_of (K.standing book.old).warehouse L who))
-        (W.contents out.old) (W.contents out.new) status)) }
-    ensures same { IsUnchanged (K.standing book.old) (K.standing book.new) }
-    ensures stopped { IfErr result (IsShowStopped (K.standing book.old) (K.standing book.new)
-        (λ L. shown_list (outbox_of (K.standing book.old).warehouse L who))) }
+    ensures looked { IsLookAt (K.standing book.old) (K.standing book.new)
+        (λ L. shown_list (outbox_of (K.standing book.old).warehouse L who))
+        (W.contents out.old) (W.contents out.new) result }
 {
     match store::outbox(book, who)? {
         Some(rows) => {
@@ -239,13 +189,9 @@ fn content<K: Keeper, W: io::Write, E: io::Write>(
     out: &mut W,
     err: &mut E,
 ) -> Result<ExitStatus, CommandError>
-    ensures shown { OfKept (K.standing book.old) (K.standing book.new)
-        (λ L. IfOk result (λ status. IsShown (shown_text (text_of
-        (K.standing book.old).warehouse L who number)) (W.contents out.old) (W.contents out.new)
-        status)) }
-    ensures same { IsUnchanged (K.standing book.old) (K.standing book.new) }
-    ensures stopped { IfErr result (IsShowStopped (K.standing book.old) (K.standing book.new)
-        (λ L. shown_text (text_of (K.standing book.old).warehouse L who number))) }
+    ensures looked { IsLookAt (K.standing book.old) (K.standing book.new)
+        (λ L. shown_text (text_of (K.standing book.old).warehouse L who number))
+        (W.contents out.old) (W.contents out.new) result }
 {
     match store::text(book, who, number)? {
         Some(text) => tell_content(text, out),
@@ -259,12 +205,9 @@ fn depositors<K: Keeper, W: io::Write>(
     book: &mut K,
     out: &mut W,
 ) -> Result<ExitStatus, CommandError>
-    ensures shown { OfKept (K.standing book.old) (K.standing book.new)
-        (λ L. IfOk result (λ status. IsShown (shown_depositors (enrolled L)) (W.contents out.old)
-        (W.contents out.new) status)) }
-    ensures same { IsUnchanged (K.standing book.old) (K.standing book.new) }
-    ensures stopped { IfErr result (IsShowStopped (K.standing book.old) (K.standing book.new)
-        (λ L. shown_depositors (enrolled L))) }
+    ensures looked { IsLookAt (K.standing book.old) (K.standing book.new)
+        (λ L. shown_depositors (enrolled L))
+        (W.contents out.old) (W.contents out.new) result }
 {
     let whos = book.depositors()?;
     out.write_all(&depositor_list(alloc, &whos)?)?;
@@ -281,12 +224,8 @@ pub fn show<K: Keeper, W: io::Write, E: io::Write>(
     out: &mut W,
     err: &mut E,
 ) -> Result<ExitStatus, CommandError>
-    ensures shown { OfKept (K.standing book.old) (K.standing book.new)
-        (λ L. IfOk result (λ status. IsShown (shown_of (K.standing book.old).warehouse L asked.now)
-        (W.contents out.old) (W.contents out.new) status)) }
-    ensures same { IsUnchanged (K.standing book.old) (K.standing book.new) }
-    ensures stopped { IfErr result (IsShowStopped (K.standing book.old) (K.standing book.new)
-        (λ L. shown_of (K.standing book.old).warehouse L asked.now)) }
+    ensures looked { IsLook (K.standing book.old) (K.standing book.new) asked.now
+        (W.contents out.old) (W.contents out.new) result }
 {
     match *asked {
         Asked::Stock(who, is_csv) => stock(alloc, book, who, is_csv, out, err),

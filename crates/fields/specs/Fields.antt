@@ -1,8 +1,16 @@
--- The fields of a head, as names with values (RFC 9110, section 5).
+-- The fields of a head, as names with values (RFC 9110, section 5), and the room for a head.
 use Rattle.std.specs.Prelude.{◌≡◌, ℕ, Bool, false, ◌||◌, List, [], ◌∷◌, map, if◌then◌else◌, bytes_eq}
 use Rattle.std.specs.Char.{to_ascii_lowercase}
+use Rattle.fields.specs.declared.limits.TheConstants.{MOST_HEAD, MOST_FIELDS}
 use Rattle.fields.specs.declared.values.Values.{Values}
 use Rattle.fields.specs.declared.values.Values.TheVariants.{Absent, Single, Several}
+
+-- the room for a head: bytes, and fields
+abbrev pub most_head : ℕ
+most_head = MOST_HEAD
+
+abbrev pub most_fields : ℕ
+most_fields = MOST_FIELDS
 
 -- whether the field has this name, in letters of either case
 abbrev pub is_named : List ℕ → List ℕ × List ℕ → Bool

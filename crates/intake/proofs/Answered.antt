@@ -1,62 +1,77 @@
--- a response that is served, or the 503 of a fault
-use Rattle.std.proofs.Common.{◌≡◌, ℕ, List, Bool, true, false, refl, Option, Some, None, subst, inl, inr, if◌then◌else◌}
+-- a response that is as defined, or the 503 of a fault
+use Rattle.std.proofs.Common.{◌≡◌, ◌∙◌, List, false, Option, Some, None, sym, ap, subst, inl, inr}
 use Rattle.profile.specs.declared.rules.Rules.TheVariants.{Two}
 use Rattle.profile.specs.Moments.{Moment}
-use Rattle.profile.specs.Register.{Command, Entry, Interchange}
+use Rattle.profile.specs.Register.{Command, Entry}
+use Rattle.profile.specs.Reply as replies
 use Rattle.profile.specs.Accepted.{is_accepted, reply_to, after}
-use Rattle.profile.specs.Response.{Response, Method, Route, is_exchange, resp, fault_response}
-use Rattle.store.specs.Standing.{Standing, IsUsable, IsUnchanged, IsFault, LeavesEither, OfKept, OfUsable}
+use Rattle.profile.specs.Response.{Response, fault_response}
+use Rattle.store.specs.Runs.{told, UnlessAccepted}
+use Rattle.store.specs.Standing.{Standing, IsUsable, IsUnchanged, IsFault, IsQueryFault, LeavesEither, OfKept, OfUsable}
 use Rattle.store.specs.Fault.{Fault}
 use Rattle.store.specs.Fault.TheVariants.{OutOfMemory}
+use Rattle.store.specs.declared.serving.Reply.{Reply}
 use Rattle.store.proofs.Changes.{unchanged_refl, leaves_first}
 use Rattle.intake.specs.Serving.{IsAnswered}
-use Rattle.intake.specs.Targets.{handed_in}
-
-pub none_handed_in : (m : Method) (r : Route) (body : List ℕ) → handed_in m r body ≡ None → is_exchange m r ≡ false
-none_handed_in m r body e = by (is_exchange m r) e
-  where
-    by : (b : Bool) → (if b then Some (Interchange body) else None) ≡ None → b ≡ false
-    by true e = cc
-    by false e = refl
-
-pub some_handed_in : (m : Method) (r : Route) (body : List ℕ) (c : Command) → handed_in m r body ≡ Some c → (is_exchange m r ≡ true) × (Interchange body ≡ c)
-some_handed_in m r body c e = by (is_exchange m r) e
-  where
-    by : (b : Bool) → (if b then Some (Interchange body) else None) ≡ Some c → (b ≡ true) × (Interchange body ≡ c)
-    by true e = (refl, cc)
-    by false e = cc
+use Rattle.intake.proofs.Replied.{not_accepted}
 
 module _ (old new : Standing) (t : Moment) where
-  abbrev pub Taken : Command → Type 0
+  abbrev Taken : Command → Type 0
   Taken c = OfUsable old new (λ L. IsUsable new (after Two old.warehouse L (c, t)))
 
-  abbrev pub Repeated : Command → Type 0
+  abbrev Repeated : Command → Type 0
   Repeated c = OfKept old new
       (λ L. is_accepted (reply_to Two old.warehouse L c t) ≡ false → IsUnchanged old new)
 
-  abbrev pub Left : Command → Type 0
+  abbrev Left : Command → Type 0
   Left c = OfUsable old new (λ L. LeavesEither new L (after Two old.warehouse L (c, t)))
 
-module _ (old new : Standing) (t : Moment) (m : Method) (r : Route) (body : List ℕ) where
-  pub served : (answer : Response) → OfKept old new (λ L. answer ≡ resp Two old.warehouse L m r body t)
-      → (is_exchange m r ≡ false → IsUnchanged old new) → (is_exchange m r ≡ true → Taken old new t (Interchange body)) → (is_exchange m r ≡ true → Repeated old new t (Interchange body))
-      → (is_exchange m r ≡ true → new.shut ≡ false) → IsAnswered old new t (handed_in m r body) (λ L. resp Two old.warehouse L m r body t) answer
-  served answer response kept taken repeated opened = inl (record {
+  -- what is shown, and the book is as it was
+  pub shown : (meant : List Entry → Response) (answer : Response)
+      → OfKept old new (λ L. answer ≡ meant L)
+      → IsUnchanged old new → IsAnswered old new t None meant answer
+  shown meant answer response same = inl (record {
     response = response;
-    kept = λ e. kept (none_handed_in m r body e);
-    taken = λ c e. let is = some_handed_in m r body c e in subst (Taken old new t) is.1 (taken is.0);
-    repeated = λ c e. let is = some_handed_in m r body c e in subst (Repeated old new t) is.1 (repeated is.0);
-    opened = λ c e. opened ((some_handed_in m r body c e).0);
+    kept = λ e. same;
+    taken = λ c e. cc;
+    repeated = λ c e. cc;
+    opened = λ c e. cc;
   })
 
-  pub faulted : (answer : Response) (fault : Fault) (meant : List Entry → Response) → answer ≡ fault_response fault → IsFault fault old new
-      → (is_exchange m r ≡ false → IsUnchanged old new) → (is_exchange m r ≡ true → Left old new t (Interchange body)) → IsAnswered old new t (handed_in m r body) meant answer
-  faulted answer fault meant response why kept left = inr (record {
+  pub unshown : (fault : Fault) (meant : List Entry → Response) (answer : Response) → answer ≡ fault_response fault
+      → IsQueryFault fault old new → IsUnchanged old new → IsAnswered old new t None meant answer
+  unshown fault meant answer response why same = inr (record {
     fault = fault;
     response = response;
+    why = record { clean = λ e. same; broken = λ was now. cc same.shut; why = why };
+    kept = λ e. same;
+    left = λ c e. cc;
+  })
+
+  -- a command that was answered, whose reply is told so
+  pub done : (tells : replies.Reply → Response) (a c : Command) (reply : Reply) (answer : Response) → a ≡ c → answer ≡ tells (told reply)
+      → OfKept old new (λ L. told reply ≡ reply_to Two old.warehouse L a t)
+      → Taken a → UnlessAccepted reply (IsUnchanged old new) → new.shut ≡ false
+      → IsAnswered old new t (Some c) (λ L. tells (reply_to Two old.warehouse L c t)) answer
+  done tells a c reply answer same is said taken kept opened =
+      subst (λ (k : Command). IsAnswered old new t (Some k) (λ L. tells (reply_to Two old.warehouse L k t)) answer) same (inl (record {
+        response = λ clean L keeps legal. is ∙ ap tells (said clean L keeps legal);
+        kept = λ e. cc;
+        taken = λ k e. let at : a ≡ k = cc in subst Taken at taken;
+        repeated = λ k e. let at : a ≡ k = cc in subst Repeated at
+            (λ clean L keeps legal no. not_accepted reply (subst (λ (r : replies.Reply). is_accepted r ≡ false) (sym (said clean L keeps legal)) no) kept);
+        opened = λ k e. opened;
+      }))
+
+  -- and one at which a fault happened
+  pub undone : (a c : Command) (fault : Fault) (meant : List Entry → Response) (answer : Response) → a ≡ c → answer ≡ fault_response fault
+      → IsFault fault old new → Left a → IsAnswered old new t (Some c) meant answer
+  undone a c fault meant answer same is why left = inr (record {
+    fault = fault;
+    response = is;
     why = why;
-    kept = λ e. kept (none_handed_in m r body e);
-    left = λ c e. let is = some_handed_in m r body c e in subst (Left old new t) is.1 (left is.0);
+    kept = λ e. cc;
+    left = λ k e. let at : a ≡ k = cc in subst Left at left;
   })
 
 -- where memory is wanting and nothing was done

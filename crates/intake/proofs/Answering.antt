@@ -19,7 +19,8 @@ use Rattle.intake.specs.Lines.{IsLineAt, TellsOf, HasLine, TellsSender, sender_i
 use Rattle.intake.specs.declared.audience.Audience.{Audience}
 use Rattle.intake.specs.declared.audience.Audience.TheVariants.{Partners, Clerks}
 use Rattle.intake.specs.declared.served.RequestLine.{RequestLine}
-use Rattle.intake.specs.Requests.{most_head, most_fields, IsInput, HasNoHead}
+use Rattle.fields.specs.Fields.{most_head, most_fields}
+use Rattle.intake.specs.Requests.{IsInput, HasNoHead}
 use Rattle.intake.specs.Serving.{IsAnswered, IsExchange, IsExchangeAfter, command_in, answer_of}
 use Rattle.intake.specs.Targets.{Target, target_of, target_command, target_resp, has_body, asked_with, command_with}
 use Rattle.intake.proofs.Heads.{head_within}

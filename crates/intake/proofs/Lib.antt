@@ -7,8 +7,8 @@ pub mod Heads
 pub mod Filling
 pub mod Replied
 pub mod Found
-pub mod Posted
 pub mod Answered
+pub mod Posted
 pub mod Aimed
 pub mod Asked
 pub mod Sent

@@ -1,24 +1,31 @@
 -- what is posted, and where
-use Rattle.std.proofs.Common.{◌≡◌, ℕ, List, true, false, refl}
+use Rattle.std.proofs.Common.{◌≡◌, ℕ, List, true, false, Some}
 use Rattle.profile.specs.declared.rules.Rules.TheVariants.{Two}
 use Rattle.profile.specs.Header.{Who}
 use Rattle.profile.specs.Moments.{Moment}
 use Rattle.profile.specs.Register.{Entry, Interchange}
 use Rattle.profile.specs.Accepted.{reply_to}
-use Rattle.profile.specs.Response.{Route, ToExchange, ToStock, ToOutbox, ToContent, Nowhere, Post, OtherMethod, is_exchange, resp, reply_response}
+use Rattle.profile.specs.Response.{Response, Route, ToExchange, ToStock, ToOutbox, ToContent, Nowhere, Post, OtherMethod, is_exchange, resp, reply_response}
+use Rattle.store.specs.Standing.{Standing}
+use Rattle.store.proofs.Changes.{unchanged_refl}
+use Rattle.intake.specs.Serving.{IsAnswered, IsRouteAnswered}
+use Rattle.intake.proofs.Answered.{shown}
 
-module _ (W : Who) (L : List Entry) (body : List ℕ) (t : Moment) where
-  -- anywhere else POST is as any other method but GET
-  pub posted_elsewhere : (r : Route) → is_exchange Post r ≡ false → resp Two W L OtherMethod r body t ≡ resp Two W L Post r body t
-  posted_elsewhere ToExchange e = cc
-  posted_elsewhere (ToStock who) e = refl
-  posted_elsewhere (ToOutbox who) e = refl
-  posted_elsewhere (ToContent who n) e = refl
-  posted_elsewhere Nowhere e = refl
+-- anywhere else POST is as any other method but GET
+pub posted_elsewhere : (s : Standing) (t : Moment) (body : List ℕ) (answer : Response) (r : Route) → is_exchange Post r ≡ false
+    → ((W : Who) (L : List Entry) (b : List ℕ) (at : Moment) → answer ≡ resp Two W L OtherMethod r b at)
+    → IsRouteAnswered s s t Post r body answer
+posted_elsewhere s t body answer ToExchange e is = cc
+posted_elsewhere s t body answer (ToStock who) e is = shown s s t _ answer (λ clean L keeps legal. is s.warehouse L body t) (unchanged_refl s)
+posted_elsewhere s t body answer (ToOutbox who) e is = shown s s t _ answer (λ clean L keeps legal. is s.warehouse L body t) (unchanged_refl s)
+posted_elsewhere s t body answer (ToContent who n) e is = shown s s t _ answer (λ clean L keeps legal. is s.warehouse L body t) (unchanged_refl s)
+posted_elsewhere s t body answer Nowhere e is = shown s s t _ answer (λ clean L keeps legal. is s.warehouse L body t) (unchanged_refl s)
 
-  pub posted_there : (r : Route) → is_exchange Post r ≡ true → reply_response (reply_to Two W L (Interchange body) t) ≡ resp Two W L Post r body t
-  posted_there ToExchange e = refl
-  posted_there (ToStock who) e = cc
-  posted_there (ToOutbox who) e = cc
-  posted_there (ToContent who n) e = cc
-  posted_there Nowhere e = cc
+pub posted_there : (old new : Standing) (t : Moment) (body : List ℕ) (answer : Response) (r : Route) → is_exchange Post r ≡ true
+    → IsAnswered old new t (Some (Interchange body)) (λ L. reply_response (reply_to Two old.warehouse L (Interchange body) t)) answer
+    → IsRouteAnswered old new t Post r body answer
+posted_there old new t body answer ToExchange e is = is
+posted_there old new t body answer (ToStock who) e is = cc
+posted_there old new t body answer (ToOutbox who) e is = cc
+posted_there old new t body answer (ToContent who n) e is = cc
+posted_there old new t body answer Nowhere e is = cc

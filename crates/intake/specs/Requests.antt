@@ -1,16 +1,9 @@
 -- The head of an input.
 use Rattle.std.specs.Prelude.{◌≡◌, ℕ, ◌<◌, ◌≤◌, Bool, true, false, List, length, take, Option, IfSome}
 use Rattle.httparse.specs.Grammar.{RequestHead, ReadsRequest, print_request}
-use Rattle.intake.specs.declared.reading.TheConstants.{MOST_HEAD, MOST_FIELDS}
+use Rattle.fields.specs.Fields.{most_head, most_fields}
 use Rattle.intake.specs.declared.reading.Content.{Content}
 use Rattle.intake.specs.declared.reading.Content.TheVariants.{Whole, CutOff, NoMemory}
-
--- the room for a head: bytes, and fields
-abbrev pub most_head : ℕ
-most_head = MOST_HEAD
-
-abbrev pub most_fields : ℕ
-most_fields = MOST_FIELDS
 
 -- the input begins with that head, within the room, and then has rest
 pub record HasHead (input : List ℕ) (h : RequestHead) (rest : List ℕ) : Type 0 where

@@ -6,7 +6,7 @@ use Rattle.profile.specs.Moments.{Moment}
 use Rattle.profile.specs.Header.{Who}
 use Rattle.profile.specs.Register.{Command, Entry, Interchange}
 use Rattle.profile.specs.Accepted.{is_accepted, reply_to, after}
-use Rattle.profile.specs.Response.{Method, Response, fault_response, response_to, submitted, response_bytes}
+use Rattle.profile.specs.Response.{Method, Route, Response, fault_response, resp, response_to, submitted, response_bytes}
 use Rattle.store.specs.Standing.{Standing, IsUsable, IsUnchanged, IsFault, LeavesEither, OfKept, OfUsable}
 use Rattle.store.specs.Fault.{Fault}
 use Rattle.std.specs.Io.KnownBytes.{Appends}
@@ -16,7 +16,7 @@ use Rattle.intake.specs.Requests.{HasHead, HasNoHead, IsInput}
 use Rattle.intake.specs.Fields.{head_of}
 use Rattle.intake.specs.Lines.{TellsOf, HasLine, TellsSender}
 use Rattle.intake.specs.Calls.{Call, call_of, call_command, call_resp}
-use Rattle.intake.specs.Targets.{Target, ToCall, asked_with, command_with, response_with, target_command, target_resp}
+use Rattle.intake.specs.Targets.{Target, ToCall, asked_with, command_with, handed_in, response_with, target_command, target_resp}
 use Rattle.intake.specs.declared.audience.Audience.{Audience}
 use Rattle.intake.specs.declared.audience.Audience.TheVariants.{Partners, Clerks}
 use Rattle.intake.specs.declared.served.RequestLine.{RequestLine}
@@ -49,7 +49,7 @@ answer_of Clerks W L (Some h) rest t = call_answer (call_of h.target) W L h rest
 -- The response of the definitions, over a register that the book keeps. The book is left as the
 -- command that was submitted leaves it; where none was, or it isn't accepted now, the book is as it
 -- was.
-pub record IsServed
+pub record IsAsDefined
     (old new : Standing) (t : Moment) (submits : Option Command) (meant : List Entry → Response)
     (r : Response) : Type 0 where
   pub response : OfKept old new (λ L. r ≡ meant L)
@@ -73,10 +73,15 @@ pub record IsFaulted
 
 abbrev pub IsAnswered : Standing → Standing → Moment → Option Command → (List Entry → Response)
     → Response → Type 0
-IsAnswered old new t submits meant r = IsServed old new t submits meant r
+IsAnswered old new t submits meant r = IsAsDefined old new t submits meant r
     ⊎ IsFaulted old new t submits r
 
--- the same of what is asked of a target, and of what a path calls for, with this body
+-- the same of what is asked at a route, of a target, and of what a path calls for, with this body
+abbrev pub IsRouteAnswered : Standing → Standing → Moment → Method → Route → List ℕ → Response
+    → Type 0
+IsRouteAnswered old new t method route body r = IsAnswered old new t (handed_in method route body)
+    (λ L. resp Two old.warehouse L method route body t) r
+
 abbrev pub IsTargetAnswered : Standing → Standing → Moment → Method → Target → List ℕ → Response
     → Type 0
 IsTargetAnswered old new t method to body r = IsAnswered old new t (target_command method to body)

@@ -4,7 +4,7 @@ ghost use Rattle.intake.specs.Connections.{HasTold, IsConnection, IsNotAccepted,
 
 use crate::audience::Audience;
 use crate::gauge::Gauge;
-use crate::patience::{Patience, Patient, Standing};
+use crate::patience::{Patience, Patient, StoppedClock};
 use crate::served::{Connection, Served};
 use crate::serving::serve_telling;
 use std::alloc::Global;
@@ -208,7 +208,7 @@ pub fn serve_count<K: Keeper, C: FnMut() -> Moment, T: FnMut(Connection)>(
         C.step (λ p x q. T.step p x tt q) keeper.old keeper.new clock after told last n)) }
 {
     let patience = Patience {
-        timer: &Standing,
+        timer: &StoppedClock,
         limit: Duration::from_secs(CALL_SECONDS),
     };
     serve_within(

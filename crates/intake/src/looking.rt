@@ -1,46 +1,24 @@
 //! What clerks are shown: the picking sheet of an order, the export of a depositor's stock, what it
 //! has open, and who is enrolled.
-ghost use Rattle.std.specs.Prelude.{◌≡◌, ◌⊎◌, ℕ, List, Result, true, IfOk, IfErr, IsErrOf, is_some};
-ghost use Rattle.profile.specs.declared.rules.Rules.TheVariants.{Two};
+ghost use Rattle.std.specs.Prelude.{◌≡◌, ◌⊎◌, ℕ, List, true, IfOk, IsErrOf, is_some};
 ghost use Rattle.profile.specs.Header.{Who as Partner, who_of};
 ghost use Rattle.profile.specs.Moments.{Moment as Minute};
-ghost use Rattle.profile.specs.declared.refusals.Refusal.{Refusal as Meant};
 ghost use Rattle.profile.specs.Register.{Entry};
-ghost use Rattle.profile.specs.Reports as reports;
-ghost use Rattle.profile.specs.Response.{Get, OtherMethod, found_for, with_body, plain_type};
-ghost use Rattle.profile.specs.Rows.{stock_of};
-ghost use Rattle.reports.specs.Picking.{Explains};
+ghost use Rattle.profile.specs.Response.{Get, OtherMethod};
 ghost use Rattle.store.specs.Standing.{IsQuery, OfKept};
 ghost use Rattle.intake.specs.Answers.{seen};
 ghost use Rattle.intake.specs.Asking.{call_asks};
-ghost use Rattle.intake.specs.Calls.{owner_of, order_response, sheet_response, open_response, depositors_response, call_resp};
+ghost use Rattle.intake.specs.Calls.{owner_of, order_response, open_response, depositors_response, call_resp};
 ghost use Rattle.intake.specs.Targets.{seen_call};
 
 use crate::calls::Call;
+use crate::queries::stock_at;
 use crate::replies::{bad_part, refused, stranger, with_text};
-use crate::response::{Allow, MediaType, Response, Status, bare_response, not_allowed_response};
+use crate::response::{Allow, MediaType, Response, Status, not_allowed_response};
 use profile::MOST_NUMBER;
-use reports::{NoSheet, depositor_list, open_report, pick_list, stock_csv};
+use reports::{depositor_list, open_report, pick_list};
 use std::alloc::Global;
-use store::{Fault, Ident, Keeper, Need, Refusal, Who};
-
-// The export of what the depositor has that a part of a path names.
-fn export_at<K: Keeper>(alloc: Global, keeper: &mut K, who: &[u8]) -> Result<Response, Fault>
-    ensures response { OfKept (K.standing keeper.old) (K.standing keeper.new)
-        (λ L. IfOk result (λ r. seen r ≡ found_for who.now (stock_of L)
-        (λ rows. with_body 200 plain_type (reports.stock_csv Two rows)))) }
-    ensures query { IsQuery (K.standing keeper.old) (K.standing keeper.new) result }
-    ensures shut { (K.standing keeper.old).shut ≡ true → is_some (who_of who.now) ≡ true
-        → IsErrOf result Fault.Reopen }
-{
-    let Some(who) = Who::new(who) else {
-        return Ok(bare_response(Status::NotFound));
-    };
-    match store::stock(keeper, who)? {
-        Some(rows) => Ok(with_text(Status::Okay, MediaType::Plain, stock_csv(alloc, &rows)?)),
-        None => Ok(bare_response(Status::NotFound)),
-    }
-}
+use store::{Fault, Ident, Keeper, Need, Who};
 
 /// The depositor whose order is named; None where one of the two texts can't be read.
 pub fn owner(who: &[u8], number: &[u8]) -> Option<Who>
@@ -48,20 +26,6 @@ pub fn owner(who: &[u8], number: &[u8]) -> Option<Who>
 {
     Ident::new(number, MOST_NUMBER)?;
     Who::new(who)
-}
-
-// Why there is no picking sheet, as a response.
-fn no_sheet(alloc: Global, why: NoSheet) -> Result<Response, Fault>
-    ensures told { IfOk result
-        (λ r. (answer : Result (List ℕ) Meant) → Explains answer why
-        → seen r ≡ sheet_response answer) }
-    ensures starved { IfErr result (λ fault. fault ≡ Fault.OutOfMemory) }
-{
-    match why {
-        NoSheet::UnknownOrder => Ok(refused(Refusal::UnknownOrder, Vec::new(alloc))),
-        NoSheet::OrderClosed => Ok(refused(Refusal::OrderClosed, Vec::new(alloc))),
-        NoSheet::OutOfMemory => Err(Fault::OutOfMemory),
-    }
 }
 
 // The picking sheet of the order that a path names.
@@ -86,9 +50,9 @@ fn order_at<K: Keeper>(
     let Some(page) = keeper.load(who, &need)? else {
         return Ok(stranger());
     };
-    match pick_list(alloc, &page, number) {
+    match pick_list(alloc, &page, number)? {
         Ok(sheet) => Ok(with_text(Status::Okay, MediaType::Plain, sheet)),
-        Err(why) => no_sheet(alloc, why),
+        Err(refusal) => Ok(refused(refusal, Vec::new(alloc))),
     }
 }
 
@@ -142,7 +106,7 @@ pub(crate) fn looked_at<K: Keeper>(
     match *call {
         Call::Deed(_) => Ok(not_allowed_response(Allow::Post)),
         Call::Order(who, number) => order_at(alloc, keeper, who, number),
-        Call::Export(who) => export_at(alloc, keeper, who),
+        Call::Export(who) => stock_at(alloc, keeper, who, true),
         Call::Open(who) => open_at(alloc, keeper, who),
         Call::Depositors => depositors_at(alloc, keeper),
     }

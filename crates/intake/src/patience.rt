@@ -14,12 +14,12 @@ pub struct Patience<'a, Q> {
     pub limit: Duration,
 }
 
-/// A timer that stands still. Patience by it is for each call of a connection, and not for all of
+/// A clock that stands still. Patience by it is for each call of a connection, and not for all of
 /// them together.
 #[derive(Drop)]
-pub(crate) struct Standing;
+pub(crate) struct StoppedClock;
 
-impl Clock for Standing {
+impl Clock for StoppedClock {
     fn monotonic(&self) -> io::Result<Duration> {
         Ok(Duration::ZERO)
     }

@@ -1,12 +1,13 @@
-ghost use Rattle.std.specs.Prelude.{◌≡◌, ◌==◌, ◌&&◌, ℕ, List, Some, None, true, IfOk, IfErr, IsErrOf, if◌then◌else◌, find, is_some, option_map, unwrap_or};
+ghost use Rattle.std.specs.Prelude.{◌≡◌, ◌==◌, ◌&&◌, ℕ, List, Some, None, true, IfOk, IsErrOf, if◌then◌else◌, is_some, option_map};
 ghost use Rattle.profile.specs.declared.rules.Rules.TheVariants.{Two};
 ghost use Rattle.profile.specs.Bytes.{value};
 ghost use Rattle.profile.specs.Header.{Who as Partner, who_of};
 ghost use Rattle.profile.specs.Moments.{Moment as Minute};
 ghost use Rattle.profile.specs.Register.{Entry};
 ghost use Rattle.profile.specs.Reports as reports;
-ghost use Rattle.profile.specs.Response.{Get, OtherMethod, is_plain_number, content_response, found_for, resp, with_body, plain_type, x12_type, bare};
+ghost use Rattle.profile.specs.Response.{Get, OtherMethod, is_plain_number, content_response, found_for, resp, with_body, plain_type};
 ghost use Rattle.profile.specs.Rows.{stock_of, outbox_of};
+ghost use Rattle.reports.specs.Exports.{stock_text as meant_text};
 ghost use Rattle.store.specs.Standing.{IsQuery, OfKept};
 ghost use Rattle.intake.specs.Answers.{seen, told_text};
 ghost use Rattle.intake.specs.Asking.{route_asks};
@@ -15,25 +16,33 @@ ghost use Rattle.intake.specs.Routes.{seen_route};
 use crate::replies::with_text;
 use crate::response::{Allow, MediaType, Response, Status, bare_response, not_allowed_response};
 use crate::routes::Route;
-use reports::{outbox_list, stock_report};
+use reports::{outbox_list, stock_text};
 use segments::{all_digits, number};
 use std::alloc::Global;
 use store::{Fault, Keeper, Who};
 
-// The stock report of the depositor that a part of a path names.
-fn stock_at<K: Keeper>(alloc: Global, keeper: &mut K, who: &str) -> Result<Response, Fault>
+/// The stock report of the depositor that a part of a path names, or its export as CSV.
+pub(crate) fn stock_at<K: Keeper>(
+    alloc: Global,
+    keeper: &mut K,
+    who: &[u8],
+    is_csv: bool,
+) -> Result<Response, Fault>
     ensures response { OfKept (K.standing keeper.old) (K.standing keeper.new)
         (λ L. IfOk result (λ r. seen r ≡ found_for who.now (stock_of L)
-        (λ rows. with_body 200 plain_type (reports.stock_report Two rows)))) }
+        (λ rows. with_body 200 plain_type (meant_text is_csv rows)))) }
     ensures query { IsQuery (K.standing keeper.old) (K.standing keeper.new) result }
     ensures shut { (K.standing keeper.old).shut ≡ true → is_some (who_of who.now) ≡ true
         → IsErrOf result Fault.Reopen }
 {
-    let Some(who) = Who::new(who.as_bytes()) else {
+    let Some(who) = Who::new(who) else {
         return Ok(bare_response(Status::NotFound));
     };
     match store::stock(keeper, who)? {
-        Some(rows) => Ok(with_text(Status::Okay, MediaType::Plain, stock_report(alloc, &rows)?)),
+        Some(rows) => {
+            let text = stock_text(alloc, &rows, is_csv)?;
+            Ok(with_text(Status::Okay, MediaType::Plain, text))
+        }
         None => Ok(bare_response(Status::NotFound)),
     }
 }
@@ -113,7 +122,7 @@ pub(crate) fn got<K: Keeper>(
         → IsErrOf result Fault.Reopen }
 {
     match *route {
-        Route::Stock(who) => stock_at(alloc, keeper, who),
+        Route::Stock(who) => stock_at(alloc, keeper, who.as_bytes(), false),
         Route::Outbox(who) => outbox_at(alloc, keeper, who),
         Route::Content(who, n) => content_at(keeper, who, n),
         Route::Exchange => Ok(not_allowed_response(Allow::Post)),

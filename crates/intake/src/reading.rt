@@ -1,20 +1,15 @@
 ghost use Rattle.std.specs.Prelude.{◌≡◌, ℕ, ◌+◌, ◌<◌, ◌≤◌, ◌++◌, [], List, length, take, drop, OnErr, OnOk, IfOk, IfSome, IfNone, unwrap_or};
 ghost use Rattle.std.specs.Io.KnownBytes.{Consumes, IsAtEnd};
+ghost use Rattle.fields.specs.Fields.{most_head, most_fields};
 ghost use Rattle.httparse.specs.Spans.{IsRequestWithin, IsRequestOf};
 ghost use Rattle.intake.specs.Gauges.{Grew};
-ghost use Rattle.intake.specs.Requests.{most_head, most_fields, HasNoHead, IsInput, IsBody, IsFilled};
+ghost use Rattle.intake.specs.Requests.{HasNoHead, IsInput, IsBody, IsFilled};
 
 use crate::gauge::Gauge;
 use httparse::Status;
 use httparse::spans::{HeaderSpan, RequestSpans, parse_request};
 use std::alloc::Global;
 use std::io::Read;
-
-/// The most bytes of a request's head that a server reads.
-pub(crate) const MOST_HEAD: usize = 8_192;
-
-/// The most fields of a request's head that a server reads.
-pub(crate) const MOST_FIELDS: usize = 32;
 
 /// The reader gave an error.
 #[derive(Drop)]

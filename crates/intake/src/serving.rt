@@ -11,14 +11,14 @@ ghost use Rattle.intake.specs.Serving.{IsExchange, IsExchangeAfter, IsWritten, I
 use crate::audience::Audience;
 use crate::gauge::Gauge;
 use crate::heading::{length_of, read_method};
-use crate::reading::{Content, MOST_FIELDS, MOST_HEAD, Unread, read_body, read_head};
+use crate::reading::{Content, Unread, read_body, read_head};
 use crate::replies::of_fault;
 use crate::response::{Status, bare_response};
 use crate::senders::{Replied, answer_at, unsent};
 use crate::served::{RequestLine, Served};
 use crate::targets::{find_target, has_body};
 use crate::texts::write_response;
-use fields::{is_among, values_of};
+use fields::{MOST_FIELDS, MOST_HEAD, is_among, values_of};
 use http::StatusCode;
 use httparse::spans::{EMPTY_HEADER_SPAN, HeaderSpan, RequestSpans};
 use std::alloc::Global;

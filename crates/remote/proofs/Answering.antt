@@ -9,7 +9,8 @@ use Rattle.httparse.specs.declared.spans.HeaderSpan.{HeaderSpan}
 use Rattle.httparse.specs.declared.spans.ResponseSpans.{ResponseSpans}
 use Rattle.remote.specs.declared.heading.Said.{Said}
 use Rattle.remote.specs.Fields.{Says}
-use Rattle.remote.specs.Answers.{most_head, most_fields, HasHead, IsInput, IsFront, IsAnswer}
+use Rattle.fields.specs.Fields.{most_head, most_fields}
+use Rattle.remote.specs.Answers.{HasHead, IsInput, IsFront, IsAnswer}
 use Rattle.remote.proofs.Filling.{more_input}
 
 -- the head that the spans cover is one of an input that begins with those bytes

@@ -3,14 +3,7 @@ use Rattle.std.specs.Prelude.{◌≡◌, ℕ, ◌≤◌, List, [], Option, Some,
 use Rattle.httparse.specs.Grammar.{ResponseHead, ReadsResponse, print_response, status_code}
 use Rattle.remote.specs.Fields.{stated, is_x12, body_length}
 use Rattle.remote.specs.declared.answers.ServerAnswer.{ServerAnswer}
-use Rattle.remote.specs.declared.reading.TheConstants.{MOST_HEAD, MOST_FIELDS}
-
--- the room for a head: bytes, and fields
-abbrev pub most_head : ℕ
-most_head = MOST_HEAD
-
-abbrev pub most_fields : ℕ
-most_fields = MOST_FIELDS
+use Rattle.fields.specs.Fields.{most_head, most_fields}
 
 -- the input is what the reader has, where that is known
 abbrev pub IsInput : Option (List ℕ) → List ℕ → Type 0

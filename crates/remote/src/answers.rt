@@ -3,7 +3,8 @@ ghost use Rattle.std.specs.Prelude.{IfOk};
 ghost use Rattle.remote.specs.Answers.{IsAnswer};
 
 use crate::heading::said_of;
-use crate::reading::{MOST_FIELDS, MOST_HEAD, read_body, read_head};
+use crate::reading::{read_body, read_head};
+use fields::{MOST_FIELDS, MOST_HEAD};
 use httparse::spans::EMPTY_HEADER_SPAN;
 use std::alloc::Global;
 use std::io::Read;

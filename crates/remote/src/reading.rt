@@ -1,8 +1,9 @@
 //! The bytes of a response, read: its head, and its body.
 ghost use Rattle.std.specs.Prelude.{◌≡◌, ℕ, ◌+◌, ◌<◌, ◌≤◌, ◌++◌, List, length, take, drop, OnOk, IfOk};
 ghost use Rattle.std.specs.Io.KnownBytes.{Consumes};
+ghost use Rattle.fields.specs.Fields.{most_head, most_fields};
 ghost use Rattle.httparse.specs.Spans.{IsResponseWithin, IsResponseOf};
-ghost use Rattle.remote.specs.Answers.{IsInput, IsFront, most_head, most_fields};
+ghost use Rattle.remote.specs.Answers.{IsInput, IsFront};
 
 use crate::answers::Unanswered;
 use httparse::Status;
@@ -12,12 +13,6 @@ use std::io::{ErrorKind, Read};
 
 // How often a read is begun that is interrupted, as it is where a command is stopped and goes on.
 const TRIES: u8 = 100;
-
-/// The most bytes of a response's head that are read.
-pub(crate) const MOST_HEAD: usize = 8_192;
-
-/// The most fields of a response's head that are read.
-pub(crate) const MOST_FIELDS: usize = 32;
 
 // One read, begun again where it is interrupted.
 fn read_some<R: Read>(reader: &mut R, buf: &mut [u8]) -> Result<usize, Unanswered>

@@ -1,13 +1,11 @@
 -- Picking sheets of orders as a page has them.
-use Rattle.std.specs.Prelude.{◌≡◌, ℕ, ◌-◌, List, [], ◌++◌, length, if◌then◌else◌, nat_lt, ◌==◌, Some, None, Ok, Err, codes, bytes_eq, filter, flat_map, Option, Result, option_to_list}
+use Rattle.std.specs.Prelude.{ℕ, ◌-◌, List, [], ◌++◌, length, if◌then◌else◌, nat_lt, ◌==◌, Some, None, Ok, Err, codes, bytes_eq, filter, flat_map, Option, Result, option_to_list}
 use Rattle.profile.specs.Means.{Line}
 use Rattle.profile.specs.Page.{PageLine, PageOrder}
 use Rattle.profile.specs.declared.refusals.Refusal.{Refusal}
 use Rattle.profile.specs.declared.refusals.Refusal.TheVariants as refusals
 use Rattle.profile.specs.Reports.{ended, address_lines, pick_line}
 use Rattle.profile.specs.Texts.{total_of}
-use Rattle.reports.specs.declared.picking.NoSheet.{NoSheet}
-use Rattle.reports.specs.declared.picking.NoSheet.TheVariants.{UnknownOrder, OrderClosed, OutOfMemory}
 
 -- the reservations of an item
 abbrev pub held_of : List Line → List ℕ → List Line
@@ -42,9 +40,3 @@ order_sheet k =
 abbrev pub listed : Option PageOrder → Result (List ℕ) Refusal
 listed None = Err refusals.UnknownOrder
 listed (Some k) = if k.is_open then Ok (order_sheet k) else Err refusals.OrderClosed
-
--- why there is none; want of memory has no cause here
-abbrev pub Explains : Result (List ℕ) Refusal → NoSheet → Type 0
-Explains answer UnknownOrder = answer ≡ Err refusals.UnknownOrder
-Explains answer OrderClosed = answer ≡ Err refusals.OrderClosed
-Explains answer OutOfMemory = Unit {0}

@@ -1,8 +1,9 @@
 ghost use Rattle.std.specs.Prelude.{◌≡◌, ◌++◌, [], List, ℕ, IfOk, OnOk};
 ghost use Rattle.profile.specs.declared.rules.Rules.TheVariants.{Two};
 ghost use Rattle.profile.specs.Reports as meant;
-ghost use Rattle.reports.specs.Exports.{Holds};
+ghost use Rattle.reports.specs.Exports.{Holds, stock_text as meant_text};
 
+use crate::balances::stock_report;
 use crate::dates::expiry_text;
 use csv::{Error, QuoteStyle, Writer, WriterBuilder};
 use itoa::Buffer;
@@ -66,4 +67,16 @@ pub fn stock_csv(alloc: Global, rows: &[StockRow]) -> Result<Vec<u8>, AllocError
         return Err(AllocError);
     }
     writer.into_inner().map_err(|_| AllocError)
+}
+
+/// What a depositor has by these rows: the stock report, or its export as CSV. The one error is want
+/// of memory.
+pub fn stock_text(alloc: Global, rows: &[StockRow], is_csv: bool) -> Result<Vec<u8>, AllocError>
+    ensures { IfOk result (λ text. text.items ≡ meant_text is_csv rows.now) }
+{
+    if is_csv {
+        stock_csv(alloc, rows)
+    } else {
+        stock_report(alloc, rows)
+    }
 }

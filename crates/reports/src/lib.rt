@@ -13,7 +13,7 @@ mod picking;
 
 pub use balances::stock_report;
 pub use depositors::depositor_list;
-pub use exports::stock_csv;
+pub use exports::{stock_csv, stock_text};
 pub use open_work::open_report;
 pub use outboxes::outbox_list;
-pub use picking::{NoSheet, pick_list};
+pub use picking::pick_list;

@@ -1,8 +1,8 @@
-ghost use Rattle.std.specs.Prelude.{◌≡◌, ◌++◌, Some, Ok, IfOk, IfErr, OnOk, flat_map, option_to_list};
+ghost use Rattle.std.specs.Prelude.{◌≡◌, ◌++◌, Some, Ok, Err, IfOk, IfErr, OnOk, flat_map, option_to_list};
 ghost use Rattle.profile.specs.History.{History};
 ghost use Rattle.profile.specs.Need.{need_of_number};
 ghost use Rattle.profile.specs.Reports as meant;
-ghost use Rattle.reports.specs.Picking.{held_of, held_lines, short_of as meant_short_of, short_line, address_line, order_lines, order_sheet, listed, Explains};
+ghost use Rattle.reports.specs.Picking.{held_of, held_lines, short_of as meant_short_of, short_line, address_line, order_lines, order_sheet, listed};
 ghost use Rattle.store.specs.Pages.{order_at};
 ghost use Rattle.store.specs.Decided.{IsHeldPart};
 
@@ -10,28 +10,7 @@ use crate::columns::{append_left, append_right};
 use itoa::Buffer;
 use profile::{MOST_ITEM, MOST_LOT, QUANTITY_COLUMN};
 use std::alloc::{AllocError, Global};
-use store::{Address, Goods, KnownLine, KnownOrder, Page};
-
-/// Why there is no picking sheet.
-#[derive(Clone, Copy, PartialEq, Eq)]
-pub enum NoSheet {
-    /// The depositor has no order of this number.
-    UnknownOrder,
-    /// The order was picked.
-    OrderClosed,
-    /// A growth was refused.
-    OutOfMemory,
-}
-
-impl From<AllocError> for NoSheet {
-    ghost use Rattle.reports.specs.declared.picking.NoSheet.TheVariants.{OutOfMemory};
-
-    ghost from_gives = { λ _ why. why ≡ OutOfMemory };
-
-    fn from(_: AllocError) -> NoSheet {
-        NoSheet::OutOfMemory
-    }
-}
+use store::{Address, Goods, KnownLine, KnownOrder, Page, Refusal};
 
 // Appends the text and LF.
 fn append_ended(out: &mut Vec<u8>, beginning: &[u8], text: &[u8]) -> Result<(), AllocError>
@@ -152,48 +131,64 @@ fn picking_sheet(alloc: Global, order: &KnownOrder) -> Result<Vec<u8>, AllocErro
     Ok(text)
 }
 
-// The picking sheet of an order, if it is open.
-fn sheet_of(alloc: Global, order: &KnownOrder) -> Result<Vec<u8>, NoSheet>
-    ensures ok { IfOk result (λ text. listed (Some order.now) ≡ Ok text.items) }
-    ensures err { IfErr result (λ why. Explains (listed (Some order.now)) why) }
+// The picking sheet of an order, if it is open. The one error is want of memory.
+fn sheet_of(alloc: Global, order: &KnownOrder) -> Result<Result<Vec<u8>, Refusal>, AllocError>
+    ensures ok { IfOk result
+        (λ made. IfOk made (λ text. listed (Some order.now) ≡ Ok text.items)) }
+    ensures err { IfOk result
+        (λ made. IfErr made (λ refusal. listed (Some order.now) ≡ Err refusal)) }
 {
     if !order.is_open {
-        return Err(NoSheet::OrderClosed);
+        return Ok(Err(Refusal::OrderClosed));
     }
-    Ok(picking_sheet(alloc, order)?)
+    Ok(Ok(picking_sheet(alloc, order)?))
 }
 
-// The picking sheet of a page's order, if there is one and it is open.
-fn sheet_on(alloc: Global, page: &Page, number: &[u8]) -> Result<Vec<u8>, NoSheet>
+// The picking sheet of a page's order, if there is one and it is open. The one error is want of
+// memory.
+fn sheet_on(
+    alloc: Global,
+    page: &Page,
+    number: &[u8],
+) -> Result<Result<Vec<u8>, Refusal>, AllocError>
     ensures ok { IfOk result
-        (λ text. listed (order_at number.now page.now.orders) ≡ Ok text.items) }
-    ensures err { IfErr result
-        (λ why. Explains (listed (order_at number.now page.now.orders)) why) }
+        (λ made. IfOk made (λ text. listed (order_at number.now page.now.orders)
+        ≡ Ok text.items)) }
+    ensures err { IfOk result
+        (λ made. IfErr made (λ refusal. listed (order_at number.now page.now.orders)
+        ≡ Err refusal)) }
 {
     match page.order(number) {
-        None => Err(NoSheet::UnknownOrder),
+        None => Ok(Err(Refusal::UnknownOrder)),
         Some(order) => sheet_of(alloc, order),
     }
 }
 
 /// The picking sheet of an open order, by a page that has the order: its number, where it goes, and
-/// for each of its lines what is reserved, by lot bytes, and what is short. UnknownOrder (24) and
-/// OrderClosed (25) are answered exactly where the order is unknown or closed, OutOfMemory (40)
-/// where a growth was refused.
-pub fn pick_list(alloc: Global, page: &Page, number: &[u8]) -> Result<Vec<u8>, NoSheet>
+/// for each of its lines what is reserved, by lot bytes, and what is short. Refused are 24, an
+/// unknown order, and 25, one that was picked. The outer error is want of memory.
+pub fn pick_list(
+    alloc: Global,
+    page: &Page,
+    number: &[u8],
+) -> Result<Result<Vec<u8>, Refusal>, AllocError>
     // Of the history of which the page has the part that is needed.
     ensures ok { IfOk result
-        (λ text. (h : History) → IsHeldPart (need_of_number number.now) page.now h
-        → meant.pick_list h.events number.now ≡ Ok text.items) }
-    ensures err { IfErr result
-        (λ why. (h : History) → IsHeldPart (need_of_number number.now) page.now h
-        → Explains (meant.pick_list h.events number.now) why) }
+        (λ made. IfOk made (λ text. (h : History)
+        → IsHeldPart (need_of_number number.now) page.now h
+        → meant.pick_list h.events number.now ≡ Ok text.items)) }
+    ensures err { IfOk result
+        (λ made. IfErr made (λ refusal. (h : History)
+        → IsHeldPart (need_of_number number.now) page.now h
+        → meant.pick_list h.events number.now ≡ Err refusal)) }
 
     // The same of the page alone.
     ensures sheet { IfOk result
-        (λ text. listed (order_at number.now page.now.orders) ≡ Ok text.items) }
-    ensures none { IfErr result
-        (λ why. Explains (listed (order_at number.now page.now.orders)) why) }
+        (λ made. IfOk made (λ text. listed (order_at number.now page.now.orders)
+        ≡ Ok text.items)) }
+    ensures none { IfOk result
+        (λ made. IfErr made (λ refusal. listed (order_at number.now page.now.orders)
+        ≡ Err refusal)) }
 {
     sheet_on(alloc, page, number)
 }

@@ -1,15 +1,14 @@
 //! The book in a file, and its log beside it. A book is opened and closed over any store, and a
 //! database closed over any disk, since what owns a store on disk is dear to prove.
 
-ghost use Rattle.std.specs.Prelude.{◌≡◌, ◌≢◌, ◌⊎◌, [], true, false, IfOk, IfErr, IsErrOf};
+ghost use Rattle.std.specs.Prelude.{◌≡◌, ◌≢◌, ◌⊎◌, [], false, IfOk, IfErr, IsErrOf};
 ghost use Rattle.sqlite.specs.Held.{state};
 ghost use Rattle.sqlite.specs.State.{HasCleanDisk};
 ghost use Rattle.store.specs.Standing.{IsUsable};
 ghost use Rattle.book_statements.specs.Layout.{no_layout};
 ghost use Rattle.books.specs.Opened.{standing_of};
-ghost use Rattle.running.specs.Checking.{IsReadAnew};
 ghost use Rattle.running.specs.Faults as meant;
-ghost use Rattle.running.specs.Opening.{OfFile};
+ghost use Rattle.running.specs.Opening.{IsOpenedAnew, OfFile};
 
 use books::{Book, Tables, is_blank};
 use commands::CommandError;
@@ -117,8 +116,7 @@ pub fn open_anew<S: Alter + Drop, T: FnMut(u64, u64)>(
     requires told { T.IsAlwaysCallable told }
 
     ensures opened { IfOk result (λ b. b.shut ≡ false) }
-    ensures anew { IfOk result (λ b. HasCleanDisk (state S.Store b.tables.conn)
-        → IsReadAnew (state S.Store database) (state S.Store b.tables.conn)) }
+    ensures anew { IfOk result (IsOpenedAnew S.Store database) }
     ensures named { IfErr result meant.IsReadFault }
 {
     let tables = match Tables::new(database).reopened(alloc) {

@@ -1,10 +1,8 @@
 //! What a line says, done over the book in a file: words are tested and files read before the book
 //! is opened, and it is closed before the line is done.
 ghost use Rattle.std.specs.Prelude.{◌≡◌, ◌≤◌, false, IfErr, IfOk};
-ghost use Rattle.sqlite.specs.Held.{state};
-ghost use Rattle.sqlite.specs.State.{HasCleanDisk};
 ghost use Rattle.commands.specs.Stops.{fault_in};
-ghost use Rattle.running.specs.Checking.{IsReadAnew};
+ghost use Rattle.running.specs.Opening.{IsOpenedAnew};
 ghost use Rattle.running.specs.Working.{IsJobFor, IsNoJobFor, IsWork};
 
 use crate::book_files::{close, disconnect, fault, is_in_use, make, open, open_anew};
@@ -76,9 +74,7 @@ fn open_for<S: Alter + Drop, T: FnMut(u64, u64)>(
     requires free { database.in_transaction ≡ false }
     requires told { T.IsAlwaysCallable told }
 
-    ensures anew { job.now ≡ Job.Check → IfOk result
-        (λ b. HasCleanDisk (state S.Store b.tables.conn)
-        → IsReadAnew (state S.Store database) (state S.Store b.tables.conn)) }
+    ensures anew { job.now ≡ Job.Check → IfOk result (IsOpenedAnew S.Store database) }
 {
     match job {
         Job::Check => open_anew(alloc, database, told),
@@ -97,9 +93,7 @@ pub(crate) fn open_watched<S: Alter + Drop, E: io::Write>(
 ) -> Result<Book<S>, CommandError>
     requires { database.in_transaction ≡ false }
 
-    ensures anew { job.now ≡ Job.Check → IfOk result
-        (λ b. HasCleanDisk (state S.Store b.tables.conn)
-        → IsReadAnew (state S.Store database) (state S.Store b.tables.conn)) }
+    ensures anew { job.now ≡ Job.Check → IfOk result (IsOpenedAnew S.Store database) }
 {
     if !verbosity.watches {
         return open_for(alloc, database, job, |_, _| {});

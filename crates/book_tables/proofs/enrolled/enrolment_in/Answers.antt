@@ -12,7 +12,7 @@ returns-in_default-new c e partner is =
 
 pub returns : goal.returns
 returns c e partner is =
-    let seq = same_number_value c.in-Some.seq e.seq (sym c.in-Some.ensures ∙ ap (λ (r : Row). column r 0) is) in
+    let seq = same_number_value c.in-Some.seq e.seq (sym c.in-Some.ensures.number ∙ ap (λ (r : Row). column r 0) is) in
     let text = same_text_value c.in-Some-text_at.text.now (who_text e.who) (sym c.in-Some-text_at.ensures ∙ ap (λ (r : Row). column r 1) is) in
     let who = same_some c.in-Some-new.who e.who (c.in-Some-new.ensures ∙ ap who_of text ∙ who_of-who_text e.who partner) in
     λ i. Some (record { seq = seq i; who = who i })

@@ -1,12 +1,15 @@
+use Rattle.std.proofs.Common.{rules}
 use Rattle.store.specs.Asked.{asked}
 use Rattle.store.proofs.Changes.{at_fault}
 use Rattle.commands.proofs.ActLaws.{leaves_second, untold}
 use Rattle.commands.proofs.acts.hand_in.Goals as goal
 
-pub returns-clause-left : goal.returns-clause-left
-returns-clause-left g c = λ clean L u. at_fault c.tell_reply.result (leaves_second _ L _ (c.in_ok-reply.ensures.ok clean L u c.requires))
-
-pub returns-clause-stopped : goal.returns-clause-stopped
-returns-clause-stopped g c =
-    untold (g.K.Keeper.standing c.args.book.now) (g.K.Keeper.standing c.submit.new.keeper) (asked c.args.command.now) c.args.moment c.tell_reply.result
-    c.in_ok-reply.ensures.opened (λ clean L u. c.in_ok-reply.ensures.ok clean L u c.requires) c.tell_reply.ensures.halted
+pub returns-clause-answered : goal.returns-clause-answered
+returns-clause-answered g c = record {
+  printed = search rules;
+  done = search rules;
+  left = λ clean L u. at_fault c.tell_reply.result (leaves_second _ L _ (c.in_ok-reply.ensures.ok clean L u c.requires));
+  stopped =
+      untold (g.K.Keeper.standing c.args.book.now) (g.K.Keeper.standing c.submit.new.keeper) (asked c.args.command.now) c.args.moment c.tell_reply.result
+      c.in_ok-reply.ensures.opened (λ clean L u. c.in_ok-reply.ensures.ok clean L u c.requires) c.tell_reply.ensures.halted;
+}

@@ -5,13 +5,24 @@ use Rattle.commands.specs.Stops.{IsDeviceStop}
 use Rattle.commands.proofs.ShownLaws.{unshown}
 use Rattle.commands.proofs.shows.outbox.Goals as goal
 
-pub returns-in_err-write_all-in-Some-clause-stopped : goal.returns-in_err-write_all-in-Some-clause-stopped
-returns-in_err-write_all-in-Some-clause-stopped g c =
+pub returns-in_err-write_all-in-Some : goal.returns-in_err-write_all-in-Some
+returns-in_err-write_all-in-Some g c =
     let halted : IfErr c.from_residual-in_err-write_all-in-Some.result IsDeviceStop = search rules in
-    unshown (g.K.Keeper.standing c.args.book.now) (g.K.Keeper.standing c.outbox.new.keeper) (λ L. shown_list (outbox_of (g.K.Keeper.standing c.args.book.now).warehouse L c.args.who)) _
-    c.from_residual-in_err-write_all-in-Some.result (λ clean L kept legal. ap shown_list (c.in_ok-rows.ensures.rows clean L kept legal)) halted
+    record {
+      looked = record {
+        shown = search rules;
+        same = search rules;
+        stopped = unshown (g.K.Keeper.standing c.args.book.now) (g.K.Keeper.standing c.outbox.new.keeper) (λ L. shown_list (outbox_of (g.K.Keeper.standing c.args.book.now).warehouse L c.args.who)) _ c.from_residual-in_err-write_all-in-Some.result
+            (λ clean L kept legal. ap shown_list (c.in_ok-rows.ensures.rows clean L kept legal)) halted;
+      };
+    }
 
-pub returns-in-None-clause-stopped : goal.returns-in-None-clause-stopped
-returns-in-None-clause-stopped g c =
-    unshown (g.K.Keeper.standing c.args.book.now) (g.K.Keeper.standing c.outbox.new.keeper) (λ L. shown_list (outbox_of (g.K.Keeper.standing c.args.book.now).warehouse L c.args.who)) _
-    c.tell_refusal.result (λ clean L kept legal. ap shown_list (c.in_ok-rows.ensures.rows clean L kept legal)) c.tell_refusal.ensures.halted
+pub returns-in-None : goal.returns-in-None
+returns-in-None g c = record {
+  looked = record {
+    shown = search rules;
+    same = search rules;
+    stopped = unshown (g.K.Keeper.standing c.args.book.now) (g.K.Keeper.standing c.outbox.new.keeper) (λ L. shown_list (outbox_of (g.K.Keeper.standing c.args.book.now).warehouse L c.args.who)) _ c.tell_refusal.result
+        (λ clean L kept legal. ap shown_list (c.in_ok-rows.ensures.rows clean L kept legal)) c.tell_refusal.ensures.halted;
+  };
+}

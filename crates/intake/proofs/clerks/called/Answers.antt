@@ -1,5 +1,5 @@
 use Rattle.store.proofs.Changes.{unchanged_refl}
-use Rattle.intake.proofs.Called.{shown}
+use Rattle.intake.proofs.Answered.{shown}
 use Rattle.intake.proofs.clerks.called.Goals as goal
 
 pub returns-in-Other-clause-answered : goal.returns-in-Other-clause-answered

@@ -1,10 +1,11 @@
-use Rattle.intake.proofs.Called.{done, undone}
+use Rattle.intake.specs.Calls.{deed_reply}
+use Rattle.intake.proofs.Answered.{done, undone}
 use Rattle.intake.proofs.clerks.performed.Goals as goal
 
 pub returns-in-Ok-clause-answered : goal.returns-in-Ok-clause-answered
 returns-in-Ok-clause-answered g c =
     let e = c.in-Ok.ensures in
-    done _ _ _ _ _ c.in-Ok.reply _ c.command.ensures.told c.of_deed.ensures e.reply (λ clean L u. e.ok clean L u c.command.ensures.given) e.kept e.opened
+    done _ _ _ deed_reply _ _ c.in-Ok.reply _ c.command.ensures.told c.of_deed.ensures e.reply (λ clean L u. e.ok clean L u c.command.ensures.given) e.kept e.opened
 
 pub returns-in-Err-clause-answered : goal.returns-in-Err-clause-answered
 returns-in-Err-clause-answered g c =

@@ -1,6 +1,6 @@
 use Rattle.std.proofs.Common.{arith, ◌≤◌, length, take}
 use Rattle.std.proofs.lemmas.Grind.{common_steps}
-use Rattle.remote.specs.Answers.{most_head, most_fields}
+use Rattle.fields.specs.Fields.{most_head, most_fields}
 use Rattle.remote.proofs.Answering.{answer_is}
 use Rattle.remote.proofs.answers.read_answer.Goals as goal
 

@@ -1,12 +1,12 @@
-use Rattle.std.proofs.Common.{◌∙◌, sym, subst}
+use Rattle.std.proofs.Common.{◌∙◌}
 use Rattle.std.proofs.lemmas.Result.{IfOk-weaker, IfErr-weaker}
-use Rattle.reports.specs.Picking.{Explains}
 use Rattle.reports.proofs.PickLaws.{part_list}
 use Rattle.reports.proofs.picking.pick_list.Goals as goal
 
 pub returns-clause-ok : goal.returns-clause-ok
-returns-clause-ok c = IfOk-weaker c.sheet_on.result _ _ (λ text told h held. part_list c.args.page.now h c.args.number.now held ∙ told) c.sheet_on.ensures.ok
+returns-clause-ok c = IfOk-weaker c.sheet_on.result _ _
+    (λ made. IfOk-weaker made _ _ (λ text told h held. part_list c.args.page.now h c.args.number.now held ∙ told)) c.sheet_on.ensures.ok
 
 pub returns-clause-err : goal.returns-clause-err
-returns-clause-err c = IfErr-weaker c.sheet_on.result _ _
-    (λ why told h held. subst (λ answer. Explains answer why) (sym (part_list c.args.page.now h c.args.number.now held)) told) c.sheet_on.ensures.err
+returns-clause-err c = IfOk-weaker c.sheet_on.result _ _
+    (λ made. IfErr-weaker made _ _ (λ refusal told h held. part_list c.args.page.now h c.args.number.now held ∙ told)) c.sheet_on.ensures.err

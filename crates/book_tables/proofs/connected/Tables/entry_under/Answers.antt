@@ -23,8 +23,8 @@ returns-in_default-clause-entry g c = λ clean W L stands.
     let none : ◌≡◌ {A = Option Row} None (slice_get c.in_ok-rows.rows.items 0) = sym (ap option_copied c.in_default.is) ∙ c.first.ensures.value ∙ ap (λ (rs : List Row). slice_get rs 0) c.deref.ensures.value in
     none_under (state g.S.Store c.args.self.now.conn) W L c.args.who c.args.mark.now partner stands (who_text c.args.who) refl c.in_ok-rows.rows.items (c.in_ok-rows.ensures.finds clean) (is_empty c.in_ok-rows.rows.items none)
 
-pub returns-in-Some-seq_at-clause-entry : goal.returns-in-Some-seq_at-clause-entry
-returns-in-Some-seq_at-clause-entry g c = λ clean W L stands.
+pub returns-in-Some-number_at-clause-entry : goal.returns-in-Some-number_at-clause-entry
+returns-in-Some-number_at-clause-entry g c = λ clean W L stands.
     let partner : IsTrue (is_partner c.args.who) = search rules in
     let old = state g.S.Store c.args.self.now.conn in
     let mid = state g.S.Store c.under_text.new.self.conn in
@@ -33,11 +33,11 @@ returns-in-Some-seq_at-clause-entry g c = λ clean W L stands.
     let first : ◌≡◌ {A = Option Row} (Some c.in-Some.row.now) (slice_get c.in_ok-rows.rows.items 0) = sym (ap option_copied c.in-Some.is) ∙ c.first.ensures.value ∙ ap (λ (rs : List Row). slice_get rs 0) c.deref.ensures.value in
     let more = begins_with c.in_ok-rows.rows.items c.in-Some.row.now first in
     let it = first_under old W L c.args.who c.args.mark.now partner stands (who_text c.args.who) refl c.in_ok-rows.rows.items (c.in_ok-rows.ensures.finds early) c.in-Some.row.now more.0 more.1 in
-    let seq : c.in-Some-seq_at.seq ≡ it.0 = same_number_value _ _ (sym c.in-Some-seq_at.ensures.number ∙ ap (λ (r : Row). column r 0) it.1) in
+    let seq : c.in-Some-number_at.seq ≡ it.0 = same_number_value _ _ (sym c.in-Some-number_at.ensures.number ∙ ap (λ (r : Row). column r 0) it.1) in
     IfOk-weaker c.entry_at.result _ _ (λ entry is. is ∙ ap (written_at (all_written L)) seq ∙ it.2) (c.entry_at.ensures.entry clean W L (stands_later old mid W L early c.in_ok-rows.ensures.asked.left stands))
 
-pub returns-in-Some-seq_at-clause-asked : goal.returns-in-Some-seq_at-clause-asked
-returns-in-Some-seq_at-clause-asked g c = asked_on g.S.Store c.args.self.now c.under_text.new.self c.entry_at.new.self c.in_ok-rows.rows _ c.in_ok-rows.ensures.asked c.entry_at.ensures.asked
+pub returns-in-Some-number_at-clause-asked : goal.returns-in-Some-number_at-clause-asked
+returns-in-Some-number_at-clause-asked g c = asked_on g.S.Store c.args.self.now c.under_text.new.self c.entry_at.new.self c.in_ok-rows.rows _ c.in_ok-rows.ensures.asked c.entry_at.ensures.asked
 
 pub returns-clause-asked : goal.returns-clause-asked
 returns-clause-asked g c = asked_wrong g.S.Store c.args.self.now c.under_text.new.self c.in_ok-rows.rows c.in_ok-rows.ensures.asked (λ clean W L stands.
