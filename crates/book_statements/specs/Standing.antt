@@ -15,6 +15,7 @@ use Rattle.profile.specs.Tables.{Null, Number, Text, Blob, TableRow, AllTables, 
 use Rattle.profile.specs.Schema.{Schema, is_by_key, key_in, book_schema, entry_schema, outgoing_schema, stock_schema, advice_schema, advice_line_schema, orders_schema, order_line_schema, reservation_schema, entry_rules_schema, lot_expiry_schema}
 use Rattle.book_statements.specs.declared.names.TableName.{TableName}
 use Rattle.book_statements.specs.declared.names.TableName.TheVariants as table
+use Rattle.book_statements.specs.declared.names.TheConstants.{BOOK_TABLES}
 use Rattle.book_statements.specs.Layout.{IsLayout, book_trees, book_layout, entry_layout, outgoing_layout, stock_layout, advice_layout, advice_line_layout, orders_layout, order_line_layout, reservation_layout, entry_rules_layout, lot_expiry_layout}
 use Rattle.book_statements.specs.Held.{Holds, first_row, entry_values}
 
@@ -71,9 +72,7 @@ width_of t = length (schema_of t).key
 
 -- all tables, in the order of their making
 abbrev pub all_tables : List TableName
-all_tables = table.Book ∷ table.Entry ∷ table.Outgoing ∷ table.Stock ∷ table.Advice
-    ∷ table.AdviceLine ∷ table.Orders ∷ table.OrderLine ∷ table.Reservation ∷ table.EntryRules
-    ∷ table.LotExpiry ∷ []
+all_tables = BOOK_TABLES
 
 -- the rows of each table
 abbrev pub Filled : Type 0

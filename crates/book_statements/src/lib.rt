@@ -19,5 +19,5 @@ pub use appending::write_entry;
 pub use calls::Calls;
 pub use carrying::carry_all;
 pub use making::make_all;
-pub use names::TableName;
+pub use names::{BOOK_TABLES, TableName};
 pub use running::commit;

@@ -1,3 +1,7 @@
+//! The tables of a book.
+ghost use Rattle.std.specs.Prelude.{◌≡◌};
+ghost use Rattle.book_statements.specs.Standing.{name_of};
+
 /// One of the tables of a book, in the order of its making.
 #[derive(Clone, Copy)]
 pub enum TableName {
@@ -23,4 +27,40 @@ pub enum TableName {
     EntryRules,
     /// The dates of pairs.
     LotExpiry,
+}
+
+/// All of them, in the order of their making.
+pub const BOOK_TABLES: [TableName; 11] = [
+    TableName::Book,
+    TableName::Entry,
+    TableName::Outgoing,
+    TableName::Stock,
+    TableName::Advice,
+    TableName::AdviceLine,
+    TableName::Orders,
+    TableName::OrderLine,
+    TableName::Reservation,
+    TableName::EntryRules,
+    TableName::LotExpiry,
+];
+
+impl TableName {
+    /// Its name in SQLite.
+    pub fn text(self) -> &'static [u8]
+        ensures { result.now ≡ name_of self }
+    {
+        match self {
+            TableName::Book => b"book",
+            TableName::Entry => b"entry",
+            TableName::Outgoing => b"outgoing",
+            TableName::Stock => b"stock",
+            TableName::Advice => b"advice",
+            TableName::AdviceLine => b"advice_line",
+            TableName::Orders => b"orders",
+            TableName::OrderLine => b"order_line",
+            TableName::Reservation => b"reservation",
+            TableName::EntryRules => b"entry_rules",
+            TableName::LotExpiry => b"lot_expiry",
+        }
+    }
 }

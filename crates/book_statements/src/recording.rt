@@ -16,7 +16,7 @@ use profile::Rules;
 use rules::Entry;
 use sqlite::types::ValueRef;
 use sqlite::{Alter, Transaction};
-use store::Fault;
+use store::{DocumentState, Fault};
 
 // The columns of a row of `entry`.
 fn entry_params<'a>(
@@ -152,7 +152,7 @@ pub(crate) fn insert_outgoing<'a, S: Alter>(
 fn said_text(accepts: bool) -> &'static [u8]
     ensures { result.now ≡ state_text (Some accepts) }
 {
-    if accepts { b"accepted" } else { b"refused" }
+    DocumentState::of_said(Some(accepts)).text()
 }
 
 // Whose document it is, its number and its state.

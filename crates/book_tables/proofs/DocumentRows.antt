@@ -15,8 +15,8 @@ use Rattle.rules.specs.Pages.{document_at}
 use Rattle.rules.specs.Functions.{function_text}
 use Rattle.rules.specs.Function.{Function}
 use Rattle.rules.specs.Function.TheVariants as functions
-use Rattle.rules.specs.declared.kinds.OutKind.{OutKind}
-use Rattle.rules.specs.declared.kinds.OutKind.TheVariants.{Receipt, Shipment, Adjustment}
+use Rattle.rules.specs.OutKind.{OutKind}
+use Rattle.rules.specs.OutKind.TheVariants.{Receipt, Shipment, Adjustment}
 use Rattle.rules.specs.Kinds.{kind_text}
 use Rattle.rules.proofs.SentRows.{next_snoc}
 use Rattle.book_tables.specs.Looking.{IsRowOf, function_as}

@@ -16,8 +16,8 @@ use Rattle.profile.specs.Rows.{OutRow, act_kind, act_function, said_of, state_te
 use Rattle.profile.proofs.HistoryLaws.{history-numbered}
 use Rattle.rules.specs.Played.{CanFollow}
 use Rattle.rules.proofs.Registers.{Along1, follows_own}
-use Rattle.rules.specs.declared.kinds.OutKind.{OutKind}
-use Rattle.rules.specs.declared.kinds.OutKind.TheVariants.{Answer, Receipt, Shipment, Adjustment}
+use Rattle.rules.specs.OutKind.{OutKind}
+use Rattle.rules.specs.OutKind.TheVariants.{Answer, Receipt, Shipment, Adjustment}
 use Rattle.store.specs.declared.rows.DocumentState.{DocumentState}
 use Rattle.store.specs.declared.rows.DocumentState.TheVariants.{Unasked, Open, Accepted, Refused}
 use Rattle.rules.specs.Kinds.{kind_text}

@@ -6,8 +6,8 @@ use Rattle.profile.specs.Rows.{OutRow, state_text}
 use Rattle.rules.specs.Functions.{function_text}
 use Rattle.rules.specs.Function.{Function}
 use Rattle.rules.specs.Function.TheVariants as functions
-use Rattle.rules.specs.declared.kinds.OutKind.{OutKind}
-use Rattle.rules.specs.declared.kinds.OutKind.TheVariants.{Answer, Receipt, Shipment, Adjustment}
+use Rattle.rules.specs.OutKind.{OutKind}
+use Rattle.rules.specs.OutKind.TheVariants.{Answer, Receipt, Shipment, Adjustment}
 use Rattle.rules.specs.Kinds.{kind_text}
 
 -- an advice but for its lines

@@ -6,7 +6,7 @@ use Rattle.profile.specs.Means.{Line}
 use Rattle.profile.specs.Page.{PageAdvice, PageLine, PageOrder}
 use Rattle.profile.specs.Rows.{LotRow, OutRow}
 use Rattle.profile.specs.Tables.{flag, text_or_null, address_cells}
-use Rattle.rules.specs.declared.kinds.OutKind.{OutKind}
+use Rattle.rules.specs.OutKind.{OutKind}
 use Rattle.store.specs.declared.rows.DocumentState.{DocumentState}
 use Rattle.rules.specs.Kinds.{kind_text}
 use Rattle.store.specs.Sent.{state_name}

@@ -13,11 +13,10 @@ ghost use Rattle.book_tables.specs.Showing.{sent_shown};
 use crate::connected::Tables;
 use crate::reading::{small_at, text_at};
 use crate::recalled::content_in;
-use crate::sent::kind_of;
 use rules::{Function, KnownDocument, OutKind, Who};
 use sqlite::{Alter, Row};
 use std::alloc::Global;
-use store::Fault;
+use store::{DocumentState, Fault};
 
 // The kind of document that goes out as this; none as an answer.
 fn function_as(kind: OutKind) -> Option<Function>
@@ -36,11 +35,11 @@ fn said_in(word: &[u8]) -> Option<Option<bool>>
     ensures { MatchOption result ((said : Maybe Bool) → word.now ≡ state_text said
         → ⊥) (λ said. word.now ≡ state_text said) }
 {
-    match word {
-        b"open" => Some(None),
-        b"accepted" => Some(Some(true)),
-        b"refused" => Some(Some(false)),
-        _ => None,
+    match DocumentState::of_text(word)? {
+        DocumentState::Unasked => None,
+        DocumentState::Open => Some(None),
+        DocumentState::Accepted => Some(Some(true)),
+        DocumentState::Refused => Some(Some(false)),
     }
 }
 
@@ -50,7 +49,7 @@ fn document_in(n: u32, row: &Row) -> Option<Option<KnownDocument>>
     ensures { (r : OutRow) (d : Maybe PageDocument) → IsRowOf n r d → row.now ≡ sent_shown r
         → result ≡ Some d }
 {
-    let kind = kind_of(text_at(row, 0)?)?;
+    let kind = OutKind::of_text(text_at(row, 0)?)?;
     let Some(function) = function_as(kind) else {
         return Some(None);
     };

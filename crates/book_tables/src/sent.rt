@@ -1,4 +1,4 @@
-ghost use Rattle.std.specs.Prelude.{◌≡◌, List, Some, MatchOption, IfOk, IfSome, map, option_map, filter, length, nat_lt};
+ghost use Rattle.std.specs.Prelude.{◌≡◌, List, Some, IfOk, IfSome, map, option_map, filter, length, nat_lt};
 ghost use Rattle.std.specs.List.{AllByRecursion};
 ghost use Rattle.profile.specs.Register as register;
 ghost use Rattle.profile.specs.Rows as meant;
@@ -6,8 +6,6 @@ ghost use Rattle.sqlite.specs.declared.types.Value.TheVariants as value;
 ghost use Rattle.sqlite.specs.Held.{state};
 ghost use Rattle.sqlite.specs.Order.{column};
 ghost use Rattle.sqlite_rules.specs.Lists.{Has};
-ghost use Rattle.rules.specs.Kinds.{kind_text};
-ghost use Rattle.store.specs.Sent.{state_name};
 ghost use Rattle.book_statements.specs.Asking.{Asked, OfStanding};
 ghost use Rattle.book_tables.specs.Showing.{out_shown, HasText, IsSent};
 
@@ -17,34 +15,6 @@ use rules::Who;
 use sqlite::{Alter, Row};
 use std::alloc::{AllocError, Global};
 use store::{DocumentState, Fault, OutKind, OutRow};
-
-/// The kind with this word.
-pub(crate) fn kind_of(text: &[u8]) -> Option<OutKind>
-    ensures { MatchOption result ((kind : OutKind) → text.now ≡ kind_text kind
-        → ⊥) (λ kind. text.now ≡ kind_text kind) }
-{
-    match text {
-        b"ANS" => Some(OutKind::Answer),
-        b"944" => Some(OutKind::Receipt),
-        b"945" => Some(OutKind::Shipment),
-        b"947" => Some(OutKind::Adjustment),
-        _ => None,
-    }
-}
-
-// The state with this word.
-fn state_of(text: &[u8]) -> Option<DocumentState>
-    ensures { MatchOption result ((said : DocumentState) → text.now ≡ state_name said
-        → ⊥) (λ said. text.now ≡ state_name said) }
-{
-    match text {
-        b"-" => Some(DocumentState::Unasked),
-        b"open" => Some(DocumentState::Open),
-        b"accepted" => Some(DocumentState::Accepted),
-        b"refused" => Some(DocumentState::Refused),
-        _ => None,
-    }
-}
 
 // The text that a row of n, kind, content and state shows; None where it shows none.
 fn out_row_in(alloc: Global, row: &Row) -> Result<Option<OutRow>, AllocError>
@@ -62,7 +32,7 @@ fn out_row_in(alloc: Global, row: &Row) -> Result<Option<OutRow>, AllocError>
     let Some(word) = text_at(row, 1) else {
         return Ok(None);
     };
-    let Some(kind) = kind_of(word) else {
+    let Some(kind) = OutKind::of_text(word) else {
         return Ok(None);
     };
     let Some(content) = blob_at(row, 2) else {
@@ -71,7 +41,7 @@ fn out_row_in(alloc: Global, row: &Row) -> Result<Option<OutRow>, AllocError>
     let Some(said) = text_at(row, 3) else {
         return Ok(None);
     };
-    let Some(state) = state_of(said) else {
+    let Some(state) = DocumentState::of_text(said) else {
         return Ok(None);
     };
     Ok(Some(OutRow {

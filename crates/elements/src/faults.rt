@@ -1,7 +1,7 @@
-ghost use Rattle.std.specs.Prelude.{◌≡◌, ◌+◌, ◌<◌, length, map, option_map, Some, None};
+ghost use Rattle.std.specs.Prelude.{◌≡◌, ◌+◌, ◌<◌, map, option_map, Some, None};
 ghost use Rattle.profile.specs.Elements as meant;
 ghost use Rattle.elements.specs.Rows.{row_of};
-ghost use Rattle.elements.specs.Told.{told_element};
+ghost use Rattle.elements.specs.Meant.{meant_element};
 
 use crate::kinds::{ElementRow, Kind, element_fault};
 use profile::{
@@ -61,7 +61,7 @@ pub fn faulty_element(
     rows: &[ElementRow],
     segment: &Segment<'_>,
 ) -> Option<(usize, u8)>
-    ensures { option_map told_element result
+    ensures { option_map meant_element result
         ≡ meant.faulty_element delims.now (map row_of rows.now) segment.now.elements }
 {
     for (index, row) in rows.iter().enumerate() {

@@ -1,4 +1,5 @@
-ghost use Rattle.std.specs.Prelude.{◌≡◌, ◌+◌, ℕ, ◌<◌, ◌≤◌, List, length, slice_get, unwrap_or, if◌then◌else◌, Some, None, true, false};
+ghost use Rattle.std.specs.Prelude.{◌≡◌, ◌+◌, ℕ, ◌<◌, ◌≤◌, List, length, slice_get, unwrap_or, if◌then◌else◌, Some, None, false};
+ghost use Rattle.profile.specs.declared.widths.TheConstants.{ISA_BYTES};
 ghost use Rattle.profile.specs.Halt.{is_addressed_to as names};
 ghost use Rattle.profile.specs.Header as meant;
 ghost use Rattle.envelope.specs.Legibility.{width};
@@ -25,7 +26,7 @@ impl<'a> Model for Isa<'a> {
 
     ghost view = { λ i. i.text.now };
 
-    ghost invariant = { λ i. (106 ≤ length i.text.now) × (meant.is_unreadable i.text.now ≡ false) × (i.delims ≡ meant.delims_of i.text.now) };
+    ghost invariant = { λ i. (ISA_BYTES ≤ length i.text.now) × (meant.is_unreadable i.text.now ≡ false) × (i.delims ≡ meant.delims_of i.text.now) };
 }
 
 // Where an element of ISA begins, and how wide it is.
@@ -40,7 +41,7 @@ fn place(n: usize) -> (usize, usize)
 
 // The element of ISA at a place; 0 is the id.
 pub(crate) fn element(text: &[u8], n: usize) -> &[u8]
-    requires long { 106 ≤ length text.now }
+    requires long { ISA_BYTES ≤ length text.now }
     requires there { n < 17 }
 
     ensures value { result.now ≡ meant.isa text.now n }

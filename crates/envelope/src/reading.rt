@@ -1,5 +1,6 @@
-ghost use Rattle.std.specs.Prelude.{◌≡◌, ◌≤◌, ◌<◌, ◌==◌, true, false, length, take, drop, slice_index, codes, bytes_eq, MatchOption, MatchResult};
+ghost use Rattle.std.specs.Prelude.{◌≡◌, ◌≤◌, ◌<◌, ◌==◌, true, false, length, take, slice_index, codes, bytes_eq, MatchOption, MatchResult};
 ghost use Rattle.std.specs.List.{list_all, range_with_len};
+ghost use Rattle.profile.specs.declared.widths.TheConstants.{ISA_BYTES};
 ghost use Rattle.profile.specs.Bytes.{is_data, is_line_end as ends_line};
 ghost use Rattle.profile.specs.Header as meant;
 ghost use Rattle.envelope.specs.Legibility as parts;
@@ -11,7 +12,7 @@ use segments::{Delims, all_digits};
 
 // Whether the text begins as a header does.
 fn begins(text: &[u8]) -> bool
-    requires { 106 ≤ length text.now }
+    requires { ISA_BYTES ≤ length text.now }
 
     ensures { result ≡ bytes_eq (take 3 text.now) (codes "ISA") }
 {
@@ -48,7 +49,7 @@ fn is_separated(delims: &Delims, text: &[u8]) -> bool
 
 // Whether ISA01 to ISA15 are data: ISA16 is a delimiter.
 fn has_data(delims: &Delims, text: &[u8]) -> bool
-    requires { 106 ≤ length text.now }
+    requires { ISA_BYTES ≤ length text.now }
 
     ensures { result ≡ list_all
         (λ n. list_all (is_data delims.now) (meant.isa text.now n)) (range_with_len 1 15) }
@@ -82,14 +83,14 @@ fn is_legible(delims: &Delims, text: &[u8]) -> bool
 // Whether the text has a length that it may have, and a header's beginning.
 fn is_begun(text: &[u8]) -> bool
     ensures test { result ≡ parts.is_begun text.now }
-    ensures long { result ≡ true → 106 ≤ length text.now }
+    ensures long { result ≡ true → ISA_BYTES ≤ length text.now }
 {
     text.len() <= MOST_BYTES && text.len() >= ISA_BYTES && begins(text)
 }
 
 // Whether all bytes are what they may be.
 fn is_filled(delims: &Delims, text: &[u8]) -> bool
-    requires { 106 ≤ length text.now }
+    requires { ISA_BYTES ≤ length text.now }
 
     ensures { result ≡ parts.is_filled delims.now text.now }
 {
@@ -108,7 +109,7 @@ fn is_filled(delims: &Delims, text: &[u8]) -> bool
 // The delimiters of a text that can be read.
 fn read(text: &[u8]) -> Option<Delims>
     ensures { MatchOption result (meant.is_unreadable text.now ≡ true)
-        (λ d. (106 ≤ length text.now) × (meant.is_unreadable text.now ≡ false)
+        (λ d. (ISA_BYTES ≤ length text.now) × (meant.is_unreadable text.now ≡ false)
         × (d ≡ meant.delims_of text.now)) }
 {
     if !is_begun(text) {

@@ -1,5 +1,5 @@
-//! The fields of an HTTP head by their names (RFC 9110, section 5), as `httparse` found them, and how
-//! much of a head is read.
+//! The fields of an HTTP head by their names (RFC 9110, section 5), as `httparse` found them, and
+//! how much of a head is read.
 #![tactic(auto)]
 
 mod limits;

@@ -69,8 +69,8 @@ pub fn stock_csv(alloc: Global, rows: &[StockRow]) -> Result<Vec<u8>, AllocError
     writer.into_inner().map_err(|_| AllocError)
 }
 
-/// What a depositor has by these rows: the stock report, or its export as CSV. The one error is want
-/// of memory.
+/// What a depositor has by these rows: the stock report, or its export as CSV. The one error is
+/// want of memory.
 pub fn stock_text(alloc: Global, rows: &[StockRow], is_csv: bool) -> Result<Vec<u8>, AllocError>
     ensures { IfOk result (λ text. text.items ≡ meant_text is_csv rows.now) }
 {

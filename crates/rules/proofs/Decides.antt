@@ -1,6 +1,6 @@
 -- Decisions on interchanges, as the definitions have them.
-use Rattle.std.proofs.Common.{◌≡◌, ℕ, ◌+◌, ◌<◌, Bool, true, false, not, cond, List, [], Option, Some, None, refl, sym, ap, ◌∙◌, subst, arith}
-use Rattle.std.specs.Prelude.{◌&&◌, bytes_eq, nat_lt, if◌then◌else◌}
+use Rattle.std.proofs.Common.{◌≡◌, ℕ, ◌+◌, ◌<◌, Bool, true, false, not, cond, List, Option, Some, None, refl, sym, ap, ◌∙◌, subst, arith}
+use Rattle.std.specs.Prelude.{◌&&◌, nat_lt, if◌then◌else◌}
 use Rattle.profile.specs.declared.rules.Rules.{Rules}
 use Rattle.profile.specs.Accepted.{depositor_of}
 use Rattle.std.proofs.lemmas.Bool.{le-ltb}
@@ -11,8 +11,8 @@ use Rattle.profile.specs.Cut.{cut}
 use Rattle.profile.specs.Structure.{groups_of}
 use Rattle.profile.specs.History.{History, tellings}
 use Rattle.profile.specs.Texts.{Told, answer}
-use Rattle.profile.specs.Register.{Command, Interchange, Deed, Enrolled, Received, Performed, Entry, mark, deed_mark, interchange_mark, body_of}
-use Rattle.profile.specs.declared.refusals.Refusal.TheVariants.{Unreadable, Note, Duplicate}
+use Rattle.profile.specs.Register.{Command, Interchange, mark, interchange_mark}
+use Rattle.profile.specs.declared.refusals.Refusal.TheVariants.{Note}
 use Rattle.profile.specs.Reply.{Accepted, Refused, refusal_answer, interchange_entry}
 use Rattle.profile.specs.Decision as known
 use Rattle.sets_out.specs.Headings.{heading_of}
@@ -27,23 +27,11 @@ use Rattle.profile.specs.Lists.{or_else}
 use Rattle.profile.specs.Halt.{header_notes, structure_notes, structure_note}
 use Rattle.envelope.specs.Conditions.{first_note}
 use Rattle.envelope.specs.Halting.{first_appended}
-use Rattle.rules.specs.Written.{Written, Recalled, written_as}
+use Rattle.repeats.specs.Written.{Written, Recalled, written_as}
 use Rattle.sets_taken.specs.Judging.{AreGroupsTaken}
-use Rattle.rules.specs.Decided.{IsPageOf, IsEntry, StandsFor, IsRecalled, IsUnder, IsGiven, IsReply, entries_of}
-use Rattle.rules.specs.declared.decisions.Decision.{Decision}
-
--- a known control number of other bytes
-again_by : (W : Who) (text : List ℕ) (t : Moment) (e : Entry) (out : List ℕ) (d : Deed) → e.deed ≡ d → deed_mark d ≡ interchange_mark (isa text 13) → bytes_eq (body_of d) text ≡ false
-    → known.interchange_again W text t (record { entry = record { who = e.who; moment = e.moment; deed = d; rules = e.rules }; outgoing = out }) ≡ Refused Duplicate (refusal_answer W text t Duplicate)
-again_by W text t e out Enrolled is key other = refl
-again_by W text t e out (Received bytes) is key other = rw other refl
-again_by W text t e out (Performed ticket act) is key other = refl
-
-pub again_other : (W : Who) (text : List ℕ) (t : Moment) (r : Recalled) (k : known.Recalled) (out : List ℕ) → IsEntry r k → mark k.entry ≡ interchange_mark (isa text 13)
-    → bytes_eq r.entry.body text ≡ false → out ≡ refusal_answer W text t Duplicate → known.interchange_again W text t k ≡ Refused Duplicate out
-again_other W text t r k out entry key other is =
-    let body : r.entry.body ≡ body_of k.entry.deed = ap (λ (w : _). w.body) entry.1 in
-    again_by W text t k.entry k.outgoing k.entry.deed refl key (ap (λ (b : List ℕ). bytes_eq b text) (sym body) ∙ other) ∙ ap (Refused Duplicate) (sym is)
+use Rattle.rules.specs.Decided.{IsPageOf, StandsFor, IsRecalled, IsUnder, IsGiven, entries_of}
+use Rattle.repeats.specs.Replies.{IsEntry, IsReply}
+use Rattle.repeats.specs.declared.decisions.Decision.{Decision}
 
 -- an interchange that is accepted under the next number
 pub accepted_out : (q : Rules) (W w : Who) (t : Moment) (number : ℕ) (text header : List ℕ) (p new P : PageFacts) (cs : List Change) (told : List Told) (out : List ℕ) (h : History) (n : Named)
@@ -165,9 +153,3 @@ pub given_new : (q : Rules) (W : Who) (held : Option PageFacts) (o : Option Reca
 given_new q W held o h k text t d p page recalled given reply =
     subst (λ (x : Option PageFacts). IsReply q (entries_of x) (Interchange text) t (known.interchange_known q W h k text t) d) (sym page)
     (new_given q W h k text t d p (subst (λ (x : Option PageFacts). StandsFor (Interchange text) x h) page given.page) (subst (λ (x : Option Recalled). IsRecalled x k) recalled given.known) reply)
-
--- the reply to a text that can be read
-pub readable_reply : (q : Rules) (W : Who) (h : Option History) (k : Option known.Recalled) (text : List ℕ) (t : Moment) (n : ℕ) (d : Decision) → is_unreadable text ≡ false
-    → IsReply q n (Interchange text) t (known.interchange_known q W h k text t) d → IsReply q n (Interchange text) t (known.interchange_by q W h k text t) d
-readable_reply q W h k text t n d readable reply =
-    subst (λ (b : Bool). IsReply q n (Interchange text) t (cond b (Refused Unreadable []) (known.interchange_known q W h k text t)) d) (sym readable) reply

@@ -9,7 +9,7 @@ use Rattle.profile.specs.Clerk.{is_act}
 use Rattle.profile.specs.Readings.{act_of, is_deed, is_entry}
 use Rattle.profile.proofs.TextLaws.{both_parts}
 use Rattle.rules.specs.Given.{RuledCommand, given_as, ruled_by}
-use Rattle.rules.specs.Written.{Written, written_as}
+use Rattle.repeats.specs.Written.{Written, written_as}
 use Rattle.rules.proofs.ReadBack.{act_of-is}
 
 -- what is read of a text is an act

@@ -23,9 +23,10 @@ use Rattle.sets_taken.specs.SetNames.{NamesGroups}
 use Rattle.rules.specs.Needs.{NamesAct}
 use Rattle.sets_taken.specs.Judging.{after, AreGroupsTaken}
 use Rattle.sets_taken.specs.Proper.{AreProper}
-use Rattle.rules.specs.Decided.{Makes, IsPageOf, IsNoEntry, AreLeading, LeadsOn, LeadsFrom, ChangesNothing}
-use Rattle.rules.specs.declared.decisions.Decision.{Decision}
-use Rattle.rules.specs.declared.decisions.Decision.TheVariants.{Stored, Refused, Accepted}
+use Rattle.rules.specs.Decided.{Makes, IsPageOf, AreLeading, LeadsOn, LeadsFrom, ChangesNothing}
+use Rattle.repeats.specs.Replies.{IsNoEntry}
+use Rattle.repeats.specs.declared.decisions.Decision.{Decision}
+use Rattle.repeats.specs.declared.decisions.Decision.TheVariants.{Stored, Refused, Accepted}
 use Rattle.rules.proofs.Plays.{added_of}
 
 pub interchange_leads : (r : Rules) (text : List ℕ) (t : Moment) (p new P : PageFacts) (told : List Told) (cs : List Change) (h : History) (n : Named)

@@ -30,8 +30,8 @@ use Rattle.rules.specs.Needs.{HasNeeded}
 use Rattle.rules.specs.Decided.{IsPageOf, AreLeading, StandsFor, LeadsFrom, led_to}
 use Rattle.sets_taken.specs.Tabled.{table_changes}
 use Rattle.rules.specs.Decided.{LeadsInTables}
-use Rattle.rules.specs.declared.decisions.Decision.{Decision}
-use Rattle.rules.specs.declared.decisions.Decision.TheVariants.{Stored, Refused, Accepted}
+use Rattle.repeats.specs.declared.decisions.Decision.{Decision}
+use Rattle.repeats.specs.declared.decisions.Decision.TheVariants.{Stored, Refused, Accepted}
 use Rattle.rules.proofs.Follows.{legal_follow, own_sender}
 use Rattle.rules.proofs.Plays.{clean_read}
 use Rattle.rules.proofs.Registers.{who_is, own_with, own_without, done_own}

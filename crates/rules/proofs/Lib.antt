@@ -1,5 +1,4 @@
 pub mod Content
-pub mod Subjects
 pub mod Decides
 pub mod Performs
 pub mod ReadBack
@@ -13,7 +12,6 @@ pub mod Paged
 pub mod Depositors
 pub mod SaidOf
 pub mod SentRows
-pub mod NeedLists
 pub mod NamesFound
 pub mod NeedNames
 pub mod LeadsOn

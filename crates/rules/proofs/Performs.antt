@@ -8,11 +8,12 @@ use Rattle.profile.specs.Header.{Who}
 use Rattle.profile.specs.Events.{Event}
 use Rattle.profile.specs.Clerk.{performed}
 use Rattle.profile.specs.Register.{Act, Command, Clerk, Entry, ticket_mark}
-use Rattle.rules.specs.Written.{Recalled}
+use Rattle.repeats.specs.Written.{Recalled}
 use Rattle.profile.specs.History.{History}
 use Rattle.profile.specs.Decision as known
-use Rattle.rules.specs.Decided.{IsPageOf, IsReply, IsRecalled, IsUnder, IsGiven, StandsFor, entries_of}
-use Rattle.rules.specs.declared.decisions.Decision.{Decision}
+use Rattle.rules.specs.Decided.{IsPageOf, IsRecalled, IsUnder, IsGiven, StandsFor, entries_of}
+use Rattle.repeats.specs.Replies.{IsReply}
+use Rattle.repeats.specs.declared.decisions.Decision.{Decision}
 use Rattle.profile.specs.Limits.{most_entries}
 use Rattle.profile.specs.Reply.{Accepted, clerk_entry}
 use Rattle.profile.specs.declared.refusals.Refusal.{Refusal}

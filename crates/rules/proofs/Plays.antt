@@ -26,7 +26,7 @@ use Rattle.stock.specs.Parts.{all_named}
 use Rattle.stock.specs.declared.steps.Change.{Change}
 use Rattle.stock.proofs.PartLemmas.{part_of_self}
 use Rattle.stock.specs.Shows.{Shows}
-use Rattle.rules.specs.Written.{Written, written_as}
+use Rattle.repeats.specs.Written.{Written, written_as}
 use Rattle.sets_taken.specs.Judging.{AreGroupsTaken, after}
 use Rattle.rules.proofs.Whole.{all_groups}
 use Rattle.rules.specs.Decided.{IsPageOf}

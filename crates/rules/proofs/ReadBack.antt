@@ -29,7 +29,7 @@ use Rattle.stock.proofs.Pairs.{ascending_once, count_yes, count_no}
 use Rattle.stock.proofs.Sums.{own_pair}
 use Rattle.profile.specs.declared.sheet_kind.SheetKind.TheVariants.{Count as CountSheet, Pick as PickSheet, Recount as RecountSheet}
 use Rattle.profile.specs.declared.sheet_kind.SheetKind.{SheetKind}
-use Rattle.rules.specs.Asked.{by_kind}
+use Rattle.rules.specs.ReadActs.{by_kind}
 use Rattle.rules.specs.Likely.{Head, named_head, head_in, record_in, with_sheet, act_from, act_among, likely_act}
 
 -- ---- lines

@@ -5,7 +5,6 @@ use Rattle.profile.specs.Moments.{Moment}
 use Rattle.profile.specs.Register as meant
 use Rattle.profile.specs.History.{History, after_entry}
 use Rattle.profile.specs.Need.{Need}
-use Rattle.profile.specs.Reply as replies
 use Rattle.profile.specs.Decision as known
 use Rattle.profile.specs.Accepted.{IsLegal, entry_of, depositor_of}
 use Rattle.profile.specs.Changes as tables
@@ -19,9 +18,10 @@ use Rattle.stock.specs.Shows.{Shows}
 use Rattle.rules.specs.Naming.{named_of}
 use Rattle.rules.specs.Needs.{HasNeeded}
 use Rattle.sets_taken.specs.Proper.{AreProper}
-use Rattle.rules.specs.Written.{Recalled, written_as, unnumbered}
-use Rattle.rules.specs.declared.decisions.Decision.{Decision}
-use Rattle.rules.specs.declared.decisions.Decision.TheVariants.{Stored, Refused, Accepted}
+use Rattle.repeats.specs.Replies.{IsEntry}
+use Rattle.repeats.specs.Written.{Recalled, written_as, unnumbered}
+use Rattle.repeats.specs.declared.decisions.Decision.{Decision}
+use Rattle.repeats.specs.declared.decisions.Decision.TheVariants.{Stored, Refused, Accepted}
 
 -- a page of this history
 pub record IsPageOf (p : PageFacts) (h : History) : Type 0 where
@@ -42,23 +42,20 @@ pub record IsHeldPart (need : Need) (p : PageFacts) (h : History) : Type 0 where
   pub page : IsPageOf whole h
   pub part : IsPart (named_of need whole) p whole
 
--- an entry as it is written down, and the text that went out for it
-abbrev pub IsEntry : Recalled → known.Recalled → Type 0
-IsEntry r k = (n : ℕ) × (r.entry ≡ written_as n k.entry) × (r.outgoing ≡ k.outgoing)
-
+-- what is known, if something is
 abbrev pub IsRecalled : Option Recalled → Option known.Recalled → Type 0
 IsRecalled None None = Unit {0}
 IsRecalled None (Some k) = ⊥
 IsRecalled (Some r) None = ⊥
 IsRecalled (Some r) (Some k) = IsEntry r k
 
--- what is known is known under this key
+-- what is known is known under this mark
 abbrev pub IsUnder : List ℕ → Option known.Recalled → Type 0
-IsUnder key None = Unit {0}
-IsUnder key (Some k) = meant.mark k.entry ≡ key
+IsUnder mark None = Unit {0}
+IsUnder mark (Some k) = meant.mark k.entry ≡ mark
 
 -- what a decision on a command is given: the page of the depositor that it names, and what is known
--- under its key
+-- under its mark
 pub record IsGiven
     (held : Option PageFacts) (recalled : Option Recalled) (c : meant.Command) (h : Option History)
     (k : Option known.Recalled) : Type 0 where
@@ -77,19 +74,6 @@ entries_of (Some page) = page.entries
 abbrev pub IsAtRest : Option PageFacts → Type 0
 IsAtRest None = Unit {0}
 IsAtRest (Some page) = page.recent ≡ 0
-
--- the number of a command's entry after so many numbered ones
-abbrev pub number_later : ℕ → meant.Command → ℕ
-number_later n (meant.Enrol w) = 0
-number_later n c = n + 1
-
--- the decision that is this reply, after so many numbered entries and under the rules of the day,
--- which the new entry has
-abbrev pub IsReply : Rules → ℕ → meant.Command → Moment → replies.Reply → Decision → Type 0
-IsReply r n c t reply (Stored text) = reply ≡ replies.Stored text.items
-IsReply r n c t reply (Refused refusal text) = reply ≡ replies.Refused refusal text.items
-IsReply r n c t reply (Accepted e changes text) = (reply ≡ replies.Accepted text.items)
-    × (e ≡ written_as (number_later n c) (entry_of r c t))
 
 -- a page with changes put in, when the entry ends
 abbrev pub led_to : List Change → PageFacts → PageFacts
@@ -118,12 +102,6 @@ ChangesNothing (Accepted e changes text) = changes.items ≡ []
 abbrev pub LeadsFrom : Rules → Option PageFacts → meant.Command → Moment → Decision → Type 0
 LeadsFrom r None c t d = ChangesNothing d
 LeadsFrom r (Some p) c t d = LeadsOn r p c t d
-
--- no entry comes of it
-abbrev pub IsNoEntry : Decision → Type 0
-IsNoEntry (Stored text) = Unit {0}
-IsNoEntry (Refused refusal text) = Unit {0}
-IsNoEntry (Accepted e changes text) = ⊥
 
 -- the entry that an accepted command makes under the rules of the day, whatever its number
 abbrev pub Makes : Rules → meant.Command → Moment → Decision → Type 0

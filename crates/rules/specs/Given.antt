@@ -4,7 +4,7 @@ use Rattle.profile.specs.Moments.{Moment}
 use Rattle.profile.specs.Header.{Who}
 use Rattle.profile.specs.Register.{Command, Interchange, Enrol, Clerk, Deed, Enrolled, Received, Performed, Entry}
 use Rattle.profile.specs.Accepted.{Ruled}
-use Rattle.rules.specs.Asked.{read_act}
+use Rattle.rules.specs.ReadActs.{read_act}
 use Rattle.rules.specs.declared.given.Deed.{Deed as Read}
 use Rattle.rules.specs.declared.given.Deed.TheVariants as read
 

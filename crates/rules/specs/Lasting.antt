@@ -7,8 +7,8 @@ use Rattle.stock.specs.Moved.{IsPlace}
 use Rattle.stock.specs.OfPairs.{is_row}
 use Rattle.stock.specs.declared.steps.Change.{Change}
 use Rattle.stock.specs.declared.steps.Change.TheVariants.{Stock}
-use Rattle.rules.specs.declared.decisions.Decision.{Decision}
-use Rattle.rules.specs.declared.decisions.Decision.TheVariants.{Stored, Refused, Accepted}
+use Rattle.repeats.specs.declared.decisions.Decision.{Decision}
+use Rattle.repeats.specs.declared.decisions.Decision.TheVariants.{Stored, Refused, Accepted}
 
 -- whether a change puts in the row of this pair
 abbrev pub is_of : List ℕ → List ℕ → Change → Bool

@@ -1,16 +1,22 @@
-pub mod Written
-pub mod Asked
 pub mod Decided
+pub mod ReadActs
 pub mod Likely
 pub mod Played
 pub mod Defined
-pub mod Kinds
 pub mod Needs
 pub mod Naming
 pub mod LegalPages
 pub mod Fitting
 pub mod Given
 pub mod Lasting
+-- of commands, entries and repeats
+pub use Rattle.repeats.specs.Written
+pub use Rattle.repeats.specs.Asked
+pub use Rattle.repeats.specs.Kinds
+pub use Rattle.repeats.specs.Replies
+pub use Rattle.repeats.specs.declared.commands.Command
+pub use Rattle.repeats.specs.declared.decisions.Decision
+pub use Rattle.repeats.specs.declared.kinds.OutKind
 -- of sets
 pub use Rattle.sets_taken.specs.Tabled
 -- of pages

@@ -11,7 +11,7 @@ use Rattle.profile.specs.Clerk.{RawLine, raw_line, sheet_of}
 use Rattle.profile.specs.Readings.{parts_at}
 use Rattle.profile.specs.declared.sheet_kind.SheetKind.{SheetKind}
 use Rattle.profile.specs.declared.sheet_kind.SheetKind.TheVariants.{Count, Pick, Recount}
-use Rattle.rules.specs.Asked.{by_kind}
+use Rattle.rules.specs.ReadActs.{by_kind}
 
 -- what was done, and to what
 pub record Head : Type 0 where

@@ -15,16 +15,14 @@ ghost use Rattle.rules.specs.Needs.{NamesAct, HasNeeded};
 ghost use Rattle.stock.specs.Puts.{put};
 ghost use Rattle.stock.specs.Shows.{Shows};
 ghost use Rattle.stock.specs.Stops.{StopsAct};
-ghost use Rattle.rules.specs.Asked.{act_of, command_of, entry_of};
-ghost use Rattle.rules.specs.Written.{written_as};
-ghost use Rattle.rules.specs.Decided.{IsNoEntry, Makes, IsPageOf, IsEntry, IsRecalled, IsUnder, IsReply, LeadsOn, AreLeading};
+ghost use Rattle.repeats.specs.Asked.{act_of, command_of, entry_of};
+ghost use Rattle.rules.specs.Decided.{Makes, IsPageOf, IsRecalled, IsUnder, LeadsOn, AreLeading};
+ghost use Rattle.repeats.specs.Replies.{IsNoEntry, IsReply};
 ghost use Rattle.sets_taken.specs.Proper.{AreProper};
 
-use crate::commands::{Act, Key};
-use crate::decisions::Decision;
-use crate::entries::{Entry, Known};
 use crate::told::document;
 use profile::{MOST_ENTRIES, Refusal, Rules};
+use repeats::{Act, Decision, Known, act_again, act_entry};
 use sets_out::Envelope;
 use std::alloc::{AllocError, Global};
 use stock::{ActStop, Change, Page, Step, pick, receive, recount};
@@ -49,27 +47,6 @@ pub(crate) fn perform(alloc: Global, page: &Page, act: &Act<'_>) -> Result<Step,
         Act::Pick { order, sheet } => pick(alloc, page, order, sheet),
         Act::Recount { sheet } => recount(alloc, page, sheet),
     }
-}
-
-// The entry of an act, under these rules.
-fn entry(
-    alloc: Global,
-    envelope: &Envelope,
-    ticket: &[u8],
-    act: &Act<'_>,
-    rules: Rules,
-) -> Result<Entry, AllocError>
-    ensures { IfOk result
-        (λ e. e ≡ written_as envelope.now.number (entry_of rules envelope.now ticket.now act.now)) }
-{
-    Ok(Entry {
-        who: envelope.depositor,
-        key: Key::Ticket(ticket).text(alloc)?,
-        n: envelope.number,
-        moment: envelope.moment,
-        body: act.canonical(alloc)?,
-        rules,
-    })
 }
 
 // The refusal that stopped an act.
@@ -120,7 +97,7 @@ fn accepted(
         return Ok(Decision::Refused(Refusal::NumbersUsedUp, Vec::new(alloc)));
     }
     let outgoing = document(alloc, envelope, page, act)?;
-    let entry = entry(alloc, envelope, ticket, act, rules)?;
+    let entry = act_entry(alloc, envelope, ticket, act, rules)?;
     Ok(Decision::Accepted {
         entry,
         changes,
@@ -160,22 +137,6 @@ fn fresh(
     }
 }
 
-/// What an act comes to under a known ticket: the stored text where it is the same act.
-pub(crate) fn again(alloc: Global, known: &Known, act: &Act<'_>) -> Result<Decision, AllocError>
-    ensures comes { IfOk result (IsNoEntry) }
-    ensures reply { IfOk result
-        (λ d. (r : Rules) (n : ℕ) (k : recalled.Recalled) (who : Who) (ticket : List ℕ) (t : Moment)
-        → IsEntry known.now k → register.mark k.entry ≡ register.ticket_mark ticket
-        → IsReply r n (register.Clerk who ticket (act_of act.now)) t
-        (recalled.act_again (act_of act.now) k) d) }
-{
-    let text = act.canonical(alloc)?;
-    if known.is_of(&text) {
-        return Ok(Decision::Stored(known.outgoing().to_vec(alloc)?));
-    }
-    Ok(Decision::Refused(Refusal::TicketUsed, Vec::new(alloc)))
-}
-
 /// What a clerk's act comes to under the rules of the day: it is refused where the depositor isn't
 /// enrolled, where its ticket is known of another act, at the first of its own refusals, and where
 /// the numbers are used up. A known act is answered with its document. Want of memory is the one
@@ -206,7 +167,7 @@ pub(crate) fn clerk(
         (act_of act.now) envelope.now.moment) d) }
 {
     match known {
-        Some(known) => again(alloc, known, act),
+        Some(known) => act_again(alloc, known, act),
         None => fresh(alloc, envelope, page, ticket, act, rules),
     }
 }

@@ -1,58 +1,23 @@
-ghost use Rattle.std.specs.Prelude.{◌≡◌, List, Option, IfOk, option_copied};
+//! What each command comes to.
+ghost use Rattle.std.specs.Prelude.{List, Option, IfOk, option_copied};
 ghost use Rattle.profile.specs.Accepted.{own_of};
 ghost use Rattle.profile.specs.Decision as meant;
 ghost use Rattle.profile.specs.Decision.{standing};
 ghost use Rattle.profile.specs.History.{History};
-ghost use Rattle.profile.specs.Reply.{enrolment_entry};
-ghost use Rattle.rules.specs.Asked.{act_of, asked};
+ghost use Rattle.repeats.specs.Asked.{act_of, asked};
 ghost use Rattle.profile.specs.Header.{Who as Partner};
 ghost use Rattle.profile.specs.Register as register;
-ghost use Rattle.rules.specs.Decided.{Makes, IsAtRest, IsGiven, StandsFor, IsReply, LeadsFrom, entries_of};
-ghost use Rattle.rules.specs.Decided.{LeadsInTables};
-ghost use Rattle.rules.specs.Written.{written_as};
+ghost use Rattle.repeats.specs.Replies.{IsReply};
+ghost use Rattle.rules.specs.Decided.{Makes, IsAtRest, IsGiven, StandsFor, LeadsFrom, LeadsInTables, entries_of};
 
 use crate::acts::clerk;
-use crate::commands::{Act, Command, Key};
-use crate::entries::{Entry, Known};
-use crate::house::Warehouse;
 use crate::interchanges::interchange;
 use profile::{Refusal, Rules};
+use repeats::{Act, Command, Decision, Known, Warehouse, enrolment};
 use segments::{Moment, Who};
 use sets_out::Envelope;
 use std::alloc::{AllocError, Global};
-use stock::{Change, Page};
-
-/// What a command comes to.
-#[derive(Drop)]
-pub enum Decision {
-    /// It was accepted before: the text that went out then.
-    Stored(Vec<u8>),
-    /// It is refused, with the answer to send.
-    Refused(Refusal, Vec<u8>),
-    /// It is accepted.
-    Accepted {
-        /// The entry to append to the register.
-        entry: Entry,
-        /// The rows of the depositor's page that it changes.
-        changes: Vec<Change>,
-        /// The text that goes out for it.
-        outgoing: Vec<u8>,
-    },
-}
-
-// The entry of an enrolment, under these rules.
-fn enrolment(alloc: Global, who: Who, moment: Moment, rules: Rules) -> Result<Entry, AllocError>
-    ensures { IfOk result (λ entry. entry ≡ written_as 0 (enrolment_entry rules who moment)) }
-{
-    Ok(Entry {
-        who,
-        key: Key::Enrolment.text(alloc)?,
-        n: 0,
-        moment,
-        body: Vec::new(alloc),
-        rules,
-    })
-}
+use stock::Page;
 
 // The decision on an enrolment.
 fn enrol(

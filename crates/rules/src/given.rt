@@ -3,14 +3,13 @@ ghost use Rattle.std.specs.Prelude.{◌≡◌, ℕ, Option, Some, true, IfOk, Is
 ghost use Rattle.profile.specs.Accepted.{is_command};
 ghost use Rattle.profile.specs.Readings.{is_deed, is_entry};
 ghost use Rattle.profile.specs.Register as register;
-ghost use Rattle.rules.specs.Asked.{asked};
+ghost use Rattle.repeats.specs.Asked.{asked};
 ghost use Rattle.rules.specs.Given.{RuledCommand, given_as, read_deed, ruled_by};
-ghost use Rattle.rules.specs.Written.{written_as};
+ghost use Rattle.repeats.specs.Written.{written_as};
 
-use crate::commands::Command;
-use crate::entries::Entry;
 use crate::readings::{ReadAct, read};
 use profile::{MOST_TICKET, Rules};
+use repeats::{Command, Entry};
 use segments::{Ident, Who};
 use std::alloc::{AllocError, Global};
 use std::marker::Model;

@@ -1,11 +1,10 @@
 //! What an interchange comes to.
 ghost use Rattle.std.specs.Prelude.{◌≡◌, ◌+◌, ℕ, false, List, None, Option, IfOk, option_copied};
 ghost use Rattle.profile.specs.declared.rules.Rules.{Rules};
-ghost use Rattle.profile.specs.Header.{is_unreadable, isa as meant_isa, sender};
+ghost use Rattle.profile.specs.Header.{is_unreadable, sender};
 ghost use Rattle.profile.specs.Halt.{structure_note};
 ghost use Rattle.profile.specs.History.{History};
 ghost use Rattle.profile.specs.Register as register;
-ghost use Rattle.profile.specs.declared.refusals.Refusal.TheVariants as refusals;
 ghost use Rattle.profile.specs.Reply as replies;
 ghost use Rattle.profile.specs.Decision as recalled;
 ghost use Rattle.profile.specs.Cut.{cut};
@@ -15,92 +14,18 @@ ghost use Rattle.envelope.specs.Conditions.{IsTold};
 ghost use Rattle.stock.specs.Pages.{PageFacts};
 ghost use Rattle.rules.specs.Needs.{HasNeeded};
 ghost use Rattle.rules.specs.Lasting.{PutsOnce};
-ghost use Rattle.rules.specs.Decided.{IsNoEntry, Makes, IsPageOf, IsEntry, IsGiven, IsReply, IsAtRest, LeadsOn, LeadsFrom, entries_of};
+ghost use Rattle.rules.specs.Decided.{Makes, IsPageOf, IsGiven, IsAtRest, LeadsOn, LeadsFrom, entries_of};
+ghost use Rattle.repeats.specs.Replies.{IsNoEntry, IsReply};
 
-use crate::answers::{answer, refusal};
-use crate::commands::Key;
-use crate::decisions::Decision;
-use crate::entries::{Entry, Known};
-use crate::house::Warehouse;
 use crate::lasting::lasting;
 use envelope::{Halt, Interchange, Isa, header_note, isa, structure};
 use profile::{MOST_ENTRIES, Refusal, Rules};
+use repeats::{Decision, Known, Warehouse, answer, interchange_again, interchange_entry, noted};
 use segments::{Moment, Who};
 use sets_out::Envelope;
 use sets_taken::take_groups;
 use std::alloc::{AllocError, Global};
 use stock::Page;
-
-// The refusal of an interchange with a note.
-fn noted(
-    alloc: Global,
-    warehouse: &Warehouse,
-    header: &Isa<'_>,
-    moment: Moment,
-    code: u8,
-) -> Result<Decision, AllocError>
-    ensures comes { IfOk result (IsNoEntry) }
-    ensures reply { IfOk result (λ d. (r : Rules) (n : ℕ) (c : register.Command)
-        → IsReply r n c moment (replies.Refused (refusals.Note code)
-        (replies.refusal_answer warehouse.now header.now moment (refusals.Note code))) d) }
-{
-    let answer = refusal(alloc, warehouse.who(), header, moment, code)?;
-    Ok(Decision::Refused(Refusal::Note(code), answer))
-}
-
-/// What an interchange comes to whose control number is known: the stored text where its bytes are
-/// the same, whatever else is said of them; else it is refused as a duplicate.
-pub(crate) fn again(
-    alloc: Global,
-    warehouse: &Warehouse,
-    known: &Known,
-    header: &Isa<'_>,
-    text: &[u8],
-    moment: Moment,
-) -> Result<Decision, AllocError>
-    requires { header.now ≡ text.now }
-
-    ensures comes { IfOk result (IsNoEntry) }
-    ensures reply { IfOk result
-        (λ d. (r : Rules) (n : ℕ) (k : recalled.Recalled) → IsEntry known.now k
-        → register.mark k.entry ≡ register.interchange_mark (meant_isa text.now 13)
-        → IsReply r n (register.Interchange text.now) moment
-        (recalled.interchange_again warehouse.now text.now moment k) d) }
-{
-    if known.is_of(text) {
-        return Ok(Decision::Stored(known.outgoing().to_vec(alloc)?));
-    }
-    let answer = refusal(alloc, warehouse.who(), header, moment, 25)?;
-    Ok(Decision::Refused(Refusal::Duplicate, answer))
-}
-
-// The entry of an interchange, under these rules.
-fn entry(
-    alloc: Global,
-    envelope: &Envelope,
-    header: &Isa<'_>,
-    text: &[u8],
-    rules: Rules,
-) -> Result<Entry, AllocError>
-    ensures { IfOk result (λ e. e ≡ record {
-      who = envelope.now.depositor;
-      key = register.interchange_mark
-          (meant_isa header.now 13);
-      n = envelope.now.number;
-      moment = envelope.now.moment;
-      body = text.now;
-      rules = rules;
-    }) }
-{
-    Ok(Entry {
-        who: envelope.depositor,
-        key: Key::Interchange(header.element(13)).text(alloc)?,
-        n: envelope.number,
-        moment: envelope.moment,
-        body: text.to_vec(alloc)?,
-        rules,
-    })
-}
 
 // What an interchange comes to that no condition halts: it is accepted under the next number, if
 // there is one. Its sets may change a row again and again; only the last value is put in.
@@ -142,7 +67,7 @@ fn accepted(
     let all = groups.changes;
     let changes = lasting(alloc, &groups.page, all)?;
     let outgoing = answer(alloc, envelope, header, &groups.told)?;
-    let entry = entry(alloc, &envelope, header, text, rules)?;
+    let entry = interchange_entry(alloc, &envelope, header, text, rules)?;
     Ok(Decision::Accepted {
         entry,
         changes,
@@ -238,7 +163,7 @@ fn readable(
         return noted(alloc, warehouse, header, moment, 6);
     };
     match known {
-        Some(known) => again(alloc, warehouse, known, header, text, moment),
+        Some(known) => interchange_again(alloc, warehouse, known, header, text, moment),
         None => fresh(alloc, warehouse, page, who, header, text, moment, rules),
     }
 }

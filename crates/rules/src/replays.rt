@@ -1,5 +1,5 @@
 //! What an entry of the register came to.
-ghost use Rattle.std.specs.Prelude.{◌≡◌, ◌≤◌, ◌<◌, ◌+◌, [], ℕ, List, Result, Ok, Err, true, None, IfOk, length, sum_by};
+ghost use Rattle.std.specs.Prelude.{◌≡◌, ◌≤◌, ◌<◌, ◌+◌, [], ℕ, List, Result, Ok, Err, true, None, IfOk};
 ghost use Rattle.profile.specs.declared.rules.Rules.{Rules};
 ghost use Rattle.profile.specs.Clerk.{is_act, performed};
 ghost use Rattle.profile.specs.Cut.{cut};
@@ -19,20 +19,17 @@ ghost use Rattle.stock.specs.Pages.{IsSound, next_entry};
 ghost use Rattle.stock.specs.Puts.{put};
 ghost use Rattle.stock.specs.Shows.{Shows};
 ghost use Rattle.stock.specs.Stops.{StopsAct};
-ghost use Rattle.rules.specs.Asked.{act_of};
+ghost use Rattle.repeats.specs.Asked.{act_of};
 ghost use Rattle.rules.specs.Decided.{IsAtRest, IsPageOf};
 ghost use Rattle.rules.specs.Played.{IsBefore, IsPlayed, IsReplayed, is_clean, number_after};
-ghost use Rattle.rules.specs.Written.{written_as};
+ghost use Rattle.repeats.specs.Written.{written_as};
 
 use crate::acts::perform;
-use crate::answers::answer;
-use crate::commands::Act;
-use crate::entries::Entry;
-use crate::house::Warehouse;
 use crate::readings::read;
 use crate::told::document;
 use envelope::{Halt, Interchange, Isa, isa, structure};
 use profile::{MOST_ENTRIES, Rules};
+use repeats::{Act, Entry, Warehouse, answer};
 use sets_out::Envelope;
 use sets_taken::take_groups;
 use std::alloc::{AllocError, Global};

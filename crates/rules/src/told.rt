@@ -6,11 +6,11 @@ ghost use Rattle.profile.specs.Texts.{document_of};
 ghost use Rattle.stock.specs.Pages.{PageFacts};
 ghost use Rattle.stock.specs.Parts.{Named, IsPart};
 ghost use Rattle.stock.specs.Shows.{Shows};
-ghost use Rattle.rules.specs.Asked.{act_of};
+ghost use Rattle.repeats.specs.Asked.{act_of};
 ghost use Rattle.rules.specs.Needs.{NamesAct};
 
-use crate::commands::Act;
 use documents::{adjustment, receipt, shipment};
+use repeats::Act;
 use sets_out::Envelope;
 use std::alloc::{AllocError, Global};
 use stock::Page;

@@ -2,6 +2,7 @@
 //! is opened, and it is closed before the line is done.
 ghost use Rattle.std.specs.Prelude.{◌≡◌, ◌≤◌, false, IfErr, IfOk};
 ghost use Rattle.commands.specs.Stops.{fault_in};
+ghost use Rattle.running.specs.Faults.{IsReadFault};
 ghost use Rattle.running.specs.Opening.{IsOpenedAnew};
 ghost use Rattle.running.specs.Working.{IsJobFor, IsNoJobFor, IsWork};
 
@@ -64,7 +65,8 @@ fn work<K: Keeper, W: io::Write, E: io::Write>(
 }
 
 // Opens the book in a database for a job; of a book of version 1 `told` is handed how many entries
-// are carried over of how many.
+// are carried over of how many. Its faults are those of `open`, and of a check those of
+// `open_anew`.
 fn open_for<S: Alter + Drop, T: FnMut(u64, u64)>(
     alloc: Global,
     database: Connection<S>,
@@ -75,6 +77,7 @@ fn open_for<S: Alter + Drop, T: FnMut(u64, u64)>(
     requires told { T.IsAlwaysCallable told }
 
     ensures anew { job.now ≡ Job.Check → IfOk result (IsOpenedAnew S.Store database) }
+    ensures named { IfErr result IsReadFault }
 {
     match job {
         Job::Check => open_anew(alloc, database, told),
@@ -83,7 +86,8 @@ fn open_for<S: Alter + Drop, T: FnMut(u64, u64)>(
 }
 
 /// Opens the book in a database for a job, and says to somebody who watches how far a book of
-/// version 1 is carried over. To be checked, its tables are read anew.
+/// version 1 is carried over. To be checked, its tables are read anew. Its faults are those of
+/// `open`, and of a check those of `open_anew`.
 pub(crate) fn open_watched<S: Alter + Drop, E: io::Write>(
     alloc: Global,
     database: Connection<S>,
@@ -94,6 +98,7 @@ pub(crate) fn open_watched<S: Alter + Drop, E: io::Write>(
     requires { database.in_transaction ≡ false }
 
     ensures anew { job.now ≡ Job.Check → IfOk result (IsOpenedAnew S.Store database) }
+    ensures named { IfErr result IsReadFault }
 {
     if !verbosity.watches {
         return open_for(alloc, database, job, |_, _| {});

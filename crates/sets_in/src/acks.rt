@@ -5,8 +5,8 @@ ghost use Rattle.profile.specs.declared.set_kind.SetKind.TheVariants as kinds;
 ghost use Rattle.sets_in.specs.Amounts.{IsAmount};
 ghost use Rattle.sets_in.specs.SaidAck.{SaysAck};
 
-use crate::reading::{copied, element_with, number};
-use segments::Segment;
+use crate::reading::{copied, element_with};
+use segments::{Segment, number};
 use std::alloc::{AllocError, Global};
 use std::marker::Model;
 use tables::Checked;

@@ -9,9 +9,9 @@ ghost use Rattle.sets_in.specs.Amounts.{IsAmount, IsCounted, HaveAmounts};
 ghost use Rattle.sets_in.specs.Said.{SaysAdvice};
 
 use crate::lines::{AdviceLine, Goods};
-use crate::reading::{copied, element_at, element_with, has_id_at, number, place_with};
+use crate::reading::{copied, element_at, element_with, has_id_at, place_with};
 use crate::sets::Advice;
-use segments::Segment;
+use segments::{Segment, number};
 use std::alloc::{AllocError, Global};
 use tables::Checked;
 

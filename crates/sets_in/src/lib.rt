@@ -16,6 +16,5 @@ pub use acks::{AckIn, ack};
 pub use advices::advice;
 pub use lines::{AdviceLine, Goods};
 pub use orders::order;
-pub use reading::number;
 pub use sets::{Address, Advice};
 pub use shipping::{Order, OrderLine};

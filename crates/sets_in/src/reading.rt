@@ -1,21 +1,10 @@
-//! Looking segments and elements up, and reading numbers.
+//! Looking segments and elements up.
 ghost use Rattle.std.specs.Prelude.{◌≡◌, ◌<◌, ◌^◌, ◌-◌, IfOk, length};
-ghost use Rattle.profile.specs.Bytes.{value};
 ghost use Rattle.profile.specs.Cut.{segments_of, segment_with, element, has_id};
 ghost use Rattle.profile.specs.Means.{segment_at, place_of};
-ghost use Rattle.sets_in.specs.Amounts.{IsAmount};
 
 use segments::Segment;
 use std::alloc::{AllocError, Global};
-
-/// The value of at most nine digits, as quantities and numbers of documents have them.
-pub fn number(text: &[u8]) -> u32
-    requires { IsAmount 9 text.now }
-
-    ensures { result ≡ value text.now }
-{
-    segments::number(text)
-}
 
 /// A copy of the text.
 pub(crate) fn copied(alloc: Global, text: &[u8]) -> Result<Vec<u8>, AllocError>

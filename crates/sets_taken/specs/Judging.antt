@@ -10,7 +10,7 @@ use Rattle.profile.specs.Events.{Event}
 use Rattle.profile.specs.History.{Rejection, Verdict as Told, event_of, traded, verdicts_on, Telling, telling_of, events_told, tellings_on}
 use Rattle.profile.specs.Texts.{ToldSet, Told as ToldGroup, told_set, told_of, stated_sets, answered}
 use Rattle.sets_in.specs.Amounts.{IsAmount}
-use Rattle.tables.specs.Judged.{Whole, told}
+use Rattle.tables.specs.Judged.{Whole, meant_fault}
 use Rattle.stock.specs.Pages.{PageFacts, IsSound}
 use Rattle.stock.specs.Puts.{put, put_change}
 use Rattle.stock.specs.declared.steps.Change.{Change}
@@ -18,6 +18,7 @@ use Rattle.stock.specs.Parts.{Named, IsPart}
 use Rattle.stock.specs.Shows.{Shows}
 use Rattle.sets_taken.specs.SetNames.{NamesSet, NamesSets, NamesGroup, NamesGroups}
 use Rattle.stock.specs.declared.steps.SetStop.{SetStop}
+use Rattle.stock.specs.declared.steps.Step.{Step}
 use Rattle.sets_taken.specs.Proper.{AreProper}
 use Rattle.stock.specs.declared.steps.SetStop.TheVariants as stopped
 use Rattle.sets_taken.specs.declared.judging.Verdict.{Verdict}
@@ -30,7 +31,7 @@ IsStep p es outcome cs = (e : Event) × (outcome ≡ Ok e) × Shows (put cs p) (
 
 -- the trade fault of this outcome, or want of memory
 abbrev pub IsStop : Result Event SetFault → SetStop → Type 0
-IsStop outcome (stopped.Fault f) = outcome ≡ Err (told f)
+IsStop outcome (stopped.Fault f) = outcome ≡ Err (meant_fault f)
 IsStop outcome stopped.OutOfMemory = Unit {0}
 
 -- changes of this outcome are proper, and put in they are the page with its event
@@ -47,14 +48,27 @@ OnPages part set IsSo =
     → NamesSet n set.kind (segments_of set.pieces) → Shows P es
     → IsSo P es (traded set.rules es (part.entries + 1) set.kind (segments_of set.pieces))
 
+-- the step of a checked set, by a page that has what it names
+abbrev pub IsStepOf : PageFacts → Whole → Step → Type 0
+IsStepOf part set step =
+    OnPages part set (λ P es outcome. IsStep P es outcome step.changes.items)
+
+-- what stops it
+abbrev pub IsStopOf : PageFacts → Whole → SetStop → Type 0
+IsStopOf part set stop = OnPages part set (λ _ _ outcome. IsStop outcome stop)
+
+-- the step can be put into the page
+abbrev pub FitsOn : PageFacts → Step → Type 0
+FitsOn p step = IsSound (put step.changes.items p)
+
 -- what a judged set came to over a page
 abbrev pub IsVerdict : PageFacts → List Event → Result Event Rejection → Verdict → Type 0
 IsVerdict p es outcome (Passed step) = IsOutcome p es outcome step.changes.items
 IsVerdict p es outcome (Rejected r) = outcome ≡ Err r
 
--- the step can be put into the page
+-- so can that of a set that passed
 abbrev pub CanBePut : PageFacts → Verdict → Type 0
-CanBePut p (Passed step) = IsSound (put step.changes.items p)
+CanBePut p (Passed step) = FitsOn p step
 CanBePut p (Rejected r) = Unit {0}
 
 -- a page with changes put in, in the same entry, however many events they are of

@@ -8,13 +8,12 @@ ghost use Rattle.profile.specs.History as meant;
 ghost use Rattle.profile.specs.Faults.{set_fault};
 ghost use Rattle.profile.specs.declared.set_kind.SetKind.TheVariants as kinds;
 ghost use Rattle.profile.specs.Words.{kind_words};
-ghost use Rattle.stock.specs.Pages.{PageFacts, IsSound};
+ghost use Rattle.stock.specs.Pages.{PageFacts};
 ghost use Rattle.stock.specs.Parts.{Named, IsPart};
-ghost use Rattle.stock.specs.Puts.{put};
 ghost use Rattle.stock.specs.Shows.{Shows};
-ghost use Rattle.tables.specs.Judged.{IsClosed, told};
+ghost use Rattle.tables.specs.Judged.{IsClosed, meant_fault};
 ghost use Rattle.sets_taken.specs.SetNames.{NamesSet};
-ghost use Rattle.sets_taken.specs.Judging.{IsStep, IsStop, IsVerdict, CanBePut, OnPages};
+ghost use Rattle.sets_taken.specs.Judging.{IsStepOf, IsStopOf, FitsOn, IsVerdict, CanBePut, OnPages};
 
 use profile::Rules;
 use segments::Segment;
@@ -35,7 +34,7 @@ pub enum Verdict<'a> {
 
 // A rejection for a segment in error.
 fn in_segment<'a>(fault: &SetFault<'a>) -> Rejection<'a>
-    ensures { result ≡ record { code = 5; segment = Some (told fault.now) } }
+    ensures { result ≡ record { code = 5; segment = Some (meant_fault fault.now) } }
 {
     let element = fault.element.map(|(place, code)| ElementFault {
         place: place as usize,
@@ -57,11 +56,9 @@ fn advised(alloc: Global, page: &Page, set: &Checked<'_>) -> Result<Step, SetSto
     requires kind { set.now.kind ≡ kinds.ShipmentAdvice }
     requires room { page.now.recent < most_sets }
 
-    ensures ok { IfOk result (λ step. OnPages page.now set.now
-        (λ P es outcome. IsStep P es outcome step.changes.items)) }
-    ensures err { IfErr result
-        (λ stop. OnPages page.now set.now (λ _ _ outcome. IsStop outcome stop)) }
-    ensures sound { IfOk result (λ step. IsSound (put step.changes.items page.now)) }
+    ensures ok { IfOk result (IsStepOf page.now set.now) }
+    ensures err { IfErr result (IsStopOf page.now set.now) }
+    ensures sound { IfOk result (FitsOn page.now) }
 {
     let advice = advice(alloc, set)?;
     announce(alloc, page, &advice)
@@ -72,11 +69,9 @@ fn ordered(alloc: Global, page: &Page, set: &Checked<'_>) -> Result<Step, SetSto
     requires kind { set.now.kind ≡ kinds.ShippingOrder }
     requires room { page.now.recent < most_sets }
 
-    ensures ok { IfOk result (λ step. OnPages page.now set.now
-        (λ P es outcome. IsStep P es outcome step.changes.items)) }
-    ensures err { IfErr result
-        (λ stop. OnPages page.now set.now (λ _ _ outcome. IsStop outcome stop)) }
-    ensures sound { IfOk result (λ step. IsSound (put step.changes.items page.now)) }
+    ensures ok { IfOk result (IsStepOf page.now set.now) }
+    ensures err { IfErr result (IsStopOf page.now set.now) }
+    ensures sound { IfOk result (FitsOn page.now) }
 {
     let order = order(alloc, set)?;
     reserve(alloc, page, &order, set.rules())
@@ -87,11 +82,9 @@ fn acknowledged(alloc: Global, page: &Page, set: &Checked<'_>) -> Result<Step, S
     requires kind { set.now.kind ≡ kinds.FunctionalAcknowledgment }
     requires room { page.now.recent < most_sets }
 
-    ensures ok { IfOk result (λ step. OnPages page.now set.now
-        (λ P es outcome. IsStep P es outcome step.changes.items)) }
-    ensures err { IfErr result
-        (λ stop. OnPages page.now set.now (λ _ _ outcome. IsStop outcome stop)) }
-    ensures sound { IfOk result (λ step. IsSound (put step.changes.items page.now)) }
+    ensures ok { IfOk result (IsStepOf page.now set.now) }
+    ensures err { IfErr result (IsStopOf page.now set.now) }
+    ensures sound { IfOk result (FitsOn page.now) }
 {
     let ack = ack(alloc, set)?;
     Ok(acknowledge(alloc, page, &ack)?)
@@ -101,11 +94,9 @@ fn acknowledged(alloc: Global, page: &Page, set: &Checked<'_>) -> Result<Step, S
 fn traded(alloc: Global, page: &Page, set: &Checked<'_>) -> Result<Step, SetStop>
     requires { page.now.recent < most_sets }
 
-    ensures ok { IfOk result (λ step. OnPages page.now set.now
-        (λ P es outcome. IsStep P es outcome step.changes.items)) }
-    ensures err { IfErr result
-        (λ stop. OnPages page.now set.now (λ _ _ outcome. IsStop outcome stop)) }
-    ensures sound { IfOk result (λ step. IsSound (put step.changes.items page.now)) }
+    ensures ok { IfOk result (IsStepOf page.now set.now) }
+    ensures err { IfErr result (IsStopOf page.now set.now) }
+    ensures sound { IfOk result (FitsOn page.now) }
 {
     match set.kind() {
         SetKind::ShipmentAdvice => advised(alloc, page, set),

@@ -13,7 +13,7 @@ ghost use Rattle.sets_taken.specs.Judging.{AreTaken, IsGroupTaken, AreGroupsTake
 use crate::judging::{Verdict, judged};
 use envelope::{Group, Interchange, Set};
 use profile::Rules;
-use sets_in::number;
+use segments::number;
 use sets_out::{Rejection, ToldGroup, ToldSet};
 use std::alloc::{AllocError, Global};
 use stock::{Change, Page, Step};

@@ -1,10 +1,10 @@
-ghost use Rattle.std.specs.Prelude.{◌≡◌, ◌<◌, ◌-◌, ◌^◌, IfOk, IfSome, List, [], sum_by, Option, find, option_map};
+ghost use Rattle.std.specs.Prelude.{◌≡◌, ◌<◌, ◌-◌, ◌^◌, IfOk, IfSome, [], sum_by, Option, find, option_map};
 ghost use Rattle.profile.specs.Means as meant;
 ghost use Rattle.profile.specs.Events as events;
 ghost use Rattle.goods.specs.Keyed.{IsSorted};
 ghost use Rattle.goods.specs.OfPairs.{date_of_pair};
 ghost use Rattle.sets_in.specs.Limits.{HasFewLines, HasFewOrderLines};
-ghost use Rattle.tables.specs.Judged.{told};
+ghost use Rattle.tables.specs.Judged.{meant_fault};
 
 use crate::places::{is_among, is_redated, placed};
 use goods::{Row, new_line};
@@ -14,7 +14,7 @@ use tables::SetFault;
 
 // A trade fault of a segment, at an element of this place.
 fn trade_fault(segment: &'static [u8], position: u32, place: u32) -> SetFault<'static>
-    ensures { told result ≡ events.trade_fault segment.now position place }
+    ensures { meant_fault result ≡ events.trade_fault segment.now position place }
 {
     SetFault {
         segment,
@@ -69,8 +69,8 @@ fn sooner(
     fault: Option<SetFault<'static>>,
     other: Option<SetFault<'static>>,
 ) -> Option<SetFault<'static>>
-    ensures { option_map told result
-        ≡ events.sooner (option_map told fault.entry) (option_map told other.entry) }
+    ensures { option_map meant_fault result
+        ≡ events.sooner (option_map meant_fault fault.entry) (option_map meant_fault other.entry) }
 {
     let Some(fault) = fault else {
         return other;
@@ -95,7 +95,7 @@ fn pair_fault(
     requires { IsSorted rows.now }
 
     ensures { IfOk result
-        (λ f. option_map told f
+        (λ f. option_map meant_fault f
         ≡ events.sooner (events.repeated_pair advice.now) (events.redated_pair
         (λ item lot. date_of_pair item lot rows.now) advice.now)) }
 {
@@ -130,7 +130,7 @@ pub(crate) fn advice_fault(
     requires { IsSorted rows.now }
 
     ensures { IfOk result
-        (λ f. option_map told f ≡ events.advice_fault_where is_known
+        (λ f. option_map meant_fault f ≡ events.advice_fault_where is_known
         (λ item lot. date_of_pair item lot rows.now) advice.now) }
 {
     let lines = advice.lines();
@@ -184,7 +184,7 @@ pub(crate) fn order_fault(
     order: &Order,
     is_known: bool,
 ) -> Result<Option<SetFault<'static>>, AllocError>
-    ensures { IfOk result (λ f. option_map told f ≡ events.order_fault_where is_known order.now) }
+    ensures { IfOk result (λ f. option_map meant_fault f ≡ events.order_fault_where is_known order.now) }
 {
     let lines = order.lines();
     if is_known {

@@ -10,7 +10,7 @@ use Rattle.profile.specs.Reply.{Reply}
 use Rattle.profile.specs.Accepted.{reply_to, after, accepted_on, replies_on, is_command}
 use Rattle.profile.proofs.TextLaws.{both_parts}
 use Rattle.rules.specs.Asked.{asked}
-use Rattle.rules.specs.declared.commands.Command.{Command as Asking}
+use Rattle.rules.specs.Command.{Command as Asking}
 use Rattle.store.specs.Runs.{all_asked, asked_at, can_be_given}
 use Rattle.store.specs.Standing.{Standing, IsUsable, KeepsLegal, LeavesEither}
 use Rattle.store.proofs.Replies.{accepted_on-more, replies_on-more}

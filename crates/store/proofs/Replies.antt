@@ -21,9 +21,10 @@ use Rattle.profile.specs.Decision as meant
 use Rattle.profile.specs.Decision.{recalled, standing, reply_by}
 use Rattle.profile.proofs.DecisionLaws.{reply-by}
 use Rattle.rules.specs.Pages.{PageFacts}
-use Rattle.rules.specs.Decided.{StandsFor, IsEntry, IsRecalled, IsUnder, IsGiven, IsReply, entries_of}
+use Rattle.rules.specs.Decided.{StandsFor, IsRecalled, IsUnder, IsGiven, entries_of}
+use Rattle.rules.specs.Replies.{IsEntry, IsReply, number_later}
 use Rattle.rules.specs.Written.{Recalled}
-use Rattle.rules.specs.declared.decisions.Decision.{Decision}
+use Rattle.rules.specs.Decision.{Decision}
 use Rattle.profile.specs.History.{History}
 use Rattle.store.specs.Held.{IsHeld, IsDecided}
 use Rattle.profile.specs.Need.{need_of}
@@ -36,7 +37,6 @@ use Rattle.profile.proofs.HistoryLaws.{history-numbered}
 use Rattle.profile.specs.Changes.{LeadOn}
 use Rattle.rules.specs.Change.{Change}
 use Rattle.rules.specs.Tabled.{table_changes}
-use Rattle.rules.specs.Decided.{number_later}
 use Rattle.rules.specs.Written.{Written, written, written_as}
 
 -- Whose entries a command looks at.

@@ -8,8 +8,9 @@ use Rattle.profile.specs.Moments.{Moment}
 use Rattle.profile.specs.Need.{Need}
 use Rattle.profile.specs.Register.{Command, Entry}
 use Rattle.profile.specs.Accepted.{own_of, reply_to}
-use Rattle.rules.specs.Decided.{IsHeldPart, IsPageOf, IsReply}
-use Rattle.rules.specs.declared.decisions.Decision.{Decision}
+use Rattle.rules.specs.Decided.{IsHeldPart, IsPageOf}
+use Rattle.rules.specs.Replies.{IsReply}
+use Rattle.rules.specs.Decision.{Decision}
 
 -- the part that is needed of the page of a depositor with this history; a stranger has none
 abbrev pub IsHeld : Need → Option PageFacts → Option History → Type 0

@@ -7,7 +7,7 @@ use Rattle.profile.specs.Register as meant
 use Rattle.profile.specs.Reply as replies
 use Rattle.profile.specs.Accepted.{is_command}
 use Rattle.rules.specs.Asked.{asked}
-use Rattle.rules.specs.declared.commands.Command.{Command}
+use Rattle.rules.specs.Command.{Command}
 use Rattle.store.specs.declared.serving.Reply.{Reply}
 use Rattle.store.specs.declared.serving.Reply.TheVariants.{Accepted, Stored, Refused}
 

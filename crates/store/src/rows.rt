@@ -1,4 +1,4 @@
-ghost use Rattle.std.specs.Prelude.{◌≡◌, IfOk, map};
+ghost use Rattle.std.specs.Prelude.{◌≡◌, IfOk, map, MatchOption};
 ghost use Rattle.profile.specs.Register.{Deed, deed_mark, body_of};
 ghost use Rattle.profile.specs.Rows.{shown_row, state_text};
 ghost use Rattle.store.specs.Sent.{state_name, said_under, sent_row};
@@ -66,6 +66,31 @@ impl DocumentState {
             DocumentState::Open => b"open",
             DocumentState::Accepted => b"accepted",
             DocumentState::Refused => b"refused",
+        }
+    }
+
+    /// The state with this word; None where no state has it.
+    pub fn of_text(text: &[u8]) -> Option<DocumentState>
+        ensures { MatchOption result ((state : DocumentState) → text.now ≡ state_name state
+            → ⊥) (λ state. text.now ≡ state_name state) }
+    {
+        match text {
+            b"-" => Some(DocumentState::Unasked),
+            b"open" => Some(DocumentState::Open),
+            b"accepted" => Some(DocumentState::Accepted),
+            b"refused" => Some(DocumentState::Refused),
+            _ => None,
+        }
+    }
+
+    /// The state of a document of which this was said.
+    pub fn of_said(said: Option<bool>) -> DocumentState
+        ensures { state_name result ≡ state_text said }
+    {
+        match said {
+            None => DocumentState::Open,
+            Some(true) => DocumentState::Accepted,
+            Some(false) => DocumentState::Refused,
         }
     }
 }
@@ -139,17 +164,6 @@ fn said_of(page: &Page, n: u32) -> Option<bool>
     None
 }
 
-// The state of a document of which this was said.
-fn state_of(said: Option<bool>) -> DocumentState
-    ensures { state_name result ≡ state_text said }
-{
-    match said {
-        None => DocumentState::Open,
-        Some(true) => DocumentState::Accepted,
-        Some(false) => DocumentState::Refused,
-    }
-}
-
 impl OutRow {
     /// The row of an entry that sent this out, by the page of all its depositor's entries.
     pub(crate) fn of(page: &Page, entry: &Entry, content: Vec<u8>) -> OutRow
@@ -160,7 +174,7 @@ impl OutRow {
         let kind = entry.kind();
         let state = match kind {
             OutKind::Answer => DocumentState::Unasked,
-            _ => state_of(said_of(page, n)),
+            _ => DocumentState::of_said(said_of(page, n)),
         };
         OutRow {
             n,

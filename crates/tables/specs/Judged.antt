@@ -1,4 +1,4 @@
--- Faults as the program tells them, and a set that has none by some rules.
+-- Faults as they are meant, and a set that has none by some rules.
 use Rattle.std.specs.Prelude.{◌≡◌, ◌-◌, ◌<◌, ◌^◌, List, codes, length, IsTrue, None, Option, option_map}
 use Rattle.profile.specs.declared.rules.Rules.{Rules}
 use Rattle.profile.specs.Cut.{Piece, segments_of, last_segment, has_id}
@@ -7,15 +7,15 @@ use Rattle.profile.specs.Bytes.{Delims}
 use Rattle.profile.specs.Faults.{IsFaultOf, set_fault}
 use Rattle.profile.specs.Words.{kind_words}
 use Rattle.profile.specs.declared.set_kind.SetKind.{SetKind}
-use Rattle.elements.specs.Told.{told_element}
+use Rattle.elements.specs.Meant.{meant_element}
 use Rattle.tables.specs.declared.faults.SetFault.{SetFault}
 
-abbrev pub told : SetFault → meant.SetFault
-told f = record {
+abbrev pub meant_fault : SetFault → meant.SetFault
+meant_fault f = record {
   id = f.segment.now;
   position = f.position;
   code = f.code;
-  element = option_map told_element f.element;
+  element = option_map meant_element f.element;
 }
 
 -- SE stands last

@@ -2,7 +2,7 @@ ghost use Rattle.std.specs.Prelude.{◌≡◌, ◌<◌, ◌^◌, ◌-◌, codes,
 ghost use Rattle.profile.specs.Cut.{segments_of, last_segment, has_id};
 ghost use Rattle.profile.specs.Words.{kind_words};
 ghost use Rattle.profile.specs.Faults.{IsFaultOf, set_fault};
-ghost use Rattle.tables.specs.Judged.{told, IsClosed, IsJudged, IsSound, Whole};
+ghost use Rattle.tables.specs.Judged.{meant_fault, IsClosed, IsJudged, IsSound, Whole};
 
 use crate::faults::{Progress, SetFault, step};
 use crate::rows::After;
@@ -75,7 +75,7 @@ fn first_fault<'a>(
 ) -> Option<SetFault<'a>>
     requires { length segments.now < 2 ^ 32 - 1 }
 
-    ensures { option_map told result
+    ensures { option_map meant_fault result
         ≡ set_fault rules delims.now (kind_words rules kind) (segments_of segments.now) }
 {
     let mut progress = Progress {
@@ -95,7 +95,7 @@ fn first_fault<'a>(
 fn fault_of<'a>(kind: SetKind, segments: &'a [Segment<'a>], rules: Rules) -> Option<SetFault<'a>>
     requires { length segments.now < 2 ^ 32 - 1 }
 
-    ensures { IsJudged rules kind segments.now (option_map told result) }
+    ensures { IsJudged rules kind segments.now (option_map meant_fault result) }
 {
     match segments.first() {
         Some(first) => first_fault(&first.delims(), kind, segments, rules),
@@ -117,7 +117,7 @@ pub fn judge<'a>(
     ensures { MatchResult result
         (λ c. (c.kind ≡ kind) × (c.pieces ≡ segments.now)
         × IsFaultOf rules kind segments.now None × (c.rules ≡ rules))
-        (λ f. IsFaultOf rules kind segments.now (Some (told f))) }
+        (λ f. IsFaultOf rules kind segments.now (Some (meant_fault f))) }
 {
     match fault_of(kind, segments, rules) {
         Some(fault) => Err(fault),

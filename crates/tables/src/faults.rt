@@ -1,15 +1,15 @@
-ghost use Rattle.std.specs.Prelude.{◌≡◌, ◌<◌, ℕ, List, true, false, MatchResult, Some, None, length, map, option_map};
+ghost use Rattle.std.specs.Prelude.{◌≡◌, ◌<◌, ℕ, List, MatchResult, Some, None, length, map, option_map};
 ghost use Rattle.profile.specs.Cut.{id_of};
 ghost use Rattle.profile.specs.Elements as elements_meant;
 ghost use Rattle.profile.specs.declared.rules.Rules.{Rules};
 ghost use Rattle.profile.specs.Words.{words_after, kind_words};
 ghost use Rattle.profile.specs.Faults as meant;
 ghost use Rattle.elements.specs.Rows.{row_of};
-ghost use Rattle.elements.specs.Told.{told_element};
+ghost use Rattle.elements.specs.Meant.{meant_element};
 ghost use Rattle.tables.specs.Ids.{text_of};
 ghost use Rattle.tables.specs.Rows.{is_goods, after_goods, is_advised, after_advised};
 ghost use Rattle.tables.specs.Stages.{rest_of};
-ghost use Rattle.tables.specs.Judged.{told};
+ghost use Rattle.tables.specs.Judged.{meant_fault};
 
 use crate::ids::Id;
 use crate::rows::{After, rows_of};
@@ -49,7 +49,7 @@ fn element_in_error(
 ) -> Option<(u32, u8)>
     requires { length rows.now < 100 }
 
-    ensures { option_map told_element result
+    ensures { option_map meant_element result
         ≡ elements_meant.faulty_element delims.now (map row_of rows.now) segment.now.elements }
 {
     let (place, code) = faulty_element(delims, rows, segment)?;
@@ -69,7 +69,7 @@ fn inner_fault<'a>(
 
     ensures { (previous : List ℕ) → after_goods after ≡ is_goods previous
         → after_advised after ≡ is_advised previous
-        → option_map told result
+        → option_map meant_fault result
         ≡ meant.inner_fault rules delims.now previous position segment.now.elements }
 {
     let rows = rows_of(id, after, rules)?;
@@ -93,7 +93,7 @@ fn place_fault<'a>(
     requires { id_of segment.now.elements ≡ text_of id }
 
     ensures { (r : Rules)
-        → told result ≡ meant.place_fault r (kind_words r kind) (rest_of r stage) position
+        → meant_fault result ≡ meant.place_fault r (kind_words r kind) (rest_of r stage) position
         (id_of segment.now.elements) }
 {
     let wanted = match id {
@@ -110,7 +110,7 @@ fn place_fault<'a>(
 
 // The fault of a segment with an id that is in no set.
 fn unknown_fault<'a>(position: u32, segment: &Segment<'a>) -> SetFault<'a>
-    ensures { told result ≡ record {
+    ensures { meant_fault result ≡ record {
       id = id_of segment.now.elements;
       position = position;
       code = 1;
@@ -144,7 +144,7 @@ pub(crate) fn step<'a>(
         × (after_goods p.after ≡ is_goods (id_of segment.now.elements))
         × (after_advised p.after ≡ is_advised (id_of segment.now.elements)))
         (λ f. meant.fault_at rules delims.now (kind_words rules kind)
-        (rest_of rules progress.stage) previous position segment.now.elements ≡ Some (told f)) }
+        (rest_of rules progress.stage) previous position segment.now.elements ≡ Some (meant_fault f)) }
 {
     let Some(id) = Id::read(segment.element(0)) else {
         return Err(unknown_fault(position, segment));

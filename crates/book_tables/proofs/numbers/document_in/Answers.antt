@@ -1,8 +1,8 @@
 use Rattle.std.proofs.Common.{◌≡◌, ◌∙◌, ℕ, sym, ap, None, Some, Option}
 use Rattle.profile.specs.Page.{PageDocument}
 use Rattle.profile.specs.Rows.{OutRow}
-use Rattle.rules.specs.declared.kinds.OutKind.{OutKind}
-use Rattle.rules.specs.declared.kinds.OutKind.TheVariants.{Answer}
+use Rattle.rules.specs.OutKind.{OutKind}
+use Rattle.rules.specs.OutKind.TheVariants.{Answer}
 use Rattle.rules.specs.Kinds.{kind_text}
 use Rattle.sqlite.specs.Order.{Row, column}
 use Rattle.book_tables.specs.Looking.{IsRowOf}

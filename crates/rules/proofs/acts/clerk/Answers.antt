@@ -1,10 +1,10 @@
 use Rattle.std.proofs.Common.{ap, sym, subst}
 use Rattle.std.proofs.lemmas.Result.{IfOk-weaker}
 use Rattle.profile.specs.Register.{Clerk}
-use Rattle.rules.specs.Asked.{act_of}
+use Rattle.repeats.specs.Asked.{act_of}
 use Rattle.std.specs.Prelude.{Option, Some, option_copied}
 use Rattle.profile.specs.Decision as known
-use Rattle.rules.specs.Decided.{IsReply}
+use Rattle.repeats.specs.Replies.{IsReply}
 use Rattle.rules.proofs.Performs.{none_known}
 use Rattle.rules.proofs.Leading.{nowhere}
 use Rattle.rules.proofs.acts.clerk.Goals as goal
@@ -20,4 +20,4 @@ returns-in-None-clause-reply c =
 pub returns-in-Some-clause-leads : goal.returns-in-Some-clause-leads
 returns-in-Some-clause-leads c =
     let e = c.args.envelope.now in
-    IfOk-weaker c.again.result _ _ (λ d none. nowhere c.args.rules c.args.page.now (Clerk e.depositor c.args.ticket.now (act_of c.args.act.now)) e.moment d none) c.again.ensures.comes
+    IfOk-weaker c.act_again.result _ _ (λ d none. nowhere c.args.rules c.args.page.now (Clerk e.depositor c.args.ticket.now (act_of c.args.act.now)) e.moment d none) c.act_again.ensures.comes

@@ -4,9 +4,10 @@ use Rattle.std.proofs.lemmas.Result.{IfOk-weaker}
 use Rattle.profile.specs.Decision as meant
 use Rattle.rules.proofs.LeadsOn.{all_lead}
 use Rattle.profile.specs.History.{History}
-use Rattle.rules.specs.Asked.{asked}
-use Rattle.rules.specs.Decided.{IsGiven, IsReply, LeadsFrom, entries_of}
-use Rattle.rules.specs.declared.commands.Command.{Command}
+use Rattle.repeats.specs.Asked.{asked}
+use Rattle.rules.specs.Decided.{IsGiven, LeadsFrom, entries_of}
+use Rattle.repeats.specs.Replies.{IsReply}
+use Rattle.repeats.specs.declared.commands.Command.{Command}
 use Rattle.rules.proofs.decisions.decide.Goals as goal
 
 pub returns-in-Interchange-clause-reply : goal.returns-in-Interchange-clause-reply

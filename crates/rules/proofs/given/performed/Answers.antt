@@ -7,7 +7,7 @@ use Rattle.profile.specs.Header.{is_partner}
 use Rattle.profile.specs.Register.{Act, Clerk}
 use Rattle.profile.specs.Clerk.{is_act}
 use Rattle.profile.proofs.TextLaws.{both_parts}
-use Rattle.rules.specs.Asked.{read_act}
+use Rattle.rules.specs.ReadActs.{read_act}
 use Rattle.rules.specs.declared.readings.ReadAct.{ReadAct}
 use Rattle.rules.proofs.Plays.{read_same, read_none}
 use Rattle.rules.proofs.GivenRead.{read_good}

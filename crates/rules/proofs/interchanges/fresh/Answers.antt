@@ -6,7 +6,7 @@ use Rattle.profile.specs.Halt.{header_notes, structure_note}
 use Rattle.profile.specs.Register.{Interchange}
 use Rattle.profile.specs.Decision.{new_note, interchange_new, accepted_by}
 use Rattle.profile.specs.Reply.{interchange_entry}
-use Rattle.rules.specs.Decided.{IsReply}
+use Rattle.repeats.specs.Replies.{IsReply}
 use Rattle.envelope.specs.Conditions.{first_note}
 use Rattle.rules.proofs.Decides.{noted_header, noted_segments, noted_new, accepted_new}
 use Rattle.rules.proofs.Leading.{nothing_made, nowhere}

@@ -22,9 +22,9 @@ returns-in_default-clause-reply c =
     (reply c.args.rules (entries_of c.args.page) (Interchange c.args.text.now))) c.noted.ensures.reply
 
 pub returns-in-Some-clause-reply : goal.returns-in-Some-clause-reply
-returns-in-Some-clause-reply c = IfOk-weaker c.again.result _ _ (λ d reply h k given.
+returns-in-Some-clause-reply c = IfOk-weaker c.interchange_again.result _ _ (λ d reply h k given.
     given_again c.args.rules c.args.warehouse.now c.args.page (option_copied c.args.known) h k c.args.text.now c.args.moment d c.in-Some-Some.page c.in-Some.known.now
-    c.in-Some-Some.is-0 (ap option_copied c.in-Some.is) given (reply c.args.rules)) c.again.ensures.reply
+    c.in-Some-Some.is-0 (ap option_copied c.in-Some.is) given (reply c.args.rules)) c.interchange_again.ensures.reply
 
 pub returns-in-None-clause-reply : goal.returns-in-None-clause-reply
 returns-in-None-clause-reply c = IfOk-weaker c.fresh.result _ _ (λ d reply h k given.
@@ -35,7 +35,7 @@ pub returns-in_default-clause-leads : goal.returns-in_default-clause-leads
 returns-in_default-clause-leads c = IfOk-weaker c.noted.result _ _ (λ d none. nowhere_from c.args.rules c.args.page (Interchange c.args.text.now) c.args.moment d none) c.noted.ensures.comes
 
 pub returns-in-Some-clause-leads : goal.returns-in-Some-clause-leads
-returns-in-Some-clause-leads c = IfOk-weaker c.again.result _ _ (λ d none. nowhere_from c.args.rules c.args.page (Interchange c.args.text.now) c.args.moment d none) c.again.ensures.comes
+returns-in-Some-clause-leads c = IfOk-weaker c.interchange_again.result _ _ (λ d none. nowhere_from c.args.rules c.args.page (Interchange c.args.text.now) c.args.moment d none) c.interchange_again.ensures.comes
 
 pub returns-in-None-clause-leads : goal.returns-in-None-clause-leads
 returns-in-None-clause-leads c = IfOk-weaker c.fresh.result _ _ (λ d leads. from_page c.args.rules c.args.page c.in-Some-Some.page (Interchange c.args.text.now) c.args.moment d c.in-Some-Some.is-0 leads) c.fresh.ensures.leads

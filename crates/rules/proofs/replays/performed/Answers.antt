@@ -3,7 +3,7 @@ use Rattle.std.specs.Prelude.{Option, option_map}
 use Rattle.std.proofs.lemmas.Result.{IfOk-weaker}
 use Rattle.profile.specs.Register.{Act}
 use Rattle.profile.specs.Reply.{clerk_entry}
-use Rattle.rules.specs.Asked.{read_act}
+use Rattle.rules.specs.ReadActs.{read_act}
 use Rattle.rules.specs.Played.{IsPlayed}
 use Rattle.rules.specs.declared.readings.ReadAct.{ReadAct}
 use Rattle.rules.proofs.Plays.{read_same, read_none}

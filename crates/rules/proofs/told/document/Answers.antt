@@ -2,8 +2,8 @@ use Rattle.std.proofs.Common.{◌≡◌, ◌∙◌, Ok, true, sym, subst}
 use Rattle.stock.specs.Parts.{NamesCount, NamesPick, are_items}
 use Rattle.rules.specs.Needs.{NamesAct}
 use Rattle.profile.specs.Clerk.{performed}
-use Rattle.rules.specs.Asked.{act_of}
-use Rattle.rules.specs.declared.commands.Act.{Act}
+use Rattle.repeats.specs.Asked.{act_of}
+use Rattle.repeats.specs.declared.commands.Act.{Act}
 use Rattle.std.proofs.lemmas.Result.{IfOk-weaker}
 use Rattle.documents.proofs.DocumentLaws.{adjustment_part, receipt_is, shipment_is, adjustment_is}
 use Rattle.rules.proofs.told.document.Goals as goal

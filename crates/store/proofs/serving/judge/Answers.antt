@@ -5,7 +5,8 @@ use Rattle.profile.specs.Decision.{standing, recalled, reply_by}
 use Rattle.profile.specs.Need.{need_of}
 use Rattle.profile.specs.Register.{command_mark}
 use Rattle.rules.specs.Asked.{asked}
-use Rattle.rules.specs.Decided.{IsRecalled, IsReply}
+use Rattle.rules.specs.Decided.{IsRecalled}
+use Rattle.rules.specs.Replies.{IsReply}
 use Rattle.store.specs.Held.{IsDecided, IsHeld}
 use Rattle.store.proofs.Changes.{clean_before, query_on, unchanged_refl}
 use Rattle.store.proofs.Replies.{decided, decided_again, named_key, owner_none, owner_some, recalled_at, recalled_none, stands_from}

@@ -3,7 +3,8 @@ use Rattle.profile.specs.Accepted.{own_of}
 use Rattle.profile.specs.Decision.{standing, reply_by}
 use Rattle.profile.specs.Need.{Need}
 use Rattle.rules.specs.Asked.{asked}
-use Rattle.rules.specs.Decided.{IsRecalled, IsReply, entries_of}
+use Rattle.rules.specs.Decided.{IsRecalled, entries_of}
+use Rattle.rules.specs.Replies.{IsReply}
 use Rattle.store.specs.Held.{IsHeld}
 use Rattle.store.proofs.Replies.{decided, stands_from}
 use Rattle.store.proofs.serving.judge_new.Goals as goal

@@ -1,0 +1,3 @@
+pub mod Subjects
+pub mod NeedLists
+pub mod Again

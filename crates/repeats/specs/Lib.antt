@@ -1,0 +1,4 @@
+pub mod Written
+pub mod Asked
+pub mod Kinds
+pub mod Replies
