@@ -1,8 +1,8 @@
 //! What a line says, done over the book in a file: words are tested and files read before the book
 //! is opened, and it is closed before the line is done.
-ghost use Rattle.std.specs.Prelude.{◌≡◌, ◌≤◌, false, IfErr, IfOk};
+ghost use Rattle.std.specs.Prelude.{◌≡◌, ◌≢◌, ◌≤◌, false, IfErr, IfOk};
 ghost use Rattle.commands.specs.Stops.{fault_in};
-ghost use Rattle.running.specs.Faults.{IsReadFault};
+ghost use Rattle.running.specs.Faults.{IsBookFault, IsReadFault};
 ghost use Rattle.running.specs.Opening.{IsOpenedAnew};
 ghost use Rattle.running.specs.Working.{IsJobFor, IsNoJobFor, IsWork};
 
@@ -78,6 +78,7 @@ fn open_for<S: Alter + Drop, T: FnMut(u64, u64)>(
 
     ensures anew { job.now ≡ Job.Check → IfOk result (IsOpenedAnew S.Store database) }
     ensures named { IfErr result IsReadFault }
+    ensures book { job.now ≢ Job.Check → IfErr result IsBookFault }
 {
     match job {
         Job::Check => open_anew(alloc, database, told),
@@ -99,6 +100,7 @@ pub(crate) fn open_watched<S: Alter + Drop, E: io::Write>(
 
     ensures anew { job.now ≡ Job.Check → IfOk result (IsOpenedAnew S.Store database) }
     ensures named { IfErr result IsReadFault }
+    ensures book { job.now ≢ Job.Check → IfErr result IsBookFault }
 {
     if !verbosity.watches {
         return open_for(alloc, database, job, |_, _| {});
