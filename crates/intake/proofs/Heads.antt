@@ -12,7 +12,7 @@ use Rattle.httparse.specs.declared.spans.HeaderSpan.{HeaderSpan}
 use Rattle.httparse.specs.declared.spans.RequestSpans.{RequestSpans}
 use Rattle.std.proofs.lemmas.List.{length-take-le, length-map}
 use Rattle.std.proofs.Common.{append_assoc}
-use Rattle.intake.proofs.Sends.{take_two}
+use Rattle.gauges.proofs.Sends.{take_two}
 
 pub taken_more : (a b c : Option (List ℕ)) (old new : List ℕ) (at n : ℕ) → Consumes a b (take at old) → take at new ≡ take at old → Consumes b c (take n (drop at new)) → Consumes a c (take (at + n) new)
 taken_more a b c old new at n p same q =

@@ -1,4 +1,3 @@
-pub mod Sends
 pub mod Written
 pub mod Seeking
 pub mod Slashes

@@ -1,4 +1,3 @@
-pub mod Gauges
 pub mod Answers
 pub mod Routes
 pub mod Requests

@@ -10,7 +10,7 @@ use Rattle.profile.specs.Response.{Method, Route, Response, fault_response, resp
 use Rattle.store.specs.Standing.{Standing, IsUsable, IsUnchanged, IsFault, LeavesEither, OfKept, OfUsable}
 use Rattle.store.specs.Fault.{Fault}
 use Rattle.std.specs.Io.KnownBytes.{Appends}
-use Rattle.intake.specs.Gauges.{Grew, AppendsBeginning}
+use Rattle.gauges.specs.Gauges.{Grew, AppendsBeginning}
 use Rattle.intake.specs.Asking.{asks_in, IsShutAnswer}
 use Rattle.intake.specs.Requests.{HasHead, HasNoHead, IsInput}
 use Rattle.intake.specs.Fields.{head_of}

@@ -5,7 +5,6 @@
 mod audience;
 mod calls;
 mod clerks;
-mod gauge;
 mod heading;
 pub mod laws;
 mod listening;
@@ -18,7 +17,6 @@ mod responding;
 mod response;
 mod routes;
 mod senders;
-mod sending;
 mod served;
 mod serving;
 mod slips;
@@ -30,7 +28,7 @@ pub use folders::{
     FileOutcome, FolderStop, PassedOver, Taken, TakenFolder, WhyPassed, read_first,
     read_interchange, take_folder, take_folder_telling,
 };
-pub use gauge::Gauge;
+pub use gauges::Gauge;
 pub use listening::{serve_count, serve_within};
 pub use looking::owner;
 pub use patience::Patience;

@@ -3,10 +3,10 @@ ghost use Rattle.store.specs.Standing.{GoesOn};
 ghost use Rattle.intake.specs.Connections.{HasTold, IsConnection, IsNotAccepted, IsOutcome, IsServed, IsServedOn};
 
 use crate::audience::Audience;
-use crate::gauge::Gauge;
 use crate::patience::{Patience, Patient, StoppedClock};
 use crate::served::{Connection, Served};
 use crate::serving::serve_telling;
+use gauges::Gauge;
 use std::alloc::Global;
 use std::io::{self, Read};
 use std::net::{Shutdown, SocketAddr, TcpListener, TcpStream};

@@ -2,10 +2,10 @@ ghost use Rattle.std.specs.Prelude.{◌≡◌, ℕ, ◌+◌, ◌<◌, ◌≤◌,
 ghost use Rattle.std.specs.Io.KnownBytes.{Consumes, IsAtEnd};
 ghost use Rattle.fields.specs.Fields.{most_head, most_fields};
 ghost use Rattle.httparse.specs.Spans.{IsRequestWithin, IsRequestOf};
-ghost use Rattle.intake.specs.Gauges.{Grew};
+ghost use Rattle.gauges.specs.Gauges.{Grew};
 ghost use Rattle.intake.specs.Requests.{HasNoHead, IsInput, IsBody, IsFilled};
 
-use crate::gauge::Gauge;
+use gauges::Gauge;
 use httparse::Status;
 use httparse::spans::{HeaderSpan, RequestSpans, parse_request};
 use std::alloc::Global;

@@ -1,12 +1,11 @@
 ghost use Rattle.std.specs.Prelude.{◌≡◌, length, OnOk, OnErr, IfOk, IfErr};
 ghost use Rattle.std.specs.Io.KnownBytes.{Appends};
 ghost use Rattle.profile.specs.Response.{response_bytes};
-ghost use Rattle.intake.specs.Gauges.{Grew, AppendsBeginning, joined};
+ghost use Rattle.gauges.specs.Gauges.{Grew, AppendsBeginning, joined};
 ghost use Rattle.intake.specs.Answers.{type_text, length_text, type_end, allow_text, seen, parts};
 
-use crate::gauge::Gauge;
 use crate::response::{Allow, MediaType, Response};
-use crate::sending::{Unwritten, send_pieces};
+use gauges::{Gauge, Unwritten, send_pieces};
 use itoa::Buffer;
 use std::io::Write;
 

@@ -4,7 +4,7 @@ use Rattle.fields.specs.Fields.{IsValues, values}
 use Rattle.intake.specs.Fields.{head_of, seen_method}
 use Rattle.intake.specs.Targets.{has_body, seen_target, target_of}
 use Rattle.intake.proofs.Asked.{asked_at_head}
-use Rattle.intake.proofs.Sends.{tail_is}
+use Rattle.gauges.proofs.Sends.{tail_is}
 use Rattle.intake.proofs.Answering.{encoded, refused, cut_off, wanting, queried, handed, at_head, from_head}
 use Rattle.intake.proofs.serving.answer.Goals as goal
 

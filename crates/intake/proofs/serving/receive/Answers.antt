@@ -3,7 +3,7 @@ use Rattle.std.proofs.lemmas.Grind.{common_steps}
 use Rattle.std.proofs.lemmas.Result.{IfOk-weaker}
 use Rattle.intake.specs.Answers.{seen}
 use Rattle.fields.specs.Fields.{most_head, most_fields}
-use Rattle.intake.proofs.Sends.{on_err}
+use Rattle.gauges.proofs.Sends.{on_err}
 use Rattle.intake.proofs.Answering.{whole_answer, headless_answer, line_read}
 use Rattle.intake.proofs.serving.receive.Goals as goal
 

@@ -1,9 +1,9 @@
 use Rattle.std.proofs.Common.{List, ℕ, subst, sym, rules, OnOk, IfOk, IfErr, ◌≡◌, ◌≤◌, ◌<◌, ◌^◌, length}
 use Rattle.std.specs.Io.KnownBytes.{Appends}
-use Rattle.intake.specs.Gauges.{AppendsBeginning, joined}
+use Rattle.gauges.specs.Gauges.{AppendsBeginning, joined}
 use Rattle.profile.specs.Response.{response_bytes}
 use Rattle.intake.specs.Answers.{seen, body_bytes}
-use Rattle.intake.specs.declared.sending.Unwritten.{Unwritten}
+use Rattle.gauges.specs.declared.sending.Unwritten.{Unwritten}
 use Rattle.intake.proofs.Written.{bytes_are, parts_short}
 use Rattle.intake.proofs.texts.write_response.Goals as goal
 

@@ -1,13 +1,13 @@
 ghost use Rattle.std.specs.Prelude.{◌≡◌, ◌<◌, ◌^◌, length, OnOk, OnErr, IfOk, IfErr};
 ghost use Rattle.std.specs.Io.KnownBytes.{Appends};
-ghost use Rattle.intake.specs.Gauges.{Grew, AppendsBeginning, joined};
+ghost use Rattle.gauges.specs.Gauges.{Grew, AppendsBeginning, joined};
 
 use crate::gauge::Gauge;
 use std::io::Write;
 
 /// The writer gave an error, or took 0 bytes.
 #[derive(Drop)]
-pub(crate) struct Unwritten {
+pub struct Unwritten {
     /// How many bytes it had taken before.
     pub sent: u64,
 }
@@ -36,10 +36,7 @@ fn send<W: Write>(writer: &mut Gauge<W>, bytes: &[u8]) -> Result<(), Unwritten>
 
 /// Writes these pieces one after the other, or a beginning of them. The result is how many bytes
 /// were written. No call is made again, an interrupted one neither.
-pub(crate) fn send_pieces<W: Write>(
-    writer: &mut Gauge<W>,
-    pieces: &[&[u8]],
-) -> Result<u64, Unwritten>
+pub fn send_pieces<W: Write>(writer: &mut Gauge<W>, pieces: &[&[u8]]) -> Result<u64, Unwritten>
     requires { length (joined pieces.now) < 2 ^ 64 }
 
     ensures whole { OnOk result

@@ -1,7 +1,7 @@
 ghost use Rattle.std.specs.Prelude.{◌≡◌};
 ghost use Rattle.std.specs.Io.{ReadsAtMost, WritesAtMost};
 ghost use Rattle.std.specs.Io.KnownBytes.{Keeps, ReadConsumes, WriteAppends};
-ghost use Rattle.intake.specs.Gauges.{CountsError, CountsWrite};
+ghost use Rattle.gauges.specs.Gauges.{CountsError, CountsWrite};
 
 use std::io::{self, Read, Write};
 
