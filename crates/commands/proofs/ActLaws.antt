@@ -40,7 +40,7 @@ refused_more false = refl
 status_as : (a b : Bool) → a ≡ b → ◌≡◌ {A = ExitStatus} (if a then Refused else Done) (if b then Refused else Done)
 status_as a b e = ap (λ (k : Bool). if k then Refused else Done) e
 
-pub reply_more : (rs : List replies.Reply) (r : replies.Reply) → and_then (listed.status_of rs) (told.status_of r) ≡ listed.status_of (rs ++ r ∷ [])
+pub reply_more : (rs : List replies.Reply) (r : replies.Reply) → and_then (listed.status_of_replies rs) (told.status_of r) ≡ listed.status_of_replies (rs ++ r ∷ [])
 reply_more rs (replies.Accepted text) = done_more (list_any listed.was_refused rs) ∙ status_as _ _ (sym (list_any-append listed.was_refused rs (replies.Accepted text ∷ [])))
 reply_more rs (replies.Stored text) = done_more (list_any listed.was_refused rs) ∙ status_as _ _ (sym (list_any-append listed.was_refused rs (replies.Stored text ∷ [])))
 reply_more rs (replies.Refused why text) = refused_more (list_any listed.was_refused rs) ∙ status_as _ _ (sym (list_any-append listed.was_refused rs (replies.Refused why text ∷ [])))

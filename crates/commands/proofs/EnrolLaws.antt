@@ -14,7 +14,7 @@ use Rattle.store.specs.Standing.{Standing, IsUsable, KeepsLegal, GoesOn, LeavesE
 use Rattle.store.specs.Fault.{Fault}
 use Rattle.commands.proofs.ActLaws.{reply_more}
 use Rattle.commands.proofs.TellingLaws.{appends_nothing}
-use Rattle.commands.specs.Enrolling.{enrolments, status_of, line_of, lines_of, AreEnrolled, AreEnrolledUntil, IsListStopped}
+use Rattle.commands.specs.Enrolling.{enrolments, status_of_replies, line_of, lines_of, AreEnrolled, AreEnrolledUntil, IsListStopped}
 use Rattle.commands.specs.Statuses.{and_then}
 use Rattle.commands.specs.Stops.{IsFaultThat, IsStopped}
 use Rattle.commands.specs.Telling as told
@@ -70,10 +70,10 @@ enrolled_more a b c xs who t out mid later status one p q before said prints goe
       let mid = before.usable early L u in
       let W = a.warehouse in
       ap (λ s. and_then s one) (before.says early L u)
-      ∙ ap (and_then (status_of (replies_on Two W L (enrolments t xs)))) (said clean _ mid.keeps mid.legal)
+      ∙ ap (and_then (status_of_replies (replies_on Two W L (enrolments t xs)))) (said clean _ mid.keeps mid.legal)
       ∙ reply_more (replies_on Two W L (enrolments t xs)) (reply_to Two b.warehouse (accepted_on Two W L (enrolments t xs)) (Enrol who) t)
-      ∙ ap (λ U. status_of (replies_on Two W L (enrolments t xs) ++ reply_to Two U (accepted_on Two W L (enrolments t xs)) (Enrol who) t ∷ [])) p.warehouse
-      ∙ sym (ap status_of (ap (replies_on Two W L) (enrolments_more t xs who) ∙ replies_on-more Two W L (enrolments t xs) (Enrol who, t)));
+      ∙ ap (λ U. status_of_replies (replies_on Two W L (enrolments t xs) ++ reply_to Two U (accepted_on Two W L (enrolments t xs)) (Enrol who) t ∷ [])) p.warehouse
+      ∙ sym (ap status_of_replies (ap (replies_on Two W L) (enrolments_more t xs who) ∙ replies_on-more Two W L (enrolments t xs) (Enrol who, t)));
   printed = λ clean L u.
       let early = clean_before b c q clean in
       let now = before.usable early L u in

@@ -24,8 +24,8 @@ was_refused (replies.Refused r text) = true
 was_refused other = false
 
 -- one that was refused is enough
-abbrev pub status_of : List replies.Reply → ExitStatus
-status_of told = if list_any was_refused told then Refused else Done
+abbrev pub status_of_replies : List replies.Reply → ExitStatus
+status_of_replies told = if list_any was_refused told then Refused else Done
 
 -- the line that is printed of one
 abbrev pub line_of : Who → replies.Reply → List ℕ
@@ -49,7 +49,7 @@ pub record AreEnrolled
   pub keeps : OfKept old new (λ L. KeepsLegal new
       (accepted_on Two old.warehouse L (enrolments t whos)))
   pub says : OfUsable old new
-      (λ L. status ≡ status_of (replies_on Two old.warehouse L (enrolments t whos)))
+      (λ L. status ≡ status_of_replies (replies_on Two old.warehouse L (enrolments t whos)))
   pub printed : OfUsable old new (λ L. Appends before later (lines_of old.warehouse L t whos))
 
 -- these were handed in, and the line of the last couldn't be printed

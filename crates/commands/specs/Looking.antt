@@ -4,7 +4,7 @@ use Rattle.profile.specs.Header.{who_of}
 use Rattle.store.specs.Standing.{Standing}
 use Rattle.intake.specs.Calls.{owner_of}
 use Rattle.commands.specs.Acting.{Ending}
-use Rattle.commands.specs.Readying.{IsChange, IsLeft}
+use Rattle.commands.specs.Readying.{IsChange, IsNothingDone}
 use Rattle.commands.specs.Shown.{IsLookAt, shown_of}
 use Rattle.commands.specs.declared.shows.Asked.{Asked}
 use Rattle.commands.specs.declared.shows.Asked.TheVariants as asks
@@ -45,15 +45,15 @@ pub record IsLookFor
   pub look : IsLook old new asked before later ending
 
 -- a word of them can't be read
-pub record IsUnread
+pub record HasUnreadWord
     (old new : Standing) (s : Show) (before later : Option (List ℕ)) (ending : Ending)
     : Type 0 where
   pub words : is_readable s ≡ false
-  pub left : IsLeft old new before later ending
+  pub left : IsNothingDone old new before later ending
 
 abbrev pub IsView : Standing → Standing → Show → Option (List ℕ) → Option (List ℕ) → Ending → Type 0
 IsView old new s before later ending = IsLookFor old new s before later ending
-    ⊎ IsUnread old new s before later ending
+    ⊎ HasUnreadWord old new s before later ending
 
 -- what a line of a script asks for was done; one that changes and shows nothing leaves the book as
 -- it is
@@ -61,11 +61,11 @@ abbrev pub IsTaskDone : Standing → Standing → Task → Option (List ℕ) →
     → Type 0
 IsTaskDone old new (task.Act a at) before later ending = IsChange old new a at before later ending
 IsTaskDone old new (task.Show s) before later ending = IsView old new s before later ending
-IsTaskDone old new other before later ending = IsLeft old new before later ending
+IsTaskDone old new other before later ending = IsNothingDone old new before later ending
 
 abbrev pub IsLineDone : Standing → Standing → Words → Option (List ℕ) → Option (List ℕ) → Ending
     → Type 0
 IsLineDone old new (words.Over book wait t) before later ending =
     IsTaskDone old new t before later ending
-IsLineDone old new (words.Script file) before later ending = IsLeft old new before later ending
-IsLineDone old new (words.Remote server t) before later ending = IsLeft old new before later ending
+IsLineDone old new (words.Script file) before later ending = IsNothingDone old new before later ending
+IsLineDone old new (words.Remote server t) before later ending = IsNothingDone old new before later ending

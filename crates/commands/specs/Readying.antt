@@ -45,7 +45,7 @@ IsUnready a refusal = ⊥
 
 -- the words or their files were refused, or a fault came first: the book is as before, and nothing
 -- is printed
-pub record IsLeft
+pub record IsNothingDone
     (old new : Standing) (before later : Option (List ℕ)) (ending : Ending) : Type 0 where
   pub same : IsUnchanged old new
   pub printed : Appends before later []
@@ -55,7 +55,7 @@ pub record IsLeft
 pub record IsNotReady
     (old new : Standing) (a : BookAct) (before later : Option (List ℕ)) (ending : Ending)
     : Type 0 where
-  pub left : IsLeft old new before later ending
+  pub left : IsNothingDone old new before later ending
   pub why : OnOk ending ((refusal : Refusal) × IsUnready a refusal)
 
 -- what the words ask for was done, at the moment that the line says, if it says one

@@ -17,7 +17,7 @@ and_then first Done = first
 and_then first next = next
 
 -- the status of what stopped a command
-abbrev pub status_of : CommandError → ExitStatus
-status_of (stops.Usage text) = Usage
-status_of (stops.Fault fault) = Fault
-status_of (stops.Caused fault cause) = Fault
+abbrev pub status_of_stop : CommandError → ExitStatus
+status_of_stop (stops.Usage text) = Usage
+status_of_stop (stops.Fault fault) = Fault
+status_of_stop (stops.Caused fault cause) = Fault

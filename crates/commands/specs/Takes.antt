@@ -3,7 +3,7 @@ use Rattle.std.specs.Prelude.{◌≡◌, ◌⊎◌, ℕ, Bool, true, false, List
 use Rattle.std.specs.Io.KnownBytes.{Appends}
 use Rattle.std.specs.List.{list_any}
 use Rattle.profile.specs.Moments.{Moment}
-use Rattle.folders.specs.Folders.{Became, WasRefused, AreTaken, IsStopped, became_of}
+use Rattle.folders.specs.Folders.{Became, WasRefused, AreTextsTaken, IsStopped, became_of}
 use Rattle.folders.specs.Lines.{taken_line}
 use Rattle.folders.specs.declared.folder.Taken.{Taken}
 use Rattle.folders.specs.declared.passing.PassedOver.{PassedOver}
@@ -24,8 +24,8 @@ was_refused (WasRefused refusal) = true
 was_refused other = false
 
 -- one that was refused is enough
-abbrev pub status_of : List Became → ExitStatus
-status_of told = if list_any was_refused told then Refused else Done
+abbrev pub status_of_files : List Became → ExitStatus
+status_of_files told = if list_any was_refused told then Refused else Done
 
 abbrev pub became_in : Taken → Became
 became_in file = became_of file.outcome
@@ -44,22 +44,22 @@ pub record IsFolderTaken
     : Type 0 where
   pub texts : List (List ℕ)
   pub files : List Taken
-  pub taken : AreTaken old new t texts (map became_in files)
+  pub taken : AreTextsTaken old new t texts (map became_in files)
   pub printed : Appends before later (flat_map line_in files)
   pub passed : List PassedOver
-  pub says : status ≡ (if list_any is_left passed then Refused else status_of (map became_in files))
+  pub says : status ≡ (if list_any is_left passed then Refused else status_of_files (map became_in files))
 
 -- they were taken, and couldn't be told
-pub record IsUntold (old new : Standing) (t : Moment) (stop : CommandError) : Type 0 where
+pub record IsFolderUntold (old new : Standing) (t : Moment) (stop : CommandError) : Type 0 where
   pub texts : List (List ℕ)
   pub told : List Became
-  pub taken : AreTaken old new t texts told
+  pub taken : AreTextsTaken old new t texts told
   pub why : IsDeviceStop stop
 
 -- the folder stopped at a file, or wasn't told
 abbrev pub IsHalted : Standing → Standing → Moment → CommandError → Type 0
 IsHalted old new t stop = IsFaultThat stop (λ fault. IsStopped fault old new t)
-    ⊎ IsUntold old new t stop
+    ⊎ IsFolderUntold old new t stop
 
 -- how taking a folder ended
 abbrev pub IsTaking : Standing → Standing → Moment → Option (List ℕ) → Option (List ℕ)

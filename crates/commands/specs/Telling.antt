@@ -32,23 +32,23 @@ pub record IsPrinted
   pub says : status ≡ status_of reply
 
 -- `refused NUMBER NAME`, and a line feed
-abbrev pub refusal_line : Refusal → List ℕ
-refusal_line r = codes "refused " ++ told_refusal r ++ codes "\n"
+abbrev pub refused_line : Refusal → List ℕ
+refused_line r = codes "refused " ++ told_refusal r ++ codes "\n"
 
 -- what is told of a reply on standard error: a refusal
 abbrev pub said_of : replies.Reply → List ℕ
 said_of (replies.Accepted text) = []
 said_of (replies.Stored text) = []
-said_of (replies.Refused r text) = refusal_line r
+said_of (replies.Refused r text) = refused_line r
 
 -- `fault NUMBER NAME`, and a line feed
-abbrev pub fault_line : Fault → List ℕ
-fault_line f = codes "fault " ++ told_fault f ++ codes "\n"
+abbrev pub faulted_line : Fault → List ℕ
+faulted_line f = codes "fault " ++ told_fault f ++ codes "\n"
 
 -- what is told of what stopped a command: words that can't be read as they are, a fault as a line,
 -- and after it what it is about where that is asked for
 abbrev pub stop_text : Bool → CommandError → List ℕ
 stop_text explains (stops.Usage text) = string_bytes text
-stop_text explains (stops.Fault fault) = fault_line fault
-stop_text explains (stops.Caused fault cause) = fault_line fault ++ (if explains
+stop_text explains (stops.Fault fault) = faulted_line fault
+stop_text explains (stops.Caused fault cause) = faulted_line fault ++ (if explains
     then string_bytes cause ++ codes "\n" else [])

@@ -7,7 +7,7 @@ ghost use Rattle.profile.specs.Means.{Line};
 ghost use Rattle.sheet_texts.specs.Texts.{sheet_of_text};
 ghost use Rattle.store.specs.Standing.{IsUnchanged};
 ghost use Rattle.commands.specs.Reasons as meant;
-ghost use Rattle.commands.specs.Telling.{refusal_line};
+ghost use Rattle.commands.specs.Telling.{refused_line};
 
 use crate::causes::{about_line, at_line};
 use crate::slips::{Slip, clerk, lines_in};
@@ -314,7 +314,7 @@ pub fn tell_unready<R: Files + AllocGlobal, E: io::Write>(
 ) -> Result<ExitStatus, CommandError>
     ensures says { IfOk result (λ status. status ≡ ExitStatus.Refused) }
     ensures quiet { verbosity.explains ≡ false
-        → OnOk result (Appends (E.contents err.old) (E.contents err.new) (refusal_line refusal)) }
+        → OnOk result (Appends (E.contents err.old) (E.contents err.new) (refused_line refusal)) }
 {
     let status = tell_refusal(rt.alloc(), err, refusal)?;
     if verbosity.explains {

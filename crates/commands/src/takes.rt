@@ -16,7 +16,7 @@ use store::{Keeper, Moment};
 
 // The status of a file that was taken.
 fn status_of(outcome: FileOutcome) -> ExitStatus
-    ensures { result ≡ meant.status_of (became_of outcome ∷ []) }
+    ensures { result ≡ meant.status_of_files (became_of outcome ∷ []) }
 {
     match outcome {
         FileOutcome::Refused(_) => ExitStatus::Refused,
@@ -27,7 +27,7 @@ fn status_of(outcome: FileOutcome) -> ExitStatus
 // Prints what became of files.
 fn tell_taken<W: io::Write>(out: &mut W, files: &[Taken]) -> Result<ExitStatus, CommandError>
     ensures status { IfOk result
-        (λ status. status ≡ meant.status_of (map meant.became_in files.now)) }
+        (λ status. status ≡ meant.status_of_files (map meant.became_in files.now)) }
     ensures printed { OnOk result
         (Appends (W.contents out.old) (W.contents out.new) (flat_map meant.line_in files.now)) }
     ensures halted { IfErr result IsDeviceStop }

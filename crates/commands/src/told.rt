@@ -2,7 +2,7 @@ ghost use Rattle.std.specs.Prelude.{◌≡◌, IfErr, IfOk, OnOk};
 ghost use Rattle.std.specs.Io.KnownBytes.{Appends};
 ghost use Rattle.commands.specs.Statuses as meant;
 ghost use Rattle.commands.specs.Stops.{IsDeviceStop};
-ghost use Rattle.commands.specs.Telling.{fault_line, line_of, refusal_line, stop_text};
+ghost use Rattle.commands.specs.Telling.{faulted_line, line_of, refused_line, stop_text};
 
 use command_line::LineFault;
 use std::alloc::{AllocError, Global};
@@ -130,7 +130,7 @@ pub fn tell_refusal<E: io::Write>(
 ) -> Result<ExitStatus, CommandError>
     ensures says { IfOk result (λ status. status ≡ ExitStatus.Refused) }
     ensures printed { OnOk result (Appends (E.contents err.old) (E.contents err.new)
-        (refusal_line refusal)) }
+        (refused_line refusal)) }
     ensures halted { IfErr result IsDeviceStop }
 {
     let number = refusal.number();
@@ -143,7 +143,7 @@ pub fn tell_refusal<E: io::Write>(
 
 // Tells a fault, as `fault 44 Device`.
 fn tell_fault<E: io::Write>(err: &mut E, fault: Fault) -> io::Result<()>
-    ensures { OnOk result (Appends (E.contents err.old) (E.contents err.new) (fault_line fault)) }
+    ensures { OnOk result (Appends (E.contents err.old) (E.contents err.new) (faulted_line fault)) }
 {
     let (number, name) = (fault.number(), fault.name());
     write!(err, "fault {number} {name}\n")
@@ -172,7 +172,7 @@ fn told<E: io::Write>(err: &mut E, stop: &CommandError, explains: bool) -> io::R
 /// about on the next line where that is asked for. Where standard error fails too, the status alone
 /// tells it.
 pub fn tell_stop<E: io::Write>(err: &mut E, stop: &CommandError, explains: bool) -> ExitStatus
-    ensures { result ≡ meant.status_of stop.now }
+    ensures { result ≡ meant.status_of_stop stop.now }
 {
     let status = match stop {
         CommandError::Usage(_) => ExitStatus::Usage,

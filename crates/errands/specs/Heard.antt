@@ -11,7 +11,7 @@ use Rattle.store.specs.Fault.{Fault}
 use Rattle.store.specs.Fault.TheVariants as faults
 use Rattle.intake.specs.declared.audience.Audience.{Audience}
 use Rattle.intake.specs.declared.audience.Audience.TheVariants.{Partners, Clerks}
-use Rattle.commands.specs.Telling.{line_of, refusal_line}
+use Rattle.commands.specs.Telling.{line_of, refused_line}
 use Rattle.commands.specs.Stops.{IsDeviceFault, fault_in}
 use Rattle.commands.specs.declared.told.CommandError.{CommandError}
 use Rattle.commands.specs.declared.told.ExitStatus.{ExitStatus}
@@ -139,5 +139,5 @@ TellsNothing before after status = Appends before after [] × (status ≡ status
 
 -- what is told of an answer on standard error: the line of a refusal
 abbrev pub told_line : HeardAs → List ℕ
-told_line (Refused refusal) = refusal_line refusal
+told_line (Refused refusal) = refused_line refusal
 told_line other = []

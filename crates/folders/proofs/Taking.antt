@@ -15,8 +15,8 @@ use Rattle.store.specs.Fault.{Fault}
 use Rattle.store.specs.Fault.TheVariants.{OutOfMemory, Store, Reopen, NotThisBook, Device}
 use Rattle.store.proofs.Changes.{clean_before, leaves_first, refused_after, unchanged_refl, usable_stays}
 use Rattle.store.proofs.Replies.{accepted_on-more, replies_on-more}
-use Rattle.folders.specs.Folders.{Became, became, handed, IsDeviceFault, AreTaken, IsFolderFault, IsStopped, IsUntaken, became_of}
-use Rattle.folders.specs.Stops.{IsUnread, IsFolderStop}
+use Rattle.folders.specs.Folders.{Became, became, handed, IsDeviceFault, AreTextsTaken, IsFolderFault, IsStopped, IsUntaken, became_of}
+use Rattle.folders.specs.Stops.{IsFolderUnread, IsFolderStop}
 use Rattle.folders.specs.declared.folder.FolderStop.{FolderStop}
 use Rattle.folders.specs.declared.folder.Taken.{Taken}
 
@@ -43,7 +43,7 @@ told_more W L t texts text =
 
 -- Nothing was taken yet.
 
-pub none_taken : (a : Standing) (t : Moment) → AreTaken a a t [] []
+pub none_taken : (a : Standing) (t : Moment) → AreTextsTaken a a t [] []
 none_taken a t = record { told_is = λ clean L u. refl; usable = λ clean L u. u; keeps = λ clean L k legal. record { keeps = k; legal = legal } }
 
 -- One file more.
@@ -55,7 +55,7 @@ last_later a b t texts last L p =
     ap (λ W. after Two W (accepted_on Two a.warehouse L (handed t texts)) (Interchange last, t)) p.warehouse ∙ sym (later_more a.warehouse L t texts last)
 
 pub taken_more : (a b c : Standing) (t : Moment) (texts : List (List ℕ)) (text : List ℕ) (told : List Became) (one : Became) → GoesOn a b → GoesOn b c
-    → AreTaken a b t texts told → AreTaken b c t (text ∷ []) (one ∷ []) → AreTaken a c t (texts ++ text ∷ []) (told ++ one ∷ [])
+    → AreTextsTaken a b t texts told → AreTextsTaken b c t (text ∷ []) (one ∷ []) → AreTextsTaken a c t (texts ++ text ∷ []) (told ++ one ∷ [])
 taken_more a b c t texts text told one p q before file = record {
   told_is = λ clean L u.
       let early = clean_before b c q clean in
@@ -75,7 +75,7 @@ taken_more a b c t texts text told one p q before file = record {
 -- Stops.
 
 pub fault_of_later : (a b c : Standing) (fault : Fault) (t : Moment) (texts : List (List ℕ)) (told : List Became) → GoesOn a b → a.shut ≡ b.shut → GoesOn b c
-    → AreTaken a b t texts told → IsFolderFault fault b c → IsFolderFault fault a c
+    → AreTextsTaken a b t texts told → IsFolderFault fault b c → IsFolderFault fault a c
 fault_of_later a b c fault t texts told p same q before why = record {
   grew = λ was is. refused_after a b c p (why.grew (sym same ∙ was) is);
   store = λ h. refused_after a b c p (why.store h);
@@ -91,7 +91,7 @@ either_usable s M first second last p q (inr u) = inr (subst (IsUsable s) q u)
 
 -- a file at which the folder stops, after those that were taken
 pub stopped_later : (a b c : Standing) (fault : Fault) (t : Moment) (texts : List (List ℕ)) (told : List Became) → GoesOn a b → a.shut ≡ b.shut → GoesOn b c
-    → AreTaken a b t texts told → IsUntaken fault b c t → IsStopped fault a c t
+    → AreTextsTaken a b t texts told → IsUntaken fault b c t → IsStopped fault a c t
 stopped_later a b c fault t texts told p same q before file = record {
   texts = texts;
   last = file.last;
@@ -123,7 +123,7 @@ device_fault fault a b same (inr h) = record {
 
 -- the folder stops between two files
 pub stopped_between : (a b : Standing) (fault : Fault) (t : Moment) (texts : List (List ℕ)) (told : List Became) → GoesOn a b → a.shut ≡ b.shut
-    → AreTaken a b t texts told → IsDeviceFault fault → IsStopped fault a b t
+    → AreTextsTaken a b t texts told → IsDeviceFault fault → IsStopped fault a b t
 stopped_between a b fault t texts told p same before why = record {
   texts = texts;
   last = [];
@@ -136,7 +136,7 @@ stopped_between a b fault t texts told p same before why = record {
 
 -- so many were taken before the file at which the folder stops
 pub counted_later : (stop : FolderStop) (a b c : Standing) (t : Moment) (texts : List (List ℕ)) (told : List Became) → GoesOn a b → a.shut ≡ b.shut → GoesOn b c
-    → AreTaken a b t texts told → IsUntaken stop.fault b c t → stop.taken ≡ length texts → IsFolderStop stop a c t
+    → AreTextsTaken a b t texts told → IsUntaken stop.fault b c t → stop.taken ≡ length texts → IsFolderStop stop a c t
 unfolding stopped_later
 counted_later stop a b c t texts told p same q before file counted = record {
   stopped = stopped_later a b c stop.fault t texts told p same q before file;
@@ -144,7 +144,7 @@ counted_later stop a b c t texts told p same q before file counted = record {
 }
 
 -- none was taken of a folder that can't be read
-pub none_counted : (stop : FolderStop) (a : Standing) (t : Moment) → IsUnread stop → IsFolderStop stop a a t
+pub none_counted : (stop : FolderStop) (a : Standing) (t : Moment) → IsFolderUnread stop → IsFolderStop stop a a t
 unfolding stopped_between
 none_counted stop a t is = record {
   stopped = stopped_between a a stop.fault t [] [] (unchanged_refl a).goes refl (none_taken a t) is.why;
@@ -157,7 +157,7 @@ none_counted stop a t is = record {
 pub file_taken : (a b : Standing) (t : Moment) (text : List ℕ) (reply : replies.Reply) (told : Became) → told ≡ became reply
     → OfUsable a b (λ L. reply ≡ reply_to Two a.warehouse L (Interchange text) t)
     → OfUsable a b (λ L. IsUsable b (after Two a.warehouse L (Interchange text, t)))
-    → OfKept a b (λ L. KeepsLegal b (after Two a.warehouse L (Interchange text, t))) → AreTaken a b t (text ∷ []) (told ∷ [])
+    → OfKept a b (λ L. KeepsLegal b (after Two a.warehouse L (Interchange text, t))) → AreTextsTaken a b t (text ∷ []) (told ∷ [])
 file_taken a b t text reply told is said goes keeps = record {
   told_is = λ clean L u. ap (λ (x : Became). x ∷ []) (is ∙ ap became (said clean L u));
   usable = goes;

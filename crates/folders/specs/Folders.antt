@@ -45,7 +45,7 @@ IsDeviceFault fault = (fault ≡ OutOfMemory) ⊎ (fault ≡ Device)
 
 -- The texts were handed in one after the other: this became of them, and the register is the one
 -- after them.
-pub record AreTaken
+pub record AreTextsTaken
     (old new : Standing) (t : Moment) (texts : List (List ℕ)) (told : List Became) : Type 0 where
   pub told_is : OfUsable old new
       (λ L. told ≡ map became (replies_on Two old.warehouse L (handed t texts)))
@@ -57,7 +57,7 @@ pub record AreTaken
 -- a text was handed in, and this became of it
 abbrev pub IsFileTaken : Standing → Standing → Moment → FileOutcome → Type 0
 IsFileTaken old new t outcome = (text : List ℕ)
-    × AreTaken old new t (text ∷ []) (became_of outcome ∷ [])
+    × AreTextsTaken old new t (text ∷ []) (became_of outcome ∷ [])
 
 -- The texts were handed in, and one more perhaps. The register is the one after those, or after
 -- that one too; a crash leaves one of the two, also where the book has to be opened again.

@@ -6,7 +6,7 @@ use Rattle.folders.specs.Folders.{IsDeviceFault, IsStopped}
 use Rattle.folders.specs.declared.folder.FolderStop.{FolderStop}
 
 -- The folder couldn't be read, and nothing of it was handed in.
-pub record IsUnread (stop : FolderStop) : Type 0 where
+pub record IsFolderUnread (stop : FolderStop) : Type 0 where
   pub why : IsDeviceFault stop.fault
   pub nowhere : stop.at ≡ None
   pub none_taken : stop.taken ≡ 0

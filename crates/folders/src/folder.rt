@@ -1,7 +1,7 @@
 ghost use Rattle.std.specs.Prelude.{◌≡◌, ◌<◌, ◌++◌, ℕ, List, false, map, IfOk, IfErr, IfNone, OnOk, IsSorted, codes, string_bytes, vec_len, vec_capacity};
 ghost use Rattle.std.specs.IoError.{error_kind};
-ghost use Rattle.folders.specs.Folders.{became, became_of, fault_of_kind, IsDeviceFault, AreTaken, IsFileTaken, IsUntaken, IsStopped};
-ghost use Rattle.folders.specs.Stops.{IsUnread, IsFolderStop};
+ghost use Rattle.folders.specs.Folders.{became, became_of, fault_of_kind, IsDeviceFault, AreTextsTaken, IsFileTaken, IsUntaken, IsStopped};
+ghost use Rattle.folders.specs.Stops.{IsFolderUnread, IsFolderStop};
 ghost use Rattle.store.specs.Runs.{told};
 ghost use Rattle.store.specs.Standing.{GoesOn, IsUnchanged};
 
@@ -127,7 +127,7 @@ fn listing_of<R: Files + AllocGlobal + Clone + Drop>(
     dir: &str,
 ) -> Result<Listing, FolderStop>
     ensures sorted { IfOk result (λ listing. IsSorted ⟦<String as Ord>⟧.cmp listing.names.items) }
-    ensures unread { IfErr result IsUnread }
+    ensures unread { IfErr result IsFolderUnread }
 {
     match listed(rt, dir) {
         Ok(listing) => Ok(listing),
@@ -194,7 +194,7 @@ pub fn take_folder_telling<R: Files + AllocGlobal + Clone + Drop, K: Keeper, T: 
 
     ensures taken { IfOk result
         (λ folder. (texts : List (List ℕ))
-        × AreTaken (K.standing keeper.old) (K.standing keeper.new) moment texts (map
+        × AreTextsTaken (K.standing keeper.old) (K.standing keeper.new) moment texts (map
         (λ file. became_of file.outcome) folder.files.items)) }
     ensures rising { IfOk result
         (λ folder. IsSorted ⟦<String as Ord>⟧.cmp (map (λ file. file.name) folder.files.items)) }
@@ -234,7 +234,7 @@ pub fn take_folder<R: Files + AllocGlobal + Clone + Drop, K: Keeper>(
 ) -> Result<Vec<Taken>, Fault>
     ensures taken { IfOk result
         (λ files. (texts : List (List ℕ))
-        × AreTaken (K.standing keeper.old) (K.standing keeper.new) moment texts (map
+        × AreTextsTaken (K.standing keeper.old) (K.standing keeper.new) moment texts (map
         (λ file. became_of file.outcome) files.items)) }
     ensures rising { IfOk result
         (λ files. IsSorted ⟦<String as Ord>⟧.cmp (map (λ file. file.name) files.items)) }

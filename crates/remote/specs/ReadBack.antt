@@ -25,8 +25,8 @@ abbrev pub IsVisible : List ℕ → Type 0
 IsVisible text = (0 < length text) × AllPass is_uri_byte text
 
 -- the values of the fields of a name in a head
-abbrev pub told : List ℕ → RequestHead → List (List ℕ)
-told name h = values name (map name_and_value h.fields)
+abbrev pub named : List ℕ → RequestHead → List (List ℕ)
+named name h = values name (map name_and_value h.fields)
 
 -- a server reads the request as it is meant: its method, its path, its host, and its body with the
 -- length of it
@@ -35,6 +35,6 @@ pub record IsReadBack (verb : Verb) (path host body : List ℕ) : Type 0 where
   pub reads : ReadsRequest (request_bytes verb path host body) head (handed_in verb body)
   pub method : head.method ≡ method_name verb
   pub target : head.target ≡ path
-  pub hosts : told (codes "Host") head ≡ host ∷ []
-  pub sizes : told (codes "Content-Length") head ≡ lengths verb body
-  pub in_chunks : told (codes "Transfer-Encoding") head ≡ []
+  pub hosts : named (codes "Host") head ≡ host ∷ []
+  pub sizes : named (codes "Content-Length") head ≡ lengths verb body
+  pub in_chunks : named (codes "Transfer-Encoding") head ≡ []

@@ -1,6 +1,6 @@
 use Rattle.std.proofs.Common.{rules, of_calls, ◌≡◌, ◌∙◌, ◌∷◌, ◌++◌, [], refl, sym, subst, ap, map, length, List}
 use Rattle.store.proofs.Changes.{goes_trans, unchanged_refl}
-use Rattle.folders.specs.Folders.{Became, became_of, AreTaken}
+use Rattle.folders.specs.Folders.{Became, became_of, AreTextsTaken}
 use Rattle.folders.specs.Stops.{IsFolderStop}
 use Rattle.folders.proofs.Taking.{none_taken, taken_more, counted_later, none_counted, handed_on, taken_kept, one_more, still_rising, none_left}
 use Rattle.folders.specs.declared.folder.FolderStop.{FolderStop}
@@ -23,7 +23,7 @@ loop-name-init g c =
       goes = (unchanged_refl at).goes;
       shut = refl;
       texts = [];
-      taken = subst (λ items. AreTaken at at c.args.moment [] (map (λ file. became_of file.outcome) items)) (sym c.new-files.ensures.items) (none_taken at c.args.moment);
+      taken = subst (λ items. AreTextsTaken at at c.args.moment [] (map (λ file. became_of file.outcome) items)) (sym c.new-files.ensures.items) (none_taken at c.args.moment);
       counted = ap length c.new-files.ensures.items;
       rising = subst (λ (files : List Taken). IsSorted string_cmp (map (λ file. file.name) files ++ into_iter_items c.into_iter-name-iterator.result)) (sym c.new-files.ensures.items)
           (subst (IsSorted string_cmp) (sym c.into_iter-name-iterator.ensures.into_iter_gives.0) c.in_ok-names.ensures.sorted);
@@ -52,7 +52,7 @@ loop-name-preserved g c =
       goes = goes_trans old now new i.goes c.take_named.ensures.goes;
       shut = i.shut ∙ c.in-Ok.ensures.opened;
       texts = i.texts ++ file.0 ∷ [];
-      taken = subst (λ (told : List Became). AreTaken old new c.args.moment (i.texts ++ file.0 ∷ []) told)
+      taken = subst (λ (told : List Became). AreTextsTaken old new c.args.moment (i.texts ++ file.0 ∷ []) told)
           (taken_kept c.loop-name.files.items c.take_named.new.files.items c.push.new.self.items _ c.take_named.ensures.kept grown)
           (taken_more old now new c.args.moment i.texts file.0 _ _ i.goes c.take_named.ensures.goes i.taken file.1);
       counted = one_more c.loop-name.files.items c.take_named.new.files.items c.push.new.self.items _ i.texts file.0 c.take_named.ensures.kept grown i.counted;

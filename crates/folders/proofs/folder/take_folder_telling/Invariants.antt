@@ -3,7 +3,7 @@ use Rattle.std.specs.Prelude.{IsSorted}
 use Rattle.std.specs.String.{string_cmp}
 use Rattle.std.specs.Vec.Iter.{into_iter_items}
 use Rattle.store.specs.Standing.{GoesOn}
-use Rattle.folders.specs.Folders.{became_of, AreTaken}
+use Rattle.folders.specs.Folders.{became_of, AreTextsTaken}
 use Rattle.folders.proofs.folder.take_folder_telling.Given as goal
 
 abbrev pub invariant-loop-name : goal.invariant-loop-name
@@ -14,7 +14,7 @@ invariant-loop-name g l =
       goes : GoesOn old now;
       shut : old.shut ≡ now.shut;
       texts : List (List ℕ);
-      taken : AreTaken old now l.fn.moment texts (map (λ file. became_of file.outcome) l.files.items);
+      taken : AreTextsTaken old now l.fn.moment texts (map (λ file. became_of file.outcome) l.files.items);
       counted : length l.files.items ≡ length texts;
       rising : IsSorted string_cmp (map (λ file. file.name) l.files.items ++ into_iter_items l.name-iterator);
       told : goal.T-IsAlwaysCallable g l.told;
