@@ -2,3 +2,4 @@ pub mod Parsing
 pub mod LineLaws
 pub mod MomentLaws
 mod RowsNumbers
+mod RosterLaws

@@ -1,3 +1,4 @@
 pub mod Written
 pub mod Lines
 pub mod Parsers
+pub mod Rosters

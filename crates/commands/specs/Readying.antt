@@ -8,7 +8,7 @@ use Rattle.store.specs.Refusal.TheVariants.{BadText}
 use Rattle.store.specs.Standing.{Standing, IsUnchanged}
 use Rattle.commands.specs.Acting.{Ending, IsPerformed}
 use Rattle.commands.specs.Clerks.{IsNoSlip, IsSlipOf}
-use Rattle.rosters.specs.Rosters.{IsRead}
+use Rattle.command_line.specs.Rosters.{IsRead}
 use Rattle.commands.specs.declared.files.TheConstants.{MOST_ROSTER}
 use Rattle.commands.specs.declared.acts.Ready.{Ready}
 use Rattle.commands.specs.declared.acts.Ready.TheVariants as ready

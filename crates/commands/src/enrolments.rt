@@ -11,11 +11,11 @@ ghost use Rattle.commands.specs.Enrolling.{AreEnrolled, AreEnrolledUntil, line_o
 ghost use Rattle.commands.specs.Readying.{IsNoRoster};
 ghost use Rattle.commands.specs.Stops.{IsDeviceStop, IsStopped};
 ghost use Rattle.commands.specs.Telling.{status_of};
-ghost use Rattle.rosters.specs.Rosters as meant;
+ghost use Rattle.command_line.specs.Rosters as meant;
 
 use crate::files::{MOST_ROSTER, read_within};
 use crate::told::{CommandError, ExitStatus};
-use rosters::depositors;
+use command_line::depositors;
 use std::alloc::Global;
 use std::io;
 use std::rt::Files;

@@ -2,7 +2,7 @@
 use Rattle.std.proofs.Common.{◌≡◌, List, [], ◌∷◌, ◌++◌, Option, Some, None, option_map, refl, sym, ap, ◌∙◌, append_assoc, unwrap_or}
 use Rattle.toml.specs.Data.{Data, Items, item, string, integer, float, boolean, datetime, array, table, as_array}
 use Rattle.profile.specs.Header.{Who}
-use Rattle.rosters.specs.Rosters.{partner_in, partners_in, led_by, listed}
+use Rattle.command_line.specs.Rosters.{partner_in, partners_in, led_by, listed}
 
 -- nothing is found in front
 pub none_before : (found : Option (List Who)) → found ≡ option_map (λ ws. [] ++ ws) found

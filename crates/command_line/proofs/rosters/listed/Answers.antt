@@ -2,9 +2,9 @@ use Rattle.std.proofs.Common.{ap, ◌∙◌, codes}
 use Rattle.std.proofs.lemmas.Result.{IfOk-weaker}
 use Rattle.toml.specs.View.{items_view, array_view, view}
 use Rattle.toml.proofs.Views.{table_get}
-use Rattle.rosters.specs.Rosters as meant
-use Rattle.rosters.proofs.RosterLaws.{array_listed, other_listed}
-use Rattle.rosters.proofs.reading.listed.Goals as goal
+use Rattle.command_line.specs.Rosters as meant
+use Rattle.command_line.proofs.RosterLaws.{array_listed, other_listed}
+use Rattle.command_line.proofs.rosters.listed.Goals as goal
 
 pub returns-in_default : goal.returns-in_default
 returns-in_default c =

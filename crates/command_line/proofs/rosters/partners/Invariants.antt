@@ -1,7 +1,7 @@
 use Rattle.std.proofs.Common.{◌≡◌, ◌++◌, drop, option_map}
 use Rattle.toml.specs.View.{items_view}
-use Rattle.rosters.specs.Rosters as meant
-use Rattle.rosters.proofs.reading.partners.Given as goal
+use Rattle.command_line.specs.Rosters as meant
+use Rattle.command_line.proofs.rosters.partners.Given as goal
 
 abbrev pub invariant-loop-value : goal.invariant-loop-value
 invariant-loop-value l = record {

@@ -1,7 +1,8 @@
+//! Lists of depositors, as they are written in TOML.
 ghost use Rattle.std.specs.Prelude.{◌≡◌, IfOk, option_map, codes};
 ghost use Rattle.toml.specs.Data.{get_member};
 ghost use Rattle.toml.specs.View.{items_view, table_view, view};
-ghost use Rattle.rosters.specs.Rosters as meant;
+ghost use Rattle.command_line.specs.Rosters as meant;
 
 use segments::Who;
 use std::alloc::{AllocError, Global};
