@@ -1,12 +1,13 @@
 //! Numbers as the words of a line write them.
-ghost use Rattle.std.specs.Prelude.{◌≡◌, ◌<◌, ◌≤◌, IfSome};
+ghost use Rattle.std.specs.Prelude.{◌≡◌, ◌≤◌, IfSome};
+ghost use Rattle.profile.specs.Limits.{most_entries};
 ghost use Rattle.command_line.specs.Written as written;
 
 use profile::MOST_ENTRIES;
 use segments::{all_digits, value_up_to};
 
-/// How far digits are read: no entry's number, no quantity and no count of connections reaches it.
-pub(crate) const MILLION: u64 = 1_000_000;
+// How far digits are read: no entry's number, no quantity and no count of connections reaches it.
+const PAST_ENTRIES: u64 = MOST_ENTRIES as u64 + 1;
 
 /// The most connections that a server may be told to serve, and the most seconds that something may
 /// be told to wait.
@@ -15,12 +16,12 @@ pub(crate) const MOST_CONNECTIONS: u32 = 65_535;
 // The number from 1 to a limit that the text writes: digits alone, with zeros in front or without;
 // None where it is another text.
 fn number_to(most: u32, text: &[u8]) -> Option<u32>
-    requires { most < 1000000 }
+    requires { most ≤ most_entries }
 
     ensures number { result ≡ written.number_to most text.now }
     ensures within { IfSome result (λ number. number ≤ most) }
 {
-    let number = value_up_to(text, MILLION);
+    let number = value_up_to(text, PAST_ENTRIES);
     if all_digits(text) && number >= 1 && number <= u64::from(most) {
         Some(number as u32)
     } else {
@@ -44,7 +45,7 @@ pub fn count_of(text: &[u8]) -> Option<u16>
 pub fn wait_of(text: &[u8]) -> Option<u16>
     ensures { result ≡ written.wait_of text.now }
 {
-    let number = value_up_to(text, MILLION);
+    let number = value_up_to(text, PAST_ENTRIES);
     if !text.is_empty() && all_digits(text) && number <= u64::from(MOST_CONNECTIONS) {
         Some(number as u16)
     } else {

@@ -5,13 +5,14 @@ ghost use Rattle.commands.specs.Readying.{IsLonger};
 use crate::causes::about_file;
 use crate::told::CommandError;
 use intake::read_first;
+use profile::MOST_BYTES;
 use std::rt::Files;
 
-/// The most bytes of a sheet: its 999 lines need fewer than 65,536.
-pub const MOST_SHEET: u32 = 1_048_576;
+/// The most bytes of a sheet, as of an interchange: its 999 lines need fewer than 65,536.
+pub const MOST_SHEET: u32 = MOST_BYTES as u32;
 
-/// The most bytes of a list of depositors.
-pub const MOST_ROSTER: u32 = 1_048_576;
+/// The most bytes of a list of depositors, as of an interchange.
+pub const MOST_ROSTER: u32 = MOST_BYTES as u32;
 
 /// The most bytes of a script.
 pub const MOST_SCRIPT: u32 = 16_777_216;

@@ -20,19 +20,6 @@ pub(crate) fn all_spaces(text: &[u8]) -> bool
     text.iter().all(|b| *b == b' ')
 }
 
-fn is_alphanumeric(b: u8) -> bool
-    ensures { result ≡ meant.is_alphanumeric b }
-{
-    matches!(b, b'A'..=b'Z' | b'0'..=b'9')
-}
-
-// Whether each byte is one of A to Z and 0 to 9.
-pub(crate) fn all_alphanumeric(text: &[u8]) -> bool
-    ensures { result ≡ list_all meant.is_alphanumeric text.now }
-{
-    text.iter().all(|b| is_alphanumeric(*b))
-}
-
 // Whether the digits are of this value.
 pub(crate) fn has_value(text: &[u8], n: usize) -> bool
     requires { n < 10 ^ 18 }

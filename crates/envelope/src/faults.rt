@@ -1,4 +1,4 @@
-ghost use Rattle.std.specs.Prelude.{◌≡◌, ℕ, List, ◌<◌, ◌≤◌, ◌^◌, ◌&&◌, ◌==◌, not, length, codes, bytes_eq, is_none, find, option_to_list, IfOk};
+ghost use Rattle.std.specs.Prelude.{◌≡◌, ℕ, List, ◌<◌, ◌&&◌, not, codes, bytes_eq, is_none, find, option_to_list, IfOk};
 ghost use Rattle.std.specs.List.{list_any};
 ghost use Rattle.profile.specs.Bytes.{is_one_of};
 ghost use Rattle.profile.specs.Cut as cuts;

@@ -1,5 +1,4 @@
-ghost use Rattle.std.specs.Prelude.{◌≡◌, ◌++◌, ◌==◌, ◌≤◌, length, codes, is_none, not, [], ◌∷◌};
-ghost use Rattle.std.specs.List.{list_all};
+ghost use Rattle.std.specs.Prelude.{◌≡◌, ◌++◌, length, codes, is_none, [], ◌∷◌};
 ghost use Rattle.profile.specs.Bytes.{is_one_of};
 ghost use Rattle.profile.specs.Moments as moments;
 ghost use Rattle.profile.specs.Halt.{header_notes};
@@ -7,24 +6,13 @@ ghost use Rattle.envelope.specs.Conditions as meant;
 
 use crate::bytes::{all_spaces, same};
 use crate::header::Isa;
-use elements::{ElementRow, Kind, element_fault};
 use profile::{DATE_DIGITS, LEAST_TIME};
-use segments::{Delims, Who};
+use segments::{Delims, ElementRow, Kind, Who, element_fault, must};
 
 // ISA09 after the century, and ISA10: the rows that tell a date and a time of day.
-const DATE: ElementRow = ElementRow {
-    is_mandatory: true,
-    kind: Kind::Date,
-    least: DATE_DIGITS,
-    most: DATE_DIGITS,
-};
+const DATE: ElementRow = must!(Kind::Date, DATE_DIGITS, DATE_DIGITS);
 
-const CLOCK: ElementRow = ElementRow {
-    is_mandatory: true,
-    kind: Kind::Time,
-    least: LEAST_TIME,
-    most: LEAST_TIME,
-};
+const CLOCK: ElementRow = must!(Kind::Time, LEAST_TIME, LEAST_TIME);
 
 // Whether the six digits are a date of the years 2000 to 2099.
 #[tactic(auto, using(crate::proofs::Moments::no_date_fault))]

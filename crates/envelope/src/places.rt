@@ -1,4 +1,4 @@
-ghost use Rattle.std.specs.Prelude.{◌≡◌, codes, length, []};
+ghost use Rattle.std.specs.Prelude.{◌≡◌, codes, []};
 ghost use Rattle.std.specs.List.{after_first, list_all};
 ghost use Rattle.profile.specs.Lists.{parted};
 ghost use Rattle.profile.specs.Cut.{has_id, segments_of};

@@ -8,8 +8,7 @@ ghost use Rattle.envelope.specs.Parts.{marked};
 
 use crate::bytes::{has_value, same};
 use crate::looking::{count, has, last_element};
-use elements::is_well_formed;
-use segments::{Delims, Segment};
+use segments::{Delims, Segment, is_well_formed};
 
 // Whether each IEA among the pieces is well formed.
 fn are_trailers(delims: &Delims, segments: &[Segment<'_>]) -> bool

@@ -1,10 +1,9 @@
 //! What an answer of a server comes to.
-ghost use Rattle.std.specs.Prelude.{◌≡◌, ◌==◌, option_copied, slice_get};
-ghost use Rattle.std.specs.List.{slice_split};
+ghost use Rattle.std.specs.Prelude.{◌≡◌};
 ghost use Rattle.errands.specs.Heard as meant;
 
 use intake::Audience;
-use segments::{all_digits, value_up_to};
+use segments::{all_digits, part, value_up_to};
 use store::{Fault, Refusal};
 
 /// What an answer of a server comes to.
@@ -16,13 +15,6 @@ pub enum HeardAs {
     Refused(Refusal),
     /// It couldn't be done. Device (44) also stands for an answer that no such server gives.
     Stopped(Fault),
-}
-
-// The part at a place between the separators.
-fn part(text: &[u8], separator: u8, n: usize) -> Option<&[u8]>
-    ensures { option_copied result ≡ slice_get (slice_split (λ b. b == separator) text.now) n }
-{
-    text.split(|b| *b == separator).nth(n)
 }
 
 /// Greater than any status, and than the number of any refusal, note or fault.

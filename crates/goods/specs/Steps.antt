@@ -15,7 +15,7 @@ abbrev pub opened : Advice → PageAdvice
 opened a = record { shipment = a.shipment; order = a.order; lines = advised a; is_open = true }
 
 -- one event more in the same entry
-pub record IsNext (old new : PageFacts) : Type 0 where
+pub record FollowsOn (old new : PageFacts) : Type 0 where
   pub entries : new.entries ≡ old.entries
   pub recent : new.recent ≡ old.recent + 1
 
@@ -24,7 +24,7 @@ pub record IsAnnounced (a : Advice) (old new : PageFacts) : Type 0 where
   pub advices : new.advices ≡ put_advice (opened a) old.advices
   pub orders : new.orders ≡ old.orders
   pub documents : new.documents ≡ old.documents
-  pub next : IsNext old new
+  pub next : FollowsOn old new
 
 -- an advice that is closed, and an order
 abbrev pub closed_advice : PageAdvice → PageAdvice
@@ -57,7 +57,7 @@ pub record IsReceived
   pub advices : new.advices ≡ put_advice (closed_advice k) old.advices
   pub orders : new.orders ≡ old.orders
   pub documents : new.documents ≡ with_sent n (codes "RE") old.documents
-  pub next : IsNext old new
+  pub next : FollowsOn old new
 
 -- an order that is opened, with its shares
 abbrev pub opened_order : Order → List Line → PageOrder
@@ -75,7 +75,7 @@ pub record IsReserved (o : Order) (shares : List Line) (old new : PageFacts) : T
   pub advices : new.advices ≡ old.advices
   pub orders : new.orders ≡ put_order (opened_order o shares) old.orders
   pub documents : new.documents ≡ old.documents
-  pub next : IsNext old new
+  pub next : FollowsOn old new
 
 -- whether a line exceeds what is reserved of its pair
 abbrev pub exceeds : List Line → Line → Bool
@@ -88,7 +88,7 @@ pub record IsPicked (n : ℕ) (k : PageOrder) (sheet : List Line) (old new : Pag
   pub advices : new.advices ≡ old.advices
   pub orders : new.orders ≡ put_order (closed_order k) old.orders
   pub documents : new.documents ≡ with_sent n (codes "SW") old.documents
-  pub next : IsNext old new
+  pub next : FollowsOn old new
 
 -- whether no count named the pair of a line, whether it is below what is reserved, and whether it
 -- is what is on hand
@@ -107,7 +107,7 @@ pub record IsRecounted (n : ℕ) (sheet : List Line) (old new : PageFacts) : Typ
   pub advices : new.advices ≡ old.advices
   pub orders : new.orders ≡ old.orders
   pub documents : new.documents ≡ with_sent n (codes "AW") old.documents
-  pub next : IsNext old new
+  pub next : FollowsOn old new
 
 -- an acknowledgment decides a document of an earlier entry that it names, unless one before it did
 abbrev pub decides : ℕ → Acknowledgment → PageDocument → Bool
@@ -126,4 +126,4 @@ pub record IsAcknowledged (a : Acknowledgment) (old new : PageFacts) : Type 0 wh
   pub documents : (n : ℕ)
       → document_at n new.documents ≡ option_map (heard old.entries a) (document_at n old.documents)
   pub sorted : rises_by nat_lt entry_of new.documents ≡ true
-  pub next : IsNext old new
+  pub next : FollowsOn old new

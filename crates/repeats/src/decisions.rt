@@ -1,4 +1,5 @@
-//! What a command comes to.
+//! What a command comes to: the text of a repeat, a refusal, or an entry with what it changes and
+//! sends. The entry of an enrolment stands here too, since nothing decides on one.
 ghost use Rattle.std.specs.Prelude.{◌≡◌, IfOk};
 ghost use Rattle.profile.specs.Reply.{enrolment_entry};
 ghost use Rattle.repeats.specs.Written.{written_as};

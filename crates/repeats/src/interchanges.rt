@@ -1,4 +1,5 @@
-//! The refusals of an interchange, what a repeat of one comes to, and its entry.
+//! The refusal of an interchange by a note, what a repeat of one comes to, and its entry. A repeat
+//! is known by its control number, and is one only where its bytes are the same.
 ghost use Rattle.std.specs.Prelude.{◌≡◌, ℕ, IfOk};
 ghost use Rattle.profile.specs.declared.rules.Rules.{Rules};
 ghost use Rattle.profile.specs.Header.{isa as meant_isa};

@@ -7,7 +7,7 @@ use Rattle.csv.specs.declared.writer.Writer.{Writer}
 use Rattle.csv.specs.declared.writer.WriterBuilder.{WriterBuilder}
 use Rattle.csv.specs.declared.writer.QuoteStyle.TheVariants as style
 use Rattle.profile.specs.Reports.{csv_record}
-use Rattle.reports.specs.Exports.{Holds}
+use Rattle.reports.specs.Exports.{HoldsText}
 
 abbrev quotes_nothing : WriterBuilder
 quotes_nothing = with_style default_writer style.Never
@@ -38,11 +38,11 @@ appended (Some xs) (Some ys) text more h g = ap Some (g ∙ ap (λ (zs : List �
     some_same xs ys e = cc
 
 -- after a record of several fields the writer holds it too
-pub holds_more : (old new : Writer (Vec ℕ Global)) (text a b : List ℕ) (rest : List (List ℕ)) → Holds old text
+pub holds_more : (old new : Writer (Vec ℕ Global)) (text a b : List ℕ) (rest : List (List ℕ)) → HoldsText old text
     → (fields_written old ≡ 0 → has_written old ≡ false → (writer_setup old).style ≢ style.NonNumeric
     → Appends (text_written contents old) (text_written contents new) (row_text (writer_setup old) (a ∷ b ∷ rest)))
     → fields_written new ≡ 0 → has_written new ≡ false → writer_setup new ≡ writer_setup old
-    → Holds new (text ++ csv_record (a ∷ b ∷ rest))
+    → HoldsText new (text ++ csv_record (a ∷ b ∷ rest))
 holds_more old new text a b rest h bytes ended clean setup =
     let plain : (writer_setup old).style ≢ style.NonNumeric = rw h.setup (λ e. cc e) in
     let row : row_text (writer_setup old) (a ∷ b ∷ rest) ≡ csv_record (a ∷ b ∷ rest) = ap (λ c. row_text c (a ∷ b ∷ rest)) h.setup ∙ record_text a b rest in

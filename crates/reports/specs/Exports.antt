@@ -13,7 +13,7 @@ abbrev pub stock_text : Bool → List StockRow → List ℕ
 stock_text is_csv rows = if is_csv then stock_csv Two rows else stock_report Two rows
 
 -- it has written this text, ends a record, and quotes nothing
-pub record Holds (w : Writer (Vec ℕ Global)) (text : List ℕ) : Type 0 where
+pub record HoldsText (w : Writer (Vec ℕ Global)) (text : List ℕ) : Type 0 where
   pub setup : writer_setup w ≡ with_style default_writer style.Never
   pub written : text_written (λ (v : Vec ℕ Global). Some v.items) w ≡ Some text
   pub fields : fields_written w ≡ 0

@@ -1,7 +1,7 @@
 ghost use Rattle.std.specs.Prelude.{◌≡◌, ◌++◌, [], List, ℕ, IfOk, OnOk};
 ghost use Rattle.profile.specs.declared.rules.Rules.TheVariants.{Two};
 ghost use Rattle.profile.specs.Reports as meant;
-ghost use Rattle.reports.specs.Exports.{Holds, stock_text as meant_text};
+ghost use Rattle.reports.specs.Exports.{HoldsText, stock_text as meant_text};
 
 use crate::balances::stock_report;
 use crate::dates::expiry_text;
@@ -12,8 +12,8 @@ use store::StockRow;
 
 // Writes the record of a row.
 fn write_row(writer: &mut Writer<Vec<u8>>, row: &StockRow) -> Result<(), Error>
-    ensures { OnOk result ((text : List ℕ) → Holds writer.old text
-        → Holds writer.new (text ++ meant.stock_record Two row.now)) }
+    ensures { OnOk result ((text : List ℕ) → HoldsText writer.old text
+        → HoldsText writer.new (text ++ meant.stock_record Two row.now)) }
 {
     let mut expected = Buffer::new();
     let mut on_hand = Buffer::new();
@@ -33,9 +33,9 @@ fn write_row(writer: &mut Writer<Vec<u8>>, row: &StockRow) -> Result<(), Error>
 
 // Writes the record of headings and those of the rows.
 fn write_rows(writer: &mut Writer<Vec<u8>>, rows: &[StockRow]) -> Result<(), Error>
-    requires { Holds writer.old [] }
+    requires { HoldsText writer.old [] }
 
-    ensures { OnOk result (Holds writer.new (meant.stock_csv Two rows.now)) }
+    ensures { OnOk result (HoldsText writer.new (meant.stock_csv Two rows.now)) }
 {
     writer.write_fields(&[
         b"item",

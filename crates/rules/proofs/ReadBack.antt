@@ -30,7 +30,7 @@ use Rattle.stock.proofs.Sums.{own_pair}
 use Rattle.profile.specs.declared.sheet_kind.SheetKind.TheVariants.{Count as CountSheet, Pick as PickSheet, Recount as RecountSheet}
 use Rattle.profile.specs.declared.sheet_kind.SheetKind.{SheetKind}
 use Rattle.rules.specs.ReadActs.{by_kind}
-use Rattle.rules.specs.Likely.{Head, named_head, head_in, record_in, with_sheet, act_from, act_among, likely_act}
+use Rattle.rules.specs.Likely.{ActHead, named_head, head_in, record_in, with_sheet, act_from, act_among, likely_act}
 
 -- ---- lines
 
@@ -241,7 +241,7 @@ in_head : (b : ℕ) → is_identifier_byte b ≡ true → is_head_byte b ≡ tru
 in_head b h = ap (λ t. t || (b == 32 || is_between 97 122 b)) h
 
 -- a head and a sheet, from their text
-headed : (r : Rules) (head : List ℕ) (h : Head) (sheet : List Line) → head_in (parts_at 32 head) ≡ Some h → list_all is_head_byte head ≡ true → is_sheet r h.kind sheet ≡ true
+headed : (r : Rules) (head : List ℕ) (h : ActHead) (sheet : List Line) → head_in (parts_at 32 head) ≡ Some h → list_all is_head_byte head ≡ true → is_sheet r h.kind sheet ≡ true
     → likely_act r (head ++ 10 ∷ flat_map line_text sheet) ≡ with_sheet h (Ok sheet)
 headed r head h sheet is bytes good =
     ap (act_among r) (split_first is_head_byte 10 refl head (flat_map line_text sheet) bytes)
@@ -256,7 +256,7 @@ words word name w i =
     ∙ split_first (is_between 97 122) 32 refl word name w
     ∙ ap (λ ps. word ∷ ps) (split_last is_identifier_byte 32 refl name i)
 
-named : (r : Rules) (word name : List ℕ) (h : Head) (sheet : List Line) → list_all is_head_byte (word ++ 32 ∷ []) ≡ true → list_all (is_between 97 122) word ≡ true
+named : (r : Rules) (word name : List ℕ) (h : ActHead) (sheet : List Line) → list_all is_head_byte (word ++ 32 ∷ []) ≡ true → list_all (is_between 97 122) word ≡ true
     → is_identifier 1 22 name ≡ true → named_head word name ≡ Some h → is_sheet r h.kind sheet ≡ true
     → likely_act r (word ++ 32 ∷ [] ++ name ++ codes "\n" ++ flat_map line_text sheet) ≡ with_sheet h (Ok sheet)
 named r word name h sheet front letters i is good =
@@ -267,7 +267,7 @@ named r word name h sheet front letters i is good =
     ∙ headed r (word ++ 32 ∷ [] ++ name) h sheet (ap head_in (words word name letters bytes) ∙ is)
     (all_both is_head_byte (word ++ 32 ∷ []) name front (all_in is_identifier_byte is_head_byte in_head name bytes)) good
 
-head_is : (word name : List ℕ) (h : Option Head) → is_identifier 1 22 name ≡ true
+head_is : (word name : List ℕ) (h : Option ActHead) → is_identifier 1 22 name ≡ true
     → (if bytes_eq word (codes "count") then Some (record { kind = CountSheet; number = name }) else (if bytes_eq word (codes "pick") then Some (record { kind = PickSheet; number = name }) else None)) ≡ h
     → named_head word name ≡ h
 head_is word name h i is = rw i is
@@ -294,7 +294,7 @@ is_numbered CountSheet number = is_identifier 1 22 number
 is_numbered PickSheet number = is_identifier 1 22 number
 is_numbered RecountSheet number = true
 
-abbrev IsHead : Option Head → Type 0
+abbrev IsHead : Option ActHead → Type 0
 IsHead None = Unit {0}
 IsHead (Some h) = is_numbered h.kind h.number ≡ true
 
@@ -319,7 +319,7 @@ by_kind_good r CountSheet number sheet h g = both_true h g
 by_kind_good r PickSheet number sheet h g = both_true h g
 by_kind_good r RecountSheet number sheet h g = g
 
-from_good : (r : Rules) (lines : List RawLine) (h : Option Head) → IsHead h → IsAct r (option_and_then (act_from r lines) h)
+from_good : (r : Rules) (lines : List RawLine) (h : Option ActHead) → IsHead h → IsAct r (option_and_then (act_from r lines) h)
 from_good r lines None good = tt
 from_good r lines (Some h) good = by_sheet (sheet_of r h.kind lines) refl
   where

@@ -14,12 +14,12 @@ use Rattle.profile.specs.declared.sheet_kind.SheetKind.TheVariants.{Count, Pick,
 use Rattle.rules.specs.ReadActs.{by_kind}
 
 -- what was done, and to what
-pub record Head : Type 0 where
+pub record ActHead : Type 0 where
   pub kind : SheetKind
   pub number : List ℕ
 
 -- by a word and a number
-abbrev pub named_head : List ℕ → List ℕ → Option Head
+abbrev pub named_head : List ℕ → List ℕ → Option ActHead
 named_head word number = first_of None
     ((not (is_identifier 1 most_number number), None)
     ∷ (bytes_eq word (codes "count"), Some (record { kind = Count; number = number }))
@@ -27,7 +27,7 @@ named_head word number = first_of None
     ∷ [])
 
 -- by the words of the first line
-abbrev pub head_in : List (List ℕ) → Option Head
+abbrev pub head_in : List (List ℕ) → Option ActHead
 head_in (word ∷ number ∷ []) = named_head word number
 head_in (word ∷ []) = Some (record { kind = Recount; number = [] })
 head_in words = None
@@ -36,12 +36,12 @@ head_in words = None
 abbrev pub record_in : List ℕ → Option RawLine
 record_in text = raw_line (parts_at 44 text)
 
-abbrev pub with_sheet : Head → Result (List Line) Refusal → Option Act
+abbrev pub with_sheet : ActHead → Result (List Line) Refusal → Option Act
 with_sheet h (Ok sheet) = Some (by_kind h.kind h.number sheet)
 with_sheet h (Err refusal) = None
 
 -- the act of a head and of lines, where they make a sheet by the rules
-abbrev pub act_from : Rules → List RawLine → Head → Option Act
+abbrev pub act_from : Rules → List RawLine → ActHead → Option Act
 act_from r lines h = with_sheet h (sheet_of r h.kind lines)
 
 abbrev pub act_among : Rules → List (List ℕ) → Option Act

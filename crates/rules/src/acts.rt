@@ -129,7 +129,7 @@ fn fresh(
         (recalled.act_new envelope.now.warehouse h
         (entry_of rules envelope.now ticket.now act.now) (act_of act.now)) d) }
 {
-    // what is known of every page
+    // for the prover: what this tells holds of every page (`IsSound`)
     let _ = page.rows();
     match perform(alloc, page, act) {
         Ok(step) => accepted(alloc, envelope, page, ticket, act, step.changes, rules),

@@ -24,15 +24,15 @@ pub(crate) struct ReadAct<'a> {
 
 /// What was done, and to what: nothing of a recount.
 #[derive(Drop)]
-struct Head<'a> {
+struct ActHead<'a> {
     kind: SheetKind,
     number: &'a [u8],
 }
 
-impl<'a> Model for Head<'a> {
-    ghost use Rattle.rules.specs.Likely.{Head};
+impl<'a> Model for ActHead<'a> {
+    ghost use Rattle.rules.specs.Likely.{ActHead};
 
-    ghost Value = { Head };
+    ghost Value = { ActHead };
 
     ghost view = { λ h. record { kind = h.kind; number = h.number.now } };
 }
@@ -64,7 +64,7 @@ fn parts<'a>(alloc: Global, text: &'a [u8], byte: u8) -> Result<Vec<&'a [u8]>, A
 }
 
 // What was done, and to what, by a word and a number.
-fn named<'a>(word: &[u8], number: &'a [u8]) -> Option<Head<'a>>
+fn named<'a>(word: &[u8], number: &'a [u8]) -> Option<ActHead<'a>>
     ensures { result ≡ named_head word.now number.now }
 {
     if Ident::new(number, MOST_NUMBER).is_none() {
@@ -77,16 +77,16 @@ fn named<'a>(word: &[u8], number: &'a [u8]) -> Option<Head<'a>>
     } else {
         return None;
     };
-    Some(Head { kind, number })
+    Some(ActHead { kind, number })
 }
 
 // What was done, and to what, by the words of the first line.
-fn first_line<'a>(words: &[&'a [u8]]) -> Option<Head<'a>>
+fn first_line<'a>(words: &[&'a [u8]]) -> Option<ActHead<'a>>
     ensures { result ≡ head_in (map (λ word. word.now) words.now) }
 {
     match *words {
         [word, number] => named(word, number),
-        [_] => Some(Head {
+        [_] => Some(ActHead {
             kind: SheetKind::Recount,
             number: b"",
         }),
@@ -131,7 +131,7 @@ fn lines(alloc: Global, texts: &[&[u8]]) -> Result<Vec<Line>, AllocError>
 }
 
 // The act of a head and of lines, where they make a sheet by the rules.
-fn made<'a>(head: Head<'a>, lines: Vec<Line>, rules: Rules) -> Option<ReadAct<'a>>
+fn made<'a>(head: ActHead<'a>, lines: Vec<Line>, rules: Rules) -> Option<ReadAct<'a>>
     ensures { option_map read_act result ≡ act_from rules lines.items head.entry }
 {
     match Sheet::new(head.kind, lines, rules) {

@@ -83,7 +83,7 @@ fn grouped(
           rules = rules;
         }) r.page r.outgoing.items) }
 {
-    // what is known of every page
+    // for the prover: what this tells holds of every page (`IsSound`)
     let _ = page.rows();
     let groups = take_groups(alloc, page, interchange, rules)?;
     let outgoing = answer(alloc, envelope, header, &groups.told)?;
@@ -191,7 +191,7 @@ fn stepped(
         → r.outgoing.items ≡ document_of envelope.now.warehouse envelope.now.depositor
         envelope.now.moment envelope.now.number e)) }
 {
-    // what is known of every page
+    // for the prover: what this tells holds of every page (`IsSound`)
     let _ = page.rows();
     let outgoing = document(alloc, envelope, &page, act)?;
     Ok(Replayed {
@@ -215,7 +215,7 @@ fn done(
         → IsPlayed envelope.warehouse h (clerk_entry q envelope.depositor ticket (act_of act.now)
         envelope.moment) r.page r.outgoing.items) }
 {
-    // what is known of every page
+    // for the prover: what this tells holds of every page (`IsSound`)
     let _ = page.rows();
     match perform(alloc, &page, act) {
         Ok(step) => stepped(alloc, &envelope, page, act, &step),

@@ -4,3 +4,5 @@ pub mod ElementsLemma
 pub mod FilledLemmas
 pub mod PartnerLemmas
 pub mod DigitsLemmas
+pub mod Values
+pub mod Scans

@@ -103,8 +103,8 @@ impl<'a> Iterator for Cut<'a> {
     }
 }
 
-// The part at a place between the separators.
-fn part(text: &[u8], separator: u8, n: usize) -> Option<&[u8]>
+/// The part at a place between the separators, the first at 0; None where there are fewer.
+pub fn part(text: &[u8], separator: u8, n: usize) -> Option<&[u8]>
     ensures { option_copied result ≡ slice_get (slice_split (λ b. b == separator) text.now) n }
 {
     text.split(|b| *b == separator).nth(n)

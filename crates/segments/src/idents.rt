@@ -19,21 +19,21 @@ impl<'a> Model for Ident<'a> {
 }
 
 // Whether the byte is one of A to Z and 0 to 9.
-fn is_alphanumeric_byte(b: u8) -> bool
+pub(crate) fn is_alphanumeric_byte(b: u8) -> bool
     ensures { result ≡ is_alphanumeric b }
 {
     matches!(b, b'A'..=b'Z' | b'0'..=b'9')
 }
 
 // Whether the byte may stand in an identifier.
-fn is_ident_byte(b: u8) -> bool
+pub(crate) fn is_ident_byte(b: u8) -> bool
     ensures { result ≡ is_identifier_byte b }
 {
     is_alphanumeric_byte(b) || b == b'-' || b == b'.'
 }
 
-// Whether each byte is one of A to Z and 0 to 9.
-pub(crate) fn all_alphanumeric(text: &[u8]) -> bool
+/// Whether each byte is one of A to Z and 0 to 9.
+pub fn all_alphanumeric(text: &[u8]) -> bool
     ensures { result ≡ list_all is_alphanumeric text.now }
 {
     text.iter().all(|b| is_alphanumeric_byte(*b))

@@ -1,6 +1,5 @@
-ghost use Rattle.std.specs.Prelude.{◌≡◌, ◌≤◌, ◌-◌, ◌++◌, ◌&&◌, true, false, Some, None, IfOk, if◌then◌else◌, IsTrue, take, drop, replicate, length, bytes_eq};
+ghost use Rattle.std.specs.Prelude.{◌≡◌, ◌-◌, ◌++◌, Some, None, if◌then◌else◌, IsTrue, replicate, length};
 ghost use Rattle.profile.specs.Header.{Who as Partner, is_partner, who_eq, who_of, who_text};
-ghost use Rattle.profile.specs.Limits.{most_partner};
 ghost use Rattle.segments.specs.Filled.{IsFilled, partner_in, length_front, filled_front};
 ghost use Rattle.segments.specs.declared.partners.TheConstants.{TEXT_BYTES};
 

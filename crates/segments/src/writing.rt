@@ -1,4 +1,4 @@
-ghost use Rattle.std.specs.Prelude.{◌≡◌, ◌≤◌, ◌<◌, ◌++◌, length, map, take, OnOk, OnErr, vec_len, flat_map, ◌∷◌};
+ghost use Rattle.std.specs.Prelude.{◌≡◌, ◌++◌, map, OnOk, OnErr, flat_map, ◌∷◌};
 ghost use Rattle.profile.specs.Cut as meaning;
 ghost use Rattle.segments.specs.Extends.{Extends};
 
@@ -16,9 +16,9 @@ fn append_part(out: &mut Vec<u8>, separator: u8, element: &[u8]) -> Result<(), A
     Ok(())
 }
 
-// Appends each element after a separator, or a beginning of that.
+/// Appends each element after a separator. After an error a beginning of that may stand there.
 #[tactic(auto, using(crate::proofs::ExtendsLemmas::extends_trans, crate::proofs::ExtendsLemmas::extends_append))]
-fn append_parts(out: &mut Vec<u8>, separator: u8, elements: &[&[u8]]) -> Result<(), AllocError>
+pub fn append_parts(out: &mut Vec<u8>, separator: u8, elements: &[&[u8]]) -> Result<(), AllocError>
     ensures ok { OnOk result (out.new.items ≡ out.old.items ++ flat_map
         (λ e. separator ∷ e.now) elements.now) }
     ensures kept { Extends out.old.items out.new.items }

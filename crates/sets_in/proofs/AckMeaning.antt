@@ -13,7 +13,7 @@ use Rattle.profile.specs.Limits.{most_told_sets}
 use Rattle.profile.specs.Means.{Acknowledgment, acknowledgment_of}
 use Rattle.profile.proofs.WordsLaws.{viable_to}
 use Rattle.tables.specs.Acknowledgment.{judged, total}
-use Rattle.tables.specs.Judged.{Whole, IsSound}
+use Rattle.tables.specs.Judged.{Whole, IsUnfaulted}
 use Rattle.sets_in.specs.SaidAck.{AckSet, IsAckSet, IsToldOfSets, printed, meaning, SaysAck}
 use Rattle.sets_in.proofs.Parse.{Ids, split, cons_word, last_word, all_so, all_both}
 use Rattle.sets_in.proofs.Whole.{viable, ends, other, NoneEnds, none_both, once, map_same}
@@ -188,5 +188,5 @@ of_parts ss p =
     (t, p.parts, is, ap acknowledgment_of p.parts ∙ means t is)
 
 -- a set without a fault prints a tree, and what is read of it is what that says
-pub says_ack : (w : Whole) → IsSound w → w.kind ≡ FunctionalAcknowledgment → SaysAck (segments_of w.pieces) (acknowledgment_of (segments_of w.pieces))
+pub says_ack : (w : Whole) → IsUnfaulted w → w.kind ≡ FunctionalAcknowledgment → SaysAck (segments_of w.pieces) (acknowledgment_of (segments_of w.pieces))
 says_ack w s k = let p = passes w FunctionalAcknowledgment s k in of_parts (segments_of w.pieces) (whole_ack p.0 (segments_of w.pieces) p.1 s.closed)

@@ -13,8 +13,8 @@ use Rattle.profile.specs.Faults.{fault_from, set_fault}
 use Rattle.profile.specs.declared.widths.TheConstants.{ADVICE_TOTAL_DIGITS_TWO, ORDER_TOTAL_DIGITS_TWO}
 use Rattle.profile.proofs.FaultsLaws.{set_fault-from}
 use Rattle.profile.proofs.LaterLaws.{set_fault-later}
-use Rattle.tables.specs.Judged.{Whole, IsSound}
-use Rattle.sets_in.specs.Amounts.{IsAmount, IsCounted}
+use Rattle.tables.specs.Judged.{Whole, IsUnfaulted}
+use Rattle.sets_in.specs.Amounts.{IsAmount, IsCountable}
 use Rattle.sets_in.proofs.Sound.{goods_amounts, ordered_amounts, advised_totals, ordered_totals, document_numbers, amount_with}
 use Rattle.sets_in.proofs.Most.{few_goods, few_ordered}
 
@@ -24,7 +24,7 @@ later One d kind ss h = set_fault-later d kind ss h
 later Two d kind ss h = h
 
 -- a set of the kind has no fault by some delimiters
-pub passes : (w : Whole) (kind : SetKind) → IsSound w → w.kind ≡ kind
+pub passes : (w : Whole) (kind : SetKind) → IsUnfaulted w → w.kind ≡ kind
     → (d : Delims) × (fault_from Two d (kind_words Two kind) (kind_words Two kind) [] 1 (segments_of w.pieces) ≡ None)
 passes w kind s k =
     let d = s.judged.0 in (
@@ -33,20 +33,20 @@ passes w kind s k =
           (sym (set_fault-from Two d (kind_words Two w.kind) (segments_of w.pieces)) ∙ later w.rules d w.kind (segments_of w.pieces) s.judged.1),
     )
 
-pub advice_counted : (w : Whole) → IsSound w → w.kind ≡ ShipmentAdvice → IsCounted (codes "W04") (codes "W03") ADVICE_TOTAL_DIGITS_TWO (segments_of w.pieces)
+pub advice_counted : (w : Whole) → IsUnfaulted w → w.kind ≡ ShipmentAdvice → IsCountable (codes "W04") (codes "W03") ADVICE_TOTAL_DIGITS_TWO (segments_of w.pieces)
 advice_counted w s k = let p = passes w ShipmentAdvice s k in record {
   few = few_goods Two p.0 (segments_of w.pieces) p.1;
   quantities = goods_amounts Two p.0 (words_943 Two) (segments_of w.pieces) p.1;
   sum = amount_with (codes "W03") 1 ADVICE_TOTAL_DIGITS_TWO (segments_of w.pieces) (advised_totals Two p.0 (words_943 Two) (segments_of w.pieces) p.1);
 }
 
-pub order_counted : (w : Whole) → IsSound w → w.kind ≡ ShippingOrder → IsCounted (codes "W01") (codes "W76") ORDER_TOTAL_DIGITS_TWO (segments_of w.pieces)
+pub order_counted : (w : Whole) → IsUnfaulted w → w.kind ≡ ShippingOrder → IsCountable (codes "W01") (codes "W76") ORDER_TOTAL_DIGITS_TWO (segments_of w.pieces)
 order_counted w s k = let p = passes w ShippingOrder s k in record {
   few = few_ordered Two p.0 (segments_of w.pieces) p.1;
   quantities = ordered_amounts Two p.0 (words_940 Two) (segments_of w.pieces) p.1;
   sum = amount_with (codes "W76") 1 ORDER_TOTAL_DIGITS_TWO (segments_of w.pieces) (ordered_totals Two p.0 (words_940 Two) (segments_of w.pieces) p.1);
 }
 
-pub document_known : (w : Whole) → IsSound w → w.kind ≡ FunctionalAcknowledgment → IsAmount 9 (element (segment_with (codes "AK1") (segments_of w.pieces)) 2)
+pub document_known : (w : Whole) → IsUnfaulted w → w.kind ≡ FunctionalAcknowledgment → IsAmount 9 (element (segment_with (codes "AK1") (segments_of w.pieces)) 2)
 document_known w s k = let p = passes w FunctionalAcknowledgment s k in
     amount_with (codes "AK1") 2 9 (segments_of w.pieces) (document_numbers Two p.0 words_997 (segments_of w.pieces) p.1)

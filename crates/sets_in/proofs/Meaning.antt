@@ -7,7 +7,7 @@ use Rattle.profile.specs.Bytes.{value}
 use Rattle.profile.specs.Cut.{Segment, element, id_of, has_id, segment_with, segments_of}
 use Rattle.profile.specs.declared.set_kind.SetKind.TheVariants.{ShipmentAdvice}
 use Rattle.profile.specs.Means.{Advice, AdviceLine, advice_of, advice_line, expiry_of, segment_at, place_of}
-use Rattle.tables.specs.Judged.{Whole, IsSound}
+use Rattle.tables.specs.Judged.{Whole, IsUnfaulted}
 use Rattle.sets_in.specs.Places.{places_from}
 use Rattle.sets_in.specs.Said.{AdviceSet, IsAdviceSet, IsHeader, in_pairs, printed, date_in, lines_at, meaning, SaysAdvice}
 use Rattle.sets_in.proofs.Places.{with_yes, with_no, from_yes, from_no}
@@ -161,5 +161,5 @@ of_parts ss p =
     (t, p.parts, is, ap advice_of p.parts ∙ means t is)
 
 -- a set without a fault prints a tree, and what is read of it is what that says
-pub says_advice : (w : Whole) → IsSound w → w.kind ≡ ShipmentAdvice → SaysAdvice (segments_of w.pieces) (advice_of (segments_of w.pieces))
+pub says_advice : (w : Whole) → IsUnfaulted w → w.kind ≡ ShipmentAdvice → SaysAdvice (segments_of w.pieces) (advice_of (segments_of w.pieces))
 says_advice w s k = let p = passes w ShipmentAdvice s k in of_parts (segments_of w.pieces) (whole_advice p.0 (segments_of w.pieces) p.1 s.closed)

@@ -7,7 +7,7 @@ use Rattle.profile.specs.Bytes.{value}
 use Rattle.profile.specs.Cut.{Segment, element, id_of, has_id, segment_with, segments_of}
 use Rattle.profile.specs.declared.set_kind.SetKind.TheVariants.{ShippingOrder}
 use Rattle.profile.specs.Means.{Order, OrderLine, Address, order_of, order_line, pin_of, is_ship_to, address_of, ship_to, spaced, segment_at, place_of}
-use Rattle.tables.specs.Judged.{Whole, IsSound}
+use Rattle.tables.specs.Judged.{Whole, IsUnfaulted}
 use Rattle.sets_in.specs.Places.{places_from}
 use Rattle.sets_in.specs.SaidOrder.{Party, Goods, OrderSet, in_party, in_goods, printed, IsParty, IsGoods, IsOrderSet, address_in, lines_at, meaning, SaysOrder}
 use Rattle.sets_in.proofs.Places.{with_yes, with_no, from_yes, from_no, first_ship_to, later_ship_to}
@@ -299,5 +299,5 @@ of_parts : (ss : List Segment) → Parsed id_of ss → SaysOrder ss (order_of ss
 of_parts ss (t, parts, is) = (t, parts, is, ap order_of parts ∙ means t is)
 
 -- a set without a fault prints a tree, and what is read of it is what that says
-pub says_order : (w : Whole) → IsSound w → w.kind ≡ ShippingOrder → SaysOrder (segments_of w.pieces) (order_of (segments_of w.pieces))
+pub says_order : (w : Whole) → IsUnfaulted w → w.kind ≡ ShippingOrder → SaysOrder (segments_of w.pieces) (order_of (segments_of w.pieces))
 says_order w s k = let p = passes w ShippingOrder s k in of_parts (segments_of w.pieces) (whole_order p.0 (segments_of w.pieces) p.1 s.closed)

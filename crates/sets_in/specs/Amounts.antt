@@ -22,7 +22,7 @@ HaveAmounts id place most ss = AllByRecursion (HasAmount id place most) ss
 
 -- lines begin at the segments with an id, whose first element is a quantity; another has their sum,
 -- of at most some digits
-pub record IsCounted (line total : List ℕ) (most : ℕ) (ss : List Segment) : Type 0 where
+pub record IsCountable (line total : List ℕ) (most : ℕ) (ss : List Segment) : Type 0 where
   pub few : length (places_of line ss) ≤ most_lines Two
   pub quantities : HaveAmounts line 1 QUANTITY_DIGITS_TWO ss
   pub sum : IsAmount most (element (segment_with total ss) 1)

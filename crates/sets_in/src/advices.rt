@@ -5,7 +5,7 @@ ghost use Rattle.profile.specs.Limits.{most_quantity};
 ghost use Rattle.profile.specs.Means as meant;
 ghost use Rattle.profile.specs.declared.set_kind.SetKind.TheVariants as kinds;
 ghost use Rattle.profile.specs.declared.widths.TheConstants.{ADVICE_TOTAL_DIGITS_TWO, QUANTITY_DIGITS_TWO};
-ghost use Rattle.sets_in.specs.Amounts.{IsAmount, IsCounted, HaveAmounts};
+ghost use Rattle.sets_in.specs.Amounts.{IsAmount, IsCountable, HaveAmounts};
 ghost use Rattle.sets_in.specs.Said.{SaysAdvice};
 
 use crate::lines::{AdviceLine, Goods};
@@ -21,7 +21,7 @@ fn advised<'a>(set: &Checked<'a>) -> &'a [Segment<'a>]
 
     ensures same { result.now ≡ set.now.pieces }
     ensures short { length result.now < 2 ^ 32 - 1 }
-    ensures counted { IsCounted (codes "W04") (codes "W03") ADVICE_TOTAL_DIGITS_TWO
+    ensures counted { IsCountable (codes "W04") (codes "W03") ADVICE_TOTAL_DIGITS_TWO
         (segments_of result.now) }
     ensures says { SaysAdvice (segments_of result.now) (meant.advice_of (segments_of result.now)) }
 {
@@ -101,7 +101,7 @@ fn advice_lines(alloc: Global, segments: &[Segment<'_>]) -> Result<Vec<AdviceLin
 // What the segments of an advice say.
 fn said(alloc: Global, segments: &[Segment<'_>]) -> Result<Advice, AllocError>
     requires short { length segments.now < 2 ^ 32 - 1 }
-    requires counted { IsCounted (codes "W04") (codes "W03") ADVICE_TOTAL_DIGITS_TWO
+    requires counted { IsCountable (codes "W04") (codes "W03") ADVICE_TOTAL_DIGITS_TWO
         (segments_of segments.now) }
 
     ensures { IfOk result (λ a. a ≡ meant.advice_of (segments_of segments.now)) }

@@ -5,7 +5,7 @@ ghost use Rattle.profile.specs.Limits.{most_quantity};
 ghost use Rattle.profile.specs.Means as meant;
 ghost use Rattle.profile.specs.declared.set_kind.SetKind.TheVariants as kinds;
 ghost use Rattle.profile.specs.declared.widths.TheConstants.{ORDER_TOTAL_DIGITS_TWO, QUANTITY_DIGITS_TWO};
-ghost use Rattle.sets_in.specs.Amounts.{IsAmount, IsCounted, HaveAmounts};
+ghost use Rattle.sets_in.specs.Amounts.{IsAmount, IsCountable, HaveAmounts};
 ghost use Rattle.sets_in.specs.SaidOrder.{SaysOrder};
 
 use crate::addresses::ship_to;
@@ -21,7 +21,7 @@ fn ordered<'a>(set: &Checked<'a>) -> &'a [Segment<'a>]
 
     ensures same { result.now ≡ set.now.pieces }
     ensures short { length result.now < 2 ^ 32 - 1 }
-    ensures counted { IsCounted (codes "W01") (codes "W76") ORDER_TOTAL_DIGITS_TWO
+    ensures counted { IsCountable (codes "W01") (codes "W76") ORDER_TOTAL_DIGITS_TWO
         (segments_of result.now) }
     ensures says { SaysOrder (segments_of result.now) (meant.order_of (segments_of result.now)) }
 {
@@ -94,7 +94,7 @@ fn order_lines(alloc: Global, segments: &[Segment<'_>]) -> Result<Vec<OrderLine>
 // What the segments of an order say.
 fn said(alloc: Global, segments: &[Segment<'_>]) -> Result<Order, AllocError>
     requires short { length segments.now < 2 ^ 32 - 1 }
-    requires counted { IsCounted (codes "W01") (codes "W76") ORDER_TOTAL_DIGITS_TWO
+    requires counted { IsCountable (codes "W01") (codes "W76") ORDER_TOTAL_DIGITS_TWO
         (segments_of segments.now) }
 
     ensures { IfOk result (λ o. o ≡ meant.order_of (segments_of segments.now)) }

@@ -15,7 +15,3 @@ pub isa_whole : (d : Delims) (a b c e f first : List ℕ) (opening one two closi
 isa_whole d a b c e f first opening one two closing hb hc he hf =
     let g : List ℕ → List ℕ = λ x. d.separator ∷ x in
     hf ∙ rw (he, hc, hb, flat_map-append g opening (one ++ (two ++ closing)), flat_map-append g one (two ++ closing), flat_map-append g two closing) (simp append_assoc refl)
-
--- the last elements and a terminator
-pub tail_whole : (t b : ℕ) (old mid new written : List ℕ) → b ≡ t → mid ≡ old ++ written → new ≡ mid ++ b ∷ [] → new ≡ old ++ (written ++ t ∷ [])
-tail_whole t b old mid new written e m n = n ∙ rw (e, m, append_assoc) refl

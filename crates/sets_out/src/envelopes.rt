@@ -6,12 +6,12 @@ ghost use Rattle.profile.specs.Cut.{joined};
 ghost use Rattle.profile.specs.Moments.{date6, date8, time4};
 ghost use Rattle.profile.specs.Texts.{Receiver, receiver_of, isa_segment};
 ghost use Rattle.segments.specs.Extends.{Extends};
-ghost use Rattle.sets_out.specs.Appends.{Appends};
+ghost use Rattle.sets_out.specs.Appends.{AppendsSegments};
 
 use crate::writing::append_segment;
 use itoa::Buffer;
 use profile::{BLANK_BYTES, CONTROL_DIGITS, LEAST_SET_CONTROL, MOST_PARTNER, zero_filled};
-use segments::{Delims, Moment, Who};
+use segments::{Delims, Moment, Who, append_parts, write_segment};
 use std::alloc::AllocError;
 use std::marker::Model;
 
@@ -63,26 +63,13 @@ pub(crate) fn filled(who: &Who) -> Party<'_>
     }
 }
 
-// Appends each element after a separator, or a beginning of that.
-fn append_elements(out: &mut Vec<u8>, separator: u8, elements: &[&[u8]]) -> Result<(), AllocError>
-    ensures ok { OnOk result (out.new.items ≡ out.old.items ++ flat_map
-        (λ e. separator ∷ e.now) elements.now) }
-    ensures kept { Extends out.old.items out.new.items }
-{
-    for element in elements {
-        out.push(separator)?;
-        out.extend_from_slice(element)?;
-    }
-    Ok(())
-}
-
 // Appends the two elements of a side, or a beginning of them.
 fn append_party(out: &mut Vec<u8>, separator: u8, party: &Party<'_>) -> Result<(), AllocError>
     ensures ok { OnOk result (out.new.items ≡ out.old.items ++ flat_map
         (λ e. separator ∷ e) (party.now.qualifier ∷ party.now.id ∷ [])) }
     ensures kept { Extends out.old.items out.new.items }
 {
-    append_elements(out, separator, &[party.qualifier, party.id])?;
+    append_parts(out, separator, &[party.qualifier, party.id])?;
     out.extend_from_slice(party.fill)?;
     Ok(())
 }
@@ -95,22 +82,12 @@ fn append_opening(out: &mut Vec<u8>, separator: u8) -> Result<(), AllocError>
 {
     let ten = &SPACES[..BLANK_BYTES];
     out.extend_from_slice(b"ISA")?;
-    append_elements(out, separator, &[b"00", ten, b"00", ten])?;
+    append_parts(out, separator, &[b"00", ten, b"00", ten])?;
     Ok(())
 }
 
-// Appends the last elements of a segment and its terminator, or a beginning of that.
-fn append_tail(out: &mut Vec<u8>, delims: Delims, elements: &[&[u8]]) -> Result<(), AllocError>
-    ensures ok { OnOk result (out.new.items ≡ out.old.items ++ (flat_map
-        (λ e. delims.separator ∷ e.now) elements.now ++ delims.terminator ∷ [])) }
-    ensures kept { Extends out.old.items out.new.items }
-{
-    append_elements(out, delims.separator(), elements)?;
-    out.push(delims.terminator())?;
-    Ok(())
-}
-
-// Appends the elements after the sides and the terminator of ISA, or a beginning of that.
+// Appends the elements after the sides and the terminator of ISA, or nothing: a segment whose first
+// element is empty, since the segment goes on after the sides.
 fn append_closing(
     out: &mut Vec<u8>,
     delims: Delims,
@@ -127,10 +104,11 @@ fn append_closing(
     let time = moment.time();
     let control = zero_filled::<CONTROL_DIGITS>(u64::from(number));
     let component = [delims.component()];
-    append_tail(
+    write_segment(
         out,
         delims,
         &[
+            b"",
             &date[2..],
             &time,
             b"U",
@@ -152,7 +130,7 @@ pub(crate) fn append_isa(
     moment: &Moment,
     number: u32,
 ) -> Result<usize, AllocError>
-    ensures ok { IfOk result (λ n. Appends delims out.old.items out.new.items (isa_segment delims
+    ensures ok { IfOk result (λ n. AppendsSegments delims out.old.items out.new.items (isa_segment delims
         warehouse.now to.now moment.now number ∷ []) n) }
     ensures kept { Extends out.old.items out.new.items }
 {
@@ -169,7 +147,7 @@ pub(crate) fn append_isa_to(
     delims: Delims,
     envelope: &Envelope,
 ) -> Result<usize, AllocError>
-    ensures ok { IfOk result (λ n. Appends delims out.old.items out.new.items (isa_segment delims
+    ensures ok { IfOk result (λ n. AppendsSegments delims out.old.items out.new.items (isa_segment delims
         envelope.now.warehouse (receiver_of envelope.now.depositor) envelope.now.moment
         envelope.now.number ∷ []) n) }
     ensures kept { Extends out.old.items out.new.items }
@@ -191,7 +169,7 @@ pub(crate) fn append_iea(
     groups: u8,
     number: u32,
 ) -> Result<usize, AllocError>
-    ensures ok { IfOk result (λ n. Appends delims out.old.items out.new.items
+    ensures ok { IfOk result (λ n. AppendsSegments delims out.old.items out.new.items
         ((codes "IEA" ∷ decimal groups ∷ zero_filled widths.CONTROL_DIGITS number ∷ []) ∷ []) n) }
     ensures kept { Extends out.old.items out.new.items }
 {
@@ -208,7 +186,7 @@ pub(crate) fn append_gs(
     envelope: &Envelope,
     function: &[u8],
 ) -> Result<usize, AllocError>
-    ensures ok { IfOk result (λ n. Appends delims out.old.items out.new.items
+    ensures ok { IfOk result (λ n. AppendsSegments delims out.old.items out.new.items
         ((codes "GS" ∷ function.now ∷ envelope.now.warehouse.id ∷ envelope.now.depositor.id ∷ date8
         envelope.now.moment ∷ time4 envelope.now.moment
         ∷ decimal envelope.now.number ∷ codes "X" ∷ codes "004010" ∷ []) ∷ []) n) }
@@ -235,7 +213,7 @@ pub(crate) fn append_ge(
     sets: usize,
     number: u32,
 ) -> Result<usize, AllocError>
-    ensures ok { IfOk result (λ n. Appends delims out.old.items out.new.items
+    ensures ok { IfOk result (λ n. AppendsSegments delims out.old.items out.new.items
         ((codes "GE" ∷ decimal sets ∷ decimal number ∷ []) ∷ []) n) }
     ensures kept { Extends out.old.items out.new.items }
 {
@@ -253,7 +231,7 @@ pub(crate) fn append_st(
     number: &[u8],
     place: u64,
 ) -> Result<usize, AllocError>
-    ensures ok { IfOk result (λ n. Appends delims out.old.items out.new.items
+    ensures ok { IfOk result (λ n. AppendsSegments delims out.old.items out.new.items
         ((codes "ST" ∷ number.now ∷ zero_filled widths.LEAST_SET_CONTROL place ∷ []) ∷ []) n) }
     ensures kept { Extends out.old.items out.new.items }
 {
@@ -268,7 +246,7 @@ pub(crate) fn append_se(
     segments: usize,
     place: u64,
 ) -> Result<usize, AllocError>
-    ensures ok { IfOk result (λ n. Appends delims out.old.items out.new.items
+    ensures ok { IfOk result (λ n. AppendsSegments delims out.old.items out.new.items
         ((codes "SE" ∷ decimal segments ∷ zero_filled widths.LEAST_SET_CONTROL place ∷ []) ∷ []) n) }
     ensures kept { Extends out.old.items out.new.items }
 {

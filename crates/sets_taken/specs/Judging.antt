@@ -66,7 +66,8 @@ abbrev pub IsVerdict : PageFacts → List Event → Result Event Rejection → V
 IsVerdict p es outcome (Passed step) = IsOutcome p es outcome step.changes.items
 IsVerdict p es outcome (Rejected r) = outcome ≡ Err r
 
--- so can that of a set that passed
+-- what a set came to can be put into the page: the step of one that passed, after which the page is
+-- sound; one that is rejected puts nothing in
 abbrev pub CanBePut : PageFacts → Verdict → Type 0
 CanBePut p (Passed step) = FitsOn p step
 CanBePut p (Rejected r) = Unit {0}

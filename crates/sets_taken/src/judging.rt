@@ -25,7 +25,7 @@ use tables::{Checked, SetFault, SetKind, judge};
 
 /// What a set came to.
 #[derive(Drop)]
-pub enum Verdict<'a> {
+pub(crate) enum Verdict<'a> {
     /// It passed: what its event changes on the page.
     Passed(Step),
     /// It is rejected, and the page is as before.
@@ -122,7 +122,7 @@ fn settled<'a>(alloc: Global, page: &Page, set: &Checked<'a>) -> Result<Verdict<
 
 /// What a set of a kind comes to by the rules over a page: it passes, or is rejected for its first
 /// segment in error. Want of memory is the one error.
-pub fn judged<'a>(
+pub(crate) fn judged<'a>(
     alloc: Global,
     page: &Page,
     kind: SetKind,

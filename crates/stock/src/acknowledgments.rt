@@ -18,7 +18,7 @@ use std::alloc::{AllocError, Global};
 fn is_decisive(page: &Page, ack: &AckIn) -> bool
     ensures { result ≡ list_any (decides page.now.entries ack.now) page.now.documents }
 {
-    // what is known of every page
+    // for the prover: what this tells holds of every page (`IsSound`)
     let _ = page.rows();
     match page.document(ack.document) {
         None => false,
@@ -48,7 +48,7 @@ pub fn acknowledge(alloc: Global, page: &Page, ack: &AckIn) -> Result<Step, Allo
             accepts: ack.accepts,
         })?;
     }
-    // what is known of every page
+    // for the prover: what this tells holds of every page (`IsSound`)
     let _ = page.rows();
     Ok(Step { changes })
 }

@@ -83,7 +83,7 @@ pub fn pick(alloc: Global, page: &Page, number: &[u8], sheet: &Sheet) -> Result<
         ++ Sent (page.now.entries + 1) Shipment ∷ []) }
     ensures sound { IfOk result (λ step. IsSound (put step.changes.items page.now)) }
 {
-    // what is known of every page
+    // for the prover: what this tells holds of every page (`IsSound`)
     let _ = page.rows();
     let Some(order) = page.order(number) else {
         return Err(ActStop::Refused(Refusal::UnknownOrder));

@@ -103,7 +103,7 @@ fn held(page: Option<Page>, _need: &Need) -> Option<Page>
     ensures held { (h : Option History) → IsHeldFor page h → IsHeld _need.now result h }
 {
     if let Some(page) = &page {
-        // what is known of every page
+        // for the prover: what this tells holds of every page (`IsSound`)
         let _ = page.rows();
     }
     page
@@ -116,7 +116,7 @@ fn with_open(page: Option<Page>) -> Option<Page>
         → option_map open_on result ≡ open_of L who }
 {
     if let Some(page) = &page {
-        // what is known of every page
+        // for the prover: what this tells holds of every page (`IsSound`)
         let _ = page.rows();
     }
     page

@@ -7,7 +7,7 @@ use Rattle.profile.specs.Bytes.{Delims}
 use Rattle.profile.specs.Faults.{IsFaultOf, set_fault}
 use Rattle.profile.specs.Words.{kind_words}
 use Rattle.profile.specs.declared.set_kind.SetKind.{SetKind}
-use Rattle.elements.specs.Meant.{meant_element}
+use Rattle.segments.specs.Meant.{meant_element}
 use Rattle.tables.specs.declared.faults.SetFault.{SetFault}
 
 abbrev pub meant_fault : SetFault → meant.SetFault
@@ -34,7 +34,7 @@ IsJudged r kind ps f = (d : Delims) × (set_fault r d (kind_words r kind) (segme
     × IsFaultOf r kind ps f
 
 -- a set that ends with SE and has no fault by its rules
-pub record IsSound (w : Whole) : Type 0 where
+pub record IsUnfaulted (w : Whole) : Type 0 where
   pub few : length w.pieces < 2 ^ 32 - 1
   pub closed : IsClosed w.pieces
   pub judged : IsJudged w.rules w.kind w.pieces None

@@ -2,7 +2,7 @@ ghost use Rattle.std.specs.Prelude.{◌≡◌, ◌<◌, ◌^◌, ◌-◌, codes,
 ghost use Rattle.profile.specs.Cut.{segments_of, last_segment, has_id};
 ghost use Rattle.profile.specs.Words.{kind_words};
 ghost use Rattle.profile.specs.Faults.{IsFaultOf, set_fault};
-ghost use Rattle.tables.specs.Judged.{meant_fault, IsClosed, IsJudged, IsSound, Whole};
+ghost use Rattle.tables.specs.Judged.{meant_fault, IsClosed, IsJudged, IsUnfaulted, Whole};
 
 use crate::faults::{Progress, SetFault, step};
 use crate::rows::After;
@@ -29,7 +29,7 @@ impl<'a> Model for Checked<'a> {
       pieces = c.segments.now;
     } };
 
-    ghost invariant = { λ c. IsSound (record { kind = c.kind; rules = c.rules; pieces = c.segments.now }) };
+    ghost invariant = { λ c. IsUnfaulted (record { kind = c.kind; rules = c.rules; pieces = c.segments.now }) };
 }
 
 impl<'a> Checked<'a> {
@@ -50,7 +50,7 @@ impl<'a> Checked<'a> {
     /// The segments of the set, ST first and SE last; none of them has a fault.
     pub fn segments(&self) -> &'a [Segment<'a>]
         ensures same { result.now ≡ self.now.pieces }
-        ensures sound { IsSound self.now }
+        ensures sound { IsUnfaulted self.now }
     {
         self.segments
     }

@@ -1,22 +1,21 @@
-ghost use Rattle.std.specs.Prelude.{◌≡◌, ◌<◌, ℕ, List, MatchResult, Some, None, length, map, option_map};
+ghost use Rattle.std.specs.Prelude.{◌≡◌, ℕ, List, MatchResult, Some, None, map, option_map};
 ghost use Rattle.profile.specs.Cut.{id_of};
 ghost use Rattle.profile.specs.Elements as elements_meant;
 ghost use Rattle.profile.specs.declared.rules.Rules.{Rules};
 ghost use Rattle.profile.specs.Words.{words_after, kind_words};
 ghost use Rattle.profile.specs.Faults as meant;
-ghost use Rattle.elements.specs.Rows.{row_of};
-ghost use Rattle.elements.specs.Meant.{meant_element};
+ghost use Rattle.segments.specs.Rows.{row_of};
+ghost use Rattle.segments.specs.Meant.{meant_element};
 ghost use Rattle.tables.specs.Ids.{text_of};
-ghost use Rattle.tables.specs.Rows.{is_goods, after_goods, is_advised, after_advised};
+ghost use Rattle.tables.specs.Rows.{is_goods, after_goods, is_advised, after_advised, AreFew};
 ghost use Rattle.tables.specs.Stages.{rest_of};
 ghost use Rattle.tables.specs.Judged.{meant_fault};
 
 use crate::ids::Id;
 use crate::rows::{After, rows_of};
 use crate::stages::{Stage, misplaced};
-use elements::{ElementRow, faulty_element};
 use profile::{Rules, SetKind};
-use segments::{Delims, Segment};
+use segments::{Delims, ElementRow, Segment, faulty_element};
 
 /// A segment in error of a set, as AK3 and AK4 tell it.
 #[derive(Drop)]
@@ -47,7 +46,7 @@ fn element_in_error(
     rows: &[ElementRow],
     segment: &Segment<'_>,
 ) -> Option<(u32, u8)>
-    requires { length rows.now < 100 }
+    requires { AreFew rows.now }
 
     ensures { option_map meant_element result
         ≡ elements_meant.faulty_element delims.now (map row_of rows.now) segment.now.elements }

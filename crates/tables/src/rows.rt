@@ -1,12 +1,11 @@
-ghost use Rattle.std.specs.Prelude.{◌≡◌, ◌<◌, ◌∷◌, [], ℕ, List, Some, codes, length, map, option_map, IfSome};
+ghost use Rattle.std.specs.Prelude.{◌≡◌, ◌∷◌, [], ℕ, List, Some, codes, map, option_map, IfSome};
 ghost use Rattle.profile.specs.Elements as meant;
 ghost use Rattle.profile.specs.Faults.{rows_after};
-ghost use Rattle.elements.specs.Rows.{row_of};
+ghost use Rattle.segments.specs.Rows.{row_of};
 ghost use Rattle.tables.specs.Ids.{text_of};
-ghost use Rattle.tables.specs.Rows.{is_goods, after_goods, is_advised, after_advised};
+ghost use Rattle.tables.specs.Rows.{is_goods, after_goods, is_advised, after_advised, AreFew};
 
 use crate::ids::Id;
-use elements::{ElementRow, Kind};
 use profile::{
     ADVICE_TOTAL_DIGITS, ADVICE_TOTAL_DIGITS_TWO, CONTROL_DIGITS, DATE_DIGITS,
     DATE_QUALIFIER_BYTES, ELEMENT_DIGITS, FUNCTION_BYTES, LEAST_CITY, LEAST_CODE, LEAST_COUNTRY,
@@ -17,19 +16,7 @@ use profile::{
     ORDER_TOTAL_DIGITS, ORDER_TOTAL_DIGITS_TWO, POSITION_DIGITS, QUANTITY_DIGITS,
     QUANTITY_DIGITS_TWO, Rules, SET_BYTES, SETS_DIGITS, STATE_BYTES,
 };
-
-// The row of an element that must be there, with its type and its least and greatest length in
-// bytes.
-macro_rules! must {
-    ($kind:expr, $least:expr, $most:expr) => {
-        ElementRow {
-            is_mandatory: true,
-            kind: $kind,
-            least: $least,
-            most: $most,
-        }
-    };
-}
+use segments::{ElementRow, Kind, must};
 
 // The row of an element that may be missing.
 macro_rules! may {
@@ -208,7 +195,7 @@ impl After {
 // The rows of W04 and W01.
 fn rows_of_goods(rules: Rules) -> &'static [ElementRow]
     ensures rows { map row_of result.now ≡ meant.goods_rows rules }
-    ensures few { length result.now < 100 }
+    ensures few { AreFew result.now }
 {
     match rules {
         Rules::One => GOODS,
@@ -219,7 +206,7 @@ fn rows_of_goods(rules: Rules) -> &'static [ElementRow]
 // The rows of an N9 after a W04.
 fn advised_lot(rules: Rules) -> &'static [ElementRow]
     ensures rows { map row_of result.now ≡ meant.lot_rows rules (codes "W04") }
-    ensures few { length result.now < 100 }
+    ensures few { AreFew result.now }
 {
     match rules {
         Rules::One => LOT,
@@ -231,7 +218,7 @@ fn advised_lot(rules: Rules) -> &'static [ElementRow]
 fn advice_total(rules: Rules) -> &'static [ElementRow]
     ensures rows { map row_of result.now
         ≡ meant.must meant.Quantity 1 (meant.advice_total_digits rules) ∷ [] }
-    ensures few { length result.now < 100 }
+    ensures few { AreFew result.now }
 {
     match rules {
         Rules::One => W03,
@@ -243,7 +230,7 @@ fn advice_total(rules: Rules) -> &'static [ElementRow]
 fn order_total(rules: Rules) -> &'static [ElementRow]
     ensures rows { map row_of result.now
         ≡ meant.must meant.Quantity 1 (meant.order_total_digits rules) ∷ [] }
-    ensures few { length result.now < 100 }
+    ensures few { AreFew result.now }
 {
     match rules {
         Rules::One => W76,
@@ -256,7 +243,7 @@ fn reference(after: After, rules: Rules) -> &'static [ElementRow]
     ensures rows { (previous : List ℕ) → after_goods after ≡ is_goods previous
         → after_advised after ≡ is_advised previous
         → Some (map row_of result.now) ≡ rows_after rules previous (codes "N9") }
-    ensures few { length result.now < 100 }
+    ensures few { AreFew result.now }
 {
     match after {
         After::Advised => advised_lot(rules),
@@ -270,7 +257,7 @@ pub(crate) fn rows_of(id: Id, after: After, rules: Rules) -> Option<&'static [El
     ensures rows { (previous : List ℕ) → after_goods after ≡ is_goods previous
         → after_advised after ≡ is_advised previous
         → option_map (λ r. map row_of r.now) result ≡ rows_after rules previous (text_of id) }
-    ensures few { IfSome result (λ r. length r.now < 100) }
+    ensures few { IfSome result (λ r. AreFew r.now) }
 {
     match id {
         Id::St | Id::Se => None,

@@ -1,7 +1,7 @@
 use Rattle.std.proofs.Common.{[], ◌∷◌, take, subst, codes}
 use Rattle.profile.specs.declared.rules.Rules.TheVariants.{Two}
 use Rattle.profile.specs.Reports.{stock_csv, stock_record}
-use Rattle.reports.specs.Exports.{Holds}
+use Rattle.reports.specs.Exports.{HoldsText}
 use Rattle.reports.proofs.MoreLaws.{one_more}
 use Rattle.reports.proofs.WriterLaws.{holds_more}
 use Rattle.reports.proofs.exports.write_rows.Goals as goal
@@ -16,4 +16,4 @@ pub loop-row-preserved : goal.loop-row-preserved
 loop-row-preserved c =
     let more = c.in_ok-write_row.ensures (stock_csv Two (take c.loop-row.row-index c.args.rows.now)) c.loop-row.invariant in
     let told = one_more (stock_record Two) (stock_csv Two []) c.args.rows.now c.loop-row.row-index c.row-item.result c.loop-row-test.true c.row-item.is in
-    subst (Holds c.write_row.new.writer) told more
+    subst (HoldsText c.write_row.new.writer) told more

@@ -3,7 +3,7 @@ use Rattle.sets_out.proofs.AppendsLaws.{extends_by}
 use Rattle.sets_out.proofs.envelopes.append_party.Goals as goal
 
 pub returns-in_err-extend_from_slice-clause-kept : goal.returns-in_err-extend_from_slice-clause-kept
-returns-in_err-extend_from_slice-clause-kept c = rw c.in_err-extend_from_slice.ensures.items c.in_ok-append_elements.ensures.kept
+returns-in_err-extend_from_slice-clause-kept c = rw c.in_err-extend_from_slice.ensures.items c.in_ok-append_parts.ensures.kept
 
 pub returns-clause-kept : goal.returns-clause-kept
-returns-clause-kept c = extends_trans _ _ _ c.in_ok-append_elements.ensures.kept (extends_by _ _ _ c.in_ok-extend_from_slice.ensures.items)
+returns-clause-kept c = extends_trans _ _ _ c.in_ok-append_parts.ensures.kept (extends_by _ _ _ c.in_ok-extend_from_slice.ensures.items)

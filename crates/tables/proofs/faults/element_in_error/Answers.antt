@@ -1,6 +1,6 @@
 use Rattle.std.proofs.Common.{◌+◌, ◌≤◌, length, map, arith}
 use Rattle.std.proofs.lemmas.List.{length-map}
-use Rattle.elements.specs.Rows.{row_of}
+use Rattle.segments.specs.Rows.{row_of}
 use Rattle.tables.proofs.Places.{place_bound}
 use Rattle.tables.proofs.faults.element_in_error.Goals as goal
 

@@ -4,10 +4,13 @@ ghost use Rattle.profile.specs.Bytes as bytes;
 ghost use Rattle.profile.specs.Cut as profile;
 ghost use Rattle.profile.specs.Moments as moments;
 ghost use Rattle.profile.specs.Elements as meant;
-ghost use Rattle.elements.specs.Rows.{kind_of, row_of};
+ghost use Rattle.segments.specs.Rows.{kind_of, row_of};
 
+use crate::delims::Delims;
+use crate::digits::{all_digits, number};
+use crate::idents::{is_alphanumeric_byte, is_ident_byte};
+use crate::moments::is_day;
 use profile::{DATE_DIGITS, LEAST_TIME};
-use segments::{Delims, all_digits, is_day, number};
 
 /// The types of elements, as an element row names them.
 pub enum Kind {
@@ -43,10 +46,18 @@ pub struct ElementRow {
     pub most: usize,
 }
 
-fn is_alphanumeric(b: u8) -> bool
-    ensures { result ≡ bytes.is_alphanumeric b }
-{
-    matches!(b, b'A'..=b'Z' | b'0'..=b'9')
+/// The row of an element that must be there, with its type and its least and greatest length in
+/// bytes.
+#[macro_export]
+macro_rules! must {
+    ($kind:expr, $least:expr, $most:expr) => {
+        $crate::ElementRow {
+            is_mandatory: true,
+            kind: $kind,
+            least: $least,
+            most: $most,
+        }
+    };
 }
 
 // Whether the type takes the byte.
@@ -56,8 +67,8 @@ fn takes(delims: &Delims, kind: &Kind, b: u8) -> bool
     match kind {
         Kind::Coded(_) | Kind::Data => delims.leaves(b),
         Kind::Quantity | Kind::Digits | Kind::Date | Kind::Time => matches!(b, b'0'..=b'9'),
-        Kind::Identifier => is_alphanumeric(b) || b == b'-' || b == b'.',
-        Kind::Alphanumeric => is_alphanumeric(b),
+        Kind::Identifier => is_ident_byte(b),
+        Kind::Alphanumeric => is_alphanumeric_byte(b),
         Kind::Parts => delims.leaves(b) || b == delims.component(),
     }
 }
@@ -76,7 +87,7 @@ fn is_zero(text: &[u8]) -> bool
 }
 
 // Whether eight digits are a day.
-#[tactic(auto, using(segments::proofs::DigitsLemmas::taken_digits, segments::proofs::DigitsLemmas::dropped_digits))]
+#[tactic(auto, using(crate::proofs::DigitsLemmas::taken_digits, crate::proofs::DigitsLemmas::dropped_digits))]
 fn names_day(text: &[u8]) -> bool
     requires eight { length text.now ≡ 8 }
     requires digits { list_all bytes.is_digit text.now ≡ true }
@@ -94,7 +105,7 @@ fn is_date(text: &[u8]) -> bool
 }
 
 // Whether the first four are a time of day.
-#[tactic(auto, using(segments::proofs::DigitsLemmas::taken_digits, segments::proofs::DigitsLemmas::dropped_digits))]
+#[tactic(auto, using(crate::proofs::DigitsLemmas::taken_digits, crate::proofs::DigitsLemmas::dropped_digits))]
 fn is_clock(text: &[u8]) -> bool
     ensures { result ≡ moments.is_clock text.now }
 {

@@ -2,8 +2,8 @@ use Rattle.std.specs.Prelude.{ℕ, ◌+◌, Bool, Option, Some, None, if◌then�
 use Rattle.profile.specs.Elements.{ElementFault}
 use Rattle.std.proofs.Common.{refl, arith}
 use Rattle.std.proofs.Common.{sym, ◌∙◌, ap}
-use Rattle.elements.proofs.Scans.{found_here, none_here, at_the_end}
-use Rattle.elements.proofs.faults.faulty_element.Goals as goal
+use Rattle.segments.proofs.Scans.{found_here, none_here, at_the_end}
+use Rattle.segments.proofs.faults.faulty_element.Goals as goal
 
 pub returns-in-Some : goal.returns-in-Some
 returns-in-Some c = found_here c.args.delims.now c.args.rows.now c.args.segment.now.elements c.loop-index.index _ c.element.result.now c.in-Some.code _ c.loop-index-test.true c.element.ensures c.in-Some.ensures c.loop-index.invariant

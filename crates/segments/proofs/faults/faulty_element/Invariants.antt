@@ -1,7 +1,7 @@
 use Rattle.std.proofs.Common.{◌≡◌, ◌+◌, map, drop}
 use Rattle.profile.specs.Elements as meant
-use Rattle.elements.specs.Rows.{row_of}
-use Rattle.elements.proofs.faults.faulty_element.Given as goal
+use Rattle.segments.specs.Rows.{row_of}
+use Rattle.segments.proofs.faults.faulty_element.Given as goal
 
 abbrev pub invariant-loop-index : goal.invariant-loop-index
 invariant-loop-index l = meant.faulty_element l.delims (map row_of l.rows) l.segment.elements

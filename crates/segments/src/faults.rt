@@ -1,26 +1,17 @@
 ghost use Rattle.std.specs.Prelude.{◌≡◌, ◌+◌, ◌<◌, map, option_map, Some, None};
 ghost use Rattle.profile.specs.Elements as meant;
-ghost use Rattle.elements.specs.Rows.{row_of};
-ghost use Rattle.elements.specs.Meant.{meant_element};
+ghost use Rattle.segments.specs.Rows.{row_of};
+ghost use Rattle.segments.specs.Meant.{meant_element};
 
+use crate::cutting::Segment;
+use crate::delims::Delims;
 use crate::kinds::{ElementRow, Kind, element_fault};
+use crate::must;
 use profile::{
     CONTROL_DIGITS, DATE_DIGITS, FUNCTION_BYTES, GROUPS_DIGITS, LEAST_SET_CONTROL, LEAST_SIDE,
     LEAST_TIME, MOST_AGENCY, MOST_SET_CONTROL, MOST_SIDE, MOST_TIME, MOST_VERSION, SEGMENTS_DIGITS,
     SET_BYTES, SETS_DIGITS,
 };
-use segments::{Delims, Segment};
-
-macro_rules! must {
-    ($kind:expr, $least:expr, $most:expr) => {
-        ElementRow {
-            is_mandatory: true,
-            kind: $kind,
-            least: $least,
-            most: $most,
-        }
-    };
-}
 
 const GS: &[ElementRow] = &[
     must!(Kind::Alphanumeric, FUNCTION_BYTES, FUNCTION_BYTES),
