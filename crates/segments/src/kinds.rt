@@ -1,7 +1,6 @@
 ghost use Rattle.std.specs.Prelude.{◌≡◌, ◌==◌, ◌&&◌, not, take, drop, nat_le, bytes_eq, length, true};
 ghost use Rattle.std.specs.List.{list_all, list_any};
 ghost use Rattle.profile.specs.Bytes as bytes;
-ghost use Rattle.profile.specs.Cut as profile;
 ghost use Rattle.profile.specs.Moments as moments;
 ghost use Rattle.profile.specs.Elements as meant;
 ghost use Rattle.segments.specs.Rows.{kind_of, row_of};

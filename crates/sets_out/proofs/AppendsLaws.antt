@@ -1,5 +1,5 @@
 -- Appends one after the other.
-use Rattle.std.proofs.Common.{◌≡◌, ℕ, ◌+◌, ◌<◌, ◌≤◌, List, [], ◌∷◌, ◌++◌, length, take, get_or, map, refl, sym, subst, ◌∙◌, append_assoc, arith, length-append, false, Bor}
+use Rattle.std.proofs.Common.{◌≡◌, ℕ, ◌+◌, ◌<◌, ◌≤◌, List, [], ◌∷◌, ◌++◌, length, take, get_or, map, refl, sym, subst, ◌∙◌, append_assoc, arith, length-append, false}
 use Rattle.std.proofs.lemmas.List.{append-nil, length-map, take_all, take_more, map_more}
 use Rattle.std.proofs.lemmas.Grind.{flat_map-append}
 use Rattle.profile.specs.Bytes.{Delims}

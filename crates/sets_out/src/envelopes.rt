@@ -1,4 +1,4 @@
-ghost use Rattle.std.specs.Prelude.{◌≡◌, ◌+◌, ◌-◌, ◌++◌, ◌∷◌, [], codes, decimal, drop, replicate, map, flat_map, length, OnOk, IfOk};
+ghost use Rattle.std.specs.Prelude.{◌≡◌, ◌+◌, ◌-◌, ◌++◌, ◌∷◌, [], codes, decimal, replicate, flat_map, length, OnOk, IfOk};
 ghost use Rattle.profile.specs.Bytes.{padded, zero_filled};
 ghost use Rattle.profile.specs.declared.widths.TheConstants as widths;
 ghost use Rattle.profile.specs.Limits.{most_partner};

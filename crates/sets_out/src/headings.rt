@@ -1,4 +1,4 @@
-ghost use Rattle.std.specs.Prelude.{map, option_map, IfOk, OnOk, OnErr, ◌≡◌, ◌++◌, ◌∷◌, []};
+ghost use Rattle.std.specs.Prelude.{IfOk, OnOk, OnErr, ◌≡◌, ◌++◌, ◌∷◌, []};
 ghost use Rattle.profile.specs.Cut.{spelled};
 ghost use Rattle.segments.specs.Extends.{Extends};
 ghost use Rattle.sets_out.specs.Appends.{AppendsSegments};
