@@ -9,7 +9,7 @@ ghost use Rattle.book_statements.specs.Whole as whole;
 ghost use Rattle.book_tables.specs.Comparing.{AreTables, Compares, IsLaid, ShowBoth, number_of};
 ghost use Rattle.book_statements.specs.Exits.{StandsWhileOpen};
 ghost use Rattle.book_statements.specs.Limits.{Counts};
-ghost use Rattle.book_statements.specs.Standing.{Stands};
+ghost use Rattle.book_statements.specs.Standing.{StandsSecond};
 
 use crate::connected::Tables;
 use book_statements::TableName;
@@ -165,7 +165,7 @@ impl<S: Alter + Drop> Tables<S> {
             → HasCleanDisk (state T.Store other.new.conn) → IsLaid (state S.Store self.old.conn)
             → AreTables (state S.Store self.old.conn).now → (W : Partner) (L : List register.Entry)
             → StandsWhileOpen (state T.Store other.old.conn) W L
-            → IfOk result (λ same. IsTrue same → Stands W L (state S.Store self.old.conn).now) }
+            → IfOk result (λ same. IsTrue same → StandsSecond W L (state S.Store self.old.conn).now) }
         ensures same { HasCleanDisk (state S.Store self.new.conn)
             → HasCleanDisk (state T.Store other.new.conn) → (W : Partner) (L : List register.Entry)
             → StandsWhileOpen (state T.Store other.old.conn) W L
