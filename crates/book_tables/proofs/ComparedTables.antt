@@ -20,7 +20,7 @@ use Rattle.book_statements.proofs.Found.{entries_rise, rules_rise}
 use Rattle.book_statements.proofs.Ordered.{all_ordered}
 use Rattle.book_tables.proofs.WholeBook.{book_same, book_shown, entries_same, entries_shown, rules_same, rules_shown}
 use Rattle.book_tables.proofs.WholeFound.{whole_found}
-use Rattle.book_tables.proofs.WholeKeyed.{holds_too}
+use Rattle.book_tables.proofs.WholeKeyed.{holds_too, shaped_at}
 use Rattle.book_tables.proofs.WholeSorted.{same_shown}
 use Rattle.book_statements.proofs.WholeTexts.{whole_query, keyed_is}
 
@@ -60,9 +60,9 @@ module _ (one two : Database) (lies : IsLayout one.schema) (its : IsLayout two.s
 
       by : AreHeld (filled W L) (book_trees one)
       by name.Book = book_same one two lies its sound its_sound _ (answer name.Book true (same name.Book)) (same_answer name.Book (same name.Book)) _ (held name.Book)
-      by name.Entry = entries_same one two lies its sound its_sound _ tables.1.0.0 its_up (answer name.Entry true (same name.Entry)) (same_answer name.Entry (same name.Entry)) ∙ held name.Entry
+      by name.Entry = entries_same one two lies its sound its_sound _ (shaped_at name.Entry one tables).0 its_up (answer name.Entry true (same name.Entry)) (same_answer name.Entry (same name.Entry)) ∙ held name.Entry
       by name.EntryRules =
-          rules_same one two lies its sound its_sound _ tables.1.1.1.1.1.1.1.1.1.0.0 its_rules_up (answer name.EntryRules true (same name.EntryRules)) (same_answer name.EntryRules (same name.EntryRules)) ∙ held name.EntryRules
+          rules_same one two lies its sound its_sound _ (shaped_at name.EntryRules one tables).0 its_rules_up (answer name.EntryRules true (same name.EntryRules)) (same_answer name.EntryRules (same name.EntryRules)) ∙ held name.EntryRules
       by name.Outgoing = keyed name.Outgoing refl
       by name.Stock = keyed name.Stock refl
       by name.Advice = keyed name.Advice refl
