@@ -13,12 +13,12 @@ fewer calls None = None
 fewer calls (Some n) = Some (n - calls)
 
 -- So many calls were made: the count of them grew by these, unless it is at its greatest number,
--- and these are off the limit, which allowed them.
+-- and these are off the limit, which was enough for them.
 pub record Spent (calls made more : ℕ) (old new : Option ℕ) : Type 0 where
   pub counted : more < 2 ^ 64 - 1 → more ≡ made + calls
   pub most : more ≤ made + calls
   pub left : new ≡ fewer calls old
-  pub allowed : (n : ℕ) → old ≡ Some n → calls ≤ n
+  pub enough : (n : ℕ) → old ≡ Some n → calls ≤ n
 
 -- some number of calls was made
 pub record Spends (made more : ℕ) (old new : Option ℕ) : Type 0 where
