@@ -146,7 +146,8 @@ impl<S: Alter + Drop> Tables<S> {
             → HasCleanDisk (state T.Store other.new.conn) → IsLaid (state S.Store self.old.conn)
             → AreTables (state S.Store self.old.conn).now → (W : Partner) (L : List register.Entry)
             → StandsWhileOpen (state T.Store other.old.conn) W L
-            → IfOk result (λ same. IsTrue same → StandsSecond W L (state S.Store self.old.conn).now) }
+            → IfOk result (λ same. IsTrue same
+            → StandsSecond W L (state S.Store self.old.conn).now) }
         ensures same { HasCleanDisk (state S.Store self.new.conn)
             → HasCleanDisk (state T.Store other.new.conn) → (W : Partner) (L : List register.Entry)
             → StandsWhileOpen (state T.Store other.old.conn) W L
