@@ -25,7 +25,7 @@ use Rattle.book_statements.specs.Leading.{Leads, Keeps}
 use Rattle.book_statements.specs.Lines.{rules_row}
 use Rattle.book_statements.specs.Recorded.{IsHouse}
 use Rattle.book_statements.specs.declared.names.TableName.TheVariants as table
-use Rattle.book_statements.specs.Standing.{Stands, Filled, AreOrdered, filled, with_rows}
+use Rattle.book_statements.specs.Standing.{StandsSecond, Filled, AreOrdered, filled, with_rows}
 use Rattle.book_statements.proofs.AppendingLemmas.{same_named}
 use Rattle.book_statements.proofs.Found.{house_found, one_house}
 use Rattle.book_statements.proofs.EachTable.{with_own, with_twice}
@@ -117,7 +117,7 @@ stands_open_later q old mid W L clean asked stands =
     (λ o. subst (StandsAs q W L) (sym (before.now o)) (stands (before.was_open o)))
 
 -- what stands for a register in version 2 doesn't name version 1
-pub not_first : (W : Who) (L : List Entry) (db : Database) → Stands W L db → IsOfFirst db → ⊥
+pub not_first : (W : Who) (L : List Entry) (db : Database) → StandsSecond W L db → IsOfFirst db → ⊥
 not_first W L db stands h =
     let two : IsHouse Two h.0 W = house_found Two W L db h.0 stands h.1 in
     no (one_house h.0 One Two h.2.0 W h.2.1 two).0

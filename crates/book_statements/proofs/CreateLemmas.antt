@@ -43,7 +43,7 @@ use Rattle.book_statements.proofs.ListsGrown.{has_last}
 use Rattle.book_statements.proofs.Widening.{rules_tree_is, expiry_tree_is, widened_layout, still_counted}
 use Rattle.book_statements.proofs.MakingAnywhere.{MakesTable, entry_rules_made, lot_expiry_made}
 use Rattle.book_statements.proofs.Inserts.{inserts_book}
-use Rattle.book_statements.proofs.EachTable.{apart}
+use Rattle.book_statements.proofs.EachTable.{apart, listed}
 use Rattle.book_statements.proofs.Ordered.{all_ordered}
 use Rattle.sqlite.specs.Edit.{next_rowid}
 use Rattle.sqlite.specs.Tree.{Trees, put_row}
@@ -234,18 +234,25 @@ stands_empty W s legal h =
       ordered = all_ordered W [];
     }
   where
-    none : (t : TableName) → book_trees s.now (tree_of t) ≡ [] → HeldAs (keying_of t) [] (book_trees s.now (tree_of t))
-    none t empty = holds_nothing (keying_of t) (book_trees s.now (tree_of t)) empty
+    -- all but the first, which is `book`
+    others : (t : TableName) → nat_eq (tree_of t) 0 ≡ false → Has (drop 1 book_tables) (layout_of t)
+    others t other = elim (listed t) [
+      | inl first ↦ absurd (apart (tree_of t) 0 other (ap (λ (u : Table). u.tree) first))
+      | inr there ↦ there
+    ]
+
+    none : (t : TableName) → nat_eq (tree_of t) 0 ≡ false → HeldAs (keying_of t) [] (book_trees s.now (tree_of t))
+    none t other = holds_nothing (keying_of t) (book_trees s.now (tree_of t)) (all_has (λ (u : Table). book_trees s.now u.tree ≡ []) (drop 1 book_tables) (layout_of t) h.empty (others t other))
 
     by : AreHeld (filled W []) (book_trees s.now)
     by table.Book = h.book
-    by table.Entry = none table.Entry h.empty.0
-    by table.Outgoing = none table.Outgoing h.empty.1.0
-    by table.Stock = none table.Stock h.empty.1.1.0
-    by table.Advice = none table.Advice h.empty.1.1.1.0
-    by table.AdviceLine = none table.AdviceLine h.empty.1.1.1.1.0
-    by table.Orders = none table.Orders h.empty.1.1.1.1.1.0
-    by table.OrderLine = none table.OrderLine h.empty.1.1.1.1.1.1.0
-    by table.Reservation = none table.Reservation h.empty.1.1.1.1.1.1.1.0
-    by table.EntryRules = none table.EntryRules h.empty.1.1.1.1.1.1.1.1.0
-    by table.LotExpiry = none table.LotExpiry h.empty.1.1.1.1.1.1.1.1.1.0
+    by table.Entry = none table.Entry refl
+    by table.Outgoing = none table.Outgoing refl
+    by table.Stock = none table.Stock refl
+    by table.Advice = none table.Advice refl
+    by table.AdviceLine = none table.AdviceLine refl
+    by table.Orders = none table.Orders refl
+    by table.OrderLine = none table.OrderLine refl
+    by table.Reservation = none table.Reservation refl
+    by table.EntryRules = none table.EntryRules refl
+    by table.LotExpiry = none table.LotExpiry refl

@@ -4,25 +4,29 @@ use Rattle.std.specs.Prelude.{nat_eq, find, unwrap_or, if◌then◌else◌}
 use Rattle.std.proofs.lemmas.Bool.{cases_Bool}
 use Rattle.std.proofs.lemmas.Bool.Decides.{nat_tests}
 use Rattle.sqlite_rules.specs.Lists.{Has}
+use Rattle.sqlite_rules.proofs.ProbeLemmas.{mapped_has}
 use Rattle.profile.specs.Tables.{TableRow}
 use Rattle.book_statements.specs.declared.names.TableName.{TableName}
 use Rattle.book_statements.specs.declared.names.TableName.TheVariants as table
 use Rattle.book_statements.specs.Layout.{book_tables}
 use Rattle.book_statements.specs.Standing.{layout_of, tree_of, all_tables, Filled, with_rows}
 
--- it is laid out among the book's
+-- it is one of them, and laid out among the book's
+pub among : (t : TableName) → Has all_tables t
+among table.Book = inl refl
+among table.Entry = inr (inl refl)
+among table.Outgoing = inr (inr (inl refl))
+among table.Stock = inr (inr (inr (inl refl)))
+among table.Advice = inr (inr (inr (inr (inl refl))))
+among table.AdviceLine = inr (inr (inr (inr (inr (inl refl)))))
+among table.Orders = inr (inr (inr (inr (inr (inr (inl refl))))))
+among table.OrderLine = inr (inr (inr (inr (inr (inr (inr (inl refl)))))))
+among table.Reservation = inr (inr (inr (inr (inr (inr (inr (inr (inl refl))))))))
+among table.EntryRules = inr (inr (inr (inr (inr (inr (inr (inr (inr (inl refl)))))))))
+among table.LotExpiry = inr (inr (inr (inr (inr (inr (inr (inr (inr (inr (inl refl))))))))))
+
 pub listed : (t : TableName) → Has book_tables (layout_of t)
-listed table.Book = inl refl
-listed table.Entry = inr (inl refl)
-listed table.Outgoing = inr (inr (inl refl))
-listed table.Stock = inr (inr (inr (inl refl)))
-listed table.Advice = inr (inr (inr (inr (inl refl))))
-listed table.AdviceLine = inr (inr (inr (inr (inr (inl refl)))))
-listed table.Orders = inr (inr (inr (inr (inr (inr (inl refl))))))
-listed table.OrderLine = inr (inr (inr (inr (inr (inr (inr (inl refl)))))))
-listed table.Reservation = inr (inr (inr (inr (inr (inr (inr (inr (inl refl))))))))
-listed table.EntryRules = inr (inr (inr (inr (inr (inr (inr (inr (inr (inl refl)))))))))
-listed table.LotExpiry = inr (inr (inr (inr (inr (inr (inr (inr (inr (inr (inl refl))))))))))
+listed t = mapped_has layout_of all_tables t (among t)
 
 -- Each has a tree of its own.
 

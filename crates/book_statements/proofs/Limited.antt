@@ -25,14 +25,14 @@ enough_both i j a b is p q n e =
     omega (arith, here, later)
 
 pub spent_none : (made : ℕ) (a : Option ℕ) → Spent 0 made made a a
-spent_none made a = record { counted = λ h. omega arith; most = omega arith; left = fewer_none a; allowed = enough_none a }
+spent_none made a = record { counted = λ h. omega arith; most = omega arith; left = fewer_none a; enough = enough_none a }
 
 pub spent_both : (i j k m n : ℕ) (a b c : Option ℕ) → Spent i k m a b → Spent j m n b c → Spent (i + j) k n a c
 spent_both i j k m n a b c p q = record {
   counted = λ h. omega (arith, h, p.counted, p.most, q.counted, q.most);
   most = omega (arith, p.most, q.most);
   left = q.left ∙ ap (fewer j) p.left ∙ fewer_both i j a;
-  allowed = enough_both i j a b p.left p.allowed q.allowed;
+  enough = enough_both i j a b p.left p.enough q.enough;
 }
 
 -- one call, which a limit allows
@@ -41,7 +41,7 @@ spent_one k m a b is some left = record {
   counted = λ h. omega (arith, is, h);
   most = omega (arith, is);
   left = left;
-  allowed = λ n e. more n e;
+  enough = λ n e. more n e;
 }
   where
     more : (n : ℕ) → a ≡ Some n → 1 ≤ n

@@ -1,11 +1,12 @@
 -- Writes inside a transaction, one after another.
-use Rattle.std.proofs.Common.{◌≡◌, ◌⊎◌, ◌∙◌, inl, inr, Result, Ok, Err, OnErr, arith, refl, sym, subst}
+use Rattle.std.proofs.Common.{◌≡◌, ◌∙◌, inl, inr, Result, Ok, Err, OnErr, arith, refl, sym, subst}
 use Rattle.std.specs.Prelude.{IsErrAnd}
 use Rattle.sqlite.specs.State.{State, HasCleanDisk, Survives}
 use Rattle.sqlite.proofs.StateLemmas.{survives_then}
 use Rattle.store.specs.Fault.{Fault}
-use Rattle.store.specs.Fault.TheVariants.{OutOfMemory, Store}
+use Rattle.store.specs.Fault.TheVariants.{Store}
 use Rattle.book_statements.specs.declared.calls.Calls.{Calls}
+use Rattle.book_statements.specs.Faults.{IsCallFault}
 use Rattle.book_statements.specs.Limits.{Spends}
 use Rattle.book_statements.specs.Rises.{Rises}
 use Rattle.book_statements.specs.Writing.{Wrote}
@@ -103,5 +104,5 @@ wrote_failed a b x y f (Err g) is w = record {
   ok = tt;
   counted = w.counted;
   limit = w.limit;
-  named = subst (λ h. (h ≡ OutOfMemory) ⊎ (h ≡ Store)) (sym is) w.named;
+  named = subst IsCallFault (sym is) w.named;
 }

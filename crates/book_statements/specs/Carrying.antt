@@ -16,7 +16,7 @@ use Rattle.profile.specs.Tables.{book_table, entry_rules_table}
 use Rattle.book_statements.specs.declared.names.TableName.{TableName}
 use Rattle.book_statements.specs.declared.names.TableName.TheVariants as table
 use Rattle.book_statements.specs.Layout.{IsFirstLayout}
-use Rattle.book_statements.specs.Standing.{all_tables, keying_of, tree_of, Filled, with_rows, filled, HeldAs, AreOrdered, Stands, StandsIn}
+use Rattle.book_statements.specs.Standing.{all_tables, keying_of, tree_of, Filled, with_rows, filled, HeldAs, AreOrdered, StandsSecond, StandsIn}
 use Rattle.book_statements.specs.Leading.{Keeps}
 use Rattle.book_statements.specs.Exits.{HasGrown}
 
@@ -41,7 +41,7 @@ pub record StandsFirst (W : Who) (L : List Entry) (db : Database) : Type 0 where
 -- while a store is open
 abbrev pub StandsAs : Rules → Who → List Entry → Database → Type 0
 StandsAs One W L db = StandsFirst W L db
-StandsAs Two W L db = Stands W L db
+StandsAs Two W L db = StandsSecond W L db
 
 abbrev pub StandsInAs : Rules → Who → List Entry → Trees → Type 0
 StandsInAs q W L db = (schema : sqlite.Schema) × IsSound schema db

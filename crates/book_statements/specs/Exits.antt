@@ -9,12 +9,12 @@ use Rattle.profile.specs.Register.{Entry}
 use Rattle.profile.specs.Accepted.{IsLegal}
 use Rattle.rules.specs.Written.{Written}
 use Rattle.rules.specs.Change.{Change}
-use Rattle.book_statements.specs.Standing.{Stands, StandsIn, AreOrdered, filled}
+use Rattle.book_statements.specs.Standing.{StandsSecond, StandsIn, AreOrdered, filled}
 use Rattle.book_statements.specs.Appending.{Appends}
 
 -- the database stands for the register, unless the store is shut and shows nothing
 abbrev pub StandsWhileOpen : State → Who → List Entry → Type 0
-StandsWhileOpen s W L = IsTrue s.is_open → Stands W L s.now
+StandsWhileOpen s W L = IsTrue s.is_open → StandsSecond W L s.now
 
 -- the tables stood for a register whose rows are in order, and this entry is appended to it, which
 -- leaves it legal
@@ -34,7 +34,7 @@ Extends s seq who row changes text db = (W : Who) (L : List Entry) (e : Entry)
 
 -- the tables stand for the register with the entry, whose rows are in order
 pub record HasGrown (s : State) (W : Who) (L : List Entry) : Type 0 where
-  pub stands : Stands W L s.now
+  pub stands : StandsSecond W L s.now
   pub sound : IsDatabase s.now
   pub ordered : AreOrdered (filled W L)
 

@@ -112,7 +112,7 @@ AreHeld f db = (t : TableName) → HeldAs (keying_of t) (f t) (db (tree_of t))
 
 -- the register is legal, and the schema has the book's eleven tables, which hold the rows that the
 -- warehouse's register has
-pub record Stands (W : Who) (L : List Entry) (db : Database) : Type 0 where
+pub record StandsSecond (W : Who) (L : List Entry) (db : Database) : Type 0 where
   pub legal : IsLegal Two W L
   pub schema : IsLayout db.schema
   pub rows : AreHeld (filled W L) (book_trees db)
@@ -120,7 +120,7 @@ pub record Stands (W : Who) (L : List Entry) (db : Database) : Type 0 where
 -- the same of the trees that a crash leaves or an opening reads
 abbrev pub StandsIn : Who → List Entry → Trees → Type 0
 StandsIn W L db = (schema : sqlite.Schema) × IsSound schema db
-    × Stands W L (record { schema = schema; trees = db })
+    × StandsSecond W L (record { schema = schema; trees = db })
 
 -- Rows by their keys.
 

@@ -1,14 +1,14 @@
 -- What a call does that writes inside a transaction, and what becomes of the calls that are
 -- counted.
-use Rattle.std.specs.Prelude.{◌≡◌, ◌≢◌, ◌⊎◌, ℕ, List, Result, Ok, Some, ⊤, IsTrue, IfErr, OnOk, OnErr}
+use Rattle.std.specs.Prelude.{◌≡◌, ◌≢◌, ℕ, List, Result, Ok, Some, ⊤, IsTrue, IfErr, OnOk, OnErr}
 use Rattle.sqlite.specs.Order.{Row}
 use Rattle.sqlite.specs.Held.{Held, state}
 use Rattle.sqlite.specs.Store.{Ghosts}
 use Rattle.sqlite.specs.State.{State, HasCleanDisk, Survives, KeepsCommit, IsRolledBack, Executes}
 use Rattle.store.specs.Fault.{Fault}
-use Rattle.store.specs.Fault.TheVariants.{OutOfMemory, Store}
 use Rattle.book_statements.specs.declared.calls.Calls.{Calls}
 use Rattle.book_statements.specs.Exits.{LeavesIt}
+use Rattle.book_statements.specs.Faults.{IsCallFault}
 use Rattle.book_statements.specs.Limits.{Spends}
 use Rattle.book_statements.specs.Rises.{Rises}
 use Rattle.book_statements.specs.Steps.{GoesOn}
@@ -28,7 +28,7 @@ pub record Wrote
   pub ok : OnOk result (after.refused ≡ before.refused)
   pub counted : OnErr result (Rises before.refused after.refused)
   pub limit : Spends before.made after.made before.limit after.limit
-  pub named : IfErr result (λ f. (f ≡ OutOfMemory) ⊎ (f ≡ Store))
+  pub named : IfErr result IsCallFault
 
 -- the same of connections
 abbrev pub WroteIn : {S T : Type 0} → Ghosts S → (State → State → Type 0) → Held S → Held S → Calls
@@ -58,4 +58,4 @@ pub record Ended
   pub counted : OnErr result (Rises before.refused after.refused)
   pub limit : Spends before.made after.made before.limit after.limit
   pub allowed : OnOk result (before.limit ≢ Some 0)
-  pub named : IfErr result (λ f. (f ≡ OutOfMemory) ⊎ (f ≡ Store))
+  pub named : IfErr result IsCallFault

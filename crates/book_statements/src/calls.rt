@@ -1,5 +1,5 @@
-ghost use Rattle.std.specs.Prelude.{◌≡◌, ◌≢◌, ◌⊎◌, ◌+◌, ◌-◌, ◌^◌, min, IfErr, OnErr, OnOk, None, Some};
-ghost use Rattle.book_statements.specs.Faults.{fault_of_call};
+ghost use Rattle.std.specs.Prelude.{◌≡◌, ◌≢◌, ◌+◌, ◌-◌, ◌^◌, min, IfErr, OnErr, OnOk, None, Some};
+ghost use Rattle.book_statements.specs.Faults.{fault_of_call, IsCallFault};
 ghost use Rattle.book_statements.specs.Limits.{Spends, Spent, fewer};
 ghost use Rattle.book_statements.specs.Rises.{Rises};
 
@@ -79,7 +79,7 @@ impl Calls {
         ensures made { self.new.made ≡ self.old.made }
         ensures limit { self.new.limit ≡ self.old.limit }
         ensures told { result ≡ fault_of_call error }
-        ensures named { (result ≡ Fault.OutOfMemory) ⊎ (result ≡ Fault.Store) }
+        ensures named { IsCallFault result }
     {
         self.count();
         match error {

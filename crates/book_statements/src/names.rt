@@ -1,4 +1,5 @@
-//! The tables of a book.
+//! The tables of a book, and the one list of them. What is so of a table, as its columns, its key
+//! and the rows of a register, is a function of its name in the definitions.
 ghost use Rattle.std.specs.Prelude.{◌≡◌};
 ghost use Rattle.book_statements.specs.Standing.{name_of};
 

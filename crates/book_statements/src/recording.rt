@@ -1,3 +1,5 @@
+//! The rows of an entry itself, beside those that its command changes: its own, that of its rules,
+//! and its text with the state of it, which a later acknowledgment sets.
 ghost use Rattle.std.specs.Prelude.{◌≡◌, ◌<◌, ◌^◌, [], ◌∷◌, codes, IsTrue, Some, pos};
 ghost use Rattle.profile.specs.Changes.{Puts, SetsState};
 ghost use Rattle.profile.specs.Rules.{rules_number};

@@ -33,7 +33,7 @@ use Rattle.book_statements.specs.Layout.{advice_line_layout}
 use Rattle.book_tables.specs.Looking.{lines_advised}
 use Rattle.book_tables.specs.Showing.{advice_shown, line_shown}
 use Rattle.book_statements.specs.declared.names.TableName.TheVariants.{Advice, AdviceLine}
-use Rattle.book_statements.specs.Standing.{Stands, AreOrdered, filled}
+use Rattle.book_statements.specs.Standing.{StandsSecond, AreOrdered, filled}
 use Rattle.book_statements.proofs.Asked.{found}
 use Rattle.book_tables.proofs.Finding.{no_row, first_row, one_key, second_of}
 use Rattle.book_statements.proofs.HoldsLemmas.{are_keyed}
@@ -65,7 +65,7 @@ advice_under W L who shipment legal partner =
 
 module _ (old : State) (W : Who) (L : List Entry) (who : Who) (shipment : List ℕ) (partner : IsTrue (is_partner who)) (stands : StandsWhileOpen old W L)
     (rows : List Row) (finds : IsTrue old.is_open × Finds advice_text (value.Text (who_text who) ∷ value.Text shipment ∷ []) old.now rows) where
-  here : Stands W L old.now
+  here : StandsSecond W L old.now
   here = stands finds.0
 
   one : (a b : PageAdvice) → Has (advices L who) a → Has (advices L who) b → is_shipment shipment a ≡ true → is_shipment shipment b ≡ true → a ≡ b
@@ -106,7 +106,7 @@ lines_under W L who shipment legal partner =
     parts_under W L who legal partner advice_line_rows refl shipment_of (λ (a : PageAdvice). enumerate_from 1 a.lines) advised_cells (advices L who) refl (advices_rise (events (own L who))) shipment
     10 line_columns line_order line_out (λ db. refl) (λ id p. refl) (λ (o : Option PageAdvice). enumerate_from 1 (lines_advised o)) refl (λ a. refl)
 
-pub advised_found : (W : Who) (L : List Entry) (who : Who) (shipment : List ℕ) (db : Database) (rows : List Row) → is_partner who ≡ true → IsDatabase db → Stands W L db
+pub advised_found : (W : Who) (L : List Entry) (who : Who) (shipment : List ℕ) (db : Database) (rows : List Row) → is_partner who ≡ true → IsDatabase db → StandsSecond W L db
     → Finds advice_lines_text (value.Text (who_text who) ∷ value.Text shipment ∷ []) db rows → rows ≡ map line_shown (its_lines L who shipment)
 advised_found W L who shipment db rows partner sound stands h =
     let read = found advice_lines_text (value.Text (who_text who) ∷ value.Text shipment ∷ []) db rows _ stands.schema advice_lines_reads advice_lines_is h in

@@ -9,12 +9,12 @@ use Rattle.store.specs.Fault.{Fault}
 use Rattle.book_statements.specs.Asking.{IsAsked, IsAskFault}
 use Rattle.book_statements.specs.Exits.{StandsWhileOpen}
 use Rattle.book_statements.specs.Rises.{Rises}
-use Rattle.book_statements.specs.Standing.{Stands}
+use Rattle.book_statements.specs.Standing.{StandsSecond}
 
 pub stands_later : (old mid : State) (W : Who) (L : List Entry) → HasCleanDisk mid → IsAsked old mid → StandsWhileOpen old W L → StandsWhileOpen mid W L
 stands_later old mid W L clean asked stands =
     let before = asked.same clean in
-    (λ o. subst (Stands W L) (sym (before.now o)) (stands (before.was_open o)))
+    (λ o. subst (StandsSecond W L) (sym (before.now o)) (stands (before.was_open o)))
 
 pub clean_before : (mid new : State) → IsAsked mid new → HasCleanDisk new → HasCleanDisk mid
 clean_before mid new asked clean = omega (arith, asked.crash.clean, clean)

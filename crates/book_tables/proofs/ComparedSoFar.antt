@@ -1,76 +1,34 @@
 -- Tables that are compared one after another.
-use Rattle.std.proofs.Common.{◌≡◌, ◌≢◌, ◌≤◌, ◌<◌, inl, inr, ℕ, ◌+◌, List, Bool, true, false, Some, Result, Ok, refl, sym, ap, subst, subst₂, ◌∙◌, arith}
-use Rattle.std.specs.Prelude.{nat_lt, ◌==◌, if◌then◌else◌}
-use Rattle.std.proofs.lemmas.Bool.{cases_Bool}
-use Rattle.std.proofs.lemmas.Bool.Decides.{nat_tests}
+use Rattle.std.proofs.Common.{◌≡◌, ◌≢◌, ◌≤◌, ◌<◌, ◌⊎◌, inl, inr, ℕ, ◌+◌, List, [], ◌∷◌, length, take, get_or, Bool, true, false, Some, Result, Ok, sym, subst, subst₂, arith}
+use Rattle.std.proofs.lemmas.List.{take_more, take_all}
 use Rattle.sqlite.specs.Effect.{Database}
 use Rattle.sqlite.specs.Held.{state}
 use Rattle.sqlite.specs.State.{State, HasCleanDisk}
 use Rattle.sqlite.specs.Store.{Ghosts}
+use Rattle.sqlite_rules.specs.Lists.{Has}
 use Rattle.store.specs.Fault.{Fault}
 use Rattle.book_statements.specs.declared.names.TableName.{TableName}
-use Rattle.book_statements.specs.declared.names.TableName.TheVariants.{Book, Entry, Outgoing, Stock, Advice, AdviceLine, Orders, OrderLine, Reservation, EntryRules, LotExpiry}
+use Rattle.book_statements.specs.Standing.{all_tables}
 use Rattle.book_statements.specs.Asking.{Asked, Went, IsAsked}
 use Rattle.book_statements.specs.Whole.{whole_text}
-use Rattle.book_tables.specs.Comparing.{number_of, FindBoth, ShowBoth, Compares}
+use Rattle.book_tables.specs.Comparing.{FindBoth, ShowBoth, Compares}
 use Rattle.book_statements.specs.Kept.{Kept}
 use Rattle.book_statements.specs.Limits.{Counts}
 use Rattle.book_statements.proofs.Asked.{asked_twice}
+use Rattle.book_statements.proofs.Beside.{has_either}
+use Rattle.book_statements.proofs.EachTable.{among}
 use Rattle.book_tables.proofs.AskedLater.{clean_before}
 use Rattle.book_statements.proofs.Limited.{counts_both, none_after, spends_none}
 use Rattle.book_tables.proofs.Queries.{went_of, went_none, went_on}
 use Rattle.book_statements.proofs.StepLemmas.{on_ok}
 
--- Each table has a number of its own.
-
-abbrev name_from : ℕ → TableName
-name_from n =
-    if n == 0 then Book
-    else (if n == 1 then Entry
-    else (if n == 2 then Outgoing
-    else (if n == 3 then Stock
-    else (if n == 4 then Advice
-    else (if n == 5 then AdviceLine
-    else (if n == 6 then Orders
-    else (if n == 7 then OrderLine
-    else (if n == 8 then Reservation
-    else (if n == 9 then EntryRules
-    else LotExpiry)))))))))
-
-name_is : (t : TableName) → name_from (number_of t) ≡ t
-name_is Book = refl
-name_is Entry = refl
-name_is Outgoing = refl
-name_is Stock = refl
-name_is Advice = refl
-name_is AdviceLine = refl
-name_is Orders = refl
-name_is OrderLine = refl
-name_is Reservation = refl
-name_is EntryRules = refl
-name_is LotExpiry = refl
-
-one_name : (t u : TableName) → number_of t ≡ number_of u → t ≡ u
-one_name t u e = sym (name_is t) ∙ ap name_from e ∙ name_is u
-
-eleven : (t : TableName) → number_of t < 11
-eleven Book = omega arith
-eleven Entry = omega arith
-eleven Outgoing = omega arith
-eleven Stock = omega arith
-eleven Advice = omega arith
-eleven AdviceLine = omega arith
-eleven Orders = omega arith
-eleven OrderLine = omega arith
-eleven Reservation = omega arith
-eleven EntryRules = omega arith
-eleven LotExpiry = omega arith
-
-below : (m n : ℕ) → nat_lt m n ≡ true → m < n
-below m n h = grind (arith, nat_tests, h)
-
-above : (m n : ℕ) → nat_lt m n ≡ false → m < n + 1 → m ≡ n
-above m n h g = grind (arith, nat_tests, h, g)
+-- of the first tables and one more, each is one of the first or that one
+one_of : (ts : List TableName) (n : ℕ) (d t : TableName) → n < length ts → Has (take (n + 1) ts) t → Has (take n ts) t ⊎ (t ≡ get_or ts n d)
+one_of ts n d t low there = elim (has_either (take n ts) (get_or ts n d ∷ []) t (subst (λ (us : List TableName). Has us t) (take_more ts n d low) there)) [
+  | inl before ↦ inl before
+  | inr (inl is) ↦ inr is
+  | inr (inr none) ↦ elim none [ ]
+]
 
 -- what is shown after other queries was shown before them
 pub shown_before : (old mid them them_mid : State) (sql : List ℕ) (same : Bool) → HasCleanDisk mid → HasCleanDisk them_mid → IsAsked old mid → IsAsked them them_mid → ShowBoth sql mid them_mid same → ShowBoth sql old them same
@@ -97,7 +55,7 @@ module _ {S T : Type 0} (store : Ghosts S) (its : Ghosts T) where
     pub other : IsAsked (state its them.conn) (state its them_now.conn)
     pub other_limit : Counts them them_now
     pub allowed : 0 < number → old.limit ≢ Some 0
-    pub same : HasCleanDisk (state store now.conn) → HasCleanDisk (state its them_now.conn) → (t : TableName) → number_of t < number → ShowBoth (whole_text t) (state store old.conn) (state its them.conn) true
+    pub same : HasCleanDisk (state store now.conn) → HasCleanDisk (state its them_now.conn) → (t : TableName) → Has (take number all_tables) t → ShowBoth (whole_text t) (state store old.conn) (state its them.conn) true
 
   pub none_so_far : (old : Kept S) (them : Kept T) → SoFar old old them them 0
   none_so_far old them = record {
@@ -105,7 +63,7 @@ module _ {S T : Type 0} (store : Ghosts S) (its : Ghosts T) where
     other = let w = went_none its them true in w.left;
     other_limit = spends_none them.made them.limit;
     allowed = λ h. absurd (omega (arith, h));
-    same = λ _ _ t h. absurd (omega (arith, h));
+    same = λ _ _ t none. absurd none;
   }
 
   module _ (old mid new : Kept S) (them them_mid them_new : Kept T) (number : ℕ) (so_far : SoFar old mid them them_mid number) where
@@ -121,9 +79,12 @@ module _ {S T : Type 0} (store : Ghosts S) (its : Ghosts T) where
     pub limit_after : Counts them_mid them_new → Counts them them_new
     limit_after later = counts_both them them_mid them_new so_far.other_limit later
 
-    module _ (t : TableName) (number_is : number_of t ≡ number) (sql : List ℕ) (sql_is : sql ≡ whole_text t) (same : Bool) (asked : Asked {T = Bool} store mid new (Ok same))
+    module _ (d : TableName) (low : number < length all_tables) (sql : List ℕ) (sql_is : sql ≡ whole_text (get_or all_tables number d)) (same : Bool) (asked : Asked {T = Bool} store mid new (Ok same))
         (other_asked : IsAsked (state its them_mid.conn) (state its them_new.conn)) (other_limit : Counts them_mid them_new)
         (shows : HasCleanDisk (state store new.conn) → HasCleanDisk (state its them_new.conn) → ShowBoth sql (state store mid.conn) (state its them_mid.conn) same) where
+      abbrev t : TableName
+      t = get_or all_tables number d
+
       early : HasCleanDisk (state store new.conn) → HasCleanDisk (state store mid.conn)
       early = clean_before (state store mid.conn) (state store new.conn) asked.left
 
@@ -144,11 +105,9 @@ module _ {S T : Type 0} (store : Ghosts S) (its : Ghosts T) where
             other = both_asked other_asked;
             other_limit = limit_after other_limit;
             allowed = λ _. all.allowed;
-            same = λ clean its_clean u low. elim (cases_Bool (nat_lt (number_of u) number)) [
-              | inl less ↦ so_far.same (early clean) (its_early its_clean) u (below (number_of u) number less)
-              | inr last ↦
-                  let is = one_name t u (number_is ∙ sym (above (number_of u) number last low)) in
-                  subst₂ (λ (v : TableName) (b : Bool). ShowBoth (whole_text v) (state store old.conn) (state its them.conn) b) is passes (shown clean its_clean)
+            same = λ clean its_clean u there. elim (one_of all_tables number d u low there) [
+              | inl before ↦ so_far.same (early clean) (its_early its_clean) u before
+              | inr is ↦ subst₂ (λ (v : TableName) (b : Bool). ShowBoth (whole_text v) (state store old.conn) (state its them.conn) b) (sym is) passes (shown clean its_clean)
             ];
           }
 
@@ -156,9 +115,9 @@ module _ {S T : Type 0} (store : Ghosts S) (its : Ghosts T) where
           → Compares false (state store old.conn) (state its them.conn)
       one_differs differs clean its_clean = (t, subst (λ (b : Bool). ShowBoth (whole_text t) (state store old.conn) (state its them.conn) b) differs (shown clean its_clean))
 
-  module _ (old now : Kept S) (them them_now : Kept T) (number : ℕ) (whole : 11 ≤ number) (so_far : SoFar old now them them_now number) where
+  module _ (old now : Kept S) (them them_now : Kept T) (number : ℕ) (whole : length all_tables ≤ number) (so_far : SoFar old now them them_now number) where
     pub all_same : HasCleanDisk (state store now.conn) → HasCleanDisk (state its them_now.conn) → Compares true (state store old.conn) (state its them.conn)
-    all_same clean its_clean t = so_far.same clean its_clean t (omega (arith, eleven t, whole))
+    all_same clean its_clean t = so_far.same clean its_clean t (subst (λ (ts : List TableName). Has ts t) (sym (take_all number all_tables whole)) (among t))
 
     pub all_asked : Asked {T = Bool} store old now (Ok true)
     all_asked =

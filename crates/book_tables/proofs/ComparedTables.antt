@@ -15,12 +15,12 @@ use Rattle.book_statements.specs.Whole.{whole_text}
 use Rattle.book_tables.specs.Comparing.{AreTables, FindBoth, IsLaid, Compares}
 use Rattle.book_statements.specs.Exits.{StandsWhileOpen}
 use Rattle.book_statements.specs.Layout.{IsLayout, book_trees}
-use Rattle.book_statements.specs.Standing.{ByColumns, keying_of, schema_of, tree_of, width_of, Stands, AreHeld, HeldAs, OrderedAs, filled}
+use Rattle.book_statements.specs.Standing.{ByColumns, keying_of, schema_of, tree_of, width_of, StandsSecond, AreHeld, HeldAs, OrderedAs, filled}
 use Rattle.book_statements.proofs.Found.{entries_rise, rules_rise}
 use Rattle.book_statements.proofs.Ordered.{all_ordered}
 use Rattle.book_tables.proofs.WholeBook.{book_same, book_shown, entries_same, entries_shown, rules_same, rules_shown}
 use Rattle.book_tables.proofs.WholeFound.{whole_found}
-use Rattle.book_tables.proofs.WholeKeyed.{holds_too}
+use Rattle.book_tables.proofs.WholeKeyed.{holds_too, shaped_at}
 use Rattle.book_tables.proofs.WholeSorted.{same_shown}
 use Rattle.book_statements.proofs.WholeTexts.{whole_query, keyed_is}
 
@@ -36,7 +36,7 @@ module _ (one two : Database) (lies : IsLayout one.schema) (its : IsLayout two.s
   same_answer t f = subst (λ (rows : List Row). IsAnswer (whole_query t) (overlay (book_trees two) []) [] rows) (sym (f.told.0 refl)) (its_answer t true f)
 
   -- all are the same: what the one stands for, the other stands for
-  pub stands_too : (W : Who) (L : List Entry) → AreTables one → Stands W L two → ((t : TableName) → FindBoth (whole_text t) one two true) → Stands W L one
+  pub stands_too : (W : Who) (L : List Entry) → AreTables one → StandsSecond W L two → ((t : TableName) → FindBoth (whole_text t) one two true) → StandsSecond W L one
   stands_too W L tables stands same =
       record { legal = stands.legal; schema = lies; rows = by }
     where
@@ -60,9 +60,9 @@ module _ (one two : Database) (lies : IsLayout one.schema) (its : IsLayout two.s
 
       by : AreHeld (filled W L) (book_trees one)
       by name.Book = book_same one two lies its sound its_sound _ (answer name.Book true (same name.Book)) (same_answer name.Book (same name.Book)) _ (held name.Book)
-      by name.Entry = entries_same one two lies its sound its_sound _ tables.1.0.0 its_up (answer name.Entry true (same name.Entry)) (same_answer name.Entry (same name.Entry)) ∙ held name.Entry
+      by name.Entry = entries_same one two lies its sound its_sound _ (shaped_at name.Entry one tables).0 its_up (answer name.Entry true (same name.Entry)) (same_answer name.Entry (same name.Entry)) ∙ held name.Entry
       by name.EntryRules =
-          rules_same one two lies its sound its_sound _ tables.1.1.1.1.1.1.1.1.1.0.0 its_rules_up (answer name.EntryRules true (same name.EntryRules)) (same_answer name.EntryRules (same name.EntryRules)) ∙ held name.EntryRules
+          rules_same one two lies its sound its_sound _ (shaped_at name.EntryRules one tables).0 its_rules_up (answer name.EntryRules true (same name.EntryRules)) (same_answer name.EntryRules (same name.EntryRules)) ∙ held name.EntryRules
       by name.Outgoing = keyed name.Outgoing refl
       by name.Stock = keyed name.Stock refl
       by name.Advice = keyed name.Advice refl
@@ -72,7 +72,7 @@ module _ (one two : Database) (lies : IsLayout one.schema) (its : IsLayout two.s
       by name.Reservation = keyed name.Reservation refl
       by name.LotExpiry = keyed name.LotExpiry refl
 
-  module _ (W : Who) (L : List Entry) (stands : Stands W L one) (its_stands : Stands W L two) where
+  module _ (W : Who) (L : List Entry) (stands : StandsSecond W L one) (its_stands : StandsSecond W L two) where
     abbrev held : AreHeld (filled W L) (book_trees one)
     held = stands.rows
 
@@ -125,7 +125,7 @@ opened one two true h = let s = h name.Book in (s.is_open, s.other_open)
 opened one two false h = let s = h.1 in (s.is_open, s.other_open)
 
 module _ (one two : State) (live : IsLive one) (its_live : IsLive two) where
-  pub compared_stands : (W : Who) (L : List Entry) → IsLaid one → AreTables one.now → StandsWhileOpen two W L → (same : Bool) → Compares same one two → IsTrue same → Stands W L one.now
+  pub compared_stands : (W : Who) (L : List Entry) → IsLaid one → AreTables one.now → StandsWhileOpen two W L → (same : Bool) → Compares same one two → IsTrue same → StandsSecond W L one.now
   compared_stands W L laid tables stands true h _ =
       let s = h name.Book in
       let here = stands s.other_open in

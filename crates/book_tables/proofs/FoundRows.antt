@@ -21,7 +21,7 @@ use Rattle.book_statements.specs.Exits.{StandsWhileOpen}
 use Rattle.book_statements.specs.Dated.{date_shown, dates_of}
 use Rattle.book_tables.specs.Showing.{lot_shown, out_shown, IsSent}
 use Rattle.book_statements.specs.declared.names.TableName.TheVariants.{Stock, LotExpiry, Outgoing}
-use Rattle.book_statements.specs.Standing.{Stands}
+use Rattle.book_statements.specs.Standing.{StandsSecond}
 use Rattle.book_statements.proofs.Asked.{found, found_placed}
 use Rattle.book_statements.proofs.Ordered.{lots_rise}
 use Rattle.book_tables.proofs.Sendings.{legal_sent}
@@ -29,14 +29,14 @@ use Rattle.book_statements.proofs.ShowingTexts.{all_lots_text, all_lots_is, all_
 use Rattle.book_statements.proofs.ExpiryReads.{all_dates_is}
 use Rattle.book_tables.proofs.ShownRows.{all_lots_shown, dates_shown, outgoing_rows_shown}
 
-all_lots_found : (W : Who) (L : List Entry) (who : Who) (db : Database) (rows : List Row) → is_partner who ≡ true → IsDatabase db → Stands W L db
+all_lots_found : (W : Who) (L : List Entry) (who : Who) (db : Database) (rows : List Row) → is_partner who ≡ true → IsDatabase db → StandsSecond W L db
     → Finds all_lots_text (value.Text (who_text who) ∷ []) db rows → rows ≡ map lot_shown (running_rows (events (own L who)))
 all_lots_found W L who db rows partner sound stands h =
     let read = found all_lots_text (value.Text (who_text who) ∷ []) db rows _ stands.schema all_lots_reads all_lots_is h in
     let held = stands.rows in
     all_lots_shown db.schema stands.schema W L who db.trees rows stands.legal partner sound (held Stock) (read.answer value.Null)
 
-dates_found : (W : Who) (L : List Entry) (who : Who) (db : Database) (rows : List Row) → is_partner who ≡ true → IsDatabase db → Stands W L db
+dates_found : (W : Who) (L : List Entry) (who : Who) (db : Database) (rows : List Row) → is_partner who ≡ true → IsDatabase db → StandsSecond W L db
     → Finds all_dates_text (value.Text (who_text who) ∷ []) db rows → rows ≡ map date_shown (dates_of (running_rows (events (own L who))))
 dates_found W L who db rows partner sound stands h =
     let lies = stands.schema in
@@ -44,7 +44,7 @@ dates_found W L who db rows partner sound stands h =
     dates_shown db.schema lies W L who db.trees rows stands.legal partner sound (held LotExpiry)
     (found_placed all_dates_text (value.Text (who_text who) ∷ []) db rows all_dates_query dates_names 19 all_dates_reads (all_dates_is db.schema lies.expiry_place (expiry_tree db.schema) lies.expiry) h)
 
-outgoing_found : (W : Who) (L : List Entry) (who : Who) (db : Database) (rows : List Row) → is_partner who ≡ true → IsDatabase db → Stands W L db
+outgoing_found : (W : Who) (L : List Entry) (who : Who) (db : Database) (rows : List Row) → is_partner who ≡ true → IsDatabase db → StandsSecond W L db
     → Finds outbox_text (value.Text (who_text who) ∷ []) db rows → rows ≡ map out_shown (outgoing_rows W (own L who))
 outgoing_found W L who db rows partner sound stands h =
     let read = found outbox_text (value.Text (who_text who) ∷ []) db rows _ stands.schema outbox_reads outbox_is h in

@@ -11,7 +11,7 @@ use Rattle.rules.specs.Tabled.{table_changes}
 use Rattle.rules.specs.Change as stock
 use Rattle.book_statements.specs.Appending.{Appends, entry_changes}
 use Rattle.book_statements.specs.Leading.{Leads, Keeps}
-use Rattle.book_statements.specs.Standing.{Filled, filled, Stands, StandsIn}
+use Rattle.book_statements.specs.Standing.{Filled, filled, StandsSecond, StandsIn}
 use Rattle.book_statements.specs.Exits.{IsAppended, HasGrown}
 use Rattle.book_statements.proofs.AppendingLemmas.{led_on, same_named}
 
@@ -30,7 +30,7 @@ grown old begun last seq who row cs text same opened live leads W L e it =
     record { stands = record { legal = it.legal; schema = keeps.schema; rows = keeps.rows }; sound = keeps.sound; ordered = keeps.ordered }
 
 pub grown_now : (last new : State) (W : Who) (L : List Entry) → new.now ≡ last.now → HasGrown last W L → HasGrown new W L
-grown_now last new W L same h = record { stands = subst (Stands W L) (sym same) h.stands; sound = subst IsDatabase (sym same) h.sound; ordered = h.ordered }
+grown_now last new W L same h = record { stands = subst (StandsSecond W L) (sym same) h.stands; sound = subst IsDatabase (sym same) h.sound; ordered = h.ordered }
 
 pub stands_in : (db : Trees) (s : State) (W : Who) (L : List Entry) → db ≡ s.now.trees → HasGrown s W L → StandsIn W L db
 stands_in db s W L same h = subst (StandsIn W L) (sym same) (s.now.schema, h.sound, h.stands)

@@ -26,7 +26,7 @@ use Rattle.book_statements.specs.Layout.{stock_layout, lot_expiry_layout, book_t
 use Rattle.book_statements.specs.Dated.{Dated, date_shown, dates_of}
 use Rattle.book_tables.specs.Showing.{lot_shown}
 use Rattle.book_statements.specs.declared.names.TableName.TheVariants.{Stock, LotExpiry}
-use Rattle.book_statements.specs.Standing.{Stands, AreOrdered, filled}
+use Rattle.book_statements.specs.Standing.{StandsSecond, AreOrdered, filled}
 use Rattle.book_statements.proofs.Asked.{found, found_placed}
 use Rattle.book_tables.proofs.Finding.{rises_kept}
 use Rattle.book_statements.proofs.HoldsLemmas.{are_keyed}
@@ -50,7 +50,7 @@ lots_under W L who item legal partner =
     cells_under W L who legal partner (λ M. map stock_cells (running_rows (events M))) refl stock_cells (running_rows (events (own L who))) refl (λ r. bytes_eq r.item item) (value.Text item) 2 (λ id m. equal_bytes m.item item)
     6 lots_columns pair_order lot_out (λ db. refl) (λ id m. refl)
 
-pub lots_found : (W : Who) (L : List Entry) (who : Who) (item : List ℕ) (db : Database) (rows : List Row) → is_partner who ≡ true → IsDatabase db → Stands W L db
+pub lots_found : (W : Who) (L : List Entry) (who : Who) (item : List ℕ) (db : Database) (rows : List Row) → is_partner who ≡ true → IsDatabase db → StandsSecond W L db
     → Finds lots_text (value.Text (who_text who) ∷ value.Text item ∷ []) db rows → rows ≡ map lot_shown (filter (λ r. bytes_eq r.item item) (page_of (own L who)).rows)
 lots_found W L who item db rows partner sound stands h =
     let read = found lots_text (value.Text (who_text who) ∷ value.Text item ∷ []) db rows _ stands.schema lots_reads lots_is h in
@@ -97,7 +97,7 @@ dates_under W L who item legal partner =
     cells_under W L who legal partner (λ M. flat_map expiry_cells (running_rows (events M))) refl date_cells (dates_of (running_rows (events (own L who)))) (dates_in (running_rows (events (own L who))))
     (λ d. bytes_eq d.item item) (value.Text item) 2 (λ id d. equal_bytes d.item item) 19 dates_columns pair_order date_out (λ db. refl) (λ id d. refl)
 
-pub dates_found : (W : Who) (L : List Entry) (who : Who) (item : List ℕ) (db : Database) (rows : List Row) → is_partner who ≡ true → IsDatabase db → Stands W L db
+pub dates_found : (W : Who) (L : List Entry) (who : Who) (item : List ℕ) (db : Database) (rows : List Row) → is_partner who ≡ true → IsDatabase db → StandsSecond W L db
     → Finds dates_text (value.Text (who_text who) ∷ value.Text item ∷ []) db rows → rows ≡ map date_shown (dates_of (filter (λ r. bytes_eq r.item item) (page_of (own L who)).rows))
 dates_found W L who item db rows partner sound stands h =
     let held = stands.rows in

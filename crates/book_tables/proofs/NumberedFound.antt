@@ -45,7 +45,7 @@ use Rattle.book_statements.specs.Exits.{StandsWhileOpen}
 use Rattle.book_statements.specs.Held.{entry_values}
 use Rattle.book_statements.specs.Layout.{Others, beside, book_trees, rules_tree}
 use Rattle.book_statements.specs.Recorded.{numbered_shown, numbered_text, rules_shown, rules_text, written_at, IsRecorded, IsOfPartner}
-use Rattle.book_statements.specs.Standing.{Stands}
+use Rattle.book_statements.specs.Standing.{StandsSecond}
 use Rattle.book_statements.proofs.Asked.{found, found_placed}
 use Rattle.book_statements.proofs.RulesReads.{rules_is}
 use Rattle.book_statements.proofs.Found.{flat_map-cond, map-both}
@@ -178,7 +178,7 @@ module _ (seq : ℕ) where
   in_any_order shown (Some w) (o ∷ []) ordered moved is = ap (map (λ (p : Output). p.1)) (one_permutation o ordered moved) ∙ is
   in_any_order shown (Some w) (o ∷ p ∷ os) ordered moved is = absurd (omega (arith, ap length is))
 
-  pub numbered_found : (W : Who) (L : List Entry) (db : Database) (rows : List Row) → Stands W L db → Finds numbered_text (value.Int (pos seq) ∷ []) db rows → rows ≡ map numbered_shown (listed (written_at (all_written L) seq))
+  pub numbered_found : (W : Who) (L : List Entry) (db : Database) (rows : List Row) → StandsSecond W L db → Finds numbered_text (value.Int (pos seq) ∷ []) db rows → rows ≡ map numbered_shown (listed (written_at (all_written L) seq))
   numbered_found W L db rows stands h =
       let read = found numbered_text (value.Int (pos seq) ∷ []) db rows _ stands.schema numbered_reads numbered_is h in
       let a : IsAnswer numbered_query (overlay db.trees []) (value.Int (pos seq) ∷ []) rows = read.answer value.Null in
@@ -189,7 +189,7 @@ module _ (seq : ℕ) where
       ∙ ap (λ src. map shows (filter has_number src)) entries ∙ numbered_told [] L ∙ ap (map numbered_shown) (picked_is seq (all_written L)) in
       a.shown ∙ in_any_order numbered_shown (written_at (all_written L) seq) a.kept a.ordered a.same all
 
-  pub rules_found : (W : Who) (L : List Entry) (db : Database) (rows : List Row) → Stands W L db → Finds rules_text (value.Int (pos seq) ∷ []) db rows → rows ≡ map rules_shown (listed (written_at (all_written L) seq))
+  pub rules_found : (W : Who) (L : List Entry) (db : Database) (rows : List Row) → StandsSecond W L db → Finds rules_text (value.Int (pos seq) ∷ []) db rows → rows ≡ map rules_shown (listed (written_at (all_written L) seq))
   rules_found W L db rows stands h =
       let lies = stands.schema in
       let a : IsAnswer rules_query (overlay (book_trees db) []) (value.Int (pos seq) ∷ []) rows = found_placed rules_text (value.Int (pos seq) ∷ []) db rows rules_query rules_names 18 rules_reads (rules_is db.schema lies.rules_place (rules_tree db.schema) lies.rules) h in
@@ -219,7 +219,7 @@ numbered_there : (ws : List Written) (seq : ℕ) (w : Written) → written_at ws
 numbered_there ws zero w h = absurd (cc)
 numbered_there ws (suc i) w h = there_at ws i w h
 
-of_partner : (W : Who) (L : List Entry) (db : Database) → Stands W L db → (w : Written) → Has (all_written L) w → IsOfPartner w
+of_partner : (W : Who) (L : List Entry) (db : Database) → StandsSecond W L db → (w : Written) → Has (all_written L) w → IsOfPartner w
 of_partner W L db stands w there =
     let legal = stands.legal in
     let its = subst (λ (ws : List Written). Has ws w) (own_written L w.who) (has_kept (λ (v : Written). who_eq v.who w.who) (all_written L) w there (same_who w.who)) in

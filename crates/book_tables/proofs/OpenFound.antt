@@ -33,7 +33,7 @@ use Rattle.book_statements.specs.Layout.{advice_layout, orders_layout}
 use Rattle.book_tables.specs.Needed.{needed_part, open_need}
 use Rattle.book_tables.specs.Showing.{name_shown}
 use Rattle.book_statements.specs.declared.names.TableName.TheVariants.{Advice, Orders}
-use Rattle.book_statements.specs.Standing.{Stands, AreOrdered, filled}
+use Rattle.book_statements.specs.Standing.{StandsSecond, AreOrdered, filled}
 use Rattle.book_statements.proofs.Asked.{found}
 use Rattle.book_tables.proofs.Finding.{rises_kept}
 use Rattle.book_statements.proofs.Found.{map-both}
@@ -71,7 +71,7 @@ shipments_under W L who legal partner =
     cells_under W L who legal partner advice_rows refl advice_cells (page_advices (events (own L who))) refl (λ (a : PageAdvice). a.is_open) (value.Int (pos 1)) 4 (λ id a. open_told a.is_open)
     8 name_columns name_order (λ a. name_out a.shipment) (λ db. refl) (λ id a. refl)
 
-shipments_found : (W : Who) (L : List Entry) (who : Who) (db : Database) (rows : List Row) → is_partner who ≡ true → IsDatabase db → Stands W L db
+shipments_found : (W : Who) (L : List Entry) (who : Who) (db : Database) (rows : List Row) → is_partner who ≡ true → IsDatabase db → StandsSecond W L db
     → Finds shipments_text (open_params who) db rows → rows ≡ map name_shown (map shipment_of (open_advices L who))
 shipments_found W L who db rows partner sound stands h =
     let read = found shipments_text (open_params who) db rows _ stands.schema shipments_reads shipments_is h in
@@ -107,7 +107,7 @@ numbers_under W L who legal partner =
     cells_under W L who legal partner orders_rows refl orders_cells (page_orders (events (own L who))) refl (λ (o : PageOrder). o.is_open) (value.Int (pos 1)) 3 (λ id o. open_told o.is_open)
     12 name_columns name_order (λ o. name_out o.number) (λ db. refl) (λ id o. refl)
 
-numbers_found : (W : Who) (L : List Entry) (who : Who) (db : Database) (rows : List Row) → is_partner who ≡ true → IsDatabase db → Stands W L db
+numbers_found : (W : Who) (L : List Entry) (who : Who) (db : Database) (rows : List Row) → is_partner who ≡ true → IsDatabase db → StandsSecond W L db
     → Finds numbers_text (open_params who) db rows → rows ≡ map name_shown (map number_of (open_orders L who))
 numbers_found W L who db rows partner sound stands h =
     let read = found numbers_text (open_params who) db rows _ stands.schema numbers_reads numbers_is h in

@@ -36,7 +36,7 @@ use Rattle.book_statements.specs.Layout.{order_line_layout, reservation_layout}
 use Rattle.book_tables.specs.Looking.{lines_ordered, lines_reserved}
 use Rattle.book_tables.specs.Showing.{order_shown, order_line_shown, line_shown}
 use Rattle.book_statements.specs.declared.names.TableName.TheVariants.{Orders, OrderLine, Reservation}
-use Rattle.book_statements.specs.Standing.{Stands, AreOrdered, filled}
+use Rattle.book_statements.specs.Standing.{StandsSecond, AreOrdered, filled}
 use Rattle.book_statements.proofs.Asked.{found}
 use Rattle.book_tables.proofs.Finding.{no_row, first_row, one_key, second_of}
 use Rattle.book_statements.proofs.HoldsLemmas.{are_keyed}
@@ -75,7 +75,7 @@ order_under W L who number legal partner =
 
 module _ (old : State) (W : Who) (L : List Entry) (who : Who) (number : List ℕ) (partner : IsTrue (is_partner who)) (stands : StandsWhileOpen old W L)
     (rows : List Row) (finds : IsTrue old.is_open × Finds order_text (value.Text (who_text who) ∷ value.Text number ∷ []) old.now rows) where
-  here : Stands W L old.now
+  here : StandsSecond W L old.now
   here = stands finds.0
 
   one : (a b : PageOrder) → Has (orders L who) a → Has (orders L who) b → is_number number a ≡ true → is_number number b ≡ true → a ≡ b
@@ -116,7 +116,7 @@ lines_under W L who number legal partner =
     parts_under W L who legal partner order_line_rows refl number_of (λ (a : PageOrder). enumerate_from 1 a.lines) ordered_cells (orders L who) refl (orders_rise (events (own L who))) number
     14 line_columns line_order line_out (λ db. refl) (λ id p. refl) (λ (o : Option PageOrder). enumerate_from 1 (lines_ordered o)) refl (λ a. refl)
 
-pub ordered_found : (W : Who) (L : List Entry) (who : Who) (number : List ℕ) (db : Database) (rows : List Row) → is_partner who ≡ true → IsDatabase db → Stands W L db
+pub ordered_found : (W : Who) (L : List Entry) (who : Who) (number : List ℕ) (db : Database) (rows : List Row) → is_partner who ≡ true → IsDatabase db → StandsSecond W L db
     → Finds order_lines_text (value.Text (who_text who) ∷ value.Text number ∷ []) db rows → rows ≡ map order_line_shown (its_lines L who number)
 ordered_found W L who number db rows partner sound stands h =
     let read = found order_lines_text (value.Text (who_text who) ∷ value.Text number ∷ []) db rows _ stands.schema order_lines_reads order_lines_is h in
@@ -162,7 +162,7 @@ shares_rise L who number (Some o) e =
     let at = has_mapped (page_order (events (own L who))) (orders_of (events (own L who))) o it.0 in
     ap (λ (p : PageOrder). rises_by pairs_in_order line_pair p.reserved) at.2 ∙ reserved_rise (events (own L who)) at.0
 
-pub reserved_found : (W : Who) (L : List Entry) (who : Who) (number : List ℕ) (db : Database) (rows : List Row) → is_partner who ≡ true → IsDatabase db → Stands W L db
+pub reserved_found : (W : Who) (L : List Entry) (who : Who) (number : List ℕ) (db : Database) (rows : List Row) → is_partner who ≡ true → IsDatabase db → StandsSecond W L db
     → Finds reserved_text (value.Text (who_text who) ∷ value.Text number ∷ []) db rows → rows ≡ map line_shown (its_shares L who number)
 reserved_found W L who number db rows partner sound stands h =
     let read = found reserved_text (value.Text (who_text who) ∷ value.Text number ∷ []) db rows _ stands.schema reserved_reads reserved_is h in

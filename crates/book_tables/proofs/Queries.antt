@@ -1,5 +1,5 @@
 -- Queries, one after another.
-use Rattle.std.proofs.Common.{List, ◌≡◌, ◌⊎◌, ◌∙◌, inl, inr, ℕ, Result, Ok, Err, IfErr, OnOk, arith, refl, sym, subst}
+use Rattle.std.proofs.Common.{List, ◌≡◌, ◌∙◌, inl, inr, ℕ, Result, Ok, Err, IfErr, OnOk, arith, refl, sym, subst}
 use Rattle.std.specs.Prelude.{IsErrAnd}
 use Rattle.sqlite.specs.Held.{state}
 use Rattle.sqlite.specs.Store.{Ghosts}
@@ -11,6 +11,7 @@ use Rattle.profile.specs.Header.{Who}
 use Rattle.profile.specs.Register.{Entry}
 use Rattle.book_statements.specs.Asking.{Asked, Went, IsAsked, IsAskFault}
 use Rattle.book_statements.specs.Exits.{StandsWhileOpen}
+use Rattle.book_statements.specs.Faults.{IsCallFault}
 use Rattle.book_statements.specs.Kept.{Kept}
 use Rattle.book_statements.specs.Limits.{Called, CalledOrNone}
 use Rattle.book_statements.specs.Rises.{Rises}
@@ -37,7 +38,7 @@ err_is f g e = cc e
 pub refused_after : {S T U V : Type 0} (a b c : Kept S) (t : T) (f : Fault) (r : Result V Fault) → CalledOrNone {T = T} a b (Ok t) → Called {T = U} b c (Err f) → IsErrAnd r (λ g. g ≡ f) → CalledOrNone a c r
 refused_after a b c t f (Ok v) one two is = absurd is
 refused_after a b c t f (Err g) one two is = record {
-  named = inr (subst (λ h. (h ≡ OutOfMemory) ⊎ (h ≡ Store)) (sym is) two.named);
+  named = inr (subst IsCallFault (sym is) two.named);
   counted = λ _. subst (λ n. Rises n c.refused) one.uncounted two.counted;
   uncounted = tt;
   uncounted_none = λ none. never (err_is g NotThisBook none) two.named;
@@ -45,7 +46,7 @@ refused_after a b c t f (Err g) one two is = record {
   allowed = tt;
 }
   where
-    never : {A : Type 0} → g ≡ NotThisBook → (f ≡ OutOfMemory) ⊎ (f ≡ Store) → A
+    never : {A : Type 0} → g ≡ NotThisBook → IsCallFault f → A
     never e (inl h) = absurd (let d : ◌≡◌ {A = Fault} OutOfMemory NotThisBook = sym h ∙ sym is ∙ e in cc)
     never e (inr h) = absurd (let d : ◌≡◌ {A = Fault} Store NotThisBook = sym h ∙ sym is ∙ e in cc)
 

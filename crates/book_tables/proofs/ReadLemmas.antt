@@ -1,6 +1,7 @@
 -- What is read back of a moment's text, and of rows.
-use Rattle.std.proofs.Common.{◌≡◌, ◌≤◌, ℕ, zero, suc, ◌-◌, drop, pos, List, [], ◌∷◌, length, take, get_or, ◌&&◌, Bool, true, false, bytes_eq, Some, None, Option, refl, sym, ap, ◌∙◌, arith}
-use Rattle.std.specs.Prelude.{if◌then◌else◌}
+use Rattle.std.proofs.Common.{◌≡◌, ◌≤◌, ◌<◌, ℕ, zero, suc, ◌+◌, ◌-◌, ◌*◌, ◌^◌, lit<, drop, pos, List, [], ◌∷◌, length, take, get_or, ◌&&◌, Bool, true, false, bytes_eq, Some, None, Option, refl, sym, ap, ◌∙◌, arith}
+use Rattle.std.specs.Prelude.{fold, min, if◌then◌else◌}
+use Rattle.std.proofs.Math.Nat.{mul-le-mul_left, pow-succ', pow-le-pow_right}
 use Rattle.sqlite.specs.Order.{Row}
 use Rattle.sqlite.specs.declared.types.Value.{Value}
 use Rattle.sqlite.specs.declared.types.Value.TheVariants.{Int, Text}
@@ -8,6 +9,30 @@ use Rattle.profile.specs.Bytes.{value}
 use Rattle.profile.specs.Moments.{Moment, is_moment, stamp}
 use Rattle.profile.specs.Readings.{moment_in, moment_of}
 use Rattle.profile.proofs.TextLaws.{both_parts, text_is}
+
+-- Digits: four bytes are a value below a million, whether they are digits or not.
+
+abbrev more : ℕ → ℕ → ℕ
+more n b = n * 10 + (b - 48)
+
+step_bound : (n b p : ℕ) → b < 256 → (more n b + 23) * p ≤ (n + 23) * (10 * p)
+step_bound n b p h =
+    let k : more n b + 23 ≤ (n + 23) * 10 = omega (arith, h) in
+    grind (arith, mul-le-mul_left p k)
+
+bytes_bound : (n : ℕ) (text : List ℕ) → ((i : ℕ) → get_or text i 0 < 256) → fold more n text + 23 ≤ (n + 23) * 10 ^ length text
+bytes_bound n [] fits = omega arith
+bytes_bound n (b ∷ bs) fits =
+    let power : 10 ^ length (b ∷ bs) ≡ 10 * 10 ^ length bs = pow-succ' 10 (length bs) in
+    let rest : fold more (more n b) bs + 23 ≤ (more n b + 23) * 10 ^ length bs = bytes_bound (more n b) bs (λ i. fits (suc i)) in
+    let step : (more n b + 23) * 10 ^ length bs ≤ (n + 23) * (10 * 10 ^ length bs) = step_bound n b (10 ^ length bs) (fits 0) in
+    rw power (omega (arith, rest, step))
+
+pub uncut : (text : List ℕ) → length text ≤ 4 → ((i : ℕ) → get_or text i 0 < 256) → min (value text) 1000000 ≡ value text
+uncut text short fits =
+    let wide : 10 ^ length text ≤ 10 ^ 4 = pow-le-pow_right (lit< tt) short in
+    let small = bytes_bound 0 text fits in
+    grind (arith, min, wide, small)
 
 -- Moments.
 

@@ -26,7 +26,7 @@ use Rattle.store.specs.Sent.{text_under}
 use Rattle.book_tables.specs.Looking.{IsRowOf}
 use Rattle.book_tables.specs.Showing.{sent_shown, content_shown}
 use Rattle.book_statements.specs.declared.names.TableName.TheVariants.{Outgoing}
-use Rattle.book_statements.specs.Standing.{Stands}
+use Rattle.book_statements.specs.Standing.{StandsSecond}
 use Rattle.book_statements.proofs.Asked.{found}
 use Rattle.book_tables.proofs.DocumentRows.{no_document, its_document}
 use Rattle.book_tables.proofs.Finding.{no_row, first_row, one_key, one_found, none_passes, not_found}
@@ -55,7 +55,7 @@ sent_out r = ([], sent_shown r)
 
 module _ (old : State) (W : Who) (L : List Entry) (who : Who) (n : ℕ) (partner : IsTrue (is_partner who)) (stands : StandsWhileOpen old W L)
     (rows : List Row) (finds : IsTrue old.is_open × Finds sent_text (value.Text (who_text who) ∷ value.Int (pos n) ∷ []) old.now rows) where
-  here : Stands W L old.now
+  here : StandsSecond W L old.now
   here = stands finds.0
 
   abbrev sent : List OutRow
@@ -109,7 +109,7 @@ kept_none W M n is = not_found (rows_under n) (outbox_rows W M) (λ q listed pas
 
 module _ (old : State) (W : Who) (L : List Entry) (who : Who) (n : ℕ) (partner : IsTrue (is_partner who)) (stands : StandsWhileOpen old W L)
     (rows : List Row) (finds : IsTrue old.is_open × Finds content_text (value.Text (who_text who) ∷ value.Int (pos n) ∷ []) old.now rows) where
-  stood : Stands W L old.now
+  stood : StandsSecond W L old.now
   stood = stands finds.0
 
   abbrev texts : List OutRow

@@ -32,7 +32,7 @@ use Rattle.book_statements.specs.Asking.{Finds}
 use Rattle.book_tables.specs.Contents.{IsContent}
 use Rattle.book_statements.specs.Held.{values, Holds}
 use Rattle.book_statements.specs.declared.names.TableName.TheVariants.{Outgoing}
-use Rattle.book_statements.specs.Standing.{Stands}
+use Rattle.book_statements.specs.Standing.{StandsSecond}
 use Rattle.book_statements.proofs.Asked.{found}
 use Rattle.book_statements.proofs.KeyLemmas.{text_itself, int_itself, same_int, same_text as equal_text}
 use Rattle.book_statements.proofs.KnownTexts.{content_text, content_query, content_is, content_reads}
@@ -190,7 +190,7 @@ module _ (W : Who) (L : List Entry) (who : Who) (legal : IsLegal Two W L) (partn
           by true h i = numbered h i
           by false h i = unnumbered h i
 
-pub content_found : (W : Who) (L : List Entry) (who : Who) (n : ℕ) (db : Database) (rows : List Row) → is_partner who ≡ true → Stands W L db
+pub content_found : (W : Who) (L : List Entry) (who : Who) (n : ℕ) (db : Database) (rows : List Row) → is_partner who ≡ true → StandsSecond W L db
     → Finds content_text (value.Text (who_text who) ∷ value.Int (pos n) ∷ []) db rows → (before : List Entry) (e : Entry) (back : List Entry) → own L who ≡ before ++ e ∷ back
     → n ≡ (if is_numbered e then next_number before else 0) → IsContent rows (out W before e)
 content_found W L who n db rows partner stands h before e back split is =
@@ -199,7 +199,7 @@ content_found W L who n db rows partner stands h before e back split is =
     content_shown W L who stands.legal partner n db.trees (held Outgoing) rows (read.answer value.Null) before e back split is
 
 -- whatever is under a number shows a content
-pub some_content : (W : Who) (L : List Entry) (who : Who) (n : ℕ) (db : Database) (rows : List Row) → is_partner who ≡ true → Stands W L db
+pub some_content : (W : Who) (L : List Entry) (who : Who) (n : ℕ) (db : Database) (rows : List Row) → is_partner who ≡ true → StandsSecond W L db
     → Finds content_text (value.Text (who_text who) ∷ value.Int (pos n) ∷ []) db rows → (content : List ℕ) × IsContent rows content
 some_content W L who n db rows partner stands h =
     let read = found content_text (value.Text (who_text who) ∷ value.Int (pos n) ∷ []) db rows _ stands.schema content_reads content_is h in

@@ -29,7 +29,7 @@ use Rattle.rules.proofs.Depositors.{partner_of}
 use Rattle.store.specs.Replayed.{written_on, all_written, is_under}
 use Rattle.book_statements.specs.declared.names.TableName.TheVariants as table
 use Rattle.book_statements.specs.Held.{entry_values}
-use Rattle.book_statements.specs.Standing.{Stands}
+use Rattle.book_statements.specs.Standing.{StandsSecond}
 use Rattle.book_statements.specs.Asking.{Finds}
 use Rattle.book_statements.proofs.Asked.{found}
 use Rattle.book_statements.proofs.Found.{flat_map-cond, map-both, entries_rise}
@@ -102,7 +102,7 @@ under_told who key before (e ∷ L) good partner =
     by true later = ap (λ rs. seq_shown (length before + 1) ∷ rs) later
     by false later = later
 
-pub under_found : (W : Who) (L : List Entry) (who : Who) (key : List ℕ) (db : Database) (rows : List Row) → is_partner who ≡ true → Stands W L db
+pub under_found : (W : Who) (L : List Entry) (who : Who) (key : List ℕ) (db : Database) (rows : List Row) → is_partner who ≡ true → StandsSecond W L db
     → Finds under_text (params (who_text who) key) db rows → rows ≡ map seq_shown (numbers_of (is_under who key) 0 (all_written L))
 under_found W L who key db rows partner stands h =
     let read = found under_text (params (who_text who) key) db rows _ stands.schema under_reads under_is h in

@@ -75,6 +75,10 @@ table_full LotExpiry schema lies db sound row there = row_full schema lies db (l
 pub shown_is : (t : TableName) (schema : Schema) → IsLayout schema → (db : Trees) → IsSound schema db → (row : Row) → Has (placed schema db (tree_of t)) row → shown t row ≡ drop 1 row
 shown_is t schema lies db sound row there = columns_out row (places 1 (columns_of t)) ∙ later_columns row (columns_of t) (table_full t schema lies db sound row there)
 
+-- the rows of each table stand in the order of their rowids
+pub shaped_at : (t : TableName) (db : Database) → AreTables db → IsShaped shape.Table (book_trees db (tree_of t))
+shaped_at t db tables = all_has (λ (u : Table). IsShaped shape.Table (book_trees db u.tree)) book_tables (layout_of t) tables (listed t)
+
 module _ (t : TableName) (one two : Database) (lies : IsLayout one.schema) (its_lies : IsLayout two.schema) (sound : IsDatabase one) (its_sound : IsDatabase two) (tables : AreTables one) (rows : List Row)
     (answer : IsAnswer (keyed_query t) (overlay (book_trees one) []) [] rows) (its_answer : IsAnswer (keyed_query t) (overlay (book_trees two) []) [] rows) (cells : List TableRow) (held : Holds cells (book_trees two (tree_of t))) where
   abbrev db : Trees
@@ -84,7 +88,7 @@ module _ (t : TableName) (one two : Database) (lies : IsLayout one.schema) (its_
   its = book_trees two
 
   shaped : IsShaped shape.Table (db (tree_of t))
-  shaped = all_has (λ (u : Table). IsShaped shape.Table (db u.tree)) book_tables (layout_of t) tables (listed t)
+  shaped = shaped_at t one tables
 
   abbrev project : List Term
   project = columns_at (places 1 (columns_of t))

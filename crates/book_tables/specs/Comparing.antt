@@ -8,24 +8,9 @@ use Rattle.sqlite.specs.Table.{Table}
 use Rattle.sqlite_trees.specs.declared.store.Shape.TheVariants as shape
 use Rattle.sqlite_trees.specs.View.{IsShaped}
 use Rattle.book_statements.specs.declared.names.TableName.{TableName}
-use Rattle.book_statements.specs.declared.names.TableName.TheVariants.{Book, Entry, Outgoing, Stock, Advice, AdviceLine, Orders, OrderLine, Reservation, EntryRules, LotExpiry}
 use Rattle.book_statements.specs.Whole.{whole_text}
 use Rattle.book_statements.specs.Asking.{Finds}
 use Rattle.book_statements.specs.Layout.{IsLayout, book_tables, book_trees}
-
--- the tables are compared one after another
-abbrev pub number_of : TableName → ℕ
-number_of Book = 0
-number_of Entry = 1
-number_of Outgoing = 2
-number_of Stock = 3
-number_of Advice = 4
-number_of AdviceLine = 5
-number_of Orders = 6
-number_of OrderLine = 7
-number_of Reservation = 8
-number_of EntryRules = 9
-number_of LotExpiry = 10
 
 -- both databases answer the text, and it is told whether their rows are the same
 pub record FindBoth (sql : List ℕ) (one two : Database) (same : Bool) : Type 0 where

@@ -6,35 +6,16 @@ ghost use Rattle.sqlite.specs.Order.{column};
 ghost use Rattle.sqlite.specs.State.{HasCleanDisk};
 ghost use Rattle.book_statements.specs.Asking.{Asked, IsAsked, OnlyReads};
 ghost use Rattle.book_statements.specs.Whole as whole;
-ghost use Rattle.book_tables.specs.Comparing.{AreTables, Compares, IsLaid, ShowBoth, number_of};
+ghost use Rattle.book_tables.specs.Comparing.{AreTables, Compares, IsLaid, ShowBoth};
 ghost use Rattle.book_statements.specs.Exits.{StandsWhileOpen};
 ghost use Rattle.book_statements.specs.Limits.{Counts};
-ghost use Rattle.book_statements.specs.Standing.{Stands};
+ghost use Rattle.book_statements.specs.Standing.{StandsSecond};
 
 use crate::connected::Tables;
-use book_statements::TableName;
+use book_statements::{BOOK_TABLES, TableName};
 use sqlite::{Alter, Row};
 use sqlite_value::order::is_same;
 use store::Fault;
-
-// The table that is compared as this one, from 0 on.
-fn table_at(number: usize) -> TableName
-    ensures { number < 11 → number_of result ≡ number }
-{
-    match number {
-        0 => TableName::Book,
-        1 => TableName::Entry,
-        2 => TableName::Outgoing,
-        3 => TableName::Stock,
-        4 => TableName::Advice,
-        5 => TableName::AdviceLine,
-        6 => TableName::Orders,
-        7 => TableName::OrderLine,
-        8 => TableName::Reservation,
-        9 => TableName::EntryRules,
-        _ => TableName::LotExpiry,
-    }
-}
 
 // The text that asks for all that a table has, in the order of its keys.
 fn whole_text(table: TableName) -> &'static str
@@ -149,8 +130,8 @@ impl<S: Alter + Drop> Tables<S> {
         ensures other { IsAsked (state T.Store other.old.conn) (state T.Store other.new.conn) }
         ensures other_limit { Counts other.old other.new }
     {
-        for number in 0..11usize {
-            if !self.shows_the_same(other, whole_text(table_at(number)))? {
+        for table in &BOOK_TABLES {
+            if !self.shows_the_same(other, whole_text(*table))? {
                 return Ok(false);
             }
         }
@@ -165,7 +146,8 @@ impl<S: Alter + Drop> Tables<S> {
             → HasCleanDisk (state T.Store other.new.conn) → IsLaid (state S.Store self.old.conn)
             → AreTables (state S.Store self.old.conn).now → (W : Partner) (L : List register.Entry)
             → StandsWhileOpen (state T.Store other.old.conn) W L
-            → IfOk result (λ same. IsTrue same → Stands W L (state S.Store self.old.conn).now) }
+            → IfOk result (λ same. IsTrue same
+            → StandsSecond W L (state S.Store self.old.conn).now) }
         ensures same { HasCleanDisk (state S.Store self.new.conn)
             → HasCleanDisk (state T.Store other.new.conn) → (W : Partner) (L : List register.Entry)
             → StandsWhileOpen (state T.Store other.old.conn) W L

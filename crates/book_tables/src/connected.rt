@@ -182,7 +182,7 @@ impl<S: Alter + Drop> Tables<S> {
         // For the prover alone, as in `ask`.
         let settled = self.conn.is_autocommit();
         prove!(settled);
-        let _schema = self.conn.schema();
+        let _live = self.conn.schema();
         let mut tx = self.conn.transaction();
         write_entry(&mut tx, &mut self.calls, seq, who, entry, changes, outgoing)?;
         commit(tx, &mut self.calls)

@@ -14,6 +14,7 @@ ghost use Rattle.book_statements.specs.Recorded.{IsHouse, rules_shown};
 
 use profile::Rules;
 use rules::{Moment, Warehouse, Who};
+use segments::value_up_to;
 use sqlite::Row;
 use sqlite::types::ValueRef;
 
@@ -108,17 +109,13 @@ pub(crate) fn flag_at(row: &Row, at: usize) -> Option<bool>
     }
 }
 
-// The value of at most four bytes as digits.
+// The value of at most four bytes as digits, of which a million cuts nothing.
 fn value(text: &[u8]) -> u64
     requires { length text.now ≤ 4 }
 
     ensures { result ≡ bytes.value text.now }
 {
-    let mut value: u64 = 0;
-    for b in text {
-        value = value * 10 + u64::from(b.saturating_sub(b'0'));
-    }
-    value
+    value_up_to(text, 1_000_000)
 }
 
 // The moment with these parts, if there is one.

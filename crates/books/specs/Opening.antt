@@ -1,5 +1,5 @@
 -- What an opening comes to: the book, or the tables handed back.
-use Rattle.std.specs.Prelude.{◌≡◌, ◌≢◌, ◌⊎◌, false, List, []}
+use Rattle.std.specs.Prelude.{◌≡◌, ◌≢◌, false, List, []}
 use Rattle.sqlite.specs.Store.{Ghosts}
 use Rattle.sqlite.specs.Held.{state}
 use Rattle.sqlite.specs.State.{HasCleanDisk}
@@ -11,9 +11,10 @@ use Rattle.profile.specs.Header.{Who}
 use Rattle.profile.specs.Register.{Entry}
 use Rattle.store.specs.Standing.{IsUsable}
 use Rattle.store.specs.Fault.{Fault}
-use Rattle.store.specs.Fault.TheVariants.{OutOfMemory, Store, NotThisBook}
+use Rattle.store.specs.Fault.TheVariants.{NotThisBook}
 use Rattle.book_statements.specs.Asking.{Finds, IsAsked, house_text}
 use Rattle.book_statements.specs.Carrying.{LeavesCarried, StandsOpenAs}
+use Rattle.book_statements.specs.Faults.{IsOpeningFault}
 use Rattle.book_statements.specs.Kept.{Kept}
 use Rattle.book_statements.specs.Limits.{Counts}
 use Rattle.book_statements.specs.Recorded.{IsHouse}
@@ -60,5 +61,5 @@ pub record IsHandedBack
       → (db : Trees) → (state store back.conn).may_leave db → LeavesCarried W L db
   pub counted : fault ≢ NotThisBook → Rises tables.refused back.refused
   pub uncounted : fault ≡ NotThisBook → back.refused ≡ tables.refused
-  pub named : (fault ≡ NotThisBook) ⊎ ((fault ≡ OutOfMemory) ⊎ (fault ≡ Store))
+  pub named : IsOpeningFault fault
   pub limit : Counts tables back

@@ -18,7 +18,7 @@ use Rattle.store.specs.Standing.{Standing, IsUsable, OfAnyKept}
 use Rattle.store.specs.Fault.{Fault}
 use Rattle.store.specs.Fault.TheVariants.{OutOfMemory, Store}
 use Rattle.book_statements.specs.Exits.{StandsWhileOpen}
-use Rattle.book_statements.specs.Standing.{Stands}
+use Rattle.book_statements.specs.Standing.{StandsSecond}
 use Rattle.book_tables.specs.Comparing.{AreTables, IsLaid}
 use Rattle.books.specs.Opened.{Opened, standing_of}
 
@@ -65,7 +65,7 @@ pub record Follows
 pub record StandsForMany (W : Who) (n : ℕ) (db : Database) : Type 0 where
   pub register : List Entry
   pub long : length register ≡ n
-  pub stands : Stands W register db
+  pub stands : StandsSecond W register db
 
 -- of a book whose database is laid out as one, and has its tables, if the disk is in no doubt after
 -- the call

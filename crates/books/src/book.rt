@@ -1,9 +1,10 @@
-ghost use Rattle.std.specs.Prelude.{◌≡◌, ◌≢◌, ◌⊎◌, ◌<◌, ◌^◌, ◌-◌, [], true, false, IfErr, IfOk, OnOk, OnErr, IsErrOf, IsErrAnd, Some};
+ghost use Rattle.std.specs.Prelude.{◌≡◌, ◌≢◌, ◌<◌, ◌^◌, ◌-◌, [], true, false, IfErr, IfOk, OnOk, OnErr, IsErrOf, IsErrAnd, Some};
 ghost use Rattle.profile.specs.declared.rules.Rules.TheVariants.{One, Two};
 ghost use Rattle.sqlite.specs.State.{HasCleanDisk, Survives};
 ghost use Rattle.sqlite.specs.Held.{state};
 ghost use Rattle.store.specs.Standing.{IsUsable, IsQuery};
 ghost use Rattle.book_statements.specs.Exits.{IsAsBefore};
+ghost use Rattle.book_statements.specs.Faults.{IsCallFault, IsOpeningFault};
 ghost use Rattle.books.specs.Carrying.{BringsUp};
 ghost use Rattle.books.specs.Verified.{CountsKept, IsAlwaysClean, StandsChecked};
 ghost use Rattle.book_statements.specs.Limits.{Counts};
@@ -64,7 +65,7 @@ fn bring_up<S: Alter + Drop, T: FnMut(u64, u64)>(
     requires told { T.IsAlwaysCallable told }
 
     ensures brought { BringsUp S.Store version entries tables.old tables.new result }
-    ensures named { IfErr result (λ f. (f ≡ Fault.OutOfMemory) ⊎ (f ≡ Fault.Store)) }
+    ensures named { IfErr result IsCallFault }
     ensures counted { OnErr result (Rises tables.old.refused tables.new.refused) }
     ensures uncounted { OnOk result (tables.new.refused ≡ tables.old.refused) }
     ensures limit { Counts tables.old tables.new }
@@ -100,8 +101,7 @@ impl<S: Alter + Drop> Book<S> {
             → has_book_table (state S.Store tables.conn).now.schema.tables ≡ true) }
         ensures counted { IfErr result
             (λ e. e.0 ≢ Fault.NotThisBook → Rises tables.refused e.1.refused) }
-        ensures named { IfErr result (λ e. (e.0 ≡ Fault.NotThisBook) ⊎ ((e.0 ≡ Fault.OutOfMemory)
-            ⊎ (e.0 ≡ Fault.Store))) }
+        ensures named { IfErr result (λ e. IsOpeningFault e.0) }
         ensures uncounted_ok { IfOk result (λ b. b.tables.refused ≡ tables.refused) }
         ensures limit { IfOk result (λ b. Counts tables b.tables) }
         ensures limit_back { IfErr result (λ e. Counts tables e.1) }

@@ -11,7 +11,7 @@ use Rattle.profile.specs.declared.rules.Rules.TheVariants.{One, Two}
 use Rattle.profile.specs.Header.{Who}
 use Rattle.profile.specs.Register.{Entry}
 use Rattle.book_statements.specs.Carrying.{LeavesCarried, StandsAs, StandsInAs, StandsOpenAs}
-use Rattle.book_statements.specs.Standing.{Stands}
+use Rattle.book_statements.specs.Standing.{StandsSecond}
 use Rattle.book_statements.proofs.Carried.{not_first}
 use Rattle.books.specs.Carrying.{AllStandAs, OpensAs}
 
@@ -32,6 +32,6 @@ pub still_carried : (old new : State) (q : Rules) (W : Who) (L : List Entry) →
     → (StandsOpenAs One old W L → AllStandAs One old W L → (db : Trees) → new.may_leave db → LeavesCarried W L db) → (db : Trees) → new.may_leave db → LeavesCarried W L db
 still_carried old new One W L clean opened stands all asked carried db may = carried stands all db may
 still_carried old new Two W L clean opened stands all asked carried db may =
-    let here : Stands W L old.now = stands opened in
+    let here : StandsSecond W L old.now = stands opened in
     let queried = asked.asked (not_first W L old.now here) in
     elim (queried.crash.crash clean db may) [ inl early ↦ inr (all db early) | inr none ↦ absurd none ]

@@ -13,7 +13,7 @@ use Rattle.store.specs.Runs.{told}
 use Rattle.store.specs.Standing.{Standing, IsUsable}
 use Rattle.store.specs.Fault.{Fault}
 use Rattle.book_statements.specs.Carrying.{LeavesCarried}
-use Rattle.stops.specs.Faults.{IsCallFault, IsOpeningFault}
+use Rattle.book_statements.specs.Faults.{IsCallFault, IsOpeningFault}
 use Rattle.stops.specs.Stopped.{IsAnswered}
 use Rattle.stops.specs.declared.answering.Answered.{Answered}
 

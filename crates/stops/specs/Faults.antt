@@ -19,14 +19,6 @@ fault_of_opening (SqliteFailure failures.OutOfMemory) = OutOfMemory
 fault_of_opening (SqliteFailure failures.NotADatabase) = NotThisBook
 fault_of_opening error = Store
 
--- memory was wanting, or a call of the store was refused: 40 or 41
-abbrev pub IsCallFault : Fault → Type 0
-IsCallFault fault = (fault ≡ OutOfMemory) ⊎ (fault ≡ Store)
-
 -- the fault is one with which a commit can end that is there all the same: 40 of a statement, or 41
 abbrev pub MayBeThere : Option Fault → Type 0
 MayBeThere fault = (fault ≡ Some OutOfMemory) ⊎ (fault ≡ Some Store)
-
--- the fault is one with which an opening ends: 40, 41, or 43
-abbrev pub IsOpeningFault : Fault → Type 0
-IsOpeningFault fault = (fault ≡ NotThisBook) ⊎ IsCallFault fault

@@ -12,8 +12,9 @@ use Rattle.store.specs.Runs.{told}
 use Rattle.store.specs.Standing.{Standing, IsUsable, LeavesEither, GoesOn}
 use Rattle.store.specs.Fault.{Fault}
 use Rattle.store.specs.declared.serving.Outcome.{Outcome}
+use Rattle.book_statements.specs.Faults.{IsCallFault}
 use Rattle.book_statements.specs.Standing.{StandsIn}
-use Rattle.stops.specs.Faults.{IsCallFault, MayBeThere}
+use Rattle.stops.specs.Faults.{MayBeThere}
 use Rattle.stops.specs.declared.answering.Answered.{Answered}
 
 -- the book is of the same warehouse, and usable for a register that a crash might leave

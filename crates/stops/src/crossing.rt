@@ -1,9 +1,10 @@
 //! Commands on both sides of one stop.
-ghost use Rattle.std.specs.Prelude.{◌≡◌, ◌⊎◌, List, true, IfErr, IfOk, IsNone, length, take, ◌+◌};
+ghost use Rattle.std.specs.Prelude.{◌≡◌, List, true, IfErr, IfOk, IsNone, length, take, ◌+◌};
 ghost use Rattle.profile.specs.Register as register;
 ghost use Rattle.sqlite_trees.specs.View.{IsClean};
 ghost use Rattle.store.specs.Runs.{all_asked, can_be_given};
 ghost use Rattle.store.specs.Standing.{IsUsable, OfUsable};
+ghost use Rattle.book_statements.specs.Faults.{IsOpeningFault};
 ghost use Rattle.books.specs.Opened.{standing_of};
 ghost use Rattle.stops.specs.Stopped.{Crosses, StoresAgain, Waits};
 
@@ -31,8 +32,7 @@ pub fn across<S: Alter + Reopen + Drop>(
         → length result.0.outcome.replies.items ≡ length first.now }
     ensures later { IfOk result.1 (λ r. IsNone r.0.fault
         → length r.0.replies.items ≡ length second.now) }
-    ensures named { IfErr result.1 (λ e. (e.0 ≡ Fault.NotThisBook) ⊎ ((e.0 ≡ Fault.OutOfMemory)
-        ⊎ (e.0 ≡ Fault.Store))) }
+    ensures named { IfErr result.1 (λ e. IsOpeningFault e.0) }
     ensures crossed { IfOk result.1 (λ r. OfUsable (standing_of S.Store book)
         (standing_of S.Store r.1)
         (λ L. can_be_given (take (length result.0.outcome.replies.items + 1) first.now) ≡ true

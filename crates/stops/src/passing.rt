@@ -7,8 +7,8 @@ ghost use Rattle.sqlite_trees.specs.Tree.{Trees};
 ghost use Rattle.sqlite_trees.specs.View.{IsClean, doubt};
 ghost use Rattle.store.specs.Runs.{all_asked, can_be_given};
 ghost use Rattle.book_statements.specs.Carrying.{LeavesCarried};
+ghost use Rattle.book_statements.specs.Faults.{IsOpeningFault};
 ghost use Rattle.stops.specs.Days.{AllCarried, AreLed, AreOpenings, PassesTo, day_by_day, reached, reached_on};
-ghost use Rattle.stops.specs.Faults.{IsOpeningFault};
 
 use crate::answering::{Answered, answer};
 use crate::reopening::{opened_after, stopped};

@@ -1,10 +1,11 @@
 //! The book that is opened on what a stop leaves of its store.
-ghost use Rattle.std.specs.Prelude.{◌≡◌, ◌≢◌, ◌⊎◌, ◌≤◌, false, true, IfErr, IfOk, IsTrue, List, None};
+ghost use Rattle.std.specs.Prelude.{◌≡◌, ◌≢◌, ◌≤◌, false, true, IfErr, IfOk, IsTrue, List, None};
 ghost use Rattle.profile.specs.Header.{Who as Partner};
 ghost use Rattle.profile.specs.Register.{Entry};
 ghost use Rattle.sqlite.specs.Held.{state};
 ghost use Rattle.sqlite_trees.specs.Tree.{Trees};
 ghost use Rattle.sqlite_trees.specs.View.{IsClean, doubt};
+ghost use Rattle.book_statements.specs.Faults.{IsCallFault, IsOpeningFault};
 ghost use Rattle.book_statements.specs.Standing.{StandsIn};
 ghost use Rattle.stops.specs.Days.{AllCarried, IsOpenedOf, IsStill};
 ghost use Rattle.stops.specs.Faults.{fault_of_opening, fault_of_stop};
@@ -22,7 +23,7 @@ use store::Fault;
 // What a failure of the store is told as.
 fn store_fault(error: StoreError) -> Fault
     ensures told { result ≡ fault_of_stop error }
-    ensures named { (result ≡ Fault.OutOfMemory) ⊎ (result ≡ Fault.Store) }
+    ensures named { IsCallFault result }
 {
     match error {
         StoreError::OutOfMemory => Fault::OutOfMemory,
@@ -35,8 +36,7 @@ fn open_fault(error: Error) -> Fault
     ensures told { result ≡ fault_of_opening error }
     ensures not_this { result ≡ Fault.NotThisBook
         → error ≡ Error.SqliteFailure ErrorCode.NotADatabase }
-    ensures named { (result ≡ Fault.NotThisBook)
-        ⊎ ((result ≡ Fault.OutOfMemory) ⊎ (result ≡ Fault.Store)) }
+    ensures named { IsOpeningFault result }
 {
     match error {
         Error::SqliteFailure(ErrorCode::OutOfMemory) => Fault::OutOfMemory,
@@ -75,8 +75,7 @@ pub(crate) fn opened_after<S: Alter + Reopen + Drop>(
         (λ b. doubt (S.Store.view store).is_clean ≤ (standing_of S.Store b).doubt) }
     ensures doubt_back { IfErr result (λ e. doubt (S.Store.view store).is_clean
         ≤ doubt (S.Store.view e.1).is_clean) }
-    ensures named { IfErr result (λ e. (e.0 ≡ Fault.NotThisBook) ⊎ ((e.0 ≡ Fault.OutOfMemory)
-        ⊎ (e.0 ≡ Fault.Store))) }
+    ensures named { IfErr result (λ e. IsOpeningFault e.0) }
 {
     if let Err(error) = store.crash_and_reopen() {
         return Err((store_fault(error), store, false));
@@ -118,8 +117,7 @@ pub fn reopened<S: Alter + Reopen + Drop>(
         (λ b. (standing_of S.Store book).doubt ≤ (standing_of S.Store b).doubt) }
     ensures doubt_back { IfErr result (λ e. (standing_of S.Store book).doubt
         ≤ doubt (S.Store.view e.1).is_clean) }
-    ensures named { IfErr result (λ e. (e.0 ≡ Fault.NotThisBook) ⊎ ((e.0 ≡ Fault.OutOfMemory)
-        ⊎ (e.0 ≡ Fault.Store))) }
+    ensures named { IfErr result (λ e. IsOpeningFault e.0) }
     ensures this { IfErr result
         (λ e. IsClean (S.Store.view e.1) → (standing_of S.Store book).all_stand
         → e.0 ≢ Fault.NotThisBook) }

@@ -7,6 +7,7 @@ ghost use Rattle.profile.specs.Reply.{out};
 ghost use Rattle.profile.specs.Rows.{stock_rows, stock_of};
 ghost use Rattle.profile.specs.History.{History, history};
 ghost use Rattle.profile.specs.Header.{Who as Partner};
+ghost use Rattle.profile.specs.Need as meant;
 ghost use Rattle.rules.specs.Decided.{IsAtRest, IsRecalled, IsPageOf};
 ghost use Rattle.rules.specs.Written.{written};
 ghost use Rattle.rules.specs.Pages.{IsAt};
@@ -97,26 +98,18 @@ fn page_later(
     Ok(page)
 }
 
-// The whole page is the part of itself that is needed.
-fn held(page: Option<Page>, _need: &Need) -> Option<Page>
+// The whole page, which is handed out for any part of it: it is the part of itself that is needed,
+// and has what is open of it.
+fn whole(page: Option<Page>) -> Option<Page>
     ensures same { result ≡ page }
-    ensures held { (h : Option History) → IsHeldFor page h → IsHeld _need.now result h }
-{
-    if let Some(page) = &page {
-        // for the prover: what this tells holds of every page (`IsSound`)
-        let _ = page.rows();
-    }
-    page
-}
-
-// The whole page has what is open of it.
-fn with_open(page: Option<Page>) -> Option<Page>
-    ensures { (L : List register.Entry) (who : Partner)
+    ensures held { (need : meant.Need) (h : Option History) → IsHeldFor page h
+        → IsHeld need result h }
+    ensures work { (L : List register.Entry) (who : Partner)
         → IsHeldFor page (history_of (register.own L who))
         → option_map open_on result ≡ open_of L who }
 {
     if let Some(page) = &page {
-        // for the prover: what this tells holds of every page (`IsSound`)
+        // For the prover alone: that every page is sound, it takes from a call of `rows`.
         let _ = page.rows();
     }
     page
@@ -242,9 +235,9 @@ impl Keeper for ReplayBook {
         self.warehouse
     }
 
-    fn load(&mut self, who: Who, need: &Need) -> Result<Option<Page>, Fault> {
+    fn load(&mut self, who: Who, _need: &Need) -> Result<Option<Page>, Fault> {
         let page = self.page(&who)?;
-        Ok(held(page, need))
+        Ok(whole(page))
     }
 
     fn known(&mut self, who: Who, key: &Key<'_>) -> Result<Option<Known>, Fault> {
@@ -281,7 +274,7 @@ impl Keeper for ReplayBook {
 
     fn open(&mut self, who: Who) -> Result<Option<Page>, Fault> {
         let page = self.page(&who)?;
-        Ok(with_open(page))
+        Ok(whole(page))
     }
 
     fn depositors(&mut self) -> Result<Vec<Who>, Fault> {

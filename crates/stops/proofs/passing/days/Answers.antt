@@ -9,7 +9,7 @@ use Rattle.store.specs.Runs.{all_asked, can_be_given}
 use Rattle.store.specs.Fault.{Fault}
 use Rattle.book_statements.specs.Carrying.{LeavesCarried}
 use Rattle.stops.specs.Days.{AreLed, AreOpenings, Pass, day_by_day, reached}
-use Rattle.stops.specs.Faults.{IsOpeningFault}
+use Rattle.book_statements.specs.Faults.{IsOpeningFault}
 use Rattle.stops.specs.declared.answering.Answered.{Answered}
 use Rattle.stops.proofs.DaysLemmas.{day_at, keeps_answers, led_on, left_more, reached_more}
 use Rattle.stops.proofs.passing.days.Goals as goal

@@ -9,7 +9,7 @@ use Rattle.store.specs.Fault.TheVariants.{Store, Reopen, NotThisBook, Device}
 use Rattle.book_tables.specs.Comparing.{AreTables, IsLaid}
 use Rattle.book_statements.specs.Exits.{StandsWhileOpen}
 use Rattle.book_statements.specs.Layout.{IsLayout}
-use Rattle.book_statements.specs.Standing.{Stands}
+use Rattle.book_statements.specs.Standing.{StandsSecond}
 use Rattle.book_tables.proofs.AskedLater.{clean_before}
 use Rattle.book_tables.proofs.Queries.{went_fails, went_of, went_on}
 use Rattle.books.specs.Opened.{Opened, standing_of}
@@ -68,7 +68,7 @@ returns-clause-stands g c = rw (← c.self.view_is) (λ clean laid are.
     let opened = its.was_open clean clean' in
     let same = before.now opened in
     let now = its.stands clean clean' laid' (subst (λ (d : Database). AreTables d) (sym same) (are (before.was_open opened))) W copy.register stood c.if-not-same.false in
-    (before.was_open opened, record { register = copy.register; long = sym kept.count; stands = subst (Stands W copy.register) same now }))
+    (before.was_open opened, record { register = copy.register; long = sym kept.count; stands = subst (StandsSecond W copy.register) same now }))
 
 pub returns-then-not-same-clause-query : goal.returns-then-not-same-clause-query
 returns-then-not-same-clause-query g c = rw (← c.self.view_is) (record {

@@ -3,4 +3,4 @@ use Rattle.profile.specs.Register.{own}
 use Rattle.store.proofs.replaying.ReplayBookKeeper.load.Goals as goal
 
 pub returns-clause-page : goal.returns-clause-page
-returns-clause-page c = λ clean L keeps legal. c.held.ensures.held (standing (own L c.args.who)) (c.in_ok-page.ensures.page L keeps legal)
+returns-clause-page c = λ clean L keeps legal. c.whole.ensures.held c.args._need.now (standing (own L c.args.who)) (c.in_ok-page.ensures.page L keeps legal)
