@@ -3,7 +3,7 @@
 
 Usage: bench/stories.py [--server] [PROGRAM]     (default: crates/whx12/out/whx12, which `rt run` in that folder leaves)
 
-The cases are those of crates/cases (stories/ and scripts/), read from their texts; their form is told in crates/test_program/src/tests/program.rt. Each
+The cases are those of crates/test_program/data (the files .cases of stories/ and scripts/); their form is told in crates/test_program/src/playing.rt. Each
 line of a script is a process that opens the book and closes it. What is printed and told and the exit status are compared; the status is 1
 where one differs.
 
@@ -20,9 +20,7 @@ import sys
 import tempfile
 
 HERE = os.path.dirname(os.path.abspath(__file__))
-CASES = os.path.join(HERE, "..", "crates", "cases", "src")
-LITERAL = re.compile(r'^pub const \w*CASES: &str = "(.*?)^";', re.MULTILINE | re.DOTALL)
-ESCAPE = re.compile(r"\\(?:\n[ \t\n]*|x([0-7][0-9a-fA-F])|(.))")
+CASES = os.path.join(HERE, "..", "crates", "test_program", "data")
 
 
 def same(what, got, wanted):
@@ -30,12 +28,10 @@ def same(what, got, wanted):
         sys.exit(f"{what}: wanted {wanted!r:.900}, got {got!r:.900}")
 
 
-def read(literal):
-    """The text of a literal, as Rust reads it."""
-    def plain(found):
-        code, letter = found.groups()
-        return chr(int(code, 16)) if code else {"n": "\n", "r": "\r", "t": "\t"}.get(letter, letter) if letter else ""
-    return ESCAPE.sub(plain, literal)
+def text_of(path):
+    """The text of a file: a line that ends in `\\` goes on in the next one, without the `\\` and the end of the line."""
+    with open(path, encoding="utf-8", newline="") as file:
+        return file.read().replace("\\\n", "")
 
 
 def spread(text):
@@ -112,16 +108,13 @@ def main(words):
     by_server = "--server" in words
     words = [word for word in words if word != "--server"]
     program = os.path.abspath(words[0] if words else os.path.join(HERE, "..", "crates", "whx12", "out", "whx12"))
-    cases, runs, paths = 0, 0, sorted(glob.glob(f"{CASES}/stories/*.rt") + glob.glob(f"{CASES}/scripts/*.rt"))
+    cases, runs, paths = 0, 0, sorted(glob.glob(f"{CASES}/stories/*.cases") + glob.glob(f"{CASES}/scripts/*.cases"))
     for path in paths:
-        with open(path, encoding="utf-8") as file:
-            literals = LITERAL.findall(file.read())
-        for literal in literals:
-            before, *texts = read(literal).split("@case ")
-            for text in texts:
-                name = f"{os.path.basename(os.path.dirname(path))}/{os.path.basename(path)}, {text.partition(chr(10))[0]}"
-                runs += play(program, name, "case " + text, before, by_server)
-                cases += 1
+        before, *texts = text_of(path).split("@case ")
+        for text in texts:
+            name = f"{os.path.basename(os.path.dirname(path))}/{os.path.basename(path)}, {text.partition(chr(10))[0]}"
+            runs += play(program, name, "case " + text, before, by_server)
+            cases += 1
     print(f"{cases} cases of {len(paths)} files: {runs} processes, all as told")
 
 

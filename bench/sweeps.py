@@ -4,7 +4,7 @@
 Usage: bench/sweeps.py [--folder FOLDER]     (default: in a folder of its own, which is removed)
 
 The tests stand beside those of `test_calls` and use its worked example. In a copy of the crates their modules are laid into that crate, whose
-libraries are then those of a book in tables too, and `rt ci test_calls` proves and runs it there, over the libraries that an `rt ci` of
+libraries are then those of a book in tables too, beside what `test_program` lays books of version 1 by (its laying.rt and version1.rt, and its texts as constants), and `rt ci test_calls` proves and runs it there, over the libraries that an `rt ci` of
 the repository kept on this machine. FOLDER/test_calls_tests is the program that ran, which bench/allocations.py takes.
 The status is that of `rt ci`.
 """
@@ -15,6 +15,8 @@ import subprocess
 import sys
 import tempfile
 
+from stories import text_of
+
 HERE = os.path.dirname(os.path.abspath(__file__))
 # What earlier runs of `rt ci` on this machine kept.
 KEPT = "/opt/rattle-kept"
@@ -22,6 +24,17 @@ TOP = os.path.dirname(HERE)
 CRATE = "test_calls"
 # What the tests use beside the libraries of `test_calls`.
 MORE = "books stops sqlite sqlite_disk sqlite_trees"
+# The texts of `test_program` by which books of version 1 are laid.
+VERSION1 = ["tables.sql", "beside.sql", "counted.sql", "ordered.sql", "dated.sql", "order_head.x12", "order_tail.x12", "order_refused.sql"]
+
+
+def constants(data):
+    """Those texts as constants, named as their files are."""
+    written = []
+    for name in VERSION1:
+        text = text_of(os.path.join(data, "version1", name)).replace("\\", "\\\\").replace('"', '\\"')
+        written.append(f'pub(crate) const {name.partition(".")[0].upper()}: &str = "\\\n{text}";\n')
+    return "//! Texts of books of version 1.\n" + "\n".join(written)
 
 
 def lay(folder):
@@ -39,7 +52,11 @@ def lay(folder):
         # `rt` wants no .rt file outside of a crate, so they stand as texts
         to = tests if name == "sweeps.rt.txt" else sweeps
         shutil.copy(os.path.join(HERE, "sweeps", name), os.path.join(to, name.removesuffix(".txt")))
-    shutil.copy(os.path.join(folder, "crates", "test_program", "src", "tests", "laying.rt"), sweeps)
+    program = os.path.join(folder, "crates", "test_program")
+    for name in ["laying.rt", "version1.rt"]:
+        shutil.copy(os.path.join(program, "src", name), sweeps)
+    with open(os.path.join(sweeps, "version1_texts.rt"), "w", encoding="utf-8") as file:
+        file.write(constants(os.path.join(program, "data")))
     with open(tests + ".rt", encoding="utf-8") as file:
         modules = sorted([*file.read().splitlines(), "mod sweeps;"])
     with open(tests + ".rt", "w", encoding="utf-8") as file:

@@ -1,11 +1,10 @@
 //! Requests to a server with `--clerks`, the responses to them, and what a command with `--server` prints of these.
 //!
-//! A text is made of sections as those of stories are. Each case has the line of a request after `asked`, with its body below; the response below `answered`, whose
+//! A text is made of sections (sections.rt). Each case has the line of a request after `asked`, with its body below; the response below `answered`, whose
 //! head has its lines with LF alone here; by what a command tells it (`document`, `report`, or `look` of what only clerks are shown); what that prints; and its exit status after `ends`, with what is told on
 //! standard error below.
 
 pub mod deeds;
-pub mod faults;
 pub mod looks;
 pub mod strays;
 

@@ -1,11 +1,9 @@
-//! Texts of cases, which the tests play: what is done, and what has to come of it. They stand in a crate of their own because
-//! the gate reckons with a megabyte of memory for each line of a crate that it proves, and these have nothing to prove.
+//! Texts of cases that are constants: sets, requests of clerks and the responses to them; and how a text is read, its sections
+//! and the parts that stand in it more than once. `test_calls` takes them from here, since its tests have no files;
+//! `test_program` plays those of clerks too, and has the other cases in files.
 #![tactic(auto)]
 
 pub mod clerks;
-pub mod scripts;
 pub mod sections;
 pub mod sets;
 pub mod spreading;
-pub mod stories;
-pub mod version1;

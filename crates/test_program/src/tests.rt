@@ -1,2 +1,0 @@
-mod laying;
-mod program;
