@@ -20,11 +20,13 @@ use Rattle.intake.specs.declared.audience.Audience.{Audience}
 use Rattle.intake.specs.declared.audience.Audience.TheVariants.{Partners, Clerks}
 use Rattle.intake.specs.declared.served.RequestLine.{RequestLine}
 use Rattle.fields.specs.Fields.{most_head, most_fields}
-use Rattle.intake.specs.Requests.{IsInput, HasNoHead}
+use Rattle.gauges.specs.Inputs.{IsInput}
+use Rattle.intake.specs.Requests.{HasNoHead}
 use Rattle.intake.specs.Serving.{IsAnswered, IsExchange, IsExchangeAfter, command_in, answer_of}
 use Rattle.intake.specs.Targets.{Target, target_of, target_command, target_resp, has_body, asked_with, command_with}
 use Rattle.intake.proofs.Heads.{head_within}
-use Rattle.intake.proofs.Filling.{own_input, had_input, more_input}
+use Rattle.gauges.proofs.InputLemmas.{had_input, more_input}
+use Rattle.intake.proofs.Filling.{own_input}
 use Rattle.intake.proofs.Aimed.{submits, to_request}
 use Rattle.intake.proofs.Answered.{no_memory}
 use Rattle.intake.proofs.Asked.{unasked, starved, asked_by}

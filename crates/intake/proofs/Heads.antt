@@ -6,17 +6,12 @@ use Rattle.std.proofs.KnownBytes.{Consumes-trans}
 use Rattle.std.specs.Io.KnownBytes.{Consumes}
 use Rattle.httparse.specs.Grammar.{RequestHead, ReadsRequest, HasNoRequest, print_request}
 use Rattle.fields.specs.Fields.{most_head, most_fields}
-use Rattle.intake.specs.Requests.{HasHead, HasNoHead}
+use Rattle.intake.specs.Requests.{HasRequestHead, HasNoHead}
 use Rattle.httparse.specs.Spans.{IsRequestWithin, IsRequestAt}
 use Rattle.httparse.specs.declared.spans.HeaderSpan.{HeaderSpan}
 use Rattle.httparse.specs.declared.spans.RequestSpans.{RequestSpans}
 use Rattle.std.proofs.lemmas.List.{length-take-le, length-map}
 use Rattle.std.proofs.Common.{append_assoc}
-use Rattle.gauges.proofs.Sends.{take_two}
-
-pub taken_more : (a b c : Option (List ℕ)) (old new : List ℕ) (at n : ℕ) → Consumes a b (take at old) → take at new ≡ take at old → Consumes b c (take n (drop at new)) → Consumes a c (take (at + n) new)
-taken_more a b c old new at n p same q =
-    subst (Consumes a c) (sym (take_two new at n ∙ ap (λ l. l ++ take n (drop at new)) same)) (Consumes-trans a b c _ _ p q)
 
 some_bytes : (h : RequestHead) → 0 < length (print_request h)
 unfolding print_request
@@ -42,7 +37,7 @@ none_too_large got more full none h rest found =
 
 -- the head that the spans cover is one of an input that begins with those bytes
 pub head_within : (got more : List ℕ) (fields : List HeaderSpan) (spans : RequestSpans) (h : RequestHead) → length got ≤ most_head → length fields ≤ most_fields
-    → IsRequestWithin got fields spans → IsRequestAt got fields spans h → HasHead (got ++ more) h (drop spans.len got ++ more)
+    → IsRequestWithin got fields spans → IsRequestAt got fields spans h → HasRequestHead (got ++ more) h (drop spans.len got ++ more)
 head_within got more fields spans h room many within at =
     let fits = within.section.len_fits in
     let count = within.section.count_fits in

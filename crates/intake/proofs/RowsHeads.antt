@@ -9,7 +9,7 @@ use Rattle.httparse.proofs.GrammarLemmas.{request_unique, print_request-append, 
 use Rattle.httparse.specs.Grammar.{LineEnd, crlf, lf, IsToken, Field, IsField, IsRequestHead, ReadsRequest, RequestHead, is_token_byte, is_uri_byte, is_value_byte, print_blank, print_field, print_request}
 use Rattle.profile.specs.Response.{Post, OtherMethod, stated_length}
 use Rattle.intake.specs.Fields.{head_of}
-use Rattle.intake.specs.Requests.{HasHead, HasNoHead}
+use Rattle.intake.specs.Requests.{HasRequestHead, HasNoHead}
 
 -- a line of a field
 abbrev field : List ℕ → List ℕ → Field
@@ -43,7 +43,7 @@ good fields all = record {
 abbrev head : RequestHead
 head = record { blank = []; method = codes "POST"; target = codes "/x12"; minor = 1; line_end = crlf; fields = field (codes "Host") (codes " w") ∷ field (codes "Content-Length") (codes " 3") ∷ []; last = crlf }
 
-posted : HasHead (codes "POST /x12 HTTP/1.1\r\nHost: w\r\nContent-Length: 3\r\n\r\nISA") head (codes "ISA")
+posted : HasRequestHead (codes "POST /x12 HTTP/1.1\r\nHost: w\r\nContent-Length: 3\r\n\r\nISA") head (codes "ISA")
 unfolding httparse_on_literals lib.Utf8.encode
 posted = record {
   reads = (
@@ -68,7 +68,7 @@ what_is_posted = (refl, refl, refl)
 abbrev least : RequestHead
 least = record { blank = []; method = codes "G"; target = codes "/"; minor = 0; line_end = lf; fields = []; last = lf }
 
-least_is_read : HasHead (codes "G / HTTP/1.0\n\n") least []
+least_is_read : HasRequestHead (codes "G / HTTP/1.0\n\n") least []
 unfolding httparse_on_literals lib.Utf8.encode
 least_is_read = record {
   reads = (
@@ -94,7 +94,7 @@ what_is_least = (refl, refl, refl)
 abbrev twice : RequestHead
 twice = got (field (codes "Content-Length") (codes " 3") ∷ field (codes "content-length") (codes "3") ∷ [])
 
-twice_is_read : HasHead (codes "GET / HTTP/1.1\r\nContent-Length: 3\r\ncontent-length:3\r\n\r\n") twice []
+twice_is_read : HasRequestHead (codes "GET / HTTP/1.1\r\nContent-Length: 3\r\ncontent-length:3\r\n\r\n") twice []
 unfolding httparse_on_literals lib.Utf8.encode
 twice_is_read = record {
   reads = (
@@ -118,7 +118,7 @@ twice_is_bad = refl
 abbrev chunked : RequestHead
 chunked = got (field (codes "transfer-ENCODING") (codes " chunked") ∷ [])
 
-chunked_is_read : HasHead (codes "GET / HTTP/1.1\r\ntransfer-ENCODING: chunked\r\n\r\n0\r\n\r\n") chunked (codes "0\r\n\r\n")
+chunked_is_read : HasRequestHead (codes "GET / HTTP/1.1\r\ntransfer-ENCODING: chunked\r\n\r\n0\r\n\r\n") chunked (codes "0\r\n\r\n")
 unfolding httparse_on_literals lib.Utf8.encode
 chunked_is_read = record {
   reads = (good _ (one _ [] (fits (codes "transfer-ENCODING") (codes " chunked") (omega arith) refl refl) none_of), refl);
@@ -211,7 +211,7 @@ cut_off h n is short k rest found =
     absurd (omega (arith, short, size, taken, long_as))
 
 -- 8,192 bytes are a head, and 8,193 are none
-greatest : HasHead (print_request (long 8170)) (long 8170) []
+greatest : HasRequestHead (print_request (long 8170)) (long 8170) []
 greatest = record {
   reads = whole (long 8170) (long_is_good 8170);
   size = let e : length (print_request (long 8170)) ≡ 22 + 8170 = size_of_long 8170 in omega (arith, e);
@@ -222,7 +222,7 @@ a_byte_more : HasNoHead (print_request (long 8171))
 a_byte_more = too_large (long 8171) (long_is_good 8171) (let e : length (print_request (long 8171)) ≡ 22 + 8171 = size_of_long 8171 in omega (arith, e))
 
 -- so are 32 fields, and 33 are none
-most_fields : HasHead (print_request (many 32)) (many 32) []
+most_fields : HasRequestHead (print_request (many 32)) (many 32) []
 most_fields = record {
   reads = whole (many 32) (good _ (all_fields 32));
   size = let e : length (print_request (many 32)) ≡ 18 + 4 * 32 = size_of_many 32 in omega (arith, e);

@@ -9,7 +9,8 @@ use Rattle.profile.specs.Header.{Who, who_text}
 use Rattle.profile.specs.Register.{Command, Interchange}
 use Rattle.profile.specs.Response.{Response, fault_response}
 use Rattle.store.specs.Fault.TheVariants.{OutOfMemory}
-use Rattle.intake.specs.Requests.{HasHead, IsInput}
+use Rattle.gauges.specs.Inputs.{IsInput}
+use Rattle.intake.specs.Requests.{HasRequestHead}
 use Rattle.intake.specs.declared.served.RequestLine.{RequestLine}
 
 -- those that these spans cover
@@ -31,7 +32,7 @@ pub record HasLine (known : Option (List ℕ)) (line : RequestLine) : Type 0 whe
   pub is_input : IsInput known input
   pub head : RequestHead
   pub rest : List ℕ
-  pub begins : HasHead input head rest
+  pub begins : HasRequestHead input head rest
   pub told : IsLineOf head line
 
 -- the depositor that an interchange names, its sender: none where it is unreadable, or ISA05 and

@@ -12,7 +12,8 @@ use Rattle.store.specs.Fault.{Fault}
 use Rattle.std.specs.Io.KnownBytes.{Appends}
 use Rattle.gauges.specs.Gauges.{Grew, AppendsBeginning}
 use Rattle.intake.specs.Asking.{asks_in, IsShutAnswer}
-use Rattle.intake.specs.Requests.{HasHead, HasNoHead, IsInput}
+use Rattle.gauges.specs.Inputs.{IsInput}
+use Rattle.intake.specs.Requests.{HasRequestHead, HasNoHead}
 use Rattle.intake.specs.Fields.{head_of}
 use Rattle.intake.specs.Lines.{TellsOf, HasLine, TellsSender}
 use Rattle.intake.specs.Calls.{Call, call_of, call_command, call_resp}
@@ -95,7 +96,7 @@ IsCallAnswered old new t method call body r = IsAnswered old new t (call_command
 -- what an input begins with: a head, and what is after it; or none
 abbrev pub BeginsWith : List ℕ → Option RequestHead → List ℕ → Type 0
 BeginsWith input None rest = HasNoHead input
-BeginsWith input (Some h) rest = HasHead input h rest
+BeginsWith input (Some h) rest = HasRequestHead input h rest
 
 -- the response to what a reader has, with what became of the book, and what is told of the head and
 -- of the sender; a book that has to be opened again answers as `IsShutAnswer` says

@@ -3,7 +3,8 @@ ghost use Rattle.std.specs.Io.KnownBytes.{Consumes, IsAtEnd};
 ghost use Rattle.fields.specs.Fields.{most_head, most_fields};
 ghost use Rattle.httparse.specs.Spans.{IsRequestWithin, IsRequestOf};
 ghost use Rattle.gauges.specs.Gauges.{Grew};
-ghost use Rattle.intake.specs.Requests.{HasNoHead, IsInput, IsBody, IsFilled};
+ghost use Rattle.gauges.specs.Inputs.{IsInput};
+ghost use Rattle.intake.specs.Requests.{HasNoHead, IsBody, IsFilled};
 
 use gauges::Gauge;
 use httparse::Status;

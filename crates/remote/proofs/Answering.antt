@@ -10,12 +10,13 @@ use Rattle.httparse.specs.declared.spans.ResponseSpans.{ResponseSpans}
 use Rattle.remote.specs.declared.heading.Said.{Said}
 use Rattle.remote.specs.Fields.{Says}
 use Rattle.fields.specs.Fields.{most_head, most_fields}
-use Rattle.remote.specs.Answers.{HasHead, IsInput, IsFront, IsAnswer}
-use Rattle.remote.proofs.Filling.{more_input}
+use Rattle.gauges.specs.Inputs.{IsInput, IsFront}
+use Rattle.gauges.proofs.InputLemmas.{more_input}
+use Rattle.remote.specs.Answers.{HasResponseHead, IsAnswer}
 
 -- the head that the spans cover is one of an input that begins with those bytes
 head_within : (got more : List ℕ) (fields : List HeaderSpan) (spans : ResponseSpans) (h : ResponseHead) → length got ≤ most_head → length fields ≤ most_fields
-    → IsResponseWithin got fields spans → IsResponseAt got fields spans h → HasHead (got ++ more) h (drop spans.len got ++ more)
+    → IsResponseWithin got fields spans → IsResponseAt got fields spans h → HasResponseHead (got ++ more) h (drop spans.len got ++ more)
 head_within got more fields spans h room many within at =
     let fits = within.section.len_fits in
     let count = within.section.count_fits in

@@ -1,4 +1,3 @@
-pub mod Sends
 pub mod Filling
 pub mod Written
 pub mod Answering

@@ -4,20 +4,13 @@ use Rattle.httparse.specs.Grammar.{ResponseHead, ReadsResponse, print_response, 
 use Rattle.remote.specs.Fields.{stated, is_x12, body_length}
 use Rattle.remote.specs.declared.answers.ServerAnswer.{ServerAnswer}
 use Rattle.fields.specs.Fields.{most_head, most_fields}
-
--- the input is what the reader has, where that is known
-abbrev pub IsInput : Option (List ℕ) → List ℕ → Type 0
-IsInput known input = IfSome known (λ bytes. input ≡ bytes)
+use Rattle.gauges.specs.Inputs.{IsInput, IsFront}
 
 -- the input begins with that head, within the room, and then has rest
-pub record HasHead (input : List ℕ) (h : ResponseHead) (rest : List ℕ) : Type 0 where
+pub record HasResponseHead (input : List ℕ) (h : ResponseHead) (rest : List ℕ) : Type 0 where
   pub reads : ReadsResponse input h rest
   pub size : length (print_response h) ≤ most_head
   pub fields : length h.fields ≤ most_fields
-
--- that many bytes, the first of these
-abbrev pub IsFront : List ℕ → ℕ → List ℕ → Type 0
-IsFront body size bytes = (size ≤ length bytes) × (body ≡ take size bytes)
 
 -- a body of one length, and not in chunks
 pub record HasBody (h : ResponseHead) (rest body : List ℕ) : Type 0 where
@@ -32,7 +25,7 @@ pub record IsAnswer (known : Option (List ℕ)) (a : ServerAnswer) : Type 0 wher
   pub is_input : IsInput known input
   pub head : ResponseHead
   pub rest : List ℕ
-  pub begins : HasHead input head rest
+  pub begins : HasResponseHead input head rest
   pub status : a.status ≡ status_code head
   pub kind : a.is_interchange ≡ is_x12 (stated (codes "Content-Type") head)
   pub body : HasBody head rest a.body.items

@@ -1,13 +1,9 @@
 -- The bytes of a request, and of its path.
-use Rattle.std.specs.Prelude.{ℕ, List, ◌++◌, map, length, codes, decimal}
+use Rattle.std.specs.Prelude.{ℕ, List, ◌++◌, length, codes, decimal}
 use Rattle.std.specs.Borrow.{Bor}
-use Rattle.std.specs.List.{concat, flat_map}
+use Rattle.std.specs.List.{flat_map}
 use Rattle.remote.specs.declared.requests.Verb.{Verb}
 use Rattle.remote.specs.declared.requests.Verb.TheVariants.{Get, Post}
-
--- the bytes of these pieces, one after the other
-abbrev pub joined : List (Bor (List ℕ)) → List ℕ
-joined pieces = concat (map (λ (piece : Bor (List ℕ)). piece.now) pieces)
 
 -- `/` before each part
 abbrev pub path_bytes : List (Bor (List ℕ)) → List ℕ

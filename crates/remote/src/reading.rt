@@ -3,7 +3,7 @@ ghost use Rattle.std.specs.Prelude.{◌≡◌, ℕ, ◌+◌, ◌<◌, ◌≤◌,
 ghost use Rattle.std.specs.Io.KnownBytes.{Consumes};
 ghost use Rattle.fields.specs.Fields.{most_head, most_fields};
 ghost use Rattle.httparse.specs.Spans.{IsResponseWithin, IsResponseOf};
-ghost use Rattle.remote.specs.Answers.{IsInput, IsFront};
+ghost use Rattle.gauges.specs.Inputs.{IsInput, IsFront};
 
 use crate::answers::Unanswered;
 use httparse::Status;

@@ -1,6 +1,7 @@
 ghost use Rattle.std.specs.Prelude.{◌≡◌, ◌++◌, length, decimal, codes, OnOk};
 ghost use Rattle.std.specs.Io.KnownBytes.{Appends};
-ghost use Rattle.remote.specs.Requests.{joined, opening, length_field, closing, request_bytes};
+ghost use Rattle.gauges.specs.Gauges.{joined};
+ghost use Rattle.remote.specs.Requests.{opening, length_field, closing, request_bytes};
 
 use itoa::Buffer;
 use std::io::{self, Write};

@@ -12,7 +12,7 @@ use Rattle.store.specs.Runs.{told}
 use Rattle.store.specs.Standing.{Standing}
 use Rattle.store.specs.declared.serving.Outcome.{Outcome}
 use Rattle.store.proofs.Again.{stored_again}
-use Rattle.stops.specs.Stopped.{Crosses, IsAnswered, StoresAgain}
+use Rattle.stops.specs.Stopped.{Crosses, IsAnsweredUpTo, StoresAgain}
 use Rattle.stops.specs.declared.answering.Answered.{Answered}
 
 -- where an accepted command stands in a run of which more counts
@@ -56,7 +56,7 @@ stored_later W N M c t s text more other place whose =
     subst (λ (K : List Entry). reply_to Two W K c s ≡ Stored text) (sym whole) (stored_again Two W place.before c t text other place.said all s)
 
 -- what was accepted before a stop stands in the register that it left
-pub stood_on : (W : Who) (L N : List Entry) (cs : List (Command × Moment)) (before : Answered) (i : ℕ) (c : Command) (t : Moment) (text : List ℕ) → IsAnswered W L cs before N → slice_get cs i ≡ Some (c, t)
+pub stood_on : (W : Who) (L N : List Entry) (cs : List (Command × Moment)) (before : Answered) (i : ℕ) (c : Command) (t : Moment) (text : List ℕ) → IsAnsweredUpTo W L cs before N → slice_get cs i ≡ Some (c, t)
     → slice_get (map told before.outcome.replies.items) i ≡ Some (Accepted text) → Stood W c t text N
 stood_on W L N cs before i c t text p here said =
     let n = length before.outcome.replies.items in

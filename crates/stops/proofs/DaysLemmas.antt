@@ -13,7 +13,7 @@ use Rattle.profile.proofs.TextLaws.{both_parts}
 use Rattle.store.specs.Fault.{Fault}
 use Rattle.book_statements.specs.Carrying.{LeavesCarried}
 use Rattle.stops.specs.Days.{AllCarried, KeepsAnswers, Pass, Passes, PassesTo, reached, reached_on, day_by_day}
-use Rattle.stops.specs.Stopped.{IsAnswered}
+use Rattle.stops.specs.Stopped.{IsAnsweredUpTo}
 use Rattle.stops.specs.declared.answering.Answered.{Answered}
 use Rattle.stops.proofs.AgainLemmas.{stood_on, stored_later}
 
@@ -69,7 +69,7 @@ keeps_answers W L [] (day' ∷ days) M pass d i cs day c t s text other at on he
 keeps_answers W L (cs' ∷ given) (day' ∷ days) M pass zero i cs day c t s text other at on here said =
     let same : cs' ≡ cs = cc in
     let was : day' ≡ Ok day = cc in
-    let p : IsAnswered W L cs day pass.0 = subst (λ (xs : List (Command × Moment)). Passes W L xs (Ok day) pass.0) same (subst (λ (o : Result Answered Fault). Passes W L cs' o pass.0) was pass.1) in
+    let p : IsAnsweredUpTo W L cs day pass.0 = subst (λ (xs : List (Command × Moment)). Passes W L xs (Ok day) pass.0) same (subst (λ (o : Result Answered Fault). Passes W L cs' o pass.0) was pass.1) in
     let rest = later_on W pass.0 given days M pass.2 in
     stored_later W pass.0 M c t s text rest.0 other (stood_on W L pass.0 cs day i c t text p here said) rest.1
 keeps_answers W L (cs' ∷ given) (day' ∷ days) M pass (suc d) i cs day c t s text other at on here said = keeps_answers W pass.0 given days M pass.2 d i cs day c t s text other at on here said

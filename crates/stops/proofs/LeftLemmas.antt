@@ -15,7 +15,7 @@ use Rattle.store.specs.declared.serving.Outcome.{Outcome}
 use Rattle.book_statements.specs.Standing.{StandsIn}
 use Rattle.books.specs.Opened.{Opened, standing_of}
 use Rattle.stops.specs.Faults.{MayBeThere}
-use Rattle.stops.specs.Stopped.{IsAnswered, Runs}
+use Rattle.stops.specs.Stopped.{IsAnsweredUpTo, Runs}
 use Rattle.stops.specs.declared.answering.Answered.{Answered}
 
 -- a fault that shut a book which was usable, in a run of commands that can be given
@@ -34,7 +34,7 @@ stands_after old new L cs o clean ran = elim (cases_Bool new.shut) [ inl shut �
 
 -- and that register is the one of what was answered
 pub answered_left : (old new : Standing) (L : List Entry) (cs : List (Command × Moment)) (before : Answered) → new.doubt ≡ 0 → before.must_reopen ≡ new.shut → Runs old new L cs before.outcome
-    → (M : List Entry) → new.left M → IsAnswered old.warehouse L cs before M
+    → (M : List Entry) → new.left M → IsAnsweredUpTo old.warehouse L cs before M
 answered_left old new L cs before clean told ran M left =
     let n = length before.outcome.replies.items in
     let broken : before.must_reopen ≡ true → MayBeThere before.outcome.fault = λ must. (ran.broken clean (sym told ∙ must)).0 in
@@ -53,7 +53,7 @@ answered_left old new L cs before clean told ran M left =
 -- so do the trees that are left
 pub left_of_run : {S : Type 0} (g : Ghosts S) (old new : Opened S) (L : List Entry) (cs : List (Command × Moment)) (before : Answered) → (standing_of g new).doubt ≡ 0 → before.must_reopen ≡ new.shut
     → Runs (standing_of g old) (standing_of g new) L cs before.outcome
-    → (db : Trees) → (state g new.tables.conn).may_leave db → (M : List Entry) × StandsIn old.warehouse M db × IsAnswered old.warehouse L cs before M
+    → (db : Trees) → (state g new.tables.conn).may_leave db → (M : List Entry) × StandsIn old.warehouse M db × IsAnsweredUpTo old.warehouse L cs before M
 left_of_run g old new L cs before clean told ran db may =
     let there = stands_after (standing_of g old) (standing_of g new) L cs before.outcome clean ran db may in
     let same : new.warehouse ≡ old.warehouse = ran.goes.warehouse in

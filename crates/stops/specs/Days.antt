@@ -14,7 +14,7 @@ use Rattle.store.specs.Standing.{Standing, IsUsable}
 use Rattle.store.specs.Fault.{Fault}
 use Rattle.book_statements.specs.Carrying.{LeavesCarried}
 use Rattle.book_statements.specs.Faults.{IsCallFault, IsOpeningFault}
-use Rattle.stops.specs.Stopped.{IsAnswered}
+use Rattle.stops.specs.Stopped.{IsAnsweredUpTo}
 use Rattle.stops.specs.declared.answering.Answered.{Answered}
 
 -- commands day by day: so many each, one day's after the other's, and fewer where the commands end
@@ -55,7 +55,7 @@ module _ (left : Trees → Type 0) (W : Who) (all : AllCarried left W) where
 -- on a day on which the book wasn't opened, for 40 or 41, nothing changed
 abbrev pub Passes : Who → List Entry → List (Command × Moment) → Result Answered Fault → List Entry
     → Type 0
-Passes W L given (Ok day) M = IsAnswered W L given day M
+Passes W L given (Ok day) M = IsAnsweredUpTo W L given day M
 Passes W L given (Err fault) M = IsCallFault fault × (M ≡ L)
 
 -- days after one another, from the register L to the register M

@@ -43,7 +43,7 @@ pub record Runs
 -- Commands were answered on the register L, up to a fault, and the stop after them left the
 -- register M. So many of them count: those that were answered, and perhaps the next, but only where
 -- the book had to be opened again, which it has to at 40 and 41 alone.
-pub record IsAnswered
+pub record IsAnsweredUpTo
     (W : Who) (L : List Entry) (given : List (Command × Moment)) (before : Answered)
     (M : List Entry) : Type 0 where
   pub replies : map told before.outcome.replies.items
@@ -61,7 +61,7 @@ pub record Crosses
     (old new : Standing) (L : List Entry) (first second : List (Command × Moment))
     (before : Answered) (later : Outcome) : Type 0 where
   pub register : List Entry
-  pub answered : IsAnswered old.warehouse L first before register
+  pub answered : IsAnsweredUpTo old.warehouse L first before register
   pub warehouse : new.warehouse ≡ old.warehouse
   pub replies : map told later.replies.items
       ≡ replies_on Two old.warehouse register (take (length later.replies.items) second)
@@ -81,7 +81,7 @@ pub record Waits
   pub replies : map told before.outcome.replies.items
       ≡ replies_on Two W L (take (length before.outcome.replies.items) given)
   pub stands : (db : Trees) → left db → (M : List Entry) × StandsIn W M db
-      × IsAnswered W L given before M
+      × IsAnsweredUpTo W L given before M
 
 -- An interchange or an act that was accepted by its reply, and is given again after the stop, is
 -- answered by the same text.

@@ -1,4 +1,4 @@
-use Rattle.remote.proofs.Filling.{taken_more}
+use Rattle.gauges.proofs.InputLemmas.{taken_more}
 use Rattle.remote.proofs.reading.read_head.Goals as goal
 
 pub returns-in-Ok-Complete-clause-bytes : goal.returns-in-Ok-Complete-clause-bytes

@@ -1,4 +1,4 @@
-use Rattle.remote.proofs.Sends.{sent_piece}
+use Rattle.gauges.proofs.Sends.{sent_piece}
 use Rattle.remote.proofs.requests.write_pieces.Goals as goal
 
 pub loop-piece-preserved : goal.loop-piece-preserved

@@ -1,6 +1,6 @@
 use Rattle.std.proofs.Common.{take}
 use Rattle.std.specs.Io.KnownBytes.{Appends}
-use Rattle.remote.specs.Requests.{joined}
+use Rattle.gauges.specs.Gauges.{joined}
 use Rattle.remote.proofs.requests.write_pieces.Given as goal
 
 abbrev pub invariant-loop-piece : goal.invariant-loop-piece

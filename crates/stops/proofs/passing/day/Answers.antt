@@ -3,7 +3,7 @@ use Rattle.store.specs.Runs.{all_asked}
 use Rattle.profile.specs.Header.{Who}
 use Rattle.book_statements.specs.Standing.{StandsIn}
 use Rattle.books.specs.Opened.{standing_of}
-use Rattle.stops.specs.Stopped.{IsAnswered}
+use Rattle.stops.specs.Stopped.{IsAnsweredUpTo}
 use Rattle.stops.proofs.LeftLemmas.{left_of_run}
 use Rattle.stops.proofs.passing.day.Goals as goal
 
@@ -26,7 +26,7 @@ returns-in-Ok g c =
             found = o.found;
             was = o.was;
             register = left.0;
-            passes = subst (λ (V : Who). IsAnswered V L cs before left.0) o.warehouse left.2;
+            passes = subst (λ (V : Who). IsAnsweredUpTo V L cs before left.0) o.warehouse left.2;
             stands = inr (subst (λ (V : Who). StandsIn V left.0 db) o.warehouse left.1);
           };
       doubt = omega (arith, c.in-Ok.ensures.doubt, ran.goes.doubt, c.stopped.ensures.doubt);
