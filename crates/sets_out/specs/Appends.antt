@@ -5,7 +5,7 @@ use Rattle.profile.specs.Cut.{Segment}
 use Rattle.profile.specs.Texts.{text_of}
 
 -- n segments stand after what stood before, each of one byte at least
-pub record AppendsSegments (d : Delims) (old new : List ℕ) (ss : List Segment) (n : ℕ) : Type 0 where
+pub record Writes (d : Delims) (old new : List ℕ) (ss : List Segment) (n : ℕ) : Type 0 where
   pub text : new ≡ old ++ text_of d ss
   pub count : n ≡ length ss
   pub room : length old + n ≤ length new

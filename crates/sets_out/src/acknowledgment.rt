@@ -2,7 +2,7 @@ ghost use Rattle.std.specs.Prelude.{◌≡◌, ◌==◌, ◌++◌, ◌∷◌, []
 ghost use Rattle.profile.specs.Lists.{first_of};
 ghost use Rattle.profile.specs.Texts.{ak3_segments, ak4_segments, ak5_segments, ak901, accepted_sets, told_segments, body_997, set_of_segments, text_of};
 ghost use Rattle.segments.specs.Extends.{Extends};
-ghost use Rattle.sets_out.specs.Appends.{AppendsSegments};
+ghost use Rattle.sets_out.specs.Appends.{Writes};
 
 use crate::envelopes::{append_se, append_st};
 use crate::told::{ElementFault, Rejection, SegmentFault, ToldGroup, ToldSet};
@@ -18,7 +18,7 @@ fn append_element(
     element: &Option<ElementFault>,
 ) -> Result<usize, AllocError>
     ensures ok { IfOk result
-        (λ n. AppendsSegments delims out.old.items out.new.items (ak4_segments element.now) n) }
+        (λ n. Writes delims out.old.items out.new.items (ak4_segments element.now) n) }
     ensures kept { Extends out.old.items out.new.items }
 {
     match element {
@@ -40,7 +40,7 @@ fn append_fault(
     fault: &Option<SegmentFault<'_>>,
 ) -> Result<usize, AllocError>
     ensures ok { IfOk result
-        (λ n. AppendsSegments delims out.old.items out.new.items (ak3_segments fault.now) n) }
+        (λ n. Writes delims out.old.items out.new.items (ak3_segments fault.now) n) }
     ensures kept { Extends out.old.items out.new.items }
 {
     match fault {
@@ -64,7 +64,7 @@ fn append_verdict(
     rejection: &Option<Rejection<'_>>,
 ) -> Result<usize, AllocError>
     ensures ok { IfOk result
-        (λ n. AppendsSegments delims out.old.items out.new.items (ak5_segments rejection.now) n) }
+        (λ n. Writes delims out.old.items out.new.items (ak5_segments rejection.now) n) }
     ensures kept { Extends out.old.items out.new.items }
 {
     match rejection {
@@ -82,7 +82,7 @@ fn append_verdict(
 // AK2 to AK5 of a set.
 fn append_set(out: &mut Vec<u8>, delims: Delims, set: &ToldSet<'_>) -> Result<usize, AllocError>
     ensures ok { IfOk result
-        (λ n. AppendsSegments delims out.old.items out.new.items (told_segments set.now) n) }
+        (λ n. Writes delims out.old.items out.new.items (told_segments set.now) n) }
     ensures kept { Extends out.old.items out.new.items }
 {
     let first = append_segment(out, delims, &[b"AK2", set.number, set.control])?;
@@ -93,7 +93,7 @@ fn append_set(out: &mut Vec<u8>, delims: Delims, set: &ToldSet<'_>) -> Result<us
 // AK2 to AK5 of each set.
 fn append_sets(out: &mut Vec<u8>, delims: Delims, sets: &[ToldSet<'_>]) -> Result<usize, AllocError>
     ensures ok { IfOk result
-        (λ n. AppendsSegments delims out.old.items out.new.items (flat_map told_segments sets.now) n) }
+        (λ n. Writes delims out.old.items out.new.items (flat_map told_segments sets.now) n) }
     ensures kept { Extends out.old.items out.new.items }
 {
     let mut count = 0;
@@ -128,7 +128,7 @@ fn code_of(accepted: usize, received: usize) -> &'static [u8]
 // AK9.
 fn append_last(out: &mut Vec<u8>, delims: Delims, told: &ToldGroup<'_>) -> Result<usize, AllocError>
     ensures ok { IfOk result
-        (λ n. AppendsSegments delims out.old.items out.new.items ((codes "AK9" ∷ ak901 told.now
+        (λ n. Writes delims out.old.items out.new.items ((codes "AK9" ∷ ak901 told.now
         ∷ decimal told.now.stated ∷ decimal told.now.received ∷ decimal (accepted_sets told.now)
         ∷ option_to_list (option_map decimal told.now.fault)) ∷ []) n) }
     ensures kept { Extends out.old.items out.new.items }
@@ -158,7 +158,7 @@ fn append_last(out: &mut Vec<u8>, delims: Delims, told: &ToldGroup<'_>) -> Resul
 // AK1 to AK9.
 fn append_body(out: &mut Vec<u8>, delims: Delims, told: &ToldGroup<'_>) -> Result<usize, AllocError>
     ensures ok { IfOk result
-        (λ n. AppendsSegments delims out.old.items out.new.items (body_997 told.now) n) }
+        (λ n. Writes delims out.old.items out.new.items (body_997 told.now) n) }
     ensures kept { Extends out.old.items out.new.items }
 {
     let first = append_segment(out, delims, &[b"AK1", told.function, told.number])?;
@@ -175,7 +175,7 @@ pub(crate) fn append_997(
     told: &ToldGroup<'_>,
 ) -> Result<usize, AllocError>
     ensures ok { IfOk result
-        (λ n. AppendsSegments delims out.old.items out.new.items
+        (λ n. Writes delims out.old.items out.new.items
         (set_of_segments (codes "997") place (body_997 told.now)) n) }
     ensures kept { Extends out.old.items out.new.items }
 {

@@ -1,7 +1,7 @@
 ghost use Rattle.std.specs.Prelude.{◌≡◌, ◌≤◌, ◌+◌, ◌++◌, ◌∷◌, [], codes, decimal, length, take, flat_map, IfOk};
 ghost use Rattle.profile.specs.Texts.{difference, goods};
 ghost use Rattle.segments.specs.Extends.{Extends};
-ghost use Rattle.sets_out.specs.Appends.{AppendsSegments};
+ghost use Rattle.sets_out.specs.Appends.{Writes};
 ghost use Rattle.sets_out.specs.Documents.{changed_line, adjustment_body};
 
 use crate::sheets::AdjustedLine;
@@ -18,7 +18,7 @@ fn append_goods(
     item: &[u8],
 ) -> Result<usize, AllocError>
     ensures ok { IfOk result
-        (λ n. AppendsSegments delims out.old.items out.new.items ((codes "W19" ∷ codes "AA" ∷ change.now
+        (λ n. Writes delims out.old.items out.new.items ((codes "W19" ∷ codes "AA" ∷ change.now
         ∷ goods item.now) ∷ []) n) }
     ensures kept { Extends out.old.items out.new.items }
 {
@@ -48,7 +48,7 @@ fn append_loss(
     item: &[u8],
 ) -> Result<usize, AllocError>
     ensures ok { IfOk result
-        (λ n. AppendsSegments delims out.old.items out.new.items ((codes "W19" ∷ codes "AA"
+        (λ n. Writes delims out.old.items out.new.items ((codes "W19" ∷ codes "AA"
         ∷ (codes "-" ++ decimal loss) ∷ goods item.now) ∷ []) n) }
     ensures kept { Extends out.old.items out.new.items }
 {
@@ -67,7 +67,7 @@ fn append_change(
     after: u64,
 ) -> Result<usize, AllocError>
     ensures ok { IfOk result
-        (λ n. AppendsSegments delims out.old.items out.new.items ((codes "W19" ∷ codes "AA"
+        (λ n. Writes delims out.old.items out.new.items ((codes "W19" ∷ codes "AA"
         ∷ difference after before ∷ goods item.now) ∷ []) n) }
     ensures kept { Extends out.old.items out.new.items }
 {
@@ -86,7 +86,7 @@ fn append_line(
     line: &AdjustedLine<'_>,
 ) -> Result<usize, AllocError>
     ensures ok { IfOk result
-        (λ n. AppendsSegments delims out.old.items out.new.items (changed_line line.now) n) }
+        (λ n. Writes delims out.old.items out.new.items (changed_line line.now) n) }
     ensures kept { Extends out.old.items out.new.items }
 {
     if line.after == line.before {
@@ -104,7 +104,7 @@ fn append_lines(
     lines: &[AdjustedLine<'_>],
 ) -> Result<usize, AllocError>
     ensures ok { IfOk result
-        (λ n. AppendsSegments delims out.old.items out.new.items (flat_map changed_line lines.now) n) }
+        (λ n. Writes delims out.old.items out.new.items (flat_map changed_line lines.now) n) }
     ensures kept { Extends out.old.items out.new.items }
 {
     let mut count = 0;
@@ -123,7 +123,7 @@ pub(crate) fn append_body(
     lines: &[AdjustedLine<'_>],
 ) -> Result<usize, AllocError>
     ensures ok { IfOk result
-        (λ n. AppendsSegments delims out.old.items out.new.items
+        (λ n. Writes delims out.old.items out.new.items
         (adjustment_body moment.now number lines.now) n) }
     ensures kept { Extends out.old.items out.new.items }
 {

@@ -1,7 +1,7 @@
 ghost use Rattle.std.specs.Prelude.{◌≡◌, ◌++◌, ◌∷◌, [], codes, IfOk, OnOk, OnErr};
 ghost use Rattle.profile.specs.Texts.{document_text, group_of_sets, own_delims, set_of_segments, text_of};
 ghost use Rattle.segments.specs.Extends.{Extends};
-ghost use Rattle.sets_out.specs.Appends.{AppendsSegments};
+ghost use Rattle.sets_out.specs.Appends.{Writes};
 ghost use Rattle.sets_out.specs.Documents.{receipt_body, shipment_body, adjustment_body};
 ghost use Rattle.sets_out.specs.Handed.{function_of, number_of, body_of, receipt_of, shipment_of};
 
@@ -43,7 +43,7 @@ fn append_body(
     number: u32,
     document: &Document<'_>,
 ) -> Result<usize, AllocError>
-    ensures ok { IfOk result (λ n. AppendsSegments delims out.old.items out.new.items
+    ensures ok { IfOk result (λ n. Writes delims out.old.items out.new.items
         (body_of moment.now number document.now) n) }
     ensures kept { Extends out.old.items out.new.items }
 {
@@ -62,7 +62,7 @@ fn append_set(
     number: u32,
     document: &Document<'_>,
 ) -> Result<usize, AllocError>
-    ensures ok { IfOk result (λ n. AppendsSegments delims out.old.items out.new.items
+    ensures ok { IfOk result (λ n. Writes delims out.old.items out.new.items
         (set_of_segments (number_of document.now) 1 (body_of moment.now number document.now)) n) }
     ensures kept { Extends out.old.items out.new.items }
 {
@@ -148,7 +148,7 @@ fn append_group(
     envelope: &Envelope,
     document: &Document<'_>,
 ) -> Result<usize, AllocError>
-    ensures ok { IfOk result (λ n. AppendsSegments delims out.old.items out.new.items
+    ensures ok { IfOk result (λ n. Writes delims out.old.items out.new.items
         (group_of_sets envelope.now.warehouse envelope.now.depositor envelope.now.moment
         envelope.now.number (function_of document.now) (number_of document.now)
         (body_of envelope.now.moment envelope.now.number document.now ∷ [])) n) }

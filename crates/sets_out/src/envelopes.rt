@@ -6,7 +6,7 @@ ghost use Rattle.profile.specs.Cut.{joined};
 ghost use Rattle.profile.specs.Moments.{date6, date8, time4};
 ghost use Rattle.profile.specs.Texts.{Receiver, receiver_of, isa_segment};
 ghost use Rattle.segments.specs.Extends.{Extends};
-ghost use Rattle.sets_out.specs.Appends.{AppendsSegments};
+ghost use Rattle.sets_out.specs.Appends.{Writes};
 
 use crate::writing::append_segment;
 use itoa::Buffer;
@@ -130,7 +130,7 @@ pub(crate) fn append_isa(
     moment: &Moment,
     number: u32,
 ) -> Result<usize, AllocError>
-    ensures ok { IfOk result (λ n. AppendsSegments delims out.old.items out.new.items (isa_segment delims
+    ensures ok { IfOk result (λ n. Writes delims out.old.items out.new.items (isa_segment delims
         warehouse.now to.now moment.now number ∷ []) n) }
     ensures kept { Extends out.old.items out.new.items }
 {
@@ -147,7 +147,7 @@ pub(crate) fn append_isa_to(
     delims: Delims,
     envelope: &Envelope,
 ) -> Result<usize, AllocError>
-    ensures ok { IfOk result (λ n. AppendsSegments delims out.old.items out.new.items (isa_segment delims
+    ensures ok { IfOk result (λ n. Writes delims out.old.items out.new.items (isa_segment delims
         envelope.now.warehouse (receiver_of envelope.now.depositor) envelope.now.moment
         envelope.now.number ∷ []) n) }
     ensures kept { Extends out.old.items out.new.items }
@@ -169,7 +169,7 @@ pub(crate) fn append_iea(
     groups: u8,
     number: u32,
 ) -> Result<usize, AllocError>
-    ensures ok { IfOk result (λ n. AppendsSegments delims out.old.items out.new.items
+    ensures ok { IfOk result (λ n. Writes delims out.old.items out.new.items
         ((codes "IEA" ∷ decimal groups ∷ zero_filled widths.CONTROL_DIGITS number ∷ []) ∷ []) n) }
     ensures kept { Extends out.old.items out.new.items }
 {
@@ -186,7 +186,7 @@ pub(crate) fn append_gs(
     envelope: &Envelope,
     function: &[u8],
 ) -> Result<usize, AllocError>
-    ensures ok { IfOk result (λ n. AppendsSegments delims out.old.items out.new.items
+    ensures ok { IfOk result (λ n. Writes delims out.old.items out.new.items
         ((codes "GS" ∷ function.now ∷ envelope.now.warehouse.id ∷ envelope.now.depositor.id ∷ date8
         envelope.now.moment ∷ time4 envelope.now.moment
         ∷ decimal envelope.now.number ∷ codes "X" ∷ codes "004010" ∷ []) ∷ []) n) }
@@ -213,7 +213,7 @@ pub(crate) fn append_ge(
     sets: usize,
     number: u32,
 ) -> Result<usize, AllocError>
-    ensures ok { IfOk result (λ n. AppendsSegments delims out.old.items out.new.items
+    ensures ok { IfOk result (λ n. Writes delims out.old.items out.new.items
         ((codes "GE" ∷ decimal sets ∷ decimal number ∷ []) ∷ []) n) }
     ensures kept { Extends out.old.items out.new.items }
 {
@@ -231,7 +231,7 @@ pub(crate) fn append_st(
     number: &[u8],
     place: u64,
 ) -> Result<usize, AllocError>
-    ensures ok { IfOk result (λ n. AppendsSegments delims out.old.items out.new.items
+    ensures ok { IfOk result (λ n. Writes delims out.old.items out.new.items
         ((codes "ST" ∷ number.now ∷ zero_filled widths.LEAST_SET_CONTROL place ∷ []) ∷ []) n) }
     ensures kept { Extends out.old.items out.new.items }
 {
@@ -246,7 +246,7 @@ pub(crate) fn append_se(
     segments: usize,
     place: u64,
 ) -> Result<usize, AllocError>
-    ensures ok { IfOk result (λ n. AppendsSegments delims out.old.items out.new.items
+    ensures ok { IfOk result (λ n. Writes delims out.old.items out.new.items
         ((codes "SE" ∷ decimal segments ∷ zero_filled widths.LEAST_SET_CONTROL place ∷ []) ∷ []) n) }
     ensures kept { Extends out.old.items out.new.items }
 {

@@ -1,7 +1,7 @@
 ghost use Rattle.std.specs.Prelude.{IfOk, OnOk, OnErr, ◌≡◌, ◌++◌, ◌∷◌, []};
 ghost use Rattle.profile.specs.Cut.{spelled};
 ghost use Rattle.segments.specs.Extends.{Extends};
-ghost use Rattle.sets_out.specs.Appends.{AppendsSegments};
+ghost use Rattle.sets_out.specs.Appends.{Writes};
 ghost use Rattle.sets_out.specs.Headings.{Heading as Meant, ta1_of};
 
 use crate::writing::append_segment;
@@ -48,7 +48,7 @@ pub(crate) fn append_ta1(
     note: Option<u16>,
 ) -> Result<usize, AllocError>
     ensures ok { IfOk result
-        (λ n. AppendsSegments delims out.old.items out.new.items (ta1_of heading.now note ∷ []) n) }
+        (λ n. Writes delims out.old.items out.new.items (ta1_of heading.now note ∷ []) n) }
     ensures kept { Extends out.old.items out.new.items }
 {
     let (control, date, time) = (heading.control, heading.date, heading.time);

@@ -1,7 +1,7 @@
 ghost use Rattle.std.specs.Prelude.{◌≡◌, ◌++◌, codes, map, OnOk, OnErr, IfOk, Some};
 ghost use Rattle.profile.specs.Texts.{body_997, interchange, sets_of_segments};
 ghost use Rattle.segments.specs.Extends.{Extends};
-ghost use Rattle.sets_out.specs.Appends.{AppendsSegments};
+ghost use Rattle.sets_out.specs.Appends.{Writes};
 ghost use Rattle.sets_out.specs.Interchanges.{acknowledged, answers_group, between, groups_for, is_silence, whole_answer, answer_text, refusal_text, interchange_text};
 
 use crate::acknowledgment::append_997;
@@ -63,7 +63,7 @@ fn append_997s(
     told: &[ToldGroup<'_>],
 ) -> Result<usize, AllocError>
     ensures ok { IfOk result
-        (λ n. AppendsSegments delims out.old.items out.new.items
+        (λ n. Writes delims out.old.items out.new.items
         (sets_of_segments (codes "997") (map body_997 told.now)) n) }
     ensures kept { Extends out.old.items out.new.items }
 {
@@ -81,7 +81,7 @@ fn append_requested(
     heading: &Heading<'_>,
 ) -> Result<usize, AllocError>
     ensures ok { IfOk result
-        (λ n. AppendsSegments delims out.old.items out.new.items (acknowledged heading.now) n) }
+        (λ n. Writes delims out.old.items out.new.items (acknowledged heading.now) n) }
     ensures kept { Extends out.old.items out.new.items }
 {
     if heading.asks {
@@ -93,7 +93,7 @@ fn append_requested(
 
 // Appends the group of acknowledgments, if there are any, or a beginning of it.
 fn append_group(out: &mut Vec<u8>, answer: &Answer<'_>) -> Result<usize, AllocError>
-    ensures ok { IfOk result (λ n. AppendsSegments answer.now.delims out.old.items out.new.items
+    ensures ok { IfOk result (λ n. Writes answer.now.delims out.old.items out.new.items
         (answers_group answer.now.envelope.warehouse answer.now.envelope.depositor
         answer.now.envelope.moment answer.now.envelope.number answer.now.told.now) n) }
     ensures kept { Extends out.old.items out.new.items }
@@ -114,7 +114,7 @@ fn append_group(out: &mut Vec<u8>, answer: &Answer<'_>) -> Result<usize, AllocEr
 
 // Appends what stands between ISA and IEA, or a beginning of that.
 fn append_between(out: &mut Vec<u8>, answer: &Answer<'_>) -> Result<usize, AllocError>
-    ensures ok { IfOk result (λ n. AppendsSegments answer.now.delims out.old.items out.new.items
+    ensures ok { IfOk result (λ n. Writes answer.now.delims out.old.items out.new.items
         (between answer.now.envelope.warehouse answer.now.envelope.depositor
         answer.now.envelope.moment answer.now.envelope.number answer.now.heading.now
         answer.now.told.now) n) }

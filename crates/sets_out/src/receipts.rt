@@ -1,7 +1,7 @@
 ghost use Rattle.std.specs.Prelude.{◌∷◌, [], codes, decimal, flat_map, IfOk};
 ghost use Rattle.profile.specs.Moments.{date8};
 ghost use Rattle.segments.specs.Extends.{Extends};
-ghost use Rattle.sets_out.specs.Appends.{AppendsSegments};
+ghost use Rattle.sets_out.specs.Appends.{Writes};
 ghost use Rattle.sets_out.specs.Documents.{received_line, receipt_body};
 ghost use Rattle.sets_out.specs.Handed.{receipt_of};
 
@@ -18,7 +18,7 @@ fn append_line(
     line: &CountedLine<'_>,
 ) -> Result<usize, AllocError>
     ensures ok { IfOk result
-        (λ n. AppendsSegments delims out.old.items out.new.items (received_line line.now) n) }
+        (λ n. Writes delims out.old.items out.new.items (received_line line.now) n) }
     ensures kept { Extends out.old.items out.new.items }
 {
     let mut buffer = Buffer::new();
@@ -39,7 +39,7 @@ fn append_lines(
     lines: &[CountedLine<'_>],
 ) -> Result<usize, AllocError>
     ensures ok { IfOk result
-        (λ n. AppendsSegments delims out.old.items out.new.items (flat_map received_line lines.now) n) }
+        (λ n. Writes delims out.old.items out.new.items (flat_map received_line lines.now) n) }
     ensures kept { Extends out.old.items out.new.items }
 {
     let mut count = 0;
@@ -57,7 +57,7 @@ fn append_first(
     number: u32,
     receipt: &Receipt<'_>,
 ) -> Result<usize, AllocError>
-    ensures ok { IfOk result (λ n. AppendsSegments delims out.old.items out.new.items
+    ensures ok { IfOk result (λ n. Writes delims out.old.items out.new.items
         ((codes "W17" ∷ codes "F" ∷ date8 moment.now ∷ decimal number ∷ receipt.now.order.now
         ∷ receipt.now.shipment.now ∷ []) ∷ []) n) }
     ensures kept { Extends out.old.items out.new.items }
@@ -78,7 +78,7 @@ fn append_sums(
     delims: Delims,
     receipt: &Receipt<'_>,
 ) -> Result<usize, AllocError>
-    ensures ok { IfOk result (λ n. AppendsSegments delims out.old.items out.new.items
+    ensures ok { IfOk result (λ n. Writes delims out.old.items out.new.items
         ((codes "W14" ∷ decimal receipt.now.counted ∷ decimal receipt.now.advised ∷ []) ∷ []) n) }
     ensures kept { Extends out.old.items out.new.items }
 {
@@ -98,7 +98,7 @@ pub(crate) fn append_body(
     receipt: &Receipt<'_>,
 ) -> Result<usize, AllocError>
     ensures ok { IfOk result
-        (λ n. AppendsSegments delims out.old.items out.new.items
+        (λ n. Writes delims out.old.items out.new.items
         (receipt_body moment.now number (receipt_of receipt.now)) n) }
     ensures kept { Extends out.old.items out.new.items }
 {

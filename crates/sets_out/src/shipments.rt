@@ -3,7 +3,7 @@ ghost use Rattle.std.specs.List.{enumerate_from};
 ghost use Rattle.profile.specs.Moments.{date8};
 ghost use Rattle.profile.specs.Texts.{goods};
 ghost use Rattle.segments.specs.Extends.{Extends};
-ghost use Rattle.sets_out.specs.Appends.{AppendsSegments};
+ghost use Rattle.sets_out.specs.Appends.{Writes};
 ghost use Rattle.sets_out.specs.Documents.{shipped_lot, shipped_line, shipment_body};
 ghost use Rattle.sets_out.specs.Handed.{shipment_of};
 
@@ -16,7 +16,7 @@ use std::alloc::AllocError;
 // N9 of a lot, or nothing.
 fn append_lot(out: &mut Vec<u8>, delims: Delims, lot: &PickedLot<'_>) -> Result<usize, AllocError>
     ensures ok { IfOk result
-        (λ n. AppendsSegments delims out.old.items out.new.items (shipped_lot lot.now ∷ []) n) }
+        (λ n. Writes delims out.old.items out.new.items (shipped_lot lot.now ∷ []) n) }
     ensures kept { Extends out.old.items out.new.items }
 {
     let mut buffer = Buffer::new();
@@ -31,7 +31,7 @@ fn append_lots(
     lots: &[PickedLot<'_>],
 ) -> Result<usize, AllocError>
     ensures ok { IfOk result
-        (λ n. AppendsSegments delims out.old.items out.new.items (map shipped_lot lots.now) n) }
+        (λ n. Writes delims out.old.items out.new.items (map shipped_lot lots.now) n) }
     ensures kept { Extends out.old.items out.new.items }
 {
     let mut count = 0;
@@ -59,7 +59,7 @@ fn append_w12(
     item: &[u8],
 ) -> Result<usize, AllocError>
     ensures ok { IfOk result
-        (λ n. AppendsSegments delims out.old.items out.new.items ((codes "W12" ∷ code.now ∷ ordered.now
+        (λ n. Writes delims out.old.items out.new.items ((codes "W12" ∷ code.now ∷ ordered.now
         ∷ shipped.now ∷ missing.now ∷ goods item.now) ∷ []) n) }
     ensures kept { Extends out.old.items out.new.items }
 {
@@ -80,7 +80,7 @@ fn append_goods(
     ordered: u64,
     shipped: u64,
 ) -> Result<usize, AllocError>
-    ensures ok { IfOk result (λ n. AppendsSegments delims out.old.items out.new.items
+    ensures ok { IfOk result (λ n. Writes delims out.old.items out.new.items
         ((codes "W12" ∷ (if shipped == ordered then codes "CC" else codes "CP") ∷ decimal ordered
         ∷ decimal shipped ∷ decimal (ordered - shipped) ∷ goods item.now) ∷ []) n) }
     ensures kept { Extends out.old.items out.new.items }
@@ -99,7 +99,7 @@ fn append_goods(
 // LX, or nothing.
 fn append_place(out: &mut Vec<u8>, delims: Delims, place: u64) -> Result<usize, AllocError>
     ensures ok { IfOk result
-        (λ n. AppendsSegments delims out.old.items out.new.items ((codes "LX" ∷ decimal place ∷ []) ∷ [])
+        (λ n. Writes delims out.old.items out.new.items ((codes "LX" ∷ decimal place ∷ []) ∷ [])
         n) }
     ensures kept { Extends out.old.items out.new.items }
 {
@@ -116,7 +116,7 @@ fn append_line(
     line: &ShippedLine<'_>,
 ) -> Result<usize, AllocError>
     ensures ok { IfOk result
-        (λ n. AppendsSegments delims out.old.items out.new.items (shipped_line place line.now) n) }
+        (λ n. Writes delims out.old.items out.new.items (shipped_line place line.now) n) }
     ensures kept { Extends out.old.items out.new.items }
 {
     let first = append_place(out, delims, place)?;
@@ -132,7 +132,7 @@ fn append_lines(
     lines: &[ShippedLine<'_>],
 ) -> Result<usize, AllocError>
     ensures ok { IfOk result
-        (λ n. AppendsSegments delims out.old.items out.new.items (flat_map
+        (λ n. Writes delims out.old.items out.new.items (flat_map
         (λ p. shipped_line p.0 p.1) (enumerate_from 1 lines.now)) n) }
     ensures kept { Extends out.old.items out.new.items }
 {
@@ -151,7 +151,7 @@ fn append_first(
     number: u32,
     order: &[u8],
 ) -> Result<usize, AllocError>
-    ensures ok { IfOk result (λ n. AppendsSegments delims out.old.items out.new.items
+    ensures ok { IfOk result (λ n. Writes delims out.old.items out.new.items
         ((codes "W06" ∷ codes "F" ∷ order.now ∷ date8 moment.now ∷ decimal number ∷ []) ∷ []) n) }
     ensures kept { Extends out.old.items out.new.items }
 {
@@ -164,7 +164,7 @@ fn append_first(
 // W03, or nothing.
 fn append_sum(out: &mut Vec<u8>, delims: Delims, shipped: u64) -> Result<usize, AllocError>
     ensures ok { IfOk result
-        (λ n. AppendsSegments delims out.old.items out.new.items ((codes "W03" ∷ decimal shipped ∷ []) ∷ [])
+        (λ n. Writes delims out.old.items out.new.items ((codes "W03" ∷ decimal shipped ∷ []) ∷ [])
         n) }
     ensures kept { Extends out.old.items out.new.items }
 {
@@ -182,7 +182,7 @@ pub(crate) fn append_body(
     shipment: &Shipment<'_>,
 ) -> Result<usize, AllocError>
     ensures ok { IfOk result
-        (λ n. AppendsSegments delims out.old.items out.new.items
+        (λ n. Writes delims out.old.items out.new.items
         (shipment_body moment.now number (shipment_of shipment.now)) n) }
     ensures kept { Extends out.old.items out.new.items }
 {

@@ -2,7 +2,7 @@ use Rattle.std.proofs.Common.{◌≡◌, ◌+◌, false, arith, subst}
 use Rattle.std.specs.Prelude.{◌==◌}
 use Rattle.std.proofs.lemmas.Bool.Decides.{nat_tests}
 use Rattle.segments.proofs.ExtendsLemmas.{extends_trans}
-use Rattle.sets_out.specs.Appends.{AppendsSegments}
+use Rattle.sets_out.specs.Appends.{Writes}
 use Rattle.sets_out.specs.Documents.{AdjustedLine, changed_line}
 use Rattle.sets_out.proofs.AppendsLaws.{appends_then}
 use Rattle.sets_out.proofs.adjustments.append_line.Goals as goal
@@ -10,7 +10,7 @@ use Rattle.sets_out.proofs.adjustments.append_line.Goals as goal
 pub returns-clause-ok : goal.returns-clause-ok
 returns-clause-ok c =
     let apart : (c.line.inside.after == c.line.inside.before) ≡ false = grind (arith, nat_tests) in
-    let P : AdjustedLine → Type 0 = λ l. AppendsSegments c.args.delims c.args.out.now.items c.append_segment.new.out.items (changed_line l) (c.in_ok-goods.goods + c.in_ok-lot.lot) in
+    let P : AdjustedLine → Type 0 = λ l. Writes c.args.delims c.args.out.now.items c.append_segment.new.out.items (changed_line l) (c.in_ok-goods.goods + c.in_ok-lot.lot) in
     subst P c.line.view_is (rw apart (appends_then c.args.delims _ _ _ _ _ _ _ c.in_ok-goods.ensures.ok c.in_ok-lot.ensures.ok))
 
 pub returns-in_err-lot-clause-kept : goal.returns-in_err-lot-clause-kept
