@@ -14,7 +14,7 @@ returns-clause-ok g c = rw (← c.self.view_is) (
     c.transaction-tx.ensures.begun c.in_ok-write_entry.ensures.wrote c.commit.ensures.ended (λ did same W L e it.
     grown_now last (state g.S.Store c.commit.new.tx.0) W _ same
     (grown old begun last c.args.seq c.args.who.now c.args.entry.now c.args.changes.now c.args.outgoing.now (ap (λ (h : Held g.row.S.Denot). (state g.S.Store h).now) c.transaction-tx.ensures.begun)
-    (subst (λ (h : Held g.row.S.Denot). IsTrue (state g.S.Store h).is_open) c.transaction-tx.ensures.begun did.0) c.schema-schema.ensures.live did.1 W L e it)))
+    (subst (λ (h : Held g.row.S.Denot). IsTrue (state g.S.Store h).is_open) c.transaction-tx.ensures.begun did.0) c.schema-live.ensures.live did.1 W L e it)))
 
 pub returns-clause-crash : goal.returns-clause-crash
 returns-clause-crash g c = rw (← c.self.view_is) (
@@ -25,7 +25,7 @@ returns-clause-crash g c = rw (← c.self.view_is) (
     c.transaction-tx.ensures.begun c.in_ok-write_entry.ensures.wrote c.commit.ensures.ended (Extends old c.args.seq c.args.who.now c.args.entry.now c.args.changes.now c.args.outgoing.now) (λ did db at W L e it.
     stands_in db last W _ at
     (grown old begun last c.args.seq c.args.who.now c.args.entry.now c.args.changes.now c.args.outgoing.now (ap (λ (h : Held g.row.S.Denot). (state g.S.Store h).now) c.transaction-tx.ensures.begun)
-    (subst (λ (h : Held g.row.S.Denot). IsTrue (state g.S.Store h).is_open) c.transaction-tx.ensures.begun did.0) c.schema-schema.ensures.live did.1 W L e it)))
+    (subst (λ (h : Held g.row.S.Denot). IsTrue (state g.S.Store h).is_open) c.transaction-tx.ensures.begun did.0) c.schema-live.ensures.live did.1 W L e it)))
 
 pub returns-clause-called : goal.returns-clause-called
 returns-clause-called g c = rw (← c.self.view_is)
