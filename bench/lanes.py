@@ -1,7 +1,7 @@
 #!/usr/bin/env python3
 """Reckons how long the gate takes from the seconds of each crate, and what it waits for. Not part of the gate.
 
-Usage: bench/lanes.py [--processors N] [--memory GIGABYTES] [--tasks] [--in-turn] [NAME=PROOF,TESTS,BODIES,NEED ..]
+Usage: bench/lanes.py [--processors N] [--memory GIGABYTES] [--tasks] [--in-turn] [--ways] [NAME=PROOF,TESTS,BODIES,NEED ..]
        (default: 2 processors and 18.7 GB, which is 0.85 of what a machine of 24 GB has free)
 
 `rt ci` runs a crate's proof once those below it are proved, and its tests beside that: first the tasks with the longest chain of others after
@@ -10,6 +10,9 @@ check that a crate's begin with, a whole proof again, and after the crate's own 
 order over the table of docs/PLAN.md ("The gate's time": processor seconds of one job) and the sources' sizes. NAME=.. tries other
 numbers of a crate, the last in GB; one that is left out stays. `--tasks` lists when each task begins and ends. `--in-turn` is for an `rt` that tries
 a crate's wrong bodies in turn, as one task after the crate's proof. Where two jobs share a proof it guesses.
+
+`--ways` counts the ways that lead down crates.txt from each library to those below it: some versions of `rt` read the sources again for each
+way, before and after a library's proof (docs/PLAN.md says what a way costs). A program has no such reading.
 """
 import collections
 import os
@@ -140,8 +143,26 @@ def play(crates, lanes, memory, in_turn):
     return ran
 
 
+def count_ways():
+    """How many ways lead down from each library, by its name; the crate itself counts as one."""
+    deps, ways = crates_of(), {}
+
+    def count(name):
+        if name not in ways:
+            ways[name] = 1 + sum(count(below) for below in deps[name] if below in deps)
+        return ways[name]
+
+    return {name: count(name) for name in deps if os.path.exists(f"{TOP}/crates/{name}/src/lib.rt")}
+
+
 def main():
     words = sys.argv[1:]
+    if "--ways" in words:
+        ways = count_ways()
+        for name in sorted(ways, key=ways.get, reverse=True)[:12]:
+            print(f"{ways[name]:7} {name}")
+        print(f"{sum(ways.values()):7} ways from {len(ways)} libraries")
+        return
     lanes = int(words[words.index("--processors") + 1]) if "--processors" in words else 2
     memory = float(words[words.index("--memory") + 1]) if "--memory" in words else 18.7
     changes = {name: rest.split(",") for name, _, rest in (word.partition("=") for word in words if re.match(r"\w+=", word))}
