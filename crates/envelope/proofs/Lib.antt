@@ -1,5 +1,4 @@
 pub mod Bared
-pub mod Earlier
 pub mod Framing
 pub mod Holding
 pub mod Legibility

@@ -6,8 +6,8 @@ ghost use Rattle.profile.specs.Limits.{most_partner};
 use profile::MOST_PARTNER;
 use segments::value_up_to;
 
-// Whether the two are the same.
-pub(crate) fn same(a: &[u8], b: &[u8]) -> bool
+/// Whether the two are the same.
+pub fn same(a: &[u8], b: &[u8]) -> bool
     ensures { result ≡ bytes_eq a.now b.now }
 {
     a == b
@@ -20,8 +20,8 @@ pub(crate) fn all_spaces(text: &[u8]) -> bool
     text.iter().all(|b| *b == b' ')
 }
 
-// Whether the digits are of this value.
-pub(crate) fn has_value(text: &[u8], n: usize) -> bool
+/// Whether the digits are of this value, which has at most 18 of them.
+pub fn has_value(text: &[u8], n: usize) -> bool
     requires { n < 10 ^ 18 }
 
     ensures { result ≡ (meant.value text.now == n) }

@@ -1,11 +1,10 @@
-//! The envelope of an interchange: its header ISA, its functional groups and their sets, what is
-//! wrong with them, and the note that halts it.
+//! The envelope of an interchange: its header ISA, its functional groups and their sets, and the
+//! note that halts it.
 #![tactic(auto)]
 
 mod bytes;
 mod content;
 mod cutting;
-mod faults;
 mod halt;
 mod header;
 mod looking;
@@ -17,8 +16,10 @@ mod reading;
 mod trailer;
 mod whole;
 
+pub use bytes::{has_value, same};
 pub use halt::Halt;
 pub use header::{Isa, Unreadable};
+pub use looking::last_element;
 pub use notes::header_note;
 pub use parts::{Group, Interchange, Set};
 pub use reading::isa;

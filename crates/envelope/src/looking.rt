@@ -76,9 +76,8 @@ pub(crate) fn first_with<'s, 'a>(segments: &'s [Segment<'a>], id: &[u8]) -> Opti
     segments.iter().find(|s| s.has_id(id))
 }
 
-// An element of the last segment.
-
-pub(crate) fn last_element<'a>(segments: &[Segment<'a>], n: usize) -> &'a [u8]
+/// An element of the last segment; nothing where there is none.
+pub fn last_element<'a>(segments: &[Segment<'a>], n: usize) -> &'a [u8]
     ensures { result.now ≡ cuts.element (cuts.last_segment (cuts.segments_of segments.now)) n }
 {
     match segments.last() {

@@ -12,6 +12,7 @@ ghost use Rattle.sets_taken.specs.Judging.{AreTaken, IsGroupTaken, AreGroupsTake
 
 use crate::judging::{Verdict, judged};
 use envelope::{Group, Interchange, Set};
+use group_faults::{group_fault, set_faults};
 use profile::Rules;
 use segments::number;
 use sets_out::{Rejection, ToldGroup, ToldSet};
@@ -129,7 +130,7 @@ fn take_sets<'a>(
         (λ t. AreTaken rules group.now.delims (Some kind) (meant.examined group.now.group)
         start t.page t.changes.items t.told.items) }
 {
-    let faults = group.set_faults(alloc)?;
+    let faults = set_faults(alloc, group)?;
     let mut page = start;
     let mut changes = Vec::new(alloc);
     let mut told = Vec::new(alloc);
@@ -167,7 +168,7 @@ fn take_group<'a>(
         t.told.items) }
 {
     let kind = SetKind::of_function(function(group));
-    match (group.fault(), kind) {
+    match (group_fault(group), kind) {
         (None, Some(kind)) => take_sets(alloc, start, kind, group, rules),
         _ => Ok(TakenSets {
             page: start,
@@ -202,7 +203,7 @@ fn group_told<'a>(group: &Group<'a>, sets: Vec<ToldSet<'a>>) -> ToldGroup<'a>
         number: group.head().element(6),
         stated: stated(group),
         received: group.sets().len(),
-        fault: group.fault(),
+        fault: group_fault(group),
         sets,
     }
 }

@@ -9,7 +9,7 @@ use Rattle.sets_taken.proofs.taking.take_group.Goals.{in_default-via-in-None+in_
 
 pub returns-in-None-Some : goal.returns-in-None-Some
 returns-in-None-Some c =
-    let none : group_fault c.args.group.now.group ≡ None = sym c.fault.ensures ∙ c.in-None-Some.is-0 in
+    let none : group_fault c.args.group.now.group ≡ None = sym c.group_fault.ensures ∙ c.in-None-Some.is-0 in
     let is : kind_of c.args.group.now.group ≡ Some c.in-None-Some.kind =
     ap (λ (f : List ℕ). find (λ k. bytes_eq (words.kind_function k) f) words.set_kinds) (sym c.function.ensures) ∙ sym c.of_function-kind.ensures ∙ c.in-None-Some.is-1 in
     IfOk-weaker c.take_sets.result _ _ (λ t h.
@@ -21,9 +21,9 @@ returns-in_default c =
     let d = c.args.group.now.delims in
     rw (c.new.ensures.items, c.new-in_default.ensures.items) (elim c.in_default.branch [
       | in_default-via-in-None+in_default w ↦
-          let none : group_fault g ≡ None = sym c.fault.ensures ∙ w.in_default.is-0 in
+          let none : group_fault g ≡ None = sym c.group_fault.ensures ∙ w.in_default.is-0 in
           let kind : kind_of g ≡ None =
           ap (λ (f : List ℕ). find (λ k. bytes_eq (words.kind_function k) f) words.set_kinds) (sym c.function.ensures) ∙ sym c.of_function-kind.ensures ∙ w.in_default.is-1 in
           absurd (no_kind g none kind)
-      | in_default-via-in_default w ↦ group_kept c.args.rules g d c.args.start w.in_default.field-0-0 (sym c.fault.ensures ∙ w.in_default.is-0)
+      | in_default-via-in_default w ↦ group_kept c.args.rules g d c.args.start w.in_default.field-0-0 (sym c.group_fault.ensures ∙ w.in_default.is-0)
     ])
