@@ -20,4 +20,3 @@ pub use calls::Calls;
 pub use carrying::carry_all;
 pub use making::make_all;
 pub use names::{BOOK_TABLES, TableName};
-pub use running::commit;

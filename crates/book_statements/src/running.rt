@@ -1,8 +1,7 @@
-ghost use Rattle.std.specs.Prelude.{◌≡◌, OnOk, false};
+ghost use Rattle.std.specs.Prelude.{◌≡◌, OnOk};
 ghost use Rattle.sqlite.specs.Values.{bound};
-ghost use Rattle.sqlite.specs.Held.{state};
 ghost use Rattle.book_statements.specs.Limits.{Spent};
-ghost use Rattle.book_statements.specs.Writing.{Ran, Ended, WroteIn};
+ghost use Rattle.book_statements.specs.Writing.{Ran, WroteIn};
 
 use crate::calls::Calls;
 use sqlite::types::ValueRef;
@@ -25,20 +24,6 @@ pub(crate) fn run<S: Alter>(
     calls.allow()?;
     match tx.execute(sql, params) {
         Ok(_) => Ok(()),
-        Err(error) => Err(calls.failed(error)),
-    }
-}
-
-/// Commits what stands in a transaction, by one call of the store. Where that is refused (40 or
-/// 41), nothing of it is left.
-pub fn commit<S: Alter>(tx: Transaction<'_, S>, calls: &mut Calls) -> Result<(), Fault>
-    ensures over { tx.exit.0.now.in_transaction ≡ false }
-    ensures ended { Ended (state S.Store tx.entry.conn.now) (state S.Store tx.exit.0.now)
-        calls.old calls.new result }
-{
-    calls.allow()?;
-    match tx.commit() {
-        Ok(()) => Ok(()),
         Err(error) => Err(calls.failed(error)),
     }
 }

@@ -5,8 +5,6 @@ mod Showing
 mod ShownRows
 mod Places
 mod Sendings
-pub mod Growing
-mod Ending
 pub mod OneRegister
 mod InOrder
 mod ReadLemmas

@@ -1,21 +1,23 @@
-ghost use Rattle.std.specs.Prelude.{◌≡◌, ◌<◌, ◌^◌, ◌++◌, ◌∷◌, [], List, false, length, IsTrue, IfOk, OnOk, OnErr, None};
+ghost use Rattle.std.specs.Prelude.{◌≡◌, ◌<◌, ◌^◌, ◌++◌, ◌∷◌, [], List, false, length, IsTrue, IfOk, OnOk, None};
 ghost use Rattle.profile.specs.declared.rules.Rules.TheVariants.{One, Two};
 ghost use Rattle.profile.specs.Accepted.{IsLegal};
 ghost use Rattle.profile.specs.Header.{Who as Partner};
 ghost use Rattle.profile.specs.Register as register;
-ghost use Rattle.sqlite.specs.State.{HasCleanDisk, IsLive, Survives};
+ghost use Rattle.sqlite.specs.State.{HasCleanDisk, IsLive};
 ghost use Rattle.sqlite.specs.Held.{state};
 ghost use Rattle.sqlite.specs.Values.{bound};
 ghost use Rattle.book_statements.specs.Asking.{Finds, IsAsked, OnlyReads};
 ghost use Rattle.book_statements.specs.Carrying.{CarriesOver, StandsOpenAs};
-ghost use Rattle.book_statements.specs.Exits.{IsAppended, HasGrown, Extends, IsAsBefore, LeavesIt};
+ghost use Rattle.book_statements.specs.Exits.{IsAppended, HasGrown, Extends};
 ghost use Rattle.book_statements.specs.Limits.{Called, Spent};
 ghost use Rattle.book_statements.specs.Layout.{no_layout};
 ghost use Rattle.book_statements.specs.Making.{Makes};
 ghost use Rattle.book_statements.specs.Rises.{Rises};
 ghost use Rattle.book_statements.specs.Standing.{StandsIn};
+ghost use Rattle.book_transactions.specs.Whole.{IsWhole};
 
-use book_statements::{Calls, carry_all, commit, make_all, write_entry};
+use book_statements::Calls;
+use book_transactions::{append, carry_over, make};
 use rules::{Change, Entry, Warehouse};
 use sqlite::types::ValueRef;
 use sqlite::{Alter, Connection, Row};
@@ -166,50 +168,28 @@ impl<S: Alter + Drop> Tables<S> {
     ) -> Result<(), Fault>
         requires { seq < 2 ^ 63 }
 
-        ensures ok { HasCleanDisk (state S.Store self.new.conn)
-            → OnOk result ((W : Partner) (L : List register.Entry) (e : register.Entry)
+        ensures whole { IsWhole
+            ((W : Partner) (L : List register.Entry) (e : register.Entry)
             → IsAppended (state S.Store self.old.conn) W L e seq who.now entry.now changes.now
-            outgoing.now → HasGrown (state S.Store self.new.conn) W (L ++ e ∷ [])) }
-        ensures left { HasCleanDisk (state S.Store self.new.conn)
-            → OnOk result (LeavesIt (state S.Store self.new.conn)) }
-        ensures err { HasCleanDisk (state S.Store self.new.conn)
-            → OnErr result (IsAsBefore (state S.Store self.old.conn)
-            (state S.Store self.new.conn)) }
-        ensures crash { Survives (state S.Store self.old.conn) (state S.Store self.new.conn)
-            (Extends (state S.Store self.old.conn) seq who.now entry.now changes.now outgoing.now) }
+            outgoing.now → HasGrown (state S.Store self.new.conn) W (L ++ e ∷ []))
+            (Extends (state S.Store self.old.conn) seq who.now entry.now changes.now outgoing.now)
+            (state S.Store self.old.conn) (state S.Store self.new.conn) result }
         ensures called { Called self.old self.new result }
     {
-        // For the prover alone, as in `ask`.
-        let settled = self.conn.is_autocommit();
-        prove!(settled);
-        let _live = self.conn.schema();
-        let mut tx = self.conn.transaction();
-        write_entry(&mut tx, &mut self.calls, seq, who, entry, changes, outgoing)?;
-        commit(tx, &mut self.calls)
+        append(&mut self.conn, &mut self.calls, seq, who, entry, changes, outgoing)
     }
 
     /// Makes the tables of an empty register of the warehouse, of a book of version 2, in one
     /// transaction.
     pub fn make(&mut self, warehouse: &Warehouse) -> Result<(), Fault>
-        ensures ok { HasCleanDisk (state S.Store self.new.conn)
-            → OnOk result (Makes (state S.Store self.old.conn) (state S.Store self.new.conn)
-            warehouse.now) }
-        ensures left { HasCleanDisk (state S.Store self.new.conn)
-            → OnOk result (LeavesIt (state S.Store self.new.conn)) }
-        ensures err { HasCleanDisk (state S.Store self.new.conn)
-            → OnErr result (IsAsBefore (state S.Store self.old.conn)
-            (state S.Store self.new.conn)) }
-        ensures crash { Survives (state S.Store self.old.conn) (state S.Store self.new.conn)
+        ensures whole { IsWhole
+            (Makes (state S.Store self.old.conn) (state S.Store self.new.conn) warehouse.now)
             (λ db. IsLegal Two warehouse.now [] → (state S.Store self.old.conn).now.schema
-            ≡ no_layout → StandsIn warehouse.now [] db) }
+            ≡ no_layout → StandsIn warehouse.now [] db)
+            (state S.Store self.old.conn) (state S.Store self.new.conn) result }
         ensures called { Called self.old self.new result }
     {
-        // For the prover alone, as in `ask`.
-        let settled = self.conn.is_autocommit();
-        prove!(settled);
-        let mut tx = self.conn.transaction();
-        make_all(&mut tx, &mut self.calls, warehouse)?;
-        commit(tx, &mut self.calls)
+        make(&mut self.conn, &mut self.calls, warehouse)
     }
 
     /// Carries a book of version 1, which has so many entries, over to version 2, in one
@@ -218,25 +198,13 @@ impl<S: Alter + Drop> Tables<S> {
         requires few { entries < 2 ^ 63 }
         requires told { T.IsAlwaysCallable told }
 
-        ensures ok { HasCleanDisk (state S.Store self.new.conn)
-            → OnOk result (CarriesOver entries (state S.Store self.old.conn)
-            (state S.Store self.new.conn)) }
-        ensures left { HasCleanDisk (state S.Store self.new.conn)
-            → OnOk result (LeavesIt (state S.Store self.new.conn)) }
-        ensures err { HasCleanDisk (state S.Store self.new.conn)
-            → OnErr result (IsAsBefore (state S.Store self.old.conn)
-            (state S.Store self.new.conn)) }
-        ensures crash { Survives (state S.Store self.old.conn) (state S.Store self.new.conn)
+        ensures whole { IsWhole
+            (CarriesOver entries (state S.Store self.old.conn) (state S.Store self.new.conn))
             (λ db. (W : Partner) (L : List register.Entry) → entries ≡ length L
-            → StandsOpenAs One (state S.Store self.old.conn) W L → StandsIn W L db) }
+            → StandsOpenAs One (state S.Store self.old.conn) W L → StandsIn W L db)
+            (state S.Store self.old.conn) (state S.Store self.new.conn) result }
         ensures called { Called self.old self.new result }
     {
-        // For the prover alone, as in `ask`.
-        let settled = self.conn.is_autocommit();
-        prove!(settled);
-        let _live = self.conn.schema();
-        let mut tx = self.conn.transaction();
-        carry_all(&mut tx, &mut self.calls, entries, told)?;
-        commit(tx, &mut self.calls)
+        carry_over(&mut self.conn, &mut self.calls, entries, told)
     }
 }

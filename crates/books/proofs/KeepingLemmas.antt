@@ -12,7 +12,7 @@ use Rattle.store.specs.Standing.{IsUsable, IsNext, LeavesEither}
 use Rattle.book_statements.specs.Standing.{StandsIn}
 use Rattle.book_statements.specs.Exits.{IsAppended, HasGrown, LeavesIt, StandsWhileOpen}
 use Rattle.books.specs.Keeping.{IsKept, IsSettled, standing_in}
-use Rattle.book_tables.proofs.Growing.{stands_in}
+use Rattle.book_transactions.proofs.Growing.{stands_in}
 use Rattle.book_statements.proofs.Ordered.{all_ordered}
 use Rattle.book_tables.proofs.OneRegister.{stands_once}
 

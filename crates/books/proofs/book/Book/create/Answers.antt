@@ -16,7 +16,7 @@ pub returns-in-Ok-clause-usable : goal.returns-in-Ok-clause-usable
 returns-in-Ok-clause-usable g c = λ clean none.
     let house : IsTrue (is_partner c.args.warehouse) = search rules in
     usable_now (state g.S.Store c.make.new.self.conn) c.args.warehouse 0 c.make.new.self.refused [] refl
-    (c.in-Ok.ensures.ok clean (nothing_legal c.args.warehouse house) none) (c.in-Ok.ensures.left clean)
+    (c.in-Ok.ensures.whole.ok clean (nothing_legal c.args.warehouse house) none) (c.in-Ok.ensures.whole.left clean)
 
 pub returns-in-Err-clause-crash : goal.returns-in-Err-clause-crash
 returns-in-Err-clause-crash g c =

@@ -13,14 +13,14 @@ returns-in-Ok-clause-ok g c = rw (← c.self.view_is, c.if-self.false) (λ clean
     let whose : c.text-who.result.now ≡ who_text c.args.entry.now.who = c.text-who.ensures ∙ ap who_text c.who-depositor.ensures in
     let it = is_appended (state g.S.Store b.tables.conn) b.warehouse b.entries L e (b.entries + 1) c.text-who.result.now c.args.entry.now c.args.changes.now c.args.outgoing.now u.keeps refl whose next in
     usable_now (state g.S.Store c.append.new.self.conn) b.warehouse (b.entries + 1) c.append.new.self.refused (L ++ e ∷ []) (length_push L e b.entries (let k = u.keeps in k.count))
-    (c.in-Ok.ensures.ok clean b.warehouse L e it) (c.in-Ok.ensures.left clean))
+    (c.in-Ok.ensures.whole.ok clean b.warehouse L e it) (c.in-Ok.ensures.whole.left clean))
 
 pub returns-in-Ok-clause-keeps : goal.returns-in-Ok-clause-keeps
 returns-in-Ok-clause-keeps g c = rw (← c.self.view_is) (λ clean L k e next.
     let b = c.self.inside in
     let whose : c.text-who.result.now ≡ who_text c.args.entry.now.who = c.text-who.ensures ∙ ap who_text c.who-depositor.ensures in
     let it = is_appended (state g.S.Store b.tables.conn) b.warehouse b.entries L e (b.entries + 1) c.text-who.result.now c.args.entry.now c.args.changes.now c.args.outgoing.now k refl whose next in
-    kept_now (state g.S.Store c.append.new.self.conn) b.warehouse (b.entries + 1) (L ++ e ∷ []) (length_push L e b.entries k.count) (c.in-Ok.ensures.ok clean b.warehouse L e it))
+    kept_now (state g.S.Store c.append.new.self.conn) b.warehouse (b.entries + 1) (L ++ e ∷ []) (length_push L e b.entries k.count) (c.in-Ok.ensures.whole.ok clean b.warehouse L e it))
 
 pub returns-in-Err-clause-left : goal.returns-in-Err-clause-left
 returns-in-Err-clause-left g c = rw (← c.self.view_is, c.if-self.false) (λ clean L u e next.
@@ -28,7 +28,7 @@ returns-in-Err-clause-left g c = rw (← c.self.view_is, c.if-self.false) (λ cl
     let whose : c.text-who.result.now ≡ who_text c.args.entry.now.who = c.text-who.ensures ∙ ap who_text c.who-depositor.ensures in
     let it = is_appended (state g.S.Store b.tables.conn) b.warehouse b.entries L e (b.entries + 1) c.text-who.result.now c.args.entry.now c.args.changes.now c.args.outgoing.now u.keeps refl whose next in
     leaves_one_of (state g.S.Store b.tables.conn) (state g.S.Store c.append.new.self.conn) b.warehouse b.entries b.entries b.tables.refused c.append.new.self.refused _ L (L ++ e ∷ [])
-    (Extends (state g.S.Store b.tables.conn) (b.entries + 1) c.text-who.result.now c.args.entry.now c.args.changes.now c.args.outgoing.now) clean c.append.ensures.crash (λ db p. p b.warehouse L e it) u)
+    (Extends (state g.S.Store b.tables.conn) (b.entries + 1) c.text-who.result.now c.args.entry.now c.args.changes.now c.args.outgoing.now) clean c.append.ensures.whole.crash (λ db p. p b.warehouse L e it) u)
 
 pub returns-then-self-ge-GREATEST-clause-left : goal.returns-then-self-ge-GREATEST-clause-left
 returns-then-self-ge-GREATEST-clause-left g c = rw (← c.self.view_is, c.if-self.false) (λ clean L u e next.

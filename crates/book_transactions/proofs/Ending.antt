@@ -10,7 +10,7 @@ use Rattle.book_statements.specs.declared.calls.Calls.{Calls}
 use Rattle.book_statements.specs.Limits.{Called}
 use Rattle.book_statements.specs.Rises.{Rises}
 use Rattle.book_statements.specs.Writing.{Wrote, Ended}
-use Rattle.book_tables.proofs.Growing.{crash_of}
+use Rattle.book_transactions.proofs.Growing.{crash_of}
 use Rattle.book_statements.proofs.Limited.{spends_both, none_after}
 use Rattle.book_statements.proofs.StepLemmas.{on_ok}
 use Rattle.book_statements.proofs.Writes.{on_err}
