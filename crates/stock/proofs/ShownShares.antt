@@ -1,5 +1,5 @@
 -- What the page gives a line is what the events give it.
-use Rattle.std.proofs.Common.{◌≡◌, ℕ, ◌+◌, List, [], ◌∷◌, ◌++◌, map, refl, ap, ◌∙◌, arith}
+use Rattle.std.proofs.Common.{◌≡◌, ℕ, List, [], ◌∷◌, ◌++◌, map, refl, ap, ◌∙◌, arith}
 use Rattle.std.specs.Prelude.{zip, filter, flat_map}
 use Rattle.profile.specs.Means.{Line, OrderLine, Order}
 use Rattle.profile.specs.Lists.{in_order}

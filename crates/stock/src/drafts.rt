@@ -1,9 +1,11 @@
 ghost use Rattle.std.specs.Prelude.{◌≡◌, IfOk, MatchOption};
 ghost use Rattle.goods.specs.Keyed.{put_row, put_advice, put_order, put_document};
 ghost use Rattle.goods.specs.Pages.{PageFacts, AreSorted, IsSound};
+ghost use Rattle.stock.specs.Facts.{facts_of};
 ghost use Rattle.stock.specs.Puts.{nothing_yet, put_change};
 ghost use Rattle.stock.specs.declared.steps.Change.TheVariants as changed;
 
+use crate::facts::Facts;
 use crate::page::Page;
 use crate::places::put_row;
 use crate::searches::{put_advice, put_document, put_order, put_said, send};
@@ -16,27 +18,15 @@ use std::marker::Model;
 /// A page in the making: its lists are in order, and nothing more is known of it.
 #[derive(Drop)]
 pub struct Draft {
-    pub(crate) rows: Vec<Row>,
-    pub(crate) advices: Vec<KnownAdvice>,
-    pub(crate) orders: Vec<KnownOrder>,
-    pub(crate) documents: Vec<KnownDocument>,
-    pub(crate) entries: u32,
-    pub(crate) recent: u32,
+    pub(crate) facts: Facts,
 }
 
 impl Model for Draft {
     ghost Value = { PageFacts };
 
-    ghost view = { λ p. record {
-      rows = p.rows.items;
-      advices = p.advices.items;
-      orders = p.orders.items;
-      documents = p.documents.items;
-      entries = p.entries;
-      recent = p.recent;
-    } };
+    ghost view = { λ d. facts_of d.facts };
 
-    ghost invariant = { λ p. AreSorted (record { rows = p.rows.items; advices = p.advices.items; orders = p.orders.items; documents = p.documents.items; entries = p.entries; recent = p.recent }) };
+    ghost invariant = { λ d. AreSorted (facts_of d.facts) };
 }
 
 impl Draft {
@@ -44,28 +34,29 @@ impl Draft {
     pub fn new(alloc: Global, entries: u32) -> Draft
         ensures { result ≡ nothing_yet entries }
     {
-        Draft {
+        let facts = Facts {
             rows: Vec::new(alloc),
             advices: Vec::new(alloc),
             orders: Vec::new(alloc),
             documents: Vec::new(alloc),
             entries,
             recent: 0,
-        }
+        };
+        Draft { facts }
     }
 
     /// The advices that were put in, by the bytes of their shipment numbers.
     pub fn advices(&self) -> &[KnownAdvice]
         ensures { result.now ≡ self.now.advices }
     {
-        &self.advices
+        &self.facts.advices
     }
 
     /// The orders that were put in, by the bytes of their numbers.
     pub fn orders(&self) -> &[KnownOrder]
         ensures { result.now ≡ self.now.orders }
     {
-        &self.orders
+        &self.facts.orders
     }
 
     /// The page with what was put in, and with no event since its last entry; None where that is
@@ -76,24 +67,12 @@ impl Draft {
         ensures { let lists : PageFacts = record self { recent = 0 } in MatchOption result
             (IsSound lists → ⊥) (λ page. page ≡ lists) }
     {
-        let Draft {
-            rows,
-            advices,
-            orders,
-            documents,
-            entries,
-            ..
-        } = self;
-        if !is_kept(*rows.allocator(), &rows, &advices, &orders, entries) {
+        let Draft { facts } = self;
+        if !is_kept(&facts) {
             return None;
         }
         Some(Page {
-            rows,
-            advices,
-            orders,
-            documents,
-            entries,
-            recent: 0,
+            facts: Facts { recent: 0, ..facts },
         })
     }
 
@@ -114,23 +93,9 @@ impl Draft {
     pub fn with_row(self, row: Row) -> Result<Draft, AllocError>
         ensures { IfOk result (λ draft. draft ≡ record self { rows = put_row row self.rows }) }
     {
-        let Draft {
-            mut rows,
-            advices,
-            orders,
-            documents,
-            entries,
-            recent,
-        } = self;
-        put_row(&mut rows, row)?;
-        Ok(Draft {
-            rows,
-            advices,
-            orders,
-            documents,
-            entries,
-            recent,
-        })
+        let Draft { mut facts } = self;
+        put_row(&mut facts.rows, row)?;
+        Ok(Draft { facts })
     }
 
     /// With an advice, in the place of that of its shipment number; want of memory is the one
@@ -139,23 +104,9 @@ impl Draft {
         ensures { IfOk result
             (λ draft. draft ≡ record self { advices = put_advice advice self.advices }) }
     {
-        let Draft {
-            rows,
-            mut advices,
-            orders,
-            documents,
-            entries,
-            recent,
-        } = self;
-        put_advice(&mut advices, advice)?;
-        Ok(Draft {
-            rows,
-            advices,
-            orders,
-            documents,
-            entries,
-            recent,
-        })
+        let Draft { mut facts } = self;
+        put_advice(&mut facts.advices, advice)?;
+        Ok(Draft { facts })
     }
 
     /// With an order, in the place of that of its number; want of memory is the one error.
@@ -163,23 +114,9 @@ impl Draft {
         ensures { IfOk result
             (λ draft. draft ≡ record self { orders = put_order order self.orders }) }
     {
-        let Draft {
-            rows,
-            advices,
-            mut orders,
-            documents,
-            entries,
-            recent,
-        } = self;
-        put_order(&mut orders, order)?;
-        Ok(Draft {
-            rows,
-            advices,
-            orders,
-            documents,
-            entries,
-            recent,
-        })
+        let Draft { mut facts } = self;
+        put_order(&mut facts.orders, order)?;
+        Ok(Draft { facts })
     }
 
     /// With a document, in the place of that of its number; want of memory is the one error.
@@ -187,66 +124,24 @@ impl Draft {
         ensures { IfOk result
             (λ draft. draft ≡ record self { documents = put_document document self.documents }) }
     {
-        let Draft {
-            rows,
-            advices,
-            orders,
-            mut documents,
-            entries,
-            recent,
-        } = self;
-        put_document(&mut documents, document)?;
-        Ok(Draft {
-            rows,
-            advices,
-            orders,
-            documents,
-            entries,
-            recent,
-        })
+        let Draft { mut facts } = self;
+        put_document(&mut facts.documents, document)?;
+        Ok(Draft { facts })
     }
 
     fn with_sent(self, n: u32, function: Function) -> Result<Draft, AllocError>
         ensures { IfOk result (λ draft. draft ≡ put_change self (changed.Sent n function)) }
     {
-        let Draft {
-            rows,
-            advices,
-            orders,
-            mut documents,
-            entries,
-            recent,
-        } = self;
-        send(&mut documents, n, function)?;
-        Ok(Draft {
-            rows,
-            advices,
-            orders,
-            documents,
-            entries,
-            recent,
-        })
+        let Draft { mut facts } = self;
+        send(&mut facts.documents, n, function)?;
+        Ok(Draft { facts })
     }
 
     fn with_said(self, n: u32, accepts: bool) -> Draft
         ensures { result ≡ put_change self (changed.Document n accepts) }
     {
-        let Draft {
-            rows,
-            advices,
-            orders,
-            mut documents,
-            entries,
-            recent,
-        } = self;
-        put_said(&mut documents, n, accepts);
-        Draft {
-            rows,
-            advices,
-            orders,
-            documents,
-            entries,
-            recent,
-        }
+        let Draft { mut facts } = self;
+        put_said(&mut facts.documents, n, accepts);
+        Draft { facts }
     }
 }

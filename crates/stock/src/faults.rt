@@ -184,7 +184,8 @@ pub(crate) fn order_fault(
     order: &Order,
     is_known: bool,
 ) -> Result<Option<SetFault<'static>>, AllocError>
-    ensures { IfOk result (λ f. option_map meant_fault f ≡ events.order_fault_where is_known order.now) }
+    ensures { IfOk result
+        (λ f. option_map meant_fault f ≡ events.order_fault_where is_known order.now) }
 {
     let lines = order.lines();
     if is_known {

@@ -8,6 +8,7 @@ mod announcements;
 mod changes;
 mod copies;
 mod drafts;
+mod facts;
 mod faults;
 pub mod laws;
 mod left;

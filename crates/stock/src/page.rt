@@ -3,12 +3,14 @@ ghost use Rattle.profile.specs.Limits.{most_entries};
 ghost use Rattle.profile.specs.Events.{Event, Enrolment};
 ghost use Rattle.profile.specs.Movements.{OnHand, balance};
 ghost use Rattle.goods.specs.Pages.{PageFacts, IsSound, advice_at, order_at, document_at, next_entry};
+ghost use Rattle.stock.specs.Facts.{facts_of};
 ghost use Rattle.stock.specs.Parts.{Named, IsPart};
 ghost use Rattle.stock.specs.Puts.{put};
 ghost use Rattle.stock.specs.Shows.{Shows};
 ghost use Rattle.goods.specs.OfPairs.{of_pair, amount};
 
 use crate::drafts::Draft;
+use crate::facts::Facts;
 use crate::searches::{place_of_advice, place_of_document, place_of_order};
 use crate::steps::Step;
 use goods::{Column, KnownAdvice, KnownDocument, KnownOrder, Row, amount_of};
@@ -18,27 +20,15 @@ use std::marker::Model;
 /// What a depositor's entries come to.
 #[derive(Drop)]
 pub struct Page {
-    pub(crate) rows: Vec<Row>,
-    pub(crate) advices: Vec<KnownAdvice>,
-    pub(crate) orders: Vec<KnownOrder>,
-    pub(crate) documents: Vec<KnownDocument>,
-    pub(crate) entries: u32,
-    pub(crate) recent: u32,
+    pub(crate) facts: Facts,
 }
 
 impl Model for Page {
     ghost Value = { PageFacts };
 
-    ghost view = { λ p. record {
-      rows = p.rows.items;
-      advices = p.advices.items;
-      orders = p.orders.items;
-      documents = p.documents.items;
-      entries = p.entries;
-      recent = p.recent;
-    } };
+    ghost view = { λ p. facts_of p.facts };
 
-    ghost invariant = { λ p. IsSound (record { rows = p.rows.items; advices = p.advices.items; orders = p.orders.items; documents = p.documents.items; entries = p.entries; recent = p.recent }) };
+    ghost invariant = { λ p. IsSound (facts_of p.facts) };
 }
 
 impl Page {
@@ -48,35 +38,29 @@ impl Page {
         ensures entries { result.entries ≡ 0 }
         ensures recent { result.recent ≡ 0 }
     {
-        Page {
-            rows: Vec::new(alloc),
-            advices: Vec::new(alloc),
-            orders: Vec::new(alloc),
-            documents: Vec::new(alloc),
-            entries: 0,
-            recent: 0,
-        }
+        let draft = Draft::new(alloc, 0);
+        Page { facts: draft.facts }
     }
 
     /// The number of pairs on it, of an item and a lot each.
     pub fn pairs(&self) -> u64
         ensures { result ≡ length self.now.rows }
     {
-        self.rows.len() as u64
+        self.facts.rows.len() as u64
     }
 
     /// How many numbered entries there are, at most 999,999.
     pub fn entries(&self) -> u32
         ensures { result ≡ self.now.entries }
     {
-        self.entries
+        self.facts.entries
     }
 
     /// The number that the next entry has, at most 1,000,000.
     pub fn next_number(&self) -> u32
         ensures { result ≡ self.now.entries + 1 }
     {
-        self.entries + 1
+        self.facts.entries + 1
     }
 
     /// Its rows, one for each pair that an advice or a count named, by item and then lot bytes. On
@@ -85,28 +69,28 @@ impl Page {
         ensures rows { result.now ≡ self.now.rows }
         ensures sound { IsSound self.now }
     {
-        &self.rows
+        &self.facts.rows
     }
 
     /// Its advices, one for each shipment number, by the bytes of that.
     pub fn advices(&self) -> &[KnownAdvice]
         ensures { result.now ≡ self.now.advices }
     {
-        &self.advices
+        &self.facts.advices
     }
 
     /// Its orders, one for each number, by the bytes of that.
     pub fn orders(&self) -> &[KnownOrder]
         ensures { result.now ≡ self.now.orders }
     {
-        &self.orders
+        &self.facts.orders
     }
 
     /// The documents that were sent, one for each number of an entry, by that.
     pub fn documents(&self) -> &[KnownDocument]
         ensures { result.now ≡ self.now.documents }
     {
-        &self.documents
+        &self.facts.documents
     }
 
     /// The advice under a shipment number, if there is one.
@@ -114,9 +98,9 @@ impl Page {
         ensures { MatchOption result (advice_at shipment.now self.now.advices ≡ None)
             (λ k. advice_at shipment.now self.now.advices ≡ Some k.now) }
     {
-        match place_of_advice(&self.advices, shipment) {
+        match place_of_advice(&self.facts.advices, shipment) {
             None => None,
-            Some(i) => Some(&self.advices[i]),
+            Some(i) => Some(&self.facts.advices[i]),
         }
     }
 
@@ -145,9 +129,9 @@ impl Page {
         ensures { MatchOption result (order_at number.now self.now.orders ≡ None)
             (λ k. order_at number.now self.now.orders ≡ Some k.now) }
     {
-        match place_of_order(&self.orders, number) {
+        match place_of_order(&self.facts.orders, number) {
             None => None,
-            Some(i) => Some(&self.orders[i]),
+            Some(i) => Some(&self.facts.orders[i]),
         }
     }
 
@@ -166,9 +150,9 @@ impl Page {
         ensures { MatchOption result (document_at n self.now.documents ≡ None)
             (λ d. document_at n self.now.documents ≡ Some d.now) }
     {
-        match place_of_document(&self.documents, n) {
+        match place_of_document(&self.facts.documents, n) {
             None => None,
-            Some(i) => Some(&self.documents[i]),
+            Some(i) => Some(&self.facts.documents[i]),
         }
     }
 
@@ -180,40 +164,14 @@ impl Page {
 
         ensures { IfOk result (λ page. page ≡ put step.now.changes.items self) }
     {
-        let Page {
-            rows,
-            advices,
-            orders,
-            documents,
-            entries,
-            recent,
-        } = self;
-        let mut draft = Draft {
-            rows,
-            advices,
-            orders,
-            documents,
-            entries,
-            recent,
-        };
+        let Page { mut facts } = self;
+        facts.recent += 1;
+        let mut draft = Draft { facts };
         for change in &step.changes {
             draft = draft.put(change)?;
         }
-        let Draft {
-            rows,
-            advices,
-            orders,
-            documents,
-            ..
-        } = draft;
-        Ok(Page {
-            rows,
-            advices,
-            orders,
-            documents,
-            entries,
-            recent: recent + 1,
-        })
+        let Draft { facts } = draft;
+        Ok(Page { facts })
     }
 
     /// Ends a numbered entry: there is one more, with no event since, and nothing else changes.
@@ -223,7 +181,7 @@ impl Page {
         ensures next { self.new ≡ next_entry self.old }
         ensures shows { (es : List Event) → Shows self.old es → Shows self.new es }
     {
-        self.entries += 1;
-        self.recent = 0;
+        self.facts.entries += 1;
+        self.facts.recent = 0;
     }
 }

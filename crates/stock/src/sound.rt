@@ -7,7 +7,9 @@ ghost use Rattle.goods.specs.Keyed.{IsSorted};
 ghost use Rattle.goods.specs.Pages as pages;
 ghost use Rattle.goods.specs.Soundness as meant;
 ghost use Rattle.goods.specs.OfPairs.{AreRowsOf};
+ghost use Rattle.stock.specs.Facts.{facts_of};
 
+use crate::facts::Facts;
 use crate::left::{amounts, take_awaited, take_held};
 use crate::places::{is_among, placed};
 use goods::{
@@ -285,21 +287,15 @@ fn all_in_lines(alloc: Global, orders: &[KnownOrder]) -> bool
 }
 
 /// Whether lists in order are those of a page after so many entries, with no event since.
-pub(crate) fn is_kept(
-    alloc: Global,
-    rows: &[Row],
-    advices: &[KnownAdvice],
-    orders: &[KnownOrder],
-    entries: u32,
-) -> bool
-    requires { IsSorted rows.now }
+pub(crate) fn is_kept(facts: &Facts) -> bool
+    requires { IsSorted facts.now.rows.items }
 
-    ensures { (p : pages.PageFacts) → p.rows ≡ rows.now → p.advices ≡ advices.now
-        → p.orders ≡ orders.now → p.entries ≡ entries → result ≡ meant.is_kept p }
+    ensures { result ≡ meant.is_kept (facts_of facts.now) }
 {
-    entries <= MOST_ENTRIES
-        && are_within(rows, entries)
-        && all_expected(alloc, rows, advices)
-        && all_reserved(alloc, rows, orders)
-        && all_in_lines(alloc, orders)
+    let alloc = *facts.rows.allocator();
+    facts.entries <= MOST_ENTRIES
+        && are_within(&facts.rows, facts.entries)
+        && all_expected(alloc, &facts.rows, &facts.advices)
+        && all_reserved(alloc, &facts.rows, &facts.orders)
+        && all_in_lines(alloc, &facts.orders)
 }

@@ -6,5 +6,5 @@ invariant_of-result c = record {
   rows = c.self.invariant.rows;
   advices = c.self.invariant.advices;
   orders = c.self.invariant.orders;
-  documents = documents_put_sorted c.args.document c.self.inside.documents.items _ c.in_ok-put_document.ensures c.self.invariant.documents;
+  documents = documents_put_sorted c.args.document c.self.inside.facts.documents.items _ c.in_ok-put_document.ensures c.self.invariant.documents;
 }

@@ -5,6 +5,6 @@ pub invariant_of-result : goal.invariant_of-result
 invariant_of-result c = record {
   rows = c.self.invariant.rows;
   advices = c.self.invariant.advices;
-  orders = orders_put_sorted c.args.order c.self.inside.orders.items _ c.in_ok-put_order.ensures c.self.invariant.orders;
+  orders = orders_put_sorted c.args.order c.self.inside.facts.orders.items _ c.in_ok-put_order.ensures c.self.invariant.orders;
   documents = c.self.invariant.documents;
 }

@@ -9,5 +9,5 @@ invariant_of-result c = record {
   rows = c.self.invariant.rows;
   advices = c.self.invariant.advices;
   orders = c.self.invariant.orders;
-  documents = ap (rises_by nat_lt entry_of) c.put_said.ensures ∙ said_sorted c.args.n c.args.accepts c.self.inside.documents.items c.self.invariant.documents;
+  documents = ap (rises_by nat_lt entry_of) c.put_said.ensures ∙ said_sorted c.args.n c.args.accepts c.self.inside.facts.documents.items c.self.invariant.documents;
 }

@@ -7,5 +7,5 @@ invariant_of-result c = record {
   rows = c.self.invariant.rows;
   advices = c.self.invariant.advices;
   orders = c.self.invariant.orders;
-  documents = sent_sorted c.args.n (function_text c.args.function) c.self.inside.documents.items _ c.in_ok-send.ensures c.self.invariant.documents;
+  documents = sent_sorted c.args.n (function_text c.args.function) c.self.inside.facts.documents.items _ c.in_ok-send.ensures c.self.invariant.documents;
 }

@@ -6,4 +6,4 @@ use Rattle.stock.proofs.page.Page.document.Goals as goal
 pub returns-in-Some : goal.returns-in-Some
 returns-in-Some c =
     ap (λ (p : PageFacts). document_at c.args.n p.documents) (sym c.self.view_is)
-    ∙ find_at (is_document c.args.n) c.self.inside.documents.items c.in-Some.i c.index.result.now (rw c.deref.ensures.value at c.in-Some.ensures) c.index.ensures
+    ∙ find_at (is_document c.args.n) c.self.inside.facts.documents.items c.in-Some.i c.index.result.now (rw c.deref.ensures.value at c.in-Some.ensures) c.index.ensures

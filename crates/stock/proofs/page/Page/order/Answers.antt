@@ -6,4 +6,4 @@ use Rattle.stock.proofs.page.Page.order.Goals as goal
 pub returns-in-Some : goal.returns-in-Some
 returns-in-Some c =
     ap (λ (p : PageFacts). order_at c.args.number.now p.orders) (sym c.self.view_is)
-    ∙ find_at (is_number c.args.number.now) c.self.inside.orders.items c.in-Some.i c.index.result.now (rw c.deref.ensures.value at c.in-Some.ensures) c.index.ensures
+    ∙ find_at (is_number c.args.number.now) c.self.inside.facts.orders.items c.in-Some.i c.index.result.now (rw c.deref.ensures.value at c.in-Some.ensures) c.index.ensures
