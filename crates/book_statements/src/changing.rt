@@ -166,7 +166,7 @@ fn apply_change<'a, S: Alter>(
 }
 
 /// Puts changes into the tables, one after another.
-pub(crate) fn apply_all<'a, S: Alter>(
+pub fn apply_all<'a, S: Alter>(
     tx: &mut Transaction<'_, S>,
     calls: &mut Calls,
     who: &'a [u8],

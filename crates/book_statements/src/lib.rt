@@ -18,5 +18,6 @@ mod writing;
 pub use appending::write_entry;
 pub use calls::Calls;
 pub use carrying::carry_all;
+pub use changing::apply_all;
 pub use making::make_all;
 pub use names::{BOOK_TABLES, TableName};
