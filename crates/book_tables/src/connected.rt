@@ -101,8 +101,8 @@ impl<S: Alter + Drop> Tables<S> {
         self.conn.schema()
     }
 
-    /// Runs nothing. The connection is in no transaction, so what it shows is what was committed
-    /// last; and that obeys its schema.
+    /// Runs nothing: a call of it stands for the prover alone. The connection is in no transaction,
+    /// so what it shows is what was committed last; and that obeys its schema.
     pub fn settle(&self)
         ensures rest { IsTrue (state S.Store self.now.conn).is_open
             → (state S.Store self.now.conn).now ≡ (state S.Store self.now.conn).committed }

@@ -32,7 +32,8 @@ abbrev pub is_readable : Show → Bool
 is_readable s = is_some (asked_for s)
 
 -- it was shown, and the book is as before
-abbrev pub IsLook : Standing → Standing → Asked → Option (List ℕ) → Option (List ℕ) → Ending → Type 0
+abbrev pub IsLook : Standing → Standing → Asked → Option (List ℕ) → Option (List ℕ) → Ending
+    → Type 0
 IsLook old new asked before later ending =
     IsLookAt old new (λ L. shown_of old.warehouse L asked) before later ending
 
@@ -51,7 +52,8 @@ pub record HasUnreadWord
   pub words : is_readable s ≡ false
   pub left : IsNothingDone old new before later ending
 
-abbrev pub IsView : Standing → Standing → Show → Option (List ℕ) → Option (List ℕ) → Ending → Type 0
+abbrev pub IsView : Standing → Standing → Show → Option (List ℕ) → Option (List ℕ) → Ending
+    → Type 0
 IsView old new s before later ending = IsLookFor old new s before later ending
     ⊎ HasUnreadWord old new s before later ending
 
@@ -67,5 +69,7 @@ abbrev pub IsLineDone : Standing → Standing → Words → Option (List ℕ) �
     → Type 0
 IsLineDone old new (words.Over book wait t) before later ending =
     IsTaskDone old new t before later ending
-IsLineDone old new (words.Script file) before later ending = IsNothingDone old new before later ending
-IsLineDone old new (words.Remote server t) before later ending = IsNothingDone old new before later ending
+IsLineDone old new (words.Script file) before later ending =
+    IsNothingDone old new before later ending
+IsLineDone old new (words.Remote server t) before later ending =
+    IsNothingDone old new before later ending

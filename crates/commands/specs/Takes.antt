@@ -47,7 +47,8 @@ pub record IsFolderTaken
   pub taken : AreTextsTaken old new t texts (map became_in files)
   pub printed : Appends before later (flat_map line_in files)
   pub passed : List PassedOver
-  pub says : status ≡ (if list_any is_left passed then Refused else status_of_files (map became_in files))
+  pub says : status ≡ (if list_any is_left passed then Refused
+      else status_of_files (map became_in files))
 
 -- they were taken, and couldn't be told
 pub record IsFolderUntold (old new : Standing) (t : Moment) (stop : CommandError) : Type 0 where
