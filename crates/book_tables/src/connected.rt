@@ -176,7 +176,15 @@ impl<S: Alter + Drop> Tables<S> {
             (state S.Store self.old.conn) (state S.Store self.new.conn) result }
         ensures called { Called self.old self.new result }
     {
-        append(&mut self.conn, &mut self.calls, seq, who, entry, changes, outgoing)
+        append(
+            &mut self.conn,
+            &mut self.calls,
+            seq,
+            who,
+            entry,
+            changes,
+            outgoing,
+        )
     }
 
     /// Makes the tables of an empty register of the warehouse, of a book of version 2, in one
