@@ -108,20 +108,14 @@ impl Page {
     pub(crate) fn has_advice(&self, shipment: &[u8]) -> bool
         ensures { result ≡ is_some (advice_at shipment.now self.now.advices) }
     {
-        match self.advice(shipment) {
-            None => false,
-            Some(_) => true,
-        }
+        self.advice(shipment).is_some()
     }
 
     // Whether there is an order under a number.
     pub(crate) fn has_order(&self, number: &[u8]) -> bool
         ensures { result ≡ is_some (order_at number.now self.now.orders) }
     {
-        match self.order(number) {
-            None => false,
-            Some(_) => true,
-        }
+        self.order(number).is_some()
     }
 
     /// The order under a number, if there is one.
