@@ -27,10 +27,7 @@ fn left_after(lines: &[Goods], item: &[u8], lot: &[u8], amount: u64) -> Option<u
     let mut left = amount;
     for line in lines {
         if is_of(line, item, lot) {
-            match left.checked_sub(u64::from(line.quantity)) {
-                Some(less) => left = less,
-                None => return None,
-            }
+            left = left.checked_sub(u64::from(line.quantity))?;
         }
     }
     Some(left)
