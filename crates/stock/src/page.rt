@@ -98,30 +98,22 @@ impl Page {
         ensures { MatchOption result (advice_at shipment.now self.now.advices ≡ None)
             (λ k. advice_at shipment.now self.now.advices ≡ Some k.now) }
     {
-        match place_of_advice(&self.facts.advices, shipment) {
-            None => None,
-            Some(i) => Some(&self.facts.advices[i]),
-        }
+        let i = place_of_advice(&self.facts.advices, shipment)?;
+        Some(&self.facts.advices[i])
     }
 
     // Whether there is an advice under a shipment number.
     pub(crate) fn has_advice(&self, shipment: &[u8]) -> bool
         ensures { result ≡ is_some (advice_at shipment.now self.now.advices) }
     {
-        match self.advice(shipment) {
-            None => false,
-            Some(_) => true,
-        }
+        self.advice(shipment).is_some()
     }
 
     // Whether there is an order under a number.
     pub(crate) fn has_order(&self, number: &[u8]) -> bool
         ensures { result ≡ is_some (order_at number.now self.now.orders) }
     {
-        match self.order(number) {
-            None => false,
-            Some(_) => true,
-        }
+        self.order(number).is_some()
     }
 
     /// The order under a number, if there is one.
@@ -129,10 +121,8 @@ impl Page {
         ensures { MatchOption result (order_at number.now self.now.orders ≡ None)
             (λ k. order_at number.now self.now.orders ≡ Some k.now) }
     {
-        match place_of_order(&self.facts.orders, number) {
-            None => None,
-            Some(i) => Some(&self.facts.orders[i]),
-        }
+        let i = place_of_order(&self.facts.orders, number)?;
+        Some(&self.facts.orders[i])
     }
 
     /// What is on hand of a pair, in the unit EA: 0 where there is no row of it.
@@ -150,10 +140,8 @@ impl Page {
         ensures { MatchOption result (document_at n self.now.documents ≡ None)
             (λ d. document_at n self.now.documents ≡ Some d.now) }
     {
-        match place_of_document(&self.facts.documents, n) {
-            None => None,
-            Some(i) => Some(&self.facts.documents[i]),
-        }
+        let i = place_of_document(&self.facts.documents, n)?;
+        Some(&self.facts.documents[i])
     }
 
     /// The page with one event more: what the step of this page changes is put in, each row by its

@@ -48,17 +48,12 @@ fn changes(
     let rows = page.rows();
     let lines = joined(alloc, advice.lines(), &goods)?;
     let mut touched = touched(alloc, rows, &lines)?;
-    count(
-        alloc,
-        &mut touched,
-        page.next_number(),
-        advice.lines(),
-        &goods,
-    )?;
+    let n = page.next_number();
+    count(alloc, &mut touched, n, advice.lines(), &goods)?;
     let mut changes = row_changes(alloc, rows, &touched)?;
     changes.push(Change::Advice(advice.closed()?))?;
     changes.push(Change::Sent {
-        n: page.next_number(),
+        n,
         function: Function::Receipt,
     })?;
     Ok(changes)

@@ -27,10 +27,7 @@ fn left_after(lines: &[Goods], item: &[u8], lot: &[u8], amount: u64) -> Option<u
     let mut left = amount;
     for line in lines {
         if is_of(line, item, lot) {
-            match left.checked_sub(u64::from(line.quantity)) {
-                Some(less) => left = less,
-                None => return None,
-            }
+            left = left.checked_sub(u64::from(line.quantity))?;
         }
     }
     Some(left)
@@ -94,12 +91,7 @@ fn are_expected(rows: &[Row], advices: &[KnownAdvice], lines: &[Goods]) -> bool
 
     ensures { result ≡ list_all (meant.is_expected rows.now advices.now) lines.now }
 {
-    for line in lines {
-        if !is_expected(rows, advices, line) {
-            return false;
-        }
-    }
-    true
+    lines.iter().all(|line| is_expected(rows, advices, line))
 }
 
 // Whether what open orders hold of each line's pair is reserved.
@@ -108,12 +100,7 @@ fn are_reserved(rows: &[Row], orders: &[KnownOrder], lines: &[Goods]) -> bool
 
     ensures { result ≡ list_all (meant.is_reserved rows.now orders.now) lines.now }
 {
-    for line in lines {
-        if !is_reserved(rows, orders, line) {
-            return false;
-        }
-    }
-    true
+    lines.iter().all(|line| is_reserved(rows, orders, line))
 }
 
 // Whether what an open advice brings is expected.
@@ -143,12 +130,9 @@ fn each_expected(rows: &[Row], advices: &[KnownAdvice]) -> bool
 
     ensures { result ≡ meant.all_expected rows.now advices.now advices.now }
 {
-    for advice in advices {
-        if !advice_expected(rows, advices, advice) {
-            return false;
-        }
-    }
-    true
+    advices
+        .iter()
+        .all(|advice| advice_expected(rows, advices, advice))
 }
 
 // Whether each line of each open order is reserved. It compares each with all, and asks for no
@@ -158,12 +142,9 @@ fn each_reserved(rows: &[Row], orders: &[KnownOrder]) -> bool
 
     ensures { result ≡ meant.all_reserved rows.now orders.now orders.now }
 {
-    for order in orders {
-        if !order_reserved(rows, orders, order) {
-            return false;
-        }
-    }
-    true
+    orders
+        .iter()
+        .all(|order| order_reserved(rows, orders, order))
 }
 
 // The same of the advices with one look at each line, where there is memory for the sums.
@@ -278,12 +259,7 @@ fn is_in_lines(alloc: Global, order: &KnownOrder) -> bool
 fn all_in_lines(alloc: Global, orders: &[KnownOrder]) -> bool
     ensures { result ≡ list_all pages.is_in_lines orders.now }
 {
-    for order in orders {
-        if !is_in_lines(alloc, order) {
-            return false;
-        }
-    }
-    true
+    orders.iter().all(|order| is_in_lines(alloc, order))
 }
 
 /// Whether lists in order are those of a page after so many entries, with no event since.

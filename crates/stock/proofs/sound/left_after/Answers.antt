@@ -3,12 +3,12 @@ use Rattle.profile.specs.Means.{Line}
 use Rattle.stock.proofs.SoundLaws.{given_least}
 use Rattle.stock.proofs.sound.left_after.Goals as goal
 
-pub returns-in-None : goal.returns-in-None
-returns-in-None c = omega (
+pub returns-in_err-left : goal.returns-in_err-left
+returns-in_err-left c = rw c.from_residual.ensures (omega (
   arith,
   c.loop-line.invariant,
-  c.in-None.ensures,
+  c.in_err-left.ensures,
   c.from.ensures,
   ap (λ (l : Line). l.quantity) c.line.view_is,
   given_least c.args.item.now c.args.lot.now c.args.lines.now c.loop-line.line-index c.line-item.result c.loop-line-test.true c.line-item.is (sym c.if-is_of.ensures),
-)
+))
