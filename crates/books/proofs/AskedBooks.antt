@@ -1,11 +1,11 @@
 -- What asking a book's tables leaves of the book, and what opening makes of them.
-use Rattle.std.proofs.Common.{◌≡◌, ◌≤◌, inl, inr, ℕ, List, Bool, false, Result, Ok, Err, IfErr, length, refl, sym, subst}
+use Rattle.std.proofs.Common.{◌≡◌, ◌≤◌, inl, inr, ℕ, List, Bool, true, false, Result, Ok, Err, IfErr, length, refl, sym, subst, ◌∙◌}
 use Rattle.sqlite.specs.Tree.{Trees}
 use Rattle.sqlite.specs.State.{State, HasCleanDisk}
 use Rattle.profile.specs.Header.{Who}
 use Rattle.profile.specs.Register.{Entry}
 use Rattle.store.specs.Fault.{Fault}
-use Rattle.store.specs.Standing.{IsUnchanged, IsUsable, IsQuery, IsQueryFault}
+use Rattle.store.specs.Standing.{IsUnchanged, IsUsable, IsReading, IsQuery, IsQueryFault}
 use Rattle.book_statements.specs.Asking.{IsAsked, IsAskFault}
 use Rattle.book_statements.specs.Exits.{StandsWhileOpen}
 use Rattle.books.specs.Keeping.{IsKept, IsSettled, standing_in}
@@ -41,10 +41,16 @@ asked_faults (Ok x) old new W n refused more shut h = tt
 asked_faults (Err f) old new W n refused more shut h = asked_fault_at f old new W n refused more shut h
 
 -- what such a query of the tables leaves of the book, and why it failed
-pub asked_query : {T : Type 0} (r : Result T Fault) (old new : State) (W : Who) (n refused more : ℕ) (shut : Bool) → refused ≤ more → IsAsked old new
-    → IfErr r (λ f. IsAskFault f old new refused more) → IsQuery (standing_in old W n refused shut) (standing_in new W n more shut) r
-asked_query r old new W n refused more shut grew asked fault =
+pub asked_reading : {T : Type 0} (r : Result T Fault) (old new : State) (W : Who) (n refused more : ℕ) (shut : Bool) → refused ≤ more → IsAsked old new
+    → IfErr r (λ f. IsAskFault f old new refused more) → IsReading (standing_in old W n refused shut) (standing_in new W n more shut) r
+asked_reading r old new W n refused more shut grew asked fault =
     record { same = asked_unchanged old new W n refused more shut grew asked; fault = asked_faults r old new W n refused more shut fault }
+
+-- the same of a book that needn't be opened again
+pub asked_query : {T : Type 0} (r : Result T Fault) (old new : State) (W : Who) (n refused more : ℕ) (shut : Bool) → shut ≡ false → refused ≤ more → IsAsked old new
+    → IfErr r (λ f. IsAskFault f old new refused more) → IsQuery (standing_in old W n refused shut) (standing_in new W n more shut) r
+asked_query r old new W n refused more shut open' grew asked fault =
+    record { reading = asked_reading r old new W n refused more shut grew asked fault; shut = λ is. absurd (let e : ◌≡◌ {A = Bool} true false = sym is ∙ open' in cc) }
 
 -- Opening.
 

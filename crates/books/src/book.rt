@@ -1,8 +1,8 @@
-ghost use Rattle.std.specs.Prelude.{◌≡◌, ◌≢◌, ◌<◌, ◌^◌, ◌-◌, [], true, false, IfErr, IfOk, OnOk, OnErr, IsErrOf, IsErrAnd, Some};
+ghost use Rattle.std.specs.Prelude.{◌≡◌, ◌≢◌, ◌<◌, ◌^◌, ◌-◌, [], true, false, IfErr, IfOk, OnOk, OnErr, IsErrAnd, Some};
 ghost use Rattle.profile.specs.declared.rules.Rules.TheVariants.{One, Two};
 ghost use Rattle.sqlite.specs.State.{HasCleanDisk, Survives};
 ghost use Rattle.sqlite.specs.Held.{state};
-ghost use Rattle.store.specs.Standing.{IsUsable, IsQuery};
+ghost use Rattle.store.specs.Standing.{IsUsable, IsReading, IsQuery};
 ghost use Rattle.book_statements.specs.Exits.{IsAsBefore};
 ghost use Rattle.book_statements.specs.Faults.{IsCallFault, IsOpeningFault};
 ghost use Rattle.books.specs.Carrying.{BringsUp};
@@ -176,7 +176,6 @@ impl<S: Alter + Drop> Book<S> {
         ensures whole { CountsKept S.Store self.old self.new result }
         ensures query { IsQuery (standing_of S.Store self.old) (standing_of S.Store self.new)
             result }
-        ensures shut { self.old.shut ≡ true → IsErrOf result Fault.Reopen }
         ensures limit { Counts self.old.tables self.new.tables }
     {
         self.verify_telling(|_, _| {})
@@ -191,7 +190,6 @@ impl<S: Alter + Drop> Book<S> {
         ensures whole { CountsKept S.Store self.old self.new result }
         ensures query { IsQuery (standing_of S.Store self.old) (standing_of S.Store self.new)
             result }
-        ensures shut { self.old.shut ≡ true → IsErrOf result Fault.Reopen }
         ensures limit { Counts self.old.tables self.new.tables }
     {
         if self.shut {
@@ -215,7 +213,7 @@ impl<S: Alter + Drop> Book<S> {
 
         ensures stands { StandsChecked S.Store self.old self.new result }
         ensures whole { CountsKept S.Store self.old self.new result }
-        ensures query { IsQuery (standing_of S.Store self.old) (standing_of S.Store self.new)
+        ensures reading { IsReading (standing_of S.Store self.old) (standing_of S.Store self.new)
             result }
         ensures limit { Counts self.old.tables self.new.tables }
     {

@@ -39,7 +39,6 @@ impl<S: Alter + Drop> Keeper for Book<S> {
         ensures rest { IfOk result IsAtRest }
         ensures query { IsQuery (standing_of S.Store self.old) (standing_of S.Store self.new)
             result }
-        ensures shut { (standing_of S.Store self.old).shut ≡ true → IsErrOf result Fault.Reopen }
         ensures calls { AreCounted self.old.tables self.new.tables result }
     {
         if self.shut {
@@ -57,7 +56,6 @@ impl<S: Alter + Drop> Keeper for Book<S> {
             ≡ first_under who (mark_of key.now) L)) }
         ensures query { IsQuery (standing_of S.Store self.old) (standing_of S.Store self.new)
             result }
-        ensures shut { (standing_of S.Store self.old).shut ≡ true → IsErrOf result Fault.Reopen }
         ensures calls { AreCounted self.old.tables self.new.tables result }
     {
         if self.shut {
@@ -126,7 +124,6 @@ impl<S: Alter + Drop> Keeper for Book<S> {
             (λ L. IfOk result (λ rows. option_map (λ v. v.items) rows ≡ stock_of L who)) }
         ensures query { IsQuery (standing_of S.Store self.old) (standing_of S.Store self.new)
             result }
-        ensures shut { (standing_of S.Store self.old).shut ≡ true → IsErrOf result Fault.Reopen }
         ensures calls { AreCounted self.old.tables self.new.tables result }
     {
         if self.shut {
@@ -141,7 +138,6 @@ impl<S: Alter + Drop> Keeper for Book<S> {
             (standing_of S.Store self.old).warehouse L who)) }
         ensures query { IsQuery (standing_of S.Store self.old) (standing_of S.Store self.new)
             result }
-        ensures shut { (standing_of S.Store self.old).shut ≡ true → IsErrOf result Fault.Reopen }
         ensures calls { AreCounted self.old.tables self.new.tables result }
     {
         if self.shut {
@@ -156,7 +152,6 @@ impl<S: Alter + Drop> Keeper for Book<S> {
             (standing_of S.Store self.old).warehouse L who n)) }
         ensures query { IsQuery (standing_of S.Store self.old) (standing_of S.Store self.new)
             result }
-        ensures shut { (standing_of S.Store self.old).shut ≡ true → IsErrOf result Fault.Reopen }
         ensures calls { AreCounted self.old.tables self.new.tables result }
     {
         if self.shut {
@@ -170,7 +165,6 @@ impl<S: Alter + Drop> Keeper for Book<S> {
             (λ L. IfOk result (λ page. option_map open_on page ≡ open_of L who)) }
         ensures query { IsQuery (standing_of S.Store self.old) (standing_of S.Store self.new)
             result }
-        ensures shut { (standing_of S.Store self.old).shut ≡ true → IsErrOf result Fault.Reopen }
         ensures calls { AreCounted self.old.tables self.new.tables result }
     {
         if self.shut {
@@ -184,7 +178,6 @@ impl<S: Alter + Drop> Keeper for Book<S> {
             (λ L. IfOk result (λ whos. whos.items ≡ enrolled L)) }
         ensures query { IsQuery (standing_of S.Store self.old) (standing_of S.Store self.new)
             result }
-        ensures shut { (standing_of S.Store self.old).shut ≡ true → IsErrOf result Fault.Reopen }
         ensures calls { AreCounted self.old.tables self.new.tables result }
     {
         if self.shut {

@@ -5,7 +5,7 @@ ghost use Rattle.profile.specs.Header.{Who as Partner, who_of};
 ghost use Rattle.profile.specs.Moments.{Moment as Minute};
 ghost use Rattle.profile.specs.Register.{Entry};
 ghost use Rattle.profile.specs.Response.{Get, OtherMethod};
-ghost use Rattle.store.specs.Standing.{IsQuery, OfKept};
+ghost use Rattle.store.specs.Standing.{IsReading, IsQuery, OfKept};
 ghost use Rattle.intake.specs.Answers.{seen};
 ghost use Rattle.intake.specs.Asking.{call_asks};
 ghost use Rattle.intake.specs.Calls.{owner_of, order_response, open_response, depositors_response, call_resp};
@@ -38,7 +38,7 @@ fn order_at<K: Keeper>(
     ensures response { OfKept (K.standing keeper.old) (K.standing keeper.new)
         (λ L. IfOk result (λ r. seen r ≡ order_response L (owner_of who.now number.now)
         number.now)) }
-    ensures query { IsQuery (K.standing keeper.old) (K.standing keeper.new) result }
+    ensures reading { IsReading (K.standing keeper.old) (K.standing keeper.new) result }
     ensures shut { (K.standing keeper.old).shut ≡ true
         → is_some (owner_of who.now number.now) ≡ true
         → IsErrOf result Fault.Reopen ⊎ IsErrOf result Fault.OutOfMemory }
@@ -60,7 +60,7 @@ fn order_at<K: Keeper>(
 fn open_at<K: Keeper>(alloc: Global, keeper: &mut K, who: &[u8]) -> Result<Response, Fault>
     ensures response { OfKept (K.standing keeper.old) (K.standing keeper.new)
         (λ L. IfOk result (λ r. seen r ≡ open_response L (who_of who.now))) }
-    ensures query { IsQuery (K.standing keeper.old) (K.standing keeper.new) result }
+    ensures reading { IsReading (K.standing keeper.old) (K.standing keeper.new) result }
     ensures shut { (K.standing keeper.old).shut ≡ true → is_some (who_of who.now) ≡ true
         → IsErrOf result Fault.Reopen }
 {
@@ -78,7 +78,6 @@ fn depositors_at<K: Keeper>(alloc: Global, keeper: &mut K) -> Result<Response, F
     ensures response { OfKept (K.standing keeper.old) (K.standing keeper.new)
         (λ L. IfOk result (λ r. seen r ≡ depositors_response L)) }
     ensures query { IsQuery (K.standing keeper.old) (K.standing keeper.new) result }
-    ensures shut { (K.standing keeper.old).shut ≡ true → IsErrOf result Fault.Reopen }
 {
     let whos = keeper.depositors()?;
     Ok(with_text(
@@ -98,7 +97,7 @@ pub(crate) fn looked_at<K: Keeper>(
     ensures response { OfKept (K.standing keeper.old) (K.standing keeper.new)
         (λ L. (body : List ℕ) (t : Minute) → IfOk result (λ r. seen r ≡ call_resp
         (K.standing keeper.old).warehouse L Get (seen_call call.now) body t)) }
-    ensures query { IsQuery (K.standing keeper.old) (K.standing keeper.new) result }
+    ensures reading { IsReading (K.standing keeper.old) (K.standing keeper.new) result }
     ensures shut { (body : List ℕ) → (K.standing keeper.old).shut ≡ true
         → call_asks Get (seen_call call.now) body ≡ true
         → IsErrOf result Fault.Reopen ⊎ IsErrOf result Fault.OutOfMemory }

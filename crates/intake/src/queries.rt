@@ -8,7 +8,7 @@ ghost use Rattle.profile.specs.Reports as reports;
 ghost use Rattle.profile.specs.Response.{Get, OtherMethod, is_plain_number, content_response, found_for, resp, with_body, plain_type};
 ghost use Rattle.profile.specs.Rows.{stock_of, outbox_of};
 ghost use Rattle.reports.specs.Exports.{stock_text as meant_text};
-ghost use Rattle.store.specs.Standing.{IsQuery, OfKept};
+ghost use Rattle.store.specs.Standing.{IsReading, OfKept};
 ghost use Rattle.intake.specs.Answers.{seen, told_text};
 ghost use Rattle.intake.specs.Asking.{route_asks};
 ghost use Rattle.intake.specs.Routes.{seen_route};
@@ -31,7 +31,7 @@ pub(crate) fn stock_at<K: Keeper>(
     ensures response { OfKept (K.standing keeper.old) (K.standing keeper.new)
         (λ L. IfOk result (λ r. seen r ≡ found_for who.now (stock_of L)
         (λ rows. with_body 200 plain_type (meant_text is_csv rows)))) }
-    ensures query { IsQuery (K.standing keeper.old) (K.standing keeper.new) result }
+    ensures reading { IsReading (K.standing keeper.old) (K.standing keeper.new) result }
     ensures shut { (K.standing keeper.old).shut ≡ true → is_some (who_of who.now) ≡ true
         → IsErrOf result Fault.Reopen }
 {
@@ -53,7 +53,7 @@ fn outbox_at<K: Keeper>(alloc: Global, keeper: &mut K, who: &str) -> Result<Resp
         (λ L. IfOk result (λ r. seen r ≡ found_for who.now
         (outbox_of (K.standing keeper.old).warehouse L)
         (λ rows. with_body 200 plain_type (reports.outbox_list rows)))) }
-    ensures query { IsQuery (K.standing keeper.old) (K.standing keeper.new) result }
+    ensures reading { IsReading (K.standing keeper.old) (K.standing keeper.new) result }
     ensures shut { (K.standing keeper.old).shut ≡ true → is_some (who_of who.now) ≡ true
         → IsErrOf result Fault.Reopen }
 {
@@ -92,7 +92,7 @@ fn content_at<K: Keeper>(keeper: &mut K, who: &str, n: &str) -> Result<Response,
     ensures response { OfKept (K.standing keeper.old) (K.standing keeper.new)
         (λ L. IfOk result (λ r. seen r ≡ found_for who.now
         (outbox_of (K.standing keeper.old).warehouse L) (content_response n.now))) }
-    ensures query { IsQuery (K.standing keeper.old) (K.standing keeper.new) result }
+    ensures reading { IsReading (K.standing keeper.old) (K.standing keeper.new) result }
     ensures shut { (K.standing keeper.old).shut ≡ true
         → (is_some (who_of who.now) && is_plain_number n.now) ≡ true
         → IsErrOf result Fault.Reopen }
@@ -116,7 +116,7 @@ pub(crate) fn got<K: Keeper>(
     ensures response { OfKept (K.standing keeper.old) (K.standing keeper.new)
         (λ L. (body : List ℕ) (t : Minute) → IfOk result (λ r. seen r ≡ resp Two
         (K.standing keeper.old).warehouse L Get (seen_route route.now) body t)) }
-    ensures query { IsQuery (K.standing keeper.old) (K.standing keeper.new) result }
+    ensures reading { IsReading (K.standing keeper.old) (K.standing keeper.new) result }
     ensures shut { (K.standing keeper.old).shut ≡ true
         → route_asks Get (seen_route route.now) ≡ true
         → IsErrOf result Fault.Reopen }

@@ -3,7 +3,7 @@ use Rattle.std.proofs.Common.{◌≡◌, ◌∙◌, sym, refl, arith, List, ◌�
 use Rattle.std.proofs.lemmas.Result.{IfErr-weaker}
 use Rattle.profile.specs.Register.{Entry}
 use Rattle.store.specs.Fault.{Fault}
-use Rattle.store.specs.Standing.{Standing, IsUsable, KeepsLegal, IsUnchanged, GoesOn, LeavesEither, IsFault, IsQuery, IsQueryFault, Refused}
+use Rattle.store.specs.Standing.{Standing, IsUsable, KeepsLegal, IsUnchanged, GoesOn, LeavesEither, IsFault, IsReading, IsQueryFault, Refused}
 
 pub goes_trans : (a b c : Standing) → GoesOn a b → GoesOn b c → GoesOn a c
 goes_trans a b c p q = record {
@@ -88,9 +88,9 @@ query_after a b c p q fault f = record {
   device = f.device;
 }
 
--- a query after another
-pub query_on : {T : Type 0} (a b c : Standing) → IsUnchanged a b → (r : Result T Fault) → IsQuery b c r → IsQuery a c r
-query_on a b c p r q = record {
+-- what reads, after a call that changed nothing
+pub reading_on : {T : Type 0} (a b c : Standing) → IsUnchanged a b → (r : Result T Fault) → IsReading b c r → IsReading a c r
+reading_on a b c p r q = record {
   same = unchanged_trans a b c p q.same;
   fault = IfErr-weaker r _ _ (query_after a b c p q.same.goes) q.fault;
 }

@@ -1,5 +1,5 @@
 -- How a book stands, whichever way it is kept.
-use Rattle.std.specs.Prelude.{ℕ, ◌-◌, ◌^◌, ◌<◌, ◌≤◌, ◌≡◌, ◌⊎◌, ◌++◌, ◌∷◌, [], List, Bool, true, false, Result, IfErr}
+use Rattle.std.specs.Prelude.{ℕ, ◌-◌, ◌^◌, ◌<◌, ◌≤◌, ◌≡◌, ◌⊎◌, ◌++◌, ◌∷◌, [], List, Bool, true, false, Result, IfErr, IsErrOf}
 use Rattle.profile.specs.declared.rules.Rules.TheVariants.{Two}
 use Rattle.profile.specs.Header.{Who}
 use Rattle.profile.specs.Register.{Entry, own}
@@ -81,10 +81,15 @@ pub record IsQueryFault (fault : Fault) (old new : Standing) : Type 0 where
   pub not_this : fault ≡ NotThisBook → OfAnyKept old new (λ L. ⊥)
   pub device : fault ≡ Device → ⊥
 
--- what a query leaves, which is all as it was, and why it failed
-pub record IsQuery {T : Type 0} (old new : Standing) (result : Result T Fault) : Type 0 where
+-- what a call leaves that only reads, which is all as it was, and why it failed
+pub record IsReading {T : Type 0} (old new : Standing) (result : Result T Fault) : Type 0 where
   pub same : IsUnchanged old new
   pub fault : IfErr result (λ fault. IsQueryFault fault old new)
+
+-- a query, which only reads, and is answered by no book that has to be opened again
+pub record IsQuery {T : Type 0} (old new : Standing) (result : Result T Fault) : Type 0 where
+  pub reading : IsReading old new result
+  pub shut : old.shut ≡ true → IsErrOf result Reopen
 
 -- why a command failed, and what it left: all as it was, or a book that has to be opened again
 pub record IsFault (fault : Fault) (old new : Standing) : Type 0 where

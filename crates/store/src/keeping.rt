@@ -33,8 +33,7 @@ pub trait Keeper {
             (λ L. IfOk result (λ page. IsHeld need.now page
             (decided.standing (register.own L who)))) }
         ensures rest { IfOk result IsAtRest }
-        ensures query { IsQuery (standing self.old) (standing self.new) result }
-        ensures shut { (standing self.old).shut ≡ true → IsErrOf result Fault.Reopen };
+        ensures query { IsQuery (standing self.old) (standing self.new) result };
 
     /// A depositor's entry under a key, with its number and the text that went out for it; None
     /// where there is none.
@@ -46,8 +45,7 @@ pub trait Keeper {
         ensures recorded { OfAnyKept (standing self.old) (standing self.new)
             (λ L. IfOk result (λ known. option_map (λ k. k.entry) known
             ≡ first_under who (mark_of key.now) L)) }
-        ensures query { IsQuery (standing self.old) (standing self.new) result }
-        ensures shut { (standing self.old).shut ≡ true → IsErrOf result Fault.Reopen };
+        ensures query { IsQuery (standing self.old) (standing self.new) result };
 
     /// Appends an entry, with the rows that it changes and the text that goes out for it, in one
     /// transaction.
@@ -79,16 +77,14 @@ pub trait Keeper {
     fn stock_rows(&mut self, who: Who) -> Result<Option<Vec<StockRow>>, Fault>
         ensures rows { OfKept (standing self.old) (standing self.new)
             (λ L. IfOk result (λ rows. option_map (λ v. v.items) rows ≡ stock_of L who)) }
-        ensures query { IsQuery (standing self.old) (standing self.new) result }
-        ensures shut { (standing self.old).shut ≡ true → IsErrOf result Fault.Reopen };
+        ensures query { IsQuery (standing self.old) (standing self.new) result };
 
     /// The texts that went out to a depositor, by number; None for a stranger.
     fn outbox(&mut self, who: Who) -> Result<Option<Vec<OutRow>>, Fault>
         ensures rows { OfKept (standing self.old) (standing self.new)
             (λ L. IfOk result (λ rows. option_map (λ v. v.items) rows ≡ outbox_of
             (standing self.old).warehouse L who)) }
-        ensures query { IsQuery (standing self.old) (standing self.new) result }
-        ensures shut { (standing self.old).shut ≡ true → IsErrOf result Fault.Reopen };
+        ensures query { IsQuery (standing self.old) (standing self.new) result };
 
     /// The text that went out to a depositor under a number; None for a stranger, and Some(None)
     /// where nothing went out under it.
@@ -96,23 +92,20 @@ pub trait Keeper {
         ensures text { OfKept (standing self.old) (standing self.new)
             (λ L. IfOk result (λ text. option_map (option_map (λ v. v.items)) text ≡ text_of
             (standing self.old).warehouse L who n)) }
-        ensures query { IsQuery (standing self.old) (standing self.new) result }
-        ensures shut { (standing self.old).shut ≡ true → IsErrOf result Fault.Reopen };
+        ensures query { IsQuery (standing self.old) (standing self.new) result };
 
     /// A part of a depositor's page that has what is open: each advice that isn't counted and each
     /// order that isn't picked, and perhaps more; None for a stranger.
     fn open(&mut self, who: Who) -> Result<Option<Page>, Fault>
         ensures work { OfKept (standing self.old) (standing self.new)
             (λ L. IfOk result (λ page. option_map open_on page ≡ open_of L who)) }
-        ensures query { IsQuery (standing self.old) (standing self.new) result }
-        ensures shut { (standing self.old).shut ≡ true → IsErrOf result Fault.Reopen };
+        ensures query { IsQuery (standing self.old) (standing self.new) result };
 
     /// The depositors, in the order in which they were enrolled.
     fn depositors(&mut self) -> Result<Vec<Who>, Fault>
         ensures whole { OfKept (standing self.old) (standing self.new)
             (λ L. IfOk result (λ whos. whos.items ≡ enrolled L)) }
-        ensures query { IsQuery (standing self.old) (standing self.new) result }
-        ensures shut { (standing self.old).shut ≡ true → IsErrOf result Fault.Reopen };
+        ensures query { IsQuery (standing self.old) (standing self.new) result };
 
     /// How many calls the store refused.
     fn refused(&self) -> u64

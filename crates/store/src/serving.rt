@@ -11,7 +11,7 @@ ghost use Rattle.rules.specs.Decided.{LeadsInTables};
 ghost use Rattle.store.specs.Held.{IsDecided};
 ghost use Rattle.store.specs.Sent.{text_of};
 ghost use Rattle.store.specs.Runs.{told, all_asked, can_be_given, UnlessAccepted};
-ghost use Rattle.store.specs.Standing.{Standing, IsUsable, IsUnchanged, GoesOn, IsFault, IsQuery, IsRunFault, KeepsLegal, LeavesEither, OfKept, OfUsable};
+ghost use Rattle.store.specs.Standing.{Standing, IsUsable, IsUnchanged, GoesOn, IsFault, IsReading, IsQuery, IsRunFault, KeepsLegal, LeavesEither, OfKept, OfUsable};
 
 use crate::keeping::Keeper;
 use crate::rows::{OutRow, StockRow};
@@ -54,7 +54,7 @@ fn judge_new<K: Keeper>(
     ensures tables { OfKept (K.standing keeper.old) (K.standing keeper.new)
         (λ L. IfOk result (LeadsInTables rules (K.standing keeper.old).warehouse L
         (asked command.now) moment)) }
-    ensures query { IsQuery (K.standing keeper.old) (K.standing keeper.new) result }
+    ensures reading { IsReading (K.standing keeper.old) (K.standing keeper.new) result }
 {
     let warehouse = keeper.warehouse();
     let need = need(alloc, command)?;
@@ -78,7 +78,7 @@ fn judge<K: Keeper>(
     ensures tables { OfKept (K.standing keeper.old) (K.standing keeper.new)
         (λ L. IfOk result (LeadsInTables rules (K.standing keeper.old).warehouse L
         (asked command.now) moment)) }
-    ensures query { IsQuery (K.standing keeper.old) (K.standing keeper.new) result }
+    ensures reading { IsReading (K.standing keeper.old) (K.standing keeper.new) result }
 {
     let warehouse = keeper.warehouse();
     let Some(named) = subject(command) else {
@@ -193,7 +193,6 @@ pub fn stock<K: Keeper>(keeper: &mut K, who: Who) -> Result<Option<Vec<StockRow>
     ensures rows { OfKept (K.standing keeper.old) (K.standing keeper.new)
         (λ L. IfOk result (λ rows. option_map (λ v. v.items) rows ≡ stock_of L who)) }
     ensures query { IsQuery (K.standing keeper.old) (K.standing keeper.new) result }
-    ensures shut { (K.standing keeper.old).shut ≡ true → IsErrOf result Fault.Reopen }
 {
     keeper.stock_rows(who)
 }
@@ -204,7 +203,6 @@ pub fn outbox<K: Keeper>(keeper: &mut K, who: Who) -> Result<Option<Vec<OutRow>>
         (λ L. IfOk result (λ rows. option_map (λ v. v.items) rows ≡ outbox_of
         (K.standing keeper.old).warehouse L who)) }
     ensures query { IsQuery (K.standing keeper.old) (K.standing keeper.new) result }
-    ensures shut { (K.standing keeper.old).shut ≡ true → IsErrOf result Fault.Reopen }
 {
     keeper.outbox(who)
 }
@@ -216,7 +214,6 @@ pub fn text<K: Keeper>(keeper: &mut K, who: Who, n: u32) -> Result<Option<Option
         (λ L. IfOk result (λ text. option_map (option_map (λ v. v.items)) text ≡ text_of
         (K.standing keeper.old).warehouse L who n)) }
     ensures query { IsQuery (K.standing keeper.old) (K.standing keeper.new) result }
-    ensures shut { (K.standing keeper.old).shut ≡ true → IsErrOf result Fault.Reopen }
 {
     keeper.text(who, n)
 }

@@ -8,7 +8,7 @@ use Rattle.rules.specs.Asked.{asked}
 use Rattle.rules.specs.Decided.{IsRecalled}
 use Rattle.rules.specs.Replies.{IsReply}
 use Rattle.store.specs.Held.{IsDecided, IsHeld}
-use Rattle.store.proofs.Changes.{clean_before, query_on, unchanged_refl}
+use Rattle.store.proofs.Changes.{clean_before, reading_on, unchanged_refl}
 use Rattle.store.proofs.Replies.{decided, decided_again, named_key, owner_none, owner_some, recalled_at, recalled_none, stands_from}
 use Rattle.store.proofs.serving.judge.Goals as goal
 
@@ -52,8 +52,8 @@ returns-in-None-clause-decision g c = λ clean L keeps legal.
     let new = g.K.Keeper.standing c.judge_new.new.keeper in
     let asking = asked c.args.command.now in
     let names = c.in-Some.ensures in
-    let same = c.in_ok-known.ensures.query.same in
-    let early = clean_before mid new c.judge_new.ensures.query.same.goes clean in
+    let same = c.in_ok-known.ensures.query.reading.same in
+    let early = clean_before mid new c.judge_new.ensures.reading.same.goes clean in
     let there = recalled_at c.in_ok-known.field-0 (sym same.goes.warehouse) (named_key asking _ _ names) (owner_some L asking _ _ names)
     (c.in_ok-known.ensures.entry early L keeps legal) in
     let unknown = recalled_none (recalled mid.warehouse (command_mark asking) (own_of L asking))
@@ -61,15 +61,15 @@ returns-in-None-clause-decision g c = λ clean L keeps legal.
     subst (λ W. IfOk c.judge_new.result (IsDecided c.args.rules W L asking c.args.moment)) same.goes.warehouse
     (c.judge_new.ensures.decision clean L (same.keeps early L keeps) (subst (λ W. IsLegal Two W L) (sym same.goes.warehouse) legal) unknown)
 
-pub returns-in-None-clause-query : goal.returns-in-None-clause-query
-returns-in-None-clause-query g c = query_on (g.K.Keeper.standing c.args.keeper.now) (g.K.Keeper.standing c.known.new.self) (g.K.Keeper.standing c.judge_new.new.keeper)
-    c.in_ok-known.ensures.query.same c.judge_new.result c.judge_new.ensures.query
+pub returns-in-None-clause-reading : goal.returns-in-None-clause-reading
+returns-in-None-clause-reading g c = reading_on (g.K.Keeper.standing c.args.keeper.now) (g.K.Keeper.standing c.known.new.self) (g.K.Keeper.standing c.judge_new.new.keeper)
+    c.in_ok-known.ensures.query.reading.same c.judge_new.result c.judge_new.ensures.reading
 
-pub returns-in_err-decide-clause-query : goal.returns-in_err-decide-clause-query
-returns-in_err-decide-clause-query g c = record { same = unchanged_refl (g.K.Keeper.standing c.args.keeper.now); fault = search rules }
+pub returns-in_err-decide-clause-reading : goal.returns-in_err-decide-clause-reading
+returns-in_err-decide-clause-reading g c = record { same = unchanged_refl (g.K.Keeper.standing c.args.keeper.now); fault = search rules }
 
-pub returns-in_err-known-clause-query : goal.returns-in_err-known-clause-query
-returns-in_err-known-clause-query g c = record { same = c.in_err-known.ensures.query.same; fault = search rules }
+pub returns-in_err-known-clause-reading : goal.returns-in_err-known-clause-reading
+returns-in_err-known-clause-reading g c = record { same = c.in_err-known.ensures.query.reading.same; fault = search rules }
 
-pub returns-in_err-decide_again-in-Some-2-clause-query : goal.returns-in_err-decide_again-in-Some-2-clause-query
-returns-in_err-decide_again-in-Some-2-clause-query g c = record { same = c.in_ok-known.ensures.query.same; fault = search rules }
+pub returns-in_err-decide_again-in-Some-2-clause-reading : goal.returns-in_err-decide_again-in-Some-2-clause-reading
+returns-in_err-decide_again-in-Some-2-clause-reading g c = record { same = c.in_ok-known.ensures.query.reading.same; fault = search rules }

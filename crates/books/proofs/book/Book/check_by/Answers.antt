@@ -14,21 +14,21 @@ use Rattle.book_tables.proofs.AskedLater.{clean_before}
 use Rattle.book_tables.proofs.Queries.{went_fails, went_of, went_on}
 use Rattle.books.specs.Opened.{Opened, standing_of}
 use Rattle.books.specs.Verified.{IsCopy, Stays}
-use Rattle.books.proofs.AskedBooks.{asked_query, asked_unchanged}
+use Rattle.books.proofs.AskedBooks.{asked_reading, asked_unchanged}
 use Rattle.books.proofs.GivenLemmas.{never_both}
 use Rattle.books.proofs.book.Book.check_by.Goals as goal
 
-pub returns-in_err-all-clause-query : goal.returns-in_err-all-clause-query
-returns-in_err-all-clause-query g c = rw (← c.self.view_is) (
+pub returns-in_err-all-clause-reading : goal.returns-in_err-all-clause-reading
+returns-in_err-all-clause-reading g c = rw (← c.self.view_is) (
     let b = c.self.inside in
     let m = c.give_all.new.tables in
     let r = c.from_residual.result in
     let same : IsErrAnd r (λ (f : Fault). f ≡ c.in_err-all.field-0.0) = search rules in
     let went = went_fails g.S.Store b.tables m c.in_err-all.field-0.0 r same c.in_err-all.ensures.went in
-    asked_query r (state g.S.Store b.tables.conn) (state g.S.Store m.conn) b.warehouse b.entries b.tables.refused m.refused b.shut went.counts went.left went.fault)
+    asked_reading r (state g.S.Store b.tables.conn) (state g.S.Store m.conn) b.warehouse b.entries b.tables.refused m.refused b.shut went.counts went.left went.fault)
 
-pub returns-in_err-same-clause-query : goal.returns-in_err-same-clause-query
-returns-in_err-same-clause-query g c = rw (← c.self.view_is) (
+pub returns-in_err-same-clause-reading : goal.returns-in_err-same-clause-reading
+returns-in_err-same-clause-reading g c = rw (← c.self.view_is) (
     let b = c.self.inside in
     let m = c.give_all.new.tables in
     let n = c.same_tables.new.self in
@@ -36,10 +36,10 @@ returns-in_err-same-clause-query g c = rw (← c.self.view_is) (
     let same : IsErrAnd r (λ (f : Fault). f ≡ c.in_err-same.field-0.0) = search rules in
     let both = went_on g.S.Store b.tables m n c.in_ok-all.all r c.in_ok-all.ensures.went
     (went_fails g.S.Store m n c.in_err-same.field-0.0 r same (went_of g.S.Store m n _ c.in_err-same.ensures.asked)) in
-    asked_query r (state g.S.Store b.tables.conn) (state g.S.Store n.conn) b.warehouse b.entries b.tables.refused n.refused b.shut both.counts both.left both.fault)
+    asked_reading r (state g.S.Store b.tables.conn) (state g.S.Store n.conn) b.warehouse b.entries b.tables.refused n.refused b.shut both.counts both.left both.fault)
 
-pub returns-clause-query : goal.returns-clause-query
-returns-clause-query g c = rw (← c.self.view_is) (
+pub returns-clause-reading : goal.returns-clause-reading
+returns-clause-reading g c = rw (← c.self.view_is) (
     let b = c.self.inside in
     let m = c.give_all.new.tables in
     let n = c.same_tables.new.self in
@@ -70,8 +70,8 @@ returns-clause-stands g c = rw (← c.self.view_is) (λ clean laid are.
     let now = its.stands clean clean' laid' (subst (λ (d : Database). AreTables d) (sym same) (are (before.was_open opened))) W copy.register stood c.if-not-same.false in
     (before.was_open opened, record { register = copy.register; long = sym kept.count; stands = subst (StandsSecond W copy.register) same now }))
 
-pub returns-then-not-same-clause-query : goal.returns-then-not-same-clause-query
-returns-then-not-same-clause-query g c = rw (← c.self.view_is) (record {
+pub returns-then-not-same-clause-reading : goal.returns-then-not-same-clause-reading
+returns-then-not-same-clause-reading g c = rw (← c.self.view_is) (record {
   same =
       let b = c.self.inside in
       let m = c.give_all.new.tables in

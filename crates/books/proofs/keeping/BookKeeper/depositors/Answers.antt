@@ -8,4 +8,4 @@ returns-clause-whole g c = rw (← c.self.view_is) (λ clean L k legal. c.deposi
 pub returns-clause-query : goal.returns-clause-query
 returns-clause-query g c = rw (← c.self.view_is) (
     let b = c.self.inside in
-    asked_query c.depositors.result (state g.S.Store b.tables.conn) (state g.S.Store c.depositors.new.self.conn) b.warehouse b.entries b.tables.refused c.depositors.new.self.refused b.shut c.depositors.ensures.asked.counts c.depositors.ensures.asked.left c.depositors.ensures.asked.fault)
+    asked_query c.depositors.result (state g.S.Store b.tables.conn) (state g.S.Store c.depositors.new.self.conn) b.warehouse b.entries b.tables.refused c.depositors.new.self.refused b.shut c.if-self.false c.depositors.ensures.asked.counts c.depositors.ensures.asked.left c.depositors.ensures.asked.fault)

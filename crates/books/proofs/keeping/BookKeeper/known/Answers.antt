@@ -20,4 +20,4 @@ returns-clause-recorded g c = rw (← c.self.view_is) (λ clean L k.
 pub returns-clause-query : goal.returns-clause-query
 returns-clause-query g c = rw (← c.self.view_is) (
     let b = c.self.inside in
-    asked_query c.known_of.result (state g.S.Store b.tables.conn) (state g.S.Store c.known_of.new.self.conn) b.warehouse b.entries b.tables.refused c.known_of.new.self.refused b.shut c.known_of.ensures.asked.counts c.known_of.ensures.asked.left c.known_of.ensures.asked.fault)
+    asked_query c.known_of.result (state g.S.Store b.tables.conn) (state g.S.Store c.known_of.new.self.conn) b.warehouse b.entries b.tables.refused c.known_of.new.self.refused b.shut c.if-self.false c.known_of.ensures.asked.counts c.known_of.ensures.asked.left c.known_of.ensures.asked.fault)

@@ -21,4 +21,4 @@ returns-clause-part g c = rw (← c.self.view_is) (λ clean L k. c.page_for.ensu
 pub returns-clause-query : goal.returns-clause-query
 returns-clause-query g c = rw (← c.self.view_is) (
     let b = c.self.inside in
-    asked_query c.page_for.result (state g.S.Store b.tables.conn) (state g.S.Store c.page_for.new.self.conn) b.warehouse b.entries b.tables.refused c.page_for.new.self.refused b.shut c.page_for.ensures.asked.counts c.page_for.ensures.asked.left c.page_for.ensures.asked.fault)
+    asked_query c.page_for.result (state g.S.Store b.tables.conn) (state g.S.Store c.page_for.new.self.conn) b.warehouse b.entries b.tables.refused c.page_for.new.self.refused b.shut c.if-self.false c.page_for.ensures.asked.counts c.page_for.ensures.asked.left c.page_for.ensures.asked.fault)

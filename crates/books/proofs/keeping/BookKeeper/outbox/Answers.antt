@@ -8,4 +8,4 @@ returns-clause-rows g c = rw (← c.self.view_is) (λ clean L k legal. c.outbox_
 pub returns-clause-query : goal.returns-clause-query
 returns-clause-query g c = rw (← c.self.view_is) (
     let b = c.self.inside in
-    asked_query c.outbox_of.result (state g.S.Store b.tables.conn) (state g.S.Store c.outbox_of.new.self.conn) b.warehouse b.entries b.tables.refused c.outbox_of.new.self.refused b.shut c.outbox_of.ensures.asked.counts c.outbox_of.ensures.asked.left c.outbox_of.ensures.asked.fault)
+    asked_query c.outbox_of.result (state g.S.Store b.tables.conn) (state g.S.Store c.outbox_of.new.self.conn) b.warehouse b.entries b.tables.refused c.outbox_of.new.self.refused b.shut c.if-self.false c.outbox_of.ensures.asked.counts c.outbox_of.ensures.asked.left c.outbox_of.ensures.asked.fault)
