@@ -2,7 +2,7 @@
 //! entry is appended with what it changes, a book of version 1 is carried over.
 #![tactic(auto, using(book_statements::proofs::Limited::spends_both, book_statements::proofs::Limited::spends_same))]
 
-mod ending;
+mod commits;
 mod whole;
 
 pub use whole::{append, carry_over, make};

@@ -12,7 +12,7 @@ ghost use Rattle.book_statements.specs.Making.{Makes};
 ghost use Rattle.book_statements.specs.Standing.{StandsIn};
 ghost use Rattle.book_transactions.specs.Whole.{IsWhole, counted_by};
 
-use crate::ending::commit;
+use crate::commits::commit;
 use book_statements::{Calls, carry_all, make_all, write_entry};
 use rules::{Change, Entry, Warehouse};
 use sqlite::{Alter, Connection};

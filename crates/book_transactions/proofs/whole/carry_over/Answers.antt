@@ -14,7 +14,8 @@ use Rattle.book_transactions.proofs.whole.carry_over.Goals as goal
 pub returns-clause-whole : goal.returns-clause-whole
 returns-clause-whole g c =
     let last = state g.S.Store c.carry_all.new.tx.conn.now in
-    record {
+    let kept : c.transaction-arg-1.given ≡ c.carry_all.new.tx.conn.ghost_name = search rules in
+    rw (c.conn-2-1.given.1 kept) (record {
       ok = one_ok g.S.Store c.args.conn.now c.transaction-tx.result.conn.now c.commit.new.tx.0
           c.transaction-tx.ensures.begun c.in_ok-carry_all.ensures.wrote c.commit.ensures.ended (λ did same W L count stands.
           grown_now last (state g.S.Store c.commit.new.tx.0) W L same
@@ -28,8 +29,10 @@ returns-clause-whole g c =
           stands_in db last W L at
           (did (subst (λ (h : Held g.row.S.Denot). IsLive (state g.S.Store h)) (sym c.transaction-tx.ensures.begun) c.schema-live.ensures.live) W L count
           (subst (λ (h : Held g.row.S.Denot). StandsOpenAs One (state g.S.Store h) W L) (sym c.transaction-tx.ensures.begun) stands)));
-    }
+    })
 
 pub returns-clause-called : goal.returns-clause-called
 returns-clause-called g c =
-    one_called g.S.Store c.args.conn.now c.transaction-tx.result.conn.now c.commit.new.tx.0 c.transaction-tx.ensures.begun c.in_ok-carry_all.ensures.wrote c.commit.ensures.ended
+    let kept : c.transaction-arg-1.given ≡ c.carry_all.new.tx.conn.ghost_name = search rules in
+    rw (c.conn-2-1.given.1 kept)
+    (one_called g.S.Store c.args.conn.now c.transaction-tx.result.conn.now c.commit.new.tx.0 c.transaction-tx.ensures.begun c.in_ok-carry_all.ensures.wrote c.commit.ensures.ended)
