@@ -24,4 +24,4 @@ returns-in-Err-clause-crash g c =
     survives_weaker (state g.S.Store c.args.tables.conn) (state g.S.Store c.make.new.self.conn)
     (λ (db : Trees). IsLegal Two c.args.warehouse [] → c.args.tables.conn.schema ≡ no_layout → StandsIn c.args.warehouse [] db)
     (λ (db : Trees). c.args.tables.conn.schema ≡ no_layout → StandsIn c.args.warehouse [] db)
-    (λ clean db stands. stands (nothing_legal c.args.warehouse house)) c.make.ensures.crash
+    (λ clean db stands. stands (nothing_legal c.args.warehouse house)) c.make.ensures.whole.crash
