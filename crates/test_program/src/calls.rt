@@ -2,7 +2,7 @@
 //! fail, requests and responses that break off. The book is in memory. The texts stand in
 //! `data/judged`, `data/exchanges` and `data/clerks`.
 //!
-//! bench/sweeps.py makes a test function of each, so that bench/allocations.py can refuse it
+//! bench/sweeps.py makes a `#[test]` function of each, so that bench/allocations.py can refuse it
 //! memory: each file has them in its last function, `all`.
 mod breaking;
 mod devices;
