@@ -1,9 +1,8 @@
 #!/usr/bin/env python3
-"""Fails each allocation of each test of a program of tests in turn. Not part of the gate.
+"""Fails each allocation of each test of a crate in turn. Not part of the gate.
 
-Usage: bench/allocations.py PROGRAM [TEST] [--most N]
-       (PROGRAM has #[test] functions, as FOLDER/sweeps_tests that `bench/sweeps.py --folder FOLDER` leaves: the tests of bench/sweeps, and those of calls of `test_program`; TEST is a
-       part of a name)
+Usage: bench/allocations.py CRATE|PROGRAM [TEST] [--most N]
+       (CRATE is one whose tests `rt test` built, as tests: crates/test_calls/out/test_calls_tests; PROGRAM is such a program elsewhere, as bench/sweeps.py says)
 
 A library put before the C library's lets the Nth call of malloc or realloc answer that there is no memory, for N = 1, 2, .. up
 to as many as the test makes (or N evenly chosen ones under --most), a run each. Want of memory is a result that code and test
@@ -15,6 +14,7 @@ import subprocess
 import sys
 import tempfile
 
+HERE = os.path.dirname(os.path.abspath(__file__))
 SHIM = r"""
 #define _GNU_SOURCE
 #include <dlfcn.h>
@@ -84,8 +84,10 @@ def swept(program, test, library, folder, most):
 
 def main(words):
     most = int(words[words.index("--most") + 1]) if "--most" in words else 1_000_000
-    program = os.path.abspath(words[0])
+    crate = words[0]
     chosen = words[1] if len(words) > 1 and not words[1].startswith("--") else ""
+    program = crate if os.sep in crate else os.path.join(HERE, "..", "crates", crate, "out", f"{crate}_tests")
+    program = os.path.abspath(program)
     listed = subprocess.run([program, "--list"], capture_output=True, text=True, check=True).stdout
     tests = [line.removesuffix(": test") for line in listed.splitlines() if line.endswith(": test") and chosen in line]
     with tempfile.TemporaryDirectory() as folder:

@@ -1,13 +1,13 @@
 //! What a command with `--server` prints of the responses that it gets.
 //!
-//! The cases are those of `data/clerks` (messages.rt), and of `data/asked/faults.cases` those whose
-//! responses are faults. In `data/asked/unasked.rows` each row is a line that asks nobody, and what
-//! is told of it.
-use crate::messages::message_of;
+//! The cases are those of `cases::clerks`, and of `data/asked/faults.cases` those whose responses
+//! are faults. In `data/asked/unasked.rows` each row is a line that asks nobody, and what is told
+//! of it.
 use crate::ran::{Ran, Wanted, run_words};
-use crate::sections::section_of;
 use crate::telling::{hold, tell};
 use crate::texts::text_of;
+use cases::clerks::{deeds, looks, response_of, strays};
+use cases::sections::section_of;
 use commands::{CommandError, ExitStatus, tell_stop};
 use errands::{tell_document, tell_report};
 use intake::Audience;
@@ -19,7 +19,7 @@ use std::test::Fail;
 
 // The answer that the response of a case is.
 fn answer_of(rt: &HostRuntime, case: &str) -> Result<ServerAnswer, Fail> {
-    let response = message_of(rt.alloc(), section_of(case, "answered").1)?;
+    let response = response_of(rt.alloc(), section_of(case, "answered").1)?;
     let mut bytes = response.as_bytes();
     match read_answer(rt.alloc(), &mut bytes) {
         Ok(answer) => Ok(answer),
@@ -66,9 +66,8 @@ fn is_told(rt: &HostRuntime, case: &str) -> Result<(), Fail> {
     told(rt, case)?.compare(case, &wanted)
 }
 
-// So are those of each case of the text in a file, which has one at least.
-fn are_told(rt: &HostRuntime, file: &str) -> Result<(), Fail> {
-    let text = text_of(rt, file)?;
+// So are those of each case of a text, which has one at least.
+fn are_told(rt: &HostRuntime, text: &str) -> Result<(), Fail> {
     let (_, cases) = text.split_once("@case ").ok_or("a case")?;
     for case in cases.split("@case ") {
         is_told(rt, case)?;
@@ -77,10 +76,11 @@ fn are_told(rt: &HostRuntime, file: &str) -> Result<(), Fail> {
 }
 
 fn the_answers_of_a_server_are_told_as_over_the_book(rt: &HostRuntime) -> Result<(), Fail> {
-    are_told(rt, "clerks/deeds.cases")?;
-    are_told(rt, "clerks/looks.cases")?;
-    are_told(rt, "clerks/strays.cases")?;
-    are_told(rt, "asked/faults.cases")
+    let faults = text_of(rt, "asked/faults.cases")?;
+    for text in [deeds::CASES, looks::CASES, strays::CASES, faults.as_str()] {
+        are_told(rt, text)?;
+    }
+    Ok(())
 }
 
 // Whether a response that breaks off after these bytes is no answer.
@@ -90,9 +90,8 @@ fn is_no_answer(alloc: Global, mut bytes: &[u8]) -> bool {
 
 // No beginning of a response is an answer.
 fn a_response_that_breaks_off_is_no_answer(rt: &HostRuntime) -> Result<(), Fail> {
-    let text = text_of(rt, "clerks/deeds.cases")?;
-    let case = text.split("@case ").nth(1).ok_or("a case")?;
-    let response = message_of(rt.alloc(), section_of(case, "answered").1)?;
+    let case = deeds::CASES.split("@case ").nth(1).ok_or("a case")?;
+    let response = response_of(rt.alloc(), section_of(case, "answered").1)?;
     for k in 0..response.len() {
         hold(
             is_no_answer(rt.alloc(), &response.as_bytes()[..k]),

@@ -2,10 +2,10 @@
 use crate::on_disk::{NOT_THIS, over_database};
 use crate::playing::write_files;
 use crate::ran::{Wanted, run_lines};
-use crate::sections::section_of;
 use crate::telling::tell;
 use crate::texts::{remove_book, text_of};
 use crate::version1::{hundred_lines, with_lines};
+use cases::sections::section_of;
 use std::fs;
 use std::test::Fail;
 

@@ -1,37 +1,30 @@
-//! Tests of public calls over a book in memory, and of the program's lines: stories over a book in
-//! memory and over one in its file, a book that is served, and usage. They are a program, which
-//! plays one after the other: it prints a sentence for each that held, and stops at the first that
-//! didn't, which it tells on standard error. So all of them are proved and linked once, and both
-//! compilers' builds run them.
+//! Tests of the program's lines: stories over a book in memory and over one in its file, a book
+//! that is served, and usage. They are a program, which plays one after the other: it prints a
+//! sentence for each that held, and stops at the first that didn't, which it tells on standard
+//! error. So all of them are proved and linked once, and both compilers' builds run them.
 //!
 //! What is played stands in texts, in the files of `data/`.
 #![tactic(auto)]
 
 mod asked;
-mod calls;
 mod carried;
 mod changes;
 mod inboxes;
 mod laying;
-mod messages;
 mod on_disk;
 mod playing;
 mod ran;
 mod scripts;
-mod sections;
 mod served;
-mod spreading;
 mod stories;
 mod telling;
 mod texts;
 mod usage;
 mod version1;
-mod worked;
 
 use std::test::Fail;
 
 fn main(rt: HostRuntime) -> Result<(), Fail> {
-    calls::all(&rt)?;
     stories::all(&rt)?;
     scripts::all(&rt)?;
     asked::all(&rt)?;

@@ -20,9 +20,9 @@
 //! stands there that often, with 0, 1, .. in place of each `#` in it, and 0001, 0002, .. in place
 //! of each `%`.
 use crate::ran::{Wanted, do_lines, run, run_explained, run_lines, run_text};
-use crate::sections::section_of;
-use crate::spreading::spread;
 use crate::texts::{remove_book, text_of};
+use cases::sections::section_of;
+use cases::spreading::spread;
 use std::fs;
 use std::test::Fail;
 

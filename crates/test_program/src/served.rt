@@ -1,14 +1,13 @@
 //! A book that is served.
-use crate::messages::message_of;
 use crate::ran::{Wanted, do_lines, run_lines};
 use crate::telling::{hold, tell};
 use crate::texts::{advice, answer, remove_book, text_of};
-use crate::worked::{enrolled, morning};
+use cases::clerks::response_of;
 use commands::{Service, Verbosity, serve_on};
 use std::io::{Read, Write};
 use std::net::{TcpListener, TcpStream};
 use std::test::Fail;
-use store::{Keeper, Moment};
+use store::{Command, Keeper, Moment, ReplayBook, Warehouse, Who, submit};
 
 // The head of the response to the advice; its answer comes after it.
 const HEAD: &str = "HTTP/1.1 200 OK\r\nContent-Type: application/EDI-X12\r\nContent-Length: 265\r\n\
@@ -20,6 +19,23 @@ fn posted(rt: &HostRuntime, interchange: &str) -> Result<String, Fail> {
     Ok(format!(in rt.alloc();
         "POST /x12 HTTP/1.1\r\nHost: localhost\r\nContent-Length: {length}\r\n\r\n{interchange}"
     )?)
+}
+
+// Enrols ZZ ACME.
+fn enrol<K: Keeper>(rt: &HostRuntime, book: &mut K, moment: Moment) -> Result<(), Fail> {
+    let who = Who::new(b"ZZ-ACME").ok_or("a depositor")?;
+    match submit(rt.alloc(), book, &Command::Enrol(who), moment) {
+        Ok(_) => Ok(()),
+        Err(fault) => Err(Fail::new(format_args!("fault {}", fault.number()))),
+    }
+}
+
+// A book in memory of which ZZ ACME is a depositor.
+fn enrolled(rt: &HostRuntime, moment: Moment) -> Result<ReplayBook, Fail> {
+    let who = Who::new(b"ZZ-WHSE1").ok_or("a warehouse")?;
+    let mut book = ReplayBook::new(rt.alloc(), Warehouse::new(who));
+    enrol(rt, &mut book, moment)?;
+    Ok(book)
 }
 
 // What was printed of two connections, and what was told of them on standard error.
@@ -186,7 +202,7 @@ fn are_posted<K: Keeper>(
         other.as_bytes(),
         &POSTED,
     )?;
-    let refused = message_of(rt.alloc(), &text_of(rt, "served/conflict.response")?)?;
+    let refused = response_of(rt.alloc(), &text_of(rt, "served/conflict.response")?)?;
     Ok(answer.as_slice() == response.as_bytes() && conflict.as_slice() == refused.as_bytes())
 }
 
@@ -209,8 +225,8 @@ fn are_not_accepted<K: Keeper>(
 // Clients that wrote before they are served, one after the other: two by the clock, and two at one
 // moment. Where no client waits an accept fails, which is told as 44 and counts as a connection.
 fn each_connection_is_told(rt: &HostRuntime) -> Result<(), Fail> {
-    let moment = morning()?;
-    let mut book = enrolled(rt.alloc(), moment)?;
+    let moment = Moment::new(2025, 3, 4, 9, 15).ok_or("a moment")?;
+    let mut book = enrolled(rt, moment)?;
     let listener = TcpListener::bind(rt, "127.0.0.1:0")?;
     two_answered(
         rt,
@@ -257,8 +273,8 @@ fn are_served<K: Keeper>(
 
 // Only a server that is told to takes what clerks ask for.
 fn clerks_are_served_where_it_is_said(rt: &HostRuntime) -> Result<(), Fail> {
-    let moment = morning()?;
-    let mut book = enrolled(rt.alloc(), moment)?;
+    let moment = Moment::new(2025, 3, 4, 9, 15).ok_or("a moment")?;
+    let mut book = enrolled(rt, moment)?;
     let listener = TcpListener::bind(rt, "127.0.0.1:0")?;
     let without: (&[u8], &str) = (b"404\n404\n", "404 Not Found\n");
     let with: (&[u8], &str) = (b"422\n404\n", "20 UnknownDepositor\n");

@@ -2,8 +2,7 @@
 ghost use Rattle.std.specs.Prelude.{◌≡◌, [], false};
 ghost use Rattle.store.specs.Standing.{IsUsable};
 
-use crate::telling::{hold, tell};
-use crate::worked::{
+use super::worked::{
     ADVICE, ANSWER, RECEIPT, acme, count, empty, faultless, is_accepted, is_stored, morning, ninety,
 };
 use std::alloc::Global;
@@ -180,18 +179,9 @@ fn counted_again(alloc: Global, gets_in: bool) -> Result<Reply, Fail> {
 
 // A count that didn't get in is accepted when it is given again; of one that got in the text is
 // found.
-fn a_count_whose_commit_fails_is_given_again(rt: &HostRuntime) -> Result<(), Fail> {
-    let is_new = is_accepted(&counted_again(rt.alloc(), false)?, RECEIPT);
-    hold(is_new, "a count that didn't get in is accepted")?;
-    let is_known = is_stored(&counted_again(rt.alloc(), true)?, RECEIPT);
-    hold(is_known, "the text of one that got in is found")
-}
-
-/// Plays it.
-pub(super) fn all(rt: &HostRuntime) -> Result<(), Fail> {
-    tell(
-        rt,
-        "a count whose commit fails is given again",
-        a_count_whose_commit_fails_is_given_again(rt),
-    )
+#[test]
+fn a_count_whose_commit_fails_is_given_again(rt: HostRuntime) -> Result<(), Fail> {
+    assert!(rt; is_accepted(&counted_again(rt.alloc(), false)?, RECEIPT));
+    assert!(rt; is_stored(&counted_again(rt.alloc(), true)?, RECEIPT));
+    Ok(())
 }

@@ -1,3 +1,7 @@
+//! What clerks did, and an interchange that is handed in, each asked of a server.
+
+/// One after the other, over a book of ZZ WHSE1 in which ZZ ACME is enrolled, on 2025-03-04 at 09:15.
+pub const CASES: &str = "\
 @case an advice is handed in
 @by document
 @asked POST /x12
@@ -226,3 +230,4 @@ Connection: close
 24 UnknownOrder
 @ends 1
 refused 24 UnknownOrder
+";

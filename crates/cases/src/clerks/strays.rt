@@ -1,3 +1,7 @@
+//! Paths that lead nowhere, and methods that none of them has.
+
+/// One after the other, over the same book.
+pub const CASES: &str = "\
 @case a count is asked for
 @by document
 @asked GET /count/ZZ-ACME/CNT-1/SHP1
@@ -97,3 +101,4 @@ Connection: close
 404 Not Found
 @ends 3
 fault 44 Device
+";

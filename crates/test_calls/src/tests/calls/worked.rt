@@ -1,6 +1,5 @@
-//! The worked example of the tests of calls: ZZ ACME announces 100 BOLT to ZZ WHSE1 on 2025-03-04,
-//! and 90 are counted. bench/sweeps.py takes this file too, for tests that have no files: so its
-//! texts are constants.
+//! The worked example that the calls have in common: ZZ ACME announces 100 BOLT to ZZ WHSE1 on
+//! 2025-03-04, and 90 are counted.
 use profile::Rules;
 use std::alloc::Global;
 use std::test::Fail;
@@ -52,17 +51,6 @@ pub(crate) fn morning() -> Result<Moment, Fail> {
 // A book in memory, of which nobody is a depositor.
 pub(crate) fn empty(alloc: Global) -> Result<ReplayBook, Fail> {
     Ok(ReplayBook::new(alloc, house()?))
-}
-
-// The book of ZZ WHSE1, in which ZZ ACME is enrolled.
-pub(crate) fn enrolled(alloc: Global, moment: Moment) -> Result<ReplayBook, Fail> {
-    let acme = acme()?;
-    let mut book = empty(alloc)?;
-    if enrols(alloc, &mut book, acme, moment) {
-        Ok(book)
-    } else {
-        Err("enrolled".into())
-    }
 }
 
 // A sheet of one line: 90 of BOLT, L1.

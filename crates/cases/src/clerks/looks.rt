@@ -1,3 +1,7 @@
+//! What clerks look at.
+
+/// One after the other, over the book that the deeds (deeds.rt) left.
+pub const CASES: &str = "\
 @case the picking sheet of an unknown order
 @by look
 @asked GET /orders/ZZ-ACME/ORD1
@@ -156,3 +160,4 @@ ZZ-ACME
 @printed
 ZZ-ACME
 @ends 0
+";

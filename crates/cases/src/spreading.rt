@@ -4,8 +4,7 @@ use std::alloc::Global;
 use std::fmt::Write;
 use std::test::Fail;
 
-// Appends a part, with a number in place of each `#`, and the next one in four digits in place of
-// each `%`.
+// Appends a part, with a number in place of each `#`, and the next one in four digits in place of each `%`.
 fn push_numbered(text: &mut String, part: &str, n: u32) -> Result<(), Fail> {
     for c in part.chars() {
         match c {
@@ -27,9 +26,9 @@ fn push_part(text: &mut String, part: &str) -> Result<(), Fail> {
     Ok(())
 }
 
-/// The text with each part in braces as often as it says: `{99:LX*%~}` has 99 of them, numbered
-/// from 1 in four digits. The error is want of memory, or braces that say no number.
-pub(crate) fn spread(alloc: Global, text: &str) -> Result<String, Fail> {
+/// The text with each part in braces as often as it says: `{99:LX*%~}` has 99 of them, numbered from 1 in four digits. The error is want of
+/// memory, or braces that say no number.
+pub fn spread(alloc: Global, text: &str) -> Result<String, Fail> {
     let mut spread = String::new(alloc);
     for piece in text.split('{') {
         match piece.split_once('}') {
