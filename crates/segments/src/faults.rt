@@ -1,7 +1,7 @@
 ghost use Rattle.std.specs.Prelude.{◌≡◌, ◌+◌, ◌<◌, map, option_map, Some, None};
 ghost use Rattle.profile.specs.Elements as meant;
 ghost use Rattle.segments.specs.Rows.{row_of};
-ghost use Rattle.segments.specs.Meant.{meant_element};
+ghost use Rattle.profile.specs.Faults as faults_meant;
 
 use crate::cutting::Segment;
 use crate::delims::Delims;
@@ -12,6 +12,50 @@ use profile::{
     LEAST_TIME, MOST_AGENCY, MOST_SET_CONTROL, MOST_SIDE, MOST_TIME, MOST_VERSION, SEGMENTS_DIGITS,
     SET_BYTES, SETS_DIGITS,
 };
+use std::marker::Model;
+
+/// The element in error of a segment, as AK4 tells it.
+#[derive(Clone, Copy)]
+pub struct ElementFault {
+    /// Its place in the segment, from 1: AK401.
+    pub place: usize,
+    /// What is wrong with it: AK403.
+    pub code: u8,
+}
+
+impl Model for ElementFault {
+    ghost Value = { meant.ElementFault };
+
+    ghost view = { λ f. record { place = f.place; code = f.code } };
+
+    ghost inverse = { λ f. record { place = f.place; code = f.code } };
+}
+
+/// The segment in error of a set, as AK3 and AK4 tell it.
+#[derive(Drop)]
+pub struct SetFault<'a> {
+    /// Its id, AK301; where SE comes too early, the id of the segment that the set wants in its
+    /// place.
+    pub id: &'a [u8],
+    /// Its position in the set, in which ST has 1: AK302.
+    pub position: usize,
+    /// What is wrong with it, AK304: 1 its id is in no set that is read, 2 it may not stand here,
+    /// 3 the set is not complete, 6 its id is only in sets of other kinds, 8 an element is faulty.
+    pub code: u8,
+    /// Its element in error, where the code is 8.
+    pub element: Option<ElementFault>,
+}
+
+impl<'a> Model for SetFault<'a> {
+    ghost Value = { faults_meant.SetFault };
+
+    ghost view = { λ f. record {
+      id = f.id.now;
+      position = f.position;
+      code = f.code;
+      element = f.element;
+    } };
+}
 
 const GS: &[ElementRow] = &[
     must!(Kind::Alphanumeric, FUNCTION_BYTES, FUNCTION_BYTES),
@@ -44,24 +88,29 @@ const IEA: &[ElementRow] = &[
     must!(Kind::Digits, CONTROL_DIGITS, CONTROL_DIGITS),
 ];
 
-/// The least faulty element of a segment by its rows: its place, from 1, and its code (AK401 and
-/// AK403). An element beyond the last row, empty or not, has code 3; None where no element is
-/// faulty.
+/// The least faulty element of a segment by its rows. An element beyond the last row, empty or
+/// not, has code 3; None where no element is faulty.
 pub fn faulty_element(
     delims: &Delims,
     rows: &[ElementRow],
     segment: &Segment<'_>,
-) -> Option<(usize, u8)>
-    ensures { option_map meant_element result
+) -> Option<ElementFault>
+    ensures { result
         ≡ meant.faulty_element delims.now (map row_of rows.now) segment.now.elements }
 {
     for (index, row) in rows.iter().enumerate() {
         if let Some(code) = element_fault(delims, row, segment.element(index + 1)) {
-            return Some((index + 1, code));
+            return Some(ElementFault {
+                place: index + 1,
+                code,
+            });
         }
     }
     if segment.reaches(rows.len() + 1) {
-        Some((rows.len() + 1, 3))
+        Some(ElementFault {
+            place: rows.len() + 1,
+            code: 3,
+        })
     } else {
         None
     }

@@ -18,7 +18,7 @@ pub use begin::cut;
 pub use cutting::{Cut, Segment, part};
 pub use delims::Delims;
 pub use digits::{all_digits, number, value_up_to};
-pub use faults::{faulty_element, is_well_formed};
+pub use faults::{ElementFault, SetFault, faulty_element, is_well_formed};
 pub use idents::{Ident, all_alphanumeric};
 pub use kinds::{ElementRow, Kind, element_fault};
 pub use moments::{Moment, is_day};

@@ -5,10 +5,10 @@ ghost use Rattle.segments.specs.Extends.{Extends};
 ghost use Rattle.sets_out.specs.Appends.{Writes};
 
 use crate::envelopes::{append_se, append_st};
-use crate::told::{ElementFault, Rejection, SegmentFault, ToldGroup, ToldSet};
+use crate::told::{Rejection, ToldGroup, ToldSet};
 use crate::writing::append_segment;
 use itoa::Buffer;
-use segments::Delims;
+use segments::{Delims, ElementFault, SetFault};
 use std::alloc::AllocError;
 
 // AK4 of an element in error, if there is one.
@@ -37,7 +37,7 @@ fn append_element(
 fn append_fault(
     out: &mut Vec<u8>,
     delims: Delims,
-    fault: &Option<SegmentFault<'_>>,
+    fault: &Option<SetFault<'_>>,
 ) -> Result<usize, AllocError>
     ensures ok { IfOk result
         (λ n. Writes delims out.old.items out.new.items (ak3_segments fault.now) n) }

@@ -20,4 +20,4 @@ pub use envelopes::Envelope;
 pub use headings::{Heading, write_ta1};
 pub use interchanges::{Answer, NoteAnswer, Outgoing, write_interchange};
 pub use sheets::{AdjustedLine, CountedLine, Document, PickedLot, Receipt, Shipment, ShippedLine};
-pub use told::{ElementFault, Rejection, SegmentFault, ToldGroup, ToldSet};
+pub use told::{Rejection, ToldGroup, ToldSet};

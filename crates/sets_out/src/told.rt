@@ -1,50 +1,8 @@
-ghost use Rattle.profile.specs.Elements.{ElementFault as MeantElement};
-ghost use Rattle.profile.specs.Faults.{SetFault as MeantFault};
 ghost use Rattle.profile.specs.History.{Rejection as MeantRejection};
 ghost use Rattle.profile.specs.Texts.{ToldSet as MeantSet, Told as Meant};
 
+use segments::SetFault;
 use std::marker::Model;
-
-/// The element in error of a segment, as AK4 tells it.
-#[derive(Clone, Copy)]
-pub struct ElementFault {
-    /// Its place in the segment, from 1: AK401.
-    pub place: usize,
-    /// What is wrong with it: AK403.
-    pub code: u8,
-}
-
-/// The segment in error of a set, as AK3 tells it.
-#[derive(Drop)]
-pub struct SegmentFault<'a> {
-    /// Its id: AK301.
-    pub id: &'a [u8],
-    /// Its position in the set, in which ST has 1: AK302.
-    pub position: usize,
-    /// What is wrong with it: AK304.
-    pub code: u8,
-    /// Its element in error, where it has one.
-    pub element: Option<ElementFault>,
-}
-
-impl Model for ElementFault {
-    ghost Value = { MeantElement };
-
-    ghost view = { λ f. record { place = f.place; code = f.code } };
-
-    ghost inverse = { λ f. record { place = f.place; code = f.code } };
-}
-
-impl<'a> Model for SegmentFault<'a> {
-    ghost Value = { MeantFault };
-
-    ghost view = { λ f. record {
-      id = f.id.now;
-      position = f.position;
-      code = f.code;
-      element = f.element;
-    } };
-}
 
 /// Why a set is rejected.
 #[derive(Drop)]
@@ -52,7 +10,7 @@ pub struct Rejection<'a> {
     /// AK502.
     pub code: u8,
     /// The segment in error, where the code is 5.
-    pub segment: Option<SegmentFault<'a>>,
+    pub segment: Option<SetFault<'a>>,
 }
 
 impl<'a> Model for Rejection<'a> {

@@ -12,8 +12,6 @@ use Rattle.profile.specs.Means.{Advice, advice_of, Order, order_of, Acknowledgme
 use Rattle.profile.specs.Events.{Event, Advised, Ordered, Acknowledged, advice_fault, order_fault}
 use Rattle.profile.specs.Allotment.{order_shares}
 use Rattle.profile.specs.History.{traded, unless, judged, by_segment, Rejection}
-use Rattle.tables.specs.Judged.{meant_fault}
-use Rattle.tables.specs.declared.faults.SetFault.{SetFault as Fault}
 use Rattle.stock.specs.Stops.{StopsFor}
 use Rattle.stock.specs.declared.steps.SetStop.{SetStop}
 use Rattle.stock.specs.declared.steps.SetStop.TheVariants as stopped
@@ -77,6 +75,6 @@ judged_traded r d es n kind k q ps qs is same ruled none of =
     ∙ sym (judged_sound r d es n kind (segments_of ps) (none d of)))
 
 -- a trade fault that stopped it
-pub stopped_by : (outcome : Result Event SetFault) (stop : SetStop) (f : Fault) (r : Rejection) → stop ≡ stopped.Fault f → IsStop outcome stop
-    → r ≡ record { code = 5; segment = Some (meant_fault f) } → by_segment outcome ≡ Err r
-stopped_by outcome stop f r is h same = by_segment_err outcome (meant_fault f) r (subst (IsStop outcome) is h) same
+pub stopped_by : (outcome : Result Event SetFault) (stop : SetStop) (f : SetFault) (r : Rejection) → stop ≡ stopped.Fault f → IsStop outcome stop
+    → r ≡ record { code = 5; segment = Some f } → by_segment outcome ≡ Err r
+stopped_by outcome stop f r is h same = by_segment_err outcome f r (subst (IsStop outcome) is h) same

@@ -10,7 +10,7 @@ use Rattle.profile.specs.Events.{Event}
 use Rattle.profile.specs.History.{Rejection, Verdict as Told, event_of, traded, verdicts_on, Telling, telling_of, events_told, tellings_on}
 use Rattle.profile.specs.Texts.{ToldSet, Told as ToldGroup, told_set, told_of, stated_sets, answered}
 use Rattle.sets_in.specs.Amounts.{IsAmount}
-use Rattle.tables.specs.Judged.{Whole, meant_fault}
+use Rattle.tables.specs.Judged.{Whole}
 use Rattle.stock.specs.Pages.{PageFacts, IsSound}
 use Rattle.stock.specs.Puts.{put, put_change}
 use Rattle.stock.specs.declared.steps.Change.{Change}
@@ -31,7 +31,7 @@ IsStep p es outcome cs = (e : Event) × (outcome ≡ Ok e) × Shows (put cs p) (
 
 -- the trade fault of this outcome, or want of memory
 abbrev pub IsStop : Result Event SetFault → SetStop → Type 0
-IsStop outcome (stopped.Fault f) = outcome ≡ Err (meant_fault f)
+IsStop outcome (stopped.Fault f) = outcome ≡ Err f
 IsStop outcome stopped.OutOfMemory = Unit {0}
 
 -- changes of this outcome are proper, and put in they are the page with its event

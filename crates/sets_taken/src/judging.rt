@@ -11,17 +11,17 @@ ghost use Rattle.profile.specs.Words.{kind_words};
 ghost use Rattle.stock.specs.Pages.{PageFacts};
 ghost use Rattle.stock.specs.Parts.{Named, IsPart};
 ghost use Rattle.stock.specs.Shows.{Shows};
-ghost use Rattle.tables.specs.Judged.{IsClosed, meant_fault};
+ghost use Rattle.tables.specs.Judged.{IsClosed};
 ghost use Rattle.sets_taken.specs.SetNames.{NamesSet};
 ghost use Rattle.sets_taken.specs.Judging.{IsStepOf, IsStopOf, FitsOn, IsVerdict, CanBePut, OnPages};
 
 use profile::Rules;
-use segments::Segment;
+use segments::{Segment, SetFault};
 use sets_in::{ack, advice, order};
-use sets_out::{ElementFault, Rejection, SegmentFault};
+use sets_out::Rejection;
 use std::alloc::{AllocError, Global};
 use stock::{Page, SetStop, Step, acknowledge, announce, reserve};
-use tables::{Checked, SetFault, SetKind, judge};
+use tables::{Checked, SetKind, judge};
 
 /// What a set came to.
 #[derive(Drop)]
@@ -33,21 +33,12 @@ pub(crate) enum Verdict<'a> {
 }
 
 // A rejection for a segment in error.
-fn in_segment<'a>(fault: &SetFault<'a>) -> Rejection<'a>
-    ensures { result ≡ record { code = 5; segment = Some (meant_fault fault.now) } }
+fn in_segment(fault: SetFault<'_>) -> Rejection<'_>
+    ensures { result ≡ record { code = 5; segment = Some fault.entry } }
 {
-    let element = fault.element.map(|(place, code)| ElementFault {
-        place: place as usize,
-        code,
-    });
     Rejection {
         code: 5,
-        segment: Some(SegmentFault {
-            id: fault.segment,
-            position: fault.position as usize,
-            code: fault.code,
-            element,
-        }),
+        segment: Some(fault),
     }
 }
 
@@ -115,7 +106,7 @@ fn settled<'a>(alloc: Global, page: &Page, set: &Checked<'a>) -> Result<Verdict<
 {
     match traded(alloc, page, set) {
         Ok(step) => Ok(Verdict::Passed(step)),
-        Err(SetStop::Fault(fault)) => Ok(Verdict::Rejected(in_segment(&fault))),
+        Err(SetStop::Fault(fault)) => Ok(Verdict::Rejected(in_segment(fault))),
         Err(SetStop::OutOfMemory) => Err(AllocError),
     }
 }
@@ -143,6 +134,6 @@ pub(crate) fn judged<'a>(
 {
     match judge(kind, segments, rules) {
         Ok(set) => settled(alloc, page, &set),
-        Err(fault) => Ok(Verdict::Rejected(in_segment(&fault))),
+        Err(fault) => Ok(Verdict::Rejected(in_segment(fault))),
     }
 }

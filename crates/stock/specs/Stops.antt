@@ -5,7 +5,6 @@ use Rattle.profile.specs.Faults.{SetFault}
 use Rattle.profile.specs.Means.{Acknowledgment}
 use Rattle.profile.specs.Events.{Event}
 use Rattle.profile.specs.declared.refusals.Refusal.{Refusal}
-use Rattle.tables.specs.Judged.{meant_fault}
 use Rattle.stock.specs.declared.steps.SetStop.{SetStop}
 use Rattle.stock.specs.declared.steps.SetStop.TheVariants as sets
 use Rattle.stock.specs.declared.steps.ActStop.{ActStop}
@@ -18,7 +17,7 @@ use Rattle.goods.specs.Steps.{decides}
 
 -- a set's trade fault, or want of memory
 abbrev pub StopsFor : Option SetFault → SetStop → Type 0
-StopsFor fault (sets.Fault f) = fault ≡ Some (meant_fault f)
+StopsFor fault (sets.Fault f) = fault ≡ Some f
 StopsFor fault sets.OutOfMemory = Unit {0}
 
 -- an act's refusal, or want of memory

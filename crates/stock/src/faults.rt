@@ -4,23 +4,22 @@ ghost use Rattle.profile.specs.Events as events;
 ghost use Rattle.goods.specs.Keyed.{IsSorted};
 ghost use Rattle.goods.specs.OfPairs.{date_of_pair};
 ghost use Rattle.sets_in.specs.Limits.{HasFewLines, HasFewOrderLines};
-ghost use Rattle.tables.specs.Judged.{meant_fault};
 
 use crate::places::{is_among, is_redated, placed};
 use goods::{Row, new_line};
+use segments::{ElementFault, SetFault};
 use sets_in::{Advice, AdviceLine, Order, OrderLine};
 use std::alloc::{AllocError, Global};
-use tables::SetFault;
 
 // A trade fault of a segment, at an element of this place.
-fn trade_fault(segment: &'static [u8], position: u32, place: u32) -> SetFault<'static>
-    ensures { meant_fault result ≡ events.trade_fault segment.now position place }
+fn trade_fault(id: &'static [u8], position: u32, place: usize) -> SetFault<'static>
+    ensures { result ≡ events.trade_fault id.now position place }
 {
     SetFault {
-        segment,
-        position,
+        id,
+        position: position as usize,
         code: 8,
-        element: Some((place, 7)),
+        element: Some(ElementFault { place, code: 7 }),
     }
 }
 
@@ -69,8 +68,8 @@ fn sooner(
     fault: Option<SetFault<'static>>,
     other: Option<SetFault<'static>>,
 ) -> Option<SetFault<'static>>
-    ensures { option_map meant_fault result
-        ≡ events.sooner (option_map meant_fault fault.entry) (option_map meant_fault other.entry) }
+    ensures { result
+        ≡ events.sooner fault.entry other.entry }
 {
     let Some(fault) = fault else {
         return other;
@@ -95,7 +94,7 @@ fn pair_fault(
     requires { IsSorted rows.now }
 
     ensures { IfOk result
-        (λ f. option_map meant_fault f
+        (λ f. f
         ≡ events.sooner (events.repeated_pair advice.now) (events.redated_pair
         (λ item lot. date_of_pair item lot rows.now) advice.now)) }
 {
@@ -130,7 +129,7 @@ pub(crate) fn advice_fault(
     requires { IsSorted rows.now }
 
     ensures { IfOk result
-        (λ f. option_map meant_fault f ≡ events.advice_fault_where is_known
+        (λ f. f ≡ events.advice_fault_where is_known
         (λ item lot. date_of_pair item lot rows.now) advice.now) }
 {
     let lines = advice.lines();
@@ -185,7 +184,7 @@ pub(crate) fn order_fault(
     is_known: bool,
 ) -> Result<Option<SetFault<'static>>, AllocError>
     ensures { IfOk result
-        (λ f. option_map meant_fault f ≡ events.order_fault_where is_known order.now) }
+        (λ f. f ≡ events.order_fault_where is_known order.now) }
 {
     let lines = order.lines();
     if is_known {

@@ -2,8 +2,8 @@ ghost use Rattle.std.specs.Prelude.{◌≡◌};
 
 use goods::{Function, KnownAdvice, KnownOrder, Row};
 use profile::Refusal;
+use segments::SetFault;
 use std::alloc::AllocError;
-use tables::SetFault;
 
 /// A row of a depositor's tables that an event changes, as a whole, by its key.
 #[derive(Drop)]

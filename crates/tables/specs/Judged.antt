@@ -1,5 +1,5 @@
--- Faults as they are meant, and a set that has none by some rules.
-use Rattle.std.specs.Prelude.{◌≡◌, ◌-◌, ◌<◌, ◌^◌, List, codes, length, IsTrue, None, Option, option_map}
+-- A set that has no fault by some rules.
+use Rattle.std.specs.Prelude.{◌≡◌, ◌-◌, ◌<◌, ◌^◌, List, codes, length, IsTrue, None, Option}
 use Rattle.profile.specs.declared.rules.Rules.{Rules}
 use Rattle.profile.specs.Cut.{Piece, segments_of, last_segment, has_id}
 use Rattle.profile.specs.Faults as meant
@@ -7,16 +7,6 @@ use Rattle.profile.specs.Bytes.{Delims}
 use Rattle.profile.specs.Faults.{IsFaultOf, set_fault}
 use Rattle.profile.specs.Words.{kind_words}
 use Rattle.profile.specs.declared.set_kind.SetKind.{SetKind}
-use Rattle.segments.specs.Meant.{meant_element}
-use Rattle.tables.specs.declared.faults.SetFault.{SetFault}
-
-abbrev pub meant_fault : SetFault → meant.SetFault
-meant_fault f = record {
-  id = f.segment.now;
-  position = f.position;
-  code = f.code;
-  element = option_map meant_element f.element;
-}
 
 -- SE stands last
 abbrev pub IsClosed : List Piece → Type 0

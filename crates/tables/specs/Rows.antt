@@ -1,8 +1,7 @@
 -- Rows of segments as the program finds them: by an id, and whether a W04 or a W01 stands directly
 -- before.
-use Rattle.std.specs.Prelude.{◌<◌, ℕ, Bool, true, false, List, [], ◌∷◌, codes, bytes_eq, length}
+use Rattle.std.specs.Prelude.{ℕ, Bool, true, false, List, [], ◌∷◌, codes, bytes_eq}
 use Rattle.profile.specs.Bytes.{is_one_of}
-use Rattle.segments.specs.declared.kinds.ElementRow.{ElementRow}
 use Rattle.tables.specs.declared.rows.After.{After}
 use Rattle.tables.specs.declared.rows.After.TheVariants.{Advised, Ordered, Else}
 
@@ -21,7 +20,3 @@ abbrev pub after_advised : After → Bool
 after_advised Advised = true
 after_advised Ordered = false
 after_advised Else = false
-
--- so few rows that a place among them, or after the last, is a small number
-abbrev pub AreFew : List ElementRow → Type 0
-AreFew rows = length rows < 100

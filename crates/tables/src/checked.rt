@@ -2,13 +2,13 @@ ghost use Rattle.std.specs.Prelude.{◌≡◌, ◌<◌, ◌^◌, ◌-◌, codes,
 ghost use Rattle.profile.specs.Cut.{segments_of, last_segment, has_id};
 ghost use Rattle.profile.specs.Words.{kind_words};
 ghost use Rattle.profile.specs.Faults.{IsFaultOf, set_fault};
-ghost use Rattle.tables.specs.Judged.{meant_fault, IsClosed, IsJudged, IsUnfaulted, Whole};
+ghost use Rattle.tables.specs.Judged.{IsClosed, IsJudged, IsUnfaulted, Whole};
 
-use crate::faults::{Progress, SetFault, step};
+use crate::faults::{Progress, step};
 use crate::rows::After;
 use crate::stages::Stage;
 use profile::{Rules, SetKind};
-use segments::{Delims, Segment};
+use segments::{Delims, Segment, SetFault};
 use std::marker::Model;
 
 /// A set without a fault: its kind, the rules by which it was judged, and its segments from ST to
@@ -75,7 +75,7 @@ fn first_fault<'a>(
 ) -> Option<SetFault<'a>>
     requires { length segments.now < 2 ^ 32 - 1 }
 
-    ensures { option_map meant_fault result
+    ensures { result
         ≡ set_fault rules delims.now (kind_words rules kind) (segments_of segments.now) }
 {
     let mut progress = Progress {
@@ -83,7 +83,7 @@ fn first_fault<'a>(
         after: After::Else,
     };
     for (index, segment) in segments.iter().enumerate() {
-        match step(delims, kind, rules, progress, index as u32 + 1, segment) {
+        match step(delims, kind, rules, progress, index + 1, segment) {
             Ok(next) => progress = next,
             Err(fault) => return Some(fault),
         }
@@ -95,7 +95,7 @@ fn first_fault<'a>(
 fn fault_of<'a>(kind: SetKind, segments: &'a [Segment<'a>], rules: Rules) -> Option<SetFault<'a>>
     requires { length segments.now < 2 ^ 32 - 1 }
 
-    ensures { IsJudged rules kind segments.now (option_map meant_fault result) }
+    ensures { IsJudged rules kind segments.now result }
 {
     match segments.first() {
         Some(first) => first_fault(&first.delims(), kind, segments, rules),
@@ -117,7 +117,7 @@ pub fn judge<'a>(
     ensures { MatchResult result
         (λ c. (c.kind ≡ kind) × (c.pieces ≡ segments.now)
         × IsFaultOf rules kind segments.now None × (c.rules ≡ rules))
-        (λ f. IsFaultOf rules kind segments.now (Some (meant_fault f))) }
+        (λ f. IsFaultOf rules kind segments.now (Some f)) }
 {
     match fault_of(kind, segments, rules) {
         Some(fault) => Err(fault),

@@ -5,32 +5,15 @@ ghost use Rattle.profile.specs.declared.rules.Rules.{Rules};
 ghost use Rattle.profile.specs.Words.{words_after, kind_words};
 ghost use Rattle.profile.specs.Faults as meant;
 ghost use Rattle.segments.specs.Rows.{row_of};
-ghost use Rattle.segments.specs.Meant.{meant_element};
 ghost use Rattle.tables.specs.Ids.{text_of};
-ghost use Rattle.tables.specs.Rows.{is_goods, after_goods, is_advised, after_advised, AreFew};
+ghost use Rattle.tables.specs.Rows.{is_goods, after_goods, is_advised, after_advised};
 ghost use Rattle.tables.specs.Stages.{rest_of};
-ghost use Rattle.tables.specs.Judged.{meant_fault};
 
 use crate::ids::Id;
 use crate::rows::{After, rows_of};
 use crate::stages::{Stage, misplaced};
 use profile::{Rules, SetKind};
-use segments::{Delims, ElementRow, Segment, faulty_element};
-
-/// A segment in error of a set, as AK3 and AK4 tell it.
-#[derive(Drop)]
-pub struct SetFault<'a> {
-    /// The id of the segment (AK301); where SE comes too early, of the segment that the set wants
-    /// in its place.
-    pub segment: &'a [u8],
-    /// Its position in the set, ST at 1 (AK302).
-    pub position: u32,
-    /// What is wrong with it (AK304): 1 its id is in no set that is read, 2 it may not stand here,
-    /// 3 the set is not complete, 6 its id is only in sets of other kinds, 8 an element is faulty.
-    pub code: u8,
-    /// The element in error: its place in the segment, from 1 (AK401), and its code (AK403).
-    pub element: Option<(u32, u8)>,
-}
+use segments::{Delims, ElementRow, Segment, SetFault, faulty_element};
 
 /// How far a set has come.
 #[derive(Clone, Copy)]
@@ -40,41 +23,26 @@ pub(crate) struct Progress {
     pub(crate) after: After,
 }
 
-// The least faulty element of a segment by its rows.
-fn element_in_error(
-    delims: &Delims,
-    rows: &[ElementRow],
-    segment: &Segment<'_>,
-) -> Option<(u32, u8)>
-    requires { AreFew rows.now }
-
-    ensures { option_map meant_element result
-        ≡ elements_meant.faulty_element delims.now (map row_of rows.now) segment.now.elements }
-{
-    let (place, code) = faulty_element(delims, rows, segment)?;
-    Some((place as u32, code))
-}
-
 // The fault of a segment that stands where it may.
 fn inner_fault<'a>(
     delims: &Delims,
     id: Id,
     after: After,
     rules: Rules,
-    position: u32,
+    position: usize,
     segment: &Segment<'a>,
 ) -> Option<SetFault<'a>>
     requires { id_of segment.now.elements ≡ text_of id }
 
     ensures { (previous : List ℕ) → after_goods after ≡ is_goods previous
         → after_advised after ≡ is_advised previous
-        → option_map meant_fault result
+        → result
         ≡ meant.inner_fault rules delims.now previous position segment.now.elements }
 {
     let rows = rows_of(id, after, rules)?;
-    let element = element_in_error(delims, rows, segment)?;
+    let element = faulty_element(delims, rows, segment)?;
     Some(SetFault {
-        segment: segment.element(0),
+        id: segment.element(0),
         position,
         code: 8,
         element: Some(element),
@@ -86,13 +54,13 @@ fn place_fault<'a>(
     kind: SetKind,
     stage: Stage,
     id: Id,
-    position: u32,
+    position: usize,
     segment: &Segment<'a>,
 ) -> SetFault<'a>
     requires { id_of segment.now.elements ≡ text_of id }
 
     ensures { (r : Rules)
-        → meant_fault result ≡ meant.place_fault r (kind_words r kind) (rest_of r stage) position
+        → result ≡ meant.place_fault r (kind_words r kind) (rest_of r stage) position
         (id_of segment.now.elements) }
 {
     let wanted = match id {
@@ -100,7 +68,7 @@ fn place_fault<'a>(
         _ => segment.element(0),
     };
     SetFault {
-        segment: wanted,
+        id: wanted,
         position,
         code: misplaced(kind, id),
         element: None,
@@ -108,8 +76,8 @@ fn place_fault<'a>(
 }
 
 // The fault of a segment with an id that is in no set.
-fn unknown_fault<'a>(position: u32, segment: &Segment<'a>) -> SetFault<'a>
-    ensures { meant_fault result ≡ record {
+fn unknown_fault<'a>(position: usize, segment: &Segment<'a>) -> SetFault<'a>
+    ensures { result ≡ record {
       id = id_of segment.now.elements;
       position = position;
       code = 1;
@@ -117,7 +85,7 @@ fn unknown_fault<'a>(position: u32, segment: &Segment<'a>) -> SetFault<'a>
     } }
 {
     SetFault {
-        segment: segment.element(0),
+        id: segment.element(0),
         position,
         code: 1,
         element: None,
@@ -130,7 +98,7 @@ pub(crate) fn step<'a>(
     kind: SetKind,
     rules: Rules,
     progress: Progress,
-    position: u32,
+    position: usize,
     segment: &Segment<'a>,
 ) -> Result<Progress, SetFault<'a>>
     ensures { (previous : List ℕ) → after_goods progress.after ≡ is_goods previous
@@ -143,7 +111,7 @@ pub(crate) fn step<'a>(
         × (after_goods p.after ≡ is_goods (id_of segment.now.elements))
         × (after_advised p.after ≡ is_advised (id_of segment.now.elements)))
         (λ f. meant.fault_at rules delims.now (kind_words rules kind)
-        (rest_of rules progress.stage) previous position segment.now.elements ≡ Some (meant_fault f)) }
+        (rest_of rules progress.stage) previous position segment.now.elements ≡ Some f) }
 {
     let Some(id) = Id::read(segment.element(0)) else {
         return Err(unknown_fault(position, segment));

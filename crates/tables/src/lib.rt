@@ -13,5 +13,4 @@ mod rows;
 mod stages;
 
 pub use checked::{Checked, is_closed, judge};
-pub use faults::SetFault;
 pub use profile::SetKind;

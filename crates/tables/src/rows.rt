@@ -3,7 +3,7 @@ ghost use Rattle.profile.specs.Elements as meant;
 ghost use Rattle.profile.specs.Faults.{rows_after};
 ghost use Rattle.segments.specs.Rows.{row_of};
 ghost use Rattle.tables.specs.Ids.{text_of};
-ghost use Rattle.tables.specs.Rows.{is_goods, after_goods, is_advised, after_advised, AreFew};
+ghost use Rattle.tables.specs.Rows.{is_goods, after_goods, is_advised, after_advised};
 
 use crate::ids::Id;
 use profile::{
@@ -194,8 +194,7 @@ impl After {
 
 // The rows of W04 and W01.
 fn rows_of_goods(rules: Rules) -> &'static [ElementRow]
-    ensures rows { map row_of result.now ≡ meant.goods_rows rules }
-    ensures few { AreFew result.now }
+    ensures { map row_of result.now ≡ meant.goods_rows rules }
 {
     match rules {
         Rules::One => GOODS,
@@ -205,8 +204,7 @@ fn rows_of_goods(rules: Rules) -> &'static [ElementRow]
 
 // The rows of an N9 after a W04.
 fn advised_lot(rules: Rules) -> &'static [ElementRow]
-    ensures rows { map row_of result.now ≡ meant.lot_rows rules (codes "W04") }
-    ensures few { AreFew result.now }
+    ensures { map row_of result.now ≡ meant.lot_rows rules (codes "W04") }
 {
     match rules {
         Rules::One => LOT,
@@ -216,9 +214,8 @@ fn advised_lot(rules: Rules) -> &'static [ElementRow]
 
 // The rows of W03.
 fn advice_total(rules: Rules) -> &'static [ElementRow]
-    ensures rows { map row_of result.now
+    ensures { map row_of result.now
         ≡ meant.must meant.Quantity 1 (meant.advice_total_digits rules) ∷ [] }
-    ensures few { AreFew result.now }
 {
     match rules {
         Rules::One => W03,
@@ -228,9 +225,8 @@ fn advice_total(rules: Rules) -> &'static [ElementRow]
 
 // The rows of W76.
 fn order_total(rules: Rules) -> &'static [ElementRow]
-    ensures rows { map row_of result.now
+    ensures { map row_of result.now
         ≡ meant.must meant.Quantity 1 (meant.order_total_digits rules) ∷ [] }
-    ensures few { AreFew result.now }
 {
     match rules {
         Rules::One => W76,
@@ -240,10 +236,9 @@ fn order_total(rules: Rules) -> &'static [ElementRow]
 
 // The rows of an N9, by what it stands after.
 fn reference(after: After, rules: Rules) -> &'static [ElementRow]
-    ensures rows { (previous : List ℕ) → after_goods after ≡ is_goods previous
+    ensures { (previous : List ℕ) → after_goods after ≡ is_goods previous
         → after_advised after ≡ is_advised previous
         → Some (map row_of result.now) ≡ rows_after rules previous (codes "N9") }
-    ensures few { AreFew result.now }
 {
     match after {
         After::Advised => advised_lot(rules),
@@ -254,10 +249,9 @@ fn reference(after: After, rules: Rules) -> &'static [ElementRow]
 
 /// The rows of a segment with the id, by what it stands after; None for ST and SE.
 pub(crate) fn rows_of(id: Id, after: After, rules: Rules) -> Option<&'static [ElementRow]>
-    ensures rows { (previous : List ℕ) → after_goods after ≡ is_goods previous
+    ensures { (previous : List ℕ) → after_goods after ≡ is_goods previous
         → after_advised after ≡ is_advised previous
         → option_map (λ r. map row_of r.now) result ≡ rows_after rules previous (text_of id) }
-    ensures few { IfSome result (λ r. AreFew r.now) }
 {
     match id {
         Id::St | Id::Se => None,

@@ -5,12 +5,12 @@ use cases::sets::{ACKNOWLEDGMENTS, ADVICES, LATER_ADVICES, LATER_ORDERS, ORDERS}
 use cases::spreading::spread;
 use profile::Rules;
 use reports::{outbox_list, stock_csv, stock_report};
-use segments::{Delims, Segment, cut};
+use segments::{Delims, ElementFault, Segment, SetFault, cut};
 use std::alloc::{AllocError, Global};
 use std::fmt::Write;
 use std::test::Fail;
 use store::{Command, DocumentState, Keeper, Moment, OutKind, OutRow, Reply, StockRow, submit};
-use tables::{SetFault, SetKind, is_closed, judge};
+use tables::{SetKind, is_closed, judge};
 
 // The segments of a text with the delimiters of documents.
 fn segments_of(alloc: Global, text: &[u8]) -> Result<Vec<Segment<'_>>, AllocError> {
@@ -23,10 +23,12 @@ fn segments_of(alloc: Global, text: &[u8]) -> Result<Vec<Segment<'_>>, AllocErro
 
 // A fault as the cases write it.
 fn told(alloc: Global, fault: &SetFault<'_>) -> Result<String, Fail> {
-    let id = std::str::from_utf8(fault.segment)?;
+    let id = std::str::from_utf8(fault.id)?;
     let (position, code) = (fault.position, fault.code);
     match fault.element {
-        Some((place, wrong)) => Ok(format!(in alloc; "{id} {position} {code} {place} {wrong}")?),
+        Some(ElementFault { place, code: wrong }) => {
+            Ok(format!(in alloc; "{id} {position} {code} {place} {wrong}")?)
+        }
         None => Ok(format!(in alloc; "{id} {position} {code}")?),
     }
 }
