@@ -1,2 +1,3 @@
 pub mod Growing
-mod Ending
+pub mod Ending
+pub mod Wholes
