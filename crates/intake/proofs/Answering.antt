@@ -8,12 +8,10 @@ use Rattle.httparse.specs.declared.spans.HeaderSpan.{HeaderSpan}
 use Rattle.httparse.specs.declared.spans.RequestSpans.{RequestSpans}
 use Rattle.profile.specs.Header.{Who}
 use Rattle.profile.specs.Moments.{Moment}
-use Rattle.profile.specs.Register.{Entry}
 use Rattle.profile.specs.Response.{Response, Method, Head, bare, stated_length, fault_response}
 use Rattle.store.specs.Standing.{Standing}
 use Rattle.store.specs.Fault.TheVariants.{OutOfMemory}
 use Rattle.store.proofs.Changes.{unchanged_refl}
-use Rattle.intake.specs.Asking.{target_asks, IsShutAnswer}
 use Rattle.intake.specs.Fields.{head_of}
 use Rattle.intake.specs.Lines.{IsLineAt, TellsOf, HasLine, TellsSender, sender_in}
 use Rattle.intake.specs.declared.audience.Audience.{Audience}
@@ -22,14 +20,14 @@ use Rattle.intake.specs.declared.served.RequestLine.{RequestLine}
 use Rattle.fields.specs.Fields.{most_head, most_fields}
 use Rattle.gauges.specs.Inputs.{IsInput}
 use Rattle.intake.specs.Requests.{HasNoHead}
-use Rattle.intake.specs.Serving.{IsAnswered, IsExchange, IsExchangeAfter, command_in, answer_of}
-use Rattle.intake.specs.Targets.{Target, target_of, target_command, target_resp, has_body, asked_with, command_with}
+use Rattle.intake.specs.Serving.{IsAnswered, IsExchange, IsExchangeAfter, IsTargetServed, command_in, answer_of}
+use Rattle.intake.specs.Targets.{Target, target_of, target_command, has_body, asked_with, command_with}
 use Rattle.intake.proofs.Heads.{head_within}
 use Rattle.gauges.proofs.InputLemmas.{had_input, more_input}
 use Rattle.intake.proofs.Filling.{own_input}
 use Rattle.intake.proofs.Aimed.{submits, to_request}
 use Rattle.intake.proofs.Answered.{no_memory}
-use Rattle.intake.proofs.Asked.{unasked, starved, asked_by}
+use Rattle.intake.proofs.Asked.{asked_by}
 
 -- what is asked for, by each of the tests
 module _ (h : Head) (to : Target) (rest : List ℕ) where
@@ -77,7 +75,7 @@ module _ (audience : Audience) (known : Option (List ℕ)) (t : Moment) (h : Req
       is_input = i;
       sent = sent_with (start ++ input) (Err status) q none;
       answered = to_request s s t r audience h (start ++ input) (Err status) q (at_error s t (bare status) r is);
-      shut = asked_by s r audience h (start ++ input) (Err status) q (unasked s false r refl);
+      shut = asked_by s r audience h (start ++ input) (Err status) q (λ was yes. cc);
     }
 
     pub encoded : (head_of h).is_encoded ≡ true → r ≡ bare 501 → sender ≡ None → IsExchangeAfter audience s s known t h start r sender
@@ -99,42 +97,37 @@ module _ (audience : Audience) (known : Option (List ℕ)) (t : Moment) (h : Req
       input = unwrap_or known [];
       is_input = own_input known;
       sent = inr (none, is);
-      answered = no_memory s t _ _ r is;
-      shut = starved s _ r is;
+      answered = (no_memory s t _ _ false r is).answered;
+      shut = λ was yes. inr is;
     }
 
   -- by the book
   module _ (old new : Standing) where
-    -- an answer to a request with this body
+    -- a request with this body is served
     abbrev pub Told : List ℕ → Type 0
-    Told body = IsAnswered old new t (target_command (head_of h).method (target_of audience h.target) body)
-        (λ L. target_resp old.warehouse L (head_of h).method (target_of audience h.target) body t) r
-
-    -- as a book that has to be opened again does
-    abbrev pub Shut : List ℕ → Type 0
-    Shut body = IsShutAnswer old (target_asks (head_of h).method (target_of audience h.target) body) r
+    Told body = IsTargetServed old new t (head_of h).method (target_of audience h.target) body r
 
     -- and its sender is told
     abbrev pub Sent : List ℕ → Type 0
     Sent body = sender ≡ sender_in (target_command (head_of h).method (target_of audience h.target) body)
 
-    pub queried : (head_of h).is_encoded ≡ false → has_body (head_of h).method (target_of audience h.target) ≡ false → Told [] → Shut [] → Sent []
+    pub queried : (head_of h).is_encoded ≡ false → has_body (head_of h).method (target_of audience h.target) ≡ false → Told [] → Sent []
         → IsExchangeAfter audience old new known t h start r sender
-    queried e x is shut from =
+    queried e x is from =
         let rest : List ℕ = start ++ unwrap_or known [] in
         let q : asked_with (head_of h) (target_of audience h.target) rest ≡ Ok [] = asked_else (head_of h) _ rest e x in
         record {
           input = unwrap_or known [];
           is_input = own_input known;
           sent = sent_with rest (Ok []) q from;
-          answered = to_request old new t r audience h rest (Ok []) q is;
-          shut = asked_by old r audience h rest (Ok []) q shut;
+          answered = to_request old new t r audience h rest (Ok []) q is.answered;
+          shut = asked_by old r audience h rest (Ok []) q is.shut;
         }
 
     pub handed : (n : ℕ) (input body tail : List ℕ) → tail ≡ start → IsInput known input → (head_of h).is_encoded ≡ false
         → has_body (head_of h).method (target_of audience h.target) ≡ true → stated_length (head_of h).lengths ≡ Ok n
-        → n ≤ length (tail ++ input) → body ≡ take n (tail ++ input) → Told body → Shut body → Sent body → IsExchangeAfter audience old new known t h start r sender
-    handed n input body tail same i e x l fits b is shut from =
+        → n ≤ length (tail ++ input) → body ≡ take n (tail ++ input) → Told body → Sent body → IsExchangeAfter audience old new known t h start r sender
+    handed n input body tail same i e x l fits b is from =
         let q : asked_with (head_of h) (target_of audience h.target) (start ++ input) ≡ Ok body =
         asked_whole (head_of h) _ (start ++ input) n e x l (subst (λ (k : List ℕ). n ≤ length (k ++ input)) same fits)
         ∙ ap (λ (k : List ℕ). Ok k) (sym (b ∙ ap (λ (k : List ℕ). take n (k ++ input)) same)) in
@@ -142,20 +135,17 @@ module _ (audience : Audience) (known : Option (List ℕ)) (t : Moment) (h : Req
           input = input;
           is_input = i;
           sent = sent_with (start ++ input) (Ok body) q from;
-          answered = to_request old new t r audience h (start ++ input) (Ok body) q is;
-          shut = asked_by old r audience h (start ++ input) (Ok body) q shut;
+          answered = to_request old new t r audience h (start ++ input) (Ok body) q is.answered;
+          shut = asked_by old r audience h (start ++ input) (Ok body) q is.shut;
         }
 
--- an answer by a method and a target is one by those of the head
+-- what is served by a method and a target is served by those of the head
 pub at_head : (audience : Audience) (old new : Standing) (t : Moment) (h : RequestHead) (m : Method) (to : Target) (body : List ℕ) (r : Response)
     → (head_of h).method ≡ m → target_of audience h.target ≡ to
-    → IsAnswered old new t (target_command m to body) (λ L. target_resp old.warehouse L m to body t) r
-    → IsAnswered old new t (target_command (head_of h).method (target_of audience h.target) body)
-    (λ L. target_resp old.warehouse L (head_of h).method (target_of audience h.target) body t) r
+    → IsTargetServed old new t m to body r → IsTargetServed old new t (head_of h).method (target_of audience h.target) body r
 at_head audience old new t h m to body r e f is =
-    let at : Target = target_of audience h.target in
-    subst (λ (k : Method). IsAnswered old new t (target_command k at body) (λ (L : List Entry). target_resp old.warehouse L k at body t) r) (sym e)
-    (subst (λ (k : Target). IsAnswered old new t (target_command m k body) (λ (L : List Entry). target_resp old.warehouse L m k body t) r) (sym f) is)
+    subst (λ (k : Method). IsTargetServed old new t k (target_of audience h.target) body r) (sym e)
+    (subst (λ (k : Target). IsTargetServed old new t m k body r) (sym f) is)
 
 -- and so the sender
 pub from_head : (audience : Audience) (h : RequestHead) (m : Method) (to : Target) (body : List ℕ) (sender : Option Who)
@@ -220,5 +210,5 @@ headless_answer audience s t known mid got r sender bytes none is unsent = recor
   told = tt;
   sent = unsent_by audience r sender unsent;
   answered = headless audience s t r is;
-  shut = unasked s false r refl;
+  shut = λ was yes. cc;
 }

@@ -7,23 +7,25 @@ use Rattle.profile.specs.Register.{Entry, Interchange}
 use Rattle.profile.specs.Accepted.{reply_to}
 use Rattle.profile.specs.Response.{Response, Route, ToExchange, ToStock, ToOutbox, ToContent, Nowhere, Post, OtherMethod, is_exchange, resp, reply_response}
 use Rattle.store.specs.Standing.{Standing}
+use Rattle.store.specs.Fault.TheVariants.{Reopen}
 use Rattle.store.proofs.Changes.{unchanged_refl}
-use Rattle.intake.specs.Serving.{IsAnswered, IsRouteAnswered}
+use Rattle.intake.specs.Asking.{IsResponseOf}
+use Rattle.intake.specs.Serving.{IsRequestServed, IsRouteServed}
 use Rattle.intake.proofs.Answered.{shown}
 
 -- anywhere else POST is as any other method but GET
 pub posted_elsewhere : (s : Standing) (t : Moment) (body : List ℕ) (answer : Response) (r : Route) → is_exchange Post r ≡ false
     → ((W : Who) (L : List Entry) (b : List ℕ) (at : Moment) → answer ≡ resp Two W L OtherMethod r b at)
-    → IsRouteAnswered s s t Post r body answer
+    → IsRouteServed s s t Post r body (IsResponseOf Reopen) answer
 posted_elsewhere s t body answer ToExchange e is = cc
-posted_elsewhere s t body answer (ToStock who) e is = shown s s t _ answer (λ clean L keeps legal. is s.warehouse L body t) (unchanged_refl s)
-posted_elsewhere s t body answer (ToOutbox who) e is = shown s s t _ answer (λ clean L keeps legal. is s.warehouse L body t) (unchanged_refl s)
-posted_elsewhere s t body answer (ToContent who n) e is = shown s s t _ answer (λ clean L keeps legal. is s.warehouse L body t) (unchanged_refl s)
-posted_elsewhere s t body answer Nowhere e is = shown s s t _ answer (λ clean L keeps legal. is s.warehouse L body t) (unchanged_refl s)
+posted_elsewhere s t body answer (ToStock who) e is = shown s s t _ _ _ answer (λ clean L keeps legal. is s.warehouse L body t) (unchanged_refl s) (λ was yes. cc)
+posted_elsewhere s t body answer (ToOutbox who) e is = shown s s t _ _ _ answer (λ clean L keeps legal. is s.warehouse L body t) (unchanged_refl s) (λ was yes. cc)
+posted_elsewhere s t body answer (ToContent who n) e is = shown s s t _ _ _ answer (λ clean L keeps legal. is s.warehouse L body t) (unchanged_refl s) (λ was yes. cc)
+posted_elsewhere s t body answer Nowhere e is = shown s s t _ _ _ answer (λ clean L keeps legal. is s.warehouse L body t) (unchanged_refl s) (λ was yes. cc)
 
 pub posted_there : (old new : Standing) (t : Moment) (body : List ℕ) (answer : Response) (r : Route) → is_exchange Post r ≡ true
-    → IsAnswered old new t (Some (Interchange body)) (λ L. reply_response (reply_to Two old.warehouse L (Interchange body) t)) answer
-    → IsRouteAnswered old new t Post r body answer
+    → IsRequestServed old new t (Some (Interchange body)) (λ L. reply_response (reply_to Two old.warehouse L (Interchange body) t)) true (IsResponseOf Reopen) answer
+    → IsRouteServed old new t Post r body (IsResponseOf Reopen) answer
 posted_there old new t body answer ToExchange e is = is
 posted_there old new t body answer (ToStock who) e is = cc
 posted_there old new t body answer (ToOutbox who) e is = cc

@@ -57,8 +57,11 @@ asks_in audience (Some h) rest =
 abbrev pub IsResponseOf : Fault → Response → Type 0
 IsResponseOf fault r = r ≡ fault_response fault
 
--- A book that has to be opened again says so, by 42, to whatever asks it for anything; where memory
--- for the request itself is wanting, before the book is asked, that is 40.
+-- A book that has to be opened again says so, by 42; where memory for the request itself is
+-- wanting, before the book is asked, that is 40.
+abbrev pub IsShutResponse : Response → Type 0
+IsShutResponse r = IsResponseOf Reopen r ⊎ IsResponseOf OutOfMemory r
+
+-- It says so to whatever asks it for anything.
 abbrev pub IsShutAnswer : Standing → Bool → Response → Type 0
-IsShutAnswer old asks r = old.shut ≡ true → asks ≡ true → IsResponseOf Reopen r
-    ⊎ IsResponseOf OutOfMemory r
+IsShutAnswer old asks r = old.shut ≡ true → asks ≡ true → IsShutResponse r

@@ -1,5 +1,5 @@
 -- What a request is answered, and what it leaves of the book.
-use Rattle.std.specs.Prelude.{◌≡◌, ◌⊎◌, ℕ, false, List, ◌++◌, Option, Some, None, IfSome, option_map, length}
+use Rattle.std.specs.Prelude.{◌≡◌, ◌⊎◌, ℕ, Bool, true, false, List, ◌++◌, Option, Some, None, IfSome, option_map, length}
 use Rattle.httparse.specs.Grammar.{RequestHead}
 use Rattle.profile.specs.declared.rules.Rules.TheVariants.{Two}
 use Rattle.profile.specs.Moments.{Moment}
@@ -7,11 +7,11 @@ use Rattle.profile.specs.Header.{Who}
 use Rattle.profile.specs.Register.{Command, Entry, Interchange}
 use Rattle.profile.specs.Accepted.{is_accepted, reply_to, after}
 use Rattle.profile.specs.Response.{Method, Route, Response, fault_response, resp, response_to, submitted, response_bytes}
-use Rattle.store.specs.Standing.{Standing, IsUsable, IsUnchanged, IsFault, LeavesEither, OfKept, OfUsable}
+use Rattle.store.specs.Standing.{Standing, IsUsable, IsUnchanged, IsFault, GoesOn, LeavesEither, OfKept, OfUsable}
 use Rattle.store.specs.Fault.{Fault}
 use Rattle.std.specs.Io.KnownBytes.{Appends}
 use Rattle.gauges.specs.Gauges.{Grew, AppendsBeginning}
-use Rattle.intake.specs.Asking.{asks_in, IsShutAnswer}
+use Rattle.intake.specs.Asking.{asks_in, route_asks, call_asks, target_asks, IsShutAnswer, IsShutResponse}
 use Rattle.gauges.specs.Inputs.{IsInput}
 use Rattle.intake.specs.Requests.{HasRequestHead, HasNoHead}
 use Rattle.intake.specs.Fields.{head_of}
@@ -77,21 +77,34 @@ abbrev pub IsAnswered : Standing → Standing → Moment → Option Command → 
 IsAnswered old new t submits meant r = IsAsDefined old new t submits meant r
     ⊎ IsFaulted old new t submits r
 
+-- A request is served: it is answered so, no count falls and the warehouse is the same, and a book
+-- that has to be opened again says so, if it is asked for anything.
+pub record IsRequestServed
+    (old new : Standing) (t : Moment) (submits : Option Command) (meant : List Entry → Response)
+    (asks : Bool) (says : Response → Type 0) (r : Response) : Type 0 where
+  pub answered : IsAnswered old new t submits meant r
+  pub goes : GoesOn old new
+  pub shut : old.shut ≡ true → asks ≡ true → says r
+
 -- the same of what is asked at a route, of a target, and of what a path calls for, with this body
-abbrev pub IsRouteAnswered : Standing → Standing → Moment → Method → Route → List ℕ → Response
-    → Type 0
-IsRouteAnswered old new t method route body r = IsAnswered old new t (handed_in method route body)
-    (λ L. resp Two old.warehouse L method route body t) r
+abbrev pub IsRouteServed : Standing → Standing → Moment → Method → Route → List ℕ
+    → (Response → Type 0) → Response → Type 0
+IsRouteServed old new t method route body says r =
+    IsRequestServed old new t (handed_in method route body)
+    (λ L. resp Two old.warehouse L method route body t) (route_asks method route) says r
 
-abbrev pub IsTargetAnswered : Standing → Standing → Moment → Method → Target → List ℕ → Response
+abbrev pub IsTargetServed : Standing → Standing → Moment → Method → Target → List ℕ → Response
     → Type 0
-IsTargetAnswered old new t method to body r = IsAnswered old new t (target_command method to body)
-    (λ L. target_resp old.warehouse L method to body t) r
+IsTargetServed old new t method to body r =
+    IsRequestServed old new t (target_command method to body)
+    (λ L. target_resp old.warehouse L method to body t) (target_asks method to body)
+    IsShutResponse r
 
-abbrev pub IsCallAnswered : Standing → Standing → Moment → Method → Call → List ℕ → Response
-    → Type 0
-IsCallAnswered old new t method call body r = IsAnswered old new t (call_command method call body)
-    (λ L. call_resp old.warehouse L method call body t) r
+abbrev pub IsCallServed : Standing → Standing → Moment → Method → Call → List ℕ → Response → Type 0
+IsCallServed old new t method call body r =
+    IsRequestServed old new t (call_command method call body)
+    (λ L. call_resp old.warehouse L method call body t) (call_asks method call body)
+    IsShutResponse r
 
 -- what an input begins with: a head, and what is after it; or none
 abbrev pub BeginsWith : List ℕ → Option RequestHead → List ℕ → Type 0

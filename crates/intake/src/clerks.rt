@@ -1,14 +1,13 @@
 //! What clerks are answered.
-ghost use Rattle.std.specs.Prelude.{◌≡◌, Some, true};
+ghost use Rattle.std.specs.Prelude.{Some, true};
 ghost use Rattle.profile.specs.declared.rules.Rules.TheVariants.{Two};
 ghost use Rattle.profile.specs.Accepted.{reply_to};
 ghost use Rattle.profile.specs.Response.{Get, Post};
-ghost use Rattle.store.specs.Standing.{GoesOn};
 ghost use Rattle.intake.specs.Answers.{seen};
-ghost use Rattle.intake.specs.Asking.{call_asks, IsResponseOf, IsShutAnswer};
+ghost use Rattle.intake.specs.Asking.{IsResponseOf};
 ghost use Rattle.intake.specs.Calls.{deed_reply};
 ghost use Rattle.intake.specs.Fields.{seen_method};
-ghost use Rattle.intake.specs.Serving.{IsAnswered, IsCallAnswered};
+ghost use Rattle.intake.specs.Serving.{IsRequestServed, IsCallServed};
 ghost use Rattle.intake.specs.Slips.{command_of};
 ghost use Rattle.intake.specs.Targets.{seen_call, seen_deed};
 
@@ -23,12 +22,10 @@ use store::{Fault, Keeper, Moment, submit};
 
 // Submits what a clerk did.
 fn performed<K: Keeper>(alloc: Global, keeper: &mut K, slip: &Slip<'_>, moment: Moment) -> Response
-    ensures answered { let c = command_of slip.now.who slip.now.deed slip.now.sheet in
-        IsAnswered (K.standing keeper.old) (K.standing keeper.new) moment (Some c)
+    ensures { let c = command_of slip.now.who slip.now.deed slip.now.sheet in
+        IsRequestServed (K.standing keeper.old) (K.standing keeper.new) moment (Some c)
         (λ L. deed_reply (reply_to Two (K.standing keeper.old).warehouse L c moment))
-        (seen result) }
-    ensures goes { GoesOn (K.standing keeper.old) (K.standing keeper.new) }
-    ensures shut { (K.standing keeper.old).shut ≡ true → IsResponseOf Fault.Reopen (seen result) }
+        true (IsResponseOf Fault.Reopen) (seen result) }
 {
     match submit(alloc, keeper, &command(slip), moment) {
         Ok(reply) => of_deed(reply),
@@ -44,11 +41,8 @@ fn deed_at<K: Keeper>(
     body: &[u8],
     moment: Moment,
 ) -> Response
-    ensures answered { IsCallAnswered (K.standing keeper.old) (K.standing keeper.new) moment
+    ensures { IsCallServed (K.standing keeper.old) (K.standing keeper.new) moment
         Post (seen_deed deed.now) body.now (seen result) }
-    ensures goes { GoesOn (K.standing keeper.old) (K.standing keeper.new) }
-    ensures shut { IsShutAnswer (K.standing keeper.old)
-        (call_asks Post (seen_deed deed.now) body.now) (seen result) }
 {
     let Ok(made) = slip_of(alloc, deed, body) else {
         return of_fault(Fault::OutOfMemory);
@@ -67,11 +61,8 @@ fn posted_to<K: Keeper>(
     body: &[u8],
     moment: Moment,
 ) -> Response
-    ensures answered { IsCallAnswered (K.standing keeper.old) (K.standing keeper.new) moment
+    ensures { IsCallServed (K.standing keeper.old) (K.standing keeper.new) moment
         Post (seen_call call.now) body.now (seen result) }
-    ensures goes { GoesOn (K.standing keeper.old) (K.standing keeper.new) }
-    ensures shut { IsShutAnswer (K.standing keeper.old)
-        (call_asks Post (seen_call call.now) body.now) (seen result) }
 {
     match *call {
         Call::Deed(deed) => deed_at(alloc, keeper, &deed, body, moment),
@@ -87,11 +78,8 @@ fn got_from<K: Keeper>(
     body: &[u8],
     moment: Moment,
 ) -> Response
-    ensures answered { IsCallAnswered (K.standing keeper.old) (K.standing keeper.new) moment
+    ensures { IsCallServed (K.standing keeper.old) (K.standing keeper.new) moment
         Get (seen_call call.now) body.now (seen result) }
-    ensures goes { GoesOn (K.standing keeper.old) (K.standing keeper.new) }
-    ensures shut { IsShutAnswer (K.standing keeper.old)
-        (call_asks Get (seen_call call.now) body.now) (seen result) }
 {
     match looked_at(alloc, keeper, call) {
         Ok(response) => response,
@@ -109,11 +97,8 @@ pub(crate) fn called<K: Keeper>(
     body: &[u8],
     moment: Moment,
 ) -> Response
-    ensures answered { IsCallAnswered (K.standing keeper.old) (K.standing keeper.new) moment
+    ensures { IsCallServed (K.standing keeper.old) (K.standing keeper.new) moment
         (seen_method method) (seen_call call.now) body.now (seen result) }
-    ensures goes { GoesOn (K.standing keeper.old) (K.standing keeper.new) }
-    ensures shut { IsShutAnswer (K.standing keeper.old)
-        (call_asks (seen_method method) (seen_call call.now) body.now) (seen result) }
 {
     match method {
         MethodKind::Get => got_from(alloc, keeper, call, body, moment),

@@ -1,14 +1,13 @@
-ghost use Rattle.std.specs.Prelude.{◌≡◌, Some, true};
+ghost use Rattle.std.specs.Prelude.{Some, true};
 ghost use Rattle.profile.specs.declared.rules.Rules.TheVariants.{Two};
 ghost use Rattle.profile.specs.Accepted.{reply_to};
 ghost use Rattle.profile.specs.Register.{Interchange};
 ghost use Rattle.profile.specs.Response.{Post, reply_response};
-ghost use Rattle.store.specs.Standing.{GoesOn};
 ghost use Rattle.intake.specs.Answers.{seen};
-ghost use Rattle.intake.specs.Asking.{route_asks, IsResponseOf, IsShutAnswer};
+ghost use Rattle.intake.specs.Asking.{IsResponseOf, IsShutResponse};
 ghost use Rattle.intake.specs.Fields.{seen_method, method_of};
 ghost use Rattle.intake.specs.Routes.{seen_route, route_of};
-ghost use Rattle.intake.specs.Serving.{IsAnswered, IsRouteAnswered};
+ghost use Rattle.intake.specs.Serving.{IsRequestServed, IsRouteServed};
 
 use crate::heading::{MethodKind, read_method};
 use crate::queries::{got, not_served};
@@ -21,12 +20,10 @@ use store::{Command, Fault, Keeper, Moment, submit};
 
 // Hands an interchange in.
 fn hand_in<K: Keeper>(alloc: Global, keeper: &mut K, body: &[u8], moment: Moment) -> Response
-    ensures answered { IsAnswered (K.standing keeper.old) (K.standing keeper.new) moment
-        (Some (Interchange body.now))
-        (λ L. reply_response (reply_to Two (K.standing keeper.old).warehouse L
-        (Interchange body.now) moment)) (seen result) }
-    ensures goes { GoesOn (K.standing keeper.old) (K.standing keeper.new) }
-    ensures shut { (K.standing keeper.old).shut ≡ true → IsResponseOf Fault.Reopen (seen result) }
+    ensures { let c = Interchange body.now in
+        IsRequestServed (K.standing keeper.old) (K.standing keeper.new) moment (Some c)
+        (λ L. reply_response (reply_to Two (K.standing keeper.old).warehouse L c moment))
+        true (IsResponseOf Fault.Reopen) (seen result) }
 {
     match submit(alloc, keeper, &Command::Interchange(body), moment) {
         Ok(reply) => of_reply(reply),
@@ -42,12 +39,8 @@ fn posted<K: Keeper>(
     body: &[u8],
     moment: Moment,
 ) -> Response
-    ensures answered { IsRouteAnswered (K.standing keeper.old) (K.standing keeper.new) moment
-        Post (seen_route route.now) body.now (seen result) }
-    ensures goes { GoesOn (K.standing keeper.old) (K.standing keeper.new) }
-    ensures shut { (K.standing keeper.old).shut ≡ true
-        → route_asks Post (seen_route route.now) ≡ true
-        → IsResponseOf Fault.Reopen (seen result) }
+    ensures { IsRouteServed (K.standing keeper.old) (K.standing keeper.new) moment
+        Post (seen_route route.now) body.now (IsResponseOf Fault.Reopen) (seen result) }
 {
     if !is_handed_in(MethodKind::Post, route) {
         return not_served(route);
@@ -65,12 +58,9 @@ pub(crate) fn respond_at<K: Keeper>(
     body: &[u8],
     moment: Moment,
 ) -> Response
-    ensures answered { IsRouteAnswered (K.standing keeper.old) (K.standing keeper.new) moment
-        (seen_method method) (seen_route route.now) body.now (seen result) }
-    ensures goes { GoesOn (K.standing keeper.old) (K.standing keeper.new) }
-    ensures shut { (K.standing keeper.old).shut ≡ true
-        → route_asks (seen_method method) (seen_route route.now) ≡ true
-        → IsResponseOf Fault.Reopen (seen result) }
+    ensures { IsRouteServed (K.standing keeper.old) (K.standing keeper.new) moment
+        (seen_method method) (seen_route route.now) body.now (IsResponseOf Fault.Reopen)
+        (seen result) }
 {
     match method {
         MethodKind::Get => match got(alloc, keeper, route) {
@@ -97,11 +87,8 @@ pub fn respond<K: Keeper>(
     body: &[u8],
     moment: Moment,
 ) -> Response
-    ensures answered { IsRouteAnswered (K.standing keeper.old) (K.standing keeper.new) moment
-        (method_of method.now) (route_of path.now) body.now (seen result) }
-    ensures goes { GoesOn (K.standing keeper.old) (K.standing keeper.new) }
-    ensures shut { IsShutAnswer (K.standing keeper.old)
-        (route_asks (method_of method.now) (route_of path.now)) (seen result) }
+    ensures { IsRouteServed (K.standing keeper.old) (K.standing keeper.new) moment
+        (method_of method.now) (route_of path.now) body.now IsShutResponse (seen result) }
 {
     match find_route(alloc, path) {
         Ok(route) => {

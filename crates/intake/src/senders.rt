@@ -2,12 +2,10 @@
 ghost use Rattle.std.specs.Prelude.{◌≡◌, None};
 ghost use Rattle.profile.specs.Accepted.{depositor_of};
 ghost use Rattle.store.specs.Asked.{asked};
-ghost use Rattle.store.specs.Standing.{GoesOn};
 ghost use Rattle.intake.specs.Answers.{seen};
-ghost use Rattle.intake.specs.Asking.{target_asks, IsShutAnswer};
 ghost use Rattle.intake.specs.Fields.{seen_method};
 ghost use Rattle.intake.specs.Lines.{sender_in};
-ghost use Rattle.intake.specs.Serving.{IsTargetAnswered};
+ghost use Rattle.intake.specs.Serving.{IsTargetServed};
 ghost use Rattle.intake.specs.Targets.{seen_target, target_command};
 
 use crate::heading::MethodKind;
@@ -56,14 +54,10 @@ pub(crate) fn answer_at<K: Keeper>(
     body: &[u8],
     moment: Moment,
 ) -> Replied
-    ensures answered { IsTargetAnswered (K.standing keeper.old) (K.standing keeper.new) moment
+    ensures served { IsTargetServed (K.standing keeper.old) (K.standing keeper.new) moment
         (seen_method method) (seen_target target.now) body.now (seen result.response) }
     ensures sender { result.sender
         ≡ sender_in (target_command (seen_method method) (seen_target target.now) body.now) }
-    ensures goes { GoesOn (K.standing keeper.old) (K.standing keeper.new) }
-    ensures shut { IsShutAnswer (K.standing keeper.old)
-        (target_asks (seen_method method) (seen_target target.now) body.now)
-        (seen result.response) }
 {
     let response = respond_to(alloc, keeper, method, target, body, moment);
     if !hands_in(method, target) {

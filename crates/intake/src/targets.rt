@@ -1,11 +1,9 @@
 //! Where a path leads, by whom a server answers.
 ghost use Rattle.std.specs.Prelude.{◌≡◌, IfOk, option_map};
-ghost use Rattle.store.specs.Standing.{GoesOn};
 ghost use Rattle.intake.specs.Answers.{seen};
-ghost use Rattle.intake.specs.Asking.{target_asks, IsShutAnswer};
 ghost use Rattle.intake.specs.Calls as meant;
 ghost use Rattle.intake.specs.Fields.{seen_method};
-ghost use Rattle.intake.specs.Serving.{IsTargetAnswered};
+ghost use Rattle.intake.specs.Serving.{IsTargetServed};
 ghost use Rattle.intake.specs.Targets as targets;
 ghost use Rattle.intake.specs.Targets.{seen_call, seen_target, target_of};
 
@@ -93,11 +91,8 @@ pub(crate) fn respond_to<K: Keeper>(
     body: &[u8],
     moment: Moment,
 ) -> Response
-    ensures answered { IsTargetAnswered (K.standing keeper.old) (K.standing keeper.new) moment
+    ensures { IsTargetServed (K.standing keeper.old) (K.standing keeper.new) moment
         (seen_method method) (seen_target target.now) body.now (seen result) }
-    ensures goes { GoesOn (K.standing keeper.old) (K.standing keeper.new) }
-    ensures shut { IsShutAnswer (K.standing keeper.old)
-        (target_asks (seen_method method) (seen_target target.now) body.now) (seen result) }
 {
     match *target {
         Target::Route(route) => respond_at(alloc, keeper, method, &route, body, moment),

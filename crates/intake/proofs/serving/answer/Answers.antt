@@ -3,7 +3,6 @@ use Rattle.intake.specs.Answers.{seen}
 use Rattle.fields.specs.Fields.{IsValues, values}
 use Rattle.intake.specs.Fields.{head_of, seen_method}
 use Rattle.intake.specs.Targets.{has_body, seen_target, target_of}
-use Rattle.intake.proofs.Asked.{asked_at_head}
 use Rattle.gauges.proofs.Sends.{tail_is}
 use Rattle.intake.proofs.Answering.{encoded, refused, cut_off, wanting, queried, handed, at_head, from_head}
 use Rattle.intake.proofs.serving.answer.Goals as goal
@@ -23,7 +22,7 @@ returns-then-not-has_body-clause-answered g c = λ h at.
     let path : c.of.result.now ≡ h.target = c.of.ensures ∙ at.path in
     let r : target_of c.args.audience h.target ≡ seen_target c.in-Ok.target = cc (c.in-Ok.ensures, path) in
     let x : has_body (head_of h).method (target_of c.args.audience h.target) ≡ false = rw (m, r) (sym c.has_body.ensures ∙ c.if-not-has_body.true) in
-    queried _ _ _ _ _ _ _ _ _ e x (at_head _ _ _ _ h _ _ _ _ m r c.answer_at.ensures.answered) (asked_at_head (g.K.Keeper.standing c.args.keeper.now) _ _ h _ _ _ m r c.answer_at.ensures.shut) (from_head _ h _ _ _ _ m r c.answer_at.ensures.sender)
+    queried _ _ _ _ _ _ _ _ _ e x (at_head _ _ _ _ h _ _ _ _ m r c.answer_at.ensures.served) (from_head _ h _ _ _ _ m r c.answer_at.ensures.sender)
 
 pub returns-in-Err-clause-answered : goal.returns-in-Err-clause-answered
 returns-in-Err-clause-answered g c = λ h at.
@@ -45,8 +44,7 @@ returns-in-Whole-clause-answered g c = λ h at.
     let v : IsValues c.values_of.result (head_of h).lengths = subst (λ (fields : List (List ℕ × List ℕ)). IsValues c.values_of.result (values (codes "Content-Length") fields)) at.fields c.values_of.ensures in
     let body = rw c.in-Whole.is at c.in_ok-body.ensures.body in
     handed _ _ _ _ _ _ _ _ _ _ body.0 _ _ (tail_is c.args.got.now c.args.spans.now.len) body.1 e x (c.in-Ok-length_of.ensures (head_of h).lengths v) body.2.0
-    (c.as_slice.ensures.value ∙ body.2.1) (at_head _ _ _ _ h _ _ _ _ m r c.answer_at-in-Whole.ensures.answered)
-    (asked_at_head (g.K.Keeper.standing c.args.keeper.now) _ _ h _ _ _ m r c.answer_at-in-Whole.ensures.shut) (from_head _ h _ _ _ _ m r c.answer_at-in-Whole.ensures.sender)
+    (c.as_slice.ensures.value ∙ body.2.1) (at_head _ _ _ _ h _ _ _ _ m r c.answer_at-in-Whole.ensures.served) (from_head _ h _ _ _ _ m r c.answer_at-in-Whole.ensures.sender)
 
 pub returns-in-CutOff-clause-answered : goal.returns-in-CutOff-clause-answered
 returns-in-CutOff-clause-answered g c = λ h at.
