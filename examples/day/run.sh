@@ -3,7 +3,7 @@
 #
 # Usage: examples/day/run.sh [BOOK]     (default: a new file in a new folder, whose name is told at the end)
 #
-# The program is proved and built first where it isn't there yet, which takes about an hour. Which crate is being proved, and how many
+# The program is proved and built first where it isn't there yet, which takes an hour or two, by the machine. Which crate is being proved, and how many
 # are proved by then, is told on standard error.
 set -eu
 cd "$(dirname "$0")"
