@@ -12,3 +12,4 @@ pub mod Clock
 pub mod Serving
 pub mod Reasons
 pub mod Playing
+pub mod Scripts

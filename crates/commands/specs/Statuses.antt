@@ -1,5 +1,5 @@
 -- Exit statuses, and the kind of a sheet.
-use Rattle.std.specs.Prelude.{ℕ}
+use Rattle.std.specs.Prelude.{◌≡◌, ℕ}
 use Rattle.commands.specs.declared.told.ExitStatus.{ExitStatus}
 use Rattle.commands.specs.declared.told.ExitStatus.TheVariants.{Done, Refused, Usage, Fault}
 use Rattle.commands.specs.declared.told.CommandError.{CommandError}
@@ -10,6 +10,11 @@ code_of Done = 0
 code_of Refused = 1
 code_of Usage = 2
 code_of Fault = 3
+
+-- the code of one of them
+pub record IsCode (n : ℕ) : Type 0 where
+  pub status : ExitStatus
+  pub is : n ≡ code_of status
 
 -- the status of what ended so, and then so
 abbrev pub and_then : ExitStatus → ExitStatus → ExitStatus

@@ -17,17 +17,21 @@ use Rattle.commands.specs.declared.told.CommandError.TheVariants as stops
 abbrev pub IsDeviceStop : CommandError → Type 0
 IsDeviceStop stop = (stop ≡ stops.Fault faults.OutOfMemory) ⊎ (stop ≡ stops.Fault faults.Device)
 
--- an error of a file, a reader or a writer, by its kind: want of memory, and else a fault of the
--- device
-pub record IsErrorStop (error : Error) (stop : CommandError) : Type 0 where
-  pub told : stop ≡ stops.Fault (fault_of_kind (error_kind error))
-  pub device : IsDeviceStop stop
-
 -- the fault by which a command was stopped, if one did; what it is about plays no part
 abbrev pub fault_in : CommandError → Option Fault
 fault_in (stops.Usage text) = None
 fault_in (stops.Fault fault) = Some fault
 fault_in (stops.Caused fault cause) = Some fault
+
+-- words that can't be read, or want of memory to say so
+abbrev pub IsUsageStop : CommandError → Type 0
+IsUsageStop stop = (fault_in stop ≡ None) ⊎ (stop ≡ stops.Fault faults.OutOfMemory)
+
+-- an error of a file, a reader or a writer, by its kind: want of memory, and else a fault of the
+-- device
+pub record IsErrorStop (error : Error) (stop : CommandError) : Type 0 where
+  pub told : stop ≡ stops.Fault (fault_of_kind (error_kind error))
+  pub device : IsDeviceStop stop
 
 -- a device that doesn't serve, or want of memory, whatever is said of it
 abbrev pub IsDeviceFault : CommandError → Type 0

@@ -1,9 +1,10 @@
-ghost use Rattle.std.specs.Prelude.{◌≡◌, [], ◌∷◌, MatchOption, Ok, IfOk, IfErr, filter, map};
+ghost use Rattle.std.specs.Prelude.{◌≡◌, [], ◌∷◌, ℕ, List, MatchOption, Ok, IfOk, IfErr, filter, map};
 ghost use Rattle.profile.specs.Readings.{parts_at};
 ghost use Rattle.store.specs.Standing.{GoesOn, IsUnchanged};
 ghost use Rattle.commands.specs.Looking.{IsLineDone, IsView};
 ghost use Rattle.commands.specs.Playing.{asks, asking, rows_left, IsRowAnswered, IsRowStopped, HasPlayed, HasStopped};
 ghost use Rattle.commands.specs.Readying.{IsChange};
+ghost use Rattle.commands.specs.Scripts.{IsMadeBy, IsScriptDone, IsUnnamed};
 
 use crate::acts::{perform, ready_at};
 use crate::files::{MOST_SCRIPT, read_within};
@@ -256,7 +257,10 @@ fn made<R: Files + AllocGlobal, E: io::Write>(
     row: &str,
     verbosity: Verbosity,
     err: &mut E,
-) -> Result<Option<ReplayBook>, CommandError> {
+) -> Result<Option<ReplayBook>, CommandError>
+    ensures { IfOk result (λ made. MatchOption made (IsUnnamed row.now)
+        (IsMadeBy ⟦<ReplayBook as Keeper>⟧.standing row.now)) }
+{
     let words = words_of(rt.alloc(), row)?;
     let Words::Over { task, .. } = line(rt.alloc(), Place::Script, &words)? else {
         return Err(usage(rt.alloc(), "the first line is init\n"));
@@ -301,7 +305,10 @@ fn play<R: Files + Clock + AllocGlobal + Clone + Drop, W: io::Write, E: io::Writ
     verbosity: Verbosity,
     out: &mut W,
     err: &mut E,
-) -> Result<ExitStatus, CommandError> {
+) -> Result<ExitStatus, CommandError>
+    ensures { IfOk result (IsScriptDone ⟦<ReplayBook as Keeper>⟧.standing W.contents
+        (asking text.now) out.old out.new) }
+{
     let Some((i, row, rest)) = opening_row(text) else {
         return Err(usage(rt.alloc(), "a script begins with init\n"));
     };
@@ -343,7 +350,11 @@ pub fn run_script<R: Files + Clock + AllocGlobal + Clone + Drop, W: io::Write, E
     verbosity: Verbosity,
     out: &mut W,
     err: &mut E,
-) -> Result<ExitStatus, CommandError> {
+) -> Result<ExitStatus, CommandError>
+    ensures { IfOk result (λ status. (text : List ℕ)
+        × IsScriptDone ⟦<ReplayBook as Keeper>⟧.standing W.contents (asking text) out.old out.new
+        status) }
+{
     let text = read_lines(rt, file)?;
     play(rt, &text, verbosity, out, err)
 }

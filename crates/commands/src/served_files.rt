@@ -1,4 +1,6 @@
 //! The file of a book that is served.
+ghost use Rattle.std.specs.Prelude.{◌≡◌, IfOk};
+
 use std::os::unix::fs::MetadataExt;
 use std::rt::Files;
 use std::{fs, io};
@@ -13,7 +15,9 @@ pub struct ServedFile<'a> {
 
 impl<'a> ServedFile<'a> {
     /// The file to which a name leads now. The error is that of the file system.
-    pub fn look<R: Files>(rt: &R, name: &'a str) -> io::Result<ServedFile<'a>> {
+    pub fn look<R: Files>(rt: &R, name: &'a str) -> io::Result<ServedFile<'a>>
+        ensures { IfOk result (λ file. file.name ≡ name.entry) }
+    {
         let found = fs::metadata(rt, name)?;
         Ok(ServedFile {
             name,
@@ -23,7 +27,9 @@ impl<'a> ServedFile<'a> {
     }
 
     /// Its name.
-    pub fn name(&self) -> &'a str {
+    pub fn name(&self) -> &'a str
+        ensures { result ≡ self.now.name }
+    {
         self.name
     }
 

@@ -14,12 +14,11 @@ use crate::causes::about_file;
 use crate::files::MOST_SHEET;
 use crate::told::CommandError;
 use command_line::ClerkWords;
-use intake::{act_of, read_first};
-use profile::{MOST_NUMBER, MOST_TICKET};
+use intake::{act_of, depositor, read_first};
 use sheet_texts::sheet;
 use std::alloc::{AllocError, Global};
 use std::rt::Files;
-use store::{Command, Goods, Ident, Refusal, Sheet, SheetKind, Who};
+use store::{Command, Goods, Refusal, Sheet, SheetKind, Who};
 
 /// What a clerk did, with its sheet: its command can be given.
 #[derive(Drop)]
@@ -29,18 +28,6 @@ pub struct Slip<'a> {
     pub(crate) text: Vec<u8>,
     pub(crate) sheet: Sheet,
     pub ghost given: { IsTrue (is_command Two (command_of who words sheet)) },
-}
-
-// The depositor that a clerk's words name; None where a word can't be read.
-fn depositor(words: &ClerkWords<'_>) -> Option<Who>
-    ensures { result ≡ depositor_of words.now }
-{
-    let who = Who::new(words.who.as_bytes())?;
-    Ident::new(words.ticket.as_bytes(), MOST_TICKET)?;
-    if words.kind != SheetKind::Recount {
-        Ident::new(words.number.as_bytes(), MOST_NUMBER)?;
-    }
-    Some(who)
 }
 
 // A depositor that a clerk's words name, and the text of their sheet.
@@ -60,7 +47,8 @@ fn read_slip<R: Files + AllocGlobal>(
         (λ found. IfSome found (λ read. depositor_of words.now ≡ Some read.who)) }
     ensures none { IfOk result (λ found. IfNone found (depositor_of words.now ≡ None)) }
 {
-    let Some(who) = depositor(words) else {
+    let (ticket, number) = (words.ticket.as_bytes(), words.number.as_bytes());
+    let Some(who) = depositor(words.kind, words.who.as_bytes(), ticket, number) else {
         return Ok(None);
     };
     match read_first(rt, words.sheet, u64::from(MOST_SHEET) + 1) {

@@ -1,7 +1,7 @@
 ghost use Rattle.std.specs.Prelude.{◌≡◌, IfErr, IfOk, OnOk};
 ghost use Rattle.std.specs.Io.KnownBytes.{Appends};
 ghost use Rattle.commands.specs.Statuses as meant;
-ghost use Rattle.commands.specs.Stops.{IsDeviceStop};
+ghost use Rattle.commands.specs.Stops.{IsDeviceStop, IsUsageStop};
 ghost use Rattle.commands.specs.Telling.{faulted_line, line_of, refused_line, stop_text};
 
 use command_line::LineFault;
@@ -102,7 +102,9 @@ impl From<io::Error> for CommandError {
 }
 
 /// A usage fault with a text.
-pub fn usage(alloc: Global, text: &str) -> CommandError {
+pub fn usage(alloc: Global, text: &str) -> CommandError
+    ensures { IsUsageStop result }
+{
     match text.to_string(alloc) {
         Ok(text) => CommandError::Usage(text),
         Err(error) => CommandError::from(error),

@@ -100,27 +100,6 @@ fn outcome_of(reply: Reply) -> (FileOutcome, Vec<u8>)
     }
 }
 
-// Takes one file.
-fn take_file<R: Files + AllocGlobal, K: Keeper>(
-    rt: &R,
-    path: &str,
-    keeper: &mut K,
-    moment: Moment,
-) -> Result<FileOutcome, Fault>
-    ensures taken { IfOk result
-        (IsFileTaken (K.standing keeper.old) (K.standing keeper.new) moment) }
-    ensures stopped { IfErr result
-        (λ fault. IsUntaken fault (K.standing keeper.old) (K.standing keeper.new) moment) }
-    ensures opened { OnOk result ((K.standing keeper.old).shut ≡ (K.standing keeper.new).shut) }
-    ensures goes { GoesOn (K.standing keeper.old) (K.standing keeper.new) }
-{
-    let bytes = bytes_of(rt, path)?;
-    let reply = submit(rt.alloc(), keeper, &Command::Interchange(&bytes), moment)?;
-    let (outcome, answer) = outcome_of(reply);
-    leave_answer(rt, path, &answer)?;
-    Ok(outcome)
-}
-
 // What is in a folder.
 fn listing_of<R: Files + AllocGlobal + Clone + Drop>(
     rt: &R,
@@ -148,7 +127,7 @@ fn path_in<'a, R: AllocGlobal>(rt: &R, dir: &'a str, name: &'a str) -> Result<St
 
 // Takes the file of this name once there is room to tell what became of it, so that nothing can
 // fail after it is taken.
-fn take_named<R: Files + AllocGlobal, K: Keeper>(
+fn take_file<R: Files + AllocGlobal, K: Keeper>(
     rt: &R,
     dir: &str,
     name: &str,
@@ -167,7 +146,11 @@ fn take_named<R: Files + AllocGlobal, K: Keeper>(
 {
     files.reserve(1)?;
     let path = path_in(rt, dir, name)?;
-    take_file(rt, &path, keeper, moment)
+    let bytes = bytes_of(rt, &path)?;
+    let reply = submit(rt.alloc(), keeper, &Command::Interchange(&bytes), moment)?;
+    let (outcome, answer) = outcome_of(reply);
+    leave_answer(rt, &path, &answer)?;
+    Ok(outcome)
 }
 
 /// Submits each interchange of a folder, the regular files whose names end `.x12` and links to such
@@ -209,7 +192,7 @@ pub fn take_folder_telling<R: Files + AllocGlobal + Clone + Drop, K: Keeper, T: 
     let count = names.len() as u64;
     let mut files = Vec::new(rt.alloc());
     for name in names {
-        match take_named(rt, dir, &name, &mut files, keeper, moment) {
+        match take_file(rt, dir, &name, &mut files, keeper, moment) {
             Ok(outcome) => files.push(Taken { name, outcome }).unwrap(),
             Err(fault) => {
                 return Err(FolderStop {

@@ -36,4 +36,4 @@ pub use responding::respond;
 pub use response::{Allow, Body, MediaType, Response, Status};
 pub use served::{Connection, RequestLine, Served, write_sender};
 pub use serving::{serve_one, serve_telling};
-pub use slips::act_of;
+pub use slips::{act_of, depositor};

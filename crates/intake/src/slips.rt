@@ -24,17 +24,17 @@ pub(crate) struct Slip<'p> {
     pub(crate) ghost given: { IsTrue (is_command Two (command_of who deed sheet)) },
 }
 
-// The depositor that a deed's path names; None where a part of it can't be read.
-fn depositor(deed: &Deed<'_>) -> Option<Who>
-    ensures { result ≡ meant.depositor_of deed.now.kind deed.now.who.now deed.now.ticket.now
-        deed.now.number.now }
+/// The depositor of what a clerk did, by its name, where that, the ticket and the number can be
+/// read: the number is that of the advice or the order, which a recount doesn't have.
+pub fn depositor(kind: SheetKind, who: &[u8], ticket: &[u8], number: &[u8]) -> Option<Who>
+    ensures { result ≡ meant.depositor_of kind who.now ticket.now number.now }
 {
-    let who = Who::new(deed.who)?;
-    Ident::new(deed.ticket, MOST_TICKET)?;
-    if !matches!(deed.kind, SheetKind::Recount) {
-        Ident::new(deed.number, MOST_NUMBER)?;
+    let depositor = Who::new(who)?;
+    Ident::new(ticket, MOST_TICKET)?;
+    if !matches!(kind, SheetKind::Recount) {
+        Ident::new(number, MOST_NUMBER)?;
     }
-    Some(who)
+    Some(depositor)
 }
 
 /// What a deed and its sheet come to: a slip, or the response that refuses it. The outer error is
@@ -52,7 +52,7 @@ pub(crate) fn slip_of<'p>(
         (λ made. IfErr made (λ response. meant.deed_of deed.now.kind deed.now.who.now
         deed.now.ticket.now deed.now.number.now text.now ≡ Err (seen response))) }
 {
-    let Some(who) = depositor(deed) else {
+    let Some(who) = depositor(deed.kind, deed.who, deed.ticket, deed.number) else {
         return Ok(Err(bad_part()));
     };
     match sheet(alloc, deed.kind, text)? {

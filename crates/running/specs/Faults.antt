@@ -26,6 +26,11 @@ abbrev pub IsReadFault : CommandError → Type 0
 IsReadFault s = (s ≡ stop.Fault NotThisBook)
     ⊎ ((s ≡ stop.Fault OutOfMemory) ⊎ ((s ≡ stop.Fault Store) ⊎ (s ≡ stop.Fault Device)))
 
+-- a file can't be closed as a database: it is damaged, there is no memory, or a device failed
+abbrev pub IsClosingFault : CommandError → Type 0
+IsClosingFault s = (s ≡ stop.Fault NotThisBook)
+    ⊎ ((s ≡ stop.Fault OutOfMemory) ⊎ (s ≡ stop.Fault Device))
+
 -- whether somebody else has the file open as a database
 abbrev pub is_in_use : Error → Bool
 is_in_use (SqliteFailure failures.DatabaseBusy) = true

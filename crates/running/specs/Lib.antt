@@ -1,4 +1,5 @@
 pub mod Checking
+pub mod Done
 pub mod Faults
 pub mod Opening
 pub mod Working

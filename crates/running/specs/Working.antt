@@ -1,6 +1,6 @@
 -- Which job over a book in a file a line asks for, and what the job comes to (Checking: that of a
--- check).
-use Rattle.std.specs.Prelude.{◌≡◌, ℕ, Bool, true, false, List, Option, Some, None, IfSome}
+-- check; Done: with the opening before it).
+use Rattle.std.specs.Prelude.{◌≡◌, ℕ, Bool, true, false, List, Option, Some, None, Ok, IfSome, IfOk, IfErr, OnOk, OnErr, string_bytes}
 use Rattle.profile.specs.Header.{who_of}
 use Rattle.profile.specs.Moments.{Moment}
 use Rattle.store.specs.Refusal.{Refusal}
@@ -8,9 +8,13 @@ use Rattle.store.specs.Refusal.TheVariants.{BadText}
 use Rattle.store.specs.Standing.{Standing, GoesOn}
 use Rattle.commands.specs.Acting.{Ending, IsPerformed}
 use Rattle.commands.specs.Looking.{IsAskedFor, IsLook, is_readable}
+use Rattle.commands.specs.Playing.{HasPlayed, HasStopped, asking}
 use Rattle.commands.specs.Readying.{IsMadeReady, IsUnready}
+use Rattle.commands.specs.Serving.{Served, ServedUpTo, audience_of}
+use Rattle.commands.specs.declared.told.ExitStatus.TheVariants.{Done}
 use Rattle.running.specs.declared.over_file.Job.{Job}
 use Rattle.running.specs.declared.over_file.Job.TheVariants as job
+use Rattle.command_line.specs.declared.words.Service.{Service}
 use Rattle.command_line.specs.declared.words.Task.{Task}
 use Rattle.command_line.specs.declared.words.Task.TheVariants as task
 
@@ -39,10 +43,38 @@ IsNoJobFor (task.Act a at) refusal = IsUnready a refusal
 IsNoJobFor (task.Show s) refusal = (refusal ≡ BadText) × (is_readable s ≡ false)
 IsNoJobFor t refusal = ⊥
 
--- what was made ready was done at its moment, and what was asked for was shown
-abbrev pub IsWork : Standing → Standing → Job → Option (List ℕ) → Option (List ℕ) → Ending → Type 0
-IsWork old new (job.Change ready moment) before later ending =
-    IsPerformed old new ready moment before later ending
-IsWork old new (job.Look asked) before later ending = IsLook old new asked before later ending
-IsWork old new (job.Play text) before later ending = GoesOn old new
-IsWork old new other before later ending = Unit {0}
+-- the rows of a batch were played, to their end or up to one that stopped it
+abbrev pub IsBatchPlayed : {K W : Type 0} → (K → Standing) → (W → Option (List ℕ)) → List ℕ → K → W
+    → K → W → Ending → Type 0
+IsBatchPlayed standing contents text old before new later ending =
+    IfOk ending (λ status. HasPlayed standing contents (old, (before, Done)) (asking text)
+    (new, (later, status)))
+    × IfErr ending (λ stop. HasStopped standing contents (old, (before, Done)) (asking text) new
+    later stop)
+
+-- as many connections were served as the line says, or no more than these
+abbrev pub IsService : {K : Type 0} → (K → Standing) → Service → Moment → Bool → K → K → Ending
+    → Type 0
+IsService standing service first has_clock old new ending =
+    OnOk ending (Served standing (audience_of service.clerks) has_clock first old new service.count)
+    × OnErr ending
+    (ServedUpTo standing (audience_of service.clerks) has_clock first old new service.count)
+
+-- What a job comes to over a book: what was made ready was done at its moment, what was asked for
+-- was shown, a text was played, a server served. Where the job is to make the book or to check it,
+-- nothing more is done.
+abbrev pub IsWork : {K W : Type 0} → (K → Standing) → (W → Option (List ℕ)) → K → W → Job → K → W
+    → Ending → Type 0
+IsWork standing contents old before (job.Change ready moment) new later ending =
+    GoesOn (standing old) (standing new)
+    × IsPerformed (standing old) (standing new) ready moment (contents before) (contents later)
+    ending
+IsWork standing contents old before (job.Look asked) new later ending =
+    IsLook (standing old) (standing new) asked (contents before) (contents later) ending
+IsWork standing contents old before (job.Play text) new later ending =
+    GoesOn (standing old) (standing new)
+    × IsBatchPlayed standing contents (string_bytes text) old before new later ending
+IsWork standing contents old before (job.Listen service first has_clock file) new later ending =
+    IsService standing service first has_clock old new ending
+IsWork standing contents old before other new later ending =
+    (new ≡ old) × ((later ≡ before) × (ending ≡ Ok Done))

@@ -8,7 +8,7 @@ ghost use Rattle.store.specs.Standing.{IsUsable};
 ghost use Rattle.book_statements.specs.Layout.{no_layout};
 ghost use Rattle.books.specs.Opened.{standing_of};
 ghost use Rattle.running.specs.Faults as meant;
-ghost use Rattle.running.specs.Opening.{IsOpenedAnew, OfFile};
+ghost use Rattle.running.specs.Opening.{IsOfFile, IsOpenedAnew};
 
 use books::{Book, Tables, is_blank};
 use commands::CommandError;
@@ -43,7 +43,9 @@ pub fn is_in_use(error: &Error) -> bool
 
 /// Closes a database: its log is copied into the file. Where that fails (40, 43 or 44), the log
 /// still holds what isn't copied, and the next opening finds it there.
-pub fn disconnect<D: Disk + Drop>(database: Connection<FileStore<D>>) -> Result<(), CommandError> {
+pub fn disconnect<D: Disk + Drop>(database: Connection<FileStore<D>>) -> Result<(), CommandError>
+    ensures { IfErr result meant.IsClosingFault }
+{
     match database.close() {
         Ok(()) => Ok(()),
         Err(error) => Err(CommandError::Fault(fault(&error))),
@@ -91,9 +93,7 @@ pub fn open<S: Alter + Drop, T: FnMut(u64, u64)>(
     requires free { database.in_transaction ≡ false }
     requires told { T.IsAlwaysCallable told }
 
-    ensures usable { IfOk result (λ b. OfFile S.Store database b
-        (λ _ L. IsUsable (standing_of S.Store b) L)) }
-    ensures warehouse { IfOk result (λ b. OfFile S.Store database b (λ W _. b.warehouse ≡ W)) }
+    ensures found { IfOk result (IsOfFile S.Store database) }
     ensures opened { IfOk result (λ b. b.shut ≡ false) }
     ensures named { IfErr result meant.IsBookFault }
 {

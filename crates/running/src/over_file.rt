@@ -1,9 +1,15 @@
 //! What a line says, done over the book in a file: words are tested and files read before the book
 //! is opened, and it is closed before the line is done.
 ghost use Rattle.std.specs.Prelude.{◌≡◌, ◌≢◌, ◌≤◌, false, IfErr, IfOk};
+ghost use Rattle.sqlite.specs.Files.{over_files};
+ghost use Rattle.sqlite.specs.Held.{state};
+ghost use Rattle.sqlite.specs.State.{HasCleanDisk};
+ghost use Rattle.store.specs.Standing.{IsUnchanged};
 ghost use Rattle.commands.specs.Stops.{fault_in};
+ghost use Rattle.running.specs.Checking.{IsFoundWhole};
+ghost use Rattle.running.specs.Done.{IsBegun, IsJobDone, IsJobDoneOver, IsJobStopped};
 ghost use Rattle.running.specs.Faults.{IsBookFault, IsReadFault};
-ghost use Rattle.running.specs.Opening.{IsOpenedAnew};
+ghost use Rattle.running.specs.Opening.{IsOfFile, IsOpenedAnew};
 ghost use Rattle.running.specs.Working.{IsJobFor, IsNoJobFor, IsWork};
 
 use crate::book_files::{close, disconnect, fault, is_in_use, make, open, open_anew};
@@ -50,8 +56,7 @@ fn work<K: Keeper, W: io::Write, E: io::Write>(
     out: &mut W,
     err: &mut E,
 ) -> Result<ExitStatus, CommandError>
-    ensures worked { IsWork (K.standing book.old) (K.standing book.new) job.now
-        (W.contents out.old) (W.contents out.new) result }
+    ensures worked { IsWork K.standing W.contents book.old out.old job.now book.new out.new result }
 {
     match job {
         Job::Make(_) | Job::Check => Ok(ExitStatus::Done),
@@ -77,6 +82,7 @@ fn open_for<S: Alter + Drop, T: FnMut(u64, u64)>(
     requires told { T.IsAlwaysCallable told }
 
     ensures anew { job.now ≡ Job.Check → IfOk result (IsOpenedAnew S.Store database) }
+    ensures found { job.now ≢ Job.Check → IfOk result (IsOfFile S.Store database) }
     ensures named { IfErr result IsReadFault }
     ensures book { job.now ≢ Job.Check → IfErr result IsBookFault }
 {
@@ -99,6 +105,7 @@ pub(crate) fn open_watched<S: Alter + Drop, E: io::Write>(
     requires { database.in_transaction ≡ false }
 
     ensures anew { job.now ≡ Job.Check → IfOk result (IsOpenedAnew S.Store database) }
+    ensures found { job.now ≢ Job.Check → IfOk result (IsOfFile S.Store database) }
     ensures named { IfErr result IsReadFault }
     ensures book { job.now ≢ Job.Check → IfErr result IsBookFault }
 {
@@ -125,6 +132,9 @@ fn begin<S: Alter + Drop, E: io::Write>(
     err: &mut E,
 ) -> Result<Book<S>, CommandError>
     requires { database.in_transaction ≡ false }
+
+    ensures begun { IfOk result (IsBegun S.Store database job.now) }
+    ensures named { IfErr result IsReadFault }
 {
     match job {
         Job::Make(warehouse) => make(alloc, database, *warehouse),
@@ -132,8 +142,21 @@ fn begin<S: Alter + Drop, E: io::Write>(
     }
 }
 
-// Tells why what a clerk did was refused. What can't be told is left out: the refusal stands.
-fn explain<K: Keeper, E: io::Write>(alloc: Global, book: &mut K, job: &Job<'_>, err: &mut E) {
+// Tells why what a clerk did was refused, where that is asked for. What can't be told is left out:
+// the refusal stands.
+fn explain<K: Keeper, E: io::Write>(
+    alloc: Global,
+    book: &mut K,
+    job: &Job<'_>,
+    status: ExitStatus,
+    verbosity: Verbosity,
+    err: &mut E,
+)
+    ensures { IsUnchanged (K.standing book.old) (K.standing book.new) }
+{
+    if !verbosity.explains || status != ExitStatus::Refused {
+        return;
+    }
     if let Job::Change(Ready::Clerk(slip), _) = job {
         let _ = tell_reason(alloc, book, slip, err);
     }
@@ -151,15 +174,20 @@ fn work_over<S: Alter + Drop, W: io::Write, E: io::Write>(
     err: &mut E,
 ) -> Result<(ExitStatus, Connection<S>), CommandError>
     requires { database.in_transaction ≡ false }
+
+    ensures whole { job.now ≡ Job.Check → IfOk result (λ r. HasCleanDisk (state S.Store r.1)
+        → IsFoundWhole (state S.Store database) (W.contents out.old) (W.contents out.new)) }
+    ensures done { job.now ≢ Job.Check → IfOk result
+        (λ r. IsJobDone S.Store W.contents database r.1 job.now out.old out.new r.0) }
+    ensures stopped { job.now ≢ Job.Check → IfErr result
+        (IsJobStopped S.Store W.contents database job.now out.old out.new) }
 {
     if let Job::Check = job {
         return check_over(rt.alloc(), database, verbosity, out, err);
     }
     let mut book = begin(rt.alloc(), database, job, verbosity, err)?;
     let status = work(rt, &mut book, job, verbosity, out, err)?;
-    if verbosity.explains && status == ExitStatus::Refused {
-        explain(rt.alloc(), &mut book, job, err);
-    }
+    explain(rt.alloc(), &mut book, job, status, verbosity, err);
     Ok((status, close(book)))
 }
 
@@ -173,6 +201,9 @@ fn over_disk<D: Disk + Drop, W: io::Write, E: io::Write>(
     err: &mut E,
 ) -> Result<ExitStatus, CommandError>
     requires { database.in_transaction ≡ false }
+
+    ensures done { job.now ≢ Job.Check → IfOk result
+        (IsJobDoneOver over_files W.contents database job.now out.old out.new) }
 {
     let (status, database) = work_over(rt, database, job, verbosity, out, err)?;
     disconnect(database)?;

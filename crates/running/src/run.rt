@@ -1,3 +1,8 @@
+ghost use Rattle.std.specs.Prelude.{IfErr, OnOk};
+ghost use Rattle.std.specs.Io.KnownBytes.{Appends};
+ghost use Rattle.commands.specs.Statuses.{IsCode};
+ghost use Rattle.commands.specs.Stops.{IsDeviceStop};
+
 use crate::over_file::run_over_file;
 use crate::over_server::run_over_server;
 use command_line::{LineFault, Place, Words, line};
@@ -44,7 +49,10 @@ fn run_line<W: io::Write, E: io::Write>(
 }
 
 // Shows a text that is asked for.
-fn show<W: io::Write>(out: &mut W, text: &str) -> Result<ExitStatus, CommandError> {
+fn show<W: io::Write>(out: &mut W, text: &str) -> Result<ExitStatus, CommandError>
+    ensures shown { OnOk result (Appends (W.contents out.old) (W.contents out.new) text.now) }
+    ensures halted { IfErr result IsDeviceStop }
+{
     out.write_all(text.as_bytes())?;
     Ok(ExitStatus::Done)
 }
@@ -86,7 +94,9 @@ pub fn command<W: io::Write, E: io::Write>(
     words: &[&str],
     out: &mut W,
     err: &mut E,
-) -> u8 {
+) -> u8
+    ensures { IsCode result }
+{
     let (is_asked, words) = asks_why(words);
     let watches = rt.stderr().is_terminal();
     let explains = is_asked || watches;

@@ -1,4 +1,7 @@
 //! The program's words, as the system hands them over.
+ghost use Rattle.std.specs.Prelude.{IfOk};
+ghost use Rattle.commands.specs.Statuses.{IsCode};
+
 use crate::run::command;
 use commands::{CommandError, tell_stop, usage};
 use std::rt::Env;
@@ -20,7 +23,9 @@ fn run<W: io::Write, E: io::Write>(
     rt: &HostRuntime,
     out: &mut W,
     err: &mut E,
-) -> Result<u8, CommandError> {
+) -> Result<u8, CommandError>
+    ensures { IfOk result IsCode }
+{
     let owned = words_of(rt)?;
     let words: Vec<&str> = owned.iter().map(|word| word.as_str()).collect(rt.alloc())?;
     Ok(command(rt, &words, out, err))
@@ -28,7 +33,9 @@ fn run<W: io::Write, E: io::Write>(
 
 /// Runs the line of words that the program was started with, as `command` does. A word that isn't
 /// UTF-8 text is a usage fault.
-pub fn program<W: io::Write, E: io::Write>(rt: &HostRuntime, out: &mut W, err: &mut E) -> u8 {
+pub fn program<W: io::Write, E: io::Write>(rt: &HostRuntime, out: &mut W, err: &mut E) -> u8
+    ensures { IsCode result }
+{
     match run(rt, out, err) {
         Ok(status) => status,
         Err(stop) => tell_stop(err, &stop, false).code(),

@@ -35,28 +35,28 @@ returns-in-Err-clause-stopped g c =
     let i = c.loop-name.invariant in
     let old = g.K.Keeper.standing c.args.keeper.now in
     let now = g.K.Keeper.standing c.loop-name.keeper in
-    let new = g.K.Keeper.standing c.take_named.new.keeper in
-    let told : c.len.result ≡ length c.take_named.new.files.items = search rules in
-    counted_later _ old now new c.args.moment i.texts _ i.goes i.shut c.take_named.ensures.goes i.taken c.in-Err.ensures.stopped
-    (told ∙ ap length c.take_named.ensures.kept ∙ i.counted)
+    let new = g.K.Keeper.standing c.take_file.new.keeper in
+    let told : c.len.result ≡ length c.take_file.new.files.items = search rules in
+    counted_later _ old now new c.args.moment i.texts _ i.goes i.shut c.take_file.ensures.goes i.taken c.in-Err.ensures.stopped
+    (told ∙ ap length c.take_file.ensures.kept ∙ i.counted)
 
 pub loop-name-preserved : goal.loop-name-preserved
 loop-name-preserved g c =
     let i = c.loop-name.invariant in
     let old = g.K.Keeper.standing c.args.keeper.now in
     let now = g.K.Keeper.standing c.loop-name.keeper in
-    let new = g.K.Keeper.standing c.take_named.new.keeper in
+    let new = g.K.Keeper.standing c.take_file.new.keeper in
     let file = c.in-Ok.ensures.taken in
     let grown = rw c.unwrap.ensures at c.push.ensures.items in
     record {
-      goes = goes_trans old now new i.goes c.take_named.ensures.goes;
+      goes = goes_trans old now new i.goes c.take_file.ensures.goes;
       shut = i.shut ∙ c.in-Ok.ensures.opened;
       texts = i.texts ++ file.0 ∷ [];
       taken = subst (λ (told : List Became). AreTextsTaken old new c.args.moment (i.texts ++ file.0 ∷ []) told)
-          (taken_kept c.loop-name.files.items c.take_named.new.files.items c.push.new.self.items _ c.take_named.ensures.kept grown)
-          (taken_more old now new c.args.moment i.texts file.0 _ _ i.goes c.take_named.ensures.goes i.taken file.1);
-      counted = one_more c.loop-name.files.items c.take_named.new.files.items c.push.new.self.items _ i.texts file.0 c.take_named.ensures.kept grown i.counted;
-      rising = still_rising c.loop-name.files.items c.take_named.new.files.items c.push.new.self.items _ _ _ c.take_named.ensures.kept grown c.in-Some.ensures.steps.0 i.rising;
+          (taken_kept c.loop-name.files.items c.take_file.new.files.items c.push.new.self.items _ c.take_file.ensures.kept grown)
+          (taken_more old now new c.args.moment i.texts file.0 _ _ i.goes c.take_file.ensures.goes i.taken file.1);
+      counted = one_more c.loop-name.files.items c.take_file.new.files.items c.push.new.self.items _ i.texts file.0 c.take_file.ensures.kept grown i.counted;
+      rising = still_rising c.loop-name.files.items c.take_file.new.files.items c.push.new.self.items _ _ _ c.take_file.ensures.kept grown c.in-Some.ensures.steps.0 i.rising;
       told = search (rules, of_calls);
     }
 

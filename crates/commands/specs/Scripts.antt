@@ -1,0 +1,62 @@
+-- What a script comes to: its first row makes a book, and the others are played over it.
+use Rattle.std.specs.Prelude.{◌≡◌, ◌⊎◌, ◌∷◌, [], ℕ, List, Option, Some, None}
+use Rattle.profile.specs.Header.{who_of}
+use Rattle.store.specs.Standing.{Standing, IsUsable}
+use Rattle.command_line.specs.declared.words.Words.{Words}
+use Rattle.command_line.specs.declared.words.Words.TheVariants as words
+use Rattle.command_line.specs.declared.words.Task.TheVariants as task
+use Rattle.commands.specs.Playing.{HasPlayed, IsRead}
+use Rattle.commands.specs.declared.told.ExitStatus.{ExitStatus}
+use Rattle.commands.specs.declared.told.ExitStatus.TheVariants.{Done, Refused}
+
+-- the words ask for a book of this name
+abbrev pub IsInit : Words → List ℕ → Type 0
+IsInit (words.Over book wait (task.Init who)) name = who.now ≡ name
+IsInit asked name = ⊥
+
+-- the row asks for a book of this name
+pub record AsksForBook (row name : List ℕ) : Type 0 where
+  pub asked : Words
+  pub read : IsRead row asked
+  pub init : IsInit asked name
+
+-- the book of the name that the row asks for, with the empty register
+pub record IsMadeBy {K : Type 0} (standing : K → Standing) (row : List ℕ) (book : K) : Type 0 where
+  pub name : List ℕ
+  pub asks : AsksForBook row name
+  pub named : who_of name ≡ Some (standing book).warehouse
+  pub usable : IsUsable (standing book) []
+
+-- the row asks for a book of a name that can't be read
+pub record IsUnnamed (row : List ℕ) : Type 0 where
+  pub name : List ℕ
+  pub asks : AsksForBook row name
+  pub unread : who_of name ≡ None
+
+-- Of the rows of a script that ask for something the first made a book, and the others were played
+-- over it, one after the other, each once.
+pub record IsPlayedOver
+    {K W : Type 0} (standing : K → Standing) (contents : W → Option (List ℕ))
+    (rows : List (List ℕ)) (before later : W) (status : ExitStatus) : Type 0 where
+  pub first : List ℕ
+  pub others : List (List ℕ)
+  pub are : rows ≡ first ∷ others
+  pub made : K
+  pub by : IsMadeBy standing first made
+  pub left : K
+  pub played : HasPlayed standing contents (made, (before, Done)) others (left, (later, status))
+
+-- The first of the rows was refused, since its name can't be read, and nothing was done.
+pub record IsNotBegun
+    {W : Type 0} (rows : List (List ℕ)) (before later : W) (status : ExitStatus) : Type 0 where
+  pub first : List ℕ
+  pub others : List (List ℕ)
+  pub are : rows ≡ first ∷ others
+  pub unnamed : IsUnnamed first
+  pub refused : status ≡ Refused
+  pub same : later ≡ before
+
+abbrev pub IsScriptDone : {K W : Type 0} → (K → Standing) → (W → Option (List ℕ)) → List (List ℕ)
+    → W → W → ExitStatus → Type 0
+IsScriptDone standing contents rows before later status =
+    IsPlayedOver standing contents rows before later status ⊎ IsNotBegun rows before later status
