@@ -11,7 +11,7 @@ use Rattle.profile.specs.Accepted.{IsLegal}
 use Rattle.book_statements.specs.Held.{Holds, entry_values}
 use Rattle.book_statements.specs.declared.names.TableName.{TableName}
 use Rattle.book_statements.specs.declared.names.TableName.TheVariants as table
-use Rattle.book_statements.specs.Standing.{Keying, Alone, ByRowid, ByColumns, keying_of, layout_of, tree_of, all_tables, Filled, filled, HeldAs, AreHeld}
+use Rattle.book_statements.specs.Standing.{Keying, Alone, ByRowid, ByColumns, keying_of, layout_of, tree_of, all_tables, Filled, filled, HeldAs, TreesHold}
 use Rattle.book_statements.specs.Exits.{HasGrown}
 use Rattle.sqlite.specs.Order.{Row}
 use Rattle.sqlite.specs.Command.TheVariants.{CreateTable}
@@ -193,7 +193,7 @@ widened a b c m n p q f was =
     }
   where
     each_held : (f : Filled) (c : Database) → ((t : TableName) → Has (take 9 all_tables) t → HeldAs (keying_of t) (f t) (c.trees (tree_of t)))
-        → c.trees (rules_tree c.schema) ≡ map entry_values (f table.EntryRules) → Holds (f table.LotExpiry) (c.trees (expiry_tree c.schema)) → AreHeld f (book_trees c)
+        → c.trees (rules_tree c.schema) ≡ map entry_values (f table.EntryRules) → Holds (f table.LotExpiry) (c.trees (expiry_tree c.schema)) → TreesHold f (book_trees c)
     each_held f c still rules dates table.Book = still table.Book (inl refl)
     each_held f c still rules dates table.Entry = still table.Entry (inr (inl refl))
     each_held f c still rules dates table.Outgoing = still table.Outgoing (inr (inr (inl refl)))
@@ -244,7 +244,7 @@ stands_empty W s legal h =
     none : (t : TableName) → nat_eq (tree_of t) 0 ≡ false → HeldAs (keying_of t) [] (book_trees s.now (tree_of t))
     none t other = holds_nothing (keying_of t) (book_trees s.now (tree_of t)) (all_has (λ (u : Table). book_trees s.now u.tree ≡ []) (drop 1 book_tables) (layout_of t) h.empty (others t other))
 
-    by : AreHeld (filled W []) (book_trees s.now)
+    by : TreesHold (filled W []) (book_trees s.now)
     by table.Book = h.book
     by table.Entry = none table.Entry refl
     by table.Outgoing = none table.Outgoing refl

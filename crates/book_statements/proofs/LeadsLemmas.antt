@@ -19,7 +19,7 @@ use Rattle.book_statements.specs.Held.{values, entry_values}
 use Rattle.book_statements.specs.Layout.{book_tables, book_trees}
 use Rattle.book_statements.specs.Leading.{Keeps}
 use Rattle.book_statements.specs.Standing.{Keying, Alone, ByRowid, ByColumns, keying_of, schema_of, layout_of, name_of, tree_of, width_of}
-use Rattle.book_statements.specs.Standing.{Filled, AreHeld, HeldAs, AreOrdered, OrderedAs, with_rows, named, HasKey, IsRowIn, IsBySeq}
+use Rattle.book_statements.specs.Standing.{Filled, TreesHold, HeldAs, AreOrdered, OrderedAs, with_rows, named, HasKey, IsRowIn, IsBySeq}
 use Rattle.book_statements.specs.Steps.{WritesInto, Spares, PutByKey, TakenByKey, SetsState}
 use Rattle.book_statements.proofs.Beside.{still_lies}
 use Rattle.book_statements.proofs.EachTable.{listed, apart, each_table}
@@ -35,7 +35,7 @@ abbrev pub HeldBut : ℕ → Filled → Trees → Type 0
 HeldBut tree f db = (t : TableName) → nat_eq tree (tree_of t) ≡ false → HeldAs (keying_of t) (f t) (db (tree_of t))
 
 -- a statement on one table leaves the rows of the others
-pub held_but : (tree : ℕ) (f : Filled) (old new : Database) → Spares tree old new → AreHeld f (book_trees old) → HeldBut tree f (book_trees new)
+pub held_but : (tree : ℕ) (f : Filled) (old new : Database) → Spares tree old new → TreesHold f (book_trees old) → HeldBut tree f (book_trees new)
 held_but tree f old new others held t other = subst (λ stored. HeldAs (keying_of t) (f t) stored) (sym (spared t tree old new others (λ e. apart tree (tree_of t) other (sym e)))) (held t)
 
 -- rows in their order, among tables whose rows are

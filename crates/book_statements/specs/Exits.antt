@@ -28,8 +28,8 @@ pub record IsAppended
   pub appends : Appends W L e seq row changes text
 
 -- the trees stand for the register with the entry
-abbrev pub Extends : State → ℕ → List ℕ → Written → List Change → List ℕ → Trees → Type 0
-Extends s seq who row changes text db = (W : Who) (L : List Entry) (e : Entry)
+abbrev pub StandsWithEntry : State → ℕ → List ℕ → Written → List Change → List ℕ → Trees → Type 0
+StandsWithEntry s seq who row changes text db = (W : Who) (L : List Entry) (e : Entry)
     → IsAppended s W L e seq who row changes text → StandsIn W (L ++ e ∷ []) db
 
 -- the tables stand for the register with the entry, whose rows are in order

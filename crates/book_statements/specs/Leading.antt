@@ -4,13 +4,13 @@ use Rattle.sqlite.specs.Effect.{Database, IsDatabase}
 use Rattle.profile.specs.Changes.{Change, changed_by, Puts}
 use Rattle.profile.specs.Tables.{Text, TableRow}
 use Rattle.book_statements.specs.Layout.{IsLayout, book_trees}
-use Rattle.book_statements.specs.Standing.{Filled, named, AreHeld, AreOrdered}
+use Rattle.book_statements.specs.Standing.{Filled, named, TreesHold, AreOrdered}
 
 -- the book's tables hold these rows, which are in the order of their keys
 pub record Keeps (f : Filled) (db : Database) : Type 0 where
   pub schema : IsLayout db.schema
   pub sound : IsDatabase db
-  pub rows : AreHeld f (book_trees db)
+  pub rows : TreesHold f (book_trees db)
   pub ordered : AreOrdered f
 
 -- whatever rows the tables hold, they then hold those that the changes make of them

@@ -107,15 +107,15 @@ HeldAs ByRowid rows stored = stored ≡ map entry_values rows
 HeldAs ByColumns rows stored = Holds rows stored
 
 -- the trees of the book's tables, by their numbers, hold these rows
-abbrev pub AreHeld : Filled → Trees → Type 0
-AreHeld f db = (t : TableName) → HeldAs (keying_of t) (f t) (db (tree_of t))
+abbrev pub TreesHold : Filled → Trees → Type 0
+TreesHold f db = (t : TableName) → HeldAs (keying_of t) (f t) (db (tree_of t))
 
 -- the register is legal, and the schema has the book's eleven tables, which hold the rows that the
 -- warehouse's register has
 pub record StandsSecond (W : Who) (L : List Entry) (db : Database) : Type 0 where
   pub legal : IsLegal Two W L
   pub schema : IsLayout db.schema
-  pub rows : AreHeld (filled W L) (book_trees db)
+  pub rows : TreesHold (filled W L) (book_trees db)
 
 -- the same of the trees that a crash leaves or an opening reads
 abbrev pub StandsIn : Who → List Entry → Trees → Type 0

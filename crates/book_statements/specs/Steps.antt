@@ -11,8 +11,8 @@ use Rattle.sqlite_rules.specs.Lists.{Has}
 use Rattle.book_statements.specs.Layout.{book_tables, book_trees}
 
 -- the transaction goes on, and nothing of it is committed
-abbrev pub GoesOn : State → State → Type 0
-GoesOn old new = Shows old new new.now old.committed true
+abbrev pub IsUncommitted : State → State → Type 0
+IsUncommitted old new = Shows old new new.now old.committed true
 
 -- the first k cells can be a key: numbers and texts
 abbrev pub has_key : ℕ → Row → Bool

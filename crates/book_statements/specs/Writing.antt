@@ -11,7 +11,7 @@ use Rattle.book_statements.specs.Exits.{LeavesIt}
 use Rattle.book_statements.specs.Faults.{IsCallFault}
 use Rattle.book_statements.specs.Limits.{Spends}
 use Rattle.book_statements.specs.Rises.{Rises}
-use Rattle.book_statements.specs.Steps.{GoesOn}
+use Rattle.book_statements.specs.Steps.{IsUncommitted}
 
 -- Where it answers Ok, `Done` came about and the transaction goes on; whatever it answers, nothing
 -- is committed by it.
@@ -45,7 +45,7 @@ WroteSoFar Done old new before after = Wrote {T = ⊤} Done old new before after
 pub record Ran (sql : List ℕ) (params : Row) (old new : State) : Type 0 where
   pub count : ℕ
   pub executes : Executes sql params old new (Ok count)
-  pub goes_on : GoesOn old new
+  pub goes_on : IsUncommitted old new
 
 -- A transaction is over, by one call of the store: where it answers Ok, what stood in it is
 -- committed, and else nothing of it is left.

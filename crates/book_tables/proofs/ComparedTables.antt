@@ -15,7 +15,7 @@ use Rattle.book_statements.specs.Whole.{whole_text}
 use Rattle.book_tables.specs.Comparing.{AreTables, FindBoth, IsLaid, Compares}
 use Rattle.book_statements.specs.Exits.{StandsWhileOpen}
 use Rattle.book_statements.specs.Layout.{IsLayout, book_trees}
-use Rattle.book_statements.specs.Standing.{ByColumns, keying_of, schema_of, tree_of, width_of, StandsSecond, AreHeld, HeldAs, OrderedAs, filled}
+use Rattle.book_statements.specs.Standing.{ByColumns, keying_of, schema_of, tree_of, width_of, StandsSecond, TreesHold, HeldAs, OrderedAs, filled}
 use Rattle.book_statements.proofs.Found.{entries_rise, rules_rise}
 use Rattle.book_statements.proofs.Ordered.{all_ordered}
 use Rattle.book_tables.proofs.WholeBook.{book_same, book_shown, entries_same, entries_shown, rules_same, rules_shown}
@@ -40,7 +40,7 @@ module _ (one two : Database) (lies : IsLayout one.schema) (its : IsLayout two.s
   stands_too W L tables stands same =
       record { legal = stands.legal; schema = lies; rows = by }
     where
-      held : AreHeld (filled W L) (book_trees two)
+      held : TreesHold (filled W L) (book_trees two)
       held = stands.rows
 
       its_up : IsTable (book_trees two 1)
@@ -58,7 +58,7 @@ module _ (one two : Database) (lies : IsLayout one.schema) (its : IsLayout two.s
           (subst (λ (q : Query). IsAnswer q (overlay (book_trees two) []) [] f.rows) (keyed_is t is) (same_answer t f)) (filled W L t)
           (subst (λ g. HeldAs g (filled W L t) (book_trees two (tree_of t))) is (held t)))
 
-      by : AreHeld (filled W L) (book_trees one)
+      by : TreesHold (filled W L) (book_trees one)
       by name.Book = book_same one two lies its sound its_sound _ (answer name.Book true (same name.Book)) (same_answer name.Book (same name.Book)) _ (held name.Book)
       by name.Entry = entries_same one two lies its sound its_sound _ (shaped_at name.Entry one tables).0 its_up (answer name.Entry true (same name.Entry)) (same_answer name.Entry (same name.Entry)) ∙ held name.Entry
       by name.EntryRules =
@@ -73,10 +73,10 @@ module _ (one two : Database) (lies : IsLayout one.schema) (its : IsLayout two.s
       by name.LotExpiry = keyed name.LotExpiry refl
 
   module _ (W : Who) (L : List Entry) (stands : StandsSecond W L one) (its_stands : StandsSecond W L two) where
-    abbrev held : AreHeld (filled W L) (book_trees one)
+    abbrev held : TreesHold (filled W L) (book_trees one)
     held = stands.rows
 
-    abbrev its_held : AreHeld (filled W L) (book_trees two)
+    abbrev its_held : TreesHold (filled W L) (book_trees two)
     its_held = its_stands.rows
 
     keyed_alike : (t : TableName) → keying_of t ≡ ByColumns → (same : Bool) (f : FindBoth (whole_text t) one two same) → f.rows ≡ f.others

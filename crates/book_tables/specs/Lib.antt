@@ -1,6 +1,7 @@
 pub mod Showing
 pub mod LaidOut
 pub mod Contents
+pub mod Housing
 pub mod Looking
 pub mod Enrolments
 pub mod Taken

@@ -8,7 +8,7 @@ ghost use Rattle.sqlite.specs.Held.{state};
 ghost use Rattle.sqlite.specs.Values.{bound};
 ghost use Rattle.book_statements.specs.Asking.{Finds, IsAsked, OnlyReads};
 ghost use Rattle.book_statements.specs.Carrying.{CarriesOver, StandsOpenAs};
-ghost use Rattle.book_statements.specs.Exits.{IsAppended, HasGrown, Extends};
+ghost use Rattle.book_statements.specs.Exits.{IsAppended, HasGrown, StandsWithEntry};
 ghost use Rattle.book_statements.specs.Limits.{Called, Spent};
 ghost use Rattle.book_statements.specs.Layout.{no_layout};
 ghost use Rattle.book_statements.specs.Making.{Makes};
@@ -172,7 +172,8 @@ impl<S: Alter + Drop> Tables<S> {
             ((W : Partner) (L : List register.Entry) (e : register.Entry)
             → IsAppended (state S.Store self.old.conn) W L e seq who.now entry.now changes.now
             outgoing.now → HasGrown (state S.Store self.new.conn) W (L ++ e ∷ []))
-            (Extends (state S.Store self.old.conn) seq who.now entry.now changes.now outgoing.now)
+            (StandsWithEntry (state S.Store self.old.conn) seq who.now entry.now changes.now
+            outgoing.now)
             (state S.Store self.old.conn) (state S.Store self.new.conn) result }
         ensures called { Called self.old self.new result }
     {

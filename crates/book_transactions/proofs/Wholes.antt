@@ -19,7 +19,7 @@ use Rattle.book_statements.specs.Layout.{no_layout}
 use Rattle.book_statements.specs.Leading.{Leads}
 use Rattle.book_statements.specs.Limits.{Called}
 use Rattle.book_statements.specs.Making.{Makes, HasBook}
-use Rattle.book_statements.specs.Exits.{IsAppended, HasGrown, Extends}
+use Rattle.book_statements.specs.Exits.{IsAppended, HasGrown, StandsWithEntry}
 use Rattle.book_statements.specs.Standing.{StandsIn}
 use Rattle.book_statements.specs.Writing.{Wrote, Ended}
 use Rattle.book_statements.proofs.CreateLemmas.{stands_empty}
@@ -64,12 +64,12 @@ module _ {S T U : Type 0} {last later : State} {x y w z : Calls} {u : U} {r : Re
   pub appended : {seq : ℕ} {who : List ℕ} {row : Written} {cs : List stock.Change} {text : List ℕ} → Wrote {T = U} (Appended (state store begun) last seq who row cs text) (state store begun) last x y (Ok u)
       → Ended later (state store new) w z r → first ≡ old → later ≡ last → w ≡ y
       → (IsTrue b → IsTrue (state store first).is_open → (state store first).now ≡ (state store first).committed) → IsTrue b → IsLive (state store first)
-      → IsWhole (Grows (state store old) (state store final) seq who row cs text) (Extends (state store old) seq who row cs text) (state store old) (state store final) r
+      → IsWhole (Grows (state store old) (state store final) seq who row cs text) (StandsWithEntry (state store old) seq who row cs text) (state store old) (state store final) r
   appended {seq} {who} {row} {cs} {text} wrote ended same nothing_more none_more settled sure live =
       let grows : Appended (state store begun) last seq who row cs text → Grows (state store first) last seq who row cs text
       = λ did. grown (state store first) (state store begun) last seq who row cs text (ap (λ (h : Held S). (state store h).now) is)
       (subst (λ (h : Held S). IsTrue (state store h).is_open) is did.0) live did.1 in
-      whole store old at is value wrote ended same nothing_more none_more (λ h s. Grows (state store h) s seq who row cs text) (λ h. Extends (state store h) seq who row cs text) settled sure
+      whole store old at is value wrote ended same nothing_more none_more (λ h s. Grows (state store h) s seq who row cs text) (λ h. StandsWithEntry (state store h) seq who row cs text) settled sure
       (λ did now_is W L e it. grown_now last (state store new) W _ now_is (grows did W L e it))
       (λ did db now_is W L e it. stands_in db last W _ now_is (grows did W L e it))
 

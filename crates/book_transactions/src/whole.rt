@@ -5,7 +5,7 @@ ghost use Rattle.profile.specs.Header.{Who as Partner};
 ghost use Rattle.profile.specs.Register as register;
 ghost use Rattle.sqlite.specs.Held.{state};
 ghost use Rattle.book_statements.specs.Carrying.{CarriesOver, StandsOpenAs};
-ghost use Rattle.book_statements.specs.Exits.{IsAppended, HasGrown, Extends};
+ghost use Rattle.book_statements.specs.Exits.{IsAppended, HasGrown, StandsWithEntry};
 ghost use Rattle.book_statements.specs.Limits.{Called};
 ghost use Rattle.book_statements.specs.Layout.{no_layout};
 ghost use Rattle.book_statements.specs.Making.{Makes};
@@ -36,7 +36,7 @@ pub fn append<'a, S: Alter>(
     ensures whole { IsWhole ((W : Partner) (L : List register.Entry) (e : register.Entry)
         → IsAppended (state S.Store conn.old) W L e seq who.now entry.now changes.now outgoing.now
         → HasGrown (state S.Store conn.new) W (L ++ e ∷ []))
-        (Extends (state S.Store conn.old) seq who.now entry.now changes.now outgoing.now)
+        (StandsWithEntry (state S.Store conn.old) seq who.now entry.now changes.now outgoing.now)
         (state S.Store conn.old) (state S.Store conn.new) result }
     ensures called { Called (counted_by conn.old calls.old) (counted_by conn.new calls.new) result }
 {

@@ -28,6 +28,6 @@ depositors_of text =
     option_and_then (λ ms. listed (get_member (codes "depositors") ms)) (parse_document text)
 
 -- what was read of a text; what is no UTF-8 lists nobody
-abbrev pub IsRead : List ℕ → Option (List Who) → Type 0
-IsRead text (Some ws) = IsUtf8 text × (depositors_of text ≡ Some ws)
-IsRead text None = IsUtf8 text → depositors_of text ≡ None
+abbrev pub IsRosterRead : List ℕ → Option (List Who) → Type 0
+IsRosterRead text (Some ws) = IsUtf8 text × (depositors_of text ≡ Some ws)
+IsRosterRead text None = IsUtf8 text → depositors_of text ≡ None

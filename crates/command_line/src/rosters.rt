@@ -52,7 +52,7 @@ fn listed(alloc: Global, table: &Table) -> Result<Option<Vec<Who>>, AllocError>
 /// of partners as `ZZ-ACME`; its other keys say nothing. None where it is another text. The one
 /// error is want of memory.
 pub fn depositors(alloc: Global, text: &[u8]) -> Result<Option<Vec<Who>>, AllocError>
-    ensures { IfOk result (λ found. meant.IsRead text.now (option_map (λ v. v.items) found)) }
+    ensures { IfOk result (λ found. meant.IsRosterRead text.now (option_map (λ v. v.items) found)) }
 {
     match toml::table_from_slice(alloc, text) {
         Ok(table) => listed(alloc, &table),

@@ -22,7 +22,7 @@ Ending = Result ExitStatus CommandError
 
 -- One command was handed in: its reply is printed, the register is the one after it, and a stop, of
 -- which it is said what it was, leaves the one before it or that one.
-pub record IsAnswered
+pub record IsHandedIn
     (old new : Standing) (c : Command) (t : Moment) (before later : Option (List ℕ))
     (ending : Ending) : Type 0 where
   pub printed : OfKept old new
@@ -37,14 +37,14 @@ pub record IsAnswered
 abbrev pub IsPerformed : Standing → Standing → Ready → Moment → Option (List ℕ) → Option (List ℕ)
     → Ending → Type 0
 IsPerformed old new (ready.Enrol who) t before later ending =
-    IsAnswered old new (Enrol who) t before later ending
+    IsHandedIn old new (Enrol who) t before later ending
 IsPerformed old new (ready.Roster partners) t before later ending =
     IsEnrolling old new partners.items t before later ending
 IsPerformed old new (ready.Send bytes) t before later ending =
-    IsAnswered old new (Interchange bytes.items) t before later ending
+    IsHandedIn old new (Interchange bytes.items) t before later ending
 IsPerformed old new (ready.Take dir) t before later ending = IsTaking old new t before later ending
 IsPerformed old new (ready.Clerk slip) t before later ending =
-    IsAnswered old new (command_of slip.who slip.words slip.sheet) t before later ending
+    IsHandedIn old new (command_of slip.who slip.words slip.sheet) t before later ending
 
 -- of the command's reply this is told on standard error
 abbrev pub IsSaid : Standing → Standing → Command → Moment → Option (List ℕ) → Option (List ℕ)

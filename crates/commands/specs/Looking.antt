@@ -6,8 +6,8 @@ use Rattle.intake.specs.Calls.{owner_of}
 use Rattle.commands.specs.Acting.{Ending}
 use Rattle.commands.specs.Readying.{IsChange, IsNothingDone}
 use Rattle.commands.specs.Shown.{IsLookAt, shown_of}
-use Rattle.commands.specs.declared.shows.Asked.{Asked}
-use Rattle.commands.specs.declared.shows.Asked.TheVariants as asks
+use Rattle.commands.specs.declared.shows.Look.{Look}
+use Rattle.commands.specs.declared.shows.Look.TheVariants as asks
 use Rattle.command_line.specs.declared.words.Show.{Show}
 use Rattle.command_line.specs.declared.words.Show.TheVariants as show
 use Rattle.command_line.specs.declared.words.Task.{Task}
@@ -16,7 +16,7 @@ use Rattle.command_line.specs.declared.words.Words.{Words}
 use Rattle.command_line.specs.declared.words.Words.TheVariants as words
 
 -- what the words ask for; nothing where one of them can't be read
-abbrev pub asked_for : Show → Option Asked
+abbrev pub asked_for : Show → Option Look
 asked_for (show.Stock name is_csv) = option_map (λ who. asks.Stock who is_csv) (who_of name.now)
 asked_for (show.Open name) = option_map asks.Open (who_of name.now)
 asked_for (show.Order name number) =
@@ -24,7 +24,7 @@ asked_for (show.Order name number) =
 asked_for (show.Outbox name number) = option_map (λ who. asks.Outbox who number) (who_of name.now)
 asked_for show.Depositors = Some asks.Depositors
 
-abbrev pub IsAskedFor : Show → Asked → Type 0
+abbrev pub IsAskedFor : Show → Look → Type 0
 IsAskedFor s asked = asked_for s ≡ Some asked
 
 -- whether the words can be read
@@ -32,7 +32,7 @@ abbrev pub is_readable : Show → Bool
 is_readable s = is_some (asked_for s)
 
 -- it was shown, and the book is as before
-abbrev pub IsLook : Standing → Standing → Asked → Option (List ℕ) → Option (List ℕ) → Ending
+abbrev pub IsLook : Standing → Standing → Look → Option (List ℕ) → Option (List ℕ) → Ending
     → Type 0
 IsLook old new asked before later ending =
     IsLookAt old new (λ L. shown_of old.warehouse L asked) before later ending
@@ -41,7 +41,7 @@ IsLook old new asked before later ending =
 pub record IsLookFor
     (old new : Standing) (s : Show) (before later : Option (List ℕ)) (ending : Ending)
     : Type 0 where
-  pub asked : Asked
+  pub asked : Look
   pub is : IsAskedFor s asked
   pub look : IsLook old new asked before later ending
 

@@ -4,7 +4,7 @@ use Rattle.std.specs.Borrow.{Bor}
 use Rattle.std.specs.List.{FoldsTo}
 use Rattle.std.specs.Io.KnownBytes.{Appends}
 use Rattle.profile.specs.Readings.{parts_at}
-use Rattle.store.specs.Standing.{Standing, IsUnchanged}
+use Rattle.store.specs.Standing.{Standing, IsUnchanged, GoesOn}
 use Rattle.command_line.specs.Lines.{Found, found_at, stands_first, Says}
 use Rattle.command_line.specs.declared.words.Place.TheVariants.{Script}
 use Rattle.command_line.specs.declared.words.Words.{Words}
@@ -29,21 +29,22 @@ abbrev pub asking : List ℕ → List (List ℕ)
 asking text = filter asks (parts_at 10 text)
 
 -- these words were read of the row, which has one between any two spaces
-pub record IsRead (row : List ℕ) (asked : Words) : Type 0 where
+pub record IsRowRead (row : List ℕ) (asked : Words) : Type 0 where
   pub found : Found
   pub words : found_at Script (parts_at 32 row) ≡ Some found
   pub first : stands_first found.0 (parts_at 32 row) ≡ true
   pub says : Says Script found asked
 
 -- A row was answered: its words were read, what they ask for was done with this ending, which left
--- the book so, and telling why it was refused changed nothing.
+-- the book so, and telling why it was refused changed nothing. No count falls meanwhile.
 pub record IsRowAnswered
     {K : Type 0} (standing : K → Standing) (old new : K) (row : List ℕ)
     (before later : Option (List ℕ)) (ending : Ending) : Type 0 where
   pub asked : Words
-  pub read : IsRead row asked
+  pub read : IsRowRead row asked
   pub left : K
   pub done : IsLineDone (standing old) (standing left) asked before later ending
+  pub goes : GoesOn (standing old) (standing left)
   pub same : IsUnchanged (standing left) (standing new)
 
 -- A row was done, or refused: of a book, what was printed and the status so far the row makes those

@@ -8,7 +8,7 @@ use Rattle.store.specs.Refusal.TheVariants.{BadText}
 use Rattle.store.specs.Standing.{Standing, IsUnchanged}
 use Rattle.commands.specs.Acting.{Ending, IsPerformed}
 use Rattle.commands.specs.Clerks.{IsNoSlip, IsSlipOf}
-use Rattle.command_line.specs.Rosters.{IsRead}
+use Rattle.command_line.specs.Rosters.{IsRosterRead}
 use Rattle.commands.specs.declared.files.TheConstants.{MOST_ROSTER}
 use Rattle.commands.specs.declared.acts.Ready.{Ready}
 use Rattle.commands.specs.declared.acts.Ready.TheVariants as ready
@@ -20,7 +20,7 @@ use Rattle.command_line.specs.declared.words.BookAct.TheVariants as act
 abbrev pub IsMadeReady : BookAct → Ready → Type 0
 IsMadeReady (act.Enrol who) (ready.Enrol w) = who_of who.now ≡ Some w
 IsMadeReady (act.Roster file) (ready.Roster partners) = (text : List ℕ)
-    × IsRead text (Some partners.items)
+    × IsRosterRead text (Some partners.items)
 IsMadeReady (act.Send file) (ready.Send bytes) = Unit {0}
 IsMadeReady (act.Take dir) (ready.Take folder) = folder ≡ dir
 IsMadeReady (act.Clerk told) (ready.Clerk slip) =
@@ -33,7 +33,7 @@ IsLonger most = (text : List ℕ) × (most < length text)
 
 -- a file lists no depositors: it is too long, or its text is no list
 abbrev pub IsNoRoster : Type 0
-IsNoRoster = IsLonger MOST_ROSTER ⊎ ((text : List ℕ) × IsRead text None)
+IsNoRoster = IsLonger MOST_ROSTER ⊎ ((text : List ℕ) × IsRosterRead text None)
 
 -- These words aren't made ready, for this reason. An interchange and a folder are handed in
 -- whatever they are.

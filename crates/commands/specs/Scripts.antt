@@ -5,7 +5,7 @@ use Rattle.store.specs.Standing.{Standing, IsUsable}
 use Rattle.command_line.specs.declared.words.Words.{Words}
 use Rattle.command_line.specs.declared.words.Words.TheVariants as words
 use Rattle.command_line.specs.declared.words.Task.TheVariants as task
-use Rattle.commands.specs.Playing.{HasPlayed, IsRead}
+use Rattle.commands.specs.Playing.{HasPlayed, IsRowRead}
 use Rattle.commands.specs.declared.told.ExitStatus.{ExitStatus}
 use Rattle.commands.specs.declared.told.ExitStatus.TheVariants.{Done, Refused}
 
@@ -17,7 +17,7 @@ IsInit asked name = ⊥
 -- the row asks for a book of this name
 pub record AsksForBook (row name : List ℕ) : Type 0 where
   pub asked : Words
-  pub read : IsRead row asked
+  pub read : IsRowRead row asked
   pub init : IsInit asked name
 
 -- the book of the name that the row asks for, with the empty register

@@ -42,13 +42,13 @@ pub record Came
   pub counted : length connections ≡ count
 
 -- So many connections of that audience were served of a book.
-abbrev pub Served : {K : Type 0} → (K → Standing) → Audience → Bool → Moment → K → K → ℕ → Type 0
-Served standing audience has_clock first book left count =
+abbrev pub HasServed : {K : Type 0} → (K → Standing) → Audience → Bool → Moment → K → K → ℕ → Type 0
+HasServed standing audience has_clock first book left count =
     Came (λ old c new. IsServed audience (standing old) (standing new) c) has_clock first book
     left count
 
 -- The same of some number, this one at most.
-abbrev pub ServedUpTo : {K : Type 0} → (K → Standing) → Audience → Bool → Moment → K → K → ℕ
+abbrev pub HasServedUpTo : {K : Type 0} → (K → Standing) → Audience → Bool → Moment → K → K → ℕ
     → Type 0
-ServedUpTo standing audience has_clock first book left most =
-    (n : ℕ) × (n ≤ most) × Served standing audience has_clock first book left n
+HasServedUpTo standing audience has_clock first book left most =
+    (n : ℕ) × (n ≤ most) × HasServed standing audience has_clock first book left n

@@ -18,8 +18,8 @@ use Rattle.commands.specs.Telling.{line_of}
 use Rattle.commands.specs.declared.told.CommandError.{CommandError}
 use Rattle.commands.specs.declared.told.ExitStatus.{ExitStatus}
 use Rattle.commands.specs.declared.told.ExitStatus.TheVariants.{Done, Refused}
-use Rattle.commands.specs.declared.shows.Asked.{Asked}
-use Rattle.commands.specs.declared.shows.Asked.TheVariants as asks
+use Rattle.commands.specs.declared.shows.Look.{Look}
+use Rattle.commands.specs.declared.shows.Look.TheVariants as asks
 
 -- what is printed, and the status
 abbrev pub Shown : Type 0
@@ -56,7 +56,7 @@ shown_order number None = ([], Refused)
 shown_order number (Some h) = shown_sheet (pick_list h.events number)
 
 -- what a warehouse with this register shows
-abbrev pub shown_of : Who → List Entry → Asked → Shown
+abbrev pub shown_of : Who → List Entry → Look → Shown
 shown_of W L (asks.Stock who is_csv) = shown_stock is_csv (stock_of L who)
 shown_of W L (asks.Open who) = shown_open (open_of L who)
 shown_of W L (asks.Order who number) = shown_order number.now (standing (own L who))

@@ -34,8 +34,8 @@ pub record IsErrorStop (error : Error) (stop : CommandError) : Type 0 where
   pub device : IsDeviceStop stop
 
 -- a device that doesn't serve, or want of memory, whatever is said of it
-abbrev pub IsDeviceFault : CommandError → Type 0
-IsDeviceFault stop = (fault_in stop ≡ Some faults.OutOfMemory)
+abbrev pub HasDeviceFault : CommandError → Type 0
+HasDeviceFault stop = (fault_in stop ≡ Some faults.OutOfMemory)
     ⊎ (fault_in stop ≡ Some faults.Device)
 
 -- a fault of which this is so

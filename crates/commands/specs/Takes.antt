@@ -3,7 +3,7 @@ use Rattle.std.specs.Prelude.{◌≡◌, ◌⊎◌, ℕ, Bool, true, false, List
 use Rattle.std.specs.Io.KnownBytes.{Appends}
 use Rattle.std.specs.List.{list_any}
 use Rattle.profile.specs.Moments.{Moment}
-use Rattle.folders.specs.Folders.{Became, WasRefused, AreTextsTaken, IsStopped, became_of}
+use Rattle.folders.specs.Folders.{Became, WasRefused, AreTextsTaken, IsFolderStopped, became_of}
 use Rattle.folders.specs.Lines.{taken_line}
 use Rattle.folders.specs.declared.folder.Taken.{Taken}
 use Rattle.folders.specs.declared.passing.PassedOver.{PassedOver}
@@ -58,12 +58,12 @@ pub record IsFolderUntold (old new : Standing) (t : Moment) (stop : CommandError
   pub why : IsDeviceStop stop
 
 -- the folder stopped at a file, or wasn't told
-abbrev pub IsHalted : Standing → Standing → Moment → CommandError → Type 0
-IsHalted old new t stop = IsFaultThat stop (λ fault. IsStopped fault old new t)
+abbrev pub IsFolderHalted : Standing → Standing → Moment → CommandError → Type 0
+IsFolderHalted old new t stop = IsFaultThat stop (λ fault. IsFolderStopped fault old new t)
     ⊎ IsFolderUntold old new t stop
 
 -- how taking a folder ended
 abbrev pub IsTaking : Standing → Standing → Moment → Option (List ℕ) → Option (List ℕ)
     → Result ExitStatus CommandError → Type 0
 IsTaking old new t before later (Ok status) = IsFolderTaken old new t before later status
-IsTaking old new t before later (Err stop) = IsHalted old new t stop
+IsTaking old new t before later (Err stop) = IsFolderHalted old new t stop

@@ -6,7 +6,7 @@ ghost use Rattle.profile.specs.Register.{Enrol as Enrolment};
 ghost use Rattle.store.specs.Asked.{asked};
 ghost use Rattle.store.specs.Runs.{told};
 ghost use Rattle.store.specs.Standing.{GoesOn};
-ghost use Rattle.commands.specs.Acting.{IsAnswered, IsPerformed, IsSaid, IsSaidOf};
+ghost use Rattle.commands.specs.Acting.{IsHandedIn, IsPerformed, IsSaid, IsSaidOf};
 ghost use Rattle.commands.specs.Readying.{IsMadeReady, IsUnready};
 ghost use Rattle.commands.specs.Stops.{IsDeviceStop};
 ghost use Rattle.commands.specs.Telling.{IsPrinted, said_of};
@@ -127,7 +127,7 @@ fn hand_in<K: Keeper, W: io::Write, E: io::Write>(
 ) -> Result<ExitStatus, CommandError>
     requires { is_command Two (asked command.now) ≡ true }
 
-    ensures answered { IsAnswered (K.standing book.old) (K.standing book.new) (asked command.now)
+    ensures answered { IsHandedIn (K.standing book.old) (K.standing book.new) (asked command.now)
         moment (W.contents out.old) (W.contents out.new) result }
     ensures said { IsSaid (K.standing book.old) (K.standing book.new) (asked command.now) moment
         (E.contents err.old) (E.contents err.new) result }
@@ -146,7 +146,7 @@ fn enrol<K: Keeper, W: io::Write, E: io::Write>(
     out: &mut W,
     err: &mut E,
 ) -> Result<ExitStatus, CommandError>
-    ensures answered { IsAnswered (K.standing book.old) (K.standing book.new) (Enrolment who) moment
+    ensures answered { IsHandedIn (K.standing book.old) (K.standing book.new) (Enrolment who) moment
         (W.contents out.old) (W.contents out.new) result }
     ensures said { IsSaid (K.standing book.old) (K.standing book.new) (Enrolment who) moment
         (E.contents err.old) (E.contents err.new) result }

@@ -3,7 +3,7 @@
 ghost use Rattle.std.specs.Prelude.{◌≡◌, Some};
 ghost use Rattle.std.specs.IoError.{error_kind};
 ghost use Rattle.folders.specs.Folders.{fault_of_kind};
-ghost use Rattle.commands.specs.Stops.{fault_in, IsDeviceFault};
+ghost use Rattle.commands.specs.Stops.{fault_in, HasDeviceFault};
 
 use crate::files::{MOST_SHEET, read_within};
 use crate::told::CommandError;
@@ -54,7 +54,7 @@ fn reason_of(kind: io::ErrorKind) -> &'static str {
 /// The fault of a file that can't be read, with its name: Device (44), or want of memory.
 pub fn about_file(alloc: Global, file: &str, error: &io::Error) -> CommandError
     ensures told { fault_in result ≡ Some (fault_of_kind (error_kind error.now)) }
-    ensures device { IsDeviceFault result }
+    ensures device { HasDeviceFault result }
 {
     match error.kind() {
         io::ErrorKind::OutOfMemory => CommandError::Fault(Fault::OutOfMemory),
@@ -65,7 +65,7 @@ pub fn about_file(alloc: Global, file: &str, error: &io::Error) -> CommandError
 /// The fault of a book that isn't there, with the command that makes one.
 pub fn about_missing(alloc: Global, book: &str, error: &io::Error) -> CommandError
     ensures told { fault_in result ≡ Some (fault_of_kind (error_kind error.now)) }
-    ensures device { IsDeviceFault result }
+    ensures device { HasDeviceFault result }
 {
     match error.kind() {
         io::ErrorKind::NotFound => caused(
@@ -151,7 +151,7 @@ pub fn about_book(alloc: Global, book: &str, is_made: bool, stop: CommandError) 
 /// The fault of an address at which nobody can listen.
 pub fn about_address(alloc: Global, address: &SocketAddr, error: io::Error) -> CommandError
     ensures told { fault_in result ≡ Some (fault_of_kind (error_kind error)) }
-    ensures device { IsDeviceFault result }
+    ensures device { HasDeviceFault result }
 {
     let CommandError::Fault(fault) = CommandError::from(error) else {
         return CommandError::Fault(Fault::Device);

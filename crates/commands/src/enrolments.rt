@@ -119,7 +119,8 @@ pub fn read_roster<R: Files + AllocGlobal>(
     file: &str,
 ) -> Result<Option<Vec<Who>>, CommandError>
     ensures read { IfOk result
-        (λ found. IfSome found (λ whos. (text : List ℕ) × meant.IsRead text (Some whos.items))) }
+        (λ found. IfSome found (λ whos. (text : List ℕ)
+        × meant.IsRosterRead text (Some whos.items))) }
     ensures none { IfOk result (λ found. IfNone found IsNoRoster) }
 {
     match read_within(rt, file, MOST_ROSTER)? {

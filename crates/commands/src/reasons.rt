@@ -23,7 +23,7 @@ use store::{Goods, Keeper, Key, KnownOrder, Page, Refusal, SheetKind, need};
 
 /// A pair of item and lot that a book keeps, as far as it may be why a clerk's sheet is refused.
 #[derive(Clone, Copy)]
-pub struct Kept<'a> {
+pub struct KeptPair<'a> {
     /// The item.
     pub item: &'a [u8],
     /// The lot.
@@ -40,14 +40,14 @@ fn text_of(bytes: &[u8]) -> &str {
 }
 
 // What is kept of a line's pair, if anything is.
-fn kept_of<'k, 'a>(kept: &'k [Kept<'a>], line: &Goods) -> Option<&'k Kept<'a>>
+fn kept_of<'k, 'a>(kept: &'k [KeptPair<'a>], line: &Goods) -> Option<&'k KeptPair<'a>>
     ensures { option_copied result ≡ meant.kept_of kept.now line.now }
 {
     kept.iter().find(|pair| pair.item == line.item.as_slice() && pair.lot == line.lot.as_slice())
 }
 
 // How much is reserved of a line's pair.
-fn reserved_of(kept: &[Kept<'_>], line: &Goods) -> u64
+fn reserved_of(kept: &[KeptPair<'_>], line: &Goods) -> u64
     ensures { result ≡ meant.reserved_of kept.now line.now }
 {
     match kept_of(kept, line) {
@@ -57,7 +57,7 @@ fn reserved_of(kept: &[Kept<'_>], line: &Goods) -> u64
 }
 
 // Whether a count may not have named a line's pair.
-fn is_doubtful(kept: &[Kept<'_>], line: &Goods) -> bool
+fn is_doubtful(kept: &[KeptPair<'_>], line: &Goods) -> bool
     ensures { result ≡ meant.is_doubtful kept.now line.now }
 {
     match kept_of(kept, line) {
@@ -67,21 +67,21 @@ fn is_doubtful(kept: &[Kept<'_>], line: &Goods) -> bool
 }
 
 // How many lines have pairs that a count may not have named.
-fn doubtful(lines: &[Goods], kept: &[Kept<'_>]) -> usize
+fn doubtful(lines: &[Goods], kept: &[KeptPair<'_>]) -> usize
     ensures { result ≡ count_by (meant.is_doubtful kept.now) lines.now }
 {
     lines.iter().filter(|line| is_doubtful(kept, line)).count()
 }
 
 // The first of them.
-fn first_doubtful<'l>(lines: &'l [Goods], kept: &[Kept<'_>]) -> Option<&'l Goods>
+fn first_doubtful<'l>(lines: &'l [Goods], kept: &[KeptPair<'_>]) -> Option<&'l Goods>
     ensures { option_copied result ≡ find (meant.is_doubtful kept.now) lines.now }
 {
     lines.iter().find(|line| is_doubtful(kept, line))
 }
 
 // The only one of them; of several it isn't known which it is.
-fn only_doubtful<'l>(lines: &'l [Goods], kept: &[Kept<'_>]) -> Option<&'l Goods>
+fn only_doubtful<'l>(lines: &'l [Goods], kept: &[KeptPair<'_>]) -> Option<&'l Goods>
     ensures { option_copied result ≡ meant.only_doubtful kept.now lines.now }
 {
     if doubtful(lines, kept) == 1 {
@@ -92,14 +92,14 @@ fn only_doubtful<'l>(lines: &'l [Goods], kept: &[Kept<'_>]) -> Option<&'l Goods>
 }
 
 // Whether nothing is kept of a line's pair.
-fn is_unkept(kept: &[Kept<'_>], line: &Goods) -> bool
+fn is_unkept(kept: &[KeptPair<'_>], line: &Goods) -> bool
     ensures { result ≡ meant.is_unkept kept.now line.now }
 {
     kept_of(kept, line).is_none()
 }
 
 // The first line of whose pair nothing is kept.
-fn first_unkept<'l>(lines: &'l [Goods], kept: &[Kept<'_>]) -> Option<&'l Goods>
+fn first_unkept<'l>(lines: &'l [Goods], kept: &[KeptPair<'_>]) -> Option<&'l Goods>
     ensures { option_copied result ≡ find (meant.is_unkept kept.now) lines.now }
 {
     lines.iter().find(|line| is_unkept(kept, line))
@@ -107,7 +107,7 @@ fn first_unkept<'l>(lines: &'l [Goods], kept: &[Kept<'_>]) -> Option<&'l Goods>
 
 // The line whose pair no count has named: the first one of whose pair nothing is kept, or the only
 // one of which it isn't known that a count named it.
-fn unnamed<'l>(lines: &'l [Goods], kept: &[Kept<'_>]) -> Option<&'l Goods>
+fn unnamed<'l>(lines: &'l [Goods], kept: &[KeptPair<'_>]) -> Option<&'l Goods>
     ensures { option_copied result ≡ meant.unnamed kept.now lines.now }
 {
     match first_unkept(lines, kept) {
@@ -117,28 +117,28 @@ fn unnamed<'l>(lines: &'l [Goods], kept: &[Kept<'_>]) -> Option<&'l Goods>
 }
 
 // Whether more of a line's pair is picked than is reserved.
-fn is_over(kept: &[Kept<'_>], line: &Goods) -> bool
+fn is_over(kept: &[KeptPair<'_>], line: &Goods) -> bool
     ensures { result ≡ meant.is_over kept.now line.now }
 {
     reserved_of(kept, line) < u64::from(line.quantity)
 }
 
 // The first line of whose pair more is picked than is reserved.
-fn first_over<'l>(lines: &'l [Goods], kept: &[Kept<'_>]) -> Option<&'l Goods>
+fn first_over<'l>(lines: &'l [Goods], kept: &[KeptPair<'_>]) -> Option<&'l Goods>
     ensures { option_copied result ≡ find (meant.is_over kept.now) lines.now }
 {
     lines.iter().find(|line| is_over(kept, line))
 }
 
 // Whether less of a line's pair is left than is reserved.
-fn is_under(kept: &[Kept<'_>], line: &Goods) -> bool
+fn is_under(kept: &[KeptPair<'_>], line: &Goods) -> bool
     ensures { result ≡ meant.is_under kept.now line.now }
 {
     u64::from(line.quantity) < reserved_of(kept, line)
 }
 
 // The first line of whose pair less is left than is reserved.
-fn first_under<'l>(lines: &'l [Goods], kept: &[Kept<'_>]) -> Option<&'l Goods>
+fn first_under<'l>(lines: &'l [Goods], kept: &[KeptPair<'_>]) -> Option<&'l Goods>
     ensures { option_copied result ≡ find (meant.is_under kept.now) lines.now }
 {
     lines.iter().find(|line| is_under(kept, line))
@@ -146,7 +146,7 @@ fn first_under<'l>(lines: &'l [Goods], kept: &[Kept<'_>]) -> Option<&'l Goods>
 
 // The line of a sheet that is the reason of a refusal, by what is kept of the pairs; None of a
 // refusal that no line is the reason of, or where it isn't known.
-fn blamed<'l>(refusal: Refusal, lines: &'l [Goods], kept: &[Kept<'_>]) -> Option<&'l Goods>
+fn blamed<'l>(refusal: Refusal, lines: &'l [Goods], kept: &[KeptPair<'_>]) -> Option<&'l Goods>
     ensures { option_copied result ≡ meant.blamed refusal kept.now lines.now }
 {
     match refusal {
@@ -203,7 +203,7 @@ pub fn reason(
     refusal: Refusal,
     words: &ClerkWords<'_>,
     text: &[u8],
-    kept: &[Kept<'_>],
+    kept: &[KeptPair<'_>],
 ) -> Result<Option<String>, AllocError>
     ensures blamed { (sheet : List Line)
         → sheet_of_text Two words.now.kind text.now ≡ Ok sheet
@@ -223,10 +223,10 @@ pub fn reason(
 }
 
 // What an order has reserved.
-fn held_of(alloc: Global, order: &KnownOrder) -> Result<Vec<Kept<'_>>, AllocError> {
+fn held_of(alloc: Global, order: &KnownOrder) -> Result<Vec<KeptPair<'_>>, AllocError> {
     let mut kept = Vec::new(alloc);
     for share in &order.reserved {
-        kept.push(Kept {
+        kept.push(KeptPair {
             item: &share.item,
             lot: &share.lot,
             reserved: u64::from(share.quantity),
@@ -237,11 +237,11 @@ fn held_of(alloc: Global, order: &KnownOrder) -> Result<Vec<Kept<'_>>, AllocErro
 }
 
 // The pairs of a page that a count has named.
-fn counted_of(alloc: Global, page: &Page) -> Result<Vec<Kept<'_>>, AllocError> {
+fn counted_of(alloc: Global, page: &Page) -> Result<Vec<KeptPair<'_>>, AllocError> {
     let mut kept = Vec::new(alloc);
     for row in page.rows() {
         if row.since > 0 {
-            kept.push(Kept {
+            kept.push(KeptPair {
                 item: &row.item,
                 lot: &row.lot,
                 reserved: row.reserved,

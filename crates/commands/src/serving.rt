@@ -1,8 +1,9 @@
 //! A book served over HTTP.
 ghost use Rattle.std.specs.Prelude.{◌≡◌, ◌≤◌, ℕ, OnOk, OnErr, unwrap_or};
+ghost use Rattle.store.specs.Standing.{GoesOn};
 ghost use Rattle.intake.specs.Connections.{IsServed};
 ghost use Rattle.commands.specs.Serving as meant;
-ghost use Rattle.commands.specs.Serving.{NextMoment, Comes, Served, ServedUpTo};
+ghost use Rattle.commands.specs.Serving.{NextMoment, Comes, HasServed, HasServedUpTo};
 
 use crate::causes::{about_address, about_replaced};
 use crate::clock::now;
@@ -147,6 +148,7 @@ fn serve_asking<
     ensures ended { OnErr result ((n : ℕ) × (n ≤ service.now.count) × Comes F.step
         (λ old c new. IsServed audience (K.standing old) (K.standing new) c)
         has_clock ask first book.old book.new n) }
+    ensures goes { GoesOn (K.standing book.old) (K.standing book.new) }
 {
     let mut last = first;
     let mut is_told = true;
@@ -205,10 +207,11 @@ pub fn serve_on<K: Keeper, A: FnMut() -> bool, W: io::Write, E: io::Write>(
 ) -> Result<ExitStatus, CommandError>
     requires admits { A.IsAlwaysCallable admits }
 
-    ensures served { OnOk result (Served K.standing (meant.audience_of service.now.clerks)
+    ensures served { OnOk result (HasServed K.standing (meant.audience_of service.now.clerks)
         has_clock first book.old book.new service.now.count) }
-    ensures ended { OnErr result (ServedUpTo K.standing (meant.audience_of service.now.clerks)
+    ensures ended { OnErr result (HasServedUpTo K.standing (meant.audience_of service.now.clerks)
         has_clock first book.old book.new service.now.count) }
+    ensures goes { GoesOn (K.standing book.old) (K.standing book.new) }
 {
     serve_asking(
         rt,
@@ -248,10 +251,11 @@ pub fn serve<K: Keeper, W: io::Write, E: io::Write>(
     out: &mut W,
     err: &mut E,
 ) -> Result<ExitStatus, CommandError>
-    ensures served { OnOk result (Served K.standing (meant.audience_of service.now.clerks)
+    ensures served { OnOk result (HasServed K.standing (meant.audience_of service.now.clerks)
         has_clock first book.old book.new service.now.count) }
-    ensures ended { OnErr result (ServedUpTo K.standing (meant.audience_of service.now.clerks)
+    ensures ended { OnErr result (HasServedUpTo K.standing (meant.audience_of service.now.clerks)
         has_clock first book.old book.new service.now.count) }
+    ensures goes { GoesOn (K.standing book.old) (K.standing book.new) }
 {
     let listener = match TcpListener::bind(rt, service.address) {
         Ok(listener) => listener,

@@ -20,7 +20,7 @@ use store::{Keeper, Need, Refusal, Who};
 
 /// What is to be shown, its words tested.
 #[derive(Clone, Copy)]
-pub enum Asked<'a> {
+pub enum Look<'a> {
     /// What a depositor has, as CSV or not.
     Stock(Who, bool),
     /// What a depositor has open.
@@ -41,23 +41,23 @@ fn named(who: &str) -> Option<Who>
 }
 
 // What a line asks to be shown; None where one of its words can't be read.
-fn read<'a>(show: &Show<'a>) -> Option<Asked<'a>>
+fn read<'a>(show: &Show<'a>) -> Option<Look<'a>>
     ensures { result ≡ asked_for show.now }
 {
     match show {
-        Show::Stock { who, is_csv } => Some(Asked::Stock(named(*who)?, *is_csv)),
-        Show::Open { who } => Some(Asked::Open(named(*who)?)),
-        Show::Order { who, number } => Some(Asked::Order(
+        Show::Stock { who, is_csv } => Some(Look::Stock(named(*who)?, *is_csv)),
+        Show::Open { who } => Some(Look::Open(named(*who)?)),
+        Show::Order { who, number } => Some(Look::Order(
             owner((*who).as_bytes(), (*number).as_bytes())?,
             *number,
         )),
-        Show::Outbox { who, number } => Some(Asked::Outbox(named(*who)?, *number)),
-        Show::Depositors => Some(Asked::Depositors),
+        Show::Outbox { who, number } => Some(Look::Outbox(named(*who)?, *number)),
+        Show::Depositors => Some(Look::Depositors),
     }
 }
 
 /// What a line asks to be shown. Refused is 32, a word that can't be read.
-pub fn ask<'a>(show: &Show<'a>) -> Result<Asked<'a>, Refusal>
+pub fn ask<'a>(show: &Show<'a>) -> Result<Look<'a>, Refusal>
     ensures asked { IfOk result (IsAskedFor show.now) }
     ensures refused { IfErr result
         (λ refusal. (refusal ≡ Refusal.BadText) × (is_readable show.now ≡ false)) }
@@ -220,7 +220,7 @@ fn depositors<K: Keeper, W: io::Write>(
 pub fn show<K: Keeper, W: io::Write, E: io::Write>(
     alloc: Global,
     book: &mut K,
-    asked: &Asked<'_>,
+    asked: &Look<'_>,
     out: &mut W,
     err: &mut E,
 ) -> Result<ExitStatus, CommandError>
@@ -228,11 +228,11 @@ pub fn show<K: Keeper, W: io::Write, E: io::Write>(
         (W.contents out.old) (W.contents out.new) result }
 {
     match *asked {
-        Asked::Stock(who, is_csv) => stock(alloc, book, who, is_csv, out, err),
-        Asked::Open(who) => open(alloc, book, who, out, err),
-        Asked::Order(who, number) => order(alloc, book, who, number, out, err),
-        Asked::Outbox(who, None) => outbox(alloc, book, who, out, err),
-        Asked::Outbox(who, Some(number)) => content(alloc, book, who, number, out, err),
-        Asked::Depositors => depositors(alloc, book, out),
+        Look::Stock(who, is_csv) => stock(alloc, book, who, is_csv, out, err),
+        Look::Open(who) => open(alloc, book, who, out, err),
+        Look::Order(who, number) => order(alloc, book, who, number, out, err),
+        Look::Outbox(who, None) => outbox(alloc, book, who, out, err),
+        Look::Outbox(who, Some(number)) => content(alloc, book, who, number, out, err),
+        Look::Depositors => depositors(alloc, book, out),
     }
 }

@@ -104,7 +104,7 @@ pub fn take<R: Files + AllocGlobal + Clone + Drop, K: Keeper, W: io::Write, E: i
 ) -> Result<ExitStatus, CommandError>
     ensures taken { IfOk result (meant.IsFolderTaken (K.standing book.old) (K.standing book.new)
         moment (W.contents out.old) (W.contents out.new)) }
-    ensures halted { IfErr result (meant.IsHalted (K.standing book.old) (K.standing book.new)
+    ensures halted { IfErr result (meant.IsFolderHalted (K.standing book.old) (K.standing book.new)
         moment) }
     ensures goes { GoesOn (K.standing book.old) (K.standing book.new) }
 {

@@ -9,10 +9,10 @@ use Rattle.store.specs.declared.serving.Reply.TheVariants.{Accepted, Stored, Ref
 use Rattle.commands.specs.Telling.{line_of}
 use Rattle.intake.specs.Calls.{deed_reply}
 use Rattle.errands.specs.Heard.{heard, printed_document}
-use Rattle.errands.specs.Told.{IsReply, IsReplyToInterchange, IsToldAs, is_interchange}
+use Rattle.errands.specs.Told.{HasReplyText, IsReplyToInterchange, IsToldAs, is_interchange}
 use Rattle.errands.specs.declared.answers.HeardAs.TheVariants.{Done}
 
-pub act_told : (r : Reply) → IsReply r → IsToldAs r (deed_reply (told r))
+pub act_told : (r : Reply) → HasReplyText r → IsToldAs r (deed_reply (told r))
 unfolding digits
 act_told (Accepted text) is = record { printed = refl; heard_as = refl }
 act_told (Stored text) is = record { printed = refl; heard_as = refl }

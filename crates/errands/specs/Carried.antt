@@ -4,14 +4,14 @@ use Rattle.remote.specs.declared.answers.ServerAnswer.{ServerAnswer}
 use Rattle.remote.specs.declared.requests.Verb.{Verb}
 use Rattle.remote.specs.declared.requests.Verb.TheVariants.{Get, Post}
 use Rattle.store.specs.Fault.TheVariants.{OutOfMemory}
-use Rattle.commands.specs.Stops.{IsDeviceFault, fault_in}
+use Rattle.commands.specs.Stops.{HasDeviceFault, fault_in}
 use Rattle.commands.specs.declared.told.CommandError.{CommandError}
 use Rattle.commands.specs.declared.told.ExitStatus.{ExitStatus}
 use Rattle.command_line.specs.declared.words.Show.{Show}
 use Rattle.command_line.specs.declared.words.Show.TheVariants as show
 use Rattle.intake.specs.declared.audience.Audience.{Audience}
 use Rattle.intake.specs.declared.audience.Audience.TheVariants.{Partners, Clerks}
-use Rattle.errands.specs.Heard.{IsHalted, IsTold, TellsNothing, heard, heard_query, printed_document, printed_report}
+use Rattle.errands.specs.Heard.{IsAnswerHalted, IsAnswerTold, TellsNothing, heard, heard_query, printed_document, printed_report}
 use Rattle.errands.specs.Paths.{deed_path, look_path, path_text}
 use Rattle.errands.specs.declared.answers.HeardAs.{HeardAs}
 use Rattle.errands.specs.declared.errand.Errand.{Errand}
@@ -20,13 +20,13 @@ use Rattle.errands.specs.declared.errand.Errand.TheVariants as errand
 -- the answer was told as that to a command, and as that to a query of what these are shown
 abbrev pub TellsAsDocument : ServerAnswer → Option (List ℕ) → Option (List ℕ) → ExitStatus → Type 0
 TellsAsDocument a before after status =
-    IsTold (printed_document a.is_interchange a.body.items)
+    IsAnswerTold (printed_document a.is_interchange a.body.items)
     (heard a.status a.is_interchange a.body.items) before after status
 
 abbrev pub TellsAsReport : Audience → ServerAnswer → Option (List ℕ) → Option (List ℕ) → ExitStatus
     → Type 0
 TellsAsReport shown a before after status =
-    IsTold (printed_report a.status a.body.items)
+    IsAnswerTold (printed_report a.status a.body.items)
     (heard_query shown a.status a.is_interchange a.body.items) before after status
 
 -- how a courier, a request (its verb, path and body) and an answer belong together, and how a
@@ -48,13 +48,13 @@ module _ {C : Type 0} (brings : Brings C) (loses : Loses C) (stop : CommandError
   abbrev pub IsLost : Type 0
   IsLost =
       (old new : C) × (verb : Verb) × (path body : List ℕ) × loses old verb path body new
-      × IsDeviceFault stop
+      × HasDeviceFault stop
 
   -- an answer was brought that is heard as what stops a command so
   abbrev pub IsStoppedThere : Type 0
   IsStoppedThere =
       (old new : C) × (verb : Verb) × (path body : List ℕ) × (a : ServerAnswer) × (h : HeardAs)
-      × brings old verb path body a new × IsHeardAs a h × IsHalted h stop
+      × brings old verb path body a new × IsHeardAs a h × IsAnswerHalted h stop
 
   -- What stops a command at a server: want of memory before it is asked, a request without an
   -- answer, or what an answer is heard as.
@@ -79,8 +79,8 @@ module _ {C : Type 0} (brings : Brings C) (old new : C) (before after : Option (
       (a b : ServerAnswer) × (mid : C) × (a.status ≡ 404) × brings old Get (look_path s) [] a mid
       × brings mid Get other [] b new × tells a b
 
-  abbrev pub IsContent : Show → List ℕ → Type 0
-  IsContent s who =
+  abbrev pub IsTextShown : Show → List ℕ → Type 0
+  IsTextShown s who =
       ((a : ServerAnswer) × brings old Get (look_path s) [] a new × TellsAsDocument a before after
       status)
       ⊎ IsAskedTwice s (path_text (codes "outbox" ∷ who ∷ []))
@@ -91,15 +91,15 @@ module _ {C : Type 0} (brings : Brings C) (old new : C) (before after : Option (
       IsReported Partners s ⊎ IsAskedTwice s (path_text (codes "stock" ∷ who ∷ []))
       (λ a b. TellsAsReport Partners a before after status)
 
-  abbrev pub IsShown : Show → Type 0
-  IsShown (show.Outbox who (Some n)) = IsContent (show.Outbox who (Some n)) who.now
-  IsShown (show.Outbox who None) = IsReported Partners (show.Outbox who None)
-  IsShown (show.Stock who true) = IsExported (show.Stock who true) who.now
-  IsShown (show.Stock who false) = IsReported Partners (show.Stock who false)
-  IsShown s = IsReported Clerks s
+  abbrev pub IsShowDone : Show → Type 0
+  IsShowDone (show.Outbox who (Some n)) = IsTextShown (show.Outbox who (Some n)) who.now
+  IsShowDone (show.Outbox who None) = IsReported Partners (show.Outbox who None)
+  IsShowDone (show.Stock who true) = IsExported (show.Stock who true) who.now
+  IsShowDone (show.Stock who false) = IsReported Partners (show.Stock who false)
+  IsShowDone s = IsReported Clerks s
 
   -- an interchange is posted to /x12, a clerk's sheet to the path of the act
   abbrev pub IsCarried : Errand → Type 0
   IsCarried (errand.Send bytes) = IsPosted (codes "/x12") bytes.items
   IsCarried (errand.Deed words sheet) = IsPosted (deed_path words) sheet.items
-  IsCarried (errand.Look s) = IsShown s
+  IsCarried (errand.Look s) = IsShowDone s

@@ -12,7 +12,7 @@ use Rattle.store.specs.Fault.TheVariants as faults
 use Rattle.intake.specs.declared.audience.Audience.{Audience}
 use Rattle.intake.specs.declared.audience.Audience.TheVariants.{Partners, Clerks}
 use Rattle.commands.specs.Telling.{line_of, refused_line}
-use Rattle.commands.specs.Stops.{IsDeviceFault, fault_in}
+use Rattle.commands.specs.Stops.{HasDeviceFault, fault_in}
 use Rattle.commands.specs.declared.told.CommandError.{CommandError}
 use Rattle.commands.specs.declared.told.ExitStatus.{ExitStatus}
 use Rattle.commands.specs.declared.told.ExitStatus.TheVariants as statuses
@@ -113,7 +113,7 @@ IsStatus (Refused r) status = status ≡ statuses.Refused
 IsStatus (Stopped f) status = ⊥
 
 -- an answer was told: this was printed, and the exit status is its
-pub record IsTold
+pub record IsAnswerTold
     (printed : List ℕ) (h : HeardAs) (before after : Option (List ℕ)) (status : ExitStatus)
     : Type 0 where
   pub text : Appends before after printed
@@ -126,12 +126,12 @@ stop_of h = None
 
 -- what stops a command with an answer: the fault that it tells; and where it tells none, a device
 -- that doesn't take what is printed, or want of memory
-abbrev pub IsHalted : HeardAs → CommandError → Type 0
-IsHalted h stop = by (stop_of h)
+abbrev pub IsAnswerHalted : HeardAs → CommandError → Type 0
+IsAnswerHalted h stop = by (stop_of h)
   where
     by : Option Fault → Type 0
     by (Some fault) = fault_in stop ≡ Some fault
-    by None = IsDeviceFault stop
+    by None = HasDeviceFault stop
 
 -- nothing went out under the number that was asked for, which the status alone says
 abbrev pub TellsNothing : Option (List ℕ) → Option (List ℕ) → ExitStatus → Type 0

@@ -32,10 +32,10 @@ HasAnswer (refusals.Note code) text = note_in text ≡ Some code
 HasAnswer refusals.Duplicate text = Unit {0}
 HasAnswer other text = text ≡ []
 
-abbrev pub IsReply : Reply → Type 0
-IsReply (Accepted text) = Unit {0}
-IsReply (Stored text) = Unit {0}
-IsReply (Refused refusal text) = HasAnswer refusal text.items
+abbrev pub HasReplyText : Reply → Type 0
+HasReplyText (Accepted text) = Unit {0}
+HasReplyText (Stored text) = Unit {0}
+HasReplyText (Refused refusal text) = HasAnswer refusal text.items
 
 -- an interchange is refused as one that can't be read, by a note, as a duplicate, or for want of
 -- numbers

@@ -8,14 +8,14 @@ ghost use Rattle.intake.specs.Calls.{Call, call_of, deed_reply};
 ghost use Rattle.commands.specs.Clerks.{depositor_of};
 ghost use Rattle.commands.specs.Looking.{is_readable};
 ghost use Rattle.errands.specs.Paths.{deed_call, deed_path, look_path, show_call};
-ghost use Rattle.errands.specs.Told.{IsReply, IsReplyToInterchange, IsToldAs};
+ghost use Rattle.errands.specs.Told.{HasReplyText, IsReplyToInterchange, IsToldAs};
 
 use command_line::{ClerkWords, Show};
 use store::Reply;
 
 /// What a server responds to a clerk's act is told as the reply to it.
 pub fn an_act_is_told_as_over_the_book(reply: &Reply)
-    ensures { IsReply reply.now → IsToldAs reply.now (deed_reply (told reply.now)) }
+    ensures { HasReplyText reply.now → IsToldAs reply.now (deed_reply (told reply.now)) }
 {
     let _ = reply;
 }

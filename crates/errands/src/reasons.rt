@@ -1,14 +1,14 @@
 //! Why a book at a server refuses what a clerk did, for people. A server says the number of a
 //! refusal alone, so it is asked for what its book has of the sheet's pairs.
 ghost use Rattle.std.specs.Prelude.{◌≡◌, IfErr, None};
-ghost use Rattle.commands.specs.Stops.{IsDeviceFault};
+ghost use Rattle.commands.specs.Stops.{HasDeviceFault};
 
 use crate::answers::{HeardAs, heard};
 use crate::courier::Courier;
 use crate::errand::Errand;
 use crate::running::get_any;
 use command_line::{ClerkWords, Show};
-use commands::{CommandError, Kept, reason, tell_cause};
+use commands::{CommandError, KeptPair, reason, tell_cause};
 use remote::{Request, ServerAnswer, Unanswered};
 use std::alloc::{AllocError, Global};
 use std::io;
@@ -57,7 +57,7 @@ const HELD_LINE: usize = 40;
 
 // A pair of item and lot, and how much of it is reserved, in a line of a picking sheet; None of
 // another line.
-fn held_in(line: &str) -> Option<Kept<'_>> {
+fn held_in(line: &str) -> Option<KeptPair<'_>> {
     if line.len() < HELD_LINE || line.starts_with(' ') {
         return None;
     }
@@ -66,7 +66,7 @@ fn held_in(line: &str) -> Option<Kept<'_>> {
     if words.next().is_some() {
         return None;
     }
-    Some(Kept {
+    Some(KeptPair {
         item: item.as_bytes(),
         lot: lot.as_bytes(),
         reserved: reserved.parse().ok()?,
@@ -77,14 +77,14 @@ fn held_in(line: &str) -> Option<Kept<'_>> {
 // A pair of item and lot, and how much of it is reserved, in a record of the stock as CSV; None of
 // its headings. That a count named the pair is known where something is on hand, reserved or
 // shipped.
-fn stocked_in(record: &str) -> Option<Kept<'_>> {
+fn stocked_in(record: &str) -> Option<KeptPair<'_>> {
     let mut fields = record.split(',');
     let (item, lot) = (fields.next()?, fields.next()?);
     let mut amounts = fields.skip(2);
     let on_hand: u64 = amounts.next()?.parse().ok()?;
     let reserved: u64 = amounts.next()?.parse().ok()?;
     let shipped: u64 = amounts.next()?.parse().ok()?;
-    Some(Kept {
+    Some(KeptPair {
         item: item.as_bytes(),
         lot: lot.as_bytes(),
         reserved,
@@ -97,7 +97,7 @@ fn pairs_in<'a>(
     alloc: Global,
     refusal: Refusal,
     report: &'a str,
-) -> Result<Vec<Kept<'a>>, AllocError> {
+) -> Result<Vec<KeptPair<'a>>, AllocError> {
     let mut kept = Vec::new(alloc);
     for line in report.split('\n') {
         let pair = match refusal {
@@ -136,7 +136,7 @@ pub fn tell_reason_there<C: Courier, E: io::Write>(
     errand: &Errand<'_>,
     err: &mut E,
 ) -> Result<(), CommandError>
-    ensures { IfErr result IsDeviceFault }
+    ensures { IfErr result HasDeviceFault }
 {
     let (Errand::Deed(words, sheet), Some(refusal)) = (errand, courier.refusal()) else {
         return Ok(());

@@ -1,8 +1,8 @@
 //! A running server asked, and its answer told.
 ghost use Rattle.std.specs.Prelude.{◌≡◌, [], IfOk, IfErr, None, Some};
-ghost use Rattle.commands.specs.Stops.{IsDeviceFault, fault_in};
+ghost use Rattle.commands.specs.Stops.{HasDeviceFault, fault_in};
 ghost use Rattle.errands.specs.Heard.{stop_of, heard_query as query_of};
-ghost use Rattle.errands.specs.Carried.{IsCarried, IsContent, IsHaltedThere, IsExported, IsPosted, IsReported, IsShown};
+ghost use Rattle.errands.specs.Carried.{IsCarried, IsTextShown, IsHaltedThere, IsExported, IsPosted, IsReported, IsShowDone};
 ghost use Rattle.errands.specs.Paths.{look_path as path_for};
 
 use crate::answers::{HeardAs, heard, heard_query};
@@ -30,7 +30,7 @@ fn ask_server<C: Courier>(
         (λ answer. C.brings courier.old request.now.verb request.now.path.now request.now.body.now
         answer courier.new) }
     ensures lost { IfErr result (λ stop. C.loses courier.old request.now.verb request.now.path.now
-        request.now.body.now courier.new × IsDeviceFault stop) }
+        request.now.body.now courier.new × HasDeviceFault stop) }
 {
     match courier.carry(request) {
         Ok(answer) => Ok(answer),
@@ -94,7 +94,7 @@ pub(crate) fn get_any<C: Courier>(
     ensures brought { IfOk result
         (λ answer. C.brings courier.old Verb.Get (path_for show.now) [] answer courier.new) }
     ensures halted { IfErr result (IsHaltedThere C.brings C.loses) }
-    ensures device { IfErr result IsDeviceFault }
+    ensures device { IfErr result HasDeviceFault }
 {
     let path = look_path(alloc, show)?;
     let request = Request {
@@ -206,7 +206,7 @@ fn content<C: Courier, W: io::Write, E: io::Write>(
     out: &mut W,
     err: &mut E,
 ) -> Result<ExitStatus, CommandError>
-    ensures told { IfOk result (λ status. IsContent C.brings courier.old courier.new
+    ensures told { IfOk result (λ status. IsTextShown C.brings courier.old courier.new
         (W.contents out.old) (W.contents out.new) status show.now who.now) }
     ensures halted { IfErr result (IsHaltedThere C.brings C.loses) }
 {
@@ -232,7 +232,7 @@ fn look<C: Courier, W: io::Write, E: io::Write>(
     out: &mut W,
     err: &mut E,
 ) -> Result<ExitStatus, CommandError>
-    ensures told { IfOk result (λ status. IsShown C.brings courier.old courier.new
+    ensures told { IfOk result (λ status. IsShowDone C.brings courier.old courier.new
         (W.contents out.old) (W.contents out.new) status show.now) }
     ensures halted { IfErr result (IsHaltedThere C.brings C.loses) }
 {

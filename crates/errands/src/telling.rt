@@ -1,7 +1,7 @@
 //! The answer to a command or a query, told.
 ghost use Rattle.std.specs.Prelude.{[], IfOk, IfErr, OnOk};
 ghost use Rattle.std.specs.Io.KnownBytes.{Appends};
-ghost use Rattle.errands.specs.Heard.{IsHalted, IsStatus, IsTold, told_line, heard as heard_of, heard_query as query_of, printed_document, printed_report};
+ghost use Rattle.errands.specs.Heard.{IsAnswerHalted, IsStatus, IsAnswerTold, told_line, heard as heard_of, heard_query as query_of, printed_document, printed_report};
 
 use crate::answers::{HeardAs, heard, heard_query};
 use commands::{CommandError, ExitStatus, tell_refusal, tell_text};
@@ -19,7 +19,7 @@ fn tell_heard<E: io::Write>(
     ensures status { IfOk result (IsStatus heard) }
     ensures said { OnOk result
         (Appends (E.contents err.old) (E.contents err.new) (told_line heard)) }
-    ensures halted { IfErr result (IsHalted heard) }
+    ensures halted { IfErr result (IsAnswerHalted heard) }
 {
     match heard {
         HeardAs::Done => Ok(ExitStatus::Done),
@@ -36,14 +36,15 @@ pub fn tell_document<W: io::Write, E: io::Write>(
     out: &mut W,
     err: &mut E,
 ) -> Result<ExitStatus, CommandError>
-    ensures told { IfOk result (λ status. IsTold
+    ensures told { IfOk result (λ status. IsAnswerTold
         (printed_document answer.now.is_interchange answer.now.body.items)
         (heard_of answer.now.status answer.now.is_interchange answer.now.body.items)
         (W.contents out.old) (W.contents out.new) status) }
     ensures said { OnOk result (Appends (E.contents err.old) (E.contents err.new) (told_line
         (heard_of answer.now.status answer.now.is_interchange answer.now.body.items))) }
     ensures halted { IfErr result
-        (IsHalted (heard_of answer.now.status answer.now.is_interchange answer.now.body.items)) }
+        (IsAnswerHalted
+        (heard_of answer.now.status answer.now.is_interchange answer.now.body.items)) }
 {
     let heard = heard(answer.status, answer.is_interchange, &answer.body);
     if let HeardAs::Stopped(fault) = heard {
@@ -63,14 +64,14 @@ pub fn tell_report<W: io::Write, E: io::Write>(
     out: &mut W,
     err: &mut E,
 ) -> Result<ExitStatus, CommandError>
-    ensures told { IfOk result (λ status. IsTold
+    ensures told { IfOk result (λ status. IsAnswerTold
         (printed_report answer.now.status answer.now.body.items)
         (query_of shown answer.now.status answer.now.is_interchange answer.now.body.items)
         (W.contents out.old) (W.contents out.new) status) }
     ensures said { OnOk result (Appends (E.contents err.old) (E.contents err.new) (told_line
         (query_of shown answer.now.status answer.now.is_interchange answer.now.body.items))) }
     ensures halted { IfErr result
-        (IsHalted (query_of shown answer.now.status answer.now.is_interchange
+        (IsAnswerHalted (query_of shown answer.now.status answer.now.is_interchange
         answer.now.body.items)) }
 {
     let heard = heard_query(shown, answer.status, answer.is_interchange, &answer.body);

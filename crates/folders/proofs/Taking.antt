@@ -15,7 +15,7 @@ use Rattle.store.specs.Fault.{Fault}
 use Rattle.store.specs.Fault.TheVariants.{OutOfMemory, Store, Reopen, NotThisBook, Device}
 use Rattle.store.proofs.Changes.{clean_before, leaves_first, refused_after, unchanged_refl, usable_stays}
 use Rattle.store.proofs.Replies.{accepted_on-more, replies_on-more}
-use Rattle.folders.specs.Folders.{Became, became, handed, IsDeviceFault, AreTextsTaken, IsFolderFault, IsStopped, IsUntaken, became_of}
+use Rattle.folders.specs.Folders.{Became, became, handed, IsDeviceFault, AreTextsTaken, IsFolderFault, IsFolderStopped, IsUntaken, became_of}
 use Rattle.folders.specs.Stops.{IsFolderUnread, IsFolderStop}
 use Rattle.folders.specs.declared.folder.FolderStop.{FolderStop}
 use Rattle.folders.specs.declared.folder.Taken.{Taken}
@@ -91,7 +91,7 @@ either_usable s M first second last p q (inr u) = inr (subst (IsUsable s) q u)
 
 -- a file at which the folder stops, after those that were taken
 pub stopped_later : (a b c : Standing) (fault : Fault) (t : Moment) (texts : List (List ℕ)) (told : List Became) → GoesOn a b → a.shut ≡ b.shut → GoesOn b c
-    → AreTextsTaken a b t texts told → IsUntaken fault b c t → IsStopped fault a c t
+    → AreTextsTaken a b t texts told → IsUntaken fault b c t → IsFolderStopped fault a c t
 stopped_later a b c fault t texts told p same q before file = record {
   texts = texts;
   last = file.last;
@@ -123,7 +123,7 @@ device_fault fault a b same (inr h) = record {
 
 -- the folder stops between two files
 pub stopped_between : (a b : Standing) (fault : Fault) (t : Moment) (texts : List (List ℕ)) (told : List Became) → GoesOn a b → a.shut ≡ b.shut
-    → AreTextsTaken a b t texts told → IsDeviceFault fault → IsStopped fault a b t
+    → AreTextsTaken a b t texts told → IsDeviceFault fault → IsFolderStopped fault a b t
 stopped_between a b fault t texts told p same before why = record {
   texts = texts;
   last = [];

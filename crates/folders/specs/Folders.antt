@@ -84,7 +84,7 @@ pub record IsUntaken (fault : Fault) (old new : Standing) (t : Moment) : Type 0 
   pub why : IsFolderFault fault old new
 
 -- A folder that wasn't taken to its end.
-pub record IsStopped (fault : Fault) (old new : Standing) (t : Moment) : Type 0 where
+pub record IsFolderStopped (fault : Fault) (old new : Standing) (t : Moment) : Type 0 where
   pub texts : List (List ℕ)
   pub last : List ℕ
   pub taken : AreTakenUntil old new t texts last

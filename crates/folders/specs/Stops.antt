@@ -2,7 +2,7 @@
 use Rattle.std.specs.Prelude.{◌≡◌, length, None}
 use Rattle.profile.specs.Moments.{Moment}
 use Rattle.store.specs.Standing.{Standing}
-use Rattle.folders.specs.Folders.{IsDeviceFault, IsStopped}
+use Rattle.folders.specs.Folders.{IsDeviceFault, IsFolderStopped}
 use Rattle.folders.specs.declared.folder.FolderStop.{FolderStop}
 
 -- The folder couldn't be read, and nothing of it was handed in.
@@ -13,5 +13,5 @@ pub record IsFolderUnread (stop : FolderStop) : Type 0 where
 
 -- The folder wasn't taken to its end, and so many of its texts were taken before.
 pub record IsFolderStop (stop : FolderStop) (old new : Standing) (t : Moment) : Type 0 where
-  pub stopped : IsStopped stop.fault old new t
+  pub stopped : IsFolderStopped stop.fault old new t
   pub counted : stop.taken ≡ length stopped.texts

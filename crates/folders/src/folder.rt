@@ -1,6 +1,6 @@
 ghost use Rattle.std.specs.Prelude.{◌≡◌, ◌<◌, ◌++◌, ℕ, List, false, map, IfOk, IfErr, IfNone, OnOk, IsSorted, codes, string_bytes, vec_len, vec_capacity};
 ghost use Rattle.std.specs.IoError.{error_kind};
-ghost use Rattle.folders.specs.Folders.{became, became_of, fault_of_kind, IsDeviceFault, AreTextsTaken, IsFileTaken, IsUntaken, IsStopped};
+ghost use Rattle.folders.specs.Folders.{became, became_of, fault_of_kind, IsDeviceFault, AreTextsTaken, IsFileTaken, IsUntaken, IsFolderStopped};
 ghost use Rattle.folders.specs.Stops.{IsFolderUnread, IsFolderStop};
 ghost use Rattle.store.specs.Runs.{told};
 ghost use Rattle.store.specs.Standing.{GoesOn, IsUnchanged};
@@ -222,7 +222,7 @@ pub fn take_folder<R: Files + AllocGlobal + Clone + Drop, K: Keeper>(
     ensures rising { IfOk result
         (λ files. IsSorted ⟦<String as Ord>⟧.cmp (map (λ file. file.name) files.items)) }
     ensures stopped { IfErr result
-        (λ fault. IsStopped fault (K.standing keeper.old) (K.standing keeper.new) moment) }
+        (λ fault. IsFolderStopped fault (K.standing keeper.old) (K.standing keeper.new) moment) }
     ensures opened { OnOk result ((K.standing keeper.old).shut ≡ (K.standing keeper.new).shut) }
     ensures goes { GoesOn (K.standing keeper.old) (K.standing keeper.new) }
 {

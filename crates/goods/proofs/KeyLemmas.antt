@@ -227,27 +227,6 @@ sent_found n m f ds = by (document_at n ds) refl
 
 -- What is put at a place.
 
-pub advice_set : (k : PageAdvice) (ks : List PageAdvice) (i : ℕ) → rises_by comes_before shipment_of ks ≡ true → IsAt (is_shipment k.shipment) ks i → set ks i k ≡ put_advice k ks
-advice_set k ks i sorted at = at_set comes_before texts_strict shipment_of ks i k sorted at.within ((shipment_test k.shipment).says (get_or ks i k) (at.here k))
-
-pub advice_insert : (k : PageAdvice) (ks : List PageAdvice) (i : ℕ) → IsRank comes_before shipment_of ks k.shipment i → advice_at k.shipment ks ≡ None → insert ks i k ≡ put_advice k ks
-advice_insert k ks i rank none = rank_insert comes_before texts_strict shipment_of ks i k rank
-    (λ d within e. none_apart comes_before texts_strict shipment_of k.shipment (is_shipment k.shipment) (shipment_test k.shipment) ks i d none within e)
-
-pub order_set : (k : PageOrder) (ks : List PageOrder) (i : ℕ) → rises_by comes_before number_of ks ≡ true → IsAt (is_number k.number) ks i → set ks i k ≡ put_order k ks
-order_set k ks i sorted at = at_set comes_before texts_strict number_of ks i k sorted at.within ((number_test k.number).says (get_or ks i k) (at.here k))
-
-pub order_insert : (k : PageOrder) (ks : List PageOrder) (i : ℕ) → IsRank comes_before number_of ks k.number i → order_at k.number ks ≡ None → insert ks i k ≡ put_order k ks
-order_insert k ks i rank none = rank_insert comes_before texts_strict number_of ks i k rank
-    (λ d within e. none_apart comes_before texts_strict number_of k.number (is_number k.number) (number_test k.number) ks i d none within e)
-
-pub document_set : (d : PageDocument) (ds : List PageDocument) (i : ℕ) → rises_by nat_lt entry_of ds ≡ true → IsAt (is_document d.n) ds i → set ds i d ≡ put_document d ds
-document_set d ds i sorted at = at_set nat_lt numbers_strict entry_of ds i d sorted at.within ((document_test d.n).says (get_or ds i d) (at.here d))
-
-pub document_insert : (d : PageDocument) (ds : List PageDocument) (i : ℕ) → IsRank nat_lt entry_of ds d.n i → document_at d.n ds ≡ None → insert ds i d ≡ put_document d ds
-document_insert d ds i rank none = rank_insert nat_lt numbers_strict entry_of ds i d rank
-    (λ e within same. none_apart nat_lt numbers_strict entry_of d.n (is_document d.n) (document_test d.n) ds i e none within same)
-
 pub documents_put_sorted : (d : PageDocument) (ds new : List PageDocument) → new ≡ put_document d ds → rises_by nat_lt entry_of ds ≡ true → rises_by nat_lt entry_of new ≡ true
 documents_put_sorted d ds new e sorted = ap (rises_by nat_lt entry_of) e ∙ put_rises nat_lt numbers_strict entry_of d ds sorted
 

@@ -1,6 +1,9 @@
 -- Lists in the order of their keys, each key once.
 use Rattle.std.specs.Prelude.{◌≡◌, ℕ, Bool, true, ◌&&◌, ◌||◌, List, [], ◌∷◌, if◌then◌else◌, bytes_eq, nat_lt, length, slice_index_or, ◌≤◌, ◌<◌, false}
 use Rattle.std.specs.List.{list_all}
+use Rattle.std.specs.Cmp.Lexicographic.{slice_cmp}
+use Rattle.std.specs.Ordering.{nat_cmp}
+use Rattle.std.specs.declared.cmp.Ordering.{Ordering}
 use Rattle.profile.specs.Bytes.{comes_before}
 use Rattle.profile.specs.Rows.{LotRow}
 use Rattle.profile.specs.Page.{PageAdvice, PageOrder, PageDocument}
@@ -26,6 +29,10 @@ pub record IsRank
 
 -- The keys of a page's lists: rows by item and then lot bytes, advices and orders by the bytes of
 -- their numbers, documents by theirs.
+
+-- how a text stands to another by their bytes
+abbrev pub text_order : List ℕ → List ℕ → Ordering
+text_order a b = slice_cmp nat_cmp a b
 
 abbrev pub Pair : Type 0
 Pair = List ℕ × List ℕ

@@ -120,7 +120,7 @@ set_by lines item lot n = fold (λ (m : ℕ) (l : Line). if is_pair item lot l t
     else m) n lines
 
 -- lines set what is on hand
-pub record IsSet (lines : List Line) (old new : List LotRow) : Type 0 where
+pub record SetsOnHand (lines : List Line) (old new : List LotRow) : Type 0 where
   pub sorted : IsSorted new
   pub on_hand : (item lot : List ℕ)
       → of_pair (amount OnHand) item lot new

@@ -5,7 +5,7 @@ use Rattle.profile.specs.Events.{quantity_of}
 use Rattle.profile.specs.Movements.{OnHand, Reservation}
 use Rattle.profile.specs.Rows.{LotRow}
 use Rattle.profile.specs.Page.{PageAdvice, PageOrder, PageDocument, page_line, reserved_lines}
-use Rattle.goods.specs.Moved.{IsAdvised, IsAdded, IsCounted, IsShipped, IsSet}
+use Rattle.goods.specs.Moved.{IsAdvised, IsAdded, IsCounted, IsShipped, SetsOnHand}
 use Rattle.goods.specs.OfPairs.{of_pair, since, amount}
 use Rattle.goods.specs.Keyed.{put_advice, put_order, put_document, rises_by, entry_of}
 use Rattle.goods.specs.Pages.{PageFacts, document_at}
@@ -103,7 +103,7 @@ is_on_hand rows l = l.quantity == of_pair (amount OnHand) l.item l.lot rows
 
 -- goods are counted again: the sheet says what is on hand
 pub record IsRecounted (n : ℕ) (sheet : List Line) (old new : PageFacts) : Type 0 where
-  pub rows : IsSet sheet old.rows new.rows
+  pub rows : SetsOnHand sheet old.rows new.rows
   pub advices : new.advices ≡ old.advices
   pub orders : new.orders ≡ old.orders
   pub documents : new.documents ≡ with_sent n (codes "AW") old.documents

@@ -1,9 +1,10 @@
 ghost use Rattle.std.specs.Prelude.{◌≡◌, Some};
+ghost use Rattle.std.specs.Ordering.{nat_cmp};
 ghost use Rattle.goods.specs.Functions.{function_text};
-ghost use Rattle.goods.specs.Pages.{is_document};
 ghost use Rattle.goods.specs.Steps.{decides};
 
 use sets_in::AckIn;
+use std::cmp::Ordering;
 use std::marker::Model;
 
 /// What kind of document was sent.
@@ -51,11 +52,11 @@ impl Model for KnownDocument {
 }
 
 impl KnownDocument {
-    /// Whether it is under this number.
-    pub fn is_under(&self, n: u32) -> bool
-        ensures { result ≡ is_document n self.now }
+    /// Whether its number comes before this one, is this one, or comes after it.
+    pub fn stands_to(&self, n: u32) -> Ordering
+        ensures { result ≡ nat_cmp self.now.n n }
     {
-        self.n == n
+        self.n.cmp(&n)
     }
 
     /// Whether an acknowledgment decides it, which the entry after this number brings.

@@ -1,13 +1,13 @@
 ghost use Rattle.std.specs.Prelude.{◌≡◌, ◌≤◌, length, sum_by, IfOk};
 ghost use Rattle.profile.specs.declared.rules.Rules.TheVariants.{Two};
-ghost use Rattle.profile.specs.Bytes.{comes_before};
 ghost use Rattle.profile.specs.Limits.{most_lines};
 ghost use Rattle.profile.specs.Page.{PageAdvice};
-ghost use Rattle.goods.specs.Pages.{is_shipment};
+ghost use Rattle.goods.specs.Keyed.{text_order};
 ghost use Rattle.goods.specs.Steps.{closed_advice};
 
 use sets_in::Goods;
 use std::alloc::AllocError;
+use std::cmp::Ordering;
 use std::marker::Model;
 
 /// An advice as a page has it.
@@ -73,18 +73,11 @@ impl KnownAdvice {
         &self.order
     }
 
-    /// Whether it is under this shipment number.
-    pub fn is_under(&self, shipment: &[u8]) -> bool
-        ensures { result ≡ is_shipment shipment.now self.now }
+    /// Whether its shipment number comes before this one, is this one, or comes after it.
+    pub fn stands_to(&self, shipment: &[u8]) -> Ordering
+        ensures { result ≡ text_order self.now.shipment shipment.now }
     {
-        self.shipment.as_slice() == shipment
-    }
-
-    /// Whether it comes before a shipment number.
-    pub fn is_before(&self, shipment: &[u8]) -> bool
-        ensures { result ≡ comes_before self.now.shipment shipment.now }
-    {
-        self.shipment.as_slice().cmp(&shipment).is_lt()
+        self.shipment.as_slice().cmp(&shipment)
     }
 
     /// What is advised, in the order of its set.

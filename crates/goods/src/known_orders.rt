@@ -1,11 +1,11 @@
 ghost use Rattle.std.specs.Prelude.{◌≡◌, IfOk, option_map};
-ghost use Rattle.profile.specs.Bytes.{comes_before};
 ghost use Rattle.profile.specs.Page.{PageLine, PageOrder};
-ghost use Rattle.goods.specs.Pages.{is_number};
+ghost use Rattle.goods.specs.Keyed.{text_order};
 ghost use Rattle.goods.specs.Steps.{closed_order};
 
 use sets_in::{Address, Goods};
 use std::alloc::AllocError;
+use std::cmp::Ordering;
 use std::marker::Model;
 
 /// A line of an order as a page has it.
@@ -64,18 +64,11 @@ impl KnownOrder {
         self.clone()
     }
 
-    /// Whether it is under this number.
-    pub fn is_under(&self, number: &[u8]) -> bool
-        ensures { result ≡ is_number number.now self.now }
+    /// Whether its number comes before this one, is this one, or comes after it.
+    pub fn stands_to(&self, number: &[u8]) -> Ordering
+        ensures { result ≡ text_order self.now.number number.now }
     {
-        self.number.as_slice() == number
-    }
-
-    /// Whether it comes before a number.
-    pub fn is_before(&self, number: &[u8]) -> bool
-        ensures { result ≡ comes_before self.now.number number.now }
-    {
-        self.number.as_slice().cmp(&number).is_lt()
+        self.number.as_slice().cmp(&number)
     }
 
     /// A copy of it that is closed: nothing is reserved for it any more. Want of memory is the one

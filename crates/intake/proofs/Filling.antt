@@ -1,13 +1,12 @@
 -- a buffer filled from two sources
-use Rattle.std.proofs.Common.{◌≡◌, ℕ, ◌+◌, ◌<◌, ◌≤◌, List, [], ◌∷◌, ◌++◌, take, Option, Some, None, sym, subst, length, ◌∙◌, ap, refl, arith, length-append, append-nil, append_assoc, unwrap_or, min, true, false, nat_le, inl, inr}
-use Rattle.std.proofs.lemmas.List.{take-append-le, take_all, length-take-le}
-use Rattle.std.proofs.Math.Seq.{take-append_seam}
+use Rattle.std.proofs.Common.{◌≡◌, ℕ, ◌+◌, ◌<◌, ◌≤◌, List, [], ◌++◌, take, Option, Some, None, length, ◌∙◌, refl, arith, length-append, append-nil, unwrap_or, min, true, false, nat_le, inl, inr}
+use Rattle.std.proofs.lemmas.List.{take_all, length-take-le}
 use Rattle.std.proofs.lemmas.Bool.Decides.{nat_tests}
 use Rattle.std.proofs.lemmas.Bool.{cases_lt}
 use Rattle.std.specs.Io.KnownBytes.{Consumes, IsAtEnd}
 use Rattle.gauges.specs.Inputs.{IsInput}
 use Rattle.gauges.proofs.InputLemmas.{had_input, full}
-use Rattle.intake.specs.Requests.{IsFilled}
+use Rattle.intake.specs.Requests.{FillsBuffer}
 
 pub own_input : (known : Option (List ℕ)) → IsInput known (unwrap_or known [])
 own_input None = tt
@@ -22,7 +21,7 @@ by_order {P} a b small large = elim (cases_lt b a) [ inl lt ↦ large lt | inr l
 
 pub filled_is : (old new : Option (List ℕ)) (start front back : List ℕ) (had more size : ℕ) → had ≡ min (length start) size → front ≡ take had start → length back + had ≡ size
     → more ≤ length back → Consumes old new (take more back) → (more < length back → IsAtEnd new)
-    → (input : List ℕ) × IsInput old input × IsFilled (nat_le (length back) more) (front ++ back) (start ++ input)
+    → (input : List ℕ) × IsInput old input × FillsBuffer (nat_le (length back) more) (front ++ back) (start ++ input)
 filled_is old new start front back had more size h f b within bytes end = by_order (length back) more
     (λ whole.
     let t : nat_le (length back) more ≡ true = grind (arith, nat_tests) in

@@ -1,9 +1,7 @@
 -- what was read so far, and the heads that it may begin with
-use Rattle.std.proofs.Common.{◌≡◌, ℕ, ◌+◌, ◌<◌, ◌≤◌, List, [], ◌++◌, take, drop, Option, sym, subst, length, ◌∙◌, ap, take-append-drop, arith, length-append}
+use Rattle.std.proofs.Common.{◌≡◌, ℕ, ◌+◌, ◌<◌, ◌≤◌, List, [], ◌++◌, take, drop, sym, length, ◌∙◌, ap, take-append-drop, arith, length-append}
 use Rattle.std.proofs.lemmas.List.{take-append-le}
 use Rattle.std.proofs.Math.Seq.{take-append_seam}
-use Rattle.std.proofs.KnownBytes.{Consumes-trans}
-use Rattle.std.specs.Io.KnownBytes.{Consumes}
 use Rattle.httparse.specs.Grammar.{RequestHead, ReadsRequest, HasNoRequest, print_request}
 use Rattle.fields.specs.Fields.{most_head, most_fields}
 use Rattle.intake.specs.Requests.{HasRequestHead, HasNoHead}

@@ -8,12 +8,12 @@ use Rattle.profile.specs.Moments.{Moment}
 use Rattle.store.specs.Standing.{Standing, IsUnchanged}
 use Rattle.intake.specs.declared.audience.Audience.{Audience}
 use Rattle.intake.specs.declared.served.Connection.{Connection}
-use Rattle.intake.specs.Connections.{HasTold, IsNotAccepted, IsOutcome, IsServedOn, moment_of}
-use Rattle.intake.specs.Serving.{IsWritten, IsUnread, IsUnwritten}
+use Rattle.intake.specs.Connections.{HasTold, IsNotAccepted, IsConnectionOutcome, IsServedOn, moment_of}
+use Rattle.intake.specs.Serving.{IsResponseWritten, IsUnread, IsUnwritten}
 
 -- by what its reader and its writer have, and what became of them
 pub served_on : (audience : Audience) (old new : Standing) (c : Connection) (known before later : Option (List ℕ)) (unread still unwritten more : ℕ)
-    → IfOk c.served.outcome (λ status. IsWritten audience old new known c.moment before later status c.served.line c.served.sender c.served.bytes)
+    → IfOk c.served.outcome (λ status. IsResponseWritten audience old new known c.moment before later status c.served.line c.served.sender c.served.bytes)
     → OnErr c.served.outcome (IsUnread old new known before later unread still c.served.line c.served.sender c.served.bytes
     ⊎ IsUnwritten audience old new known c.moment before later unwritten more c.served.line c.served.sender c.served.bytes)
     → IsServedOn audience old new c
@@ -37,7 +37,7 @@ pub not_accepted : {P : Type 0} (audience : Audience) (old new : Standing) (c : 
 not_accepted audience old new c found e same is = subst (λ o. MatchOption o (IsUnchanged old new × IsNotAccepted c) (λ p. IsServedOn audience old new c)) (sym e) (same, is)
 
 pub told_more : {K C T : Type 0} (serves : K → Connection → K → Type 0) (gives : C → Moment → C → Type 0) (takes : T → Connection → T → Type 0) (book left since : K) (clock after next : C) (told last more : T) (count : ℕ) (t : Moment) (c : Connection)
-    → HasTold serves gives takes book left clock after told last count → serves left c since → gives after t next → takes last c more → c.moment ≡ t → IsOutcome c
+    → HasTold serves gives takes book left clock after told last count → serves left c since → gives after t next → takes last c more → c.moment ≡ t → IsConnectionOutcome c
     → HasTold serves gives takes book since clock next told more (count + 1)
 told_more serves gives takes book left since clock after next told last more count t c so_far served given taken e outcome = record {
   connections = so_far.connections ++ c ∷ [];
@@ -46,5 +46,5 @@ told_more serves gives takes book left since clock after next told last more cou
       (FoldsTo-push gives clock (map moment_of so_far.connections) after (c.moment) next so_far.asked (subst (λ (m : Moment). gives after m next) (sym e) given));
   handed = FoldsTo-push takes told so_far.connections last c more so_far.handed taken;
   counted = length_push so_far.connections c ∙ ap (λ n. n + 1) so_far.counted;
-  outcomes = All-push IsOutcome so_far.connections c so_far.outcomes outcome;
+  outcomes = All-push IsConnectionOutcome so_far.connections c so_far.outcomes outcome;
 }

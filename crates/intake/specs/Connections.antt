@@ -2,15 +2,15 @@
 use Rattle.std.specs.Prelude.{◌≡◌, ◌⊎◌, ℕ, false, List, Option, None, Err, length, map, All, IfOk, IfErr, OnErr, MatchOption}
 use Rattle.std.specs.List.{FoldsTo}
 use Rattle.profile.specs.Moments.{Moment}
-use Rattle.store.specs.Standing.{Standing, IsUnchanged}
+use Rattle.store.specs.Standing.{Standing, IsUnchanged, GoesOn}
 use Rattle.store.specs.Fault.TheVariants.{Device}
-use Rattle.intake.specs.Serving.{IsWritten, IsUnread, IsUnwritten}
+use Rattle.intake.specs.Serving.{IsResponseWritten, IsUnread, IsUnwritten}
 use Rattle.intake.specs.declared.audience.Audience.{Audience}
 use Rattle.intake.specs.declared.served.Connection.{Connection}
 
 -- a status was answered, or the fault is Device
-abbrev pub IsOutcome : Connection → Type 0
-IsOutcome c = IfErr c.served.outcome (λ fault. fault ≡ Device)
+abbrev pub IsConnectionOutcome : Connection → Type 0
+IsConnectionOutcome c = IfErr c.served.outcome (λ fault. fault ≡ Device)
 
 abbrev pub moment_of : Connection → Moment
 moment_of c = c.moment
@@ -27,7 +27,7 @@ pub record IsServedOn (audience : Audience) (old new : Standing) (c : Connection
   pub reads : ℕ × ℕ
   pub writes : ℕ × ℕ
   pub written : IfOk c.served.outcome
-      (λ status. IsWritten audience old new known c.moment before later status c.served.line
+      (λ status. IsResponseWritten audience old new known c.moment before later status c.served.line
       c.served.sender c.served.bytes)
   pub stopped : OnErr c.served.outcome
       (IsUnread old new known before later reads.0 reads.1 c.served.line c.served.sender
@@ -50,9 +50,11 @@ IsConnection audience old new c =
     MatchOption c.peer (IsUnchanged old new
     × IsNotAccepted c) (λ peer. IsServedOn audience old new c)
 
--- the same of a book that needn't be opened again before it
-abbrev pub IsServed : Audience → Standing → Standing → Connection → Type 0
-IsServed audience old new c = (old.shut ≡ false) × IsConnection audience old new c
+-- the same of a book that needn't be opened again before it; no count falls meanwhile
+pub record IsServed (audience : Audience) (old new : Standing) (c : Connection) : Type 0 where
+  pub serves : old.shut ≡ false
+  pub goes : GoesOn old new
+  pub became : IsConnection audience old new c
 
 -- A clock was asked so often, and as many connections were handed to a closure, one after the
 -- other, each with the moment that the clock gave for it. This took the clock and the closure from
@@ -67,4 +69,4 @@ pub record HasTold
   pub asked : FoldsTo gives clock (map moment_of connections) after
   pub handed : FoldsTo takes told connections last
   pub counted : length connections ≡ count
-  pub outcomes : All IsOutcome connections
+  pub outcomes : All IsConnectionOutcome connections

@@ -23,6 +23,6 @@ IsBody CutOff size rest = length rest < size
 IsBody NoMemory size rest = Unit {0}
 
 -- the buffer is full of the first bytes, or there are too few
-abbrev pub IsFilled : Bool → List ℕ → List ℕ → Type 0
-IsFilled true buf bytes = IsFront buf (length buf) bytes
-IsFilled false buf bytes = length bytes < length buf
+abbrev pub FillsBuffer : Bool → List ℕ → List ℕ → Type 0
+FillsBuffer true buf bytes = IsFront buf (length buf) bytes
+FillsBuffer false buf bytes = length bytes < length buf

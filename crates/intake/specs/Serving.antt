@@ -140,7 +140,7 @@ pub record IsExchangeAfter
 
 -- A response was written: it was that to what the reader had. What is told is its status, the line
 -- of the request, who sent the interchange that was handed in, and how many bytes the response has.
-pub record IsWritten
+pub record IsResponseWritten
     (audience : Audience) (old new : Standing) (known : Option (List ℕ)) (t : Moment)
     (before later : Option (List ℕ)) (status : ℕ) (line : Option RequestLine) (sender : Option Who)
     (bytes : ℕ) : Type 0 where

@@ -1,6 +1,6 @@
 ghost use Rattle.std.specs.Prelude.{◌≡◌, ◌⊎◌, ◌≤◌, ℕ, Some, None, true, false, OnOk, OnErr, IfErr, IsErrOf};
 ghost use Rattle.store.specs.Standing.{GoesOn};
-ghost use Rattle.intake.specs.Connections.{HasTold, IsConnection, IsNotAccepted, IsOutcome, IsServed, IsServedOn};
+ghost use Rattle.intake.specs.Connections.{HasTold, IsConnection, IsNotAccepted, IsConnectionOutcome, IsServed, IsServedOn};
 
 use crate::audience::Audience;
 use crate::patience::{Patience, Patient, StoppedClock};
@@ -57,7 +57,7 @@ fn serve_on<K: Keeper, Q: Clock>(
 ) -> Connection
     ensures moment { result.moment ≡ moment }
     ensures peer { result.peer ≡ Some peer }
-    ensures outcome { IsOutcome result }
+    ensures outcome { IsConnectionOutcome result }
     ensures served { IsServedOn audience (K.standing keeper.old) (K.standing keeper.new) result }
     ensures goes { GoesOn (K.standing keeper.old) (K.standing keeper.new) }
 {
@@ -81,7 +81,7 @@ fn serve_on<K: Keeper, Q: Clock>(
 fn not_accepted(moment: Moment) -> Connection
     ensures moment { result.moment ≡ moment }
     ensures peer { result.peer ≡ None }
-    ensures outcome { IsOutcome result }
+    ensures outcome { IsConnectionOutcome result }
     ensures served { IsNotAccepted result }
 {
     Connection {
@@ -108,7 +108,7 @@ fn serve_next<K: Keeper, Q: Clock>(
     patience: &Patience<'_, Q>,
 ) -> Connection
     ensures moment { result.moment ≡ moment }
-    ensures outcome { IsOutcome result }
+    ensures outcome { IsConnectionOutcome result }
     ensures served { IsConnection audience (K.standing keeper.old) (K.standing keeper.new) result }
     ensures goes { GoesOn (K.standing keeper.old) (K.standing keeper.new) }
 {

@@ -4,7 +4,7 @@ ghost use Rattle.fields.specs.Fields.{most_head, most_fields};
 ghost use Rattle.httparse.specs.Spans.{IsRequestWithin, IsRequestOf};
 ghost use Rattle.gauges.specs.Gauges.{Grew};
 ghost use Rattle.gauges.specs.Inputs.{IsInput};
-ghost use Rattle.intake.specs.Requests.{HasNoHead, IsBody, IsFilled};
+ghost use Rattle.intake.specs.Requests.{HasNoHead, IsBody, FillsBuffer};
 
 use gauges::Gauge;
 use httparse::Status;
@@ -125,7 +125,7 @@ pub(crate) enum Content {
 fn fill_after<R: Read>(reader: &mut Gauge<R>, buf: &mut [u8], start: &[u8]) -> Result<bool, Unread>
     ensures whole { IfOk result
         (λ is_full. (input : List ℕ) × IsInput (R.remaining reader.old.inner) input
-        × IsFilled is_full buf.new (start.now ++ input)) }
+        × FillsBuffer is_full buf.new (start.now ++ input)) }
     ensures count { OnErr result (Grew reader.old.errors reader.new.errors) }
 {
     let had = start.len().min(buf.len());

@@ -6,7 +6,7 @@ ghost use Rattle.store.specs.Standing.{IsUnchanged, GoesOn};
 ghost use Rattle.intake.specs.Answers.{seen};
 ghost use Rattle.gauges.specs.Gauges.{Grew};
 ghost use Rattle.intake.specs.Lines.{IsLineAt, HasLine};
-ghost use Rattle.intake.specs.Serving.{IsExchange, IsExchangeAfter, IsWritten, IsUnread, IsUnwritten};
+ghost use Rattle.intake.specs.Serving.{IsExchange, IsExchangeAfter, IsResponseWritten, IsUnread, IsUnwritten};
 
 use crate::audience::Audience;
 use crate::heading::{length_of, read_method};
@@ -173,7 +173,7 @@ pub fn serve_telling<R: Read, W: Write, K: Keeper>(
     moment: Moment,
 ) -> Served
     ensures written { IfOk result.outcome (λ status.
-        IsWritten audience (K.standing keeper.old) (K.standing keeper.new)
+        IsResponseWritten audience (K.standing keeper.old) (K.standing keeper.new)
         (R.remaining reader.old.inner) moment
         (W.contents writer.old.inner) (W.contents writer.new.inner) status result.line result.sender
         result.bytes) }
@@ -224,7 +224,7 @@ pub fn serve_one<R: Read, W: Write, K: Keeper>(
 ) -> Result<StatusCode, Fault>
     ensures written { IfOk result
         (λ status. (line : Option RequestLine) × (sender : Option Partner) × (bytes : ℕ)
-        × IsWritten Audience.Partners (K.standing keeper.old) (K.standing keeper.new)
+        × IsResponseWritten Audience.Partners (K.standing keeper.old) (K.standing keeper.new)
         (R.remaining reader.old.inner) moment
         (W.contents writer.old.inner) (W.contents writer.new.inner) status line sender bytes) }
     ensures stopped { OnErr result ((line : Option RequestLine) × (sender : Option Partner)

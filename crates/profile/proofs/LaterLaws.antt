@@ -15,7 +15,7 @@ use Rattle.profile.specs.Cut.{Segment, id_of, last_segment}
 use Rattle.profile.specs.Words.{Words, Then, Times, IsWord, IsViable, kind_words, is_viable}
 use Rattle.profile.specs.declared.set_kind.SetKind.{SetKind}
 use Rattle.profile.specs.declared.set_kind.SetKind.TheVariants.{ShippingOrder, ShipmentAdvice, FunctionalAcknowledgment}
-use Rattle.profile.specs.Elements.{Row, Kind, Date, Quantity, must, may, quantity_digits, advice_total_digits, order_total_digits, goods_rows, takes, value_fault, element_fault, plain_lot_rows, lot_rows, segment_rows, rows_in, ElementFault, least_element_fault, faulty_element}
+use Rattle.profile.specs.Elements.{ElementRow, Kind, Date, Quantity, must, may, quantity_digits, advice_total_digits, order_total_digits, goods_rows, takes, value_fault, element_fault, plain_lot_rows, lot_rows, segment_rows, rows_in, ElementFault, least_element_fault, faulty_element}
 use Rattle.profile.specs.Faults.{SetFault, rows_after, inner_fault, segment_fault, least_fault, set_fault}
 use Rattle.profile.specs.Register.{Command, Interchange, Enrol, Clerk}
 use Rattle.profile.specs.Clerk.{is_act}
@@ -75,15 +75,15 @@ within_more least most n h k = by_test (nat_lt most n) refl
     by_test false e = e
 
 -- a row that allows more bytes
-element-longer : (d : Delims) (row : Row) (most : ℕ) (e : List ℕ) → row.most ≤ most → element_fault d row e ≡ None → element_fault d (record row { most = most }) e ≡ None
+element-longer : (d : Delims) (row : ElementRow) (most : ℕ) (e : List ℕ) → row.most ≤ most → element_fault d row e ≡ None → element_fault d (record row { most = most }) e ≡ None
 element-longer d row most e h k = tests_later (value_fault row.kind e) (length e == 0 && row.is_mandatory) (length e == 0)
     (nat_lt row.most (length e)) (nat_lt most (length e)) (nat_lt (length e) row.least) (not (list_all (takes d row.kind) e)) (within_more row.most most (length e) h) k
 
-abbrev RowsAllow : List Row → List Row → Type 0
+abbrev RowsAllow : List ElementRow → List ElementRow → Type 0
 RowsAllow rows more = (d : Delims) (s : Segment) → faulty_element d rows s ≡ None → faulty_element d more s ≡ None
 
 -- the first row allows more bytes
-rows-longer : (row : Row) (most : ℕ) (rows : List Row) → row.most ≤ most → RowsAllow (row ∷ rows) (record row { most = most } ∷ rows)
+rows-longer : (row : ElementRow) (most : ℕ) (rows : List ElementRow) → row.most ≤ most → RowsAllow (row ∷ rows) (record row { most = most } ∷ rows)
 rows-longer row most rows h d s k =
     let e = unwrap_or (slice_get (drop 1 s) 0) [] in
     let p = or_else_none (option_map (λ code. record { place = 1; code = code }) (element_fault d row e)) (least_element_fault d 2 rows (drop 1 (drop 1 s))) k in
@@ -91,7 +91,7 @@ rows-longer row most rows h d s k =
     (λ i. or_else (option_map (λ code. record { place = 1; code = code }) (good i)) (least_element_fault d 2 rows (drop 1 (drop 1 s)))) ∙ p.1
 
 -- an element more, which may be missing
-one_more : (d : Delims) (place : ℕ) (kind : Kind) (least most : ℕ) (rows : List Row) (es : List (List ℕ)) → least_element_fault d place rows es ≡ None
+one_more : (d : Delims) (place : ℕ) (kind : Kind) (least most : ℕ) (rows : List ElementRow) (es : List (List ℕ)) → least_element_fault d place rows es ≡ None
     → least_element_fault d place (rows ++ may kind least most ∷ []) es ≡ None
 one_more d place kind least most [] [] h = refl
 one_more d place kind least most [] (e ∷ es) h = absurd (cc)
@@ -109,15 +109,15 @@ lot-later previous d s h = by_test (bytes_eq previous (codes "W04")) refl
     by_test false e = rw e h
 
 -- tables of the same segments, the second of which allows more
-abbrev TableAllows : List (List ℕ × List Row) → List (List ℕ × List Row) → Type 0
+abbrev TableAllows : List (List ℕ × List ElementRow) → List (List ℕ × List ElementRow) → Type 0
 TableAllows [] [] = Unit {0}
 TableAllows (p ∷ ps) (q ∷ qs) = (p.0 ≡ q.0) × RowsAllow p.1 q.1 × TableAllows ps qs
 TableAllows ps qs = ⊥
 
-abbrev fault_by : Delims → Segment → Option (List Row) → Option ElementFault
+abbrev fault_by : Delims → Segment → Option (List ElementRow) → Option ElementFault
 fault_by d s rows = option_and_then (λ rows. faulty_element d rows s) rows
 
-table-allows : (d : Delims) (s : Segment) (id : List ℕ) (ps qs : List (List ℕ × List Row)) → TableAllows ps qs
+table-allows : (d : Delims) (s : Segment) (id : List ℕ) (ps qs : List (List ℕ × List ElementRow)) → TableAllows ps qs
     → fault_by d s (rows_in ps id) ≡ None → fault_by d s (rows_in qs id) ≡ None
 table-allows d s id [] [] a h = refl
 table-allows d s id [] (q ∷ qs) a h = absurd a

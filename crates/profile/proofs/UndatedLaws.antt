@@ -13,7 +13,7 @@ use Rattle.profile.specs.Header.{delims_of}
 use Rattle.profile.specs.Words.{Words, kind_words, has_word, words_after}
 use Rattle.profile.specs.declared.set_kind.SetKind.{SetKind}
 use Rattle.profile.specs.declared.set_kind.SetKind.TheVariants.{ShippingOrder, ShipmentAdvice, FunctionalAcknowledgment}
-use Rattle.profile.specs.Elements.{plain_lot_rows, segment_rows, rows_in, Row, ElementFault, element_fault, faulty_element, least_element_fault}
+use Rattle.profile.specs.Elements.{plain_lot_rows, segment_rows, rows_in, ElementRow, ElementFault, element_fault, faulty_element, least_element_fault}
 use Rattle.profile.specs.Faults.{SetFault, inner_fault, place_fault, fault_at, fault_from, set_fault}
 use Rattle.profile.specs.Structure.{Set, Group, groups_of, kind_of, group_fault, examined}
 use Rattle.profile.specs.Means.{Line, AdviceLine, Advice, expiry_of, advice_line, advice_of, order_of}
@@ -38,7 +38,7 @@ mapped_none f None h = refl
 mapped_none f (Some x) h = absurd (cc)
 
 -- elements without fault aren't more than the rows
-within_rows : (d : Delims) (place : ℕ) (rows : List Row) (es : List (List ℕ)) → least_element_fault d place rows es ≡ None → length es ≤ length rows
+within_rows : (d : Delims) (place : ℕ) (rows : List ElementRow) (es : List (List ℕ)) → least_element_fault d place rows es ≡ None → length es ≤ length rows
 within_rows d place [] [] h = omega arith
 within_rows d place [] (e ∷ es) h = absurd (cc)
 within_rows d place (row ∷ rows) [] h = omega arith

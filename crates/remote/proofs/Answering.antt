@@ -8,7 +8,7 @@ use Rattle.httparse.specs.Spans.{IsResponseWithin, IsResponseAt, header_bytes, n
 use Rattle.httparse.specs.declared.spans.HeaderSpan.{HeaderSpan}
 use Rattle.httparse.specs.declared.spans.ResponseSpans.{ResponseSpans}
 use Rattle.remote.specs.declared.heading.Said.{Said}
-use Rattle.remote.specs.Fields.{Says}
+use Rattle.remote.specs.Fields.{SaysOfBody}
 use Rattle.fields.specs.Fields.{most_head, most_fields}
 use Rattle.gauges.specs.Inputs.{IsInput, IsFront}
 use Rattle.gauges.proofs.InputLemmas.{more_input}
@@ -36,11 +36,11 @@ tail_is bs at = rw (sym (length-drop at bs)) (take-length (drop at bs))
 
 pub answer_is : (old new : Option (List ℕ)) (got : List ℕ) (fields : List HeaderSpan) (spans : ResponseSpans) (h : ResponseHead) (said : Said) (body : Vec ℕ Global)
     → length got ≤ most_head → length fields ≤ most_fields → IsResponseWithin got fields spans → IsResponseAt got fields spans h → Consumes old new got
-    → Says (map (header_bytes got) (take spans.headers fields)) said
+    → SaysOfBody (map (header_bytes got) (take spans.headers fields)) said
     → (input : List ℕ) × IsInput new input × IsFront body.items said.size (take (length got - spans.len) (drop spans.len got) ++ input)
     → IsAnswer old (record { status = spans.code; is_interchange = said.is_interchange; body = body })
 answer_is old new got fields spans h said body room many within at bytes says front =
-    let says : Says (map name_and_value h.fields) said = subst (λ (fields : List (List ℕ × List ℕ)). Says fields said) at.fields says in
+    let says : SaysOfBody (map name_and_value h.fields) said = subst (λ (fields : List (List ℕ × List ℕ)). SaysOfBody fields said) at.fields says in
     record {
       input = got ++ front.0;
       is_input = more_input old new got front.0 bytes front.1;

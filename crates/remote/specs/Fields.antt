@@ -30,7 +30,7 @@ is_x12 (text ∷ []) = bytes_eq text (codes "application/EDI-X12")
 is_x12 (text ∷ other ∷ more) = false
 
 -- what these fields say of a body, which is in one piece
-pub record Says (fields : List (List ℕ × List ℕ)) (said : Said) : Type 0 where
+pub record SaysOfBody (fields : List (List ℕ × List ℕ)) (said : Said) : Type 0 where
   pub whole : values (codes "Transfer-Encoding") fields ≡ []
   pub length : body_length (values (codes "Content-Length") fields) ≡ Some said.size
   pub kind : said.is_interchange ≡ is_x12 (values (codes "Content-Type") fields)

@@ -2,7 +2,7 @@
 ghost use Rattle.std.specs.Prelude.{◌≡◌, ℕ, List, [], ◌∷◌, length, map, All, IfOk};
 ghost use Rattle.httparse.specs.Spans.{IsHeaderWithin, header_bytes};
 ghost use Rattle.fields.specs.Fields.{IsValues};
-ghost use Rattle.remote.specs.Fields.{body_length, is_x12, Says};
+ghost use Rattle.remote.specs.Fields.{body_length, is_x12, SaysOfBody};
 
 use crate::answers::Unanswered;
 use fields::{Values, values_of};
@@ -61,7 +61,7 @@ pub(crate) struct Said {
 pub(crate) fn said_of(buf: &[u8], fields: &[HeaderSpan]) -> Result<Said, Unanswered>
     requires { All (IsHeaderWithin (length buf.now)) fields.now }
 
-    ensures { IfOk result (Says (map (header_bytes buf.now) fields.now)) }
+    ensures { IfOk result (SaysOfBody (map (header_bytes buf.now) fields.now)) }
 {
     let Values::Absent = values_of(buf, fields, b"Transfer-Encoding") else {
         return Err(Unanswered::Device);

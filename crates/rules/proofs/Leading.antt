@@ -23,7 +23,7 @@ use Rattle.sets_taken.specs.SetNames.{NamesGroups}
 use Rattle.rules.specs.Needs.{NamesAct}
 use Rattle.sets_taken.specs.Judging.{after, AreGroupsTaken}
 use Rattle.sets_taken.specs.Proper.{AreProper}
-use Rattle.rules.specs.Decided.{Makes, IsPageOf, AreLeading, LeadsOn, LeadsFrom, ChangesNothing}
+use Rattle.rules.specs.Decided.{MakesEntry, IsPageOf, AreLeading, LeadsOn, LeadsFrom, ChangesNothing}
 use Rattle.repeats.specs.Replies.{IsNoEntry}
 use Rattle.repeats.specs.declared.decisions.Decision.{Decision}
 use Rattle.repeats.specs.declared.decisions.Decision.TheVariants.{Stored, Refused, Accepted}
@@ -64,7 +64,7 @@ act_leads r w ticket act t p P cs h n steps part names of =
     }
 
 -- what makes no entry makes none
-pub nothing_made : (r : Rules) (c : Command) (t : Moment) (d : Decision) → IsNoEntry d → Makes r c t d
+pub nothing_made : (r : Rules) (c : Command) (t : Moment) (d : Decision) → IsNoEntry d → MakesEntry r c t d
 nothing_made r c t (Stored text) none = tt
 nothing_made r c t (Refused refusal text) none = tt
 nothing_made r c t (Accepted e cs text) none = absurd none

@@ -104,10 +104,10 @@ LeadsFrom r None c t d = ChangesNothing d
 LeadsFrom r (Some p) c t d = LeadsOn r p c t d
 
 -- the entry that an accepted command makes under the rules of the day, whatever its number
-abbrev pub Makes : Rules → meant.Command → Moment → Decision → Type 0
-Makes r c t (Stored text) = Unit {0}
-Makes r c t (Refused refusal text) = Unit {0}
-Makes r c t (Accepted e changes text) = unnumbered e ≡ written_as 0 (entry_of r c t)
+abbrev pub MakesEntry : Rules → meant.Command → Moment → Decision → Type 0
+MakesEntry r c t (Stored text) = Unit {0}
+MakesEntry r c t (Refused refusal text) = Unit {0}
+MakesEntry r c t (Accepted e changes text) = unnumbered e ≡ written_as 0 (entry_of r c t)
 
 -- the changes of a command that is accepted under these rules make of the tables of a legal
 -- register, in the version of its book, those of the register with the command's entry, if that is

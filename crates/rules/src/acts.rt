@@ -16,7 +16,7 @@ ghost use Rattle.stock.specs.Puts.{put};
 ghost use Rattle.stock.specs.Shows.{Shows};
 ghost use Rattle.stock.specs.Stops.{StopsAct};
 ghost use Rattle.repeats.specs.Asked.{act_of, command_of, entry_of};
-ghost use Rattle.rules.specs.Decided.{Makes, IsPageOf, IsRecalled, IsUnder, LeadsOn, AreLeading};
+ghost use Rattle.rules.specs.Decided.{MakesEntry, IsPageOf, IsRecalled, IsUnder, LeadsOn, AreLeading};
 ghost use Rattle.repeats.specs.Replies.{IsNoEntry, IsReply};
 ghost use Rattle.sets_taken.specs.Proper.{AreProper};
 
@@ -82,7 +82,7 @@ fn accepted(
         (after_entry h (entry_of rules envelope.now ticket.now act.now)) }
 
     ensures comes { IfOk result
-        (Makes rules (command_of envelope.now ticket.now act.now) envelope.now.moment) }
+        (MakesEntry rules (command_of envelope.now ticket.now act.now) envelope.now.moment) }
     ensures leads { IfOk result
         (LeadsOn rules page.now (command_of envelope.now ticket.now act.now) envelope.now.moment) }
     ensures reply { IfOk result (λ d. (h : History) (P : PageFacts) (e : Event)
@@ -118,7 +118,7 @@ fn fresh(
     requires rest { page.now.recent ≡ 0 }
 
     ensures comes { IfOk result
-        (Makes rules (command_of envelope.now ticket.now act.now) envelope.now.moment) }
+        (MakesEntry rules (command_of envelope.now ticket.now act.now) envelope.now.moment) }
     ensures leads { IfOk result
         (LeadsOn rules page.now (command_of envelope.now ticket.now act.now) envelope.now.moment) }
     ensures reply { IfOk result (λ d. (h : History) (P : PageFacts)
@@ -154,7 +154,7 @@ pub(crate) fn clerk(
     requires rest { page.now.recent ≡ 0 }
 
     ensures comes { IfOk result
-        (Makes rules (command_of envelope.now ticket.now act.now) envelope.now.moment) }
+        (MakesEntry rules (command_of envelope.now ticket.now act.now) envelope.now.moment) }
     ensures leads { IfOk result
         (LeadsOn rules page.now (command_of envelope.now ticket.now act.now) envelope.now.moment) }
     ensures reply { IfOk result (λ d. (h : History) (P : PageFacts) (k : Option recalled.Recalled)

@@ -8,7 +8,7 @@ ghost use Rattle.repeats.specs.Asked.{act_of, asked};
 ghost use Rattle.profile.specs.Header.{Who as Partner};
 ghost use Rattle.profile.specs.Register as register;
 ghost use Rattle.repeats.specs.Replies.{IsReply};
-ghost use Rattle.rules.specs.Decided.{Makes, IsAtRest, IsGiven, StandsFor, LeadsFrom, LeadsInTables, entries_of};
+ghost use Rattle.rules.specs.Decided.{MakesEntry, IsAtRest, IsGiven, StandsFor, LeadsFrom, LeadsInTables, entries_of};
 
 use crate::acts::clerk;
 use crate::interchanges::interchange;
@@ -27,7 +27,7 @@ fn enrol(
     moment: Moment,
     rules: Rules,
 ) -> Result<Decision, AllocError>
-    ensures comes { IfOk result (Makes rules (register.Enrol who) moment) }
+    ensures comes { IfOk result (MakesEntry rules (register.Enrol who) moment) }
     ensures leads { IfOk result (LeadsFrom rules page (register.Enrol who) moment) }
     ensures reply { IfOk result
         (λ d. (h : Option History) (k : Option meant.Recalled) (W : Partner)
@@ -59,7 +59,7 @@ fn perform(
 ) -> Result<Decision, AllocError>
     requires { IsAtRest page }
 
-    ensures comes { IfOk result (Makes rules (register.Clerk who ticket.now (act_of act.now))
+    ensures comes { IfOk result (MakesEntry rules (register.Clerk who ticket.now (act_of act.now))
         moment) }
     ensures leads { IfOk result
         (LeadsFrom rules page (register.Clerk who ticket.now (act_of act.now)) moment) }
@@ -98,7 +98,7 @@ pub fn decide(
 ) -> Result<Decision, AllocError>
     requires { IsAtRest page }
 
-    ensures comes { IfOk result (Makes rules (asked command.now) moment) }
+    ensures comes { IfOk result (MakesEntry rules (asked command.now) moment) }
     ensures leads { IfOk result (LeadsFrom rules page (asked command.now) moment) }
     ensures tables { IfOk result
         (λ d. (W : Partner) (L : List register.Entry)

@@ -14,7 +14,7 @@ ghost use Rattle.envelope.specs.Conditions.{IsTold};
 ghost use Rattle.stock.specs.Pages.{PageFacts};
 ghost use Rattle.rules.specs.Needs.{HasNeeded};
 ghost use Rattle.rules.specs.Lasting.{PutsOnce};
-ghost use Rattle.rules.specs.Decided.{Makes, IsPageOf, IsGiven, IsAtRest, LeadsOn, LeadsFrom, entries_of};
+ghost use Rattle.rules.specs.Decided.{MakesEntry, IsPageOf, IsGiven, IsAtRest, LeadsOn, LeadsFrom, entries_of};
 ghost use Rattle.repeats.specs.Replies.{IsNoEntry, IsReply};
 
 use crate::lasting::lasting;
@@ -50,7 +50,7 @@ fn accepted(
     requires rest { page.recent ≡ 0 }
     requires whose { envelope.depositor ≡ sender text.now }
 
-    ensures comes { IfOk result (Makes rules (register.Interchange text.now) envelope.moment) }
+    ensures comes { IfOk result (MakesEntry rules (register.Interchange text.now) envelope.moment) }
     ensures leads { IfOk result
         (LeadsOn rules page (register.Interchange text.now) envelope.moment) }
     ensures once { IfOk result (PutsOnce) }
@@ -113,7 +113,7 @@ fn fresh(
     requires rest { page.recent ≡ 0 }
     requires whose { who ≡ sender text.now }
 
-    ensures comes { IfOk result (Makes rules (register.Interchange text.now) moment) }
+    ensures comes { IfOk result (MakesEntry rules (register.Interchange text.now) moment) }
     ensures leads { IfOk result (LeadsOn rules page (register.Interchange text.now) moment) }
     ensures reply { IfOk result (λ d. (h : History) (P : PageFacts)
         → HasNeeded (register.Interchange text.now) page P → IsPageOf P h
@@ -151,7 +151,7 @@ fn readable(
     requires readable { is_unreadable text.now ≡ false }
     requires rest { IsAtRest page }
 
-    ensures comes { IfOk result (Makes rules (register.Interchange text.now) moment) }
+    ensures comes { IfOk result (MakesEntry rules (register.Interchange text.now) moment) }
     ensures leads { IfOk result (LeadsFrom rules page (register.Interchange text.now) moment) }
     ensures reply { IfOk result (λ d. (h : Option History) (k : Option recalled.Recalled)
         → IsGiven page (option_copied known.entry) (register.Interchange text.now) h k
@@ -183,7 +183,7 @@ pub(crate) fn interchange(
 ) -> Result<Decision, AllocError>
     requires { IsAtRest page }
 
-    ensures comes { IfOk result (Makes rules (register.Interchange text.now) moment) }
+    ensures comes { IfOk result (MakesEntry rules (register.Interchange text.now) moment) }
     ensures leads { IfOk result (LeadsFrom rules page (register.Interchange text.now) moment) }
     ensures reply { IfOk result (λ d. (h : Option History) (k : Option recalled.Recalled)
         → IsGiven page (option_copied known.entry) (register.Interchange text.now) h k

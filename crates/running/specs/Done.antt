@@ -1,5 +1,5 @@
 -- What a job over the book in a database comes to, from its opening to its closing.
-use Rattle.std.specs.Prelude.{◌≡◌, ◌⊎◌, ℕ, List, [], Option, Ok, Err}
+use Rattle.std.specs.Prelude.{◌≡◌, ℕ, List, [], Option, Some, None, Ok, Err}
 use Rattle.sqlite.specs.Held.{Held, state}
 use Rattle.sqlite.specs.State.{HasCleanDisk}
 use Rattle.sqlite.specs.Store.{Ghosts}
@@ -33,24 +33,22 @@ pub record IsJobDone
   pub same : IsUnchanged (standing_of store worked) (standing_of store closed)
   pub back : left ≡ closed.tables.conn
 
--- the same, whatever was left of the database that was closed
-abbrev pub IsJobDoneOver : {S W : Type 0} → Ghosts S → (W → Option (List ℕ)) → Held S → Job → W
-    → W → ExitStatus → Type 0
-IsJobDoneOver {S} store contents database job before later status =
-    (left : Held S) × IsJobDone store contents database left job before later status
-
--- the book for the job was had, and the job was stopped over it
+-- The book for the job was had, and the job was stopped over it, before the book's database was
+-- given back.
 pub record IsJobBroken
-    {S W : Type 0} (store : Ghosts S) (contents : W → Option (List ℕ)) (database : Held S)
+    {S W : Type 0} (store : Ghosts S) (contents : W → Option (List ℕ)) (database left : Held S)
     (job : Job) (before later : W) (stop : CommandError) : Type 0 where
   pub opened : Opened S
   pub begun : IsBegun store database job opened
   pub worked : Opened S
   pub work : IsWork (standing_of store) contents opened before job worked later (Err stop)
+  pub back : left ≡ worked.tables.conn
 
--- the job was stopped over its book, or there was no book to do it over, and nothing was printed
-abbrev pub IsJobStopped : {S W : Type 0} → Ghosts S → (W → Option (List ℕ)) → Held S → Job → W
-    → W → CommandError → Type 0
-IsJobStopped store contents database job before later stop =
-    IsJobBroken store contents database job before later stop
-    ⊎ (IsReadFault stop × (later ≡ before))
+-- The job was stopped over its book, whose database is left; or there was no book to do it over,
+-- and nothing was printed.
+abbrev pub IsJobStopped : {S W : Type 0} → Ghosts S → (W → Option (List ℕ)) → Held S
+    → Option (Held S) → Job → W → W → CommandError → Type 0
+IsJobStopped store contents database (Some left) job before later stop =
+    IsJobBroken store contents database left job before later stop
+IsJobStopped store contents database None job before later stop =
+    IsReadFault stop × (later ≡ before)

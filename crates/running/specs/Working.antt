@@ -10,7 +10,7 @@ use Rattle.commands.specs.Acting.{Ending, IsPerformed}
 use Rattle.commands.specs.Looking.{IsAskedFor, IsLook, is_readable}
 use Rattle.commands.specs.Playing.{HasPlayed, HasStopped, asking}
 use Rattle.commands.specs.Readying.{IsMadeReady, IsUnready}
-use Rattle.commands.specs.Serving.{Served, ServedUpTo, audience_of}
+use Rattle.commands.specs.Serving.{HasServed, HasServedUpTo, audience_of}
 use Rattle.commands.specs.declared.told.ExitStatus.TheVariants.{Done}
 use Rattle.running.specs.declared.over_file.Job.{Job}
 use Rattle.running.specs.declared.over_file.Job.TheVariants as job
@@ -56,9 +56,10 @@ IsBatchPlayed standing contents text old before new later ending =
 abbrev pub IsService : {K : Type 0} → (K → Standing) → Service → Moment → Bool → K → K → Ending
     → Type 0
 IsService standing service first has_clock old new ending =
-    OnOk ending (Served standing (audience_of service.clerks) has_clock first old new service.count)
+    OnOk ending
+    (HasServed standing (audience_of service.clerks) has_clock first old new service.count)
     × OnErr ending
-    (ServedUpTo standing (audience_of service.clerks) has_clock first old new service.count)
+    (HasServedUpTo standing (audience_of service.clerks) has_clock first old new service.count)
 
 -- What a job comes to over a book: what was made ready was done at its moment, what was asked for
 -- was shown, a text was played, a server served. Where the job is to make the book or to check it,
@@ -75,6 +76,7 @@ IsWork standing contents old before (job.Play text) new later ending =
     GoesOn (standing old) (standing new)
     × IsBatchPlayed standing contents (string_bytes text) old before new later ending
 IsWork standing contents old before (job.Listen service first has_clock file) new later ending =
-    IsService standing service first has_clock old new ending
+    GoesOn (standing old) (standing new)
+    × IsService standing service first has_clock old new ending
 IsWork standing contents old before other new later ending =
     (new ≡ old) × ((later ≡ before) × (ending ≡ Ok Done))

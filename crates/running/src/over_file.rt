@@ -1,13 +1,12 @@
 //! What a line says, done over the book in a file: words are tested and files read before the book
 //! is opened, and it is closed before the line is done.
 ghost use Rattle.std.specs.Prelude.{◌≡◌, ◌≢◌, ◌≤◌, false, IfErr, IfOk};
-ghost use Rattle.sqlite.specs.Files.{over_files};
 ghost use Rattle.sqlite.specs.Held.{state};
 ghost use Rattle.sqlite.specs.State.{HasCleanDisk};
 ghost use Rattle.store.specs.Standing.{IsUnchanged};
 ghost use Rattle.commands.specs.Stops.{fault_in};
 ghost use Rattle.running.specs.Checking.{IsFoundWhole};
-ghost use Rattle.running.specs.Done.{IsBegun, IsJobDone, IsJobDoneOver, IsJobStopped};
+ghost use Rattle.running.specs.Done.{IsBegun, IsJobDone, IsJobStopped};
 ghost use Rattle.running.specs.Faults.{IsBookFault, IsReadFault};
 ghost use Rattle.running.specs.Opening.{IsOfFile, IsOpenedAnew};
 ghost use Rattle.running.specs.Working.{IsJobFor, IsNoJobFor, IsWork};
@@ -17,7 +16,7 @@ use crate::checking::check_over;
 use books::Book;
 use command_line::{Service, Task};
 use commands::{
-    Asked, CommandError, ExitStatus, Ready, ServedFile, Verbosity, about_book, about_missing,
+    CommandError, ExitStatus, Look, Ready, ServedFile, Verbosity, about_book, about_missing,
     about_opening, about_use, ask, moment_for, perform, play_over, read_lines, ready_at, serve,
     show, tell_reason, tell_unready,
 };
@@ -37,7 +36,7 @@ pub(crate) enum Job<'a> {
     // change the book
     Change(Ready<'a>, Moment),
     // show something of it
-    Look(Asked<'a>),
+    Look(Look<'a>),
     // do what the lines of a text ask for
     Play(String),
     // serve it over HTTP, from a first moment on, and by the clock or not, while its name leads to
@@ -163,8 +162,8 @@ fn explain<K: Keeper, E: io::Write>(
 }
 
 // Opens the book in a database, or makes it, does a job over it, and closes it; or checks it whole,
-// which isn't for a book of any kind. At a fault the database is let go as it is: its log has all
-// that was answered, and nothing more is written to a store that has just failed.
+// which isn't for a book of any kind. At a fault the database is handed back as it is, if the job
+// was begun.
 fn work_over<S: Alter + Drop, W: io::Write, E: io::Write>(
     rt: &HostRuntime,
     database: Connection<S>,
@@ -172,7 +171,7 @@ fn work_over<S: Alter + Drop, W: io::Write, E: io::Write>(
     verbosity: Verbosity,
     out: &mut W,
     err: &mut E,
-) -> Result<(ExitStatus, Connection<S>), CommandError>
+) -> Result<(ExitStatus, Connection<S>), (CommandError, Option<Connection<S>>)>
     requires { database.in_transaction ≡ false }
 
     ensures whole { job.now ≡ Job.Check → IfOk result (λ r. HasCleanDisk (state S.Store r.1)
@@ -180,18 +179,30 @@ fn work_over<S: Alter + Drop, W: io::Write, E: io::Write>(
     ensures done { job.now ≢ Job.Check → IfOk result
         (λ r. IsJobDone S.Store W.contents database r.1 job.now out.old out.new r.0) }
     ensures stopped { job.now ≢ Job.Check → IfErr result
-        (IsJobStopped S.Store W.contents database job.now out.old out.new) }
+        (λ e. IsJobStopped S.Store W.contents database e.1 job.now out.old out.new e.0) }
 {
     if let Job::Check = job {
-        return check_over(rt.alloc(), database, verbosity, out, err);
+        return match check_over(rt.alloc(), database, verbosity, out, err) {
+            Ok(checked) => Ok(checked),
+            Err(stop) => Err((stop, None)),
+        };
     }
-    let mut book = begin(rt.alloc(), database, job, verbosity, err)?;
-    let status = work(rt, &mut book, job, verbosity, out, err)?;
-    explain(rt.alloc(), &mut book, job, status, verbosity, err);
-    Ok((status, close(book)))
+    let mut book = match begin(rt.alloc(), database, job, verbosity, err) {
+        Ok(book) => book,
+        Err(stop) => return Err((stop, None)),
+    };
+    match work(rt, &mut book, job, verbosity, out, err) {
+        Ok(status) => {
+            explain(rt.alloc(), &mut book, job, status, verbosity, err);
+            Ok((status, close(book)))
+        }
+        Err(stop) => Err((stop, Some(close(book)))),
+    }
 }
 
-// Does a job over the book in a database on any disk, and closes the database.
+// Does a job over the book in a database on any disk, and closes the database. At a fault it is let
+// go as it is: its log has all that was answered, and nothing more is written to a store that has
+// just failed.
 fn over_disk<D: Disk + Drop, W: io::Write, E: io::Write>(
     rt: &HostRuntime,
     database: Connection<FileStore<D>>,
@@ -201,13 +212,14 @@ fn over_disk<D: Disk + Drop, W: io::Write, E: io::Write>(
     err: &mut E,
 ) -> Result<ExitStatus, CommandError>
     requires { database.in_transaction ≡ false }
-
-    ensures done { job.now ≢ Job.Check → IfOk result
-        (IsJobDoneOver over_files W.contents database job.now out.old out.new) }
 {
-    let (status, database) = work_over(rt, database, job, verbosity, out, err)?;
-    disconnect(database)?;
-    Ok(status)
+    match work_over(rt, database, job, verbosity, out, err) {
+        Ok((status, database)) => {
+            disconnect(database)?;
+            Ok(status)
+        }
+        Err((stop, _)) => Err(stop),
+    }
 }
 
 // For how many seconds a book that is in use is waited for, where a line doesn't say it.

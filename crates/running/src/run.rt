@@ -1,7 +1,10 @@
-ghost use Rattle.std.specs.Prelude.{IfErr, OnOk};
+ghost use Rattle.std.specs.Prelude.{◌≡◌, true, false, ℕ, List, IfErr, OnOk};
+ghost use Rattle.std.specs.Borrow.{Bor};
+ghost use Rattle.std.specs.List.{list_any};
 ghost use Rattle.std.specs.Io.KnownBytes.{Appends};
 ghost use Rattle.commands.specs.Statuses.{IsCode};
 ghost use Rattle.commands.specs.Stops.{IsDeviceStop};
+ghost use Rattle.running.specs.Explaining.{AsksWhy, ends_options};
 
 use crate::over_file::run_over_file;
 use crate::over_server::run_over_server;
@@ -74,13 +77,29 @@ fn run_any<W: io::Write, E: io::Write>(
     }
 }
 
+// Whether all words after this one are values.
+fn ends_options(word: &str) -> bool
+    ensures { result ≡ ends_options word.entry }
+{
+    word == "--"
+}
+
+// Whether all words after one of these are values.
+fn any_ends(words: &[&str]) -> bool
+    ensures { result ≡ list_any ends_options words.now }
+{
+    words.iter().any(|word| ends_options(word))
+}
+
 // Whether the last word asks that a refusal and a fault are explained, and the words before it.
-// After a word `--` all words are values.
-fn asks_why<'w, 'a>(words: &'w [&'a str]) -> (bool, &'w [&'a str]) {
+fn asks_why<'w, 'a>(words: &'w [&'a str]) -> (bool, &'w [&'a str])
+    ensures asked { result.0 ≡ true → AsksWhy words.now result.1.now }
+    ensures others { result.0 ≡ false → result.1.now ≡ words.now }
+    ensures none { result.0 ≡ false → (before : List (Bor (List ℕ))) → AsksWhy words.now before
+        → ⊥ }
+{
     match words.split_last() {
-        Some((last, words)) if *last == "--explain" && !words.iter().any(|word| *word == "--") => {
-            (true, words)
-        }
+        Some((last, before)) if *last == "--explain" && !any_ends(before) => (true, before),
         _ => (false, words),
     }
 }

@@ -20,7 +20,7 @@ advice_lines : (total n : ℕ) (gs : List (Segment × Segment)) → 2 ≤ n → 
 advice_lines total n [] low high = refl
 advice_lines total n (g ∷ gs) low high = both_true (at_line total n low (omega arith)) (advice_lines total (n + 2) gs (omega arith) (omega arith))
 
-order_lines : (total n : ℕ) (gs : List (ordered.Goods Segment)) → 2 ≤ n → n + length (flat_map ordered.in_goods gs) ≤ total
+order_lines : (total n : ℕ) (gs : List (ordered.OrderedGoods Segment)) → 2 ≤ n → n + length (flat_map ordered.in_goods gs) ≤ total
     → list_all (λ (l : OrderLine). is_line_at total l.position) (ordered.lines_at n gs) ≡ true
 order_lines total n [] low high = refl
 order_lines total n (g ∷ gs) low high =

@@ -9,7 +9,7 @@ use Rattle.profile.specs.declared.set_kind.SetKind.TheVariants.{ShipmentAdvice}
 use Rattle.profile.specs.Means.{Advice, AdviceLine, advice_of, advice_line, expiry_of, segment_at, place_of}
 use Rattle.tables.specs.Judged.{Whole, IsUnfaulted}
 use Rattle.sets_in.specs.Places.{places_from}
-use Rattle.sets_in.specs.Said.{AdviceSet, IsAdviceSet, IsHeader, in_pairs, printed, date_in, lines_at, meaning, SaysAdvice}
+use Rattle.sets_in.specs.Said.{AdviceSet, IsAdviceSet, IsAdviceHeader, in_pairs, printed, date_in, lines_at, meaning, SaysAdvice}
 use Rattle.sets_in.proofs.Places.{with_yes, with_no, from_yes, from_no}
 use Rattle.sets_in.proofs.Parse.{Parsed}
 use Rattle.sets_in.proofs.Whole.{whole_advice}
@@ -29,11 +29,11 @@ pub is_no : (id x : List ℕ) (s : Segment) → id_of s ≡ x → bytes_eq x id 
 is_no id x s e h = ap (λ y. bytes_eq y id) e ∙ h
 
 header_lacks : (id : List ℕ) (xs : List Segment) → bytes_eq (codes "N1") id ≡ false → bytes_eq (codes "N9") id ≡ false → bytes_eq (codes "G62") id ≡ false
-    → AllByRecursion (λ s. IsHeader (id_of s)) xs → Lacks id xs
+    → AllByRecursion (λ s. IsAdviceHeader (id_of s)) xs → Lacks id xs
 header_lacks id [] a b c h = tt
 header_lacks id (s ∷ xs) a b c h = (by_id h.0, header_lacks id xs a b c h.1)
   where
-    by_id : IsHeader (id_of s) → has_id id s ≡ false
+    by_id : IsAdviceHeader (id_of s) → has_id id s ≡ false
     by_id (inl e) = is_no id (codes "N1") s e a
     by_id (inr (inl e)) = is_no id (codes "N9") s e b
     by_id (inr (inr e)) = is_no id (codes "G62") s e c

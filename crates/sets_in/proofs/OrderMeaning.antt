@@ -9,7 +9,7 @@ use Rattle.profile.specs.declared.set_kind.SetKind.TheVariants.{ShippingOrder}
 use Rattle.profile.specs.Means.{Order, OrderLine, Address, order_of, order_line, pin_of, is_ship_to, address_of, ship_to, spaced, segment_at, place_of}
 use Rattle.tables.specs.Judged.{Whole, IsUnfaulted}
 use Rattle.sets_in.specs.Places.{places_from}
-use Rattle.sets_in.specs.SaidOrder.{Party, Goods, OrderSet, in_party, in_goods, printed, IsParty, IsGoods, IsOrderSet, address_in, lines_at, meaning, SaysOrder}
+use Rattle.sets_in.specs.SaidOrder.{Party, OrderedGoods, OrderSet, in_party, in_goods, printed, IsParty, IsGoods, IsOrderSet, address_in, lines_at, meaning, SaysOrder}
 use Rattle.sets_in.proofs.Places.{with_yes, with_no, from_yes, from_no, first_ship_to, later_ship_to}
 use Rattle.sets_in.proofs.Parse.{all_both}
 use Rattle.sets_in.proofs.Meaning.{Lacks, is_no, with_skip, from_skip, at}
@@ -135,7 +135,7 @@ parties_mean (p ∷ ps) rest h c none =
 -- The lines.
 
 abbrev AllGoods : Type 0
-AllGoods = List (Goods Segment)
+AllGoods = List (OrderedGoods Segment)
 
 -- the positions of the W01
 w01s : ℕ → AllGoods → List ℕ

@@ -10,7 +10,7 @@ use Rattle.profile.specs.Words.{Words, One, Then, Times, IsWord, IsRow, words_94
 use Rattle.profile.specs.Faults.{fault_from}
 use Rattle.profile.proofs.WordsLaws.{viable_to}
 use Rattle.tables.specs.Order.{address, party, goods, line, total, lines, dates, references}
-use Rattle.sets_in.specs.SaidOrder.{Party, Goods, OrderSet, in_party, in_goods, printed, IsHeader, IsParty, IsGoods, IsOrderSet}
+use Rattle.sets_in.specs.SaidOrder.{Party, OrderedGoods, OrderSet, in_party, in_goods, printed, IsOrderHeader, IsParty, IsGoods, IsOrderSet}
 use Rattle.sets_in.proofs.Parse.{Ids, split, cons_word, times_word, last_word, all_so, all_both}
 use Rattle.sets_in.proofs.Whole.{viable, ends, NoneEnds, none_both, once, map_same}
 
@@ -68,7 +68,7 @@ a_party {X} f xs h = with_n1 (cons_word f xs (codes "N1") address h)
         (record { n1 = x; n3 = a.0; n4 = b.0 }, e ∙ ap (λ y. x ∷ y) (t.2 ∙ ap (λ y. y ++ t.1) a.1 ∙ ap (λ y. option_to_list a.0 ++ y) b.1), (k, a.2, b.2))
 
 abbrev GoodsOf : {X : Type 0} → (X → List ℕ) → List X → Type 0
-GoodsOf {X} f xs = (g : Goods X) × (xs ≡ in_goods g) × IsGoods f g
+GoodsOf {X} f xs = (g : OrderedGoods X) × (xs ≡ in_goods g) × IsGoods f g
 
 some_goods : {X : Type 0} (f : X → List ℕ) (xs : List X) → IsWord line (map f xs) → GoodsOf f xs
 some_goods {X} f xs h = with_lx (cons_word f xs (codes "LX") goods h)
@@ -95,12 +95,12 @@ ended {X} f xs h = with_total (cons_word f xs (codes "W76") (One (codes "SE")) h
 -- the header, and the words of what stands after it
 
 abbrev Headed : {X : Type 0} → (X → List ℕ) → List X → Type 0
-Headed {X} f xs = (hs zs : List X) × (xs ≡ hs ++ zs) × AllByRecursion (λ x. IsHeader (f x)) hs × IsWord (lines Two) (map f zs)
+Headed {X} f xs = (hs zs : List X) × (xs ≡ hs ++ zs) × AllByRecursion (λ x. IsOrderHeader (f x)) hs × IsWord (lines Two) (map f zs)
 
-more_header : {X : Type 0} (f : X → List ℕ) (xs : List X) (id : List ℕ) → IsHeader id → (ys zs : List X) → xs ≡ ys ++ zs → AllByRecursion (λ x. f x ≡ id) ys → Headed f zs → Headed f xs
+more_header : {X : Type 0} (f : X → List ℕ) (xs : List X) (id : List ℕ) → IsOrderHeader id → (ys zs : List X) → xs ≡ ys ++ zs → AllByRecursion (λ x. f x ≡ id) ys → Headed f zs → Headed f xs
 more_header {X} f xs id is ys zs e all (hs, rest, d, b, w) =
-    let P : X → Type 0 = λ x. IsHeader (f x) in
-    let mine : AllByRecursion P ys = all_so (λ x. f x ≡ id) P (λ x k. subst IsHeader (sym k) is) ys all in
+    let P : X → Type 0 = λ x. IsOrderHeader (f x) in
+    let mine : AllByRecursion P ys = all_so (λ x. f x ≡ id) P (λ x k. subst IsOrderHeader (sym k) is) ys all in
     (ys ++ hs, rest, e ∙ ap (λ y. ys ++ y) d ∙ sym (append_assoc ys hs rest), all_both P ys hs mine b, w)
 
 with_dates : {X : Type 0} (f : X → List ℕ) (xs : List X) → IsWord (dates Two) (map f xs) → Headed f xs
@@ -117,9 +117,9 @@ abbrev pub Parsed : {X : Type 0} → (X → List ℕ) → List X → Type 0
 Parsed {X} f xs = (t : OrderSet X) × (xs ≡ printed t) × IsOrderSet f t
 
 built : {X : Type 0} (f : X → List ℕ) (xs : List X) (st w05 : X) (ys zs : List X) → xs ≡ st ∷ ys → f st ≡ codes "ST" → ys ≡ w05 ∷ zs → f w05 ≡ codes "W05"
-    → (ps : List (Party X)) (hs : List X) (gs : List (Goods X)) (w76 se : X)
+    → (ps : List (Party X)) (hs : List X) (gs : List (OrderedGoods X)) (w76 se : X)
     → zs ≡ flat_map in_party ps ++ (hs ++ (flat_map in_goods gs ++ w76 ∷ se ∷ []))
-    → AllByRecursion (IsParty f) ps → AllByRecursion (λ x. IsHeader (f x)) hs → AllByRecursion (IsGoods f) gs → f w76 ≡ codes "W76" → f se ≡ codes "SE" → Parsed f xs
+    → AllByRecursion (IsParty f) ps → AllByRecursion (λ x. IsOrderHeader (f x)) hs → AllByRecursion (IsGoods f) gs → f w76 ≡ codes "W76" → f se ≡ codes "SE" → Parsed f xs
 built {X} f xs st w05 ys zs a p b q ps hs gs w76 se c are_parties are_header are_goods is_w76 is_se =
     let t : OrderSet X = record { st = st; w05 = w05; parties = ps; header = hs; goods = gs; w76 = w76; se = se } in
     let is : IsOrderSet f t = record { st = p; w05 = q; parties = are_parties; header = are_header; goods = are_goods; w76 = is_w76; se = is_se } in
@@ -129,8 +129,8 @@ pub parse : {X : Type 0} (f : X → List ℕ) (xs : List X) → IsWord (words_94
 parse {X} f xs h = with_st (cons_word f xs (codes "ST") (Then (One (codes "W05")) (Then (Times 0 5 party) (references Two))) h)
   where
     with_end : (st w05 : X) (ys zs : List X) → xs ≡ st ∷ ys → f st ≡ codes "ST" → ys ≡ w05 ∷ zs → f w05 ≡ codes "W05"
-        → (ps : List (Party X)) (hs : List X) (gs : List (Goods X)) (rest : List X) → zs ≡ flat_map in_party ps ++ (hs ++ (flat_map in_goods gs ++ rest))
-        → AllByRecursion (IsParty f) ps → AllByRecursion (λ x. IsHeader (f x)) hs → AllByRecursion (IsGoods f) gs → EndedBy f rest → Parsed f xs
+        → (ps : List (Party X)) (hs : List X) (gs : List (OrderedGoods X)) (rest : List X) → zs ≡ flat_map in_party ps ++ (hs ++ (flat_map in_goods gs ++ rest))
+        → AllByRecursion (IsParty f) ps → AllByRecursion (λ x. IsOrderHeader (f x)) hs → AllByRecursion (IsGoods f) gs → EndedBy f rest → Parsed f xs
     with_end st w05 ys zs a p b q ps hs gs rest c are_parties are_header are_goods (w76, se, e, i, j) =
         built f xs st w05 ys zs a p b q ps hs gs w76 se (c ∙ ap (λ y. flat_map in_party ps ++ (hs ++ (flat_map in_goods gs ++ y))) e) are_parties are_header are_goods i j
 
@@ -173,18 +173,18 @@ other_in_parties f id [] a b c h = tt
 other_in_parties f id (p ∷ ps) a b c h = all_both (λ x. bytes_eq (f x) id ≡ false) (in_party p) (flat_map in_party ps)
     (other f id (codes "N1") p.n1 h.0.0 a, other_in_address f id p b c h.0) (other_in_parties f id ps a b c h.1)
 
-pub other_in_goods : {X : Type 0} (f : X → List ℕ) (id : List ℕ) (gs : List (Goods X)) → bytes_eq (codes "LX") id ≡ false → bytes_eq (codes "W01") id ≡ false → bytes_eq (codes "N9") id ≡ false
+pub other_in_goods : {X : Type 0} (f : X → List ℕ) (id : List ℕ) (gs : List (OrderedGoods X)) → bytes_eq (codes "LX") id ≡ false → bytes_eq (codes "W01") id ≡ false → bytes_eq (codes "N9") id ≡ false
     → AllByRecursion (IsGoods f) gs → AreOther f id (flat_map in_goods gs)
 other_in_goods f id [] a b c h = tt
 other_in_goods f id (g ∷ gs) a b c h = all_both (λ x. bytes_eq (f x) id ≡ false) (in_goods g) (flat_map in_goods gs)
     (other f id (codes "LX") g.lx h.0.0 a, (other f id (codes "W01") g.w01 h.0.1 b, other_if_there f id (codes "N9") g.n9 c h.0.2)) (other_in_goods f id gs a b c h.1)
 
 pub other_in_header : {X : Type 0} (f : X → List ℕ) (id : List ℕ) (hs : List X) → bytes_eq (codes "N9") id ≡ false → bytes_eq (codes "G62") id ≡ false
-    → AllByRecursion (λ x. IsHeader (f x)) hs → AreOther f id hs
+    → AllByRecursion (λ x. IsOrderHeader (f x)) hs → AreOther f id hs
 other_in_header f id [] a b h = tt
 other_in_header {X} f id (x ∷ hs) a b h = (by_id h.0, other_in_header f id hs a b h.1)
   where
-    by_id : IsHeader (f x) → bytes_eq (f x) id ≡ false
+    by_id : IsOrderHeader (f x) → bytes_eq (f x) id ≡ false
     by_id (inl e) = other f id (codes "N9") x e a
     by_id (inr e) = other f id (codes "G62") x e b
 

@@ -6,7 +6,7 @@ use Rattle.profile.specs.declared.rules.Rules.TheVariants.{Two}
 use Rattle.profile.specs.Limits.{most_lines}
 use Rattle.profile.specs.Words.{Words, One, Then, Times, IsWord, IsRow, words_943}
 use Rattle.tables.specs.Advice.{total, lines, dates, references}
-use Rattle.sets_in.specs.Said.{IsHeader, in_pairs}
+use Rattle.sets_in.specs.Said.{IsAdviceHeader, in_pairs}
 
 abbrev pub Ids : Type 0
 Ids = List (List ℕ)
@@ -21,7 +21,7 @@ pub record Parsed {X : Type 0} (f : X → List ℕ) (xs : List X) : Type 0 where
   pub parts : xs ≡ st ∷ w06 ∷ header ++ (in_pairs goods ++ w03 ∷ se ∷ [])
   pub is_st : f st ≡ codes "ST"
   pub is_w06 : f w06 ≡ codes "W06"
-  pub are_header : AllByRecursion (λ x. IsHeader (f x)) header
+  pub are_header : AllByRecursion (λ x. IsAdviceHeader (f x)) header
   pub are_goods : AllByRecursion (λ g. (f g.0 ≡ codes "W04") × (f g.1 ≡ codes "N9")) goods
   pub is_w03 : f w03 ≡ codes "W03"
   pub is_se : f se ≡ codes "SE"
@@ -113,12 +113,12 @@ lined {X} f xs h = with_goods (goods_word f xs 1 (most_lines Two) (codes "W04") 
 
 -- the header, and the words of what stands after it
 abbrev Headed : {X : Type 0} → (X → List ℕ) → List X → Type 0
-Headed {X} f xs = (hs zs : List X) × (xs ≡ hs ++ zs) × AllByRecursion (λ x. IsHeader (f x)) hs × IsWord (lines Two) (map f zs)
+Headed {X} f xs = (hs zs : List X) × (xs ≡ hs ++ zs) × AllByRecursion (λ x. IsAdviceHeader (f x)) hs × IsWord (lines Two) (map f zs)
 
-more_header : {X : Type 0} (f : X → List ℕ) (xs : List X) (id : List ℕ) → IsHeader id → (ys zs : List X) → xs ≡ ys ++ zs → AllByRecursion (λ x. f x ≡ id) ys → Headed f zs → Headed f xs
+more_header : {X : Type 0} (f : X → List ℕ) (xs : List X) (id : List ℕ) → IsAdviceHeader id → (ys zs : List X) → xs ≡ ys ++ zs → AllByRecursion (λ x. f x ≡ id) ys → Headed f zs → Headed f xs
 more_header {X} f xs id is ys zs e all (hs, rest, d, b, w) =
-    let P : X → Type 0 = λ x. IsHeader (f x) in
-    let mine : AllByRecursion P ys = all_so (λ x. f x ≡ id) P (λ x k. subst IsHeader (sym k) is) ys all in
+    let P : X → Type 0 = λ x. IsAdviceHeader (f x) in
+    let mine : AllByRecursion P ys = all_so (λ x. f x ≡ id) P (λ x k. subst IsAdviceHeader (sym k) is) ys all in
     (ys ++ hs, rest, e ∙ ap (λ y. ys ++ y) d ∙ sym (append_assoc ys hs rest), all_both P ys hs mine b, w)
 
 with_dates : {X : Type 0} (f : X → List ℕ) (xs : List X) → IsWord (dates Two) (map f xs) → Headed f xs
@@ -134,7 +134,7 @@ with_parties f xs h = let t = times_word f xs 0 5 (codes "N1") (references Two) 
     more_header f xs (codes "N1") (inl refl) t.0 t.1 t.2 t.3 (with_references f t.1 t.4)
 
 built : {X : Type 0} (f : X → List ℕ) (xs : List X) (st w06 : X) (ys zs : List X) → xs ≡ st ∷ ys → f st ≡ codes "ST" → ys ≡ w06 ∷ zs → f w06 ≡ codes "W06"
-    → (hs rest : List X) → zs ≡ hs ++ rest → AllByRecursion (λ x. IsHeader (f x)) hs → Lined f rest → Parsed f xs
+    → (hs rest : List X) → zs ≡ hs ++ rest → AllByRecursion (λ x. IsAdviceHeader (f x)) hs → Lined f rest → Parsed f xs
 built f xs st w06 ys zs a is_st b is_w06 hs rest c are_header (gs, w03, se, d, are_goods, is_w03, is_se) = record {
   st = st;
   w06 = w06;

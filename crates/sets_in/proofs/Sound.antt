@@ -11,7 +11,7 @@ use Rattle.profile.specs.declared.rules.Rules.{Rules}
 use Rattle.profile.specs.Bytes.{Delims, is_digit}
 use Rattle.profile.specs.Lists.{or_else}
 use Rattle.profile.specs.Cut.{Segment, element, id_of, has_id, segment_with}
-use Rattle.profile.specs.Elements.{Row, Kind, Quantity, Digits, Alphanumeric, element_fault, least_element_fault, faulty_element, must, goods_rows, quantity_digits, advice_total_digits, order_total_digits, ElementFault, takes}
+use Rattle.profile.specs.Elements.{ElementRow, Kind, Quantity, Digits, Alphanumeric, element_fault, least_element_fault, faulty_element, must, goods_rows, quantity_digits, advice_total_digits, order_total_digits, ElementFault, takes}
 use Rattle.profile.specs.Words.{Words, has_word, words_after}
 use Rattle.profile.specs.Faults.{SetFault, fault_at, fault_from, inner_fault, place_fault, rows_after}
 use Rattle.sets_in.specs.Amounts.{IsAmount, HasAmount, HaveAmounts}
@@ -108,12 +108,12 @@ no_code : (place : ℕ) (o : Option ℕ) → option_map (at_place place) o ≡ N
 no_code place None h = refl
 no_code place (Some c) h = absurd (cc)
 
-pub first_row : (d : Delims) (row : Row) (rows : List Row) (s : Segment) → faulty_element d (row ∷ rows) s ≡ None → element_fault d row (element s 1) ≡ None
+pub first_row : (d : Delims) (row : ElementRow) (rows : List ElementRow) (s : Segment) → faulty_element d (row ∷ rows) s ≡ None → element_fault d row (element s 1) ≡ None
 first_row d row rows s h =
     let p = both_none _ (least_element_fault d 2 rows (drop 1 (drop 1 s))) h in
     ap (λ (e : List ℕ). element_fault d row e) (sym (element_after s 1)) ∙ no_code 1 _ p.0
 
-second_row : (d : Delims) (row next : Row) (rows : List Row) (s : Segment) → faulty_element d (row ∷ next ∷ rows) s ≡ None → element_fault d next (element s 2) ≡ None
+second_row : (d : Delims) (row next : ElementRow) (rows : List ElementRow) (s : Segment) → faulty_element d (row ∷ next ∷ rows) s ≡ None → element_fault d next (element s 2) ≡ None
 second_row d row next rows s h =
     let p = both_none _ (least_element_fault d 2 (next ∷ rows) (drop 1 (drop 1 s))) h in
     let q = both_none _ (least_element_fault d 3 rows (drop 1 (drop 1 (drop 1 s)))) p.1 in
@@ -121,10 +121,10 @@ second_row d row next rows s h =
 
 -- by their ids
 
-rows_good : (r : Rules) (d : Delims) (id : List ℕ) (rows : List Row) (s : Segment) → ((after : List ℕ) → rows_after r after id ≡ Some rows) → IsGood r d s → has_id id s ≡ true → faulty_element d rows s ≡ None
+rows_good : (r : Rules) (d : Delims) (id : List ℕ) (rows : List ElementRow) (s : Segment) → ((after : List ℕ) → rows_after r after id ≡ Some rows) → IsGood r d s → has_id id s ≡ true → faulty_element d rows s ≡ None
 rows_good r d id rows s found g t =
     let same : id_of s ≡ id = (bytes_eq-Decides (id_of s) id).0 t in
-    ap (λ (o : Option (List Row)). option_and_then (λ rows. faulty_element d rows s) o) (sym (ap (λ (x : List ℕ). rows_after r g.0 x) same ∙ found g.0)) ∙ g.1
+    ap (λ (o : Option (List ElementRow)). option_and_then (λ rows. faulty_element d rows s) o) (sym (ap (λ (x : List ℕ). rows_after r g.0 x) same ∙ found g.0)) ∙ g.1
 
 goods_amount : (r : Rules) (d : Delims) (s : Segment) → IsGood r d s → HasAmount (codes "W04") 1 (quantity_digits r) s
 goods_amount r d s g = λ t. amount_of d Quantity (quantity_digits r) (element s 1) (λ b. refl) (first_row d (must Quantity 1 (quantity_digits r)) (drop 1 (goods_rows r)) s (rows_good r d (codes "W04") (goods_rows r) s (λ after. refl) g t))

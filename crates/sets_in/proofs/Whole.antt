@@ -11,7 +11,7 @@ use Rattle.profile.specs.Cut.{Segment, id_of, has_id, last_segment}
 use Rattle.profile.specs.Words.{Words, IsWord, has_word, is_viable, words_after, words_943}
 use Rattle.profile.specs.Faults.{fault_from}
 use Rattle.profile.proofs.WordsLaws.{viable_to}
-use Rattle.sets_in.specs.Said.{IsHeader, in_pairs}
+use Rattle.sets_in.specs.Said.{IsAdviceHeader, in_pairs}
 use Rattle.sets_in.proofs.Sound.{from_parts}
 use Rattle.sets_in.proofs.Parse.{Parsed, parse}
 
@@ -40,11 +40,11 @@ NoneEnds xs = AllByRecursion (λ x. bytes_eq x (codes "SE") ≡ false) xs
 pub other : (x y : List ℕ) → x ≡ y → bytes_eq y (codes "SE") ≡ false → bytes_eq x (codes "SE") ≡ false
 other x y e h = ap (λ z. bytes_eq z (codes "SE")) e ∙ h
 
-header_goes_on : (xs : Ids) → AllByRecursion IsHeader xs → NoneEnds xs
+header_goes_on : (xs : Ids) → AllByRecursion IsAdviceHeader xs → NoneEnds xs
 header_goes_on [] h = tt
 header_goes_on (x ∷ xs) h = (by_id h.0, header_goes_on xs h.1)
   where
-    by_id : IsHeader x → bytes_eq x (codes "SE") ≡ false
+    by_id : IsAdviceHeader x → bytes_eq x (codes "SE") ≡ false
     by_id (inl e) = other x (codes "N1") e refl
     by_id (inr (inl e)) = other x (codes "N9") e refl
     by_id (inr (inr e)) = other x (codes "G62") e refl

@@ -22,14 +22,14 @@ in_pairs (g ∷ gs) = g.0 ∷ g.1 ∷ in_pairs gs
 abbrev pub printed : AdviceSet → List Segment
 printed t = t.st ∷ t.w06 ∷ t.header ++ (in_pairs t.goods ++ t.w03 ∷ t.se ∷ [])
 
-abbrev pub IsHeader : List ℕ → Type 0
-IsHeader id = (id ≡ codes "N1") ⊎ ((id ≡ codes "N9") ⊎ (id ≡ codes "G62"))
+abbrev pub IsAdviceHeader : List ℕ → Type 0
+IsAdviceHeader id = (id ≡ codes "N1") ⊎ ((id ≡ codes "N9") ⊎ (id ≡ codes "G62"))
 
 -- each segment has its id
 pub record IsAdviceSet (t : AdviceSet) : Type 0 where
   pub st : id_of t.st ≡ codes "ST"
   pub w06 : id_of t.w06 ≡ codes "W06"
-  pub header : AllByRecursion (λ s. IsHeader (id_of s)) t.header
+  pub header : AllByRecursion (λ s. IsAdviceHeader (id_of s)) t.header
   pub goods : AllByRecursion (λ g. (id_of g.0 ≡ codes "W04") × (id_of g.1 ≡ codes "N9")) t.goods
   pub w03 : id_of t.w03 ≡ codes "W03"
   pub se : id_of t.se ≡ codes "SE"

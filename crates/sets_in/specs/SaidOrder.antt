@@ -14,7 +14,7 @@ pub record Party (X : Type 0) : Type 0 where
   pub n4 : Option X
 
 -- LX, W01, and N9 where the line is pinned to a lot
-pub record Goods (X : Type 0) : Type 0 where
+pub record OrderedGoods (X : Type 0) : Type 0 where
   pub lx : X
   pub w01 : X
   pub n9 : Option X
@@ -25,28 +25,28 @@ pub record OrderSet (X : Type 0) : Type 0 where
   pub w05 : X
   pub parties : List (Party X)
   pub header : List X
-  pub goods : List (Goods X)
+  pub goods : List (OrderedGoods X)
   pub w76 : X
   pub se : X
 
 abbrev pub in_party : {X : Type 0} → Party X → List X
 in_party p = p.n1 ∷ option_to_list p.n3 ++ option_to_list p.n4
 
-abbrev pub in_goods : {X : Type 0} → Goods X → List X
+abbrev pub in_goods : {X : Type 0} → OrderedGoods X → List X
 in_goods g = g.lx ∷ g.w01 ∷ option_to_list g.n9
 
 abbrev pub printed : {X : Type 0} → OrderSet X → List X
 printed t = t.st ∷ t.w05 ∷ flat_map in_party t.parties
     ++ (t.header ++ (flat_map in_goods t.goods ++ t.w76 ∷ t.se ∷ []))
 
-abbrev pub IsHeader : List ℕ → Type 0
-IsHeader id = (id ≡ codes "N9") ⊎ (id ≡ codes "G62")
+abbrev pub IsOrderHeader : List ℕ → Type 0
+IsOrderHeader id = (id ≡ codes "N9") ⊎ (id ≡ codes "G62")
 
 abbrev pub IsParty : {X : Type 0} → (X → List ℕ) → Party X → Type 0
 IsParty id p = (id p.n1 ≡ codes "N1") × IfSome p.n3 (λ s. id s ≡ codes "N3")
     × IfSome p.n4 (λ s. id s ≡ codes "N4")
 
-abbrev pub IsGoods : {X : Type 0} → (X → List ℕ) → Goods X → Type 0
+abbrev pub IsGoods : {X : Type 0} → (X → List ℕ) → OrderedGoods X → Type 0
 IsGoods id g = (id g.lx ≡ codes "LX") × (id g.w01 ≡ codes "W01")
     × IfSome g.n9 (λ s. id s ≡ codes "N9")
 
@@ -55,7 +55,7 @@ pub record IsOrderSet {X : Type 0} (id : X → List ℕ) (t : OrderSet X) : Type
   pub st : id t.st ≡ codes "ST"
   pub w05 : id t.w05 ≡ codes "W05"
   pub parties : AllByRecursion (IsParty id) t.parties
-  pub header : AllByRecursion (λ s. IsHeader (id s)) t.header
+  pub header : AllByRecursion (λ s. IsOrderHeader (id s)) t.header
   pub goods : AllByRecursion (IsGoods id) t.goods
   pub w76 : id t.w76 ≡ codes "W76"
   pub se : id t.se ≡ codes "SE"
@@ -73,7 +73,7 @@ address_in p =
     }
 
 -- the lines, where the LX of the first has the position; a W01 stands after its LX
-abbrev pub lines_at : ℕ → List (Goods Segment) → List OrderLine
+abbrev pub lines_at : ℕ → List (OrderedGoods Segment) → List OrderLine
 lines_at n [] = []
 lines_at n (g ∷ gs) =
     record {

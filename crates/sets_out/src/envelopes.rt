@@ -33,13 +33,13 @@ const SPACES: &[u8] = b"               ";
 
 // One side of an interchange, as two elements of ISA name it: the id with the spaces that fill it.
 #[derive(Drop)]
-pub(crate) struct Party<'a> {
+pub(crate) struct Side<'a> {
     pub(crate) qualifier: &'a [u8],
     pub(crate) id: &'a [u8],
     pub(crate) fill: &'static [u8],
 }
 
-impl<'a> Model for Party<'a> {
+impl<'a> Model for Side<'a> {
     ghost Value = { Receiver };
 
     ghost view = { λ p. record { qualifier = p.qualifier.now; id = p.id.now ++ p.fill.now } };
@@ -53,10 +53,10 @@ fn fill(length: usize) -> &'static [u8]
 }
 
 // A partner, with its id filled to that width.
-pub(crate) fn filled(who: &Who) -> Party<'_>
+pub(crate) fn filled(who: &Who) -> Side<'_>
     ensures { result ≡ receiver_of who.now }
 {
-    Party {
+    Side {
         qualifier: who.qualifier(),
         id: who.id(),
         fill: fill(who.id().len()),
@@ -64,7 +64,7 @@ pub(crate) fn filled(who: &Who) -> Party<'_>
 }
 
 // Appends the two elements of a side, or a beginning of them.
-fn append_party(out: &mut Vec<u8>, separator: u8, party: &Party<'_>) -> Result<(), AllocError>
+fn append_party(out: &mut Vec<u8>, separator: u8, party: &Side<'_>) -> Result<(), AllocError>
     ensures ok { OnOk result (out.new.items ≡ out.old.items ++ flat_map
         (λ e. separator ∷ e) (party.now.qualifier ∷ party.now.id ∷ [])) }
     ensures kept { Extends out.old.items out.new.items }
@@ -126,7 +126,7 @@ pub(crate) fn append_isa(
     out: &mut Vec<u8>,
     delims: Delims,
     warehouse: &Who,
-    to: &Party<'_>,
+    to: &Side<'_>,
     moment: &Moment,
     number: u32,
 ) -> Result<usize, AllocError>

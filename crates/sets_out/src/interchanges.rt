@@ -7,7 +7,7 @@ ghost use Rattle.sets_out.specs.Interchanges.{acknowledged, answers_group, betwe
 use crate::acknowledgment::append_997;
 use crate::documents::append_document;
 use crate::envelopes::{
-    Envelope, Party, append_ge, append_gs, append_iea, append_isa, append_isa_to,
+    Envelope, Side, append_ge, append_gs, append_iea, append_isa, append_isa_to,
 };
 use crate::headings::{Heading, append_ta1};
 use crate::sheets::Document;
@@ -165,10 +165,10 @@ fn append_answer(out: &mut Vec<u8>, answer: &Answer<'_>) -> Result<(), AllocErro
 }
 
 // The sender of an interchange as its ISA names it.
-fn sender<'a>(heading: &Heading<'a>) -> Party<'a>
+fn sender<'a>(heading: &Heading<'a>) -> Side<'a>
     ensures { result ≡ record { qualifier = heading.now.qualifier; id = heading.now.id } }
 {
-    Party {
+    Side {
         qualifier: heading.qualifier,
         id: heading.id,
         fill: b"",

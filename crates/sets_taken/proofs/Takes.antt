@@ -17,7 +17,7 @@ use Rattle.stock.specs.Pages.{PageFacts}
 use Rattle.stock.specs.Puts.{put}
 use Rattle.stock.specs.Shows.{Shows}
 use Rattle.stock.specs.declared.steps.Step.{Step}
-use Rattle.tables.specs.Judged.{IsClosed}
+use Rattle.tables.specs.Judged.{EndsInSE}
 use Rattle.sets_taken.specs.declared.judging.Verdict.{Verdict as Settled}
 use Rattle.sets_taken.specs.declared.judging.Verdict.TheVariants.{Passed, Rejected}
 use Rattle.sets_taken.specs.Proper.{AreProper}
@@ -177,7 +177,7 @@ place_last (x ∷ y ∷ xs) at = by_test (ends x) refl (place_last (y ∷ xs))
 pub framed_ends : (s : Set) → IsFramed s → s.is_closed ≡ true → ends (last_segment s.segments) ≡ true
 framed_ends s framed closed = place_last s.segments (rw closed at framed.ends)
 
-pub pieces_closed : (ps : List Piece) (s : Set) (fault : Option ℕ) → segments_of ps ≡ s.segments → IsFramed s → (fault ≡ None → s.is_closed ≡ true) → fault ≡ None → IsClosed ps
+pub pieces_closed : (ps : List Piece) (s : Set) (fault : Option ℕ) → segments_of ps ≡ s.segments → IsFramed s → (fault ≡ None → s.is_closed ≡ true) → fault ≡ None → EndsInSE ps
 pieces_closed ps s fault same framed closed none = ap (λ (ss : List Segment). ends (last_segment ss)) same ∙ framed_ends s framed (closed none)
 
 -- a set whose verdict is known, by the pieces that it holds

@@ -35,8 +35,8 @@ IsStop outcome (stopped.Fault f) = outcome ≡ Err f
 IsStop outcome stopped.OutOfMemory = Unit {0}
 
 -- changes of this outcome are proper, and put in they are the page with its event
-abbrev pub IsOutcome : PageFacts → List Event → Result Event Rejection → List Change → Type 0
-IsOutcome p es outcome cs = (e : Event) × (outcome ≡ Ok e) × Shows (put cs p) (es ++ e ∷ [])
+abbrev pub IsSetOutcome : PageFacts → List Event → Result Event Rejection → List Change → Type 0
+IsSetOutcome p es outcome cs = (e : Event) × (outcome ≡ Ok e) × Shows (put cs p) (es ++ e ∷ [])
     × AreProper p cs
 
 -- what is so of each page of which this one is a part that has what a checked set names, of each
@@ -63,7 +63,7 @@ FitsOn p step = IsSound (put step.changes.items p)
 
 -- what a judged set came to over a page
 abbrev pub IsVerdict : PageFacts → List Event → Result Event Rejection → Verdict → Type 0
-IsVerdict p es outcome (Passed step) = IsOutcome p es outcome step.changes.items
+IsVerdict p es outcome (Passed step) = IsSetOutcome p es outcome step.changes.items
 IsVerdict p es outcome (Rejected r) = outcome ≡ Err r
 
 -- what a set came to can be put into the page: the step of one that passed, after which the page is

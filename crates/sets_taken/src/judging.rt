@@ -11,7 +11,7 @@ ghost use Rattle.profile.specs.Words.{kind_words};
 ghost use Rattle.stock.specs.Pages.{PageFacts};
 ghost use Rattle.stock.specs.Parts.{Named, IsPart};
 ghost use Rattle.stock.specs.Shows.{Shows};
-ghost use Rattle.tables.specs.Judged.{IsClosed};
+ghost use Rattle.tables.specs.Judged.{EndsInSE};
 ghost use Rattle.sets_taken.specs.SetNames.{NamesSet};
 ghost use Rattle.sets_taken.specs.Judging.{IsStepOf, IsStopOf, FitsOn, IsVerdict, CanBePut, OnPages};
 
@@ -121,7 +121,7 @@ pub(crate) fn judged<'a>(
     rules: Rules,
 ) -> Result<Verdict<'a>, AllocError>
     requires few { length segments.now < 2 ^ 32 - 1 }
-    requires closed { IsClosed segments.now }
+    requires closed { EndsInSE segments.now }
     requires room { page.now.recent < most_sets }
 
     ensures value { IfOk result (λ v. (d : Delimiters) → AreOf d segments.now

@@ -12,7 +12,7 @@ use Rattle.profile.specs.Movements.{Column, Expected, OnHand, Reservation, Shipp
 use Rattle.profile.specs.Page.{PageAdvice, PageOrder}
 use Rattle.profile.specs.Rows.{LotRow}
 use Rattle.goods.specs.Keyed.{put_advice, put_order}
-use Rattle.goods.specs.Moved.{IsCounted, IsShipped, IsSet, set_by}
+use Rattle.goods.specs.Moved.{IsCounted, IsShipped, SetsOnHand, set_by}
 use Rattle.goods.specs.Pages.{PageFacts, IsSound, is_shipment, is_number, advice_at, order_at}
 use Rattle.stock.specs.Shows.{Shows}
 use Rattle.goods.specs.Steps.{closed_advice, closed_order, with_sent, exceeds, is_unknown, is_below, is_on_hand, IsReceived, IsPicked, IsRecounted}
@@ -243,7 +243,7 @@ set_unnamed a b (l ∷ ls) n h =
     ap (λ (v : Bool). set_by ls a b (cond v l.quantity n)) u.0 ∙ set_unnamed a b ls n u.1
 
 rows_set : (sheet : List Line) (p : PageFacts) → IsSound p → list_any (is_unknown p.rows) sheet ≡ false
-    → (new : List LotRow) × IsSet sheet p.rows new
+    → (new : List LotRow) × SetsOnHand sheet p.rows new
 rows_set sheet p sound known =
     let m = rows_made date number left [] p.rows sound.sorted.rows nothing in (
       m.0,

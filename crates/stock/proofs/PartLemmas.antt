@@ -17,7 +17,7 @@ use Rattle.goods.specs.Pages.{PageFacts, AreSorted, document_at, is_document}
 use Rattle.stock.specs.Parts.{Named, all_named, IsPart, are_items, NamesAdvice}
 use Rattle.stock.specs.Puts.{put, put_change}
 use Rattle.goods.specs.declared.documents.Function.TheVariants.{Receipt, Shipment, Adjustment}
-use Rattle.goods.specs.Moved.{IsAdded, IsAdvised, IsCounted, IsShipped, IsSet}
+use Rattle.goods.specs.Moved.{IsAdded, IsAdvised, IsCounted, IsShipped, SetsOnHand}
 use Rattle.goods.specs.Steps.{opened, opened_order, closed_advice, closed_order, with_said, said_of_found, is_unknown, is_below, is_on_hand, IsAnnounced, IsReserved, IsReceived, IsPicked, IsRecounted}
 use Rattle.stock.specs.Stops.{row_changes, advice_changes, order_changes}
 use Rattle.goods.specs.OfPairs.{is_row, of_pair, date_of_pair, one, since, amount, same_row, changed_rows}
@@ -266,7 +266,7 @@ picked_whole n m k sheet p P t0 t1 part lines goods touched moved =
     ((map change.Stock rs ++ change.Order (closed_order k) ∷ []) ++ change.Sent m Shipment ∷ [])) (sym same)
     (picked_put m k sheet P t0 t1 part.sorted.rows (touched_whole n p P all t0 part items touched) moved)
 
-pub recounted_whole : (n : Named) (m : ℕ) (sheet : List Line) (p P : PageFacts) (t0 t1 : List LotRow) → IsPart n p P → are_items n sheet ≡ true → IsTouched sheet p.rows t0 → IsSet sheet t0 t1
+pub recounted_whole : (n : Named) (m : ℕ) (sheet : List Line) (p P : PageFacts) (t0 t1 : List LotRow) → IsPart n p P → are_items n sheet ≡ true → IsTouched sheet p.rows t0 → SetsOnHand sheet t0 t1
     → Makes (IsRecounted m sheet P) (λ q. row_changes P q ++ change.Sent m Adjustment ∷ []) P (map change.Stock (changed_rows p.rows t1) ++ change.Sent m Adjustment ∷ [])
 recounted_whole n m sheet p P t0 t1 part goods touched moved =
     let same = changed_same n p P part t1 (rows_named n sheet t1 goods (λ i l e. omega (arith, moved.named i l, touched_none sheet p.rows t0 touched one i l e))) in

@@ -11,7 +11,7 @@ use Rattle.goods.specs.OfPairs.{is_row, of_pair, one, since, amount, named_by, r
 use Rattle.goods.specs.Keyed.{IsSorted}
 use Rattle.goods.proofs.Dates.{date_kept}
 use Rattle.goods.proofs.KeyLemmas.{sorted_distinct, sorted_kept}
-use Rattle.goods.specs.Moved.{IsPlace, IsTaken, IsRaised, IsShipped, IsSet, set_by}
+use Rattle.goods.specs.Moved.{IsPlace, IsTaken, IsRaised, IsShipped, SetsOnHand, set_by}
 use Rattle.goods.proofs.OfPairLemmas.{part, part_yes, part_no, of_pair_set, of_pair_kept, of_pair_here, IsRowAt, row_at, row_as_line, of_pair_named, placed_there, added_at, given_one, of_pair_absent}
 use Rattle.goods.proofs.Sums.{given_append, given_here, quantity_next}
 use Rattle.stock.proofs.Marks.{named_own}
@@ -103,7 +103,7 @@ set_of_pair line rows i r distinct at a b =
     ]
 
 pub set_at : (line : Line) (rows : List LotRow) (i : ℕ) (r : LotRow) → IsSorted rows → IsPlace line.item line.lot rows i → r ≡ get_or rows i r
-    → IsSet (line ∷ []) rows (set rows i (with_on_hand line.quantity r))
+    → SetsOnHand (line ∷ []) rows (set rows i (with_on_hand line.quantity r))
 set_at line rows i r sorted place is =
     let distinct = sorted_distinct rows sorted in
     let at = row_at line rows i r place is in
@@ -117,7 +117,7 @@ set_at line rows i r sorted place is =
     }
 
 pub set_more : (lines : List Line) (i : ℕ) (l : Line) (old mid new : List LotRow) → i < length lines → l ≡ get_or lines i l
-    → IsSet (take i lines) old mid → IsSet (l ∷ []) mid new → IsSet (take (i + 1) lines) old new
+    → SetsOnHand (take i lines) old mid → SetsOnHand (l ∷ []) mid new → SetsOnHand (take (i + 1) lines) old new
 set_more lines i l old mid new within is first next =
     let e : take (i + 1) lines ≡ take i lines ++ l ∷ [] = take_more lines i l within ∙ ap (λ (x : Line). take i lines ++ x ∷ []) (sym is) in
     rw e (record {
@@ -131,7 +131,7 @@ set_more lines i l old mid new within is first next =
     })
 
 pub next_set : (lines : List Line) (i : ℕ) (l : Line) (old mid : List LotRow) → i < length lines → l ≡ get_or lines i l
-    → IsSet (take i lines) old mid → ((a b : List ℕ) → named_by lines a b ≤ of_pair one a b old) → 1 ≤ of_pair one l.item l.lot mid
+    → SetsOnHand (take i lines) old mid → ((a b : List ℕ) → named_by lines a b ≤ of_pair one a b old) → 1 ≤ of_pair one l.item l.lot mid
 next_set lines i l old mid within is first there = omega (arith, first.named l.item l.lot, there l.item l.lot, named_own lines i l within is)
 
 pub sheet_there : (sheet : List Line) (old new : List LotRow) → IsTaken OnHand sheet old new → ((a b : List ℕ) → quantity_of sheet a b ≤ of_pair (amount OnHand) a b old)

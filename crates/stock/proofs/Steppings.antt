@@ -12,7 +12,7 @@ use Rattle.stock.specs.declared.steps.Change.TheVariants as change
 use Rattle.goods.specs.declared.documents.Function.TheVariants.{Receipt, Shipment, Adjustment}
 use Rattle.goods.specs.Functions.{function_text}
 use Rattle.goods.specs.Keyed.{put_advice, put_order, IsSorted}
-use Rattle.goods.specs.Moved.{IsAdded, IsAdvised, IsCounted, IsShipped, IsSet}
+use Rattle.goods.specs.Moved.{IsAdded, IsAdvised, IsCounted, IsShipped, SetsOnHand}
 use Rattle.goods.specs.Pages.{PageFacts, AreSorted, advice_at, order_at}
 use Rattle.stock.specs.Puts.{put, put_change}
 use Rattle.goods.specs.Steps.{opened, opened_order, closed_advice, closed_order, with_sent, IsAnnounced, IsReserved, IsReceived, IsPicked, IsRecounted}
@@ -131,7 +131,7 @@ picked_put n k sheet p t0 t1 sorted touched moved =
     (record { rows = shipped_led k.reserved sheet p.rows t0 t1 sorted touched moved; advices = refl; orders = refl; documents = refl; next = record { entries = refl; recent = refl } })
     (ap (λ (xs : List Change). xs ++ change.Sent n Shipment ∷ []) (order_exact p q (closed_order k) k.number t1 sorted moved.sorted refl refl refl))
 
-pub recounted_put : (n : ℕ) (sheet : List Line) (p : PageFacts) (t0 t1 : List LotRow) → IsSorted p.rows → IsTouched sheet p.rows t0 → IsSet sheet t0 t1
+pub recounted_put : (n : ℕ) (sheet : List Line) (p : PageFacts) (t0 t1 : List LotRow) → IsSorted p.rows → IsTouched sheet p.rows t0 → SetsOnHand sheet t0 t1
     → Makes (IsRecounted n sheet p) (λ q. row_changes p q ++ change.Sent n Adjustment ∷ []) p (map change.Stock (changed_rows p.rows t1) ++ change.Sent n Adjustment ∷ [])
 recounted_put n sheet p t0 t1 sorted touched moved =
     let cs = changed_rows p.rows t1 in

@@ -11,7 +11,7 @@ ghost use Rattle.goods.specs.OfPairs.{of_pair, amount};
 
 use crate::drafts::Draft;
 use crate::facts::Facts;
-use crate::searches::{place_of_advice, place_of_document, place_of_order};
+use crate::searches::{find_advice, find_document, find_order};
 use crate::steps::Step;
 use goods::{Column, KnownAdvice, KnownDocument, KnownOrder, Row, amount_of};
 use std::alloc::{AllocError, Global};
@@ -98,8 +98,10 @@ impl Page {
         ensures { MatchOption result (advice_at shipment.now self.now.advices ≡ None)
             (λ k. advice_at shipment.now self.now.advices ≡ Some k.now) }
     {
-        let i = place_of_advice(&self.facts.advices, shipment)?;
-        Some(&self.facts.advices[i])
+        match find_advice(&self.facts.advices, shipment) {
+            Ok(i) => Some(&self.facts.advices[i]),
+            Err(_) => None,
+        }
     }
 
     // Whether there is an advice under a shipment number.
@@ -121,8 +123,10 @@ impl Page {
         ensures { MatchOption result (order_at number.now self.now.orders ≡ None)
             (λ k. order_at number.now self.now.orders ≡ Some k.now) }
     {
-        let i = place_of_order(&self.facts.orders, number)?;
-        Some(&self.facts.orders[i])
+        match find_order(&self.facts.orders, number) {
+            Ok(i) => Some(&self.facts.orders[i]),
+            Err(_) => None,
+        }
     }
 
     /// What is on hand of a pair, in the unit EA: 0 where there is no row of it.
@@ -140,8 +144,10 @@ impl Page {
         ensures { MatchOption result (document_at n self.now.documents ≡ None)
             (λ d. document_at n self.now.documents ≡ Some d.now) }
     {
-        let i = place_of_document(&self.facts.documents, n)?;
-        Some(&self.facts.documents[i])
+        match find_document(&self.facts.documents, n) {
+            Ok(i) => Some(&self.facts.documents[i]),
+            Err(_) => None,
+        }
     }
 
     /// The page with one event more: what the step of this page changes is put in, each row by its

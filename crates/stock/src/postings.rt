@@ -4,7 +4,7 @@ ghost use Rattle.profile.specs.Events.{quantity_of};
 ghost use Rattle.profile.specs.Movements.{Expected, OnHand, Reservation, Shipped};
 ghost use Rattle.goods.specs.Keyed.{IsSorted};
 ghost use Rattle.goods.specs.OfPairs.{of_pair, one, amount, named_by};
-ghost use Rattle.goods.specs.Moved.{IsAdded, IsTaken, IsMarked, IsDated, IsCounted, IsRaised, IsShipped, IsSet};
+ghost use Rattle.goods.specs.Moved.{IsAdded, IsTaken, IsMarked, IsDated, IsCounted, IsRaised, IsShipped, SetsOnHand};
 ghost use Rattle.goods.specs.Columns.{column_of};
 
 use crate::places::placed;
@@ -101,7 +101,7 @@ fn set_line(rows: &mut Vec<Row>, line: &Goods)
     requires sorted { IsSorted rows.old.items }
     requires there { 1 ≤ of_pair one line.now.item line.now.lot rows.old.items }
 
-    ensures { IsSet (line.now ∷ []) rows.old.items rows.new.items }
+    ensures { SetsOnHand (line.now ∷ []) rows.old.items rows.new.items }
 {
     if let Some(i) = place_of(rows, &line.item, &line.lot) {
         let row = &mut rows[i];
@@ -115,7 +115,7 @@ pub(crate) fn set_lines(rows: &mut Vec<Row>, lines: &[Goods])
     requires there { (item lot : List ℕ)
         → named_by lines.now item lot ≤ of_pair one item lot rows.old.items }
 
-    ensures { IsSet lines.now rows.old.items rows.new.items }
+    ensures { SetsOnHand lines.now rows.old.items rows.new.items }
 {
     for line in lines {
         set_line(rows, line);

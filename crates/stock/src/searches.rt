@@ -1,37 +1,59 @@
-ghost use Rattle.std.specs.Prelude.{◌≡◌, None, MatchOption, OnOk, true, nat_lt};
+//! The lists of a page, searched and changed by their keys.
+ghost use Rattle.std.specs.Prelude.{◌≡◌, ◌≤◌, ◌<◌, true, MatchResult, OnOk, length, nat_lt};
 ghost use Rattle.profile.specs.Bytes.{comes_before};
 ghost use Rattle.goods.specs.Functions.{function_text};
-ghost use Rattle.goods.specs.Keyed.{rises_by, IsRank, shipment_of, number_of, entry_of, put_advice, put_order, put_document};
-ghost use Rattle.goods.specs.Pages.{IsAt, is_shipment, is_number, is_document, advice_at, order_at, document_at};
+ghost use Rattle.goods.specs.Keyed.{rises_by, shipment_of, number_of, entry_of, put_advice, put_order, put_document};
+ghost use Rattle.goods.specs.Pages.{is_shipment, is_number, is_document};
 ghost use Rattle.goods.specs.Steps.{with_sent, with_said};
+ghost use Rattle.stock.specs.Searching.{FoundAt, put_at};
 
 use goods::{Function, KnownAdvice, KnownDocument, KnownOrder};
 use std::alloc::AllocError;
 
-// How many advices come before a shipment number.
-fn rank_of_advice(advices: &[KnownAdvice], shipment: &[u8]) -> usize
+/// Where the advice under a shipment number stands; the error is where it would.
+pub(crate) fn find_advice(advices: &[KnownAdvice], shipment: &[u8]) -> Result<usize, usize>
     requires { rises_by comes_before shipment_of advices.now ≡ true }
 
-    ensures { IsRank comes_before shipment_of advices.now shipment.now result }
+    ensures { FoundAt comes_before shipment_of (is_shipment shipment.now) shipment.now advices.now
+        result }
 {
-    advices.partition_point(|advice| advice.is_before(shipment))
+    advices.binary_search_by(|advice| advice.stands_to(shipment))
 }
 
-/// The place of the advice under a shipment number.
-pub(crate) fn place_of_advice(advices: &[KnownAdvice], shipment: &[u8]) -> Option<usize>
-    requires { rises_by comes_before shipment_of advices.now ≡ true }
+/// Where the order under a number stands; the error is where it would.
+pub(crate) fn find_order(orders: &[KnownOrder], number: &[u8]) -> Result<usize, usize>
+    requires { rises_by comes_before number_of orders.now ≡ true }
 
-    ensures { MatchOption result (advice_at shipment.now advices.now ≡ None)
-        (λ i. IsAt (is_shipment shipment.now) advices.now i) }
+    ensures { FoundAt comes_before number_of (is_number number.now) number.now orders.now result }
 {
-    let i = rank_of_advice(advices, shipment);
-    if i == advices.len() {
-        return None;
+    orders.binary_search_by(|order| order.stands_to(number))
+}
+
+/// Where the document with a number stands; the error is where it would.
+pub(crate) fn find_document(documents: &[KnownDocument], n: u32) -> Result<usize, usize>
+    requires { rises_by nat_lt entry_of documents.now ≡ true }
+
+    ensures { FoundAt nat_lt entry_of (is_document n) n documents.now result }
+{
+    documents.binary_search_by(|document| document.stands_to(n))
+}
+
+// Puts an item in the place of another, or where it belongs.
+fn put_at<T: Drop>(
+    list: &mut Vec<T>,
+    place: Result<usize, usize>,
+    item: T,
+) -> Result<(), AllocError>
+    requires { MatchResult place (λ i. i < length list.old.items)
+        (λ i. i ≤ length list.old.items) }
+
+    ensures { OnOk result (list.new.items ≡ put_at place item list.old.items) }
+{
+    match place {
+        Ok(i) => list[i] = item,
+        Err(i) => list.insert(i, item)?,
     }
-    if advices[i].is_under(shipment) {
-        return Some(i);
-    }
-    None
+    Ok(())
 }
 
 /// Puts an advice in the place of that of its shipment number, or where that belongs.
@@ -43,39 +65,8 @@ pub(crate) fn put_advice(
 
     ensures { OnOk result (advices.new.items ≡ put_advice advice advices.old.items) }
 {
-    if let Some(i) = place_of_advice(advices, advice.shipment()) {
-        advices[i] = advice;
-        return Ok(());
-    }
-    let i = rank_of_advice(advices, advice.shipment());
-    advices.insert(i, advice)?;
-    Ok(())
-}
-
-// How many orders come before a number.
-fn rank_of_order(orders: &[KnownOrder], number: &[u8]) -> usize
-    requires { rises_by comes_before number_of orders.now ≡ true }
-
-    ensures { IsRank comes_before number_of orders.now number.now result }
-{
-    orders.partition_point(|order| order.is_before(number))
-}
-
-/// The place of the order under a number.
-pub(crate) fn place_of_order(orders: &[KnownOrder], number: &[u8]) -> Option<usize>
-    requires { rises_by comes_before number_of orders.now ≡ true }
-
-    ensures { MatchOption result (order_at number.now orders.now ≡ None)
-        (λ i. IsAt (is_number number.now) orders.now i) }
-{
-    let i = rank_of_order(orders, number);
-    if i == orders.len() {
-        return None;
-    }
-    if orders[i].is_under(number) {
-        return Some(i);
-    }
-    None
+    let place = find_advice(advices, advice.shipment());
+    put_at(advices, place, advice)
 }
 
 /// Puts an order in the place of that of its number, or where that belongs.
@@ -84,39 +75,8 @@ pub(crate) fn put_order(orders: &mut Vec<KnownOrder>, order: KnownOrder) -> Resu
 
     ensures { OnOk result (orders.new.items ≡ put_order order orders.old.items) }
 {
-    if let Some(i) = place_of_order(orders, &order.number) {
-        orders[i] = order;
-        return Ok(());
-    }
-    let i = rank_of_order(orders, &order.number);
-    orders.insert(i, order)?;
-    Ok(())
-}
-
-// How many documents come before a number.
-fn rank_of_document(documents: &[KnownDocument], n: u32) -> usize
-    requires { rises_by nat_lt entry_of documents.now ≡ true }
-
-    ensures { IsRank nat_lt entry_of documents.now n result }
-{
-    documents.partition_point(|document| document.n < n)
-}
-
-/// The place of the document with a number.
-pub(crate) fn place_of_document(documents: &[KnownDocument], n: u32) -> Option<usize>
-    requires { rises_by nat_lt entry_of documents.now ≡ true }
-
-    ensures { MatchOption result (document_at n documents.now ≡ None)
-        (λ i. IsAt (is_document n) documents.now i) }
-{
-    let i = rank_of_document(documents, n);
-    if i == documents.len() {
-        return None;
-    }
-    if documents[i].is_under(n) {
-        return Some(i);
-    }
-    None
+    let place = find_order(orders, &order.number);
+    put_at(orders, place, order)
 }
 
 /// Puts a document in the place of that of its number, or where that belongs.
@@ -128,13 +88,8 @@ pub(crate) fn put_document(
 
     ensures { OnOk result (documents.new.items ≡ put_document document documents.old.items) }
 {
-    if let Some(i) = place_of_document(documents, document.n) {
-        documents[i] = document;
-        return Ok(());
-    }
-    let i = rank_of_document(documents, document.n);
-    documents.insert(i, document)?;
-    Ok(())
+    let place = find_document(documents, document.n);
+    put_at(documents, place, document)
 }
 
 /// Adds the document that is sent under a number, unless there is one.
@@ -148,18 +103,15 @@ pub(crate) fn send(
     ensures { OnOk result (documents.new.items ≡ with_sent n (function_text function)
         documents.old.items) }
 {
-    if let Some(_) = place_of_document(documents, n) {
+    let Err(i) = find_document(documents, n) else {
         return Ok(());
-    }
-    let i = rank_of_document(documents, n);
-    documents.insert(
-        i,
-        KnownDocument {
-            n,
-            function,
-            said: None,
-        },
-    )?;
+    };
+    let sent = KnownDocument {
+        n,
+        function,
+        said: None,
+    };
+    documents.insert(i, sent)?;
     Ok(())
 }
 
@@ -169,7 +121,7 @@ pub(crate) fn put_said(documents: &mut Vec<KnownDocument>, n: u32, accepts: bool
 
     ensures { documents.new.items ≡ with_said n accepts documents.old.items }
 {
-    if let Some(i) = place_of_document(documents, n) {
+    if let Ok(i) = find_document(documents, n) {
         let document = &mut documents[i];
         document.keep(accepts);
     }

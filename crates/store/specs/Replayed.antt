@@ -4,7 +4,7 @@ use Rattle.profile.specs.Header.{Who, who_eq}
 use Rattle.profile.specs.Register.{Entry}
 use Rattle.rules.specs.Written.{Written, written}
 
-pub record Replayed : Type 0 where
+pub record Replay : Type 0 where
   pub warehouse : Who
   pub entries : List Written
 

@@ -34,9 +34,9 @@ pub struct ReplayBook {
 }
 
 impl Model for ReplayBook {
-    ghost use Rattle.store.specs.Replayed.{Replayed};
+    ghost use Rattle.store.specs.Replayed.{Replay};
 
-    ghost Value = { Replayed };
+    ghost Value = { Replay };
 
     ghost view = { λ b. record { warehouse = b.warehouse; entries = b.entries.items } };
 }

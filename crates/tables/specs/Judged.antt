@@ -9,8 +9,8 @@ use Rattle.profile.specs.Words.{kind_words}
 use Rattle.profile.specs.declared.set_kind.SetKind.{SetKind}
 
 -- SE stands last
-abbrev pub IsClosed : List Piece → Type 0
-IsClosed ps = IsTrue (has_id (codes "SE") (last_segment (segments_of ps)))
+abbrev pub EndsInSE : List Piece → Type 0
+EndsInSE ps = IsTrue (has_id (codes "SE") (last_segment (segments_of ps)))
 
 -- the segments of a set, its kind, and the rules by which it was judged
 pub record Whole : Type 0 where
@@ -26,5 +26,5 @@ IsJudged r kind ps f = (d : Delims) × (set_fault r d (kind_words r kind) (segme
 -- a set that ends with SE and has no fault by its rules
 pub record IsUnfaulted (w : Whole) : Type 0 where
   pub few : length w.pieces < 2 ^ 32 - 1
-  pub closed : IsClosed w.pieces
+  pub closed : EndsInSE w.pieces
   pub judged : IsJudged w.rules w.kind w.pieces None

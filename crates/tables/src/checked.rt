@@ -2,7 +2,7 @@ ghost use Rattle.std.specs.Prelude.{◌≡◌, ◌<◌, ◌^◌, ◌-◌, codes,
 ghost use Rattle.profile.specs.Cut.{segments_of, last_segment, has_id};
 ghost use Rattle.profile.specs.Words.{kind_words};
 ghost use Rattle.profile.specs.Faults.{IsFaultOf, set_fault};
-ghost use Rattle.tables.specs.Judged.{IsClosed, IsJudged, IsUnfaulted, Whole};
+ghost use Rattle.tables.specs.Judged.{EndsInSE, IsJudged, IsUnfaulted, Whole};
 
 use crate::faults::{Progress, step};
 use crate::rows::After;
@@ -112,7 +112,7 @@ pub fn judge<'a>(
     rules: Rules,
 ) -> Result<Checked<'a>, SetFault<'a>>
     requires few { length segments.now < 2 ^ 32 - 1 }
-    requires closed { IsClosed segments.now }
+    requires closed { EndsInSE segments.now }
 
     ensures { MatchResult result
         (λ c. (c.kind ≡ kind) × (c.pieces ≡ segments.now)

@@ -1,11 +1,11 @@
 use Rattle.std.proofs.Common.{List, ℕ, subst}
 use Rattle.profile.specs.Register.{Command, Interchange as Received}
-use Rattle.commands.specs.Acting.{IsAnswered, IsSaid}
+use Rattle.commands.specs.Acting.{IsHandedIn, IsSaid}
 use Rattle.commands.proofs.acts.perform.Goals as goal
 
 pub returns-in-Send-clause-performed : goal.returns-in-Send-clause-performed
 returns-in-Send-clause-performed g c =
-    let answered : List ℕ → Type 0 = λ bytes. IsAnswered (g.K.Keeper.standing c.args.book.now) (g.K.Keeper.standing c.hand_in.new.book) (Received bytes) c.args.moment (g.W.Write.contents c.args.out.now) (g.W.Write.contents c.hand_in.new.out) c.hand_in.result in
+    let answered : List ℕ → Type 0 = λ bytes. IsHandedIn (g.K.Keeper.standing c.args.book.now) (g.K.Keeper.standing c.hand_in.new.book) (Received bytes) c.args.moment (g.W.Write.contents c.args.out.now) (g.W.Write.contents c.hand_in.new.out) c.hand_in.result in
     rw c.in-Send.is (subst answered c.deref-in-Send.ensures.value c.hand_in.ensures.answered)
 
 pub returns-in-Send-clause-said : goal.returns-in-Send-clause-said

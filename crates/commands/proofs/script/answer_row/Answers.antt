@@ -14,5 +14,6 @@ returns-in_err-status-clause-stopped g c =
       read = search rules;
       left = c.answer.new.book;
       done = c.in_err-status.ensures.answered;
+      goes = c.answer.ensures.goes;
       same = unchanged_refl _;
     })))

@@ -1,6 +1,6 @@
 use Rattle.std.proofs.Common.{take}
-use Rattle.goods.specs.Moved.{IsSet}
+use Rattle.goods.specs.Moved.{SetsOnHand}
 use Rattle.stock.proofs.postings.set_lines.Given as goal
 
 abbrev pub invariant-loop-line : goal.invariant-loop-line
-invariant-loop-line l = IsSet (take l.line-index l.lines) l.initial.rows.items l.rows.items
+invariant-loop-line l = SetsOnHand (take l.line-index l.lines) l.initial.rows.items l.rows.items

@@ -1,11 +1,18 @@
 use Rattle.std.proofs.Common.{◌∙◌}
-use Rattle.goods.proofs.KeyLemmas.{advice_set, advice_insert}
+use Rattle.std.proofs.lemmas.Result.{on_ok_weaker}
+use Rattle.profile.specs.Bytes.{comes_before}
+use Rattle.goods.specs.Keyed.{shipment_of}
+use Rattle.goods.specs.Pages.{is_shipment}
+use Rattle.goods.proofs.KeyLemmas.{texts_strict, shipment_test}
+use Rattle.stock.proofs.FoundByKey.{found_within, put_found}
 use Rattle.stock.proofs.searches.put_advice.Goals as goal
 
-pub returns-in-Some : goal.returns-in-Some
-returns-in-Some c = advice_set c.args.advice c.args.advices.now.items c.in-Some.i c.requires (rw (c.deref.ensures.value, c.shipment.ensures) at c.in-Some.ensures)
+pub put_at-requires : goal.put_at-requires
+put_at-requires c = found_within comes_before texts_strict shipment_of _ c.args.advices.now.items _ c.find_advice-place.result (rw c.deref.ensures.value at c.find_advice-place.ensures)
 
 pub returns : goal.returns
-returns c = c.in_ok-insert.ensures.items
-    ∙ advice_insert c.args.advice c.args.advices.now.items c.rank_of_advice-i.result (rw (c.deref-2.ensures.value, c.shipment-2.ensures) at c.rank_of_advice-i.ensures)
-    (rw (c.deref.ensures.value, c.shipment.ensures) at c.in_default.ensures)
+returns c =
+    let k = c.args.advice.shipment in
+    on_ok_weaker c.put_at.result
+    (λ put. put ∙ put_found comes_before texts_strict shipment_of c.args.advice c.args.advices.now.items (is_shipment k) (shipment_test k) c.requires c.find_advice-place.result (rw (c.deref.ensures.value, c.shipment.ensures) at c.find_advice-place.ensures))
+    c.put_at.ensures

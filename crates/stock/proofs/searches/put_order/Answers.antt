@@ -1,12 +1,19 @@
 use Rattle.std.proofs.Common.{◌∙◌, ap}
+use Rattle.std.proofs.lemmas.Result.{on_ok_weaker}
+use Rattle.profile.specs.Bytes.{comes_before}
 use Rattle.profile.specs.Page.{PageOrder}
-use Rattle.goods.proofs.KeyLemmas.{order_set, order_insert}
+use Rattle.goods.specs.Keyed.{number_of}
+use Rattle.goods.specs.Pages.{is_number}
+use Rattle.goods.proofs.KeyLemmas.{texts_strict, number_test}
+use Rattle.stock.proofs.FoundByKey.{found_within, put_found}
 use Rattle.stock.proofs.searches.put_order.Goals as goal
 
-pub returns-in-Some : goal.returns-in-Some
-returns-in-Some c = order_set c.args.order c.args.orders.now.items c.in-Some.i c.requires (rw (c.deref.ensures.value, c.deref-2.ensures.value, ap (λ (k : PageOrder). k.number) c.order.view_is) at c.in-Some.ensures)
+pub put_at-requires : goal.put_at-requires
+put_at-requires c = found_within comes_before texts_strict number_of _ c.args.orders.now.items _ c.find_order-place.result (rw c.deref.ensures.value at c.find_order-place.ensures)
 
 pub returns : goal.returns
-returns c = c.in_ok-insert.ensures.items
-    ∙ order_insert c.args.order c.args.orders.now.items c.rank_of_order-i.result (rw (c.deref-3.ensures.value, c.deref-4.ensures.value, ap (λ (k : PageOrder). k.number) c.order.view_is) at c.rank_of_order-i.ensures)
-    (rw (c.deref.ensures.value, c.deref-2.ensures.value, ap (λ (k : PageOrder). k.number) c.order.view_is) at c.in_default.ensures)
+returns c =
+    let k = c.args.order.number in
+    on_ok_weaker c.put_at.result
+    (λ put. put ∙ put_found comes_before texts_strict number_of c.args.order c.args.orders.now.items (is_number k) (number_test k) c.requires c.find_order-place.result (rw (c.deref.ensures.value, c.deref-2.ensures.value, ap (λ (k : PageOrder). k.number) c.order.view_is) at c.find_order-place.ensures))
+    c.put_at.ensures

@@ -2,6 +2,6 @@ use Rattle.std.proofs.Common.{◌∙◌, ap, set}
 use Rattle.goods.proofs.KeyLemmas.{said_set}
 use Rattle.stock.proofs.searches.put_said.Goals as goal
 
-pub returns-in-Some : goal.returns-in-Some
-returns-in-Some c = ap (set c.args.documents.now.items c.in-Some.i) c.keep.ensures
-    ∙ said_set c.args.n c.in-Some.i c.args.accepts c.index_mut-document.result.now c.args.documents.now.items c.requires (rw c.deref.ensures.value at c.in-Some.ensures) c.index_mut-document.ensures.value
+pub returns-in-Ok : goal.returns-in-Ok
+returns-in-Ok c = ap (set c.args.documents.now.items c.in-Ok.i) c.keep.ensures
+    ∙ said_set c.args.n c.in-Ok.i c.args.accepts c.index_mut-document.result.now c.args.documents.now.items c.requires (rw c.deref.ensures.value at c.in-Ok.ensures) c.index_mut-document.ensures.value

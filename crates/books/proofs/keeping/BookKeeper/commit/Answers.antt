@@ -2,7 +2,7 @@ use Rattle.std.proofs.Common.{◌≡◌, ◌+◌, [], ◌∷◌, ◌++◌, ap, s
 use Rattle.profile.specs.Header.{who_text}
 use Rattle.sqlite.specs.Held.{Held, state}
 use Rattle.store.specs.Standing.{LeavesEither}
-use Rattle.book_statements.specs.Exits.{Extends}
+use Rattle.book_statements.specs.Exits.{StandsWithEntry}
 use Rattle.books.specs.Keeping.{standing_in}
 use Rattle.books.proofs.KeepingLemmas.{is_appended, kept_now, usable_now, leaves_one_of, leaves_as_before, length_push}
 use Rattle.books.proofs.keeping.BookKeeper.commit.Goals as goal
@@ -28,7 +28,7 @@ returns-in-Err-clause-left g c = rw (← c.self.view_is, c.if-self.false) (λ cl
     let whose : c.text-who.result.now ≡ who_text c.args.entry.now.who = c.text-who.ensures ∙ ap who_text c.who-depositor.ensures in
     let it = is_appended (state g.S.Store b.tables.conn) b.warehouse b.entries L e (b.entries + 1) c.text-who.result.now c.args.entry.now c.args.changes.now c.args.outgoing.now u.keeps refl whose next in
     leaves_one_of (state g.S.Store b.tables.conn) (state g.S.Store c.append.new.self.conn) b.warehouse b.entries b.entries b.tables.refused c.append.new.self.refused _ L (L ++ e ∷ [])
-    (Extends (state g.S.Store b.tables.conn) (b.entries + 1) c.text-who.result.now c.args.entry.now c.args.changes.now c.args.outgoing.now) clean c.append.ensures.whole.crash (λ db p. p b.warehouse L e it) u)
+    (StandsWithEntry (state g.S.Store b.tables.conn) (b.entries + 1) c.text-who.result.now c.args.entry.now c.args.changes.now c.args.outgoing.now) clean c.append.ensures.whole.crash (λ db p. p b.warehouse L e it) u)
 
 pub returns-then-self-ge-GREATEST-clause-left : goal.returns-then-self-ge-GREATEST-clause-left
 returns-then-self-ge-GREATEST-clause-left g c = rw (← c.self.view_is, c.if-self.false) (λ clean L u e next.

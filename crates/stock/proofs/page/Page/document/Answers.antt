@@ -3,7 +3,12 @@ use Rattle.goods.specs.Pages.{PageFacts, document_at, is_document}
 use Rattle.goods.proofs.Finds.{find_at}
 use Rattle.stock.proofs.page.Page.document.Goals as goal
 
-pub returns : goal.returns
-returns c =
+pub returns-in-Ok : goal.returns-in-Ok
+returns-in-Ok c =
     ap (λ (p : PageFacts). document_at c.args.n p.documents) (sym c.self.view_is)
-    ∙ find_at (is_document c.args.n) c.self.inside.facts.documents.items c.in_ok-i.i c.index.result.now (rw c.deref.ensures.value at c.in_ok-i.ensures) c.index.ensures
+    ∙ find_at (is_document c.args.n) c.self.inside.facts.documents.items c.in-Ok.i c.index.result.now (rw c.deref.ensures.value at c.in-Ok.ensures) c.index.ensures
+
+pub returns-in-Err : goal.returns-in-Err
+returns-in-Err c =
+    ap (λ (p : PageFacts). document_at c.args.n p.documents) (sym c.self.view_is)
+    ∙ (rw c.deref.ensures.value at c.in-Err.ensures).0

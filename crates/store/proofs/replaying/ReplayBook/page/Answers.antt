@@ -1,12 +1,12 @@
 use Rattle.std.proofs.Common.{append-nil, sym, ap, ◌∙◌, ◌++◌, [], subst}
 use Rattle.profile.specs.declared.rules.Rules.TheVariants.{Two}
 use Rattle.profile.specs.Accepted.{IsLegal}
-use Rattle.store.specs.Replayed.{Replayed}
+use Rattle.store.specs.Replayed.{Replay}
 use Rattle.store.proofs.replaying.ReplayBook.page.Goals as goal
 
 pub returns-clause-page : goal.returns-clause-page
 returns-clause-page c = λ L keeps legal.
-    let view = ap (λ (b : Replayed). b.entries) c.self.view_is in
-    let house = ap (λ (b : Replayed). b.warehouse) c.self.view_is in
+    let view = ap (λ (b : Replay). b.entries) c.self.view_is in
+    let house = ap (λ (b : Replay). b.warehouse) c.self.view_is in
     c.page_later.ensures.page L [] (c.deref.ensures.value ∙ view ∙ keeps)
     (subst (λ W. IsLegal Two W (L ++ [])) (sym house) (subst (IsLegal Two c.args.self.now.warehouse) (sym (append-nil L)) legal))

@@ -3,7 +3,7 @@ use Rattle.profile.specs.declared.rules.Rules.TheVariants.{Two}
 use Rattle.profile.specs.Accepted.{IsLegal}
 use Rattle.profile.specs.Register.{Entry}
 use Rattle.rules.specs.Written.{Written, written}
-use Rattle.store.specs.Replayed.{Replayed, all_written}
+use Rattle.store.specs.Replayed.{Replay, all_written}
 use Rattle.store.proofs.Entries.{written_more, one_register}
 use Rattle.store.proofs.replaying.ReplayBookKeeper.commit.Goals as goal
 
@@ -15,8 +15,8 @@ with_row rows grown row L e more was is =
 
 pub returns-clause-ok : goal.returns-clause-ok
 returns-clause-ok c = λ clean L u e next.
-    let view = ap (λ (b : Replayed). b.entries) c.self.view_is in
-    let house = ap (λ (b : Replayed). b.warehouse) c.self.view_is in
+    let view = ap (λ (b : Replay). b.entries) c.self.view_is in
+    let house = ap (λ (b : Replay). b.warehouse) c.self.view_is in
     let same = with_row c.self.inside.entries.items c.append.new.entries.items c.args.entry.now L e c.in_ok-append.ensures.ok (view ∙ u.keeps) next.entry in
     record {
       opened = refl;
@@ -28,5 +28,5 @@ returns-clause-ok c = λ clean L u e next.
 
 pub returns-clause-keeps : goal.returns-clause-keeps
 returns-clause-keeps c = λ clean L kept e next.
-    let view = ap (λ (b : Replayed). b.entries) c.self.view_is in
+    let view = ap (λ (b : Replay). b.entries) c.self.view_is in
     with_row c.self.inside.entries.items c.append.new.entries.items c.args.entry.now L e c.in_ok-append.ensures.ok (view ∙ kept) next.entry

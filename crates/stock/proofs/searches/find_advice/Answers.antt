@@ -1,0 +1,15 @@
+use Rattle.std.proofs.Common.{rules}
+use Rattle.std.proofs.lemmas.Fn.{always_returns_same}
+use Rattle.profile.specs.Bytes.{comes_before}
+use Rattle.goods.specs.Keyed.{shipment_of, text_order}
+use Rattle.goods.specs.Pages.{is_shipment}
+use Rattle.goods.proofs.KeyLemmas.{texts_strict, shipment_test}
+use Rattle.stock.proofs.FoundByKey.{searched, texts_told}
+use Rattle.stock.proofs.searches.find_advice.Goals as goal
+
+pub returns : goal.returns
+returns c =
+    let s = c.args.shipment.now in
+    let found = c.binary_search_by.ensures in
+    searched comes_before texts_strict shipment_of s (λ k. text_order (shipment_of k) s) (texts_told shipment_of s) (is_shipment s) (shipment_test s) c.args.advices.now c.requires _ found.bound
+    (found.position (λ k. text_order (shipment_of k) s) (always_returns_same _ _ _ (λ a r g called. (search rules, search rules))))
