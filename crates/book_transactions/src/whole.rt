@@ -96,7 +96,7 @@ pub fn carry_over<S: Alter, T: FnMut(u64, u64)>(
         (state S.Store conn.old) (state S.Store conn.new) result }
     ensures called { Called (counted_by conn.old calls.old) (counted_by conn.new calls.new) result }
 {
-    // For the prover alone, as in `append`.
+    // For the prover alone, as before an entry is appended.
     let settled = conn.is_autocommit();
     prove!(settled);
     let _live = conn.schema();

@@ -1,5 +1,7 @@
 pub mod Parsing
 pub mod LineLaws
 pub mod MomentLaws
+mod RowsLines
 mod RowsNumbers
 mod RosterLaws
+mod AskedLaws

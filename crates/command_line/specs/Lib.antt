@@ -1,4 +1,5 @@
 pub mod Written
 pub mod Lines
+pub mod Asked
 pub mod Parsers
 pub mod Rosters

@@ -1,30 +1,11 @@
--- What may stand in a line of words, as `clap` reads commands, and what each line asks for.
-use Rattle.std.specs.Prelude.{◌≡◌, ℕ, Bool, true, false, ◌||◌, List, [], ◌∷◌, ◌++◌, Option, Some, None, is_some, option_map, codes, bytes_eq}
-use Rattle.std.specs.Borrow.{Bor}
-use Rattle.std.specs.Net.Grammar.{IsSocketText}
+-- What may stand in a line of words, as `clap` reads commands.
+use Rattle.std.specs.Prelude.{true, false, List, [], ◌∷◌, ◌++◌, Some, codes, bytes_eq, find}
 use Rattle.std.specs.Option.{option_map_or}
-use Rattle.std.specs.declared.net.socket_addr.SocketAddr.{SocketAddr}
-use Rattle.clap.specs.Walk.{Row, Rule, Text, first_of}
-use Rattle.clap.specs.Simple.{App, Shape, new_rule, new_shape, with_subcommand, subcommand_of}
+use Rattle.clap.specs.Walk.{Rule, Text}
+use Rattle.clap.specs.Simple.{App, Shape, new_rule, new_shape, with_subcommand}
 use Rattle.clap.specs.declared.builder.action.ArgAction.TheVariants.{Set, SetTrue}
-use Rattle.profile.specs.Moments.{Moment}
-use Rattle.command_line.specs.Written.{moment_of, number_of, count_of, wait_of}
 use Rattle.command_line.specs.declared.words.Place.{Place}
 use Rattle.command_line.specs.declared.words.Place.TheVariants as place
-use Rattle.command_line.specs.declared.words.Words.{Words}
-use Rattle.command_line.specs.declared.words.Words.TheVariants as words
-use Rattle.command_line.specs.declared.words.Task.{Task}
-use Rattle.command_line.specs.declared.words.Task.TheVariants as task
-use Rattle.command_line.specs.declared.words.Service.{Service}
-use Rattle.command_line.specs.declared.words.BookAct.{BookAct}
-use Rattle.command_line.specs.declared.words.BookAct.TheVariants as act
-use Rattle.command_line.specs.declared.words.Show.{Show}
-use Rattle.command_line.specs.declared.words.Show.TheVariants as show
-use Rattle.command_line.specs.declared.words.ClerkWords.{ClerkWords}
-use Rattle.profile.specs.declared.sheet_kind.SheetKind.{SheetKind}
-use Rattle.profile.specs.declared.sheet_kind.SheetKind.TheVariants.{Count, Pick, Recount}
-
--- What may stand in a line.
 
 -- a value that must be there
 abbrev pub value_rule : Text → Rule
@@ -190,135 +171,7 @@ subcommands_at place.Script = script_subcommands
 abbrev pub app_at : Place → App
 app_at p = record { top = top_shape; subs = subcommands_at p }
 
--- What a line asks for.
-
--- the subcommand that a line names, and what was found for its values
-abbrev pub Found : Type 0
-Found = Text × List Row
-
-abbrev pub found_at : Place → List Text → Option Found
-found_at p words = subcommand_of (app_at p) words
-
--- the name is the first word
-abbrev pub stands_first : Text → List Text → Bool
-stands_first name [] = false
-stands_first name (w ∷ ws) = bytes_eq w name
-
--- the value under this name
-abbrev pub Has : List Row → Text → Text → Type 0
-Has rows id value = first_of id rows ≡ Some value
-
--- no value is under this name
-abbrev pub Lacks : List Row → Text → Type 0
-Lacks rows id = first_of id rows ≡ None
-
--- whether the line has this option without a value
-abbrev pub has_flag : List Row → Text → Bool
-has_flag rows id = option_map_or (λ text. bytes_eq text (codes "true")) (first_of id rows) false
-
--- the moment that the line says is this one, or it says none
-abbrev pub SaysMoment : List Row → Option Moment → Type 0
-SaysMoment rows at = option_map moment_of (first_of (codes "at") rows) ≡ option_map Some at
-
--- the number that the line says is this one, or it says none
-abbrev pub SaysNumber : List Row → Option ℕ → Type 0
-SaysNumber rows number =
-    option_map number_of (first_of (codes "number") rows) ≡ option_map Some number
-
--- how long a line says that a request is waited for, or it says nothing of it
-abbrev pub SaysPatience : List Row → Option ℕ → Type 0
-SaysPatience rows seconds =
-    option_map count_of (first_of (codes "patience") rows) ≡ option_map Some seconds
-
-abbrev pub act_name : SheetKind → Text
-act_name Count = codes "count"
-act_name Pick = codes "pick"
-act_name Recount = codes "recount"
-
--- the number of the advice or the order, which a recount doesn't have
-abbrev pub SaysNumberOf : SheetKind → List Row → Text → Type 0
-SaysNumberOf Recount rows number = number ≡ []
-SaysNumberOf d rows number = Has rows (codes "number") number
-
-abbrev pub SaysWords : List Row → ClerkWords → Type 0
-SaysWords rows t = Has rows (codes "who") t.who.now × Has rows (codes "ticket") t.ticket.now
-    × SaysNumberOf t.kind rows t.number.now × Has rows (codes "sheet") t.sheet.now
-
-abbrev pub SaysAct : Found → BookAct → Type 0
-SaysAct f (act.Enrol who) = (f.0 ≡ codes "enrol") × Has f.1 (codes "who") who.now
-SaysAct f (act.Roster file) = (f.0 ≡ codes "roster") × Has f.1 (codes "file") file.now
-SaysAct f (act.Send file) = (f.0 ≡ codes "send") × Has f.1 (codes "file") file.now
-SaysAct f (act.Take dir) = (f.0 ≡ codes "take") × Has f.1 (codes "dir") dir.now
-SaysAct f (act.Clerk t) = (f.0 ≡ act_name t.kind) × SaysWords f.1 t
-
-abbrev pub SaysShow : Found → Show → Type 0
-SaysShow f (show.Stock who is_csv) = (f.0 ≡ codes "stock") × Has f.1 (codes "who") who.now
-    × (is_csv ≡ has_flag f.1 (codes "csv"))
-SaysShow f (show.Open who) = (f.0 ≡ codes "open") × Has f.1 (codes "who") who.now
-SaysShow f (show.Order who number) = (f.0 ≡ codes "orders") × Has f.1 (codes "who") who.now
-    × Has f.1 (codes "number") number.now
-SaysShow f (show.Outbox who number) = (f.0 ≡ codes "outbox") × Has f.1 (codes "who") who.now
-    × SaysNumber f.1 number
-SaysShow f show.Depositors = f.0 ≡ codes "depositors"
-
--- an address is written as std's grammar has it: an IP address, a colon and a port
-abbrev pub SaysAddress : List Row → Text → SocketAddr → Type 0
-SaysAddress rows id address = (text : Text) × Has rows id text × IsSocketText text address
-
--- how many connections the line says
-abbrev pub SaysCount : List Row → ℕ → Type 0
-SaysCount rows count = (text : Text) × Has rows (codes "count") text × (count_of text ≡ Some count)
-
-abbrev pub SaysService : List Row → Service → Type 0
-SaysService rows s = SaysAddress rows (codes "listen") s.address
-    × SaysCount rows s.count × SaysPatience rows s.patience
-    × (s.clerks ≡ has_flag rows (codes "clerks"))
-
-abbrev pub SaysTask : Found → Task → Type 0
-SaysTask f (task.Init who) = (f.0 ≡ codes "init") × Has f.1 (codes "who") who.now
-SaysTask f (task.Act a at) = SaysAct f a × SaysMoment f.1 at
-SaysTask f (task.Show s) = SaysShow f s
-SaysTask f (task.Batch file) = (f.0 ≡ codes "batch") × Has f.1 (codes "file") file.now
-SaysTask f (task.Serve s at) = (f.0 ≡ codes "serve") × SaysService f.1 s × SaysMoment f.1 at
-SaysTask f task.Verify = f.0 ≡ codes "verify"
-
--- the line names this file with a book, or none
-abbrev pub SaysBook : List Row → Option (Bor Text) → Type 0
-SaysBook rows book = first_of (codes "book") rows ≡ option_map (λ b. b.now) book
-
--- how long the line says that a book in use is waited for, or it says nothing of it
-abbrev pub SaysWait : List Row → Option ℕ → Type 0
-SaysWait rows seconds = option_map wait_of (first_of (codes "wait") rows) ≡ option_map Some seconds
-
--- a line of the program names a book, where it asks no server; a script has its own
-abbrev pub has_book : Place → Option (Bor Text) → Bool
-has_book place.Program book = is_some book
-has_book place.Script book = true
-
--- the line names the server at this address, or none
-abbrev pub SaysServer : List Row → Option SocketAddr → Type 0
-SaysServer rows (Some address) = SaysAddress rows (codes "server") address
-SaysServer rows None = Lacks rows (codes "server")
-
--- the book is the server's, and so are the moment and how long a book is waited for
-abbrev pub LeavesToServer : List Row → Type 0
-LeavesToServer rows = Lacks rows (codes "book") × Lacks rows (codes "at")
-    × Lacks rows (codes "wait")
-
--- the subcommands that a running server may be asked for
-abbrev pub takes_server : Text → Bool
-takes_server name = bytes_eq name (codes "send")
-    || (bytes_eq name (codes "count") || (bytes_eq name (codes "pick")
-    || (bytes_eq name (codes "recount")
-    || (bytes_eq name (codes "stock") || (bytes_eq name (codes "open")
-    || (bytes_eq name (codes "orders")
-    || (bytes_eq name (codes "outbox") || bytes_eq name (codes "depositors"))))))))
-
--- the line, at this place, asks for this
-abbrev pub Says : Place → Found → Words → Type 0
-Says p f (words.Script file) = (f.0 ≡ codes "script") × Has f.1 (codes "file") file.now
-Says p f (words.Over book wait t) = SaysBook f.1 book × (has_book p book ≡ true)
-    × SaysServer f.1 None
-    × SaysWait f.1 wait × SaysTask f t
-Says p f (words.Remote server t) = SaysServer f.1 (Some server) × LeavesToServer f.1
-    × (takes_server f.0 ≡ true) × SaysTask f t
+-- the arguments of a subcommand, but for those of every subcommand over a book
+abbrev pub rules_of : Text → List Rule
+rules_of name = option_map_or (λ s. s.rules) (find (λ s. bytes_eq s.name name)
+    (script_shape ∷ batch_shape ∷ serve_shape ∷ verify_shape ∷ script_subcommands)) []

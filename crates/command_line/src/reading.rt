@@ -1,8 +1,9 @@
 //! A line of words read: what it asks for.
-ghost use Rattle.std.specs.Prelude.{◌≡◌, Some, None, true, IfOk, IfSome, map};
+ghost use Rattle.std.specs.Prelude.{◌≡◌, ◌≢◌, None, Some, IfOk, IfErr, IfSome, IfNone, codes, map};
 ghost use Rattle.clap.specs.Matches.{found_of};
+ghost use Rattle.clap.specs.Values.{kind_of};
 ghost use Rattle.clap.specs.Walk.{rows_of};
-ghost use Rattle.command_line.specs.Lines as meant;
+ghost use Rattle.command_line.specs.Asked as meant;
 
 use crate::subcommands::parser;
 use crate::values::{
@@ -17,7 +18,9 @@ use std::alloc::Global;
 use std::net::SocketAddr;
 
 // What the parser says: what is wrong, or the help that is asked for.
-fn refused(alloc: Global, error: &clap::Error) -> LineFault {
+fn refused(alloc: Global, error: &clap::Error) -> LineFault
+    ensures { kind_of error.now ≡ ErrorKind.OutOfMemory → result ≡ LineFault.OutOfMemory }
+{
     if error.kind() == ErrorKind::OutOfMemory {
         return LineFault::OutOfMemory;
     }
@@ -34,8 +37,10 @@ fn number_read<'a>(
     kind: SheetKind,
     values: &ArgMatches<'a>,
 ) -> Result<&'a str, LineFault>
-    ensures { IfOk result
+    ensures ok { IfOk result
         (λ number. meant.SaysNumberOf kind (rows_of (found_of values.now)) number.now) }
+    ensures err { IfErr result (meant.LacksMemory
+        (meant.HasAll (meant.act_name kind, rows_of (found_of values.now)))) }
 {
     Ok(match kind {
         SheetKind::Recount => "",
@@ -51,6 +56,8 @@ fn words_of<'a>(
 ) -> Result<ClerkWords<'a>, LineFault>
     ensures told { IfOk result (meant.SaysWords (rows_of (found_of values.now))) }
     ensures kind { IfOk result (λ t. t.kind ≡ kind) }
+    ensures err { IfErr result (meant.LacksMemory
+        (meant.HasAll (meant.act_name kind, rows_of (found_of values.now)))) }
 {
     let number = number_read(alloc, kind, values)?;
     Ok(ClerkWords {
@@ -68,8 +75,11 @@ fn clerk_act_of<'a>(
     name: &str,
     values: &ArgMatches<'a>,
 ) -> Result<Option<BookAct<'a>>, LineFault>
-    ensures { IfOk result
+    ensures ok { IfOk result
         (λ act. IfSome act (meant.SaysAct (name.now, rows_of (found_of values.now)))) }
+    ensures none { IfOk result (λ act. IfNone act ((k : _) → name.now ≢ meant.act_name k)) }
+    ensures err { IfErr result (meant.LacksMemory
+        (meant.HasAll (name.now, rows_of (found_of values.now)))) }
 {
     let act = match name {
         "count" => BookAct::Clerk(words_of(alloc, SheetKind::Count, values)?),
@@ -86,8 +96,10 @@ fn act_of<'a>(
     name: &str,
     values: &ArgMatches<'a>,
 ) -> Result<Option<BookAct<'a>>, LineFault>
-    ensures { IfOk result
-        (λ act. IfSome act (meant.SaysAct (name.now, rows_of (found_of values.now)))) }
+    ensures ok { IfOk result
+        (meant.IsFoundOf (meant.SaysAct (name.now, rows_of (found_of values.now)))) }
+    ensures err { IfErr result (meant.LacksMemory
+        (meant.HasAll (name.now, rows_of (found_of values.now)))) }
 {
     let act = match name {
         "enrol" => BookAct::Enrol {
@@ -113,8 +125,11 @@ fn show_of<'a>(
     name: &str,
     values: &ArgMatches<'a>,
 ) -> Result<Option<Show<'a>>, LineFault>
-    ensures { IfOk result
-        (λ show. IfSome show (meant.SaysShow (name.now, rows_of (found_of values.now)))) }
+    ensures ok { IfOk result
+        (meant.IsFoundOf (meant.SaysShow (name.now, rows_of (found_of values.now)))) }
+    ensures err { IfErr result (meant.LacksMemory
+        (meant.HasAll (name.now, rows_of (found_of values.now))
+        × (name.now ≡ codes "outbox" → meant.ReadsNumber (rows_of (found_of values.now))))) }
 {
     let show = match name {
         "stock" => Show::Stock {
@@ -148,7 +163,9 @@ fn part_task_of<'a>(
 ) -> Result<Task<'a>, LineFault>
     requires { meant.SaysMoment (rows_of (found_of values.now)) at }
 
-    ensures { IfOk result (meant.SaysTask (name.now, rows_of (found_of values.now))) }
+    ensures ok { IfOk result (meant.SaysTask (name.now, rows_of (found_of values.now))) }
+    ensures err { IfErr result (meant.LacksMemory ((t : _)
+        × meant.SaysPart (name.now, rows_of (found_of values.now)) t)) }
 {
     if let Some(act) = act_of(alloc, name, values)? {
         return Ok(Task::Act { act, at });
@@ -168,7 +185,9 @@ fn task_at<'a>(
 ) -> Result<Task<'a>, LineFault>
     requires { meant.SaysMoment (rows_of (found_of values.now)) at }
 
-    ensures { IfOk result (meant.SaysTask (name.now, rows_of (found_of values.now))) }
+    ensures ok { IfOk result (meant.SaysTask (name.now, rows_of (found_of values.now))) }
+    ensures err { IfErr result (meant.LacksMemory
+        (meant.Asks (name.now, rows_of (found_of values.now)))) }
 {
     let task = match name {
         "init" => Task::Init {
@@ -189,7 +208,10 @@ fn task_at<'a>(
 
 // What a subcommand does over a book with its values.
 fn task_of<'a>(alloc: Global, name: &str, values: &ArgMatches<'a>) -> Result<Task<'a>, LineFault>
-    ensures { IfOk result (meant.SaysTask (name.now, rows_of (found_of values.now))) }
+    ensures ok { IfOk result (meant.SaysTask (name.now, rows_of (found_of values.now))) }
+    ensures moment { IfOk result (λ task. meant.ReadsMoment (rows_of (found_of values.now))) }
+    ensures err { IfErr result (meant.LacksMemory (meant.ReadsMoment (rows_of (found_of values.now))
+        × meant.Asks (name.now, rows_of (found_of values.now)))) }
 {
     let at = moment(alloc, values)?;
     task_at(alloc, name, values, at)
@@ -204,7 +226,9 @@ fn over<'a>(
 ) -> Result<Words<'a>, LineFault>
     requires { meant.SaysServer (rows_of (found_of values.now)) None }
 
-    ensures { IfOk result (meant.Says place (name.now, rows_of (found_of values.now))) }
+    ensures ok { IfOk result (meant.Says place (name.now, rows_of (found_of values.now))) }
+    ensures err { IfErr result (meant.LacksMemory
+        (meant.AsksOver place (name.now, rows_of (found_of values.now)))) }
 {
     Ok(Words::Over {
         book: book_of(alloc, place, values)?,
@@ -237,7 +261,9 @@ fn remote<'a>(
 ) -> Result<Words<'a>, LineFault>
     requires { meant.SaysServer (rows_of (found_of values.now)) (Some server) }
 
-    ensures { (p : _) → IfOk result (meant.Says p (name.now, rows_of (found_of values.now))) }
+    ensures ok { (p : _) → IfOk result (meant.Says p (name.now, rows_of (found_of values.now))) }
+    ensures err { IfErr result (meant.LacksMemory
+        (meant.AsksServer (name.now, rows_of (found_of values.now)))) }
 {
     leaves_to_server(alloc, values)?;
     // Only at these does the parser take `--server`.
@@ -256,7 +282,9 @@ fn asked<'a>(
     name: &str,
     values: &ArgMatches<'a>,
 ) -> Result<Words<'a>, LineFault>
-    ensures { IfOk result (meant.Says place (name.now, rows_of (found_of values.now))) }
+    ensures ok { IfOk result (meant.Says place (name.now, rows_of (found_of values.now))) }
+    ensures err { IfErr result (meant.LacksMemory ((w : Words)
+        × meant.Says place (name.now, rows_of (found_of values.now)) w)) }
 {
     if name == "script" {
         let file = given(alloc, values, "file")?;
@@ -284,9 +312,10 @@ fn stands_first(words: &[&str], name: &str) -> bool
 pub fn line<'a>(alloc: Global, place: Place, words: &'a [&'a str]) -> Result<Words<'a>, LineFault>
     // The first word names the subcommand, and its values are those that `clap` defines for a
     // simple command.
-    ensures { IfOk result
-        (λ asked. (f : meant.Found) × (meant.found_at place (map (λ w. w.now) words.now) ≡ Some f)
-        × (meant.stands_first f.0 (map (λ w. w.now) words.now) ≡ true) × meant.Says place f asked) }
+    ensures ok { IfOk result (meant.IsLineRead place (map (λ w. w.now) words.now)) }
+    // A line that can be read is refused for want of memory alone.
+    ensures err { IfErr result (meant.LacksMemory
+        (meant.CanBeRead place (map (λ w. w.now) words.now))) }
 {
     let matches = match parser(alloc, place)?.try_get_matches_from(words) {
         Ok(matches) => matches,

@@ -1,9 +1,9 @@
 //! The values of a line of words read, one by one.
-ghost use Rattle.std.specs.Prelude.{◌≡◌, true, IfOk, codes};
+ghost use Rattle.std.specs.Prelude.{◌≡◌, ℕ, Option, true, IfOk, IfErr, codes};
 ghost use Rattle.std.specs.Net.Grammar.{IsSocketText};
 ghost use Rattle.clap.specs.Matches.{found_of};
 ghost use Rattle.clap.specs.Walk.{rows_of};
-ghost use Rattle.command_line.specs.Lines as meant;
+ghost use Rattle.command_line.specs.Asked as meant;
 
 use crate::moments::moment_of;
 use crate::numbers::{count_of, number_of, wait_of};
@@ -23,7 +23,9 @@ pub(crate) fn usage(alloc: Global, text: &str) -> LineFault {
 
 /// The moment that a line says, if it says one.
 pub(crate) fn moment(alloc: Global, values: &ArgMatches<'_>) -> Result<Option<Moment>, LineFault>
-    ensures { IfOk result (meant.SaysMoment (rows_of (found_of values.now))) }
+    ensures ok { IfOk result (meant.SaysMoment (rows_of (found_of values.now))) }
+    ensures err { IfErr result
+        (meant.LacksMemory (meant.ReadsMoment (rows_of (found_of values.now)))) }
 {
     let Some(text) = values.get_str("at") else {
         return Ok(None);
@@ -39,7 +41,9 @@ pub(crate) fn moment(alloc: Global, values: &ArgMatches<'_>) -> Result<Option<Mo
 
 /// The number that a line says, if it says one.
 pub(crate) fn number(alloc: Global, values: &ArgMatches<'_>) -> Result<Option<u32>, LineFault>
-    ensures { IfOk result (meant.SaysNumber (rows_of (found_of values.now))) }
+    ensures ok { IfOk result (meant.SaysNumber (rows_of (found_of values.now))) }
+    ensures err { IfErr result
+        (meant.LacksMemory (meant.ReadsNumber (rows_of (found_of values.now)))) }
 {
     let Some(text) = values.get_str("number") else {
         return Ok(None);
@@ -56,7 +60,9 @@ pub(crate) fn given<'a>(
     values: &ArgMatches<'a>,
     id: &str,
 ) -> Result<&'a str, LineFault>
-    ensures { IfOk result (λ text. meant.Has (rows_of (found_of values.now)) id.now text.now) }
+    ensures ok { IfOk result (λ text. meant.Has (rows_of (found_of values.now)) id.now text.now) }
+    ensures err { IfErr result
+        (meant.LacksMemory (meant.IsThere (rows_of (found_of values.now)) id.now)) }
 {
     match values.get_str(id) {
         Some(text) => Ok(text),
@@ -66,7 +72,8 @@ pub(crate) fn given<'a>(
 
 // The address that a text writes; the fault where it writes none.
 fn address_in(alloc: Global, text: &str, fault: &str) -> Result<SocketAddr, LineFault>
-    ensures { IfOk result (IsSocketText text.now) }
+    ensures ok { IfOk result (IsSocketText text.now) }
+    ensures err { IfErr result (meant.LacksMemory ((a : _) × IsSocketText text.now a)) }
 {
     match SocketAddr::parse_ascii(text.as_bytes()) {
         Ok(address) => Ok(address),
@@ -76,7 +83,9 @@ fn address_in(alloc: Global, text: &str, fault: &str) -> Result<SocketAddr, Line
 
 // The address that a line says that a book is served at.
 fn address(alloc: Global, values: &ArgMatches<'_>) -> Result<SocketAddr, LineFault>
-    ensures { IfOk result (meant.SaysAddress (rows_of (found_of values.now)) (codes "listen")) }
+    ensures ok { IfOk result (meant.SaysAddress (rows_of (found_of values.now)) (codes "listen")) }
+    ensures err { IfErr result (meant.LacksMemory ((a : _)
+        × meant.SaysAddress (rows_of (found_of values.now)) (codes "listen") a)) }
 {
     let text = given(alloc, values, "listen")?;
     address_in(
@@ -88,7 +97,9 @@ fn address(alloc: Global, values: &ArgMatches<'_>) -> Result<SocketAddr, LineFau
 
 // How many connections a line says.
 fn connections(alloc: Global, values: &ArgMatches<'_>) -> Result<u16, LineFault>
-    ensures { IfOk result (meant.SaysCount (rows_of (found_of values.now))) }
+    ensures ok { IfOk result (meant.SaysCount (rows_of (found_of values.now))) }
+    ensures err { IfErr result (meant.LacksMemory ((n : ℕ)
+        × meant.SaysCount (rows_of (found_of values.now)) n)) }
 {
     let text = given(alloc, values, "count")?;
     match count_of(text.as_bytes()) {
@@ -99,7 +110,9 @@ fn connections(alloc: Global, values: &ArgMatches<'_>) -> Result<u16, LineFault>
 
 // How many seconds a line says that a request is waited for, if it says it.
 fn patience(alloc: Global, values: &ArgMatches<'_>) -> Result<Option<u16>, LineFault>
-    ensures { IfOk result (meant.SaysPatience (rows_of (found_of values.now))) }
+    ensures ok { IfOk result (meant.SaysPatience (rows_of (found_of values.now))) }
+    ensures err { IfErr result (meant.LacksMemory ((n : Option ℕ)
+        × meant.SaysPatience (rows_of (found_of values.now)) n)) }
 {
     let Some(text) = values.get_str("patience") else {
         return Ok(None);
@@ -116,7 +129,9 @@ fn patience(alloc: Global, values: &ArgMatches<'_>) -> Result<Option<u16>, LineF
 // The address that a line says, if it may be listened at: other machines know a depositor by its
 // ISA alone, so one that they reach wants a word more.
 fn guarded_address(alloc: Global, values: &ArgMatches<'_>) -> Result<SocketAddr, LineFault>
-    ensures { IfOk result (meant.SaysAddress (rows_of (found_of values.now)) (codes "listen")) }
+    ensures ok { IfOk result (meant.IsGuarded (rows_of (found_of values.now))) }
+    ensures err { IfErr result (meant.LacksMemory ((a : _)
+        × meant.IsGuarded (rows_of (found_of values.now)) a)) }
 {
     let address = address(alloc, values)?;
     if address.ip().is_loopback() || has_flag(values, "anyone") {
@@ -130,7 +145,9 @@ fn guarded_address(alloc: Global, values: &ArgMatches<'_>) -> Result<SocketAddr,
 
 /// Where a line says that a book is served, and for how long.
 pub(crate) fn service_of(alloc: Global, values: &ArgMatches<'_>) -> Result<Service, LineFault>
-    ensures { IfOk result (meant.SaysService (rows_of (found_of values.now))) }
+    ensures ok { IfOk result (meant.SaysService (rows_of (found_of values.now))) }
+    ensures err { IfErr result (meant.LacksMemory ((s : _)
+        × meant.SaysService (rows_of (found_of values.now)) s)) }
 {
     Ok(Service {
         address: guarded_address(alloc, values)?,
@@ -155,7 +172,9 @@ pub(crate) fn server(
     alloc: Global,
     values: &ArgMatches<'_>,
 ) -> Result<Option<SocketAddr>, LineFault>
-    ensures { IfOk result (meant.SaysServer (rows_of (found_of values.now))) }
+    ensures ok { IfOk result (meant.SaysServer (rows_of (found_of values.now))) }
+    ensures err { IfErr result (meant.LacksMemory ((s : _)
+        × meant.SaysServer (rows_of (found_of values.now)) s)) }
 {
     let Some(text) = values.get_str("server") else {
         return Ok(None);
@@ -177,6 +196,8 @@ pub(crate) fn book_of<'a>(
 ) -> Result<Option<&'a str>, LineFault>
     ensures book { IfOk result (meant.SaysBook (rows_of (found_of values.now))) }
     ensures place { IfOk result (λ book. meant.has_book place book ≡ true) }
+    ensures err { IfErr result
+        (meant.LacksMemory (meant.ReadsBook place (rows_of (found_of values.now)))) }
 {
     let Some(book) = values.get_str("book") else {
         return match place {
@@ -189,7 +210,9 @@ pub(crate) fn book_of<'a>(
 
 /// For how many seconds a line says that a book in use is waited for, if it says it.
 pub(crate) fn wait(alloc: Global, values: &ArgMatches<'_>) -> Result<Option<u16>, LineFault>
-    ensures { IfOk result (meant.SaysWait (rows_of (found_of values.now))) }
+    ensures ok { IfOk result (meant.SaysWait (rows_of (found_of values.now))) }
+    ensures err { IfErr result
+        (meant.LacksMemory (meant.ReadsWait (rows_of (found_of values.now)))) }
 {
     let Some(text) = values.get_str("wait") else {
         return Ok(None);
@@ -202,7 +225,9 @@ pub(crate) fn wait(alloc: Global, values: &ArgMatches<'_>) -> Result<Option<u16>
 
 // The fault of a line that has a word which it is to lack.
 fn without(alloc: Global, values: &ArgMatches<'_>, id: &str, fault: &str) -> Result<(), LineFault>
-    ensures { IfOk result (λ nothing. meant.Lacks (rows_of (found_of values.now)) id.now) }
+    ensures ok { IfOk result (λ nothing. meant.Lacks (rows_of (found_of values.now)) id.now) }
+    ensures err { IfErr result
+        (meant.LacksMemory (meant.Lacks (rows_of (found_of values.now)) id.now)) }
 {
     match values.get_str(id) {
         None => Ok(()),
@@ -212,7 +237,9 @@ fn without(alloc: Global, values: &ArgMatches<'_>, id: &str, fault: &str) -> Res
 
 /// The fault of a line that asks a server and says what is the server's to say.
 pub(crate) fn leaves_to_server(alloc: Global, values: &ArgMatches<'_>) -> Result<(), LineFault>
-    ensures { IfOk result (λ nothing. meant.LeavesToServer (rows_of (found_of values.now))) }
+    ensures ok { IfOk result (λ nothing. meant.LeavesToServer (rows_of (found_of values.now))) }
+    ensures err { IfErr result
+        (meant.LacksMemory (meant.LeavesToServer (rows_of (found_of values.now)))) }
 {
     without(
         alloc,

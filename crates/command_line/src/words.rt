@@ -1,4 +1,6 @@
 //! What a line of words asks for.
+ghost use Rattle.std.specs.Prelude.{◌≡◌};
+
 use profile::SheetKind;
 use segments::Moment;
 use std::alloc::AllocError;
@@ -175,6 +177,10 @@ pub enum LineFault {
 }
 
 impl From<AllocError> for LineFault {
+    ghost use Rattle.command_line.specs.declared.words.LineFault.TheVariants.{OutOfMemory};
+
+    ghost from_gives = { λ _ fault. fault ≡ OutOfMemory };
+
     fn from(_error: AllocError) -> LineFault {
         LineFault::OutOfMemory
     }

@@ -4,14 +4,16 @@ use Rattle.std.specs.Borrow.{Bor}
 use Rattle.std.specs.List.{FoldsTo}
 use Rattle.std.specs.Io.KnownBytes.{Appends}
 use Rattle.profile.specs.Readings.{parts_at}
+use Rattle.store.specs.Fault.TheVariants.{OutOfMemory}
 use Rattle.store.specs.Standing.{Standing, IsUnchanged, GoesOn}
-use Rattle.command_line.specs.Lines.{Found, found_at, stands_first, Says}
+use Rattle.command_line.specs.Asked.{IsLineRead, CanBeRead}
 use Rattle.command_line.specs.declared.words.Place.TheVariants.{Script}
 use Rattle.command_line.specs.declared.words.Words.{Words}
 use Rattle.commands.specs.Acting.{Ending}
 use Rattle.commands.specs.Looking.{IsLineDone}
 use Rattle.commands.specs.Statuses.{and_then}
 use Rattle.commands.specs.declared.told.CommandError.{CommandError}
+use Rattle.commands.specs.declared.told.CommandError.TheVariants as stops
 use Rattle.commands.specs.declared.told.ExitStatus.{ExitStatus}
 
 -- the rows of a text, between its LF; none of what isn't there
@@ -29,11 +31,8 @@ abbrev pub asking : List ℕ → List (List ℕ)
 asking text = filter asks (parts_at 10 text)
 
 -- these words were read of the row, which has one between any two spaces
-pub record IsRowRead (row : List ℕ) (asked : Words) : Type 0 where
-  pub found : Found
-  pub words : found_at Script (parts_at 32 row) ≡ Some found
-  pub first : stands_first found.0 (parts_at 32 row) ≡ true
-  pub says : Says Script found asked
+abbrev pub IsRowRead : List ℕ → Words → Type 0
+IsRowRead row asked = IsLineRead Script (parts_at 32 row) asked
 
 -- A row was answered: its words were read, what they ask for was done with this ending, which left
 -- the book so, and telling why it was refused changed nothing. No count falls meanwhile.
@@ -56,12 +55,19 @@ pub record IsRowDone
   pub answered : IsRowAnswered standing p.0 q.0 row (contents p.1.0) (contents q.1.0) (Ok status)
   pub ends : q.1.1 ≡ and_then p.1.1 status
 
--- a row stopped what was played: it can't be read, and the book is as it was; or what it asks for
--- ended so
+-- A row can't be read, and the book is as it was. One that could be read lacked memory.
+pub record IsRowUnread
+    {K W : Type 0} (standing : K → Standing) (contents : W → Option (List ℕ)) (old : K) (out : W)
+    (row : List ℕ) (new : K) (after : W) (stop : CommandError) : Type 0 where
+  pub same : IsUnchanged (standing old) (standing new)
+  pub silent : Appends (contents out) (contents after) []
+  pub lacks : CanBeRead Script (parts_at 32 row) → stop ≡ stops.Fault OutOfMemory
+
+-- a row stopped what was played: it can't be read, or what it asks for ended so
 abbrev pub IsRowStopped : {K W : Type 0} → (K → Standing) → (W → Option (List ℕ)) → K → W → List ℕ
     → K → W → CommandError → Type 0
 IsRowStopped standing contents old out row new after stop =
-    (IsUnchanged (standing old) (standing new) × Appends (contents out) (contents after) [])
+    IsRowUnread standing contents old out row new after stop
     ⊎ IsRowAnswered standing old new row (contents out) (contents after) (Err stop)
 
 -- Rows were played to their end, one after the other, each once.

@@ -1,11 +1,17 @@
 -- What a script comes to: its first row makes a book, and the others are played over it.
 use Rattle.std.specs.Prelude.{◌≡◌, ◌⊎◌, ◌∷◌, [], ℕ, List, Option, Some, None}
-use Rattle.profile.specs.Header.{who_of}
+use Rattle.profile.specs.Header.{Who, who_of}
+use Rattle.profile.specs.Readings.{parts_at}
+use Rattle.store.specs.Fault.TheVariants.{OutOfMemory}
 use Rattle.store.specs.Standing.{Standing, IsUsable}
+use Rattle.command_line.specs.Asked.{CanBeRead}
+use Rattle.command_line.specs.declared.words.Place.TheVariants.{Script}
 use Rattle.command_line.specs.declared.words.Words.{Words}
 use Rattle.command_line.specs.declared.words.Words.TheVariants as words
 use Rattle.command_line.specs.declared.words.Task.TheVariants as task
-use Rattle.commands.specs.Playing.{HasPlayed, IsRowRead}
+use Rattle.commands.specs.Playing.{HasPlayed, HasStopped, IsRowRead}
+use Rattle.commands.specs.declared.told.CommandError.{CommandError}
+use Rattle.commands.specs.declared.told.CommandError.TheVariants as stops
 use Rattle.commands.specs.declared.told.ExitStatus.{ExitStatus}
 use Rattle.commands.specs.declared.told.ExitStatus.TheVariants.{Done, Refused}
 
@@ -32,6 +38,14 @@ pub record IsUnnamed (row : List ℕ) : Type 0 where
   pub name : List ℕ
   pub asks : AsksForBook row name
   pub unread : who_of name ≡ None
+
+-- the row can be read, and asks for a book of a name that can be read too
+pub record CanMakeBook (row : List ℕ) : Type 0 where
+  pub readable : CanBeRead Script (parts_at 32 row)
+  pub name : List ℕ
+  pub asks : AsksForBook row name
+  pub house : Who
+  pub named : who_of name ≡ Some house
 
 -- Of the rows of a script that ask for something the first made a book, and the others were played
 -- over it, one after the other, each once.
@@ -60,3 +74,29 @@ abbrev pub IsScriptDone : {K W : Type 0} → (K → Standing) → (W → Option 
     → W → W → ExitStatus → Type 0
 IsScriptDone standing contents rows before later status =
     IsPlayedOver standing contents rows before later status ⊎ IsNotBegun rows before later status
+
+-- No book was made, and nothing was printed: there was no row, or the first one asked for none. One
+-- that could be done lacked memory.
+pub record IsNotMade
+    {W : Type 0} (rows : List (List ℕ)) (before later : W) (stop : CommandError) : Type 0 where
+  pub silent : later ≡ before
+  pub lacks : (first : List ℕ) (others : List (List ℕ)) → rows ≡ first ∷ others
+      → CanMakeBook first → stop ≡ stops.Fault OutOfMemory
+
+-- the first row made a book, and one of the others stopped what was played over it
+pub record IsStoppedOver
+    {K W : Type 0} (standing : K → Standing) (contents : W → Option (List ℕ))
+    (rows : List (List ℕ)) (before later : W) (stop : CommandError) : Type 0 where
+  pub first : List ℕ
+  pub others : List (List ℕ)
+  pub are : rows ≡ first ∷ others
+  pub made : K
+  pub by : IsMadeBy standing first made
+  pub left : K
+  pub stopped : HasStopped standing contents (made, (before, Done)) others left later stop
+
+abbrev pub IsScriptStopped : {K W : Type 0} → (K → Standing) → (W → Option (List ℕ))
+    → List (List ℕ) → W → W → CommandError → Type 0
+IsScriptStopped standing contents rows before later stop =
+    IsNotMade rows before later stop
+    ⊎ IsStoppedOver standing contents rows before later stop

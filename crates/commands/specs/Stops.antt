@@ -10,12 +10,20 @@ use Rattle.store.specs.Standing.{Standing, IsUsable, IsFault, OfUsable}
 use Rattle.store.specs.Fault.{Fault}
 use Rattle.store.specs.Fault.TheVariants as faults
 use Rattle.folders.specs.Folders.{fault_of_kind}
+use Rattle.command_line.specs.declared.words.LineFault.{LineFault}
+use Rattle.command_line.specs.declared.words.LineFault.TheVariants as lines
 use Rattle.commands.specs.declared.told.CommandError.{CommandError}
 use Rattle.commands.specs.declared.told.CommandError.TheVariants as stops
 
 -- a device that doesn't serve, or want of memory
 abbrev pub IsDeviceStop : CommandError → Type 0
 IsDeviceStop stop = (stop ≡ stops.Fault faults.OutOfMemory) ⊎ (stop ≡ stops.Fault faults.Device)
+
+-- what words that can't be read, or a call for help among them, stop
+abbrev pub line_stop : LineFault → CommandError
+line_stop (lines.Usage text) = stops.Usage text
+line_stop (lines.Help text) = stops.Usage text
+line_stop lines.OutOfMemory = stops.Fault faults.OutOfMemory
 
 -- the fault by which a command was stopped, if one did; what it is about plays no part
 abbrev pub fault_in : CommandError → Option Fault

@@ -4,7 +4,7 @@ ghost use Rattle.store.specs.Standing.{GoesOn, IsUnchanged};
 ghost use Rattle.commands.specs.Looking.{IsLineDone, IsView};
 ghost use Rattle.commands.specs.Playing.{asks, asking, rows_left, IsRowAnswered, IsRowStopped, HasPlayed, HasStopped};
 ghost use Rattle.commands.specs.Readying.{IsChange};
-ghost use Rattle.commands.specs.Scripts.{IsMadeBy, IsScriptDone, IsUnnamed};
+ghost use Rattle.commands.specs.Scripts.{CanMakeBook, IsMadeBy, IsScriptDone, IsScriptStopped, IsUnnamed};
 
 use crate::acts::{perform, ready_at};
 use crate::files::{MOST_SCRIPT, read_within};
@@ -17,7 +17,7 @@ use command_line::{BookAct, Place, Show, Task, Words, line};
 use std::alloc::{AllocError, Global};
 use std::io;
 use std::rt::{Clock, Files};
-use store::{Keeper, Moment, Refusal, ReplayBook, Warehouse, Who};
+use store::{Fault, Keeper, Moment, Refusal, ReplayBook, Warehouse, Who};
 
 // Changes the book as a line says.
 fn change<R: Files + Clock + AllocGlobal + Clone + Drop, K: Keeper, W: io::Write, E: io::Write>(
@@ -258,8 +258,10 @@ fn made<R: Files + AllocGlobal, E: io::Write>(
     verbosity: Verbosity,
     err: &mut E,
 ) -> Result<Option<ReplayBook>, CommandError>
-    ensures { IfOk result (λ made. MatchOption made (IsUnnamed row.now)
+    ensures made { IfOk result (λ made. MatchOption made (IsUnnamed row.now)
         (IsMadeBy ⟦<ReplayBook as Keeper>⟧.standing row.now)) }
+    ensures stopped { IfErr result (λ stop. CanMakeBook row.now → stop ≡ CommandError.Fault
+        Fault.OutOfMemory) }
 {
     let words = words_of(rt.alloc(), row)?;
     let Words::Over { task, .. } = line(rt.alloc(), Place::Script, &words)? else {
@@ -306,7 +308,9 @@ fn play<R: Files + Clock + AllocGlobal + Clone + Drop, W: io::Write, E: io::Writ
     out: &mut W,
     err: &mut E,
 ) -> Result<ExitStatus, CommandError>
-    ensures { IfOk result (IsScriptDone ⟦<ReplayBook as Keeper>⟧.standing W.contents
+    ensures done { IfOk result (IsScriptDone ⟦<ReplayBook as Keeper>⟧.standing W.contents
+        (asking text.now) out.old out.new) }
+    ensures stopped { IfErr result (IsScriptStopped ⟦<ReplayBook as Keeper>⟧.standing W.contents
         (asking text.now) out.old out.new) }
 {
     let Some((i, row, rest)) = opening_row(text) else {

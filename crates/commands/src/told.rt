@@ -79,6 +79,10 @@ impl From<Fault> for CommandError {
 }
 
 impl From<LineFault> for CommandError {
+    ghost use Rattle.commands.specs.Stops.{line_stop};
+
+    ghost from_gives = { λ fault stop. stop ≡ line_stop fault };
+
     fn from(fault: LineFault) -> CommandError {
         match fault {
             // A line of a script that asks for help stops it as one that can't be read does.

@@ -26,7 +26,9 @@ impl<'a> Model for Isa<'a> {
 
     ghost view = { λ i. i.text.now };
 
-    ghost invariant = { λ i. (ISA_BYTES ≤ length i.text.now) × (meant.is_unreadable i.text.now ≡ false) × (i.delims ≡ meant.delims_of i.text.now) };
+    ghost invariant = { λ i. (ISA_BYTES ≤ length i.text.now)
+        × (meant.is_unreadable i.text.now ≡ false)
+        × (i.delims ≡ meant.delims_of i.text.now) };
 }
 
 // Where an element of ISA begins, and how wide it is.

@@ -62,7 +62,8 @@ impl<'a> Model for Interchange<'a> {
 
     ghost view = { λ i. record { delims = i.delims; groups = map (λ g. g.group) i.groups.items } };
 
-    ghost invariant = { λ i. i.groups.items ≡ map (held.group_under i.delims) (map (λ g. g.group) i.groups.items) };
+    ghost invariant = { λ i. i.groups.items
+        ≡ map (held.group_under i.delims) (map (λ g. g.group) i.groups.items) };
 }
 
 impl<'a> Set<'a> {

@@ -11,7 +11,8 @@ pub trait Courier {
 
     // Relates what it is, the verb, the path and the body of a request, its answer, and what it is
     // then. Of a network nothing is said.
-    ghost brings: { Self → Verb → List ℕ → List ℕ → ServerAnswer → Self → Type 0 } = { λ _ _ _ _ _ _. ⊤ };
+    ghost brings: { Self → Verb → List ℕ → List ℕ → ServerAnswer
+        → Self → Type 0 } = { λ _ _ _ _ _ _. ⊤ };
 
     // Relates what it is, the verb, the path and the body of a request to which it brings no
     // answer, and what it is then.

@@ -41,7 +41,8 @@ impl<C: Courier> Listening<C> {
 }
 
 impl<C: Courier> Courier for Listening<C> {
-    ghost brings = { λ old verb path body answer new. C.brings old.inner verb path body answer new.inner };
+    ghost brings = { λ old verb path body answer new.
+        C.brings old.inner verb path body answer new.inner };
 
     ghost loses = { λ old verb path body new. C.loses old.inner verb path body new.inner };
 

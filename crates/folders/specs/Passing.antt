@@ -12,7 +12,8 @@ is_interchange name = ends_with (λ a b. a == b) name (codes ".x12")
 -- why an interchange isn't handed in, if it isn't
 abbrev pub why_passed : List ℕ → Bool → Option WhyPassed
 why_passed name is_file =
-    if nat_lt MOST_FILE_NAME (length name) then Some LongName else if is_file then None else Some NoFile
+    if nat_lt MOST_FILE_NAME (length name) then Some LongName
+    else if is_file then None else Some NoFile
 
 abbrev pub reason_text : WhyPassed → List ℕ
 reason_text NoFile = codes "no regular file"

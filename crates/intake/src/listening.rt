@@ -1,4 +1,4 @@
-ghost use Rattle.std.specs.Prelude.{◌≡◌, ◌⊎◌, ◌≤◌, ℕ, Some, None, true, false, OnOk, OnErr, IfErr, IsErrOf};
+ghost use Rattle.std.specs.Prelude.{◌≡◌, ◌⊎◌, ◌≤◌, ℕ, Some, None, true, false, OnOk, OnErr, IfOk, IfErr, IsErrOf};
 ghost use Rattle.store.specs.Standing.{GoesOn};
 ghost use Rattle.intake.specs.Connections.{HasTold, IsConnection, IsNotAccepted, IsConnectionOutcome, IsServed, IsServedOn};
 
@@ -108,6 +108,8 @@ fn serve_next<K: Keeper, Q: Clock>(
     patience: &Patience<'_, Q>,
 ) -> Connection
     ensures moment { result.moment ≡ moment }
+    ensures peer { IfOk accepted (λ a. result.peer ≡ Some a.1) }
+    ensures nobody { OnErr accepted (result.peer ≡ None) }
     ensures outcome { IsConnectionOutcome result }
     ensures served { IsConnection audience (K.standing keeper.old) (K.standing keeper.new) result }
     ensures goes { GoesOn (K.standing keeper.old) (K.standing keeper.new) }

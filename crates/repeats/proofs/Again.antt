@@ -20,11 +20,11 @@ again_by W text t e out Enrolled is key other = refl
 again_by W text t e out (Received bytes) is key other = rw other refl
 again_by W text t e out (Performed ticket act) is key other = refl
 
-pub again_other : (W : Who) (text : List ℕ) (t : Moment) (r : Recalled) (k : known.Recalled) (out : List ℕ) → IsEntry r k → mark k.entry ≡ interchange_mark (isa text 13)
-    → bytes_eq r.entry.body text ≡ false → out ≡ refusal_answer W text t Duplicate → known.interchange_again W text t k ≡ Refused Duplicate out
-again_other W text t r k out entry key other is =
+pub again_other : (W : Who) (text : List ℕ) (t : Moment) (r : Recalled) (k : known.Recalled) → IsEntry r k → mark k.entry ≡ interchange_mark (isa text 13)
+    → bytes_eq r.entry.body text ≡ false → known.interchange_again W text t k ≡ Refused Duplicate (refusal_answer W text t Duplicate)
+again_other W text t r k entry key other =
     let body : r.entry.body ≡ body_of k.entry.deed = ap (λ (w : _). w.body) entry.1 in
-    again_by W text t k.entry k.outgoing k.entry.deed refl key (ap (λ (b : List ℕ). bytes_eq b text) (sym body) ∙ other) ∙ ap (Refused Duplicate) (sym is)
+    again_by W text t k.entry k.outgoing k.entry.deed refl key (ap (λ (b : List ℕ). bytes_eq b text) (sym body) ∙ other)
 
 -- the reply to a text that can be read
 pub readable_reply : (q : Rules) (W : Who) (h : Option History) (k : Option known.Recalled) (text : List ℕ) (t : Moment) (n : ℕ) (d : Decision) → is_unreadable text ≡ false

@@ -37,6 +37,22 @@ pub fn noted(
     Ok(Decision::Refused(Refusal::Note(code), answer))
 }
 
+// The refusal of an interchange whose control number is known, and whose bytes are others.
+fn duplicate(
+    alloc: Global,
+    warehouse: &Warehouse,
+    header: &Isa<'_>,
+    moment: Moment,
+) -> Result<Decision, AllocError>
+    ensures comes { IfOk result (IsNoEntry) }
+    ensures reply { IfOk result (λ d. (r : Rules) (n : ℕ) (c : register.Command)
+        → IsReply r n c moment (replies.Refused refusals.Duplicate
+        (replies.refusal_answer warehouse.now header.now moment refusals.Duplicate)) d) }
+{
+    let answer = refusal(alloc, warehouse.who(), header, moment, 25)?;
+    Ok(Decision::Refused(Refusal::Duplicate, answer))
+}
+
 /// What an interchange comes to whose control number is known: the stored text where its bytes are
 /// the same, whatever else is said of them; else it is refused as a duplicate. Want of memory is
 /// the one error.
@@ -60,8 +76,7 @@ pub fn interchange_again(
     if known.is_of(text) {
         return Ok(Decision::Stored(known.outgoing().to_vec(alloc)?));
     }
-    let answer = refusal(alloc, warehouse.who(), header, moment, 25)?;
-    Ok(Decision::Refused(Refusal::Duplicate, answer))
+    duplicate(alloc, warehouse, header, moment)
 }
 
 /// The entry of an interchange, under these rules. Want of memory is the one error.

@@ -23,9 +23,17 @@ impl Model for Delims {
       terminator = d.terminator;
     } };
 
-    ghost invariant = { λ d. IsTrue (are_delimiters (record { separator = d.separator; component = d.component; terminator = d.terminator })) };
+    ghost invariant = { λ d. IsTrue (are_delimiters (record {
+      separator = d.separator;
+      component = d.component;
+      terminator = d.terminator;
+    })) };
 
-    ghost inverse = { λ d. record { separator = d.separator; component = d.component; terminator = d.terminator } };
+    ghost inverse = { λ d. record {
+      separator = d.separator;
+      component = d.component;
+      terminator = d.terminator;
+    } };
 }
 
 // Whether the byte may be a delimiter: 1C to 1F (hexadecimal), or punctuation other than `-` and

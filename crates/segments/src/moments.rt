@@ -26,9 +26,21 @@ impl Model for Moment {
       minute = m.minute;
     } };
 
-    ghost invariant = { λ m. IsTrue (is_moment (record { year = m.year; month = m.month; day = m.day; hour = m.hour; minute = m.minute })) };
+    ghost invariant = { λ m. IsTrue (is_moment (record {
+      year = m.year;
+      month = m.month;
+      day = m.day;
+      hour = m.hour;
+      minute = m.minute;
+    })) };
 
-    ghost inverse = { λ m. record { year = m.year; month = m.month; day = m.day; hour = m.hour; minute = m.minute } };
+    ghost inverse = { λ m. record {
+      year = m.year;
+      month = m.month;
+      day = m.day;
+      hour = m.hour;
+      minute = m.minute;
+    } };
 }
 
 /// Whether the Gregorian calendar has the day, of a year 1 to 9999.

@@ -27,9 +27,15 @@ impl Model for Who {
     ghost invariant = { λ w. IsFilled w.text w.len
         × IsTrue (is_partner (partner_in w.text w.len)) };
 
-    ghost inverse = { λ p. record { text = who_text p ++ replicate (TEXT_BYTES - length (who_text p)) 32; len = length (who_text p) } };
+    ghost inverse = { λ p. record {
+      text = who_text p ++ replicate (TEXT_BYTES - length (who_text p)) 32;
+      len = length (who_text p);
+    } };
 
-    ghost inverse_ok = { λ a h i. record { text = filled_front a.text a.len h.0 i; len = length_front a.text a.len h.0 i } };
+    ghost inverse_ok = { λ a h i. record {
+      text = filled_front a.text a.len h.0 i;
+      len = length_front a.text a.len h.0 i;
+    } };
 }
 
 impl Who {

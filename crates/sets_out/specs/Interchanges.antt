@@ -52,7 +52,9 @@ refusal_of d W t h note =
 -- The text of what is handed over to be written.
 
 abbrev pub is_silence : Answer → Bool
-is_silence a = let e = a.envelope in length (between e.warehouse e.depositor e.moment e.number a.heading.now a.told.now) == 0
+is_silence a =
+    let e = a.envelope in
+    length (between e.warehouse e.depositor e.moment e.number a.heading.now a.told.now) == 0
 
 abbrev pub whole_answer : Answer → List ℕ
 whole_answer a =
@@ -63,7 +65,8 @@ whole_answer a =
 
 abbrev pub answer_text : Answer → List ℕ
 answer_text a =
-    let e = a.envelope in answer_of a.delims e.warehouse e.depositor e.moment e.number a.heading.now a.told.now
+    let e = a.envelope in
+    answer_of a.delims e.warehouse e.depositor e.moment e.number a.heading.now a.told.now
 
 abbrev pub refusal_text : NoteAnswer → List ℕ
 refusal_text r = refusal_of r.delims r.warehouse r.moment r.heading.now r.note

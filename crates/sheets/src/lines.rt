@@ -13,9 +13,12 @@ use std::marker::Model;
 /// A line of a sheet, as it was read: nothing of it is tested yet.
 #[derive(Drop)]
 pub struct Line {
-    item: Vec<u8>,
-    lot: Vec<u8>,
-    quantity: Vec<u8>,
+    /// The text of the item.
+    pub item: Vec<u8>,
+    /// The text of the lot.
+    pub lot: Vec<u8>,
+    /// How much, in the unit EA: the text of a number.
+    pub quantity: Vec<u8>,
 }
 
 impl Model for Line {
@@ -56,20 +59,6 @@ impl Line {
             lot,
             quantity,
         }
-    }
-
-    /// The text of the item.
-    pub fn item(&self) -> &[u8]
-        ensures { result.now ≡ self.now.item }
-    {
-        &self.item
-    }
-
-    /// The text of the lot.
-    pub fn lot(&self) -> &[u8]
-        ensures { result.now ≡ self.now.lot }
-    {
-        &self.lot
     }
 
     /// How much, in the unit EA: the value of the quantity's digits, and 4,294,967,295 where that

@@ -28,7 +28,8 @@ impl Model for Sheet {
 
     ghost view = { λ s. map clerk.line_of s.lines.items };
 
-    ghost invariant = { λ s. clerk.is_sheet Two RecountSheet (map clerk.line_of s.lines.items) ≡ true };
+    ghost invariant = { λ s. clerk.is_sheet Two RecountSheet
+        (map clerk.line_of s.lines.items) ≡ true };
 }
 
 fn has_bad_line(kind: SheetKind, lines: &[Line]) -> bool

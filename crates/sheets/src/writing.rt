@@ -40,7 +40,7 @@ fn append_line(out: &mut Vec<u8>, line: &Line) -> Result<(), AllocError>
 {
     let mut buffer = Buffer::new();
     let quantity = buffer.format(line.amount()).as_bytes();
-    append_texts(out, &[line.item(), b",", line.lot(), b",", quantity, b"\n"])
+    append_texts(out, &[&line.item, b",", &line.lot, b",", quantity, b"\n"])
 }
 
 // Appends the text of each line, or a beginning of it.

@@ -56,6 +56,7 @@ impl ReplayBook {
 }
 
 // The page of a depositor with one entry of the register more; another depositor's adds nothing.
+#[tactic(auto, using(crate::proofs::Entries::held_other))]
 fn with_entry(
     alloc: Global,
     warehouse: &Warehouse,

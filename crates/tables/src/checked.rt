@@ -29,7 +29,11 @@ impl<'a> Model for Checked<'a> {
       pieces = c.segments.now;
     } };
 
-    ghost invariant = { λ c. IsUnfaulted (record { kind = c.kind; rules = c.rules; pieces = c.segments.now }) };
+    ghost invariant = { λ c. IsUnfaulted (record {
+      kind = c.kind;
+      rules = c.rules;
+      pieces = c.segments.now;
+    }) };
 }
 
 impl<'a> Checked<'a> {

@@ -1,18 +1,43 @@
-use Rattle.std.proofs.Common.{ap, sym, ◌∙◌, map, Bor, List, ℕ}
+use Rattle.std.proofs.Common.{◌≡◌, ap, sym, subst, ◌∙◌, map, Bor, List, ℕ, Option, unwrap_or}
 use Rattle.std.proofs.lemmas.Result.{IfOk-weaker}
 use Rattle.clap.specs.Matches.{found_of}
+use Rattle.clap.specs.Takes.{takes}
 use Rattle.clap.specs.Walk.{rows_of}
 use Rattle.clap.specs.Simple.{is_simple, subcommand_of}
 use Rattle.clap.specs.declared.parser.matches.ArgMatches.TheViews.{out-ArgMatches}
+use Rattle.command_line.specs.Asked.{Found, Says}
+use Rattle.command_line.proofs.AskedLaws.{lacks_from}
 use Rattle.command_line.proofs.LineLaws.{simple_at, both_found}
 use Rattle.command_line.proofs.reading.line.Goals as goal
 
-pub returns : goal.returns
-returns c =
+pub returns-clause-ok : goal.returns-clause-ok
+returns-clause-ok c =
     let app_is = c.in_ok-parser.ensures in
     let found = rows_of (found_of c.in-Some.values.now) in
     let met = (c.in-Ok.ensures.matches (ap is_simple app_is ∙ simple_at c.args.place)).1
     ∙ ap (λ a. subcommand_of a (map (λ (w : Bor (List ℕ)). w.now) c.args.words.now)) app_is in
     let named = both_found (out-ArgMatches c.in-Ok.matches).subcommand c.in-Some.name.now found c.in-Some.ensures.name c.in-Some.ensures.rows in
     IfOk-weaker c.asked.result _ _
-    (λ asked h. ((c.in-Some.name.now, found), sym met ∙ named, sym c.stands_first.ensures ∙ c.if-not-stands_first.false, h)) c.asked.ensures
+    (λ asked h. record {
+      found = (c.in-Some.name.now, found);
+      named = sym met ∙ named;
+      first = sym c.stands_first.ensures ∙ c.if-not-stands_first.false;
+      says = h;
+    }) c.asked.ensures.ok
+
+pub returns-clause-err : goal.returns-clause-err
+returns-clause-err c =
+    let app_is = c.in_ok-parser.ensures in
+    let found = rows_of (found_of c.in-Some.values.now) in
+    let met = (c.in-Ok.ensures.matches (ap is_simple app_is ∙ simple_at c.args.place)).1
+    ∙ ap (λ a. subcommand_of a (map (λ (w : Bor (List ℕ)). w.now) c.args.words.now)) app_is in
+    let named = both_found (out-ArgMatches c.in-Ok.matches).subcommand c.in-Some.name.now found c.in-Some.ensures.name c.in-Some.ensures.rows in
+    lacks_from c.asked.result c.asked.ensures.err (λ q.
+    let same : q.2.found ≡ (c.in-Some.name.now, found) = ap (λ (o : Option Found). unwrap_or o q.2.found) (sym q.2.named ∙ (sym met ∙ named)) in
+    (q.1, subst (λ (f : Found). Says c.args.place f q.1) same q.2.says))
+
+pub returns-in-Err-clause-err : goal.returns-in-Err-clause-err
+returns-in-Err-clause-err c = λ q.
+    let app_is = c.in_ok-parser.ensures in
+    let taken = ap (λ a. takes a (map (λ (w : Bor (List ℕ)). w.now) c.args.words.now)) app_is ∙ q.0 in
+    c.refused.ensures (c.in-Err.ensures.passes taken)

@@ -1,8 +1,12 @@
-use Rattle.std.proofs.Common.{rules, inr, Err, sym, subst}
+use Rattle.std.proofs.Common.{rules, inl, inr, Err, sym, ap, subst, ◌∙◌, map, Bor, List, ℕ}
 use Rattle.store.proofs.Changes.{unchanged_refl}
 use Rattle.folders.proofs.Taking.{handed_on}
+use Rattle.command_line.specs.Asked.{CanBeRead}
+use Rattle.command_line.specs.declared.words.Place.TheVariants.{Script}
 use Rattle.commands.specs.Playing.{IsRowAnswered}
+use Rattle.commands.specs.Stops.{line_stop}
 use Rattle.commands.specs.declared.told.CommandError.{CommandError}
+use Rattle.commands.proofs.TellingLaws.{appends_nothing}
 use Rattle.commands.proofs.script.answer_row.Goals as goal
 
 pub returns-in_err-status-clause-stopped : goal.returns-in_err-status-clause-stopped
@@ -17,3 +21,14 @@ returns-in_err-status-clause-stopped g c =
       goes = c.answer.ensures.goes;
       same = unchanged_refl _;
     })))
+
+pub returns-in_err-asked-clause-stopped : goal.returns-in_err-asked-clause-stopped
+returns-in_err-asked-clause-stopped g c =
+    handed_on c.from_residual-in_err-asked.result _ _ c.from_residual-in_err-asked.ensures
+    (λ stop is. inl (record {
+      same = unchanged_refl _;
+      silent = appends_nothing _;
+      lacks = λ can.
+          let words = ap (map (λ (w : Bor (List ℕ)). w.now)) c.deref.ensures.value ∙ c.in_ok-words.ensures in
+          is ∙ ap line_stop (c.in_err-asked.ensures.err (subst (CanBeRead Script) (sym words) can));
+    }))

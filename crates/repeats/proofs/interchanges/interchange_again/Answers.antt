@@ -1,12 +1,19 @@
-use Rattle.std.proofs.Common.{ℕ, List, sym, ap, ◌∙◌}
-use Rattle.profile.specs.Header.{Who}
+use Rattle.std.proofs.Common.{List, ℕ, sym, subst, ◌∙◌}
+use Rattle.std.proofs.lemmas.Result.{IfOk-weaker}
+use Rattle.profile.specs.Register.{Interchange}
 use Rattle.profile.specs.declared.refusals.Refusal.TheVariants.{Duplicate}
-use Rattle.profile.specs.Reply.{refusal_answer}
+use Rattle.profile.specs.Reply.{Refused, Reply, refusal_answer}
+use Rattle.repeats.specs.Replies.{IsReply}
 use Rattle.repeats.proofs.Again.{again_other}
 use Rattle.repeats.proofs.interchanges.interchange_again.Goals as goal
 
 pub returns-clause-reply : goal.returns-clause-reply
-returns-clause-reply c = λ r n k entry key.
-    again_other c.args.warehouse.now c.args.text.now c.args.moment c.args.known.now k c.in_ok-answer.answer.items entry key (sym c.is_of.ensures ∙ c.if-is_of.false)
-    (c.in_ok-answer.ensures ∙ ap (λ (W : Who). refusal_answer W c.args.header.now c.args.moment Duplicate) c.who.ensures
-    ∙ ap (λ (x : List ℕ). refusal_answer c.args.warehouse.now x c.args.moment Duplicate) c.requires)
+returns-clause-reply c =
+    let W = c.args.warehouse.now in
+    let text = c.args.text.now in
+    let t = c.args.moment in
+    IfOk-weaker c.duplicate.result _ _ (λ d told r n k entry key.
+    subst (λ (x : Reply). IsReply r n (Interchange text) t x d)
+    (sym (again_other W text t c.args.known.now k entry key (sym c.is_of.ensures ∙ c.if-is_of.false)))
+    (subst (λ (x : List ℕ). IsReply r n (Interchange text) t (Refused Duplicate (refusal_answer W x t Duplicate)) d) c.requires (told r n (Interchange text))))
+    c.duplicate.ensures.reply

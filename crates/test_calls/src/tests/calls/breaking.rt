@@ -46,7 +46,10 @@ impl BreakingBook {
 impl Keeper for BreakingBook {
     ghost use Rattle.std.specs.Prelude.{◌≡◌};
 
-    ghost standing = { λ b. record (⟦<ReplayBook as Keeper>⟧.standing b.book) { refusals = b.refused; shut = b.shut } };
+    ghost standing = { λ b. record (⟦<ReplayBook as Keeper>⟧.standing b.book) {
+      refusals = b.refused;
+      shut = b.shut;
+    } };
 
     fn warehouse(&self) -> Warehouse {
         self.book.warehouse()

@@ -1,0 +1,36 @@
+-- Lines that the parser takes, and lines that it doesn't.
+use Rattle.std.proofs.Common.{◌≡◌, refl, codes, List, [], ◌∷◌, true, not}
+use Rattle.std.specs.List.{list_all}
+use Rattle.clap.specs.Takes.{takes}
+use Rattle.clap.specs.Walk.{Text}
+use Rattle.clap.proofs.OnLiterals.{clap_on_literals}
+use Rattle.command_line.specs.Lines.{app_at}
+use Rattle.command_line.specs.declared.words.Place.TheVariants.{Script}
+
+abbrev in_a_script : List (List Text)
+in_a_script =
+    (codes "init" ∷ codes "ZZ-WHSE1" ∷ [])
+    ∷ (codes "enrol" ∷ codes "ZZ-ACME" ∷ codes "--at" ∷ codes "2025-03-04T09:15" ∷ [])
+    ∷ (codes "send" ∷ codes "one.x12" ∷ [])
+    ∷ (codes "count" ∷ codes "ZZ-ACME" ∷ codes "T1" ∷ codes "SHP1" ∷ codes "one.sheet" ∷ [])
+    ∷ (codes "recount" ∷ codes "--at=2025-03-04T09:15" ∷ codes "ZZ-ACME" ∷ codes "T1" ∷ codes "one.sheet" ∷ [])
+    ∷ (codes "stock" ∷ codes "ZZ-ACME" ∷ codes "--csv" ∷ [])
+    ∷ (codes "outbox" ∷ codes "ZZ-ACME" ∷ codes "--number" ∷ codes "7" ∷ [])
+    ∷ (codes "depositors" ∷ []) ∷ []
+
+abbrev not_in_a_script : List (List Text)
+not_in_a_script =
+    []
+    ∷ (codes "enrol" ∷ [])
+    ∷ (codes "enrol" ∷ codes "ZZ-ACME" ∷ codes "ZZ-OTHER" ∷ [])
+    ∷ (codes "enrol" ∷ codes "ZZ-ACME" ∷ codes "--book" ∷ codes "harbor.book" ∷ [])
+    ∷ (codes "stock" ∷ codes "ZZ-ACME" ∷ codes "--cvs" ∷ [])
+    ∷ (codes "ship" ∷ codes "ZZ-ACME" ∷ []) ∷ []
+
+lines_are_taken : list_all (takes (app_at Script)) in_a_script ≡ true
+unfolding clap_on_literals
+lines_are_taken = refl
+
+lines_are_not_taken : list_all (λ words. not (takes (app_at Script) words)) not_in_a_script ≡ true
+unfolding clap_on_literals
+lines_are_not_taken = refl
