@@ -3,7 +3,7 @@ use Rattle.std.proofs.Common.{◌≡◌, ◌∙◌, sym, subst, refl, true, fals
 use Rattle.std.proofs.lemmas.Slice.Eq.{bytes_eq-Decides}
 use Rattle.std.specs.Prelude.{IsErrAnd}
 use Rattle.clap.specs.Walk.{Row, Text}
-use Rattle.command_line.specs.Asked.{Found, Has, IsThere, HasAll, LacksMemory, ReadsNumber, SaysNumberOf, SaysService, SaysAct, SaysShow, SaysTask, SaysPart, act_name, takes_server}
+use Rattle.command_line.specs.Asked.{Found, Has, IsThere, HasAll, LacksMemory, Reads, ReadsNumber, SaysNumberOf, SaysService, SaysAct, SaysShow, SaysTask, SaysPart, act_name, takes_server}
 use Rattle.command_line.specs.declared.words.LineFault.{LineFault}
 use Rattle.command_line.specs.declared.words.Service.{Service}
 use Rattle.command_line.specs.declared.words.Task.{Task}
@@ -20,6 +20,12 @@ pub handed : {A P Q : Type 0} (r : Result A LineFault) (f : LineFault) → IsErr
     → IfErr r (LacksMemory Q)
 handed (Ok x) f same lacks from = tt
 handed (Err g) f same lacks from = λ q. same ∙ lacks (from q)
+
+-- the same, where it is read of a line
+pub reads_on : {A P : Type 0} (Says : A → Type 0) (r : Result A LineFault) (f : LineFault) → IsErrAnd r (λ g. g ≡ f) → LacksMemory P f
+    → ((a : A) × Says a → P) → Reads Says r
+reads_on Says (Ok x) f same lacks from = absurd same
+reads_on Says (Err g) f same lacks from = record { ok = tt; err = λ q. same ∙ lacks (from q) }
 
 -- what is refused for want of memory where this can be read, is where more can
 pub lacks_from : {A P Q : Type 0} (r : Result A LineFault) → IfErr r (LacksMemory P) → (Q → P) → IfErr r (LacksMemory Q)

@@ -1,5 +1,5 @@
 -- What a line of words asks for, and what one that can be read is refused for.
-use Rattle.std.specs.Prelude.{◌≡◌, ◌⊎◌, ℕ, Bool, true, false, ◌||◌, List, [], ◌∷◌, ⊤, Option, Some, None, MatchOption, IsTrue, is_some, option_map, codes, bytes_eq}
+use Rattle.std.specs.Prelude.{◌≡◌, ◌⊎◌, ℕ, Bool, true, false, ◌||◌, List, [], ◌∷◌, ⊤, Option, Some, None, MatchOption, IsTrue, Result, IfOk, IfErr, is_some, option_map, codes, bytes_eq}
 use Rattle.std.specs.Borrow.{Bor}
 use Rattle.std.specs.Net.Addr.{MatchIp, IsLoopbackV4, IsLoopbackV6}
 use Rattle.std.specs.Net.Grammar.{IsSocketText}
@@ -147,6 +147,10 @@ abbrev pub has_book : Place → Option (Bor Text) → Bool
 has_book place.Program book = is_some book
 has_book place.Script book = true
 
+-- the line names this file with a book as one at this place must
+abbrev pub NamesBook : Place → List Row → Option (Bor Text) → Type 0
+NamesBook p rows book = SaysBook rows book × (has_book p book ≡ true)
+
 -- the line names the server at this address, or none
 abbrev pub SaysServer : List Row → Option SocketAddr → Type 0
 SaysServer rows (Some address) = SaysAddress rows (codes "server") address
@@ -181,6 +185,12 @@ Says p f (words.Remote server t) = SaysServer f.1 (Some server) × LeavesToServe
 abbrev pub LacksMemory : Type 0 → LineFault → Type 0
 LacksMemory CanBeRead fault = CanBeRead → fault ≡ OutOfMemory
 
+-- What was read is what the line says; and a line that says any is refused for want of memory
+-- alone.
+pub record Reads {A : Type 0} (Says : A → Type 0) (result : Result A LineFault) : Type 0 where
+  pub ok : IfOk result Says
+  pub err : IfErr result (LacksMemory ((a : A) × Says a))
+
 -- something of this kind was found that the line says, or it says nothing of this kind
 abbrev pub IsFoundOf : {A : Type 0} → (A → Type 0) → Option A → Type 0
 IsFoundOf {A} Says found = MatchOption found ((a : A) → Says a → ⊥) Says
@@ -192,7 +202,7 @@ abbrev pub ReadsNumber : List Row → Type 0
 ReadsNumber rows = (number : Option ℕ) × SaysNumber rows number
 
 abbrev pub ReadsBook : Place → List Row → Type 0
-ReadsBook p rows = (book : Option (Bor Text)) × SaysBook rows book × (has_book p book ≡ true)
+ReadsBook p rows = (book : Option (Bor Text)) × NamesBook p rows book
 
 abbrev pub ReadsWait : List Row → Type 0
 ReadsWait rows = (seconds : Option ℕ) × SaysWait rows seconds

@@ -1,5 +1,5 @@
 //! The values of a line of words read, one by one.
-ghost use Rattle.std.specs.Prelude.{◌≡◌, ℕ, Option, true, IfOk, IfErr, codes};
+ghost use Rattle.std.specs.Prelude.{◌≡◌, IfOk, IfErr, codes};
 ghost use Rattle.std.specs.Net.Grammar.{IsSocketText};
 ghost use Rattle.clap.specs.Matches.{found_of};
 ghost use Rattle.clap.specs.Walk.{rows_of};
@@ -23,9 +23,7 @@ pub(crate) fn usage(alloc: Global, text: &str) -> LineFault {
 
 /// The moment that a line says, if it says one.
 pub(crate) fn moment(alloc: Global, values: &ArgMatches<'_>) -> Result<Option<Moment>, LineFault>
-    ensures ok { IfOk result (meant.SaysMoment (rows_of (found_of values.now))) }
-    ensures err { IfErr result
-        (meant.LacksMemory (meant.ReadsMoment (rows_of (found_of values.now)))) }
+    ensures { meant.Reads (meant.SaysMoment (rows_of (found_of values.now))) result }
 {
     let Some(text) = values.get_str("at") else {
         return Ok(None);
@@ -41,9 +39,7 @@ pub(crate) fn moment(alloc: Global, values: &ArgMatches<'_>) -> Result<Option<Mo
 
 /// The number that a line says, if it says one.
 pub(crate) fn number(alloc: Global, values: &ArgMatches<'_>) -> Result<Option<u32>, LineFault>
-    ensures ok { IfOk result (meant.SaysNumber (rows_of (found_of values.now))) }
-    ensures err { IfErr result
-        (meant.LacksMemory (meant.ReadsNumber (rows_of (found_of values.now)))) }
+    ensures { meant.Reads (meant.SaysNumber (rows_of (found_of values.now))) result }
 {
     let Some(text) = values.get_str("number") else {
         return Ok(None);
@@ -72,8 +68,7 @@ pub(crate) fn given<'a>(
 
 // The address that a text writes; the fault where it writes none.
 fn address_in(alloc: Global, text: &str, fault: &str) -> Result<SocketAddr, LineFault>
-    ensures ok { IfOk result (IsSocketText text.now) }
-    ensures err { IfErr result (meant.LacksMemory ((a : _) × IsSocketText text.now a)) }
+    ensures { meant.Reads (IsSocketText text.now) result }
 {
     match SocketAddr::parse_ascii(text.as_bytes()) {
         Ok(address) => Ok(address),
@@ -83,9 +78,7 @@ fn address_in(alloc: Global, text: &str, fault: &str) -> Result<SocketAddr, Line
 
 // The address that a line says that a book is served at.
 fn address(alloc: Global, values: &ArgMatches<'_>) -> Result<SocketAddr, LineFault>
-    ensures ok { IfOk result (meant.SaysAddress (rows_of (found_of values.now)) (codes "listen")) }
-    ensures err { IfErr result (meant.LacksMemory ((a : _)
-        × meant.SaysAddress (rows_of (found_of values.now)) (codes "listen") a)) }
+    ensures { meant.Reads (meant.SaysAddress (rows_of (found_of values.now)) (codes "listen")) result }
 {
     let text = given(alloc, values, "listen")?;
     address_in(
@@ -97,9 +90,7 @@ fn address(alloc: Global, values: &ArgMatches<'_>) -> Result<SocketAddr, LineFau
 
 // How many connections a line says.
 fn connections(alloc: Global, values: &ArgMatches<'_>) -> Result<u16, LineFault>
-    ensures ok { IfOk result (meant.SaysCount (rows_of (found_of values.now))) }
-    ensures err { IfErr result (meant.LacksMemory ((n : ℕ)
-        × meant.SaysCount (rows_of (found_of values.now)) n)) }
+    ensures { meant.Reads (meant.SaysCount (rows_of (found_of values.now))) result }
 {
     let text = given(alloc, values, "count")?;
     match count_of(text.as_bytes()) {
@@ -110,9 +101,7 @@ fn connections(alloc: Global, values: &ArgMatches<'_>) -> Result<u16, LineFault>
 
 // How many seconds a line says that a request is waited for, if it says it.
 fn patience(alloc: Global, values: &ArgMatches<'_>) -> Result<Option<u16>, LineFault>
-    ensures ok { IfOk result (meant.SaysPatience (rows_of (found_of values.now))) }
-    ensures err { IfErr result (meant.LacksMemory ((n : Option ℕ)
-        × meant.SaysPatience (rows_of (found_of values.now)) n)) }
+    ensures { meant.Reads (meant.SaysPatience (rows_of (found_of values.now))) result }
 {
     let Some(text) = values.get_str("patience") else {
         return Ok(None);
@@ -129,9 +118,7 @@ fn patience(alloc: Global, values: &ArgMatches<'_>) -> Result<Option<u16>, LineF
 // The address that a line says, if it may be listened at: other machines know a depositor by its
 // ISA alone, so one that they reach wants a word more.
 fn guarded_address(alloc: Global, values: &ArgMatches<'_>) -> Result<SocketAddr, LineFault>
-    ensures ok { IfOk result (meant.IsGuarded (rows_of (found_of values.now))) }
-    ensures err { IfErr result (meant.LacksMemory ((a : _)
-        × meant.IsGuarded (rows_of (found_of values.now)) a)) }
+    ensures { meant.Reads (meant.IsGuarded (rows_of (found_of values.now))) result }
 {
     let address = address(alloc, values)?;
     if address.ip().is_loopback() || has_flag(values, "anyone") {
@@ -145,9 +132,7 @@ fn guarded_address(alloc: Global, values: &ArgMatches<'_>) -> Result<SocketAddr,
 
 /// Where a line says that a book is served, and for how long.
 pub(crate) fn service_of(alloc: Global, values: &ArgMatches<'_>) -> Result<Service, LineFault>
-    ensures ok { IfOk result (meant.SaysService (rows_of (found_of values.now))) }
-    ensures err { IfErr result (meant.LacksMemory ((s : _)
-        × meant.SaysService (rows_of (found_of values.now)) s)) }
+    ensures { meant.Reads (meant.SaysService (rows_of (found_of values.now))) result }
 {
     Ok(Service {
         address: guarded_address(alloc, values)?,
@@ -172,9 +157,7 @@ pub(crate) fn server(
     alloc: Global,
     values: &ArgMatches<'_>,
 ) -> Result<Option<SocketAddr>, LineFault>
-    ensures ok { IfOk result (meant.SaysServer (rows_of (found_of values.now))) }
-    ensures err { IfErr result (meant.LacksMemory ((s : _)
-        × meant.SaysServer (rows_of (found_of values.now)) s)) }
+    ensures { meant.Reads (meant.SaysServer (rows_of (found_of values.now))) result }
 {
     let Some(text) = values.get_str("server") else {
         return Ok(None);
@@ -194,10 +177,7 @@ pub(crate) fn book_of<'a>(
     place: Place,
     values: &ArgMatches<'a>,
 ) -> Result<Option<&'a str>, LineFault>
-    ensures book { IfOk result (meant.SaysBook (rows_of (found_of values.now))) }
-    ensures place { IfOk result (λ book. meant.has_book place book ≡ true) }
-    ensures err { IfErr result
-        (meant.LacksMemory (meant.ReadsBook place (rows_of (found_of values.now)))) }
+    ensures { meant.Reads (meant.NamesBook place (rows_of (found_of values.now))) result }
 {
     let Some(book) = values.get_str("book") else {
         return match place {
@@ -210,9 +190,7 @@ pub(crate) fn book_of<'a>(
 
 /// For how many seconds a line says that a book in use is waited for, if it says it.
 pub(crate) fn wait(alloc: Global, values: &ArgMatches<'_>) -> Result<Option<u16>, LineFault>
-    ensures ok { IfOk result (meant.SaysWait (rows_of (found_of values.now))) }
-    ensures err { IfErr result
-        (meant.LacksMemory (meant.ReadsWait (rows_of (found_of values.now)))) }
+    ensures { meant.Reads (meant.SaysWait (rows_of (found_of values.now))) result }
 {
     let Some(text) = values.get_str("wait") else {
         return Ok(None);
@@ -225,9 +203,7 @@ pub(crate) fn wait(alloc: Global, values: &ArgMatches<'_>) -> Result<Option<u16>
 
 // The fault of a line that has a word which it is to lack.
 fn without(alloc: Global, values: &ArgMatches<'_>, id: &str, fault: &str) -> Result<(), LineFault>
-    ensures ok { IfOk result (λ nothing. meant.Lacks (rows_of (found_of values.now)) id.now) }
-    ensures err { IfErr result
-        (meant.LacksMemory (meant.Lacks (rows_of (found_of values.now)) id.now)) }
+    ensures { meant.Reads (λ nothing. meant.Lacks (rows_of (found_of values.now)) id.now) result }
 {
     match values.get_str(id) {
         None => Ok(()),
@@ -237,9 +213,7 @@ fn without(alloc: Global, values: &ArgMatches<'_>, id: &str, fault: &str) -> Res
 
 /// The fault of a line that asks a server and says what is the server's to say.
 pub(crate) fn leaves_to_server(alloc: Global, values: &ArgMatches<'_>) -> Result<(), LineFault>
-    ensures ok { IfOk result (λ nothing. meant.LeavesToServer (rows_of (found_of values.now))) }
-    ensures err { IfErr result
-        (meant.LacksMemory (meant.LeavesToServer (rows_of (found_of values.now)))) }
+    ensures { meant.Reads (λ nothing. meant.LeavesToServer (rows_of (found_of values.now))) result }
 {
     without(
         alloc,

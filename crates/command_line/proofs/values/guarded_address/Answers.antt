@@ -17,11 +17,14 @@ neither : (rows : List Row) (a : SocketAddr) → (IsLoopback a → ⊥) → has_
 neither rows a far none (inl near) = far near
 neither rows a far none (inr any) = absurd (let d : false ≡ true = sym none ∙ any in cc)
 
-pub returns-clause-err : goal.returns-clause-err
-returns-clause-err c = λ q.
-    let rows = rows_of (found_of c.args.values.now) in
-    let a = c.in_ok-address.address in
-    let same : q.0 ≡ a = one rows q.0 a q.1.0 c.in_ok-address.ensures.ok in
-    let may = subst (MayListen rows) same q.1.1 in
-    let far : IsLoopback a → ⊥ = λ near. search rules in
-    absurd (neither rows a far (sym c.has_flag.ensures ∙ c.if-has_flag.false) may)
+pub returns : goal.returns
+returns c = record {
+  ok = tt;
+  err = λ q.
+      let rows = rows_of (found_of c.args.values.now) in
+      let a = c.in_ok-address.address in
+      let same : q.0 ≡ a = one rows q.0 a q.1.0 c.in_ok-address.ensures.ok in
+      let may = subst (MayListen rows) same q.1.1 in
+      let far : IsLoopback a → ⊥ = λ near. search rules in
+      absurd (neither rows a far (sym c.has_flag.ensures ∙ c.if-has_flag.false) may);
+}

@@ -5,18 +5,25 @@ use Rattle.command_line.specs.Written.{count_of}
 use Rattle.command_line.proofs.AskedLaws.{unread}
 use Rattle.command_line.proofs.values.patience.Goals as goal
 
-pub returns-in_default-clause-ok : goal.returns-in_default-clause-ok
-returns-in_default-clause-ok c =
-    ap (option_map count_of) (sym (first_value-rows (found_of c.args.values.now) (codes "patience")) ∙ sym c.in_default.ensures)
+pub returns-in_default : goal.returns-in_default
+returns-in_default c = record {
+  ok = ap (option_map count_of) (sym (first_value-rows (found_of c.args.values.now) (codes "patience")) ∙ sym c.in_default.ensures);
+  err = tt;
+}
 
-pub returns-in-Some-count_of-clause-ok : goal.returns-in-Some-count_of-clause-ok
-returns-in-Some-count_of-clause-ok c =
-    ap (option_map count_of) (sym (first_value-rows (found_of c.args.values.now) (codes "patience")) ∙ sym c.in-Some.ensures)
-    ∙ ap (λ t. Some (count_of t)) (sym c.as_bytes.ensures.value)
-    ∙ ap Some (sym c.count_of.ensures ∙ c.in-Some-count_of.is)
+pub returns-in-Some-count_of : goal.returns-in-Some-count_of
+returns-in-Some-count_of c = record {
+  ok = ap (option_map count_of) (sym (first_value-rows (found_of c.args.values.now) (codes "patience")) ∙ sym c.in-Some.ensures)
+      ∙ ap (λ t. Some (count_of t)) (sym c.as_bytes.ensures.value)
+      ∙ ap Some (sym c.count_of.ensures ∙ c.in-Some-count_of.is);
+  err = tt;
+}
 
-pub returns-in-None-clause-err : goal.returns-in-None-clause-err
-returns-in-None-clause-err c = λ q.
-    let there = ap (option_map count_of) (sym (first_value-rows (found_of c.args.values.now) (codes "patience")) ∙ sym c.in-Some.ensures) in
-    let none = ap (λ t. Some (count_of t)) (sym c.as_bytes.ensures.value) ∙ ap Some (sym c.count_of.ensures ∙ c.in-None.is) in
-    absurd (unread q.0 (sym (there ∙ none) ∙ q.1))
+pub returns-in-None : goal.returns-in-None
+returns-in-None c = record {
+  ok = tt;
+  err = λ q.
+      let there = ap (option_map count_of) (sym (first_value-rows (found_of c.args.values.now) (codes "patience")) ∙ sym c.in-Some.ensures) in
+      let none = ap (λ t. Some (count_of t)) (sym c.as_bytes.ensures.value) ∙ ap Some (sym c.count_of.ensures ∙ c.in-None.is) in
+      absurd (unread q.0 (sym (there ∙ none) ∙ q.1));
+}

@@ -6,16 +6,22 @@ use Rattle.clap.specs.Matches.{found_of}
 use Rattle.clap.specs.Walk.{Row, Text, first_of, rows_of}
 use Rattle.clap.proofs.WalkLemmas.{first_value-rows}
 use Rattle.command_line.specs.Asked.{SaysServer}
-use Rattle.command_line.proofs.AskedLaws.{handed}
+use Rattle.command_line.proofs.AskedLaws.{reads_on}
 use Rattle.command_line.proofs.values.server.Goals as goal
 
-pub returns-in_default-clause-ok : goal.returns-in_default-clause-ok
-returns-in_default-clause-ok c = sym (first_value-rows (found_of c.args.values.now) (codes "server")) ∙ sym c.in_default.ensures
+pub returns-in_default : goal.returns-in_default
+returns-in_default c = record {
+  ok = sym (first_value-rows (found_of c.args.values.now) (codes "server")) ∙ sym c.in_default.ensures;
+  err = tt;
+}
 
-pub returns-clause-ok : goal.returns-clause-ok
-returns-clause-ok c =
-    let has = sym (first_value-rows (found_of c.args.values.now) (codes "server")) ∙ sym c.in-Some.ensures in
-    (c.in-Some.text.now, has, c.in_ok-address.ensures.ok)
+pub returns : goal.returns
+returns c = record {
+  ok =
+      let has = sym (first_value-rows (found_of c.args.values.now) (codes "server")) ∙ sym c.in-Some.ensures in
+      (c.in-Some.text.now, has, c.in_ok-address.ensures.ok);
+  err = tt;
+}
 
 -- the address of the one text under `--server`
 asked_at : (rows : List Row) (text : Text) (s : Option SocketAddr) → first_of (codes "server") rows ≡ Some text → SaysServer rows s
@@ -25,9 +31,9 @@ asked_at rows text (Some a) has says =
     let same : says.0 ≡ text = ap (λ (o : Option Text). unwrap_or o text) (sym says.1 ∙ has) in
     (a, subst (λ (x : Text). IsSocketText x a) same says.2)
 
-pub returns-in_err-address-clause-err : goal.returns-in_err-address-clause-err
-returns-in_err-address-clause-err c =
+pub returns-in_err-address : goal.returns-in_err-address
+returns-in_err-address c =
     let rows = rows_of (found_of c.args.values.now) in
     let has = sym (first_value-rows (found_of c.args.values.now) (codes "server")) ∙ sym c.in-Some.ensures in
     let same : IsErrAnd c.from_residual.result (λ g. g ≡ c.in_err-address.field-0.0) = search rules in
-    handed c.from_residual.result c.in_err-address.field-0.0 same c.in_err-address.ensures.err (λ q. asked_at rows c.in-Some.text.now q.0 has q.1)
+    reads_on (SaysServer rows) c.from_residual.result c.in_err-address.field-0.0 same c.in_err-address.ensures.err (λ q. asked_at rows c.in-Some.text.now q.0 has q.1)
