@@ -5,7 +5,7 @@ use Rattle.clap.specs.Takes.{takes}
 use Rattle.clap.specs.Walk.{Text}
 use Rattle.clap.proofs.OnLiterals.{clap_on_literals}
 use Rattle.command_line.specs.Lines.{app_at}
-use Rattle.command_line.specs.declared.words.Place.TheVariants.{Script}
+use Rattle.command_line.specs.declared.words.Place.TheVariants.{Program, Script}
 
 abbrev in_a_script : List (List Text)
 in_a_script =
@@ -13,7 +13,8 @@ in_a_script =
     ∷ (codes "enrol" ∷ codes "ZZ-ACME" ∷ codes "--at" ∷ codes "2025-03-04T09:15" ∷ [])
     ∷ (codes "send" ∷ codes "one.x12" ∷ [])
     ∷ (codes "count" ∷ codes "ZZ-ACME" ∷ codes "T1" ∷ codes "SHP1" ∷ codes "one.sheet" ∷ [])
-    ∷ (codes "recount" ∷ codes "--at=2025-03-04T09:15" ∷ codes "ZZ-ACME" ∷ codes "T1" ∷ codes "one.sheet" ∷ [])
+    ∷ (codes "recount" ∷ codes "--at=2025-03-04T09:15" ∷ codes "ZZ-ACME" ∷ codes "T1"
+    ∷ codes "one.sheet" ∷ [])
     ∷ (codes "stock" ∷ codes "ZZ-ACME" ∷ codes "--csv" ∷ [])
     ∷ (codes "outbox" ∷ codes "ZZ-ACME" ∷ codes "--number" ∷ codes "7" ∷ [])
     ∷ (codes "depositors" ∷ []) ∷ []
@@ -27,6 +28,28 @@ not_in_a_script =
     ∷ (codes "stock" ∷ codes "ZZ-ACME" ∷ codes "--cvs" ∷ [])
     ∷ (codes "ship" ∷ codes "ZZ-ACME" ∷ []) ∷ []
 
+abbrev of_the_program : List (List Text)
+of_the_program =
+    (codes "script" ∷ codes "day.txt" ∷ [])
+    ∷ (codes "init" ∷ codes "ZZ-WHSE1" ∷ codes "--book" ∷ codes "harbor.book" ∷ [])
+    ∷ (codes "send" ∷ codes "one.x12" ∷ codes "--book=harbor.book" ∷ codes "--wait"
+    ∷ codes "9" ∷ [])
+    ∷ (codes "pick" ∷ codes "ZZ-ACME" ∷ codes "T1" ∷ codes "ORD1" ∷ codes "one.sheet"
+    ∷ codes "--server" ∷ codes "127.0.0.1:8080" ∷ [])
+    ∷ (codes "serve" ∷ codes "--listen" ∷ codes "127.0.0.1:8080" ∷ codes "--count" ∷ codes "7"
+    ∷ codes "--book" ∷ codes "harbor.book" ∷ codes "--clerks" ∷ [])
+    ∷ (codes "batch" ∷ codes "day.txt" ∷ codes "--book" ∷ codes "harbor.book" ∷ [])
+    ∷ (codes "verify" ∷ codes "--book" ∷ codes "harbor.book" ∷ []) ∷ []
+
+abbrev not_of_the_program : List (List Text)
+not_of_the_program =
+    (codes "init" ∷ codes "ZZ-WHSE1" ∷ [])
+    ∷ (codes "enrol" ∷ codes "ZZ-ACME" ∷ codes "--server" ∷ codes "127.0.0.1:8080" ∷ [])
+    ∷ (codes "script" ∷ codes "day.txt" ∷ codes "--book" ∷ codes "harbor.book" ∷ [])
+    ∷ (codes "serve" ∷ codes "--listen" ∷ codes "127.0.0.1:8080" ∷ codes "--book"
+    ∷ codes "harbor.book" ∷ [])
+    ∷ (codes "verify" ∷ codes "--book" ∷ []) ∷ []
+
 lines_are_taken : list_all (takes (app_at Script)) in_a_script ≡ true
 unfolding clap_on_literals
 lines_are_taken = refl
@@ -34,3 +57,12 @@ lines_are_taken = refl
 lines_are_not_taken : list_all (λ words. not (takes (app_at Script) words)) not_in_a_script ≡ true
 unfolding clap_on_literals
 lines_are_not_taken = refl
+
+the_programs_are_taken : list_all (takes (app_at Program)) of_the_program ≡ true
+unfolding clap_on_literals
+the_programs_are_taken = refl
+
+the_programs_are_not_taken :
+    list_all (λ words. not (takes (app_at Program) words)) not_of_the_program ≡ true
+unfolding clap_on_literals
+the_programs_are_not_taken = refl
