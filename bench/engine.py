@@ -23,7 +23,7 @@ import measure as large  # noqa: E402
 import register  # noqa: E402
 
 COMMANDS = 200
-OWN = re.compile(r"^(books|book_tables|book_statements|running|stops|commands|store)::")
+OWN = re.compile(r"^(books|book_tables|book_statements|running|commands|store)::")
 
 
 def counted(words, wanted):

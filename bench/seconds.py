@@ -5,8 +5,9 @@ Usage: bench/seconds.py CRATE [--cpus 3] [--most 40] [--keep FOLDER] [FLAG ..]
        (default: processor 3, the forty dearest; further flags go to `rattle check`, as `--only CRATE::module` or `--allow-holes`)
 
 The crate is checked over the libraries that earlier runs of `rt ci` on this machine kept (the newest of each), or that bench/libraries.py made, by one job, as the gate does it. Printed
-are rattle's last lines, and the seconds of each function: those between what was checked before it and itself, with the lemmas that it is
-the first to need. With `--keep` what is proved stays in FOLDER and the next run there does only what changed. A first function pays some
+are rattle's last lines, the seconds of each part of all proofs, and those of each function: those between what was checked before it and itself,
+with the lemmas that it is the first to need; after them, where it takes a second or more, those of its search alone (its module `Proof`), which an
+answer would save. With `--keep` what is proved stays in FOLDER and the next run there does only what changed. A first function pays some
 15 seconds for the front end. Other work on the machine makes all of it dearer.
 """
 import collections
@@ -74,16 +75,20 @@ def words_of(crate, deps, folder):
 
 
 def spent(folder, since):
-    """The seconds of each function since a moment, by when its modules were written."""
+    """The seconds since a moment of each function, of each part, and of each function's search, by when their modules were written."""
     rows = [(os.stat(f"{at}/{name}").st_mtime, name) for at, _, names in os.walk(folder) if not at.endswith("/records")
             for name in names if name.endswith(".oantt")]
-    sums, last = collections.Counter(), since
+    sums, kinds, searches, last = collections.Counter(), collections.Counter(), collections.Counter(), since
     for moment, name in sorted(it for it in rows if it[0] > since):
         parts = name.removesuffix(".oantt").split(".")
         cut = next((at for at, it in enumerate(parts) if PARTS.match(it)), len(parts))
+        kind = parts[cut] if cut < len(parts) else "others"
         sums[".".join(parts[:cut])] += moment - last
+        kinds[kind] += moment - last
+        if kind == "Proof":
+            searches[".".join(parts[:cut])] += moment - last
         last = moment
-    return sums
+    return sums, kinds, searches
 
 
 def option(words, name, default):
@@ -109,12 +114,12 @@ def main():
             pass
         run = subprocess.run(["taskset", "-c", cpus, *words_of(crate, crates(), f"{room}/rlib"), "--incremental", kept, *words],
                              stdout=subprocess.PIPE, stderr=subprocess.STDOUT, text=True, errors="replace", check=False)
-        sums = spent(kept, os.stat(begun).st_mtime)
+        sums, kinds, searches = spent(kept, os.stat(begun).st_mtime)
     lines = [it for it in run.stdout.splitlines() if not it.startswith("statements ")]
     print("\n".join(lines[-12:]))
-    print(f"{len(sums)} items, {sum(sums.values()):.0f} seconds")
+    print(f"{len(sums)} items, {sum(sums.values()):.0f} seconds: {', '.join(f'{it} {seconds:.0f}' for it, seconds in kinds.most_common(6))}")
     for name, seconds in sums.most_common(most):
-        print(f"{seconds:7.1f}  {name}")
+        print(f"{seconds:7.1f}  {name}{f'  search {searches[name]:.1f}' if searches[name] >= 1 else ''}")
     return run.returncode
 
 

@@ -23,7 +23,7 @@ KEPT = "/opt/rattle-kept"
 TOP = os.path.dirname(HERE)
 CRATE = "test_calls"
 # What the tests use beside the libraries of `test_calls`.
-MORE = "books stops sqlite sqlite_disk sqlite_trees"
+MORE = "books running sqlite sqlite_disk sqlite_trees"
 # The texts of `test_program` by which books of version 1 are laid.
 VERSION1 = ["tables.sql", "beside.sql", "counted.sql", "ordered.sql", "dated.sql", "order_head.x12", "order_tail.x12", "order_refused.sql"]
 

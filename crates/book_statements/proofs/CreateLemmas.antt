@@ -35,8 +35,9 @@ use Rattle.book_statements.specs.Layout.{book_layout, entry_layout, outgoing_lay
 use Rattle.book_statements.specs.Layout.{first_layouts, first_tables, book_tables, book_trees, rules_tree, expiry_tree, entry_rules_at, lot_expiry_at, IsLayout}
 use Rattle.book_statements.specs.Making.{HasMade, HasBook}
 use Rattle.book_statements.specs.Carrying.{Widens}
-use Rattle.book_statements.proofs.MakingTexts.{at_first}
-use Rattle.book_statements.proofs.MakingTexts.{book_is, book_runs, book_plain, entry_is, entry_runs, entry_plain, outgoing_is, outgoing_runs, outgoing_plain, stock_is, stock_runs, stock_plain, advice_is, advice_runs, advice_plain, advice_line_is, advice_line_runs, advice_line_plain, orders_is, orders_runs, orders_plain, order_line_is, order_line_runs, order_line_plain, reservation_is, reservation_runs, reservation_plain, entry_rules_is, entry_rules_runs, entry_rules_plain, lot_expiry_is, lot_expiry_runs, lot_expiry_plain}
+use Rattle.book_statements.proofs.MakingTexts.{at_first, Makes, compiles, defines}
+use Rattle.book_statements.proofs.MakingTexts.{book_makes, entry_makes, outgoing_makes, stock_makes, advice_makes, advice_line_makes, orders_makes, order_line_makes, reservation_makes, entry_rules_makes, lot_expiry_makes}
+use Rattle.book_statements.proofs.Understood.{command_is, statement_is, plain_is}
 use Rattle.book_statements.proofs.WritingTexts.{insert_book_text}
 use Rattle.book_statements.proofs.Beside.{lies_alone, empty_alone, has_first}
 use Rattle.book_statements.proofs.ListsGrown.{has_last}
@@ -70,6 +71,16 @@ creates sql before after table old new count has is plain_text defined makes lon
       subst (λ (d : Database). CreatesTable before sql old.now.trees after d.trees) (sym now) (subst (λ s. CreatesTable before sql old.now.trees s first.0.trees) schema made),
     )
 
+-- the same under the schema that the tables before it have
+creates_next : (sql : List ℕ) (before after : Schema) (table : Table) (old new : State) (count : ℕ) → old.now.schema ≡ before
+    → Makes before sql table → created before (at_first table) ≡ after → lacks_sequence after ≡ false
+    → Executes sql [] old new (Ok count)
+    → IsDatabase new.now × (new.now.schema ≡ after) × CreatesTable before sql old.now.trees after new.now.trees
+creates_next sql before after table old new count has makes =
+    let is = compiles before sql table makes in
+    creates sql before after (at_first table) old new count has (command_is before sql 0 CreateTable is, statement_is before sql 0 CreateTable is)
+    (plain_is before sql 0 CreateTable is) (defines before sql table makes)
+
 -- the tables that were empty are so still, and so is one more
 empty_after : (ts : List Table) (t : Table) (old new : Trees) → AllByRecursion (λ (u : Table). new u.tree ≡ old u.tree) ts → AllByRecursion (λ (u : Table). old u.tree ≡ []) ts → new t.tree ≡ []
     → AllByRecursion (λ (u : Table). new u.tree ≡ []) (ts ++ t ∷ [])
@@ -85,9 +96,9 @@ empty_still (t ∷ ts) n old new others same was = (same.0 (apart t.tree n other
 pub made_first : (a b c d : State) (m n o : ℕ) → HasMade 0 0 a.now → Executes book_text [] a b (Ok m) → Executes entry_text [] b c (Ok n) → Executes outgoing_text [] c d (Ok o)
     → HasMade 3 3 d.now × IsDatabase d.now
 made_first a b c d m n o was p q r =
-    let x = creates book_text (first_layouts 0 0) (first_layouts 1 0) (at_first book_layout) a b m was.schema book_runs book_plain book_is refl refl p in
-    let y = creates entry_text (first_layouts 1 0) (first_layouts 2 2) (at_first entry_layout) b c n x.1 entry_runs entry_plain entry_is refl refl q in
-    let z = creates outgoing_text (first_layouts 2 2) (first_layouts 3 3) (at_first outgoing_layout) c d o y.1 outgoing_runs outgoing_plain outgoing_is refl refl r in
+    let x = creates_next book_text (first_layouts 0 0) (first_layouts 1 0) book_layout a b m was.schema book_makes refl refl p in
+    let y = creates_next entry_text (first_layouts 1 0) (first_layouts 2 2) entry_layout b c n x.1 entry_makes refl refl q in
+    let z = creates_next outgoing_text (first_layouts 2 2) (first_layouts 3 3) outgoing_layout c d o y.1 outgoing_makes refl refl r in
     let one = empty_after (take 0 book_tables) book_layout a.now.trees b.now.trees x.2.others was.empty x.2.empty in
     let two = empty_after (take 1 book_tables) entry_layout b.now.trees c.now.trees y.2.others one y.2.empty in (
       record {
@@ -100,9 +111,9 @@ made_first a b c d m n o was p q r =
 pub made_second : (a b c d : State) (m n o : ℕ) → HasMade 3 3 a.now → Executes stock_text [] a b (Ok m) → Executes advice_text [] b c (Ok n) → Executes advice_line_text [] c d (Ok o)
     → HasMade 6 6 d.now × IsDatabase d.now
 made_second a b c d m n o was p q r =
-    let x = creates stock_text (first_layouts 3 3) (first_layouts 4 4) (at_first stock_layout) a b m was.schema stock_runs stock_plain stock_is refl refl p in
-    let y = creates advice_text (first_layouts 4 4) (first_layouts 5 5) (at_first advice_layout) b c n x.1 advice_runs advice_plain advice_is refl refl q in
-    let z = creates advice_line_text (first_layouts 5 5) (first_layouts 6 6) (at_first advice_line_layout) c d o y.1 advice_line_runs advice_line_plain advice_line_is refl refl r in
+    let x = creates_next stock_text (first_layouts 3 3) (first_layouts 4 4) stock_layout a b m was.schema stock_makes refl refl p in
+    let y = creates_next advice_text (first_layouts 4 4) (first_layouts 5 5) advice_layout b c n x.1 advice_makes refl refl q in
+    let z = creates_next advice_line_text (first_layouts 5 5) (first_layouts 6 6) advice_line_layout c d o y.1 advice_line_makes refl refl r in
     let one = empty_after (take 3 book_tables) stock_layout a.now.trees b.now.trees x.2.others was.empty x.2.empty in
     let two = empty_after (take 4 book_tables) advice_layout b.now.trees c.now.trees y.2.others one y.2.empty in (
       record {
@@ -115,9 +126,9 @@ made_second a b c d m n o was p q r =
 pub made_third : (a b c d : State) (m n o : ℕ) → HasMade 6 6 a.now → Executes orders_text [] a b (Ok m) → Executes order_line_text [] b c (Ok n) → Executes reservation_text [] c d (Ok o)
     → HasMade 9 9 d.now × IsDatabase d.now
 made_third a b c d m n o was p q r =
-    let x = creates orders_text (first_layouts 6 6) (first_layouts 7 7) (at_first orders_layout) a b m was.schema orders_runs orders_plain orders_is refl refl p in
-    let y = creates order_line_text (first_layouts 7 7) (first_layouts 8 8) (at_first order_line_layout) b c n x.1 order_line_runs order_line_plain order_line_is refl refl q in
-    let z = creates reservation_text (first_layouts 8 8) (first_layouts 9 9) (at_first reservation_layout) c d o y.1 reservation_runs reservation_plain reservation_is refl refl r in
+    let x = creates_next orders_text (first_layouts 6 6) (first_layouts 7 7) orders_layout a b m was.schema orders_makes refl refl p in
+    let y = creates_next order_line_text (first_layouts 7 7) (first_layouts 8 8) order_line_layout b c n x.1 order_line_makes refl refl q in
+    let z = creates_next reservation_text (first_layouts 8 8) (first_layouts 9 9) reservation_layout c d o y.1 reservation_makes refl refl r in
     let one = empty_after (take 6 book_tables) orders_layout a.now.trees b.now.trees x.2.others was.empty x.2.empty in
     let two = empty_after (take 7 book_tables) order_line_layout b.now.trees c.now.trees y.2.others one y.2.empty in (
       record {
@@ -129,8 +140,8 @@ made_third a b c d m n o was p q r =
 
 pub made_fourth : (a b c : State) (m n : ℕ) → HasMade 9 9 a.now → Executes entry_rules_text [] a b (Ok m) → Executes lot_expiry_text [] b c (Ok n) → HasMade 11 10 c.now × IsDatabase c.now
 made_fourth a b c m n was p q =
-    let x = creates entry_rules_text (first_layouts 9 9) (first_layouts 10 9) (at_first entry_rules_layout) a b m was.schema entry_rules_runs entry_rules_plain entry_rules_is refl refl p in
-    let y = creates lot_expiry_text (first_layouts 10 9) (first_layouts 11 10) (at_first lot_expiry_layout) b c n x.1 lot_expiry_runs lot_expiry_plain lot_expiry_is refl refl q in
+    let x = creates_next entry_rules_text (first_layouts 9 9) (first_layouts 10 9) entry_rules_layout a b m was.schema entry_rules_makes refl refl p in
+    let y = creates_next lot_expiry_text (first_layouts 10 9) (first_layouts 11 10) lot_expiry_layout b c n x.1 lot_expiry_makes refl refl q in
     let one = empty_after (take 9 book_tables) entry_rules_layout a.now.trees b.now.trees x.2.others was.empty x.2.empty in (
       record {
         schema = y.1;
@@ -163,9 +174,9 @@ widened a b c m n p q f was =
     let s = a.now.schema in
     let one = created s (entry_rules_at 0) in
     let lone = still_counted s (entry_rules_at 0) refl lies.counted in
-    let x = creates_any entry_rules_text (entry_rules_at 0) a b m (entry_rules_made s) entry_rules_is lone p in
+    let x = creates_any entry_rules_text (entry_rules_at 0) a b m (entry_rules_made s) (defines (first_layouts 9 9) entry_rules_text entry_rules_layout entry_rules_makes) lone p in
     let lone_too = subst (λ (z : Schema). lacks_sequence (created z (lot_expiry_at 0)) ≡ false) (sym x.1) (still_counted one (lot_expiry_at 0) refl lone) in
-    let y = creates_any lot_expiry_text (lot_expiry_at 0) b c n (lot_expiry_made b.now.schema) lot_expiry_is lone_too q in
+    let y = creates_any lot_expiry_text (lot_expiry_at 0) b c n (lot_expiry_made b.now.schema) (defines (first_layouts 10 9) lot_expiry_text lot_expiry_layout lot_expiry_makes) lone_too q in
     let two = created one (lot_expiry_at 0) in
     let last : c.now.schema ≡ two = y.1 ∙ ap (λ (z : Schema). created z (lot_expiry_at 0)) x.1 in
     let free_too = subst (λ (z : Schema). is_used z (codes "lot_expiry") ≡ false) x.1 y.3 in

@@ -12,6 +12,7 @@ use Rattle.sqlite.specs.Listing.{understood, reads_listing}
 use Rattle.sqlite.proofs.Callers.{command_of}
 use Rattle.book_statements.specs.Asking.{OnlyReads}
 use Rattle.book_statements.specs.Layout.{Others, beside}
+use Rattle.book_statements.proofs.Understood.{Compiles, query_is}
 use Rattle.book_statements.proofs.ReadingTexts.{ordered_from}
 use Rattle.book_statements.proofs.WritingTexts.{where_key}
 use Rattle.book_statements.proofs.Selects.{query_reads}
@@ -24,9 +25,12 @@ under_text = codes "SELECT seq FROM entry WHERE who = ?1 AND mark = ?2 ORDER BY 
 abbrev pub under_query : Query
 under_query = ordered_from 1 (op2 (Compare Eq Binary) (col 1 2) (col 0 0) ∷ op2 (Compare Eq Binary) (col 1 3) (col 0 1) ∷ []) (col 1 0 ∷ []) ((col 1 0, ascending Binary) ∷ [])
 
+under_compiles : (others : Others) → Compiles (beside others) under_text 2 (Select (record { lets = []; body = under_query }) (codes "seq" ∷ []))
+unfolding everything
+under_compiles others = refl
+
 pub under_is : (others : Others) → (command_of (understood (beside others) under_text) ≡ Select (record { lets = []; body = under_query }) (codes "seq" ∷ [])) × (reads_listing (beside others) under_text ≡ false)
-unfolding understood everything
-under_is others = (refl, refl)
+under_is others = query_is (beside others) under_text 2 _ _ (under_compiles others)
 
 pub under_reads : OnlyReads under_text
 unfolding everything
@@ -40,9 +44,12 @@ content_text = codes "SELECT content FROM outgoing WHERE who = ?1 AND n = ?2"
 abbrev pub content_query : Query
 content_query = ordered_from 4 (where_key 0 2) (col 1 4 ∷ []) []
 
+content_compiles : (others : Others) → Compiles (beside others) content_text 2 (Select (record { lets = []; body = content_query }) (codes "content" ∷ []))
+unfolding everything
+content_compiles others = refl
+
 pub content_is : (others : Others) → (command_of (understood (beside others) content_text) ≡ Select (record { lets = []; body = content_query }) (codes "content" ∷ [])) × (reads_listing (beside others) content_text ≡ false)
-unfolding understood everything
-content_is others = (refl, refl)
+content_is others = query_is (beside others) content_text 2 _ _ (content_compiles others)
 
 pub content_reads : OnlyReads content_text
 unfolding everything

@@ -3,6 +3,7 @@ pub mod Rising
 pub mod DateLemmas
 pub mod Ordered
 pub mod ShowingTexts
+mod Understood
 mod MakingTexts
 pub mod Values
 mod PutLemmas

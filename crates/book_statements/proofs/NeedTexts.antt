@@ -13,6 +13,7 @@ use Rattle.sqlite.specs.Listing.{understood, reads_listing}
 use Rattle.sqlite.proofs.Callers.{command_of}
 use Rattle.book_statements.specs.Asking.{OnlyReads}
 use Rattle.book_statements.specs.Layout.{Others, beside}
+use Rattle.book_statements.proofs.Understood.{Compiles, query_is}
 use Rattle.book_statements.proofs.ShowingTexts.{rising, lots_columns, lots_names, dates_columns, pair_order}
 use Rattle.book_statements.proofs.Selects.{query_reads}
 
@@ -44,9 +45,12 @@ Reads text query names others = (command_of (understood (beside others) text) �
 abbrev pub lots_text : List ℕ
 lots_text = codes "SELECT item, lot, since, expected, on_hand, reserved, shipped FROM stock WHERE who = ?1 AND item = ?2 ORDER BY item, lot"
 
+lots_compiles : (others : Others) → Compiles (beside others) lots_text 2 (Select (record { lets = []; body = under_where 6 lots_columns pair_order }) lots_names)
+unfolding everything
+lots_compiles others = refl
+
 pub lots_is : (others : Others) → Reads lots_text (under_where 6 lots_columns pair_order) lots_names others
-unfolding understood everything
-lots_is others = (refl, refl)
+lots_is others = query_is (beside others) lots_text 2 _ _ (lots_compiles others)
 
 pub lots_reads : OnlyReads lots_text
 unfolding everything
@@ -75,9 +79,12 @@ advice_columns = col 1 2 ∷ col 1 3 ∷ col 1 4 ∷ []
 abbrev pub advice_names : List (List ℕ)
 advice_names = codes "shipment" ∷ codes "ord" ∷ codes "is_open" ∷ []
 
+advice_compiles : (others : Others) → Compiles (beside others) advice_text 2 (Select (record { lets = []; body = under_where 8 advice_columns [] }) advice_names)
+unfolding everything
+advice_compiles others = refl
+
 pub advice_is : (others : Others) → Reads advice_text (under_where 8 advice_columns []) advice_names others
-unfolding understood everything
-advice_is others = (refl, refl)
+advice_is others = query_is (beside others) advice_text 2 _ _ (advice_compiles others)
 
 pub advice_reads : OnlyReads advice_text
 unfolding everything
@@ -95,9 +102,12 @@ line_order = rising 3 ∷ []
 abbrev pub advice_lines_text : List ℕ
 advice_lines_text = codes "SELECT item, lot, quantity FROM advice_line WHERE who = ?1 AND shipment = ?2 ORDER BY line"
 
+advice_lines_compiles : (others : Others) → Compiles (beside others) advice_lines_text 2 (Select (record { lets = []; body = under_where 10 line_columns line_order }) line_names)
+unfolding everything
+advice_lines_compiles others = refl
+
 pub advice_lines_is : (others : Others) → Reads advice_lines_text (under_where 10 line_columns line_order) line_names others
-unfolding understood everything
-advice_lines_is others = (refl, refl)
+advice_lines_is others = query_is (beside others) advice_lines_text 2 _ _ (advice_lines_compiles others)
 
 pub advice_lines_reads : OnlyReads advice_lines_text
 unfolding everything
@@ -114,9 +124,12 @@ order_columns = col 1 2 ∷ col 1 3 ∷ col 1 4 ∷ col 1 5 ∷ col 1 6 ∷ col 
 abbrev pub order_names : List (List ℕ)
 order_names = codes "ord" ∷ codes "is_open" ∷ codes "to_name" ∷ codes "to_one" ∷ codes "to_two" ∷ codes "to_place" ∷ []
 
+order_compiles : (others : Others) → Compiles (beside others) order_text 2 (Select (record { lets = []; body = under_where 12 order_columns [] }) order_names)
+unfolding everything
+order_compiles others = refl
+
 pub order_is : (others : Others) → Reads order_text (under_where 12 order_columns []) order_names others
-unfolding understood everything
-order_is others = (refl, refl)
+order_is others = query_is (beside others) order_text 2 _ _ (order_compiles others)
 
 pub order_reads : OnlyReads order_text
 unfolding everything
@@ -125,9 +138,12 @@ order_reads = query_reads order_text (λ schema base. refl)
 abbrev pub order_lines_text : List ℕ
 order_lines_text = codes "SELECT item, lot, quantity FROM order_line WHERE who = ?1 AND ord = ?2 ORDER BY line"
 
+order_lines_compiles : (others : Others) → Compiles (beside others) order_lines_text 2 (Select (record { lets = []; body = under_where 14 line_columns line_order }) line_names)
+unfolding everything
+order_lines_compiles others = refl
+
 pub order_lines_is : (others : Others) → Reads order_lines_text (under_where 14 line_columns line_order) line_names others
-unfolding understood everything
-order_lines_is others = (refl, refl)
+order_lines_is others = query_is (beside others) order_lines_text 2 _ _ (order_lines_compiles others)
 
 pub order_lines_reads : OnlyReads order_lines_text
 unfolding everything
@@ -142,9 +158,12 @@ reserved_columns = col 1 3 ∷ col 1 4 ∷ col 1 5 ∷ []
 abbrev pub reserved_order : List (Term × Key)
 reserved_order = rising 3 ∷ rising 4 ∷ []
 
+reserved_compiles : (others : Others) → Compiles (beside others) reserved_text 2 (Select (record { lets = []; body = under_where 16 reserved_columns reserved_order }) line_names)
+unfolding everything
+reserved_compiles others = refl
+
 pub reserved_is : (others : Others) → Reads reserved_text (under_where 16 reserved_columns reserved_order) line_names others
-unfolding understood everything
-reserved_is others = (refl, refl)
+reserved_is others = query_is (beside others) reserved_text 2 _ _ (reserved_compiles others)
 
 pub reserved_reads : OnlyReads reserved_text
 unfolding everything
@@ -158,9 +177,12 @@ sent_text = codes "SELECT kind, state FROM outgoing WHERE who = ?1 AND n = ?2"
 abbrev pub sent_columns : List Term
 sent_columns = col 1 3 ∷ col 1 5 ∷ []
 
+sent_compiles : (others : Others) → Compiles (beside others) sent_text 2 (Select (record { lets = []; body = under_where 4 sent_columns [] }) (codes "kind" ∷ codes "state" ∷ []))
+unfolding everything
+sent_compiles others = refl
+
 pub sent_is : (others : Others) → Reads sent_text (under_where 4 sent_columns []) (codes "kind" ∷ codes "state" ∷ []) others
-unfolding understood everything
-sent_is others = (refl, refl)
+sent_is others = query_is (beside others) sent_text 2 _ _ (sent_compiles others)
 
 pub sent_reads : OnlyReads sent_text
 unfolding everything

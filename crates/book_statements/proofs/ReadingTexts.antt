@@ -10,6 +10,7 @@ use Rattle.sqlite.specs.Listing.{understood, reads_listing}
 use Rattle.sqlite.proofs.Callers.{command_of}
 use Rattle.book_statements.specs.Layout.{Others, beside}
 use Rattle.book_statements.specs.Asking.{OnlyReads, house_text}
+use Rattle.book_statements.proofs.Understood.{Compiles, query_is}
 use Rattle.book_statements.proofs.Selects.{query_reads}
 
 -- the rows of a table that pass, as these terms, in an order
@@ -34,9 +35,12 @@ count_text = codes "SELECT seq FROM entry"
 abbrev pub count_query : Query
 count_query = ordered_from 1 [] (col 1 0 ∷ []) []
 
+count_compiles : (others : Others) → Compiles (beside others) count_text 0 (Select (record { lets = []; body = count_query }) (codes "seq" ∷ []))
+unfolding everything
+count_compiles others = refl
+
 pub count_is : (others : Others) → (command_of (understood (beside others) count_text) ≡ Select (record { lets = []; body = count_query }) (codes "seq" ∷ [])) × (reads_listing (beside others) count_text ≡ false)
-unfolding understood everything
-count_is others = (refl, refl)
+count_is others = query_is (beside others) count_text 0 _ _ (count_compiles others)
 
 pub count_reads : OnlyReads count_text
 unfolding everything
@@ -47,9 +51,12 @@ count_reads = query_reads count_text (λ schema base. refl)
 abbrev pub house_query : Query
 house_query = ordered_from 0 [] (col 1 1 ∷ col 1 2 ∷ col 1 3 ∷ []) []
 
+house_compiles : (others : Others) → Compiles (beside others) house_text 0 (Select (record { lets = []; body = house_query }) (codes "version" ∷ codes "qualifier" ∷ codes "id" ∷ []))
+unfolding everything
+house_compiles others = refl
+
 pub house_is : (others : Others) → (command_of (understood (beside others) house_text) ≡ Select (record { lets = []; body = house_query }) (codes "version" ∷ codes "qualifier" ∷ codes "id" ∷ [])) × (reads_listing (beside others) house_text ≡ false)
-unfolding understood everything
-house_is others = (refl, refl)
+house_is others = query_is (beside others) house_text 0 _ _ (house_compiles others)
 
 pub house_reads : OnlyReads house_text
 unfolding everything

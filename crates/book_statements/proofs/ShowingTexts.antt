@@ -14,6 +14,7 @@ use Rattle.sqlite.specs.Listing.{understood, reads_listing}
 use Rattle.sqlite.proofs.Callers.{command_of}
 use Rattle.book_statements.specs.Asking.{OnlyReads}
 use Rattle.book_statements.specs.Layout.{Others, beside}
+use Rattle.book_statements.proofs.Understood.{Compiles, query_is}
 use Rattle.book_statements.proofs.WritingTexts.{where_key}
 use Rattle.book_statements.proofs.Selects.{query_reads}
 
@@ -60,9 +61,12 @@ all_lots_text = codes "SELECT item, lot, since, expected, on_hand, reserved, shi
 abbrev pub all_lots_query : Query
 all_lots_query = shown_where 6 lots_columns pair_order
 
+all_lots_compiles : (others : Others) → Compiles (beside others) all_lots_text 1 (Select (record { lets = []; body = all_lots_query }) lots_names)
+unfolding everything
+all_lots_compiles others = refl
+
 pub all_lots_is : (others : Others) → (command_of (understood (beside others) all_lots_text) ≡ Select (record { lets = []; body = all_lots_query }) lots_names) × (reads_listing (beside others) all_lots_text ≡ false)
-unfolding understood everything
-all_lots_is others = (refl, refl)
+all_lots_is others = query_is (beside others) all_lots_text 1 _ _ (all_lots_compiles others)
 
 pub all_lots_reads : OnlyReads all_lots_text
 unfolding everything
@@ -97,9 +101,12 @@ outbox_query = shown_where 4 outbox_columns outbox_order
 abbrev pub outbox_names : List (List ℕ)
 outbox_names = codes "n" ∷ codes "kind" ∷ codes "content" ∷ codes "state" ∷ []
 
+outbox_compiles : (others : Others) → Compiles (beside others) outbox_text 1 (Select (record { lets = []; body = outbox_query }) outbox_names)
+unfolding everything
+outbox_compiles others = refl
+
 pub outbox_is : (others : Others) → (command_of (understood (beside others) outbox_text) ≡ Select (record { lets = []; body = outbox_query }) outbox_names) × (reads_listing (beside others) outbox_text ≡ false)
-unfolding understood everything
-outbox_is others = (refl, refl)
+outbox_is others = query_is (beside others) outbox_text 1 _ _ (outbox_compiles others)
 
 pub outbox_reads : OnlyReads outbox_text
 unfolding everything
@@ -123,9 +130,12 @@ has_query = record {
   offset = lit (Int (pos 0));
 }
 
+has_compiles : (others : Others) → Compiles (beside others) has_text 1 (Select (record { lets = []; body = has_query }) (codes "seq" ∷ []))
+unfolding everything
+has_compiles others = refl
+
 pub has_is : (others : Others) → (command_of (understood (beside others) has_text) ≡ Select (record { lets = []; body = has_query }) (codes "seq" ∷ [])) × (reads_listing (beside others) has_text ≡ false)
-unfolding understood everything
-has_is others = (refl, refl)
+has_is others = query_is (beside others) has_text 1 _ _ (has_compiles others)
 
 pub has_reads : OnlyReads has_text
 unfolding everything

@@ -18,6 +18,7 @@ use Rattle.book_statements.specs.declared.names.TableName.TheVariants.{Book, Ent
 use Rattle.book_statements.specs.Whole.{whole_text}
 use Rattle.book_statements.specs.Layout.{Others, beside, IsLayout, tree_in, rules_tree, expiry_tree}
 use Rattle.book_statements.specs.Standing.{Keying, Alone, ByRowid, ByColumns, keying_of, layout_of, width_of, tree_of}
+use Rattle.book_statements.proofs.Understood.{Compiles, query_is}
 use Rattle.book_statements.proofs.KeyLemmas.{places}
 use Rattle.book_statements.proofs.ReadingTexts.{ordered_from}
 use Rattle.book_statements.proofs.Beside.{under}
@@ -91,19 +92,23 @@ over_its_tree t = refl
 abbrev IsWhole : TableName → Schema → Type 0
 IsWhole t schema = (command_of (understood schema (whole_text t)) ≡ Select (record { lets = []; body = from_tree (tree_in schema (tree_of t)) (whole_query t) }) (whole_names t)) × (reads_listing schema (whole_text t) ≡ false)
 
+-- a table of version 1 has a tree that no schema moves
+first_compiles : (t : TableName) → IsFirst t → (others : Others) → Compiles (beside others) (whole_text t) 0 (Select (record { lets = []; body = from_tree (tree_in (beside others) (tree_of t)) (whole_query t) }) (whole_names t))
+unfolding everything
+first_compiles Book first others = refl
+first_compiles Entry first others = refl
+first_compiles Outgoing first others = refl
+first_compiles Stock first others = refl
+first_compiles Advice first others = refl
+first_compiles AdviceLine first others = refl
+first_compiles Orders first others = refl
+first_compiles OrderLine first others = refl
+first_compiles Reservation first others = refl
+first_compiles EntryRules first others = absurd first
+first_compiles LotExpiry first others = absurd first
+
 first_whole : (t : TableName) → IsFirst t → (others : Others) → IsWhole t (beside others)
-unfolding understood everything
-first_whole Book first others = (refl, refl)
-first_whole Entry first others = (refl, refl)
-first_whole Outgoing first others = (refl, refl)
-first_whole Stock first others = (refl, refl)
-first_whole Advice first others = (refl, refl)
-first_whole AdviceLine first others = (refl, refl)
-first_whole Orders first others = (refl, refl)
-first_whole OrderLine first others = (refl, refl)
-first_whole Reservation first others = (refl, refl)
-first_whole EntryRules first others = absurd first
-first_whole LotExpiry first others = absurd first
+first_whole t first others = query_is (beside others) (whole_text t) 0 _ _ (first_compiles t first others)
 
 pub whole_is : (t : TableName) (schema : Schema) → IsLayout schema → IsWhole t schema
 whole_is Book schema lies = under (IsWhole Book) schema lies (first_whole Book tt)

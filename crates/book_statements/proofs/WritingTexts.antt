@@ -15,6 +15,7 @@ use Rattle.sqlite.specs.Listing.{understood}
 use Rattle.sqlite.specs.Given.{IsPlain}
 use Rattle.sqlite.proofs.Callers.{command_of}
 use Rattle.book_statements.specs.Layout.{Others, beside}
+use Rattle.book_statements.proofs.Understood.{Compiles, command_is, plain_is}
 
 -- so many columns of a slot: 0 has the parameters, 1 the row
 abbrev pub columns_of : ℕ → ℕ → ℕ → List Term
@@ -60,68 +61,80 @@ on_conflict key query = record { target = Some key; update = Some (record { lets
 abbrev pub put_stock_text : List ℕ
 put_stock_text = codes "INSERT INTO stock (who, item, lot, since, expected, on_hand, reserved, shipped) VALUES (?1, ?2, ?3, ?4, ?5, ?6, ?7, ?8) ON CONFLICT (who, item, lot) DO UPDATE SET since = ?4, expected = ?5, on_hand = ?6, reserved = ?7, shipped = ?8"
 
+put_stock_compiles : (others : Others) → Compiles (beside others) put_stock_text 8 (InsertOr 3 Abort (Values (source 8) 9) (on_conflict (1 ∷ 2 ∷ 3 ∷ []) (update_query 6 3 8) ∷ []))
+unfolding everything
+put_stock_compiles others = refl
+
 pub put_stock_is : (others : Others) → command_of (understood (beside others) put_stock_text) ≡ InsertOr 3 Abort (Values (source 8) 9) (on_conflict (1 ∷ 2 ∷ 3 ∷ []) (update_query 6 3 8) ∷ [])
-unfolding understood everything
-put_stock_is others = refl
+put_stock_is others = command_is (beside others) put_stock_text 8 _ (put_stock_compiles others)
 
 pub put_stock_plain : (others : Others) → IsPlain (understood (beside others) put_stock_text)
-unfolding understood everything
-put_stock_plain others = (refl, refl)
+put_stock_plain others = plain_is (beside others) put_stock_text 8 _ (put_stock_compiles others)
 
 abbrev pub put_advice_text : List ℕ
 put_advice_text = codes "INSERT INTO advice (who, shipment, ord, is_open) VALUES (?1, ?2, ?3, ?4) ON CONFLICT (who, shipment) DO UPDATE SET ord = ?3, is_open = ?4"
 
+put_advice_compiles : (others : Others) → Compiles (beside others) put_advice_text 4 (InsertOr 4 Abort (Values (source 4) 5) (on_conflict (1 ∷ 2 ∷ []) (update_query 8 2 4) ∷ []))
+unfolding everything
+put_advice_compiles others = refl
+
 pub put_advice_is : (others : Others) → command_of (understood (beside others) put_advice_text) ≡ InsertOr 4 Abort (Values (source 4) 5) (on_conflict (1 ∷ 2 ∷ []) (update_query 8 2 4) ∷ [])
-unfolding understood everything
-put_advice_is others = refl
+put_advice_is others = command_is (beside others) put_advice_text 4 _ (put_advice_compiles others)
 
 pub put_advice_plain : (others : Others) → IsPlain (understood (beside others) put_advice_text)
-unfolding understood everything
-put_advice_plain others = (refl, refl)
+put_advice_plain others = plain_is (beside others) put_advice_text 4 _ (put_advice_compiles others)
 
 abbrev pub put_advice_line_text : List ℕ
 put_advice_line_text = codes "INSERT INTO advice_line (who, shipment, line, item, lot, quantity) VALUES (?1, ?2, ?3, ?4, ?5, ?6) ON CONFLICT (who, shipment, line) DO UPDATE SET item = ?4, lot = ?5, quantity = ?6"
 
+put_advice_line_compiles : (others : Others) → Compiles (beside others) put_advice_line_text 6 (InsertOr 5 Abort (Values (source 6) 7) (on_conflict (1 ∷ 2 ∷ 3 ∷ []) (update_query 10 3 6) ∷ []))
+unfolding everything
+put_advice_line_compiles others = refl
+
 pub put_advice_line_is : (others : Others) → command_of (understood (beside others) put_advice_line_text) ≡ InsertOr 5 Abort (Values (source 6) 7) (on_conflict (1 ∷ 2 ∷ 3 ∷ []) (update_query 10 3 6) ∷ [])
-unfolding understood everything
-put_advice_line_is others = refl
+put_advice_line_is others = command_is (beside others) put_advice_line_text 6 _ (put_advice_line_compiles others)
 
 pub put_advice_line_plain : (others : Others) → IsPlain (understood (beside others) put_advice_line_text)
-unfolding understood everything
-put_advice_line_plain others = (refl, refl)
+put_advice_line_plain others = plain_is (beside others) put_advice_line_text 6 _ (put_advice_line_compiles others)
 
 abbrev pub put_orders_text : List ℕ
 put_orders_text = codes "INSERT INTO orders (who, ord, is_open, to_name, to_one, to_two, to_place) VALUES (?1, ?2, ?3, ?4, ?5, ?6, ?7) ON CONFLICT (who, ord) DO UPDATE SET is_open = ?3, to_name = ?4, to_one = ?5, to_two = ?6, to_place = ?7"
 
+put_orders_compiles : (others : Others) → Compiles (beside others) put_orders_text 7 (InsertOr 6 Abort (Values (source 7) 8) (on_conflict (1 ∷ 2 ∷ []) (update_query 12 2 7) ∷ []))
+unfolding everything
+put_orders_compiles others = refl
+
 pub put_orders_is : (others : Others) → command_of (understood (beside others) put_orders_text) ≡ InsertOr 6 Abort (Values (source 7) 8) (on_conflict (1 ∷ 2 ∷ []) (update_query 12 2 7) ∷ [])
-unfolding understood everything
-put_orders_is others = refl
+put_orders_is others = command_is (beside others) put_orders_text 7 _ (put_orders_compiles others)
 
 pub put_orders_plain : (others : Others) → IsPlain (understood (beside others) put_orders_text)
-unfolding understood everything
-put_orders_plain others = (refl, refl)
+put_orders_plain others = plain_is (beside others) put_orders_text 7 _ (put_orders_compiles others)
 
 abbrev pub put_order_line_text : List ℕ
 put_order_line_text = codes "INSERT INTO order_line (who, ord, line, item, lot, quantity) VALUES (?1, ?2, ?3, ?4, ?5, ?6) ON CONFLICT (who, ord, line) DO UPDATE SET item = ?4, lot = ?5, quantity = ?6"
 
+put_order_line_compiles : (others : Others) → Compiles (beside others) put_order_line_text 6 (InsertOr 7 Abort (Values (source 6) 7) (on_conflict (1 ∷ 2 ∷ 3 ∷ []) (update_query 14 3 6) ∷ []))
+unfolding everything
+put_order_line_compiles others = refl
+
 pub put_order_line_is : (others : Others) → command_of (understood (beside others) put_order_line_text) ≡ InsertOr 7 Abort (Values (source 6) 7) (on_conflict (1 ∷ 2 ∷ 3 ∷ []) (update_query 14 3 6) ∷ [])
-unfolding understood everything
-put_order_line_is others = refl
+put_order_line_is others = command_is (beside others) put_order_line_text 6 _ (put_order_line_compiles others)
 
 pub put_order_line_plain : (others : Others) → IsPlain (understood (beside others) put_order_line_text)
-unfolding understood everything
-put_order_line_plain others = (refl, refl)
+put_order_line_plain others = plain_is (beside others) put_order_line_text 6 _ (put_order_line_compiles others)
 
 abbrev pub put_reservation_text : List ℕ
 put_reservation_text = codes "INSERT INTO reservation (who, ord, item, lot, quantity) VALUES (?1, ?2, ?3, ?4, ?5) ON CONFLICT (who, ord, item, lot) DO UPDATE SET quantity = ?5"
 
+put_reservation_compiles : (others : Others) → Compiles (beside others) put_reservation_text 5 (InsertOr 8 Abort (Values (source 5) 6) (on_conflict (1 ∷ 2 ∷ 3 ∷ 4 ∷ []) (update_query 16 4 5) ∷ []))
+unfolding everything
+put_reservation_compiles others = refl
+
 pub put_reservation_is : (others : Others) → command_of (understood (beside others) put_reservation_text) ≡ InsertOr 8 Abort (Values (source 5) 6) (on_conflict (1 ∷ 2 ∷ 3 ∷ 4 ∷ []) (update_query 16 4 5) ∷ [])
-unfolding understood everything
-put_reservation_is others = refl
+put_reservation_is others = command_is (beside others) put_reservation_text 5 _ (put_reservation_compiles others)
 
 pub put_reservation_plain : (others : Others) → IsPlain (understood (beside others) put_reservation_text)
-unfolding understood everything
-put_reservation_plain others = (refl, refl)
+put_reservation_plain others = plain_is (beside others) put_reservation_text 5 _ (put_reservation_compiles others)
 
 abbrev pub put_expiry_text : List ℕ
 put_expiry_text = codes "INSERT INTO lot_expiry (who, item, lot, expiry) VALUES (?1, ?2, ?3, ?4) ON CONFLICT (who, item, lot) DO UPDATE SET expiry = ?4"
@@ -131,35 +144,41 @@ put_expiry_text = codes "INSERT INTO lot_expiry (who, item, lot, expiry) VALUES 
 abbrev pub insert_book_text : List ℕ
 insert_book_text = codes "INSERT INTO book (version, qualifier, id) VALUES (?1, ?2, ?3)"
 
+insert_book_compiles : (others : Others) → Compiles (beside others) insert_book_text 3 (Insert 0 (Values (source 3) 4))
+unfolding everything
+insert_book_compiles others = refl
+
 pub insert_book_is : (others : Others) → command_of (understood (beside others) insert_book_text) ≡ Insert 0 (Values (source 3) 4)
-unfolding understood everything
-insert_book_is others = refl
+insert_book_is others = command_is (beside others) insert_book_text 3 _ (insert_book_compiles others)
 
 pub insert_book_plain : (others : Others) → IsPlain (understood (beside others) insert_book_text)
-unfolding understood everything
-insert_book_plain others = (refl, refl)
+insert_book_plain others = plain_is (beside others) insert_book_text 3 _ (insert_book_compiles others)
 
 abbrev pub insert_entry_text : List ℕ
 insert_entry_text = codes "INSERT INTO entry (seq, who, mark, n, moment, body) VALUES (?1, ?2, ?3, ?4, ?5, ?6)"
 
+insert_entry_compiles : (others : Others) → Compiles (beside others) insert_entry_text 6 (Insert 1 (Values (col 0 0 ∷ lit Null ∷ columns_of 0 1 5) 7))
+unfolding everything
+insert_entry_compiles others = refl
+
 pub insert_entry_is : (others : Others) → command_of (understood (beside others) insert_entry_text) ≡ Insert 1 (Values (col 0 0 ∷ lit Null ∷ columns_of 0 1 5) 7)
-unfolding understood everything
-insert_entry_is others = refl
+insert_entry_is others = command_is (beside others) insert_entry_text 6 _ (insert_entry_compiles others)
 
 pub insert_entry_plain : (others : Others) → IsPlain (understood (beside others) insert_entry_text)
-unfolding understood everything
-insert_entry_plain others = (refl, refl)
+insert_entry_plain others = plain_is (beside others) insert_entry_text 6 _ (insert_entry_compiles others)
 
 abbrev pub insert_outgoing_text : List ℕ
 insert_outgoing_text = codes "INSERT INTO outgoing (who, n, kind, content, state) VALUES (?1, ?2, ?3, ?4, ?5)"
 
+insert_outgoing_compiles : (others : Others) → Compiles (beside others) insert_outgoing_text 5 (Insert 2 (Values (source 5) 6))
+unfolding everything
+insert_outgoing_compiles others = refl
+
 pub insert_outgoing_is : (others : Others) → command_of (understood (beside others) insert_outgoing_text) ≡ Insert 2 (Values (source 5) 6)
-unfolding understood everything
-insert_outgoing_is others = refl
+insert_outgoing_is others = command_is (beside others) insert_outgoing_text 5 _ (insert_outgoing_compiles others)
 
 pub insert_outgoing_plain : (others : Others) → IsPlain (understood (beside others) insert_outgoing_text)
-unfolding understood everything
-insert_outgoing_plain others = (refl, refl)
+insert_outgoing_plain others = plain_is (beside others) insert_outgoing_text 5 _ (insert_outgoing_compiles others)
 
 abbrev pub insert_rules_text : List ℕ
 insert_rules_text = codes "INSERT INTO entry_rules (seq, rules) VALUES (?1, ?2)"
@@ -172,13 +191,15 @@ set_version_text = codes "UPDATE book SET version = ?1"
 abbrev pub set_version_query : Query
 set_version_query = from_where 0 [] (col 1 0 ∷ col 1 0 ∷ col 0 0 ∷ columns_of 1 2 2)
 
+set_version_compiles : (others : Others) → Compiles (beside others) set_version_text 1 (Update 0 (record { lets = []; body = set_version_query }))
+unfolding everything
+set_version_compiles others = refl
+
 pub set_version_is : (others : Others) → command_of (understood (beside others) set_version_text) ≡ Update 0 (record { lets = []; body = set_version_query })
-unfolding understood everything
-set_version_is others = refl
+set_version_is others = command_is (beside others) set_version_text 1 _ (set_version_compiles others)
 
 pub set_version_plain : (others : Others) → IsPlain (understood (beside others) set_version_text)
-unfolding understood everything
-set_version_plain others = (refl, refl)
+set_version_plain others = plain_is (beside others) set_version_text 1 _ (set_version_compiles others)
 
 abbrev pub set_state_text : List ℕ
 set_state_text = codes "UPDATE outgoing SET state = ?3 WHERE who = ?1 AND n = ?2"
@@ -186,13 +207,15 @@ set_state_text = codes "UPDATE outgoing SET state = ?3 WHERE who = ?1 AND n = ?2
 abbrev pub set_state_query : Query
 set_state_query = from_where 4 (where_key 0 2) (col 1 0 ∷ columns_of 1 0 5 ++ col 0 2 ∷ [])
 
+set_state_compiles : (others : Others) → Compiles (beside others) set_state_text 3 (Update 2 (record { lets = []; body = set_state_query }))
+unfolding everything
+set_state_compiles others = refl
+
 pub set_state_is : (others : Others) → command_of (understood (beside others) set_state_text) ≡ Update 2 (record { lets = []; body = set_state_query })
-unfolding understood everything
-set_state_is others = refl
+set_state_is others = command_is (beside others) set_state_text 3 _ (set_state_compiles others)
 
 pub set_state_plain : (others : Others) → IsPlain (understood (beside others) set_state_text)
-unfolding understood everything
-set_state_plain others = (refl, refl)
+set_state_plain others = plain_is (beside others) set_state_text 3 _ (set_state_compiles others)
 
 abbrev pub free_text : List ℕ
 free_text = codes "DELETE FROM reservation WHERE who = ?1 AND ord = ?2"
@@ -200,10 +223,12 @@ free_text = codes "DELETE FROM reservation WHERE who = ?1 AND ord = ?2"
 abbrev pub free_query : Query
 free_query = from_where 16 (where_key 0 2) (col 1 0 ∷ [])
 
+free_compiles : (others : Others) → Compiles (beside others) free_text 2 (Delete 8 (record { lets = []; body = free_query }))
+unfolding everything
+free_compiles others = refl
+
 pub free_is : (others : Others) → command_of (understood (beside others) free_text) ≡ Delete 8 (record { lets = []; body = free_query })
-unfolding understood everything
-free_is others = refl
+free_is others = command_is (beside others) free_text 2 _ (free_compiles others)
 
 pub free_plain : (others : Others) → IsPlain (understood (beside others) free_text)
-unfolding understood everything
-free_plain others = (refl, refl)
+free_plain others = plain_is (beside others) free_text 2 _ (free_compiles others)

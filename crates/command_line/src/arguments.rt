@@ -214,7 +214,11 @@ pub(crate) fn join<'a>(
         → IfOk command.entry (IsCommand s)
         → IfOk result (λ c. app_of c ≡ with_subcommand a s) }
 {
-    parser?.subcommand(command?)
+    // Both errors are want of memory, so one arm lets go of what there is.
+    match (parser, command) {
+        (Ok(parser), Ok(command)) => parser.subcommand(command),
+        _ => Err(AllocError),
+    }
 }
 
 // What the help says of the file of a book.

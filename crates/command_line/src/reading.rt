@@ -241,15 +241,18 @@ fn over<'a>(
 fn takes_server(name: &str) -> bool
     ensures { result ≡ meant.takes_server name.now }
 {
-    name == "send"
-        || name == "count"
-        || name == "pick"
-        || name == "recount"
-        || name == "stock"
-        || name == "open"
-        || name == "orders"
-        || name == "outbox"
-        || name == "depositors"
+    matches!(
+        name,
+        "send"
+            | "count"
+            | "pick"
+            | "recount"
+            | "stock"
+            | "open"
+            | "orders"
+            | "outbox"
+            | "depositors"
+    )
 }
 
 // What a subcommand asks a running server for with its values.

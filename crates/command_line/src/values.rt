@@ -78,7 +78,8 @@ fn address_in(alloc: Global, text: &str, fault: &str) -> Result<SocketAddr, Line
 
 // The address that a line says that a book is served at.
 fn address(alloc: Global, values: &ArgMatches<'_>) -> Result<SocketAddr, LineFault>
-    ensures { meant.Reads (meant.SaysAddress (rows_of (found_of values.now)) (codes "listen")) result }
+    ensures { meant.Reads
+        (meant.SaysAddress (rows_of (found_of values.now)) (codes "listen")) result }
 {
     let text = given(alloc, values, "listen")?;
     address_in(

@@ -64,3 +64,6 @@ filled d text s h g l es eh eg el =
     ap (λ x. x && h && g && l) es ∙ (ap (λ x. list_all (λ k. slice_index text k == d.separator) separator_offsets && x && g && l) eh
     ∙ (ap (λ x. list_all (λ k. slice_index text k == d.separator) separator_offsets && list_all (λ n. list_all (is_data d) (isa text n)) (range_with_len 1 15) && x && l) eg
     ∙ ap (λ x. list_all (λ k. slice_index text k == d.separator) separator_offsets && list_all (λ n. list_all (is_data d) (isa text n)) (range_with_len 1 15) && list_all is_digit (isa text 13) && x) el))
+
+pub not_begun : (text : List ℕ) → is_begun text ≡ false → is_unreadable text ≡ true
+not_begun text h = in_parts text ∙ rw h refl

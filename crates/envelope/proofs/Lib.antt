@@ -6,5 +6,6 @@ pub mod Moments
 pub mod NoteLemmas
 pub mod Offsets
 pub mod PieceLemmas
+pub mod Pushed
 pub mod Runs
 pub mod Spaces

@@ -1,6 +1,6 @@
 -- A date and a time of day by the rows of elements.
 use Rattle.std.proofs.Common.{◌≡◌, ℕ, arith, Bool, true, false, not, List, length, take, refl, ◌∙◌, ap, Some, None}
-use Rattle.std.specs.Prelude.{if◌then◌else◌, is_none, ◌&&◌, codes, ◌++◌, Option, drop, nat_lt}
+use Rattle.std.specs.Prelude.{if◌then◌else◌, is_none, is_some, ◌&&◌, codes, ◌++◌, Option, drop, nat_lt}
 use Rattle.std.specs.List.{list_all}
 use Rattle.std.proofs.lemmas.List.{take_all}
 use Rattle.profile.specs.Bytes.{Delims, is_digit, value}
@@ -33,3 +33,9 @@ no_date_fault d e text fault f s w =
 
 pub no_clock_fault : (d : Delims) (e : List ℕ) (fault : Option ℕ) → fault ≡ element_fault d (must Time 4 4) e → length e ≡ 4 → is_none fault ≡ is_clock e
 no_clock_fault d e fault f w = ap is_none f ∙ clock_alone d e w
+
+pub is_none_of : (o : Option ℕ) (b : Bool) → is_some o ≡ not b → b ≡ is_none o
+is_none_of (Some x) true e = absurd (cc)
+is_none_of (Some x) false e = refl
+is_none_of None true e = refl
+is_none_of None false e = absurd (cc)

@@ -14,6 +14,10 @@ use Rattle.profile.specs.Limits.{most_groups, most_sets}
 use Rattle.envelope.specs.Parts.{GroupOf, GroupsOf, group_under}
 use Rattle.envelope.specs.Conditions.{trailer_note, are_segments_invalid, are_groups_invalid, are_held_invalid}
 
+-- what a test of an element told, of what the element is
+pub told : (f : List ℕ → Bool) (t u : List ℕ) (r b : Bool) → t ≡ u → r ≡ f t → r ≡ b → f u ≡ b
+told f t u r b is tested e = sym (ap f is) ∙ (sym tested ∙ e)
+
 abbrev four : Bool → Bool → Bool → Bool → Option ℕ
 four a b c e = if a then Some 23 else (if b then Some 22 else (if c then Some 1 else (if e then Some 21 else None)))
 

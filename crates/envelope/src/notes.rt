@@ -15,7 +15,6 @@ const DATE: ElementRow = must!(Kind::Date, DATE_DIGITS, DATE_DIGITS);
 const CLOCK: ElementRow = must!(Kind::Time, LEAST_TIME, LEAST_TIME);
 
 // Whether the six digits are a date of the years 2000 to 2099.
-#[tactic(auto, using(crate::proofs::Moments::no_date_fault))]
 fn is_date(delims: &Delims, text: &[u8]) -> bool
     requires { length text.now ≡ 6 }
 
@@ -27,7 +26,6 @@ fn is_date(delims: &Delims, text: &[u8]) -> bool
 }
 
 // Whether the four digits are a time of day.
-#[tactic(auto, using(crate::proofs::Moments::no_clock_fault))]
 fn is_clock(delims: &Delims, text: &[u8]) -> bool
     requires { length text.now ≡ 4 }
 

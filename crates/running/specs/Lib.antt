@@ -1,6 +1,9 @@
 pub mod Checking
+pub mod Days
 pub mod Done
 pub mod Explaining
 pub mod Faults
 pub mod Opening
+pub mod Stopped
+pub mod StopFaults
 pub mod Working

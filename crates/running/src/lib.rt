@@ -1,6 +1,6 @@
 //! A line of words run: over the book in its file, which is made, opened and closed for it, or as a
 //! script over a book in memory. The program calls `program`, which hands its words to `command`,
-//! and has nothing else.
+//! and has nothing else. What is left of a book where the program is stopped stands in `stops`.
 #![tactic(auto)]
 
 mod book_files;
@@ -9,6 +9,7 @@ mod over_file;
 mod over_server;
 mod run;
 mod starting;
+pub mod stops;
 
 pub use run::command;
 pub use starting::program;

@@ -6,7 +6,7 @@ use crate::delims::Delims;
 use std::alloc::AllocError;
 
 // Appends the separator and the element, or a beginning of them.
-#[tactic(auto, using(crate::proofs::ExtendsLemmas::extends_trans, crate::proofs::ExtendsLemmas::extends_append))]
+#[tactic(auto, using(crate::proofs::ExtendsLemmas::extends_append))]
 fn append_part(out: &mut Vec<u8>, separator: u8, element: &[u8]) -> Result<(), AllocError>
     ensures ok { OnOk result (out.new.items ≡ out.old.items ++ separator ∷ element.now) }
     ensures kept { Extends out.old.items out.new.items }
@@ -17,7 +17,7 @@ fn append_part(out: &mut Vec<u8>, separator: u8, element: &[u8]) -> Result<(), A
 }
 
 /// Appends each element after a separator. After an error a beginning of that may stand there.
-#[tactic(auto, using(crate::proofs::ExtendsLemmas::extends_trans, crate::proofs::ExtendsLemmas::extends_append))]
+#[tactic(auto, using(crate::proofs::ExtendsLemmas::extends_append))]
 pub fn append_parts(out: &mut Vec<u8>, separator: u8, elements: &[&[u8]]) -> Result<(), AllocError>
     ensures ok { OnOk result (out.new.items ≡ out.old.items ++ flat_map
         (λ e. separator ∷ e.now) elements.now) }
@@ -30,7 +30,7 @@ pub fn append_parts(out: &mut Vec<u8>, separator: u8, elements: &[&[u8]]) -> Res
 }
 
 // Appends the elements with the separator between each two, or a beginning of that.
-#[tactic(auto, using(crate::proofs::ExtendsLemmas::extends_trans, crate::proofs::ExtendsLemmas::extends_append))]
+#[tactic(auto, using(crate::proofs::ExtendsLemmas::extends_append))]
 fn append_elements(out: &mut Vec<u8>, separator: u8, elements: &[&[u8]]) -> Result<(), AllocError>
     ensures ok { OnOk result (out.new.items ≡ out.old.items
         ++ meaning.joined separator (map (λ e. e.now) elements.now)) }
@@ -46,7 +46,7 @@ fn append_elements(out: &mut Vec<u8>, separator: u8, elements: &[&[u8]]) -> Resu
 }
 
 // Appends the segment, or a beginning of it.
-#[tactic(auto, using(crate::proofs::ExtendsLemmas::extends_trans, crate::proofs::ExtendsLemmas::extends_append))]
+#[tactic(auto, using(crate::proofs::ExtendsLemmas::extends_append))]
 fn append(out: &mut Vec<u8>, delims: Delims, elements: &[&[u8]]) -> Result<(), AllocError>
     ensures ok { OnOk result (out.new.items ≡ out.old.items
         ++ meaning.spelled delims (map (λ e. e.now) elements.now)) }

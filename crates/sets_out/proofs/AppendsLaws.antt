@@ -18,6 +18,10 @@ use Rattle.sets_out.specs.Interchanges.{answers_group}
 pub extends_by : (a b s : List ℕ) → b ≡ a ++ s → Extends a b
 extends_by a b s e = rw e (extends_append a s)
 
+-- nothing was appended
+pub extends_same : (a : List ℕ) → Extends a a
+extends_same a = extends_by a a [] (sym (append-nil a))
+
 pub appends_none : (d : Delims) (a : List ℕ) → Writes d a a [] 0
 appends_none d a = record { text = sym (append-nil a); count = refl; room = omega arith }
 
@@ -59,6 +63,12 @@ pub appends_all : {X : Type 0} (d : Delims) (f : X → List Segment) (xs : List 
     → length xs ≤ i → Writes d a b (flat_map f (take i xs)) m → Writes d a b (flat_map f xs) m
 appends_all {X} d f xs i a b m h told =
     let P : List X → Type 0 = λ ys. Writes d a b (flat_map f ys) m in
+    subst P (take_all i xs h) told
+
+pub appends_all_one : {X : Type 0} (d : Delims) (f : X → Segment) (xs : List X) (i : ℕ) (a b : List ℕ) (m : ℕ)
+    → length xs ≤ i → Writes d a b (map f (take i xs)) m → Writes d a b (map f xs) m
+appends_all_one {X} d f xs i a b m h told =
+    let P : List X → Type 0 = λ ys. Writes d a b (map f ys) m in
     subst P (take_all i xs h) told
 
 -- ST, a body and SE make a set

@@ -247,7 +247,8 @@ pub(crate) fn append_se(
     place: u64,
 ) -> Result<usize, AllocError>
     ensures ok { IfOk result (λ n. Writes delims out.old.items out.new.items
-        ((codes "SE" ∷ decimal segments ∷ zero_filled widths.LEAST_SET_CONTROL place ∷ []) ∷ []) n) }
+        ((codes "SE" ∷ decimal segments ∷ zero_filled widths.LEAST_SET_CONTROL place ∷ [])
+        ∷ []) n) }
     ensures kept { Extends out.old.items out.new.items }
 {
     let mut buffer = Buffer::new();

@@ -1,15 +1,15 @@
 -- The line of a record, and what records come to.
-use Rattle.std.proofs.Common.{◌≡◌, ℕ, ◌+◌, ◌≤◌, ◌<◌, Bool, true, false, List, [], ◌∷◌, length, take, Some, Err, refl, ap, sym, ◌∙◌, arith}
+use Rattle.std.proofs.Common.{◌≡◌, ℕ, ◌+◌, ◌≤◌, ◌<◌, Bool, true, false, List, [], ◌∷◌, ◌++◌, map, length, take, drop, get_or, Some, None, Err, refl, ap, sym, ◌∙◌, append_assoc, add-one, arith, drop-cons}
 use Rattle.std.specs.Prelude.{nat_lt, is_none}
 use Rattle.std.specs.List.{filter_map, list_any}
 use Rattle.std.proofs.Common.{lt-ltb, ltb-true}
-use Rattle.std.proofs.lemmas.List.{length-take, take_all}
+use Rattle.std.proofs.lemmas.List.{append-nil, drop_all, length-take, take_all}
 use Rattle.profile.specs.declared.rules.Rules.{Rules}
 use Rattle.profile.specs.Limits.{most_lines}
-use Rattle.profile.specs.Clerk.{raw_line, sheet_of, sheet_of_records}
+use Rattle.profile.specs.Clerk.{RawLine, raw_line, sheet_of, sheet_of_records}
 use Rattle.profile.specs.declared.sheet_kind.SheetKind.{SheetKind}
 use Rattle.profile.specs.declared.refusals.Refusal.TheVariants.{TooManyLines, BadText}
-use Rattle.csv.specs.Records.{field_at}
+use Rattle.csv.specs.Records.{Row, field_at, fields_of}
 use Rattle.sheet_texts.specs.Texts.{field_of}
 
 pub three_fields : (fs : List (List ℕ)) → length fs ≡ 3 → raw_line fs ≡ Some (record { item = field_of fs 0; lot = field_of fs 1; quantity = field_of fs 2 })
@@ -49,3 +49,34 @@ uneven r kind rows rs h few bad =
 pub even : (r : Rules) (kind : SheetKind) (rows rs : List (List (List ℕ))) → rs ≡ take (most_lines r + 1) rows → length rs ≤ most_lines r → is_uneven rs ≡ false → sheet_of_records r kind rows ≡ sheet_of r kind (filter_map raw_line rs)
 even r kind rows rs h few good =
     ap (sheet_of_records r kind) (all_of (most_lines r) rows rs h few) ∙ rw (not_many (most_lines r) (length rs) few, good) refl
+
+-- The lines of the records up to a place, and what is left.
+next_row : (rows : List Row) (i : ℕ) (row : Row) → i < length rows → row ≡ get_or rows i row
+    → map fields_of (drop i rows) ≡ fields_of row ∷ map fields_of (drop (i + 1) rows)
+next_row rows i row h e = rw (add-one, drop-cons rows i row h, ← e) refl
+
+abbrev pub lines_left : List Row → ℕ → List RawLine
+lines_left rows i = filter_map raw_line (map fields_of (drop i rows))
+
+abbrev pub has_uneven : List Row → Bool
+has_uneven rows = is_uneven (map fields_of rows)
+
+pub line_more : (rows : List Row) (i : ℕ) (row : Row) (lines now : List RawLine) (line : RawLine) → i < length rows → row ≡ get_or rows i row
+    → Some line ≡ raw_line (fields_of row) → now ≡ lines ++ line ∷ []
+    → (filter_map raw_line (map fields_of rows) ≡ lines ++ lines_left rows i) × (has_uneven rows ≡ has_uneven (drop i rows))
+    → (filter_map raw_line (map fields_of rows) ≡ now ++ lines_left rows (i + 1)) × (has_uneven rows ≡ has_uneven (drop (i + 1) rows))
+line_more rows i row lines now line l e s n h = (
+  h.0 ∙ rw (next_row rows i row l e, ← s, n, append_assoc) refl,
+  h.1 ∙ rw (next_row rows i row l e, ← s) refl,
+)
+
+pub line_none : (rows : List Row) (i : ℕ) (row : Row) → i < length rows → row ≡ get_or rows i row → None ≡ raw_line (fields_of row)
+    → has_uneven rows ≡ has_uneven (drop i rows) → true ≡ has_uneven rows
+line_none rows i row l e s h = sym (h ∙ rw (next_row rows i row l e, ← s) refl)
+
+pub lines_all : (rows : List Row) (i : ℕ) (lines : List RawLine) → length rows ≤ i
+    → filter_map raw_line (map fields_of rows) ≡ lines ++ lines_left rows i → lines ≡ filter_map raw_line (map fields_of rows)
+lines_all rows i lines l h = sym (h ∙ rw (drop_all i rows l, append-nil) refl)
+
+pub all_even : (rows : List Row) (i : ℕ) → length rows ≤ i → has_uneven rows ≡ has_uneven (drop i rows) → false ≡ has_uneven rows
+all_even rows i l h = sym (h ∙ rw (drop_all i rows l) refl)

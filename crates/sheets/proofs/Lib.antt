@@ -3,3 +3,4 @@ pub mod Ascending
 mod OrderLaws
 mod RefusalLaws
 mod SheetLaws
+pub mod Told

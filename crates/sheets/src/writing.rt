@@ -20,7 +20,6 @@ fn append_text(out: &mut Vec<u8>, text: &[u8]) -> Result<(), AllocError>
 }
 
 // Appends the texts, or a beginning of them.
-#[tactic(auto, using(segments::proofs::ExtendsLemmas::extends_trans, segments::proofs::ExtendsLemmas::extends_append))]
 fn append_texts(out: &mut Vec<u8>, texts: &[&[u8]]) -> Result<(), AllocError>
     ensures ok { OnOk result (out.new.items ≡ out.old.items ++ flat_map (λ t. t.now) texts.now) }
     ensures kept { Extends out.old.items out.new.items }
@@ -44,7 +43,6 @@ fn append_line(out: &mut Vec<u8>, line: &Line) -> Result<(), AllocError>
 }
 
 // Appends the text of each line, or a beginning of it.
-#[tactic(auto, using(segments::proofs::ExtendsLemmas::extends_trans, segments::proofs::ExtendsLemmas::extends_append))]
 pub(crate) fn append_lines(out: &mut Vec<u8>, lines: &[Line]) -> Result<(), AllocError>
     requires { All (λ (l : clerk.RawLine). bytes.value l.quantity ≤ most_recounted) lines.now }
 

@@ -13,10 +13,9 @@ mod inboxes;
 mod laying;
 mod on_disk;
 mod playing;
+mod plays;
 mod ran;
-mod scripts;
 mod served;
-mod stories;
 mod telling;
 mod texts;
 mod usage;
@@ -25,8 +24,7 @@ mod version1;
 use std::test::Fail;
 
 fn main(rt: HostRuntime) -> Result<(), Fail> {
-    stories::all(&rt)?;
-    scripts::all(&rt)?;
+    plays::all(&rt)?;
     asked::all(&rt)?;
     carried::all(&rt)?;
     changes::all(&rt)?;

@@ -90,12 +90,12 @@ pub(crate) fn write_files(rt: &HostRuntime, case: &str) -> Result<(), Fail> {
     Ok(())
 }
 
-// Which ways a case is played.
+/// Which ways a case is played.
 #[derive(Clone, Copy)]
-enum Ways {
-    // In memory, and as a batch.
+pub(crate) enum Ways {
+    /// In memory, and as a batch.
     Whole,
-    // So, and line by line.
+    /// So, and line by line.
     Each,
 }
 
@@ -133,8 +133,8 @@ fn play_case(rt: &HostRuntime, case: &str, ways: Ways) -> Result<(), Fail> {
     play_ways(rt, name, sections, ways, &wanted)
 }
 
-// Plays each case of the text in a file, after the files that they have in common.
-fn play_cases(rt: &HostRuntime, file: &str, ways: Ways) -> Result<(), Fail> {
+/// Plays each case of the text in a file, after the files that they have in common.
+pub(crate) fn play_cases(rt: &HostRuntime, file: &str, ways: Ways) -> Result<(), Fail> {
     let text = text_of(rt, file)?;
     let (before, cases) = text.split_once("@case ").ok_or("a case")?;
     write_files(rt, before)?;
@@ -147,9 +147,4 @@ fn play_cases(rt: &HostRuntime, file: &str, ways: Ways) -> Result<(), Fail> {
 /// Plays the cases of the text in a file, each way.
 pub(crate) fn play_all(rt: &HostRuntime, file: &str) -> Result<(), Fail> {
     play_cases(rt, file, Ways::Each)
-}
-
-/// Plays stories, which look at what a depositor has after each command.
-pub(crate) fn play_stories(rt: &HostRuntime, file: &str) -> Result<(), Fail> {
-    play_cases(rt, file, Ways::Whole)
 }

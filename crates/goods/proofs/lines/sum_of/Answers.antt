@@ -1,6 +1,8 @@
-use Rattle.std.proofs.Common.{arith, sym, ap}
+use Rattle.std.proofs.Common.{arith, sym, ap, List, ◌∙◌}
 use Rattle.profile.specs.Means.{Line}
 use Rattle.goods.proofs.Sums.{pair_next}
+use Rattle.std.proofs.lemmas.List.{take_all}
+use Rattle.profile.specs.Events.{quantity_of}
 use Rattle.goods.proofs.lines.sum_of.Goals as goal
 
 pub overflow_add-quantity : goal.overflow_add-quantity
@@ -12,3 +14,8 @@ overflow_add-quantity c = omega (
   ap (λ (l : Line). l.quantity) c.line.view_is,
   pair_next c.args.lines.now c.loop-line.line-index c.line-item.result c.args.item.now c.args.lot.now c.loop-line-test.true c.line-item.is (sym c.if-is_of.ensures),
 )
+
+pub returns : goal.returns
+returns c =
+    c.loop-line.invariant
+    ∙ ap (λ (ls : List Line). quantity_of ls c.args.item.now c.args.lot.now) (take_all c.loop-line.line-index c.args.lines.now c.loop-line-test.false)

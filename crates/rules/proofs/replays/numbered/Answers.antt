@@ -1,4 +1,5 @@
-use Rattle.std.proofs.Common.{◌∙◌, sym, subst}
+use Rattle.std.proofs.Common.{◌∙◌, ap, sym, subst}
+use Rattle.rules.specs.Pages.{PageFacts}
 use Rattle.rules.specs.Played.{IsPlayed}
 use Rattle.rules.specs.declared.replays.Replayed.{Replayed}
 use Rattle.rules.proofs.Plays.{IsNumbered, act_played, interchange_played, counted}
@@ -19,3 +20,6 @@ returns-clause-replayed c = λ h e of is entry few good clean.
           (sym c.is_ticketed.ensures ∙ w.if-is_ticketed.false) known of w.in_ok-played-2.ensures.played)
     ] in
     counted c.args.warehouse.now h e c.if-is_ticketed.played.page c.ended.result c.if-is_ticketed.played.outgoing.items played is c.ended.ensures.next c.ended.ensures.shows
+
+pub returns-clause-rest : goal.returns-clause-rest
+returns-clause-rest c = ap (λ (p : PageFacts). p.recent) c.ended.ensures.next

@@ -27,3 +27,9 @@ loop-line-preserved c =
     stood_more same_advice_pair line c.args.lines.now c.loop-line.line-index c.line-item.result c.loop-line.seen.items
     c.placed.new.rows.items c.in_ok-placed.field-0 advised_alike c.loop-line-test.true c.line-item.is c.loop-line.invariant
     (sym said ∙ c.if-is_among.false) placed
+
+pub is_among-requires : goal.is_among-requires
+is_among-requires c = rw c.deref.ensures.value c.loop-line.invariant.sorted
+
+pub placed-requires : goal.placed-requires
+placed-requires c = c.loop-line.invariant.sorted

@@ -1,4 +1,4 @@
-use Rattle.std.proofs.Common.{None, sym, subst}
+use Rattle.std.proofs.Common.{None, sym, subst, rules}
 use Rattle.profile.specs.Accepted.{own_of}
 use Rattle.profile.specs.Decision.{standing, reply_by}
 use Rattle.profile.specs.Need.{Need}
@@ -7,6 +7,7 @@ use Rattle.rules.specs.Decided.{IsRecalled, entries_of}
 use Rattle.rules.specs.Replies.{IsReply}
 use Rattle.store.specs.Held.{IsHeld}
 use Rattle.store.proofs.Replies.{decided, stands_from}
+use Rattle.store.proofs.Changes.{unchanged_refl}
 use Rattle.store.proofs.serving.judge_new.Goals as goal
 
 pub returns-clause-decision : goal.returns-clause-decision
@@ -28,3 +29,15 @@ returns-clause-tables g c = λ clean L keeps legal.
     (subst (λ M. IsHeld c.in_ok-need.need c.in_ok-page.page (standing M)) (sym (c.requires.whose L)) (c.in_ok-page.ensures.page clean L keeps legal)) in
     c.in_ok-decide.ensures.tables old.warehouse L
     (stands_from asking _ (standing (own_of L asking)) needed)
+
+pub returns-in_err-need-clause-reading : goal.returns-in_err-need-clause-reading
+returns-in_err-need-clause-reading g c = record { same = unchanged_refl (g.K.Keeper.standing c.args.keeper.now); fault = search rules }
+
+pub returns-in_err-page-clause-reading : goal.returns-in_err-page-clause-reading
+returns-in_err-page-clause-reading g c = record { same = c.in_err-page.ensures.query.reading.same; fault = search rules }
+
+pub returns-in_err-decide-clause-reading : goal.returns-in_err-decide-clause-reading
+returns-in_err-decide-clause-reading g c = record { same = c.in_ok-page.ensures.query.reading.same; fault = search rules }
+
+pub returns-clause-reading : goal.returns-clause-reading
+returns-clause-reading g c = record { same = c.in_ok-page.ensures.query.reading.same; fault = search rules }

@@ -1,0 +1,16 @@
+use Rattle.std.proofs.Common.{◌≡◌, ◌+◌, ◌∙◌, ℕ, List, true, ap, sym, arith}
+use Rattle.std.proofs.lemmas.Bool.{le-leb}
+use Rattle.std.proofs.lemmas.List.{take_all}
+use Rattle.std.specs.Prelude.{nat_le}
+use Rattle.profile.specs.Page.{PageOrder}
+use Rattle.goods.specs.Pages.{held}
+use Rattle.stock.proofs.sound.holds_at_most.Goals as goal
+
+within : (left taken most : ℕ) → left + taken ≡ most → true ≡ nat_le taken most
+within left taken most is = sym (le-leb taken most (omega arith))
+
+pub returns : goal.returns
+returns c =
+    let l = c.loop-order in
+    within l.left (held c.args.orders.now c.args.item.now c.args.lot.now) c.args.most
+    (ap (λ (ks : List PageOrder). l.left + held ks c.args.item.now c.args.lot.now) (sym (take_all l.order-index c.args.orders.now c.loop-order-test.false)) ∙ l.invariant)

@@ -1,3 +1,0 @@
-pub mod Stopped
-pub mod Days
-pub mod Faults
