@@ -25,7 +25,7 @@ use Rattle.rules.specs.Pages.{advice_at, is_shipment}
 use Rattle.rules.proofs.KeyLemmas.{texts_strict}
 use Rattle.std.specs.List.{list_all}
 use Rattle.rules.specs.Fitting.{is_fitting_line}
-use Rattle.rule_laws.proofs.Fits.{page_fits}
+use Rattle.rules.proofs.Fits.{page_fits}
 use Rattle.book_tables.proofs.Fits.{advised_fit}
 use Rattle.book_statements.specs.Asking.{Finds}
 use Rattle.book_statements.specs.Exits.{StandsWhileOpen}

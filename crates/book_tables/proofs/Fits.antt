@@ -16,9 +16,9 @@ use Rattle.profile.specs.Register.{Entry}
 use Rattle.profile.specs.Rows.{LotRow}
 use Rattle.rules.specs.Pages.{advice_at, is_number, is_shipment, order_at}
 use Rattle.rules.specs.Fitting.{is_fitting_advice, is_fitting_line, is_fitting_order, is_fitting_ordered, is_fitting_row}
-use Rattle.rule_laws.proofs.Fits.{advices_fit}
+use Rattle.rules.proofs.Fits.{advices_fit}
 use Rattle.rules.proofs.KeyedLists.{all_found}
-use Rattle.rule_laws.proofs.SmallEvents.{follows_all, events_small}
+use Rattle.rules.proofs.SmallEvents.{follows_all, events_small}
 use Rattle.book_tables.specs.Looking.{lines_advised, lines_ordered, lines_reserved}
 
 -- what holds of all holds of each

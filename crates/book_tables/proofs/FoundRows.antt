@@ -14,7 +14,7 @@ use Rattle.profile.specs.History.{events}
 use Rattle.profile.specs.Rows.{LotRow, OutRow, running_rows, outgoing_rows, outbox_rows}
 use Rattle.rules.specs.Keyed.{rises_by, row_key, key_before as pairs_in_order}
 use Rattle.rules.specs.Fitting.{is_fitting_row}
-use Rattle.rule_laws.proofs.Fits.{page_fits}
+use Rattle.rules.proofs.Fits.{page_fits}
 use Rattle.book_statements.specs.Asking.{Finds}
 use Rattle.book_statements.specs.Layout.{expiry_tree}
 use Rattle.book_statements.specs.Exits.{StandsWhileOpen}

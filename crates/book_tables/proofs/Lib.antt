@@ -4,10 +4,13 @@ mod Sorts
 mod Showing
 mod ShownRows
 mod Places
+mod Added
 mod Sendings
 pub mod OneRegister
 mod InOrder
 mod ReadLemmas
+mod HouseRead
+mod MomentParts
 mod OwnEntries
 mod FoundRows
 mod HasEntries

@@ -18,7 +18,7 @@ use Rattle.profile.specs.Schema.{stock_schema, lot_expiry_schema}
 use Rattle.rules.specs.Keyed.{rises_by, row_key, key_before as pairs_in_order}
 use Rattle.std.specs.List.{list_all}
 use Rattle.rules.specs.Fitting.{is_fitting_row}
-use Rattle.rule_laws.proofs.Fits.{page_fits}
+use Rattle.rules.proofs.Fits.{page_fits}
 use Rattle.rules.proofs.Keys.{all_filter}
 use Rattle.book_statements.specs.Asking.{Finds}
 use Rattle.book_statements.specs.Exits.{StandsWhileOpen}

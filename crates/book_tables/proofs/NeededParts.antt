@@ -20,8 +20,8 @@ use Rattle.rules.proofs.PartLaws.{part_is_part, part_sound}
 use Rattle.rules.specs.Decided.{IsHeldPart, IsPageOf}
 use Rattle.rules.specs.LegalPages.{IsLegalPage}
 use Rattle.rules.specs.Naming.{facts_of, named_of}
-use Rattle.rule_laws.proofs.Defines.{defined_is, page_in_order, page_is_defined}
-use Rattle.rule_laws.proofs.LegalPages.{legal_page}
+use Rattle.rules.proofs.Defines.{defined_is, page_in_order, page_is_defined}
+use Rattle.rules.proofs.LegalPages.{legal_page}
 use Rattle.rules.proofs.NeedNames.{closed}
 use Rattle.store.specs.Held.{IsHeld}
 use Rattle.book_tables.specs.Needed.{needed_part, with_number, with_numbers, with_text, with_texts}

@@ -1,9 +1,11 @@
 -- The rows of open advices and orders under a depositor show their names, and the part of its page
 -- that has these names has what is open.
-use Rattle.std.proofs.Common.{◌≡◌, inl, inr, ℕ, pos, List, [], ◌∷◌, map, filter, cond, Bool, true, false, ◌||◌, bytes_eq, None, Some, Option, option_map, IsTrue, length, refl, sym, ap, ◌∙◌}
+use Rattle.std.proofs.Common.{◌≡◌, inl, inr, ℕ, pos, List, [], ◌∷◌, map, filter, cond, Bool, true, false, ◌||◌, bytes_eq, None, Some, Option, option_map, Result, Ok, Err, IfOk, IsTrue, length, refl, sym, ap, ◌∙◌}
 use Rattle.std.specs.Prelude.{◌==◌, if◌then◌else◌}
 use Rattle.std.proofs.lemmas.Bool.{cases_Bool}
+use Rattle.sqlite.specs.Held.{state}
 use Rattle.sqlite.specs.State.{State, IsLive}
+use Rattle.sqlite.specs.Store.{Ghosts}
 use Rattle.sqlite.specs.declared.types.Value.TheVariants as value
 use Rattle.sqlite.specs.Order.{Row, value_cmp}
 use Rattle.sqlite.specs.Collation.TheVariants.{Binary}
@@ -16,7 +18,7 @@ use Rattle.sqlite_rules.proofs.ProbeLemmas.{mapped_has}
 use Rattle.profile.specs.declared.rules.Rules.TheVariants.{Two}
 use Rattle.profile.specs.Bytes.{comes_before, is_one_of}
 use Rattle.profile.specs.Header.{Who, is_partner, who_text}
-use Rattle.profile.specs.Need.{part}
+use Rattle.profile.specs.Need.{Need, part}
 use Rattle.profile.specs.Register.{Entry, own}
 use Rattle.profile.specs.History.{events}
 use Rattle.profile.specs.Accepted.{IsLegal}
@@ -26,15 +28,19 @@ use Rattle.profile.specs.Schema.{advice_schema, orders_schema}
 use Rattle.profile.proofs.TextLaws.{same_text}
 use Rattle.rules.specs.Keyed.{shipment_of, number_of}
 use Rattle.rules.specs.Naming.{facts_of}
+use Rattle.rules.specs.Pages.{PageFacts}
+use Rattle.store.specs.Fault.{Fault}
 use Rattle.store.specs.Open.{open_of, open_on, open_work}
-use Rattle.book_statements.specs.Asking.{Finds}
+use Rattle.book_statements.specs.Asking.{Finds, IsAsked, OfStanding}
 use Rattle.book_statements.specs.Exits.{StandsWhileOpen}
+use Rattle.book_statements.specs.Kept.{Kept}
 use Rattle.book_statements.specs.Layout.{advice_layout, orders_layout}
 use Rattle.book_tables.specs.Needed.{needed_part, open_need}
 use Rattle.book_tables.specs.Showing.{name_shown}
 use Rattle.book_statements.specs.declared.names.TableName.TheVariants.{Advice, Orders}
 use Rattle.book_statements.specs.Standing.{StandsSecond, AreOrdered, filled}
 use Rattle.book_statements.proofs.Asked.{found}
+use Rattle.book_tables.proofs.AskedLater.{clean_before, stands_later}
 use Rattle.book_tables.proofs.Finding.{rises_kept}
 use Rattle.book_statements.proofs.Found.{map-both}
 use Rattle.book_statements.proofs.HoldsLemmas.{are_keyed}
@@ -171,3 +177,16 @@ open_needed L who = by (length (own L who) == 0)
     by : (b : Bool) → option_map open_on (if b then None else Some (facts_of (part (page_of (own L who)) (open_need (open_work (own L who)))))) ≡ (if b then None else Some (open_work (own L who)))
     by true = refl
     by false = ap Some same
+
+-- what is open, of the part of a page that was read for its names
+open_read : (L : List Entry) (who : Who) (need : Need) (r : Result (Option PageFacts) Fault) → need ≡ open_need (open_work (own L who)) → IfOk r (λ page. page ≡ needed_part need L who)
+    → IfOk r (λ page. option_map open_on page ≡ open_of L who)
+open_read L who need (Ok page) named is = ap (option_map open_on) (is ∙ ap (λ (n : Need). needed_part n L who) named) ∙ open_needed L who
+open_read L who need (Err fault) named is = tt
+
+pub open_found : {S : Type 0} (store : Ghosts S) (a b c : Kept S) (who : Who) (need : Need) (r : Result (Option PageFacts) Fault)
+    → OfStanding store a b (λ W L. need ≡ open_need (open_work (own L who))) → IsAsked (state store a.conn) (state store b.conn) → IsAsked (state store b.conn) (state store c.conn)
+    → OfStanding store b c (λ W L. IfOk r (λ page. page ≡ needed_part need L who)) → OfStanding store a c (λ W L. IfOk r (λ page. option_map open_on page ≡ open_of L who))
+open_found store a b c who need r named first second found clean W L stands =
+    let early = clean_before (state store b.conn) (state store c.conn) second clean in
+    open_read L who need r (named early W L stands) (found clean W L (stands_later (state store a.conn) (state store b.conn) W L early first stands))

@@ -27,7 +27,7 @@ use Rattle.rules.specs.Pages.{order_at, is_number}
 use Rattle.rules.proofs.KeyLemmas.{texts_strict}
 use Rattle.std.specs.List.{list_all}
 use Rattle.rules.specs.Fitting.{is_fitting_line, is_fitting_ordered}
-use Rattle.rule_laws.proofs.Fits.{page_fits}
+use Rattle.rules.proofs.Fits.{page_fits}
 use Rattle.book_tables.proofs.Fits.{ordered_fit, reserved_fit}
 use Rattle.book_statements.specs.Asking.{Finds}
 use Rattle.book_statements.specs.Exits.{StandsWhileOpen}

@@ -3,7 +3,7 @@ use Rattle.std.proofs.Common.{◌≡◌, ◌<◌, ◌≤◌, ℕ, zero, suc, ◌
 use Rattle.std.specs.Prelude.{nat_lt, ◌==◌}
 use Rattle.std.specs.List.{AllByRecursion}
 use Rattle.std.proofs.lemmas.Bool.{eqb-true, lt-ltb, le-ltb}
-use Rattle.std.proofs.lemmas.List.{length-map}
+use Rattle.std.proofs.lemmas.List.{drop_all, length-map}
 use Rattle.std.proofs.lemmas.List.Elements.{filter-append}
 use Rattle.sqlite_rules.specs.Lists.{Has}
 
@@ -43,6 +43,10 @@ whole_taken f rows ms i is past = taken ms i (omega (arith, past, ap length is, 
     taken (x ∷ xs) zero h = absurd (omega (arith, h))
     taken (x ∷ xs) (suc n) h = ap (λ ys. x ∷ ys) (taken xs n (omega (arith, h)))
 
+-- and none is left after them
+pub none_left : {M X : Type 0} (f : M → X) (rows : List X) (ms : List M) (i : ℕ) → rows ≡ map f ms → length rows ≤ i → drop i ms ≡ []
+none_left f rows ms i is past = drop_all i ms (omega (arith, past, ap length is, length-map ms f))
+
 -- the first ones and the one at a place
 pub taken_more : {A : Type 0} (xs : List A) (i : ℕ) (x : A) → i < length xs → x ≡ get_or xs i x → take (i + 1) xs ≡ take i xs ++ x ∷ []
 taken_more xs i x within here = ap (λ (n : ℕ). take n xs) (let one : i + 1 ≡ suc i = omega arith in one) ∙ go xs i x within here
@@ -73,3 +77,6 @@ not_none (suc n) h = lt-ltb 0 (suc n) (omega arith)
 
 pub none_at_all : (n : ℕ) → (n == 0) ≡ true → nat_lt 0 n ≡ false
 none_at_all n h = le-ltb 0 n (omega (arith, eqb-true n 0 h))
+
+pub not_empty : {A : Type 0} (xs : List A) (b : Bool) → b ≡ (length xs == 0) → b ≡ false → xs ≡ [] → ⊥
+not_empty {A} xs b tests fails none = absurd (let h : ◌≡◌ {A = Bool} true false = sym (tests ∙ ap (λ (ys : List A). length ys == 0) none) ∙ fails in cc)

@@ -7,3 +7,4 @@ pub mod ClockLaws
 pub mod PlayingLaws
 mod RowsEnrolled
 pub mod ServingLaws
+mod InitRows

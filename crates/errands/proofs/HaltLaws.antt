@@ -1,8 +1,8 @@
 -- What stops a command at a server.
 use Rattle.std.proofs.Common.{ℕ, List, inr}
 use Rattle.commands.specs.declared.told.CommandError.{CommandError}
-use Rattle.remote.specs.declared.answers.ServerAnswer.{ServerAnswer}
-use Rattle.remote.specs.declared.requests.Verb.{Verb}
+use Rattle.errands.specs.declared.remote.answers.ServerAnswer.{ServerAnswer}
+use Rattle.errands.specs.declared.remote.requests.Verb.{Verb}
 use Rattle.errands.specs.declared.answers.HeardAs.{HeardAs}
 use Rattle.errands.specs.Carried.{Brings, Loses, IsHeardAs, IsHaltedThere}
 use Rattle.errands.specs.Heard.{IsAnswerHalted}

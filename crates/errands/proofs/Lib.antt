@@ -2,3 +2,10 @@ mod HaltLaws
 mod ToldLaws
 mod PathLaws
 mod RowsHeard
+mod Filling
+mod Written
+mod Answering
+mod OneAnswer
+mod ReadingBack
+mod RowsTexts
+mod RowsNumbers

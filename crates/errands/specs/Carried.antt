@@ -1,8 +1,8 @@
 -- Which requests a command makes of a server, and what it tells of the answers.
 use Rattle.std.specs.Prelude.{◌≡◌, ◌⊎◌, ◌∷◌, ℕ, true, false, List, [], Option, Some, None, codes}
-use Rattle.remote.specs.declared.answers.ServerAnswer.{ServerAnswer}
-use Rattle.remote.specs.declared.requests.Verb.{Verb}
-use Rattle.remote.specs.declared.requests.Verb.TheVariants.{Get, Post}
+use Rattle.errands.specs.declared.remote.answers.ServerAnswer.{ServerAnswer}
+use Rattle.errands.specs.declared.remote.requests.Verb.{Verb}
+use Rattle.errands.specs.declared.remote.requests.Verb.TheVariants.{Get, Post}
 use Rattle.store.specs.Fault.TheVariants.{OutOfMemory}
 use Rattle.commands.specs.Stops.{HasDeviceFault, fault_in}
 use Rattle.commands.specs.declared.told.CommandError.{CommandError}

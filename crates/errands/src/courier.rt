@@ -1,13 +1,13 @@
 //! What carries requests to a server.
-use remote::{Request, ServerAnswer, Unanswered, call};
+use crate::remote::{Request, ServerAnswer, Unanswered, call};
 use std::net::SocketAddr;
 use std::time::Duration;
 
 /// What carries a request to a server, and brings its answer.
 pub trait Courier {
     ghost use Rattle.std.specs.Prelude.{ℕ, ⊤, List, IfOk, IfErr};
-    ghost use Rattle.remote.specs.declared.answers.ServerAnswer.{ServerAnswer};
-    ghost use Rattle.remote.specs.declared.requests.Verb.{Verb};
+    ghost use Rattle.errands.specs.declared.remote.answers.ServerAnswer.{ServerAnswer};
+    ghost use Rattle.errands.specs.declared.remote.requests.Verb.{Verb};
 
     // Relates what it is, the verb, the path and the body of a request, its answer, and what it is
     // then. Of a network nothing is said.

@@ -8,6 +8,7 @@ mod errand;
 pub mod laws;
 mod paths;
 mod reasons;
+pub mod remote;
 mod running;
 mod telling;
 

@@ -2,10 +2,10 @@
 ghost use Rattle.std.specs.Prelude.{◌≡◌, ◌∷◌, [], IfOk, string_bytes};
 ghost use Rattle.errands.specs.Paths as meant;
 
+use crate::remote::path_of;
 use command_line::{ClerkWords, Show};
 use itoa::Buffer;
 use profile::SheetKind;
-use remote::path_of;
 use std::alloc::{AllocError, Global};
 
 // The word of a deed in its path.

@@ -4,9 +4,9 @@ ghost use Rattle.std.specs.Io.KnownBytes.{Appends};
 ghost use Rattle.errands.specs.Heard.{IsAnswerHalted, IsStatus, IsAnswerTold, told_line, heard as heard_of, heard_query as query_of, printed_document, printed_report};
 
 use crate::answers::{HeardAs, heard, heard_query};
+use crate::remote::ServerAnswer;
 use commands::{CommandError, ExitStatus, tell_refusal, tell_text};
 use intake::Audience;
-use remote::ServerAnswer;
 use std::alloc::Global;
 use std::io;
 

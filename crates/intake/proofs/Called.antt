@@ -1,11 +1,13 @@
 -- what clerks are answered
-use Rattle.std.proofs.Common.{◌≡◌, ◌≢◌, ℕ, List, refl}
+use Rattle.std.proofs.Common.{◌≡◌, ◌≢◌, ◌∙◌, ◌⊎◌, inl, inr, ℕ, List, Bool, true, None, refl, ap}
 use Rattle.std.specs.Prelude.{Result}
 use Rattle.profile.specs.Header.{Who}
 use Rattle.profile.specs.Moments.{Moment}
 use Rattle.profile.specs.Register.{Command, Entry}
-use Rattle.profile.specs.Response.{Response, Post, OtherMethod}
-use Rattle.store.specs.Standing.{Standing}
+use Rattle.profile.specs.Response.{Response, Post, OtherMethod, fault_response}
+use Rattle.store.specs.Fault.{Fault}
+use Rattle.store.specs.Fault.TheVariants.{OutOfMemory, Reopen}
+use Rattle.store.specs.Standing.{Standing, IsQueryFault, IsUnchanged}
 use Rattle.store.proofs.Changes.{unchanged_refl}
 use Rattle.intake.specs.Asking.{deed_asks, IsShutResponse}
 use Rattle.intake.specs.Calls.{deed_response, deed_command, call_resp}
@@ -30,3 +32,19 @@ module _ (s : Standing) (t : Moment) where
   not_posted (calls.Export who) body answer not is = shown s s t _ _ _ answer (λ clean L keeps legal. is s.warehouse L body t) (unchanged_refl s) (λ was yes. cc)
   not_posted (calls.Open who) body answer not is = shown s s t _ _ _ answer (λ clean L keeps legal. is s.warehouse L body t) (unchanged_refl s) (λ was yes. cc)
   not_posted calls.Depositors body answer not is = shown s s t _ _ _ answer (λ clean L keeps legal. is s.warehouse L body t) (unchanged_refl s) (λ was yes. cc)
+
+-- a query that failed, of a book that has to be opened again by 42 or 40
+pub unshown_or_want : (old new : Standing) (t : Moment) (fault : Fault) (meant : List Entry → Response) (asks : Bool) (answer : Response) → answer ≡ fault_response fault
+    → IsQueryFault fault old new → IsUnchanged old new → (old.shut ≡ true → asks ≡ true → (fault ≡ Reopen) ⊎ (fault ≡ OutOfMemory))
+    → IsRequestServed old new t None meant asks IsShutResponse answer
+unshown_or_want old new t fault meant asks answer response why same shut = record {
+  answered = inr (record {
+    fault = fault;
+    response = response;
+    why = record { clean = λ e. same; broken = λ was now. cc same.shut; why = why };
+    kept = λ e. same;
+    left = λ c e. cc;
+  });
+  goes = same.goes;
+  shut = λ was yes. elim (shut was yes) [ inl e ↦ inl (response ∙ ap fault_response e) | inr e ↦ inr (response ∙ ap fault_response e) ];
+}

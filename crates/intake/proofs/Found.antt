@@ -1,11 +1,20 @@
 -- what is found of a depositor, and under a number
-use Rattle.std.proofs.Common.{◌≡◌, ℕ, List, Option, Some, None, Bool, true, false, refl, sym, ◌∙◌, find, ◌==◌, if◌then◌else◌}
-use Rattle.std.specs.Prelude.{unwrap_or, option_map}
+use Rattle.std.proofs.Common.{◌≡◌, ℕ, List, Option, Some, None, Bool, true, false, refl, sym, ap, subst, ◌∙◌, find, ◌==◌, if◌then◌else◌}
+use Rattle.std.specs.Prelude.{Result, unwrap_or, option_map}
 use Rattle.profile.specs.Bytes.{value}
 use Rattle.profile.specs.Header.{Who, who_of}
 use Rattle.profile.specs.Response.{Response, found_for, bare, content_response, is_plain_number, with_body, x12_type}
 use Rattle.profile.specs.Rows.{OutRow}
+use Rattle.profile.specs.Decision.{standing}
+use Rattle.profile.specs.History.{History}
+use Rattle.profile.specs.Need.{Need, need_of_number}
+use Rattle.profile.specs.declared.refusals.Refusal.{Refusal}
+use Rattle.profile.specs.declared.refusals.Refusal.TheVariants.{UnknownDepositor}
+use Rattle.profile.specs.Register.{Entry, own}
+use Rattle.profile.specs.Reports.{pick_list}
+use Rattle.store.specs.Held.{IsHeld}
 use Rattle.intake.specs.Answers.{told_text}
+use Rattle.intake.specs.Calls.{line_response, order_response, picking_response, sheet_response}
 
 pub found : {X : Type 0} (who : List ℕ) (w : Who) (query : Who → Option X) (x : X) (answer : X → Response)
     → Some w ≡ who_of who → Some x ≡ query w → found_for who query answer ≡ answer x
@@ -37,3 +46,20 @@ text_found who n w number query is plain = by (query w) refl
     by : (o : Option (List OutRow)) → query w ≡ o → told_text (option_map (λ rows. option_map (λ r. r.content) (find (λ r. r.n == number) rows)) o) ≡ found_for who query (content_response n)
     by None e = rw (← is, e) refl
     by (Some rows) e = text_under number rows ∙ content_under n number rows plain ∙ sym (found who w query rows (content_response n) is (sym e))
+
+-- the picking sheet of an order, by what a page holds of its depositor
+pub picked : (L : List Entry) (n : List ℕ) (w : Who) (o : Option Who) (need : Need) (p : _) (made : Result (List ℕ) Refusal) → Some w ≡ o → need ≡ need_of_number n
+    → IsHeld need (Some p) (standing (own L w)) → ((h : History) → IsHeld (need_of_number n) (Some p) (Some h) → pick_list h.events n ≡ made) → sheet_response made ≡ order_response L o n
+picked L n w o need p made name of held is = rw (← name) (by (standing (own L w)) held)
+  where
+    by : (h : Option History) → IsHeld need (Some p) h → sheet_response made ≡ picking_response n h
+    by None there = absurd there
+    by (Some h) there = ap sheet_response (sym (is h (subst (λ (k : Need). IsHeld k (Some p) (Some h)) of there)))
+
+-- and of a stranger
+pub unheld : (L : List Entry) (n : List ℕ) (w : Who) (o : Option Who) (need : Need) → Some w ≡ o → IsHeld need None (standing (own L w)) → line_response 404 UnknownDepositor ≡ order_response L o n
+unheld L n w o need name held = rw (← name) (by (standing (own L w)) held)
+  where
+    by : (h : Option History) → IsHeld need None h → line_response 404 UnknownDepositor ≡ picking_response n h
+    by None there = refl
+    by (Some h) there = absurd there

@@ -18,6 +18,18 @@ pub mod LeadsOn
 pub mod Whole
 pub mod GivenRead
 pub mod Lasts
+pub mod DocumentLaws
+pub mod Columns
+pub mod Covered
+pub mod Defines
+pub mod Expected
+pub mod Fits
+pub mod GivenAgain
+pub mod LegalPages
+pub mod OnePair
+pub mod Small
+pub mod SmallEvents
+mod ItemLines
 pub mod RowsLasting
 pub use Rattle.sheets.proofs.PairLaws
 pub use Rattle.stock.proofs.Finds

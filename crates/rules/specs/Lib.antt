@@ -9,6 +9,7 @@ pub mod LegalPages
 pub mod Fitting
 pub mod Given
 pub mod Lasting
+pub mod Documents
 -- of commands, entries and repeats
 pub use Rattle.repeats.specs.Written
 pub use Rattle.repeats.specs.Asked

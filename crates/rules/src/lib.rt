@@ -4,9 +4,11 @@
 
 mod acts;
 mod decisions;
+mod documents;
 mod given;
 mod interchanges;
 mod lasting;
+pub mod laws;
 mod readings;
 mod replays;
 mod told;

@@ -9,7 +9,7 @@ ghost use Rattle.stock.specs.Shows.{Shows};
 ghost use Rattle.repeats.specs.Asked.{act_of};
 ghost use Rattle.rules.specs.Needs.{NamesAct};
 
-use documents::{adjustment, receipt, shipment};
+use crate::documents::{adjustment, receipt, shipment};
 use repeats::Act;
 use sets_out::Envelope;
 use std::alloc::{AllocError, Global};

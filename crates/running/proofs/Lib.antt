@@ -1,3 +1,4 @@
+mod BeginLemmas
 mod StopLemmas
 mod LeftLemmas
 mod CrossLemmas

@@ -7,7 +7,7 @@ use Rattle.book_tables.specs.Showing.{lot_shown}
 use Rattle.rules.specs.Fitting.{is_fitting_row}
 use Rattle.book_statements.proofs.DateLemmas.{rises_left}
 use Rattle.book_tables.proofs.Fits.{has_all, small_lot}
-use Rattle.book_tables.proofs.Places.{at_place, one_longer, whole_taken}
+use Rattle.book_tables.proofs.Places.{at_place, none_left, not_empty, one_longer, whole_taken}
 use Rattle.book_tables.proofs.lots.lots_in.Goals as goal
 
 pub loop-row-init : goal.loop-row-init
@@ -37,6 +37,12 @@ loop-row-preserved c = (
       let same : c.in-Some.lot ≡ at.row = cc (some, found) in
       (c.in_ok-push.ensures.items ∙ (λ j. so_far.0 j ++ same j ∷ []) ∙ sym at.more, next.1),
 )
+
+pub returns-then-not-is_empty-clause-shows : goal.returns-then-not-is_empty-clause-shows
+returns-then-not-is_empty-clause-shows c rs fit rise is dated =
+    let past : length c.args.rows.now ≤ c.loop-row.row-index = omega (arith, c.loop-row-test.false) in
+    let none = none_left lot_shown c.args.rows.now rs c.loop-row.row-index is past in
+    absurd (not_empty _ _ c.is_empty.ensures c.if-not-is_empty.true ((c.loop-row.invariant.1 rs fit rise is dated).1 ∙ ap (λ (ls : List LotRow). map date_shown (dates_of ls)) none))
 
 pub returns-clause-shows : goal.returns-clause-shows
 returns-clause-shows c rs fit rise is dated =

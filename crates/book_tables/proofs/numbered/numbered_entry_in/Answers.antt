@@ -1,8 +1,24 @@
 use Rattle.std.proofs.Common.{◌∙◌, sym, ap, Some}
+use Rattle.sqlite.specs.Order.{Row, column}
 use Rattle.sqlite.specs.declared.types.Value.TheVariants.{Text, Blob}
 use Rattle.book_tables.proofs.NumberedFound.{who_shown, stamp_shown, numbered_entry}
 use Rattle.book_tables.proofs.ReadLemmas.{none_some}
 use Rattle.book_tables.proofs.numbered.numbered_entry_in.Goals as goal
+
+pub returns-in_default : goal.returns-in_default
+returns-in_default c = λ w of is. absurd (c.in_default.ensures _ (ap (λ (r : Row). column r 0) is))
+
+pub returns-in_default-text_at : goal.returns-in_default-text_at
+returns-in_default-text_at c = λ w of is. absurd (c.in_default-text_at.ensures _ (ap (λ (r : Row). column r 1) is))
+
+pub returns-in_default-small_at : goal.returns-in_default-small_at
+returns-in_default-small_at c = λ w of is. absurd (c.in_default-small_at.ensures w.n of.recorded.few (ap (λ (r : Row). column r 2) is))
+
+pub returns-in_default-text_at-2 : goal.returns-in_default-text_at-2
+returns-in_default-text_at-2 c = λ w of is. absurd (c.in_default-text_at-2.ensures _ (ap (λ (r : Row). column r 3) is))
+
+pub returns-in_default-blob_at : goal.returns-in_default-blob_at
+returns-in_default-blob_at c = λ w of is. absurd (c.in_default-blob_at.ensures _ (ap (λ (r : Row). column r 4) is))
 
 pub returns-in_default-new : goal.returns-in_default-new
 returns-in_default-new c = λ w of is.

@@ -10,7 +10,7 @@ use Rattle.profile.proofs.RisingLaws.{legal-rises}
 use Rattle.rules.specs.Asked.{asked}
 use Rattle.rules.specs.Given.{RuledCommand, given_by, ruled_by}
 use Rattle.rules.proofs.Follows.{legal_follow}
-use Rattle.rule_laws.proofs.GivenAgain.{made_again}
+use Rattle.rules.proofs.GivenAgain.{made_again}
 use Rattle.store.specs.Standing.{IsUsable}
 use Rattle.books.proofs.GivenLemmas.{never_none, one_some}
 use Rattle.books.proofs.RulesLemmas.{legal_next, legal_now, rises_at}

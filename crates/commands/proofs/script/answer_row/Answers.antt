@@ -1,5 +1,5 @@
 use Rattle.std.proofs.Common.{rules, inl, inr, Err, sym, ap, subst, ◌∙◌, map, Bor, List, ℕ}
-use Rattle.store.proofs.Changes.{unchanged_refl}
+use Rattle.store.proofs.Changes.{goes_trans, unchanged_refl}
 use Rattle.folders.proofs.Taking.{handed_on}
 use Rattle.command_line.specs.Asked.{CanBeRead}
 use Rattle.command_line.specs.declared.words.Place.TheVariants.{Script}
@@ -8,6 +8,7 @@ use Rattle.commands.specs.Stops.{line_stop}
 use Rattle.commands.specs.declared.told.CommandError.{CommandError}
 use Rattle.commands.proofs.TellingLaws.{appends_nothing}
 use Rattle.commands.proofs.script.answer_row.Goals as goal
+use Rattle.commands.proofs.script.answer_row.Goals.{then-verbosity+then-eq, else-verbosity}
 
 pub returns-in_err-status-clause-stopped : goal.returns-in_err-status-clause-stopped
 returns-in_err-status-clause-stopped g c =
@@ -32,3 +33,14 @@ returns-in_err-asked-clause-stopped g c =
           let words = ap (map (λ (w : Bor (List ℕ)). w.now)) c.deref.ensures.value ∙ c.in_ok-words.ensures in
           is ∙ ap line_stop (c.in_err-asked.ensures.err (subst (CanBeRead Script) (sym words) can));
     }))
+
+pub returns-in_err-words-clause-stopped : goal.returns-in_err-words-clause-stopped
+returns-in_err-words-clause-stopped g c =
+    handed_on c.from_residual.result _ _ c.from_residual.ensures
+    (λ stop is. inl (record { same = unchanged_refl _; silent = appends_nothing _; lacks = λ can. is }))
+
+pub returns-clause-goes : goal.returns-clause-goes
+returns-clause-goes g c = elim c.if-verbosity.branch [
+  | then-verbosity+then-eq w ↦ rw w.book-is (goes_trans _ _ _ c.answer.ensures.goes w.tell_why.ensures.goes)
+  | else-verbosity w ↦ rw w.book-is c.answer.ensures.goes
+]

@@ -5,7 +5,7 @@ use Rattle.profile.specs.Clerk.{performed}
 use Rattle.repeats.specs.Asked.{act_of}
 use Rattle.repeats.specs.declared.commands.Act.{Act}
 use Rattle.std.proofs.lemmas.Result.{IfOk-weaker}
-use Rattle.documents.proofs.DocumentLaws.{adjustment_part, receipt_is, shipment_is, adjustment_is}
+use Rattle.rules.proofs.DocumentLaws.{adjustment_part, receipt_is, shipment_is, adjustment_is}
 use Rattle.rules.proofs.told.document.Goals as goal
 
 pub returns-in-Some : goal.returns-in-Some

@@ -2,7 +2,7 @@ use Rattle.std.proofs.Common.{rules, IsTrue, ◌∙◌, subst}
 use Rattle.sqlite.specs.Held.{state}
 use Rattle.sqlite.specs.Values.{bound}
 use Rattle.book_statements.specs.Rises.{Rises}
-use Rattle.book_statements.proofs.Limited.{spends_both, spends_same}
+use Rattle.book_statements.proofs.Limited.{spends_both, spends_same, spent_both}
 use Rattle.book_statements.proofs.Asked.{not_prepared, shown_asked, shown_found, failed_asked}
 use Rattle.book_tables.proofs.connected.Tables.ask.Goals as goal
 
@@ -40,5 +40,39 @@ returns-clause-called g c = rw (← c.self.view_is) (
       uncounted = tt;
       limit = spends_both x.made y.made last.made x.limit y.limit last.limit c.allow.ensures.limit
           (spends_both y.made z.made last.made y.limit z.limit last.limit c.allow-2.ensures.limit (spends_same z.made last.made z.limit last.limit told.made told.limit));
+      allowed = tt;
+    })
+
+pub returns-in-Ok-query_all-clause-called : goal.returns-in-Ok-query_all-clause-called
+returns-in-Ok-query_all-clause-called g c = rw (← c.self.view_is) (
+    let x = c.self.inside.calls in
+    let y = c.allow.new.self in
+    let z = c.allow-2.new.self in
+    record {
+      named = tt;
+      counted = tt;
+      uncounted = c.in_ok-allow-2.ensures.ok ∙ c.in_ok-allow.ensures.ok;
+      limit = spends_both x.made y.made z.made x.limit y.limit z.limit c.allow.ensures.limit c.allow-2.ensures.limit;
+      allowed = c.in_ok-allow.ensures.allowed.0;
+    })
+
+pub returns-in-Ok-query_all-clause-twice : goal.returns-in-Ok-query_all-clause-twice
+returns-in-Ok-query_all-clause-twice g c = rw (← c.self.view_is) (
+    let x = c.self.inside.calls in
+    let y = c.allow.new.self in
+    let z = c.allow-2.new.self in
+    spent_both 1 1 x.made y.made z.made x.limit y.limit z.limit c.in_ok-allow.ensures.once c.in_ok-allow-2.ensures.once)
+
+pub returns-in-Err-clause-called : goal.returns-in-Err-clause-called
+returns-in-Err-clause-called g c = rw (← c.self.view_is) (
+    let x = c.self.inside.calls in
+    let y = c.allow.new.self in
+    let last = c.failed.new.self in
+    let told = c.failed.ensures in
+    record {
+      named = told.named;
+      counted = subst (λ n. Rises n last.refused) c.in_ok-allow.ensures.ok told.counted;
+      uncounted = tt;
+      limit = spends_both x.made y.made last.made x.limit y.limit last.limit c.allow.ensures.limit (spends_same y.made last.made y.limit last.limit told.made told.limit);
       allowed = tt;
     })

@@ -1,4 +1,4 @@
-use Rattle.rule_laws.proofs.Fits.{page_fits}
+use Rattle.rules.proofs.Fits.{page_fits}
 use Rattle.std.proofs.Common.{arith, rules, ◌≡◌, ◌∙◌, sym, ap, subst, None, Some, Option, List, IsTrue}
 use Rattle.std.specs.Option.{option_copied}
 use Rattle.std.specs.Prelude.{slice_get}

@@ -5,7 +5,7 @@ use Rattle.rules.specs.Pages.{PageFacts, advice_at}
 use Rattle.rules.specs.Keyed.{put_advice}
 use Rattle.rules.proofs.Gathered.{advice_absent, advice_part}
 use Rattle.rules.specs.Naming.{facts_of}
-use Rattle.rule_laws.proofs.Defines.{page_in_order}
+use Rattle.rules.proofs.Defines.{page_in_order}
 use Rattle.book_tables.proofs.connected.Tables.with_advice.Goals as goal
 
 pub returns-in_ok-with_advice-in-Some-clause-found : goal.returns-in_ok-with_advice-in-Some-clause-found

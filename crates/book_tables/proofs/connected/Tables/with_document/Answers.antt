@@ -5,7 +5,7 @@ use Rattle.rules.specs.Pages.{PageFacts, document_at}
 use Rattle.rules.specs.Keyed.{put_document}
 use Rattle.rules.proofs.Gathered.{document_absent, document_part}
 use Rattle.rules.specs.Naming.{facts_of}
-use Rattle.rule_laws.proofs.Defines.{page_in_order}
+use Rattle.rules.proofs.Defines.{page_in_order}
 use Rattle.book_tables.proofs.connected.Tables.with_document.Goals as goal
 
 pub returns-in_ok-with_document-in-Some-clause-found : goal.returns-in_ok-with_document-in-Some-clause-found

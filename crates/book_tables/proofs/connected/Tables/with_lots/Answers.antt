@@ -8,7 +8,7 @@ use Rattle.rules.specs.Parts.{part_of}
 use Rattle.rules.specs.Keyed.{put_row}
 use Rattle.rules.proofs.Gathered.{lots_part}
 use Rattle.rules.specs.Naming.{facts_of}
-use Rattle.rule_laws.proofs.Defines.{page_in_order}
+use Rattle.rules.proofs.Defines.{page_in_order}
 use Rattle.book_tables.proofs.connected.Tables.with_lots.Goals as goal
 
 pub returns-clause-found : goal.returns-clause-found

@@ -1,2 +1,0 @@
-pub mod DocumentLaws
-mod ItemLines

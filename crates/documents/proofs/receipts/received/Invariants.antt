@@ -1,6 +1,0 @@
-use Rattle.std.proofs.Common.{◌≡◌, map, take}
-use Rattle.documents.specs.Documents.{received_line}
-use Rattle.documents.proofs.receipts.received.Given as goal
-
-abbrev pub invariant-loop-pair : goal.invariant-loop-pair
-invariant-loop-pair l = l.lines.items ≡ map (received_line l.sheet) (take l.pair-index l.pairs)

@@ -1,4 +1,0 @@
-pub mod Requests
-pub mod Fields
-pub mod Answers
-pub mod ReadBack

@@ -1,5 +1,0 @@
-use Rattle.rule_laws.proofs.LegalPages.{legal_page}
-use Rattle.rule_laws.proofs.laws.a_legal_register_has_pages.Goals as goal
-
-pub returns : goal.returns
-returns c = λ r W L w h legal is. legal_page r W L w h legal is

@@ -1,5 +1,0 @@
-use Rattle.sets_taken.proofs.Tables.{stock_led}
-use Rattle.rule_laws.proofs.laws.changed_rows_lead_on_in_the_table.Goals as goal
-
-pub returns : goal.returns
-returns c = λ w p es fs cs sound shows next led. stock_led w p es fs cs sound shows next led

@@ -1,8 +1,0 @@
-use Rattle.rule_laws.proofs.Covered.{covered_goods, small_goods}
-use Rattle.rule_laws.proofs.laws.goods_of_a_legal_register_are_covered.Goals as goal
-
-pub returns-clause-covered : goal.returns-clause-covered
-returns-clause-covered c = λ r W L w legal. covered_goods r W L w legal
-
-pub returns-clause-fits : goal.returns-clause-fits
-returns-clause-fits c = λ r W L w legal. small_goods r W L w legal

@@ -1,5 +1,0 @@
-use Rattle.sets_taken.proofs.Rowed.{rows_are}
-use Rattle.rule_laws.proofs.laws.rows_are_the_running_rows.Goals as goal
-
-pub returns : goal.returns
-returns c = λ p es sound shows. rows_are p es sound shows

@@ -1,4 +1,0 @@
-//! Laws of the rules: what is so of every legal register, and of every reply.
-#![tactic(auto)]
-
-pub mod laws;
