@@ -6,7 +6,7 @@ use Rattle.profile.specs.declared.rules.Rules.TheVariants.{Two}
 use Rattle.profile.specs.Accepted.{after}
 use Rattle.profile.specs.Moments.{Moment}
 use Rattle.profile.specs.Register.{Command}
-use Rattle.store.specs.Standing.{Standing, IsUsable, IsFault, OfUsable}
+use Rattle.store.specs.Standing.{Standing, IsUsable, IsFault, IsQueryFault, OfUsable}
 use Rattle.store.specs.Fault.{Fault}
 use Rattle.store.specs.Fault.TheVariants as faults
 use Rattle.folders.specs.Folders.{fault_of_kind}
@@ -64,3 +64,9 @@ pub record IsUntold
 abbrev pub IsStopped : Standing → Standing → Command → Moment → CommandError → Type 0
 IsStopped old new c t stop = IsFaultThat stop (λ fault. IsFault fault old new)
     ⊎ IsUntold old new c t stop
+
+-- what kept a reason from being told: a fault of the book by which it wasn't read, or one of a
+-- device
+abbrev pub IsReasonStopped : Standing → Standing → CommandError → Type 0
+IsReasonStopped old new stop = IsFaultThat stop (λ fault. IsQueryFault fault old new)
+    ⊎ IsDeviceStop stop

@@ -1,12 +1,13 @@
 //! Why words, files or the book refuse something, for people: the word, or the line of the sheet
 //! and what the book has of its pair.
 ghost use Rattle.std.specs.Io.KnownBytes.{Appends};
-ghost use Rattle.std.specs.Prelude.{◌≡◌, ◌++◌, false, List, Ok, IfOk, OnOk, codes, count_by, find, is_some, option_copied};
+ghost use Rattle.std.specs.Prelude.{◌≡◌, ◌++◌, false, List, Ok, IfErr, IfOk, OnOk, codes, count_by, find, is_some, option_copied};
 ghost use Rattle.profile.specs.declared.rules.Rules.TheVariants.{Two};
 ghost use Rattle.profile.specs.Means.{Line};
 ghost use Rattle.sheet_texts.specs.Texts.{sheet_of_text};
 ghost use Rattle.store.specs.Standing.{IsUnchanged};
 ghost use Rattle.commands.specs.Reasons as meant;
+ghost use Rattle.commands.specs.Stops.{IsReasonStopped};
 ghost use Rattle.commands.specs.Telling.{refused_line};
 
 use crate::causes::{about_line, at_line};
@@ -326,14 +327,16 @@ pub fn tell_unready<R: Files + AllocGlobal, E: io::Write>(
 }
 
 /// Tells why a book refuses what a clerk did, where a line of the sheet is the reason, and not the
-/// ticket, which another deed has. The book stays as it is.
+/// ticket, which another deed has. The book stays as it is. What keeps it from being told is a fault
+/// of the book, want of memory, or `err`.
 pub fn tell_reason<K: Keeper, E: io::Write>(
     alloc: Global,
     book: &mut K,
     slip: &Slip<'_>,
     err: &mut E,
 ) -> Result<(), CommandError>
-    ensures { IsUnchanged (K.standing book.old) (K.standing book.new) }
+    ensures same { IsUnchanged (K.standing book.old) (K.standing book.new) }
+    ensures stopped { IfErr result (IsReasonStopped (K.standing book.old) (K.standing book.new)) }
 {
     let ticket = Key::Ticket(slip.words.ticket.as_bytes());
     if book.known(slip.who, &ticket)?.is_some() {

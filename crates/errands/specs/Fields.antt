@@ -1,5 +1,5 @@
 -- What the fields of a response's head state.
-use Rattle.std.specs.Prelude.{◌≡◌, ℕ, Bool, false, ◌&&◌, List, [], ◌∷◌, Option, Some, None, codes, map, nat_le, if◌then◌else◌, bytes_eq}
+use Rattle.std.specs.Prelude.{◌≡◌, ◌≢◌, ◌⊎◌, ℕ, Bool, false, ◌&&◌, List, [], ◌∷◌, Option, Some, None, codes, map, nat_le, if◌then◌else◌, bytes_eq}
 use Rattle.httparse.specs.Grammar.{ResponseHead}
 use Rattle.httparse.specs.Spans.{name_and_value}
 use Rattle.fields.specs.Fields.{values}
@@ -34,3 +34,8 @@ pub record SaysOfBody (fields : List (List ℕ × List ℕ)) (said : Said) : Typ
   pub whole : values (codes "Transfer-Encoding") fields ≡ []
   pub length : body_length (values (codes "Content-Length") fields) ≡ Some said.size
   pub kind : said.is_interchange ≡ is_x12 (values (codes "Content-Type") fields)
+
+-- these fields say of no body that is read: it is in chunks, or its length isn't one that is read
+abbrev pub SaysOfNoBody : List (List ℕ × List ℕ) → Type 0
+SaysOfNoBody fields = (values (codes "Transfer-Encoding") fields ≢ [])
+    ⊎ (body_length (values (codes "Content-Length") fields) ≡ None)

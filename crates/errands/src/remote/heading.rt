@@ -1,8 +1,8 @@
 //! What the head of a response says of its body.
-ghost use Rattle.std.specs.Prelude.{◌≡◌, ℕ, List, [], ◌∷◌, length, map, All, IfOk};
+ghost use Rattle.std.specs.Prelude.{◌≡◌, ℕ, List, [], ◌∷◌, length, map, All, IfErr, IfOk};
 ghost use Rattle.httparse.specs.Spans.{IsHeaderWithin, header_bytes};
 ghost use Rattle.fields.specs.Fields.{IsValues};
-ghost use Rattle.errands.specs.Fields.{body_length, is_x12, SaysOfBody};
+ghost use Rattle.errands.specs.Fields.{body_length, is_x12, SaysOfBody, SaysOfNoBody};
 
 use crate::remote::answers::Unanswered;
 use fields::{Values, values_of};
@@ -56,12 +56,15 @@ pub(crate) struct Said {
     pub size: usize,
 }
 
-/// What these fields say, or Device where the body is in chunks, or its length isn't one that is
-/// read.
+/// What these fields say. Device where, and only where, the body is in chunks, or its length isn't
+/// one that is read.
 pub(crate) fn said_of(buf: &[u8], fields: &[HeaderSpan]) -> Result<Said, Unanswered>
     requires { All (IsHeaderWithin (length buf.now)) fields.now }
 
-    ensures { IfOk result (SaysOfBody (map (header_bytes buf.now) fields.now)) }
+    ensures said { IfOk result (SaysOfBody (map (header_bytes buf.now) fields.now)) }
+    ensures unsaid { IfErr result
+        (λ _. SaysOfNoBody (map (header_bytes buf.now) fields.now)) }
+    ensures fault { IfErr result (λ why. why ≡ Unanswered.Device) }
 {
     let Values::Absent = values_of(buf, fields, b"Transfer-Encoding") else {
         return Err(Unanswered::Device);
