@@ -132,3 +132,18 @@ first_date_stays = refl
 later_date_refused : expiry_after (dated ∷ all_counted ∷ again (codes "W04*1*EA**SK*BOLT~N9*LT*L2**20250701~W03*1~SE*6*0001~") ∷ []) (codes "L2") ≡ Some (codes "20250630")
 unfolding digits
 later_date_refused = refl
+
+-- Two lots of one date from one count: the lots' bytes decide.
+
+abbrev same_date : List (Command × Moment)
+same_date = sends (received (codes "000000001") (codes "0") (codes "AR") (codes "1")
+    (codes "ST*943*0001~W06*F*PO77*20250303*SHP1~W04*5*EA**SK*BOLT~N9*LT*L2**20250630~"
+    ++ codes "W04*7*EA**SK*BOLT~N9*LT*L10**20250630~W03*12~SE*8*0001~"))
+    ∷ does (codes "T1") (Count (codes "SHP1") (line (codes "BOLT") (codes "L10") 7 ∷ line (codes "BOLT") (codes "L2") 5 ∷ []))
+    ∷ sends (received (codes "000000002") (codes "0") (codes "OW") (codes "2")
+    (codes "ST*940*0001~W05*N*ORD1~LX*1~W01*8*EA**SK*BOLT~W76*8~SE*6*0001~"))
+    ∷ []
+
+lot_bytes_decide : reserved_for Two same_date (codes "ORD1") ≡ line (codes "BOLT") (codes "L10") 7 ∷ line (codes "BOLT") (codes "L2") 1 ∷ []
+unfolding digits
+lot_bytes_decide = refl

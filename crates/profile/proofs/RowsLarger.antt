@@ -1,13 +1,18 @@
 -- Worked examples at the limits of rules 2: lines of a set, quantities, what a report has room for.
-use Rattle.std.specs.Prelude.{◌≡◌, ℕ, ◌+◌, ◌*◌, ◌^◌, ◌<◌, List, [], ◌∷◌, ◌++◌, codes, decimal, flat_map}
+use Rattle.std.specs.Prelude.{◌≡◌, ℕ, ◌+◌, ◌*◌, ◌^◌, ◌<◌, List, [], ◌∷◌, ◌++◌, map, Some, None, Ok, codes, decimal, flat_map}
 use Rattle.std.specs.List.{range_with_len}
 use Rattle.std.proofs.Common.{refl, arith}
 use Rattle.std.specs.Fmt.{digits}
 use Rattle.profile.specs.declared.rules.Rules.TheVariants.{Two}
-use Rattle.profile.specs.Register.{Count}
+use Rattle.profile.specs.Moments.{Moment}
+use Rattle.profile.specs.Register.{Command, Count, Recount, own}
+use Rattle.profile.specs.Decision.{accepted_by}
+use Rattle.profile.specs.History.{events}
+use Rattle.profile.specs.Refusals.{NumbersUsedUp}
+use Rattle.profile.specs.Reports.{pick_list}
 use Rattle.profile.specs.Movements.{most_expected}
-use Rattle.profile.specs.Reply.{Accepted}
-use Rattle.profile.proofs.Sample.{told_AR, answer_AR, line, does, sends, received, balances}
+use Rattle.profile.specs.Reply.{Reply, Accepted, clerk_entry}
+use Rattle.profile.proofs.Sample.{WHSE1, ACME, morning, told_AR, answer_AR, line, does, sends, received, book, balances, refusal_alone}
 
 -- a 943 of n lines of 999999, lots distinct, with this W03 and SE01: of 101 lines its sum has nine
 -- digits
@@ -31,6 +36,26 @@ large_count : balances Two (sends (received (codes "000000001") (codes "0") (cod
     ∷ does (codes "T1") (Count (codes "SHP1") (line (codes "BOLT") (codes "L1") 100000 ∷ [])) ∷ []) (codes "BOLT") (codes "L1") ≡ 0 ∷ 100000 ∷ 0 ∷ 0 ∷ []
 unfolding digits
 large_count = refl
+
+-- the largest line of an order, as the picking sheet has it
+abbrev largest_order : List (Command × Moment)
+largest_order = sends (received (codes "000000001") (codes "0") (codes "AR") (codes "1") (long_set 1 (codes "999999")))
+    ∷ does (codes "T1") (Count (codes "SHP1") (line (codes "BOLT") (codes "L1") 999999 ∷ []))
+    ∷ sends (received (codes "000000002") (codes "0") (codes "OW") (codes "2")
+    (codes "ST*940*0001~W05*N*ORD1~LX*1~W01*999999*EA**SK*BOLT~LX*2~W01*999999*EA**SK*NUT~W76*1999998~SE*8*0001~"))
+    ∷ []
+
+largest_picked : pick_list (events (own (book Two largest_order) ACME)) (codes "ORD1")
+    ≡ Ok (codes "ORDER ORD1\nBOLT                 L1           999999\nNUT                  (short)      999999\n")
+unfolding digits
+largest_picked = refl
+
+-- the last number of a depositor is given, and no further one
+abbrev reply_after_numbers : ℕ → Reply
+reply_after_numbers n = accepted_by WHSE1 (record { numbered = n; events = [] }) (clerk_entry Two ACME (codes "T1") (Recount []) morning)
+
+last_number : map (λ n. refusal_alone (reply_after_numbers n)) (999998 ∷ 999999 ∷ []) ≡ None ∷ Some NumbersUsedUp ∷ []
+last_number = refl
 
 -- what may be expected of a pair fits the places and a word
 expected_fits : (most_expected < 10 ^ 15) × (most_expected < 2 ^ 64) × (most_expected ≡ 999998000001000)

@@ -9,7 +9,7 @@ use Rattle.profile.specs.Means.{Line}
 use Rattle.profile.specs.Register.{Act, Count, Clerk}
 use Rattle.profile.specs.Refusals.{Refusal, UnknownDepositor, TicketUsed, UnknownAdvice, AdviceClosed, TooMuch, RepeatedLine, BadText, TooManyLines, AlreadyEnrolled}
 use Rattle.profile.specs.Clerk.{RawLine, sheet_of, is_sheet, sheet_of_records}
-use Rattle.profile.specs.declared.sheet_kind.SheetKind.TheVariants.{Count as CountSheet, Pick as PickSheet}
+use Rattle.profile.specs.declared.sheet_kind.SheetKind.TheVariants.{Count as CountSheet, Pick as PickSheet, Recount as RecountSheet}
 use Rattle.profile.specs.Reply.{Stored, Refused}
 use Rattle.profile.proofs.RowsTrade.{until_count, count_text}
 use Rattle.profile.proofs.Sample.{morning, enrols, line, does, reply_after}
@@ -78,6 +78,16 @@ later_sheets : map (sheet_of Two CountSheet)
     ∷ Err TooMuch ∷ Err TooMuch ∷ Err BadText ∷ Err RepeatedLine ∷ Err TooManyLines ∷ Err TooManyLines ∷ []
 unfolding digits
 later_sheets = refl
+
+-- picks and recounts at their limits
+largest_sheets : map (sheet_of Two PickSheet) ((bolt (codes "999999") ∷ []) ∷ (bolt (codes "1000000") ∷ []) ∷ (bolt (codes "0") ∷ []) ∷ [])
+    ++ map (sheet_of Two RecountSheet)
+    ((bolt (codes "999999999") ∷ []) ∷ (bolt (codes "1000000000") ∷ []) ∷ (bolt (codes "0000000001") ∷ []) ∷ (bolt (codes "0") ∷ []) ∷ [])
+    ≡ Ok (line (codes "BOLT") (codes "L1") 999999 ∷ []) ∷ Err TooMuch ∷ Err BadText
+    ∷ Ok (line (codes "BOLT") (codes "L1") 999999999 ∷ []) ∷ Err TooMuch ∷ Err TooMuch ∷ Ok (line (codes "BOLT") (codes "L1") 0 ∷ [])
+    ∷ []
+unfolding digits
+largest_sheets = refl
 
 full_sheet : is_ok (sheet_of One CountSheet (many 99)) ∷ is_ok (sheet_of Two CountSheet (many 100)) ∷ [] ≡ true ∷ true ∷ []
 unfolding digits

@@ -10,8 +10,8 @@ use Rattle.profile.specs.Lists.{first_present}
 use Rattle.profile.specs.Cut.{Segment}
 use Rattle.profile.specs.Words.{words_943, words_940}
 use Rattle.profile.specs.Faults.{set_fault}
-use Rattle.profile.specs.Means.{Advice}
-use Rattle.profile.specs.Events.{advice_fault, trade_fault, repeated_pair, redated_pair, wrong_advice_total, sooner, expiry}
+use Rattle.profile.specs.Means.{Advice, Order}
+use Rattle.profile.specs.Events.{advice_fault, trade_fault, repeated_pair, redated_pair, wrong_advice_total, sooner, expiry, order_fault}
 use Rattle.profile.specs.Texts.{own_delims}
 use Rattle.profile.proofs.FaultsLaws.{set_fault-from}
 
@@ -76,6 +76,31 @@ order_line_too_many : set_fault Two own_delims (words_940 Two) (long_940 1000)
     ≡ Some (record { id = codes "LX"; position = 2001; code = 2; element = None })
 unfolding digits
 order_line_too_many = set_fault-from Two own_delims (words_940 Two) (long_940 1000) ∙ refl
+
+-- an order of 999 lines with its W76 passes
+full_940 : set_fault Two own_delims (words_940 Two)
+    (long_940 999 ++ (codes "W76" ∷ codes "998999001" ∷ []) ∷ (codes "SE" ∷ codes "2002" ∷ codes "0001" ∷ []) ∷ []) ≡ None
+unfolding digits
+full_940 = set_fault-from Two own_delims (words_940 Two)
+    (long_940 999 ++ (codes "W76" ∷ codes "998999001" ∷ []) ∷ (codes "SE" ∷ codes "2002" ∷ codes "0001" ∷ []) ∷ []) ∙ refl
+
+-- the order that such a set is, with these items
+abbrev long_order : Order
+long_order = record {
+  number = codes "ORD1";
+  address = None;
+  lines = map (λ k. record {
+    item = (48 + k % 10) ∷ (48 + k / 10 % 10) ∷ (48 + k / 100) ∷ [];
+    pin = None;
+    quantity = 999999;
+    position = 2 * k + 2;
+  }) (range_with_len 1 999);
+  total = 998999001;
+  total_position = 2001;
+}
+
+full_order : order_fault [] long_order ≡ None
+full_order = refl
 
 -- the sum of a set has nine digits, the quantity of a line six
 sums_fit : (most_lines Two * most_quantity Two < 10 ^ 9) × (most_quantity Two < 10 ^ 6)
