@@ -1,9 +1,7 @@
 -- Files that are taken one after the other.
-use Rattle.std.proofs.Common.{◌≡◌, ◌∙◌, sym, refl, ap, subst, ℕ, true, false, List, [], ◌∷◌, ◌++◌, String, Global, length, map, ◌⊎◌, inl, inr, Result, Ok, Err, IfErr}
+use Rattle.std.proofs.Common.{◌≡◌, ◌∙◌, sym, refl, ap, subst, ℕ, true, false, List, [], ◌∷◌, ◌++◌, String, Global, length, map, ◌⊎◌, inl, inr, Result, Ok, Err, IfErr, Some, slice_get}
 use Rattle.std.specs.Result.{IsErr, IsErrAnd}
 use Rattle.std.proofs.lemmas.List.{length-append, map-append, append-nil}
-use Rattle.std.specs.Prelude.{IsSorted}
-use Rattle.std.specs.String.{string_cmp}
 use Rattle.profile.specs.declared.rules.Rules.TheVariants.{Two}
 use Rattle.profile.specs.Header.{Who}
 use Rattle.profile.specs.Moments.{Moment}
@@ -218,15 +216,23 @@ names_on : (files : List Taken) (file : Taken) (more : List (String Global)) →
 names_on [] file more = refl
 names_on (f ∷ files) file more = ap (λ (ns : List (String Global)). f.name ∷ ns) (names_on files file more)
 
-pub still_rising : (files kept grown : List Taken) (file : Taken) (rest more : List (String Global)) → kept ≡ files → grown ≡ kept ++ file ∷ [] → rest ≡ file.name ∷ more
-    → IsSorted string_cmp (map (λ f. f.name) files ++ rest) → IsSorted string_cmp (map (λ f. f.name) grown ++ more)
-still_rising files kept grown file rest more same is next sorted =
-    let all : map (λ f. f.name) grown ++ more ≡ map (λ f. f.name) files ++ rest =
+pub still_each : (files kept grown : List Taken) (file : Taken) (rest more : List (String Global)) → kept ≡ files → grown ≡ kept ++ file ∷ [] → rest ≡ file.name ∷ more
+    → map (λ f. f.name) grown ++ more ≡ map (λ f. f.name) files ++ rest
+still_each files kept grown file rest more same is next =
     ap (λ (fs : List Taken). map (λ f. f.name) fs ++ more) (is ∙ ap (λ (fs : List Taken). fs ++ file ∷ []) same) ∙ names_on files file more
-    ∙ ap (λ (ns : List (String Global)). map (λ f. f.name) files ++ ns) (sym next) in
-    subst (IsSorted string_cmp) (sym all) sorted
+    ∙ ap (λ (ns : List (String Global)). map (λ f. f.name) files ++ ns) (sym next)
 
--- of none are there none
-pub none_left : (files : List Taken) (rest : List (String Global)) → length rest ≡ 0 → IsSorted string_cmp (map (λ f. f.name) files ++ rest) → IsSorted string_cmp (map (λ f. f.name) files)
-none_left files [] e sorted = subst (IsSorted string_cmp) (append-nil (map (λ f. f.name) files)) sorted
-none_left files (n ∷ rest) e sorted = absurd (cc)
+-- the name after those of the files that were taken
+name_after : (files : List Taken) (name : String Global) (more : List (String Global)) → slice_get (map (λ f. f.name) files ++ name ∷ more) (length files) ≡ Some name
+name_after [] name more = refl
+name_after (f ∷ files) name more = name_after files name more
+
+pub next_name : (files : List Taken) (name : String Global) (rest more names : List (String Global)) → rest ≡ name ∷ more → map (λ f. f.name) files ++ rest ≡ names
+    → slice_get names (length files) ≡ Some name
+next_name files name rest more names next each =
+    ap (λ (ns : List (String Global)). slice_get ns (length files)) (sym each ∙ ap (λ (ns : List (String Global)). map (λ f. f.name) files ++ ns) next) ∙ name_after files name more
+
+-- of none more to come, they are all
+pub all_each : (files : List Taken) (rest names : List (String Global)) → length rest ≡ 0 → map (λ f. f.name) files ++ rest ≡ names → map (λ f. f.name) files ≡ names
+all_each files [] names e each = sym (append-nil (map (λ f. f.name) files)) ∙ each
+all_each files (n ∷ rest) names e each = absurd (cc)

@@ -1,5 +1,6 @@
 -- Where the taking of a folder stopped.
-use Rattle.std.specs.Prelude.{◌≡◌, length, None}
+use Rattle.std.specs.Prelude.{◌≡◌, List, length, Some, None, slice_get, String}
+use Rattle.std.specs.Global.{Global}
 use Rattle.profile.specs.Moments.{Moment}
 use Rattle.store.specs.Standing.{Standing}
 use Rattle.folders.specs.Folders.{IsDeviceFault, IsFolderStopped}
@@ -15,3 +16,8 @@ pub record IsFolderUnread (stop : FolderStop) : Type 0 where
 pub record IsFolderStop (stop : FolderStop) (old new : Standing) (t : Moment) : Type 0 where
   pub stopped : IsFolderStopped stop.fault old new t
   pub counted : stop.taken ≡ length stopped.texts
+
+-- it stopped at the name after those of the files that were taken
+abbrev pub IsNext : FolderStop → List (String Global) → Type 0
+IsNext stop names = (name : String Global) × (stop.at ≡ Some name)
+    × (slice_get names stop.taken ≡ Some name)

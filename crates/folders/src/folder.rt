@@ -1,7 +1,7 @@
 ghost use Rattle.std.specs.Prelude.{◌≡◌, ◌<◌, ◌++◌, ℕ, List, false, map, IfOk, IfErr, IfNone, OnOk, IsSorted, codes, string_bytes, vec_len, vec_capacity};
 ghost use Rattle.std.specs.IoError.{error_kind};
 ghost use Rattle.folders.specs.Folders.{became, became_of, fault_of_kind, IsDeviceFault, AreTextsTaken, IsFileTaken, IsUntaken, IsFolderStopped};
-ghost use Rattle.folders.specs.Stops.{IsFolderUnread, IsFolderStop};
+ghost use Rattle.folders.specs.Stops.{IsFolderUnread, IsFolderStop, IsNext};
 ghost use Rattle.store.specs.Runs.{told};
 ghost use Rattle.store.specs.Standing.{GoesOn, IsUnchanged};
 
@@ -153,6 +153,47 @@ fn take_file<R: Files + AllocGlobal, K: Keeper>(
     Ok(outcome)
 }
 
+// Takes the files of these names, one after the other, each once. After each of them `told` is
+// handed how many were taken of how many. A fault stops at the file after those that were taken.
+fn take_names<R: Files + AllocGlobal, K: Keeper, T: FnMut(u64, u64)>(
+    rt: &R,
+    dir: &str,
+    names: Vec<String>,
+    keeper: &mut K,
+    moment: Moment,
+    mut told: T,
+) -> Result<Vec<Taken>, FolderStop>
+    requires told { T.IsAlwaysCallable told }
+
+    ensures each { IfOk result (λ files. map (λ file. file.name) files.items ≡ names.items) }
+    ensures next { IfErr result (λ stop. IsNext stop names.items) }
+    ensures taken { IfOk result
+        (λ files. (texts : List (List ℕ))
+        × AreTextsTaken (K.standing keeper.old) (K.standing keeper.new) moment texts (map
+        (λ file. became_of file.outcome) files.items)) }
+    ensures stopped { IfErr result
+        (λ stop. IsFolderStop stop (K.standing keeper.old) (K.standing keeper.new) moment) }
+    ensures opened { OnOk result ((K.standing keeper.old).shut ≡ (K.standing keeper.new).shut) }
+    ensures goes { GoesOn (K.standing keeper.old) (K.standing keeper.new) }
+{
+    let count = names.len() as u64;
+    let mut files = Vec::new(rt.alloc());
+    for name in names {
+        match take_file(rt, dir, &name, &mut files, keeper, moment) {
+            Ok(outcome) => files.push(Taken { name, outcome }).unwrap(),
+            Err(fault) => {
+                return Err(FolderStop {
+                    fault,
+                    at: Some(name),
+                    taken: files.len() as u64,
+                });
+            }
+        }
+        told(files.len() as u64, count);
+    }
+    Ok(files)
+}
+
 /// Submits each interchange of a folder, the regular files whose names end `.x12` and links to such
 /// files, in the order of their names' bytes, and writes a nonempty answer to the name with `.ans`
 /// added, as a file of its own that replaces what stands there. A file whose answer is there
@@ -171,7 +212,7 @@ pub fn take_folder_telling<R: Files + AllocGlobal + Clone + Drop, K: Keeper, T: 
     dir: &str,
     keeper: &mut K,
     moment: Moment,
-    mut told: T,
+    told: T,
 ) -> Result<TakenFolder, FolderStop>
     requires told { T.IsAlwaysCallable told }
 
@@ -189,22 +230,10 @@ pub fn take_folder_telling<R: Files + AllocGlobal + Clone + Drop, K: Keeper, T: 
     ensures goes { GoesOn (K.standing keeper.old) (K.standing keeper.new) }
 {
     let Listing { names, passed } = listing_of(rt, dir)?;
-    let count = names.len() as u64;
-    let mut files = Vec::new(rt.alloc());
-    for name in names {
-        match take_file(rt, dir, &name, &mut files, keeper, moment) {
-            Ok(outcome) => files.push(Taken { name, outcome }).unwrap(),
-            Err(fault) => {
-                return Err(FolderStop {
-                    fault,
-                    at: Some(name),
-                    taken: files.len() as u64,
-                });
-            }
-        }
-        told(files.len() as u64, count);
+    match take_names(rt, dir, names, keeper, moment, told) {
+        Ok(files) => Ok(TakenFolder { files, passed }),
+        Err(stop) => Err(stop),
     }
-    Ok(TakenFolder { files, passed })
 }
 
 /// The same, where nobody is told more than what became of the files: not what was passed over, nor

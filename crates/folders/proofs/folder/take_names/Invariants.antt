@@ -1,10 +1,8 @@
 use Rattle.std.proofs.Common.{◌≡◌, ◌++◌, ℕ, List, length, map}
-use Rattle.std.specs.Prelude.{IsSorted}
-use Rattle.std.specs.String.{string_cmp}
 use Rattle.std.specs.Vec.Iter.{into_iter_items}
 use Rattle.store.specs.Standing.{GoesOn}
 use Rattle.folders.specs.Folders.{became_of, AreTextsTaken}
-use Rattle.folders.proofs.folder.take_folder_telling.Given as goal
+use Rattle.folders.proofs.folder.take_names.Given as goal
 
 abbrev pub invariant-loop-name : goal.invariant-loop-name
 invariant-loop-name g l =
@@ -16,6 +14,6 @@ invariant-loop-name g l =
       texts : List (List ℕ);
       taken : AreTextsTaken old now l.fn.moment texts (map (λ file. became_of file.outcome) l.files.items);
       counted : length l.files.items ≡ length texts;
-      rising : IsSorted string_cmp (map (λ file. file.name) l.files.items ++ into_iter_items l.name-iterator);
+      each : map (λ file. file.name) l.files.items ++ into_iter_items l.name-iterator ≡ l.fn.names.items;
       told : goal.T-IsAlwaysCallable g l.told;
     }
